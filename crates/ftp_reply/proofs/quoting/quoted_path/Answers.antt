@@ -1,0 +1,11 @@
+use Rattle.std.proofs.Common.{◌≡◌, arith}
+use Rattle.std.proofs.lemmas.Grind.{common_steps}
+use Rattle.std.specs.String.{string_bytes}
+use Rattle.ftp_reply.specs.Quoting.{quoted}
+use Rattle.ftp_reply.proofs.LineLemmas.{line_quoted}
+use Rattle.ftp_reply.proofs.quoting.quoted_path.Goals as goal
+
+pub returns : goal.returns
+returns g c =
+    let told : string_bytes c.push_str-2.new.self ≡ quoted c.args.path.now = grind (arith, common_steps) in
+    record { text = told; line = line_quoted c.args.path.now (string_bytes c.push_str-2.new.self) told }

@@ -1,0 +1,22 @@
+-- Each listing text is the only one.
+use Rattle.std.specs.Prelude.{◌≡◌, ℕ, List}
+use Rattle.ftp_reply.specs.declared.entries.ListEntry.{ListEntry}
+use Rattle.ftp_reply.specs.declared.entries.Facts.{Facts}
+use Rattle.ftp_reply.specs.declared.entries.Letters.{Letters}
+use Rattle.ftp_reply.specs.Dates.{IsTimeVal}
+use Rattle.ftp_reply.specs.Listings.{IsListLine, IsMlstEntry}
+
+-- at most one text is of that kind
+abbrev pub HasOneText : (List ℕ → Type 0) → Type 0
+HasOneText Told = (text other : List ℕ) → Told text → Told other → text ≡ other
+
+-- a moment has one text, an entry one line, and an entry with its facts and letters one text
+abbrev pub MomentsHaveOneText : Type 0
+MomentsHaveOneText = (seconds : ℕ) → HasOneText (IsTimeVal seconds)
+
+abbrev pub LinesHaveOneText : Type 0
+LinesHaveOneText = (entry : ListEntry) (name : List ℕ) → HasOneText (IsListLine entry name)
+
+abbrev pub EntriesHaveOneText : Type 0
+EntriesHaveOneText =
+    (entry : ListEntry) (facts : Facts) (letters : Letters) (path : List ℕ) → HasOneText (IsMlstEntry entry facts letters path)

@@ -1,0 +1,141 @@
+//! Replies.
+ghost use Rattle.std.specs.Prelude.{◌≡◌, ℕ, List, ◌++◌, ◌∷◌, [], OnOk, OnErr, vec_len, take, length, codes};
+ghost use Rattle.std.specs.List.{flat_map};
+ghost use Rattle.ftp_reply.specs.Replies.{SeveralLines, begins_with_digit, coded_line, inner_line, reply_text};
+
+use crate::codes::ReplyCode;
+use crate::line_text::LineText;
+use std::alloc::{AllocError, Allocator, Global};
+use std::marker::Model;
+
+/// A reply to a command (RFC 959 section 4.2): a code with one line of text, or with several.
+#[derive(Drop)]
+pub struct Reply<A: Allocator = Global> {
+    code: ReplyCode,
+    lines: Lines<A>,
+}
+
+#[derive(Drop)]
+enum Lines<A: Allocator> {
+    One(LineText<A>),
+    Several(LineText<A>, Vec<LineText<A>, A>, LineText<A>),
+}
+
+impl<A: Allocator> Model for Reply<A> {
+    ghost use Rattle.ftp_reply.specs.Replies.{ReplyForm};
+
+    ghost Value = { ReplyForm };
+
+    ghost use Rattle.ftp_reply.specs.ReplyView.{form_of};
+
+    ghost view = { λ reply. form_of reply.code reply.lines };
+}
+
+impl<A: Allocator> Reply<A> {
+    ghost use Rattle.ftp_reply.specs.Replies.{OneLine, SeveralLines};
+
+    /// A reply of one line. With a fixed text it takes no memory.
+    pub fn one_line(code: ReplyCode, text: LineText<A>) -> Reply<A>
+        ensures form { result ≡ OneLine code text }
+    {
+        Reply {
+            code,
+            lines: Lines::One(text),
+        }
+    }
+
+    /// A reply of several lines: a first, those inside, and a last.
+    pub fn several_lines(
+        code: ReplyCode,
+        first: LineText<A>,
+        inner: Vec<LineText<A>, A>,
+        last: LineText<A>,
+    ) -> Reply<A>
+        ensures form { result ≡ SeveralLines code first inner.items last }
+    {
+        Reply {
+            code,
+            lines: Lines::Several(first, inner, last),
+        }
+    }
+
+    /// Appends the octets of the reply. `Err` is want of memory, and then nothing is appended.
+    pub fn write_to<B: Allocator>(&self, buffer: &mut Vec<u8, B>) -> Result<(), AllocError>
+        ensures ok { OnOk result (buffer.new.items ≡ buffer.old.items ++ reply_text self.now) }
+        ensures memory { OnErr result (buffer.new.items ≡ buffer.old.items) }
+    {
+        let length = buffer.len();
+        let written = match &self.lines {
+            Lines::One(text) => push_coded(buffer, self.code, " ", text.as_str()),
+            Lines::Several(first, inner, last) => push_several(
+                buffer, self.code, first, inner, last,
+            ),
+        };
+        if written.is_err() {
+            buffer.truncate(length);
+        }
+        written
+    }
+}
+
+/// Appends a line that bears the code.
+fn push_coded<B: Allocator>(
+    buffer: &mut Vec<u8, B>,
+    code: ReplyCode,
+    mark: &str,
+    text: &str,
+) -> Result<(), AllocError>
+    ensures ok { OnOk result (buffer.new.items ≡ buffer.old.items ++ coded_line code mark.now text.now) }
+    ensures memory { OnErr result (take (vec_len buffer.old) buffer.new.items ≡ buffer.old.items) }
+{
+    buffer.extend_from_slice(&code.digits())?;
+    buffer.extend_from_slice(mark.as_bytes())?;
+    buffer.extend_from_slice(text.as_bytes())?;
+    buffer.extend_from_slice(b"\r\n")
+}
+
+fn starts_with_digit(text: &str) -> bool
+    ensures answer { result ≡ begins_with_digit text.now }
+{
+    matches!(text.as_bytes(), [b'0'..=b'9', ..])
+}
+
+/// Appends a line that stands inside a reply.
+fn push_inner<B: Allocator>(buffer: &mut Vec<u8, B>, text: &str) -> Result<(), AllocError>
+    ensures ok { OnOk result (buffer.new.items ≡ buffer.old.items ++ inner_line text.now) }
+    ensures memory { OnErr result (take (vec_len buffer.old) buffer.new.items ≡ buffer.old.items) }
+{
+    if starts_with_digit(text) {
+        buffer.push(b' ')?;
+    }
+    buffer.extend_from_slice(text.as_bytes())?;
+    buffer.extend_from_slice(b"\r\n")
+}
+
+fn push_inner_lines<A: Allocator, B: Allocator>(
+    buffer: &mut Vec<u8, B>,
+    inner: &[LineText<A>],
+) -> Result<(), AllocError>
+    ensures ok { OnOk result (buffer.new.items ≡ buffer.old.items ++ flat_map inner_line inner.now) }
+    ensures memory { OnErr result (take (vec_len buffer.old) buffer.new.items ≡ buffer.old.items) }
+{
+    for text in inner {
+        push_inner(buffer, text.as_str())?;
+    }
+    Ok(())
+}
+
+fn push_several<A: Allocator, B: Allocator>(
+    buffer: &mut Vec<u8, B>,
+    code: ReplyCode,
+    first: &LineText<A>,
+    inner: &[LineText<A>],
+    last: &LineText<A>,
+) -> Result<(), AllocError>
+    ensures ok { OnOk result (buffer.new.items ≡ buffer.old.items ++ reply_text (SeveralLines code first.now inner.now last.now)) }
+    ensures memory { OnErr result (take (vec_len buffer.old) buffer.new.items ≡ buffer.old.items) }
+{
+    push_coded(buffer, code, "-", first.as_str())?;
+    push_inner_lines(buffer, inner)?;
+    push_coded(buffer, code, " ", last.as_str())
+}

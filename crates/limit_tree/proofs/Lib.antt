@@ -1,0 +1,12 @@
+pub mod Sums
+pub mod RangeSums
+pub mod Plains
+pub mod Places
+pub mod Moves
+pub mod FaultLemmas
+pub mod OverLemmas
+pub mod Leaves
+pub mod Nested
+pub mod Sound
+pub mod Looks
+pub mod Absorbs

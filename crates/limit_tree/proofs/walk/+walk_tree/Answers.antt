@@ -1,0 +1,59 @@
+use Rattle.std.proofs.Common.{rules, arith, ◌≡◌, ◌+◌, ◌∙◌, ◌∷◌, ◌++◌, [], ℕ, List, length, map, drop, sym, ap, subst, length-append, append_assoc}
+use Rattle.std.proofs.lemmas.List.{length-map}
+use Rattle.limit_tree.specs.declared.place.Place.{Place}
+use Rattle.limit_tree.specs.Outline.{places, leaf_count, floor_sum, moved, kids_of, kind_of}
+use Rattle.limit_tree.specs.declared.place.Kind.TheVariants.{Branch}
+use Rattle.limit_tree.specs.declared.node.Node.TheViews.{the_lemmas}
+use Rattle.limit_tree.proofs.Places.{places_of_all, own_leaves, leaf_count-append, leaf_count-cons, length_places_out, leaf_count_out, floor_sum_out, length_places_of_all-drop, leaf_count_of_all-drop, floor_sum_of_all-drop}
+use Rattle.limit_tree.proofs.Moves.{leaf_count-moved, moved_out, moved_of_all-drop}
+use Rattle.limit_tree.proofs.walk.+walk_tree.Goals as goal
+
+pub loop-kid-init : goal.loop-kid-init
+loop-kid-init g t c =
+    let below : places_of_all (kids_of c.args.node.now) ≡ places_of_all c.deref-kid-items.result.now = search (rules, the_lemmas) in
+    let kind : kind_of c.args.node.now ≡ Branch c.in-Branch.limit = search (rules, the_lemmas) in
+    let root = c.place_of-place.result in
+    let rest = moved (c.args.depth + 1) c.args.passed.leaves in
+    record {
+      some = omega arith;
+      nodes = omega (arith, length_places_out c.args.node.now, ap length below);
+      leaves = omega (arith, leaf_count_out c.args.node.now, ap own_leaves kind, ap leaf_count below);
+      floors = omega (arith, floor_sum_out c.args.node.now, ap floor_sum below);
+      same = c.visit.ensures.leaves;
+      saw = λ start seen count leaves saw. (
+        root ∷ [],
+        length-append seen (root ∷ []) ∙ omega (arith, count),
+        leaf_count-append seen (root ∷ []) ∙ omega (arith, leaves, leaf_count-cons root [], ap own_leaves (ap (λ (p : Place). p.kind) c.place_of-place.ensures.place ∙ kind)),
+        c.visit.ensures.saw start seen count (leaves ∙ sym (ap (λ (p : Place). p.first) c.place_of-place.ensures.place)) saw,
+        moved_out c.args.depth c.args.passed.leaves c.args.node.now ∙
+            (ap (λ (p : Place). p ∷ map rest (places_of_all (kids_of c.args.node.now))) (sym c.place_of-place.ensures.place) ∙
+            ap (λ (ps : List Place). root ∷ map rest ps) below),
+      );
+    }
+
+pub loop-kid-preserved : goal.loop-kid-preserved
+loop-kid-preserved g t c =
+    let kids = c.deref-kid-items.result.now in
+    let kid = c.kid-item.result in
+    let i = c.loop-kid.kid-index in
+    let depth = c.args.depth + 1 in
+    let here = map (moved depth c.loop-kid.next.leaves) (places kid) in
+    let others = places_of_all (drop (i + 1) kids) in
+    record {
+      some = omega (arith, c.walk_tree-next.ensures.nodes, c.loop-kid.invariant.some);
+      nodes = omega (arith, length_places_of_all-drop kids i kid c.loop-kid-test.true c.kid-item.is, c.walk_tree-next.ensures.nodes, c.loop-kid.invariant.nodes);
+      leaves = omega (arith, leaf_count_of_all-drop kids i kid c.loop-kid-test.true c.kid-item.is, c.walk_tree-next.ensures.leaves, c.loop-kid.invariant.leaves);
+      floors = omega (arith, floor_sum_of_all-drop kids i kid c.loop-kid-test.true c.kid-item.is, c.loop-kid.invariant.floors);
+      same = c.walk_tree-next.ensures.same ∙ c.loop-kid.invariant.same;
+      saw = λ start seen count leaves saw.
+          let was = c.loop-kid.invariant.saw start seen count leaves saw in (
+            was.0 ++ here,
+            ap length (sym (append_assoc seen was.0 here)) ∙ (length-append (seen ++ was.0) here ∙ omega (arith, was.1, length-map (places kid) (moved depth c.loop-kid.next.leaves), c.walk_tree-next.ensures.nodes)),
+            ap leaf_count (sym (append_assoc seen was.0 here)) ∙ (leaf_count-append (seen ++ was.0) here ∙ omega (arith, was.2, leaf_count-moved depth c.loop-kid.next.leaves (places kid), c.walk_tree-next.ensures.leaves)),
+            subst (λ (shown : List Place). g.V.Visitor.Saw start shown c.walk_tree-next.new.visitor) (append_assoc seen was.0 here) (c.walk_tree-next.ensures.saw start (seen ++ was.0) was.1 was.2 was.3),
+            was.4 ∙
+                (ap (λ (ps : List Place). was.0 ++ ps) (moved_of_all-drop depth c.loop-kid.next.leaves kids i kid c.loop-kid-test.true c.kid-item.is) ∙
+                (sym (append_assoc was.0 here (map (moved depth (c.loop-kid.next.leaves + leaf_count (places kid))) others)) ∙
+                ap (λ (n : ℕ). was.0 ++ here ++ map (moved depth n) others) (sym c.walk_tree-next.ensures.leaves))),
+          );
+    }

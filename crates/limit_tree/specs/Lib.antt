@@ -1,0 +1,6 @@
+pub mod Sharing
+pub mod Plain
+pub mod Outline
+pub mod Laws
+pub mod Faults
+pub mod Looks

@@ -1,0 +1,74 @@
+ghost use Rattle.std.specs.Prelude.{◌≡◌, ◌<◌, ◌^◌, length};
+ghost use Rattle.limit_tree.specs.Outline.{places, leaf_count, floor_sum, root_place};
+
+use super::node::Node;
+use super::place::{Kind, Place};
+use std::alloc::Allocator;
+
+/// How much a tree holds.
+#[derive(Clone, Copy)]
+struct Size {
+    nodes: usize,
+    leaves: usize,
+    floors: u64,
+}
+
+fn size_of_tree<A: Allocator>(node: &Node<A>) -> Size
+    requires nodes { length (places node.now) < 2 ^ 63 }
+    requires leaves { leaf_count (places node.now) < 2 ^ 63 }
+    requires floors { floor_sum (places node.now) < 2 ^ 63 }
+    ensures nodes { result.nodes ≡ length (places node.now) }
+    ensures leaves { result.leaves ≡ leaf_count (places node.now) }
+    ensures floors { result.floors ≡ floor_sum (places node.now) }
+{
+    match node {
+        Node::Leaf { floor, .. } => Size {
+            nodes: 1,
+            leaves: 1,
+            floors: *floor,
+        },
+        Node::Branch { kids, .. } => {
+            let mut total = Size {
+                nodes: 1,
+                leaves: 0,
+                floors: 0,
+            };
+            for kid in kids {
+                let more = size_of_tree(kid);
+                total.nodes += more.nodes;
+                total.leaves += more.leaves;
+                total.floors += more.floors;
+            }
+            total
+        }
+    }
+}
+
+/// The place of a node at a depth, with so many leaves before it.
+pub fn place_of<A: Allocator>(node: &Node<A>, depth: usize, first: usize) -> Place
+    requires nodes { length (places node.now) < 2 ^ 63 }
+    requires leaves { leaf_count (places node.now) < 2 ^ 63 }
+    requires floors { floor_sum (places node.now) < 2 ^ 63 }
+    ensures place { result ≡ root_place depth first node.now }
+{
+    let size = size_of_tree(node);
+    let (kids, kind) = match node {
+        Node::Leaf { want, floor } => (
+            0,
+            Kind::Leaf {
+                want: *want,
+                floor: *floor,
+            },
+        ),
+        Node::Branch { limit, kids } => (kids.len(), Kind::Branch { limit: *limit }),
+    };
+    Place {
+        depth,
+        first,
+        leaves: size.leaves,
+        nodes: size.nodes,
+        kids,
+        floors: size.floors,
+        kind,
+    }
+}

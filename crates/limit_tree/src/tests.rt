@@ -1,0 +1,176 @@
+//! One happy path of each call, and each refusal of a tree.
+ghost use Rattle.std.specs.Prelude.{◌≡◌, ◌≤◌, ℕ, ◌<◌, IsTrue, slice_index};
+ghost use Rattle.limit_tree.specs.Sharing.{IsWanted};
+ghost use Rattle.limit_tree.specs.Outline.{limits};
+
+use super::*;
+use std::alloc::{AllocError, Global};
+use std::process::Abort;
+
+fn leaf(want: u64) -> Node {
+    Node::Leaf { want, floor: 0 }
+}
+
+fn branch(limit: Option<u64>, kids: Vec<Node>) -> Node {
+    Node::Branch { limit, kids }
+}
+
+// Whether each grant is at most its leaf's want.
+fn is_wanted(tree: &Tree, grants: &[u64]) -> bool
+    ensures wanted { IsTrue result → IsWanted (limits tree.now) grants.now }
+{
+    if grants.len() != tree.leaves() {
+        return false;
+    }
+    for leaf in 0..grants.len() {
+        if grants[leaf] > tree.want(leaf) {
+            return false;
+        }
+    }
+    true
+}
+
+// Ann has 30 of 75 and two transfers of 50; bob wants 50, and cy 10, of which 6 are guaranteed.
+fn users(alloc: Global) -> Result<Node, AllocError> {
+    let ann = branch(Some(30), vec![in alloc; leaf(50), leaf(50)]?);
+    let bob = branch(None, vec![in alloc; leaf(50)]?);
+    let guaranteed = Node::Leaf { want: 10, floor: 6 };
+    let cy = branch(None, vec![in alloc; guaranteed]?);
+    Ok(branch(Some(75), vec![in alloc; ann, bob, cy]?))
+}
+
+fn refusal(root: Node) -> Option<TreeFault> {
+    match Tree::new(root) {
+        Ok(_) => None,
+        Err(fault) => Some(fault),
+    }
+}
+
+#[test]
+fn tells_nodes_and_leaves(rt: HostRuntime) -> Result<(), AllocError> {
+    let Ok(tree) = Tree::new(users(rt.alloc())?) else {
+        panic!(rt; "a tree without a fault is refused");
+    };
+    assert_eq!(rt; tree.leaves(), 4);
+    assert_eq!(rt; tree.nodes(), 8);
+    assert_eq!(rt; tree.want(1), 50);
+    assert_eq!(rt; tree.want(3), 10);
+    assert_eq!(rt; tree.floor(2), 0);
+    assert_eq!(rt; tree.floor(3), 6);
+    assert_eq!(rt; tree.limit(1), Some(30));
+    assert_eq!(rt; tree.limit(4), None);
+    assert_eq!(rt; tree.place(1).nodes, 3);
+    assert!(rt; tree.is_branch(4) && !tree.is_branch(5));
+    assert!(rt; tree.under(1, 1) && !tree.under(1, 2) && tree.under(0, 2));
+    Ok(())
+}
+
+#[test]
+fn takes_in_up_to_a_level(rt: HostRuntime) -> Result<(), AllocError> {
+    let alloc = rt.alloc();
+    let inner = branch(
+        Some(4),
+        vec![in alloc; Node::Leaf { want: 3, floor: 3 }, leaf(7)]?,
+    );
+    let first = Node::Leaf { want: 5, floor: 2 };
+    let last = Node::Leaf { want: 9, floor: 1 };
+    let Ok(tree) = Tree::new(branch(Some(10), vec![in alloc; first, inner, last]?)) else {
+        panic!(rt; "a tree without a fault is refused");
+    };
+    assert_eq!(rt; tree.nodes(), 6);
+    // The floors, then a level that the inner branch cuts, then one that the root cuts.
+    assert!(rt; tree.absorb(0, 0) == 6 && tree.absorb(2, 0) == 3 && tree.absorb(4, 0) == 0);
+    assert!(rt; tree.absorb(0, 1) == 7 && tree.absorb(2, 1) == 4 && tree.absorb(1, 1) == 2);
+    assert!(rt; tree.absorb(0, 9) == 10 && tree.absorb(2, 9) == 4 && tree.absorb(5, 9) == 9);
+    Ok(())
+}
+
+fn look_at_grants(rt: &impl Abort, tree: &Tree, grants: &[u64]) {
+    assert!(rt; tree.nodes() == 8 && tree.leaves() == 4);
+    assert!(rt; is_wanted(tree, grants));
+    assert_eq!(rt; tree.sum_under(1, grants), 30);
+    assert_eq!(rt; tree.sum_under(0, grants), 75);
+    assert!(rt; tree.is_full(1, grants) && !tree.is_full(4, grants));
+    assert_eq!(rt; tree.full_above(0, grants), Some(1));
+    assert_eq!(rt; tree.full_above(2, grants), Some(0));
+}
+
+#[test]
+fn tells_sums_and_full_branches(rt: HostRuntime) -> Result<(), AllocError> {
+    let Ok(tree) = Tree::new(users(rt.alloc())?) else {
+        panic!(rt; "a tree without a fault is refused");
+    };
+    look_at_grants(&rt, &tree, [15, 15, 35, 10].as_slice());
+    Ok(())
+}
+
+#[test]
+fn refuses_numbers_that_are_too_large(rt: HostRuntime) -> Result<(), AllocError> {
+    let alloc = rt.alloc();
+    assert_eq!(rt; refusal(leaf(MAX_WANT)), None);
+    assert_eq!(rt; refusal(leaf(MAX_WANT + 1)), Some(TreeFault::WantTooLarge));
+    let over_want = Node::Leaf { want: 5, floor: 6 };
+    assert_eq!(rt; refusal(over_want), Some(TreeFault::FloorTooLarge));
+    let most = branch(Some(MAX_LIMIT), Vec::new(alloc));
+    assert_eq!(rt; refusal(most), None);
+    let more = branch(Some(MAX_LIMIT + 1), Vec::new(alloc));
+    assert_eq!(rt; refusal(more), Some(TreeFault::LimitTooLarge));
+    Ok(())
+}
+
+#[test]
+fn the_first_fault_in_preorder_decides(rt: HostRuntime) -> Result<(), AllocError> {
+    let alloc = rt.alloc();
+    let open = branch(Some(5), vec![in alloc; Node::Leaf { want: 9, floor: 6 }]?);
+    let root = branch(None, vec![in alloc; leaf(1), open]?);
+    assert_eq!(rt; refusal(root), Some(TreeFault::FloorsOverLimit(2)));
+    let open = branch(Some(5), vec![in alloc; Node::Leaf { want: 9, floor: 6 }]?);
+    let root = branch(
+        Some(MAX_LIMIT + 1),
+        vec![in alloc; open, leaf(MAX_WANT + 1)]?,
+    );
+    assert_eq!(rt; refusal(root), Some(TreeFault::LimitTooLarge));
+    let open = branch(Some(5), vec![in alloc; Node::Leaf { want: 9, floor: 6 }]?);
+    let root = branch(None, vec![in alloc; open, leaf(MAX_WANT + 1)]?);
+    assert_eq!(rt; refusal(root), Some(TreeFault::WantTooLarge));
+    Ok(())
+}
+
+// A leaf below so many branches.
+fn chain(alloc: Global, depth: u32) -> Result<Node, AllocError> {
+    let mut node = leaf(1);
+    for _ in 0..depth {
+        node = branch(None, vec![in alloc; node]?);
+    }
+    Ok(node)
+}
+
+#[test]
+fn refuses_a_tree_that_is_too_deep(rt: HostRuntime) -> Result<(), AllocError> {
+    assert_eq!(rt; refusal(chain(rt.alloc(), 16)?), None);
+    assert_eq!(rt; refusal(chain(rt.alloc(), 17)?), Some(TreeFault::TooDeep));
+    Ok(())
+}
+
+fn row(alloc: Global, leaves: usize) -> Result<Node, AllocError> {
+    let mut kids = Vec::new(alloc);
+    for _ in 0..leaves {
+        kids.push(leaf(1))?;
+    }
+    Ok(branch(None, kids))
+}
+
+#[test]
+fn refuses_too_many_leaves(rt: HostRuntime) -> Result<(), AllocError> {
+    assert_eq!(rt; refusal(row(rt.alloc(), MAX_LEAVES)?), None);
+    assert_eq!(rt;
+        refusal(row(rt.alloc(), MAX_LEAVES + 1)?),
+        Some(TreeFault::TooManyLeaves)
+    );
+    Ok(())
+}
+
+#[test]
+fn laws_stand(_rt: HostRuntime) {
+    no_floors_is_plain();
+}

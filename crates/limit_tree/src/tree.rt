@@ -1,0 +1,215 @@
+//! A tree whose numbers were checked.
+ghost use Rattle.std.specs.Prelude.{◌≡◌, ◌+◌, ◌*◌, ◌<◌, ◌≤◌, ◌^◌, ◌↔◌, [], length, slice_get, slice_index, sum, IsTrue, IsSome, Some, None, MatchResult, IfSome, ℕ};
+ghost use Rattle.std.specs.Option.{option_and_then};
+ghost use Rattle.limit_tree.specs.Sharing.{sum_over, IsWanted, IsLimitTree, Branch, IsBranch, IsFull, IsDeepestFull};
+ghost use Rattle.limit_tree.specs.Outline.{places, limits, leaves_under, absorbed};
+ghost use Rattle.limit_tree.specs.Laws.{LaterIsInside};
+ghost use Rattle.limit_tree.specs.Faults.{tree_fault};
+
+use super::absorb::absorb_in;
+use super::bounds::{MAX_LEAVES, MAX_NODES, MAX_WANT};
+use super::fault::{TreeFault, check_tree, floors_of};
+use super::look::{FullLook, LeafLook, NodeLook, is_full_place, sum_range};
+use super::node::Node;
+use super::place::{Kind, Place};
+use super::walk::{Passed, Visitor, walk_tree};
+use std::alloc::{Allocator, Global};
+use std::marker::Model;
+
+/// A tree of limits whose numbers were checked. Contracts see it as its nodes in preorder (`places`), and by
+/// `limits` as a limit tree.
+#[derive(Drop)]
+pub struct Tree<A: Allocator = Global> {
+    root: Node<A>,
+    nodes: usize,
+    leaves: usize,
+}
+
+impl<A: Allocator> Model for Tree<A> {
+    ghost use Rattle.std.specs.Prelude.{List};
+    ghost use Rattle.limit_tree.specs.declared.place.Place.{Place};
+    ghost use Rattle.limit_tree.specs.Outline.{places};
+    ghost use Rattle.limit_tree.specs.Faults.{IsSound};
+
+    ghost Value = { List Place };
+
+    ghost view = { λ t. places t.root };
+
+    ghost invariant = { λ t. IsSound (places t.root) t.nodes t.leaves };
+}
+
+const NOTHING: Passed = Passed {
+    nodes: 0,
+    leaves: 0,
+};
+
+impl<A: Allocator> Tree<A> {
+    /// Checks the numbers of a tree: takes O(nodes) time, and no memory. The first node in preorder that has a
+    /// fault decides.
+    pub fn new(root: Node<A>) -> Result<Tree<A>, TreeFault>
+        ensures new { MatchResult result (λ t. (t ≡ places root) × (tree_fault (places root) ≡ None)) (λ e. tree_fault (places root) ≡ Some e) }
+    {
+        let passed = check_tree(&root, 0, NOTHING)?;
+        match floors_of(&root, 0).over {
+            Some(branch) => Err(TreeFault::FloorsOverLimit(branch)),
+            None => Ok(Tree {
+                root,
+                nodes: passed.nodes,
+                leaves: passed.leaves,
+            }),
+        }
+    }
+
+    /// How many leaves the tree has.
+    pub fn leaves(&self) -> usize
+        ensures leaves { result ≡ length (limits self.now).wants }
+        ensures most { result ≤ MAX_LEAVES }
+        ensures octets { sum (limits self.now).wants ≤ result * MAX_WANT }
+        ensures limit_tree { IsLimitTree (limits self.now) }
+        ensures later { LaterIsInside (limits self.now) }
+    {
+        self.leaves
+    }
+
+    /// How many nodes the tree has.
+    pub fn nodes(&self) -> usize
+        ensures nodes { result ≡ length self.now }
+        ensures most { result ≤ MAX_NODES }
+    {
+        self.nodes
+    }
+
+    /// Shows a visitor each node in preorder. Takes O(nodes * depth) time.
+    pub fn walk<V: Visitor>(&self, visitor: &mut V)
+        requires leaves { V.leaves visitor.old ≡ length (limits self.now).wants }
+        ensures same { V.leaves visitor.new ≡ V.leaves visitor.old }
+        ensures saw { (start : V) → V.Saw start [] visitor.old → V.Saw start self.now visitor.new }
+    {
+        let _passed = walk_tree(&self.root, 0, NOTHING, visitor);
+    }
+
+    /// The node of a number.
+    pub fn place(&self, node: usize) -> Place
+        requires node { node < length self.now }
+        ensures place { slice_get self.now node ≡ Some result }
+        ensures inside { result.first + result.leaves ≤ length (limits self.now).wants }
+    {
+        let mut look = NodeLook::new(node, self.leaves);
+        self.walk(&mut look);
+        match look.found {
+            Some(place) => place,
+            None => unreachable!(),
+        }
+    }
+
+    /// The limit of a branch that has one.
+    pub fn limit(&self, node: usize) -> Option<u64>
+        requires node { node < length self.now }
+        ensures limit { result ≡ option_and_then (λ b. b.limit) ((limits self.now).branch node) }
+    {
+        match self.place(node).kind {
+            Kind::Branch { limit } => limit,
+            Kind::Leaf { .. } => None,
+        }
+    }
+
+    /// Whether the node is a branch.
+    pub fn is_branch(&self, node: usize) -> bool
+        requires node { node < length self.now }
+        ensures branch { IsTrue result ↔ IsSome ((limits self.now).branch node) }
+    {
+        match self.place(node).kind {
+            Kind::Branch { .. } => true,
+            Kind::Leaf { .. } => false,
+        }
+    }
+
+    /// Whether the leaf is the node or stands below it.
+    pub fn under(&self, node: usize, leaf: usize) -> bool
+        requires node { node < length self.now }
+        ensures under { result ≡ leaves_under self.now node leaf }
+        ensures branch { (b : Branch) → IsBranch (limits self.now) node b → result ≡ b.holds leaf }
+    {
+        let place = self.place(node);
+        place.first <= leaf && leaf - place.first < place.leaves
+    }
+
+    /// The sum of the grants of the leaves under the node, in octets.
+    pub fn sum_under(&self, node: usize, grants: &[u64]) -> u64
+        requires node { node < length self.now }
+        requires grants { IsWanted (limits self.now) grants.now }
+        ensures sum { result ≡ sum_over (leaves_under self.now node) grants.now }
+        ensures branch { (b : Branch) → IsBranch (limits self.now) node b → result ≡ sum_over b.holds grants.now }
+    {
+        let _ = &self.leaves;
+        let place = self.place(node);
+        sum_range(grants, place.first, place.leaves)
+    }
+
+    /// Whether the node is a branch whose limit is reached.
+    pub fn is_full(&self, node: usize, grants: &[u64]) -> bool
+        requires node { node < length self.now }
+        requires grants { IsWanted (limits self.now) grants.now }
+        ensures full { IsTrue result ↔ ((b : Branch) × IsBranch (limits self.now) node b × IsFull b grants.now) }
+    {
+        let _ = &self.leaves;
+        is_full_place(self.place(node), grants)
+    }
+
+    /// What the node takes in up to a level, in octets: a leaf the level, or its floor where that is greater, but
+    /// at most its want; a branch what its kids take in, cut to its limit.
+    pub fn absorb(&self, node: usize, level: u64) -> u64
+        requires node { node < length self.now }
+        ensures value { result ≡ absorbed level self.now node }
+        ensures most { result ≤ sum (limits self.now).wants }
+    {
+        let _ = &self.leaves;
+        match absorb_in(&self.root, node, level) {
+            Ok(octets) => octets,
+            Err(_) => unreachable!(),
+        }
+    }
+
+    /// The deepest full branch above the leaf. Takes O(nodes * depth) time.
+    pub fn full_above(&self, leaf: usize, grants: &[u64]) -> Option<usize>
+        requires leaf { leaf < length (limits self.now).wants }
+        requires grants { IsWanted (limits self.now) grants.now }
+        ensures deepest { IsDeepestFull (limits self.now) grants.now leaf result }
+    {
+        let _ = &self.leaves;
+        let mut look = FullLook::new(leaf, grants);
+        self.walk(&mut look);
+        look.found
+    }
+
+    /// The want of a leaf, in octets.
+    pub fn want(&self, leaf: usize) -> u64
+        requires leaf { leaf < length (limits self.now).wants }
+        ensures want { result ≡ slice_index (limits self.now).wants leaf }
+    {
+        match self.leaf(leaf).want {
+            Some(want) => want,
+            None => unreachable!(),
+        }
+    }
+
+    /// The floor of a leaf, in octets.
+    pub fn floor(&self, leaf: usize) -> u64
+        requires leaf { leaf < length (limits self.now).wants }
+        ensures floor { result ≡ slice_index (limits self.now).floors leaf }
+    {
+        match self.leaf(leaf).floor {
+            Some(floor) => floor,
+            None => unreachable!(),
+        }
+    }
+
+    fn leaf(&self, leaf: usize) -> LeafLook
+        ensures want { result.want ≡ slice_get (limits self.now).wants leaf }
+        ensures floor { result.floor ≡ slice_get (limits self.now).floors leaf }
+    {
+        let mut look = LeafLook::new(leaf, self.leaves);
+        self.walk(&mut look);
+        look
+    }
+}

@@ -1,0 +1,69 @@
+//! A walk over a tree in preorder.
+ghost use Rattle.std.specs.Prelude.{◌≡◌, ◌+◌, ◌<◌, ◌≤◌, ◌^◌, ◌++◌, List, length, map};
+ghost use Rattle.limit_tree.specs.declared.place.Place.{Place};
+ghost use Rattle.limit_tree.specs.Outline.{places, leaf_count, floor_sum, moved};
+
+use super::node::Node;
+use super::place::Place;
+use super::size::place_of;
+use std::alloc::Allocator;
+
+/// What is shown the nodes of a tree in preorder, one by one.
+pub trait Visitor {
+    ghost use Rattle.std.specs.Prelude.{◌≡◌, ◌+◌, ◌≤◌, ◌++◌, ◌∷◌, [], ℕ, List, length};
+    ghost use Rattle.limit_tree.specs.declared.place.Place.{Place};
+    ghost use Rattle.limit_tree.specs.Outline.{leaf_count};
+
+    /// How many leaves the tree has.
+    ghost leaves: { Self → ℕ };
+
+    /// What a visitor has become since it was shown these nodes.
+    ghost Saw: { Self → List Place → Self → Type 0 };
+
+    /// Takes one node more: its number, which counts the nodes that were seen, and its place.
+    fn visit(&mut self, number: usize, place: Place)
+        requires inside { place.first + place.leaves ≤ leaves self.old }
+        ensures leaves { leaves self.new ≡ leaves self.old }
+        ensures saw { (start : Self) (seen : List Place) → length seen ≡ number → leaf_count seen ≡ place.first → Saw start seen self.old → Saw start (seen ++ place ∷ []) self.new };
+}
+
+/// How many nodes and leaves a walk has passed.
+#[derive(Clone, Copy, Debug, PartialEq, Eq)]
+pub struct Passed {
+    pub nodes: usize,
+    pub leaves: usize,
+}
+
+/// Shows a visitor a tree that stands at a depth, behind the nodes and leaves that were passed.
+pub fn walk_tree<A: Allocator, V: Visitor>(
+    node: &Node<A>,
+    depth: usize,
+    passed: Passed,
+    visitor: &mut V,
+) -> Passed
+    requires depth { length (places node.now) + depth < 2 ^ 63 }
+    requires nodes { passed.nodes + length (places node.now) < 2 ^ 63 }
+    requires leaves { passed.leaves + leaf_count (places node.now) < 2 ^ 63 }
+    requires floors { floor_sum (places node.now) < 2 ^ 63 }
+    requires inside { passed.leaves + leaf_count (places node.now) ≤ V.leaves visitor.old }
+    ensures nodes { result.nodes ≡ passed.nodes + length (places node.now) }
+    ensures leaves { result.leaves ≡ passed.leaves + leaf_count (places node.now) }
+    ensures same { V.leaves visitor.new ≡ V.leaves visitor.old }
+    ensures saw { (start : V) (seen : List Place) → length seen ≡ passed.nodes → leaf_count seen ≡ passed.leaves → V.Saw start seen visitor.old → V.Saw start (seen ++ map (moved depth passed.leaves) (places node.now)) visitor.new }
+{
+    let place = place_of(node, depth, passed.leaves);
+    visitor.visit(passed.nodes, place);
+    let mut next = Passed {
+        nodes: passed.nodes + 1,
+        leaves: passed.leaves,
+    };
+    match node {
+        Node::Leaf { .. } => next.leaves += 1,
+        Node::Branch { kids, .. } => {
+            for kid in kids {
+                next = walk_tree(kid, depth + 1, next, visitor);
+            }
+        }
+    }
+    next
+}

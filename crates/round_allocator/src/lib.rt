@@ -2,9 +2,10 @@
 //! the leaf that has the least among those with room.
 #![tactic(auto)]
 
+mod named;
 mod plain;
 
-pub use plain::allot;
+pub use named::allot;
 
 #[cfg(test)]
 mod tests;

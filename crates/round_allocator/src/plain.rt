@@ -89,10 +89,7 @@ fn floors<A: Allocator, B: Allocator>(alloc: B, tree: &Tree<A>) -> Result<Vec<u6
 /// The grants of the leaves of a tree, in octets: from the floors on, one octet at a time to the leaf with the
 /// least grant among those with room, the lowest leaf number first. `AllocError` comes only where memory ran
 /// out.
-pub fn allot<A: Allocator, B: Allocator>(
-    alloc: B,
-    tree: &Tree<A>,
-) -> Result<Vec<u64, B>, AllocError>
+pub fn give<A: Allocator, B: Allocator>(alloc: B, tree: &Tree<A>) -> Result<Vec<u64, B>, AllocError>
     ensures within { IfOk result (λ g. IsWithin (limits tree.now) g.items) }
     ensures exhausted { IfOk result (λ g. IsExhausted (limits tree.now) g.items) }
     ensures bottlenecks { IfOk result (λ g. HasBottlenecks (limits tree.now) g.items) }

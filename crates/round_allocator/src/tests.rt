@@ -19,7 +19,7 @@ fn branch<A: Allocator>(limit: Option<u64>, kids: Vec<Node<A>, A>) -> Node<A> {
 // The grants of a tree; none where it is refused.
 fn granted(alloc: Global, root: Node) -> Result<Vec<u64>, AllocError> {
     match Tree::new(root) {
-        Ok(tree) => allot(alloc, &tree),
+        Ok(tree) => Ok(allot(alloc, &tree)?.0),
         Err(_) => Ok(Vec::new(alloc)),
     }
 }
@@ -87,7 +87,7 @@ fn allots_in(rt: &impl Abort, alloc: Global, tree: &Tree, room: usize) -> bool
     let first = allot(&heap, tree).is_ok();
     drop(hog);
     match allot(&heap, tree) {
-        Ok(grants) => assert!(rt; grants.as_slice() == [4, 3, 3].as_slice()),
+        Ok((grants, _)) => assert!(rt; grants.as_slice() == [4, 3, 3].as_slice()),
         Err(_) => panic!(rt; "memory is there again"),
     }
     first

@@ -1,0 +1,4 @@
+pub mod Changes
+pub mod Letters
+pub mod Stored
+pub mod Users

@@ -1,0 +1,50 @@
+//! What is kept of a user.
+
+ghost use Rattle.std.specs.Prelude.{◌≡◌};
+ghost use Rattle.authorizer.specs.Stored.{user_of};
+
+use crate::letters::Letters;
+use std::alloc::Allocator;
+use std::collections::BTreeMap;
+use virtual_path::VPath;
+
+/// The letters that are held at a path, and whether they are held at all beneath it.
+#[derive(Clone, Copy, Debug)]
+pub struct Rule {
+    pub letters: Letters,
+    pub recursive: bool,
+}
+
+#[derive(Drop)]
+pub struct Account<A: Allocator> {
+    pub number: u32,
+    pub password: String<A>,
+    pub home: VPath<A>,
+    pub letters: Letters,
+    // none until the first messages are set
+    pub login: Option<String<A>>,
+    pub quit: Option<String<A>>,
+    // by the texts of their paths
+    pub overrides: BTreeMap<String<A>, Rule, A>,
+    pub group: Option<u32>,
+}
+
+/// What the user is told at login.
+pub fn login_of<A: Allocator>(account: &Account<A>) -> &str
+    ensures login { result.now ≡ (user_of account.now).login }
+{
+    match &account.login {
+        Some(text) => text.as_str(),
+        None => "Welcome",
+    }
+}
+
+/// What the user is told at the end.
+pub fn quit_of<A: Allocator>(account: &Account<A>) -> &str
+    ensures quit { result.now ≡ (user_of account.now).quit }
+{
+    match &account.quit {
+        Some(text) => text.as_str(),
+        None => "Goodbye",
+    }
+}

@@ -1,0 +1,298 @@
+//! The users.
+
+ghost use Rattle.std.specs.Prelude.{◌≡◌, ◌≢◌, ◌≤◌, ◌^◌, [], IsTrue, ◌↔◌, IfOk, IfErr, OnOk, OnErr, MatchResult, Some, None, Ok, Err, codes};
+ghost use Rattle.std.specs.FinMap as map;
+ghost use Rattle.std.specs.List.{list_any};
+ghost use Rattle.std.specs.Option.{option_map, option_copied, option_and_then};
+ghost use Rattle.std.specs.String.{string_bytes};
+ghost use Rattle.virtual_path.specs.Path.{Path, resolved};
+ghost use Rattle.authorizer.specs.Letters.{letters_of};
+ghost use Rattle.authorizer.specs.Users.{Allowed};
+ghost use Rattle.authorizer.specs.Stored.{user_of};
+ghost use Rattle.authorizer.specs.Changes.{added, placed, new_user, removed, overridden, with_messages, with_group, is_password, is_line_end, IsMessage};
+
+use crate::account::{Account, Rule, login_of, quit_of};
+use crate::allowed::letters_at;
+use crate::fault::AuthorizerFault;
+use crate::letters::{Letter, Letters};
+use crate::password::is_same_password;
+use crate::table;
+use std::alloc::{AllocError, Allocator, Global};
+use std::collections::BTreeMap;
+use std::marker::Model;
+use virtual_path::{PathFault, VPath};
+
+/// The users of a server.
+#[derive(Drop)]
+pub struct Authorizer<A: Allocator = Global> {
+    accounts: BTreeMap<String<A>, Account<A>, A>,
+    // of the next user
+    next: u64,
+    alloc: A,
+}
+
+impl<A: Allocator> Model for Authorizer<A> {
+    ghost use Rattle.std.specs.Prelude.{ℕ, ◌≤◌, ◌^◌};
+    ghost use Rattle.authorizer.specs.Users.{Accounts};
+    ghost use Rattle.authorizer.specs.Stored.{accounts_code, map_of, user_of};
+
+    ghost Value = { Accounts };
+
+    ghost coded = { accounts_code };
+
+    ghost view = { λ inside. record { users = map_of user_of inside.accounts; next = inside.next } };
+
+    ghost invariant = { λ inside. inside.next ≤ 2 ^ 32 };
+}
+
+impl<A: Allocator + Clone> Authorizer<A> {
+    /// No users.
+    pub fn new(alloc: A) -> Result<Authorizer<A>, AllocError>
+        ensures none { IfOk result (λ authorizer. authorizer ≡ record { users = map.empty; next = 0 }) }
+    {
+        let accounts = BTreeMap::new(alloc.clone()?);
+        Ok(Authorizer {
+            accounts,
+            next: 0,
+            alloc,
+        })
+    }
+
+    /// Adds a user, whose home and letters are read from texts: the home from the root, the letters as in `elr`.
+    pub fn add_user(
+        &mut self,
+        name: &str,
+        password: &str,
+        home: &str,
+        letters: &str,
+    ) -> Result<(), AuthorizerFault>
+        ensures ok { OnOk result (added self.old name.now password.now home.now letters.now ≡ Ok self.new) }
+        ensures err { OnErr result (self.new ≡ self.old) }
+        ensures which { IfErr result (λ fault. fault ≢ AuthorizerFault.Memory → added self.old name.now password.now home.now letters.now ≡ Err fault) }
+    {
+        if self.has_user(name) {
+            return Err(AuthorizerFault::UserExists);
+        }
+        let letters = read_letters(letters)?;
+        let home = read_path(self.alloc.clone()?, home)?;
+        let account = new_account(self.alloc.clone()?, password, home, letters)?;
+        let key = String::from_str(self.alloc.clone()?, name)?;
+        self.admit(key, account)
+    }
+
+    /// Gives the account the next number.
+    fn admit(&mut self, name: String<A>, account: Account<A>) -> Result<(), AuthorizerFault>
+        ensures ok { OnOk result (placed self.old (string_bytes name) (record (user_of account) { number = self.old.next }) ≡ Ok self.new) }
+        ensures err { OnErr result (self.new ≡ self.old) }
+        ensures which { IfErr result (λ fault. fault ≢ AuthorizerFault.Memory → (fault ≡ AuthorizerFault.NoNumber) × (2 ^ 32 ≤ self.old.next)) }
+    {
+        let Ok(number) = u32::try_from(self.next) else {
+            return Err(AuthorizerFault::NoNumber);
+        };
+        let numbered = Account { number, ..account };
+        table::place(&mut self.accounts, name, numbered)?;
+        self.next += 1;
+        Ok(())
+    }
+
+    /// Adds the user `anonymous`, who has every password.
+    pub fn add_anonymous(&mut self, home: &str, letters: &str) -> Result<(), AuthorizerFault>
+        ensures ok { OnOk result (added self.old (codes "anonymous") [] home.now letters.now ≡ Ok self.new) }
+        ensures err { OnErr result (self.new ≡ self.old) }
+        ensures which { IfErr result (λ fault. fault ≢ AuthorizerFault.Memory → added self.old (codes "anonymous") [] home.now letters.now ≡ Err fault) }
+    {
+        self.add_user("anonymous", "", home, letters)
+    }
+
+    pub fn remove_user(&mut self, name: &str) -> Result<(), AuthorizerFault>
+        ensures ok { OnOk result (removed self.old name.now ≡ Ok self.new) }
+        ensures err { OnErr result (self.new ≡ self.old) }
+        ensures which { IfErr result (λ fault. removed self.old name.now ≡ Err fault) }
+    {
+        if !table::remove(&mut self.accounts, name) {
+            return Err(AuthorizerFault::NoSuchUser);
+        }
+        Ok(())
+    }
+
+    /// Sets the letters that a user holds at a path, and, where `recursive`, at all beneath it; else
+    /// at the entries directly in it. The deepest override that covers a path decides there alone.
+    pub fn override_perm(
+        &mut self,
+        name: &str,
+        path: &str,
+        letters: &str,
+        recursive: bool,
+    ) -> Result<(), AuthorizerFault>
+        ensures ok { OnOk result (overridden self.old name.now path.now letters.now recursive ≡ Ok self.new) }
+        ensures err { OnErr result (self.new ≡ self.old) }
+        ensures which { IfErr result (λ fault. fault ≢ AuthorizerFault.Memory → overridden self.old name.now path.now letters.now recursive ≡ Err fault) }
+    {
+        if !self.has_user(name) {
+            return Err(AuthorizerFault::NoSuchUser);
+        }
+        let letters = read_letters(letters)?;
+        let path = read_path(self.alloc.clone()?, path)?;
+        let text = String::from_str(self.alloc.clone()?, path.text())?;
+        table::override_path(&mut self.accounts, name, text, Rule { letters, recursive })
+    }
+
+    /// Sets what a user is told at login and at the end.
+    pub fn set_messages(
+        &mut self,
+        name: &str,
+        login: &str,
+        quit: &str,
+    ) -> Result<(), AuthorizerFault>
+        requires login { IsMessage login.now }
+        requires quit { IsMessage quit.now }
+        ensures ok { OnOk result (with_messages self.old name.now login.now quit.now ≡ Ok self.new) }
+        ensures err { OnErr result (self.new ≡ self.old) }
+        ensures which { IfErr result (λ fault. fault ≢ AuthorizerFault.Memory → with_messages self.old name.now login.now quit.now ≡ Err fault) }
+    {
+        if !self.has_user(name) {
+            return Err(AuthorizerFault::NoSuchUser);
+        }
+        let login = String::from_str(self.alloc.clone()?, login)?;
+        let quit = String::from_str(self.alloc.clone()?, quit)?;
+        table::set_messages(&mut self.accounts, name, login, quit)
+    }
+
+    /// Puts a user into a group, or into none.
+    pub fn set_group(&mut self, name: &str, group: Option<u32>) -> Result<(), AuthorizerFault>
+        ensures ok { OnOk result (with_group self.old name.now group ≡ Ok self.new) }
+        ensures err { OnErr result (self.new ≡ self.old) }
+        ensures which { IfErr result (λ fault. with_group self.old name.now group ≡ Err fault) }
+    {
+        table::set_group(&mut self.accounts, name, group)
+    }
+
+    pub fn has_user(&self, name: &str) -> bool
+        ensures has { result ≡ map.contains_key self.now.users name.now }
+    {
+        table::find(&self.accounts, name).is_some()
+    }
+
+    /// Whether a user may log in by a password. There is no such user: no. The user is `anonymous`: by every password.
+    pub fn check_password(&self, name: &str, password: &str) -> bool
+        ensures password { result ≡ is_password self.now.users name.now password.now }
+    {
+        match table::find(&self.accounts, name) {
+            Some(account) => name == "anonymous"
+                || is_same_password(password, account.password.as_str()),
+            None => false,
+        }
+    }
+
+    /// Whether a user holds a letter at a path.
+    pub fn has_perm<B: Allocator>(&self, user: &str, letter: Letter, path: &VPath<B>) -> bool
+        ensures allowed { IsTrue result ↔ Allowed self.now.users user.now letter path.now }
+    {
+        match table::find(&self.accounts, user) {
+            Some(account) => letters_at(account, path).holds(letter),
+            None => false,
+        }
+    }
+
+    /// The number of a user. Users are numbered as they are added, and no number is given twice.
+    pub fn number(&self, name: &str) -> Option<u32>
+        ensures number { result ≡ option_map (λ user. user.number) (map.get self.now.users name.now) }
+    {
+        let account = table::find(&self.accounts, name)?;
+        Some(account.number)
+    }
+
+    /// The letters of a user where no override covers.
+    pub fn perms(&self, name: &str) -> Option<Letters>
+        ensures letters { result ≡ option_map (λ user. user.letters) (map.get self.now.users name.now) }
+    {
+        let account = table::find(&self.accounts, name)?;
+        Some(account.letters)
+    }
+
+    /// The group of a user, if the user is in one.
+    pub fn group(&self, name: &str) -> Option<u32>
+        ensures group { result ≡ option_and_then (λ user. user.group) (map.get self.now.users name.now) }
+    {
+        let account = table::find(&self.accounts, name)?;
+        account.group
+    }
+
+    /// The home of a user: the root of the paths that the user sees.
+    pub fn home(&self, name: &str) -> Option<&VPath<A>>
+        ensures home { option_copied result ≡ option_map (λ user. user.home) (map.get self.now.users name.now) }
+    {
+        let account = table::find(&self.accounts, name)?;
+        Some(&account.home)
+    }
+
+    /// What a user is told at login.
+    pub fn msg_login(&self, name: &str) -> Option<&str>
+        ensures login { option_copied result ≡ option_map (λ user. user.login) (map.get self.now.users name.now) }
+    {
+        let account = table::find(&self.accounts, name)?;
+        Some(login_of(account))
+    }
+
+    /// What a user is told at the end.
+    pub fn msg_quit(&self, name: &str) -> Option<&str>
+        ensures quit { option_copied result ≡ option_map (λ user. user.quit) (map.get self.now.users name.now) }
+    {
+        let account = table::find(&self.accounts, name)?;
+        Some(quit_of(account))
+    }
+}
+
+/// Whether a text may be a message: it has no end of a line, an octet 10 or 13.
+pub fn is_message(text: &str) -> bool
+    ensures message { IsTrue result ↔ IsMessage text.now }
+{
+    !has_line_end(text)
+}
+
+fn has_line_end(text: &str) -> bool
+    ensures end { result ≡ list_any is_line_end text.now }
+{
+    text.bytes().any(|octet| octet == 10 || octet == 13)
+}
+
+fn read_letters(text: &str) -> Result<Letters, AuthorizerFault>
+    ensures letters { MatchResult result (λ letters. letters_of text.now ≡ Some letters) (λ fault. (fault ≡ AuthorizerFault.BadLetter) × (letters_of text.now ≡ None)) }
+{
+    Letters::read(text).ok_or(AuthorizerFault::BadLetter)
+}
+
+fn read_path<A: Allocator + Clone>(alloc: A, text: &str) -> Result<VPath<A>, AuthorizerFault>
+    ensures path { MatchResult result
+        (λ path. resolved [] text.now ≡ Ok path)
+        (λ fault. fault ≢ AuthorizerFault.Memory → (fault ≡ AuthorizerFault.BadPath) × ((path : Path) → resolved [] text.now ≢ Ok path)) }
+{
+    let root = VPath::root(alloc.clone()?);
+    match root.resolve(alloc, text) {
+        Ok(path) => Ok(path),
+        Err(PathFault::Memory) => Err(AuthorizerFault::Memory),
+        Err(_) => Err(AuthorizerFault::BadPath),
+    }
+}
+
+/// An account as it is added, still with no number of its own.
+fn new_account<A: Allocator + Clone>(
+    alloc: A,
+    password: &str,
+    home: VPath<A>,
+    letters: Letters,
+) -> Result<Account<A>, AllocError>
+    ensures account { IfOk result (λ account. user_of account ≡ new_user 0 password.now home letters) }
+{
+    let password = String::from_str(alloc.clone()?, password)?;
+    Ok(Account {
+        number: 0,
+        password,
+        home,
+        letters,
+        login: None,
+        quit: None,
+        overrides: BTreeMap::new(alloc),
+        group: None,
+    })
+}

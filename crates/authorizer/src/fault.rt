@@ -1,0 +1,35 @@
+//! Why a change to the users is refused.
+
+use std::alloc::AllocError;
+use thiserror::Error;
+
+/// Why a call is refused. Each comes where it applies, and they are looked for in this order.
+#[derive(Clone, Copy, Debug, PartialEq, Eq, Error)]
+pub enum AuthorizerFault {
+    #[error("there is a user of that name")]
+    UserExists,
+    #[error("there is no user of that name")]
+    NoSuchUser,
+    /// The letters hold something else than `elradfmw`.
+    #[error("no such permission letter")]
+    BadLetter,
+    /// A home or the path of an override is no path.
+    #[error("not a path")]
+    BadPath,
+    #[error("out of memory")]
+    Memory,
+    /// All 2^32 numbers of users have been given out.
+    #[error("no number is left for a user")]
+    NoNumber,
+}
+
+impl From<AllocError> for AuthorizerFault {
+    ghost use Rattle.std.specs.Prelude.{◌≡◌};
+    ghost use Rattle.authorizer.specs.declared.fault.AuthorizerFault.TheVariants.{Memory};
+
+    ghost from_gives = { λ _ fault. fault ≡ Memory };
+
+    fn from(_error: AllocError) -> AuthorizerFault {
+        AuthorizerFault::Memory
+    }
+}

@@ -1,0 +1,4 @@
+pub mod Commands
+pub mod Given
+pub mod Lines
+pub mod Faults

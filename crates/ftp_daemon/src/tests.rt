@@ -1,0 +1,271 @@
+//! Worked command lines, texts and lines, with refused memory and ends that fail in mid-stream.
+ghost use Rattle.std.specs.Prelude.{◌≤◌};
+
+use super::*;
+use linked_list_allocator::LocalHeap;
+use std::alloc::Global;
+use std::io;
+use std::io::{ErrorKind, Read, Write};
+use std::process::Abort;
+use std::test::Fail;
+
+#[test]
+fn words_of_a_command(rt: HostRuntime) -> Result<(), Fail> {
+    for sheet in ["a", "lunch.sheet", "/dev/stdin", "a b"] {
+        assert!(rt; read_words(rt.alloc(), &["share", sheet])? == Words::Share { sheet });
+    }
+    Ok(())
+}
+
+/// What the words are refused with, and whether it is help.
+fn refusal(rt: &impl Abort, alloc: Global, words: &[&str]) -> (String, bool) {
+    match read_words(alloc, words) {
+        Err(WordsFault::Refused { text, is_help }) => (text, is_help),
+        _ => rt.abort(),
+    }
+}
+
+#[test]
+fn words_that_ask_for_help(rt: HostRuntime) {
+    let cases = [
+        (["--version", ""], "ftpd 1\n"),
+        (["--help", ""], "Usage: ftpd <COMMAND>"),
+        (["--help", ""], "  share  Share the limits of a sheet"),
+        (["help", "share"], "Usage: ftpd share <SHEET>"),
+        (
+            ["share", "--help"],
+            "  <SHEET>  File of lines `limit PATH N`",
+        ),
+    ];
+    for (words, part) in cases {
+        let count = if words[1].is_empty() { 1 } else { 2 };
+        let (text, is_help) = refusal(&rt, rt.alloc(), &words[..count]);
+        assert!(rt; is_help, "{words:?}");
+        assert!(rt; text.as_str().contains(part), "{text}");
+    }
+}
+
+#[test]
+fn words_that_are_refused(rt: HostRuntime) {
+    let cases = [
+        ["share", "-x"],
+        ["share", "--floor"],
+        ["nothing", "a"],
+        ["check", "a"],
+        ["-x", "share"],
+    ];
+    for words in cases {
+        let (text, is_help) = refusal(&rt, rt.alloc(), &words);
+        assert!(rt; !is_help, "{words:?}");
+        assert!(rt; text.as_str().starts_with("error: "), "{text}");
+    }
+    assert!(rt; !refusal(&rt, rt.alloc(), &[]).1);
+    assert!(rt; !refusal(&rt, rt.alloc(), &["share"]).1);
+    assert!(rt; !refusal(&rt, rt.alloc(), &["share", "a", "b"]).1);
+}
+
+/// Gives its octets, at most `step` at a time, and fails after them.
+#[derive(Drop)]
+struct FailingReader<'a> {
+    rest: &'a [u8],
+    step: usize,
+}
+
+impl Read for FailingReader<'_> {
+    ghost use Rattle.std.specs.Prelude.{Some};
+
+    ghost remaining = { λ r. Some r.rest.now };
+
+    fn read(&mut self, buffer: &mut [u8]) -> io::Result<usize> {
+        let count = self.rest.len().min(self.step).min(buffer.len());
+        if count == 0 {
+            return Err(io::Error::from(ErrorKind::ConnectionReset));
+        }
+        let (front, rest) = self.rest.split_at(count);
+        buffer[..count].copy_from_slice(front);
+        self.rest = rest;
+        Ok(count)
+    }
+}
+
+/// Takes `left` octets and then fails.
+#[derive(Drop)]
+struct FailingWriter<'a> {
+    taken: &'a mut Vec<u8>,
+    left: usize,
+}
+
+impl Write for FailingWriter<'_> {
+    fn write(&mut self, octets: &[u8]) -> io::Result<usize> {
+        let count = octets.len().min(self.left);
+        if count == 0 {
+            return Err(io::Error::from(ErrorKind::BrokenPipe));
+        }
+        self.taken.extend_from_slice(&octets[..count])?;
+        self.left -= count;
+        Ok(count)
+    }
+
+    fn flush(&mut self) -> io::Result<()> {
+        Ok(())
+    }
+}
+
+#[test]
+fn texts_read_whole(rt: HostRuntime) -> Result<(), Fail> {
+    for text in ["", "limit / 10\n", "no end", "a\0b\r\n"] {
+        let octets = read_whole(rt.alloc(), &mut text.as_bytes())?;
+        assert!(rt; octets.as_slice() == text.as_bytes());
+    }
+    for step in [1, 3, 100] {
+        let mut reader = FailingReader {
+            rest: b"limit / 10\n",
+            step,
+        };
+        assert!(rt;
+            read_whole(rt.alloc(), &mut Outside(&mut reader)) == Err(ProgramFault::ReadFault)
+        );
+        assert!(rt; reader.rest.is_empty());
+    }
+    Ok(())
+}
+
+#[test]
+fn texts_of_the_most_octets(rt: HostRuntime) -> Result<(), Fail> {
+    let mut longest = Outside(io::repeat(b'#').take(4_194_304));
+    assert!(rt; read_whole(rt.alloc(), &mut longest)?.len() == MAX_TEXT);
+    let mut longer = Outside(io::repeat(b'#').take(4_194_305));
+    assert!(rt; read_whole(rt.alloc(), &mut longer) == Err(ProgramFault::TooLong));
+    Ok(())
+}
+
+const MET: Share = Share {
+    path: "/cy/1",
+    grant: 10,
+    want: 10,
+    full: None,
+};
+
+const UNMET: Share = Share {
+    path: "/ann/1",
+    grant: 15,
+    want: 50,
+    full: Some("/ann"),
+};
+
+const LINES: &str = "/cy/1 10 of 10\n/ann/1 15 of 50 full /ann\ntotal 25\n";
+
+#[test]
+fn lines_of_shares(rt: HostRuntime) -> Result<(), Fail> {
+    assert!(rt; lines_of(rt.alloc(), &[])?.as_str() == "total 0\n");
+    assert!(rt; lines_of(rt.alloc(), &[MET, UNMET])?.as_str() == LINES);
+    Ok(())
+}
+
+#[test]
+fn faults_print_their_names(rt: HostRuntime) -> Result<(), Fail> {
+    let cases = [
+        (ProgramFault::TooLong, "TooLong"),
+        (ProgramFault::ReadFault, "ReadFault"),
+        (ProgramFault::WriteFault, "WriteFault"),
+        (ProgramFault::Memory, "Memory"),
+    ];
+    for (fault, name) in cases {
+        assert!(rt; format!(in rt.alloc(); "{fault}")?.as_str() == name);
+    }
+    Ok(())
+}
+
+// The order of what comes first: memory, then the writer.
+#[test]
+fn shares_written(rt: HostRuntime) -> Result<(), Fail> {
+    let mut out = Vec::new(rt.alloc());
+    write_shares(rt.alloc(), &[MET, UNMET], &mut out)?;
+    assert!(rt; out.as_slice() == LINES.as_bytes());
+    for left in [0, 1, LINES.len() - 1] {
+        let mut taken = Vec::new(rt.alloc());
+        let mut writer = Outside(FailingWriter {
+            taken: &mut taken,
+            left,
+        });
+        assert!(rt;
+            write_shares(rt.alloc(), &[MET, UNMET], &mut writer) == Err(ProgramFault::WriteFault)
+        );
+        assert!(rt; taken.len() == left);
+    }
+    Ok(())
+}
+
+#[test]
+fn writers_that_fail(rt: HostRuntime) -> Result<(), Fail> {
+    for left in 0..4 {
+        let mut taken = Vec::new(rt.alloc());
+        let outcome = Outside(FailingWriter {
+            taken: &mut taken,
+            left,
+        })
+        .write_text(b"abc")
+        .is_ok();
+        assert!(rt; outcome == (left == 3));
+        assert!(rt; taken.len() == left.min(3));
+    }
+    Ok(())
+}
+
+const ROOM: usize = 4096;
+
+fn lines_in(rt: &impl Abort, alloc: Global, room: usize) -> Option<bool>
+    requires { room ≤ 4096 }
+{
+    let heap = LocalHeap::new(alloc, ROOM).ok()?;
+    let hog = Vec::<u8, &LocalHeap>::with_capacity(&heap, ROOM - room).ok()?;
+    let first = lines_of(&heap, &[MET, UNMET]).is_ok();
+    drop(hog);
+    match lines_of(&heap, &[MET, UNMET]) {
+        Ok(text) => assert!(rt; text.as_str() == LINES),
+        Err(_) => rt.abort(),
+    }
+    Some(first)
+}
+
+#[test]
+fn lines_without_memory(rt: HostRuntime) {
+    let mut outcomes = [None; 64];
+    for (step, outcome) in outcomes.iter_mut().enumerate() {
+        *outcome = lines_in(&rt, rt.alloc(), 16 * step.min(63));
+    }
+    assert!(rt; outcomes.contains(&Some(false)));
+    assert!(rt; outcomes.contains(&Some(true)));
+}
+
+// Room for the buffer of a read, and some more.
+const HEAP: usize = 131_072;
+
+fn text_in(rt: &impl Abort, alloc: Global, room: usize) -> Option<bool>
+    requires { room ≤ 131072 }
+{
+    let heap = LocalHeap::new(alloc, HEAP).ok()?;
+    let hog = Vec::<u8, &LocalHeap>::with_capacity(&heap, HEAP - room).ok()?;
+    let first = match read_whole(&heap, &mut b"limit / 10\n".as_slice()) {
+        Ok(_) => true,
+        Err(fault) => {
+            assert!(rt; fault == ProgramFault::Memory);
+            false
+        }
+    };
+    drop(hog);
+    assert!(rt; read_whole(&heap, &mut b"limit / 10\n".as_slice()).is_ok());
+    Some(first)
+}
+
+#[test]
+fn texts_without_memory(rt: HostRuntime) {
+    let mut outcomes = [None; 64];
+    for (step, outcome) in outcomes.iter_mut().enumerate() {
+        // the buffer is refused, then the text, then nothing
+        let room = 65_536 - 256 + 16 * step.min(63);
+        *outcome = text_in(&rt, rt.alloc(), room);
+    }
+    assert!(rt; outcomes.contains(&Some(false)));
+    assert!(rt; outcomes.contains(&Some(true)));
+}

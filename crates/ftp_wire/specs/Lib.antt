@@ -1,0 +1,11 @@
+pub mod Arguments
+pub mod Commands
+pub mod Given
+pub mod Items
+pub mod Lines
+pub mod Reading
+pub mod Stages
+pub mod Table
+pub mod Telnet
+pub mod Words
+pub mod Written

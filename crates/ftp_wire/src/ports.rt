@@ -1,0 +1,118 @@
+//! Reads where the server is to connect to.
+
+ghost use Rattle.std.specs.Prelude.{◌≡◌, ◌∷◌, [], List, ℕ, MatchOption, option_map};
+ghost use Rattle.ftp_wire.specs.Arguments.{extended_parts, extended_port_of, host_of, host_port, ipv4, octet_of, parts_at, port_of};
+
+use crate::arguments::{number_cut, number_up_to};
+use crate::commands::{ExtendedPort, HostPort, LineFault};
+use crate::words::split_part;
+
+/// One to three digits, up to 255.
+#[tactic(auto, unfolding(crate::specs::Arguments::octet_of))]
+fn octet_of(text: &[u8]) -> Option<u8>
+    ensures value { result ≡ octet_of text.now }
+{
+    if text.len() > 3 {
+        return None;
+    }
+    let number = number_up_to(255, text)?;
+    Some(number as u8)
+}
+
+/// The last part, where no octet of this value follows.
+fn last_part(text: &[u8], wanted: u8) -> Option<&[u8]>
+    ensures part { MatchOption result ((front back : List ℕ) × (next : List (List ℕ)) × (parts_at wanted text.now ≡ front ∷ back ∷ next))
+        (λ part. (part.now ≡ text.now) × (parts_at wanted text.now ≡ text.now ∷ [])) }
+{
+    match split_part(text, wanted) {
+        Some(_) => None,
+        None => Some(text),
+    }
+}
+
+fn host_port(text: &[u8]) -> Option<HostPort>
+    ensures value { result ≡ host_port (parts_at 44 text.now) }
+{
+    let (h1, rest) = split_part(text, b',')?;
+    let (h2, rest) = split_part(rest, b',')?;
+    let (h3, rest) = split_part(rest, b',')?;
+    let (h4, rest) = split_part(rest, b',')?;
+    let (p1, rest) = split_part(rest, b',')?;
+    let p2 = last_part(rest, b',')?;
+    let address = [octet_of(h1)?, octet_of(h2)?, octet_of(h3)?, octet_of(h4)?];
+    let high = u16::from(octet_of(p1)?);
+    let low = u16::from(octet_of(p2)?);
+    Some(HostPort {
+        address,
+        port: high * 256 + low,
+    })
+}
+
+/// The argument of PORT: an address and a port, or `BadArgument` (RFC 959, section 5.3.2).
+#[tactic(auto, unfolding(crate::specs::Arguments::port_of))]
+pub fn read_port(text: &str) -> Result<HostPort, LineFault>
+    ensures value { result ≡ port_of text.now }
+{
+    match host_port(text.as_bytes()) {
+        Some(port) => Ok(port),
+        None => Err(LineFault::BadArgument),
+    }
+}
+
+#[tactic(auto, unfolding(crate::specs::Arguments::host_of))]
+fn host_of(text: &[u8]) -> Option<[u8; 4]>
+    ensures value { result ≡ host_of text.now }
+{
+    let (h1, rest) = split_part(text, b'.')?;
+    let (h2, rest) = split_part(rest, b'.')?;
+    let (h3, rest) = split_part(rest, b'.')?;
+    let h4 = last_part(rest, b'.')?;
+    let h1 = number_up_to(255, h1)? as u8;
+    let h2 = number_up_to(255, h2)? as u8;
+    let h3 = number_up_to(255, h3)? as u8;
+    let h4 = number_up_to(255, h4)? as u8;
+    Some([h1, h2, h3, h4])
+}
+
+fn ipv4(address: &[u8], port: &[u8]) -> Option<ExtendedPort>
+    ensures value { result ≡ ipv4 address.now port.now }
+{
+    let address = host_of(address)?;
+    let port = number_up_to(65535, port)?;
+    Some(ExtendedPort::Ipv4(HostPort { address, port }))
+}
+
+/// The three fields between delimiters, and nothing after the last.
+fn extended_port(text: &[u8], delimiter: u8) -> Option<ExtendedPort>
+    ensures value { result ≡ extended_parts (parts_at delimiter text.now) }
+{
+    let (protocol, rest) = split_part(text, delimiter)?;
+    let (address, rest) = split_part(rest, delimiter)?;
+    let (port, rest) = split_part(rest, delimiter)?;
+    if !rest.is_empty() {
+        return None;
+    }
+    let protocol = number_cut(protocol)?;
+    if protocol == 1 {
+        ipv4(address, port)
+    } else {
+        Some(ExtendedPort::Unsupported(protocol))
+    }
+}
+
+/// The argument of EPRT: an address and a port, another protocol, or `BadArgument` (RFC 2428, section 2).
+#[tactic(auto, unfolding(crate::specs::Arguments::extended_port_of))]
+pub fn read_eprt(text: &str) -> Result<ExtendedPort, LineFault>
+    ensures value { result ≡ extended_port_of text.now }
+{
+    let Some((delimiter, rest)) = text.as_bytes().split_first() else {
+        return Err(LineFault::BadArgument);
+    };
+    if *delimiter < 33 || *delimiter > 126 {
+        return Err(LineFault::BadArgument);
+    }
+    match extended_port(rest, *delimiter) {
+        Some(port) => Ok(port),
+        None => Err(LineFault::BadArgument),
+    }
+}

@@ -1,0 +1,96 @@
+//! Reads a control connection, in whatever pieces it comes.
+
+use crate::items::LineItem;
+use crate::lines::OpenLine;
+use crate::telnet::Stage;
+use std::alloc::{AllocError, Allocator, Global};
+
+const LF: u8 = 10;
+
+/// Reads the octets that a client sends on its control connection.
+///
+/// Telnet commands are taken out, the rest is cut into lines at each LF, and each line is one item. The reader
+/// holds at most the octets of one line, and nothing of a line that is too long or of a Telnet command.
+#[derive(Drop)]
+pub struct LineReader<A: Allocator = Global> {
+    stage: Stage,
+    line: OpenLine<A>,
+}
+
+impl<A: Allocator + Clone> LineReader<A> {
+    ghost use Rattle.std.specs.Prelude.{◌≡◌, ◌≤◌, ◌++◌, ◌∷◌, [], ℕ, List, IfOk, OnErr, OnOk};
+    ghost use Rattle.ftp_wire.specs.Items.{Item};
+    ghost use Rattle.ftp_wire.specs.Reading.{HasRead, OnlyReadsAs, held, items_of};
+
+    /// A reader of which nothing is known yet.
+    pub fn new(alloc: A) -> LineReader<A>
+        ensures start { HasRead [] [] result }
+    {
+        LineReader {
+            stage: Stage::new(),
+            line: OpenLine::new(alloc),
+        }
+    }
+
+    /// The number of octets that are held, at most 4,097: a line of 4,096 octets and a CR that may belong to its end.
+    pub fn kept(&self) -> usize
+        ensures value { result ≡ held self.now }
+        ensures bound { result ≤ 4097 }
+    {
+        self.line.len()
+    }
+
+    /// A copy with room for so many octets more.
+    fn copy(&self, more: usize) -> Result<LineReader<A>, AllocError>
+        ensures ok { (octets : List ℕ) (items : List Item) → HasRead octets items self.now → IfOk result (HasRead octets items) }
+    {
+        let line = self.line.copy(more)?;
+        Ok(LineReader {
+            stage: self.stage,
+            line,
+        })
+    }
+
+    /// Takes the next octet, and adds the item that it ends.
+    fn take(&mut self, octet: u8, found: &mut Vec<LineItem<A>, A>) -> Result<(), AllocError>
+        ensures ok { (octets : List ℕ) (items : List Item) → HasRead octets (items ++ items_of found.old.items) self.old
+            → OnOk result (HasRead (octets ++ octet ∷ []) (items ++ items_of found.new.items) self.new) }
+    {
+        let Some(kept) = self.stage.step(octet) else {
+            return Ok(());
+        };
+        if kept == LF {
+            let item = self.line.end()?;
+            found.push(item)?;
+            return Ok(());
+        }
+        self.line.keep(kept)?;
+        Ok(())
+    }
+
+    /// Takes the next piece, and gives the items of the lines that it ends, in their order.
+    ///
+    /// After any pieces, the items so far are the only ones that the octets so far stand for. An `Err`, which
+    /// comes only where memory runs out, leaves the reader as it was. Takes time in proportion to the piece and
+    /// to what the reader holds.
+    pub fn feed(&mut self, piece: &[u8]) -> Result<Vec<LineItem<A>, A>, AllocError>
+        ensures ok { (octets : List ℕ) (items : List Item) → HasRead octets items self.old
+            → IfOk result (λ found. HasRead (octets ++ piece.now) (items ++ items_of found.items) self.new) }
+        ensures only { (octets : List ℕ) (items : List Item) → HasRead octets items self.old
+            → IfOk result (λ found. OnlyReadsAs (octets ++ piece.now) (items ++ items_of found.items)) }
+        ensures err { OnErr result (self.new ≡ self.old) }
+    {
+        let mut next = self.copy(piece.len())?;
+        let mut found = Vec::new(self.line.allocator()?);
+        for octet in piece {
+            next.take(*octet, &mut found)?;
+        }
+        *self = next;
+        Ok(found)
+    }
+
+    /// A law: what a reader has read stands for the items that it has told, and for no others.
+    pub fn reads_as(&self)
+        ensures only { (octets : List ℕ) (items : List Item) → HasRead octets items self.now → OnlyReadsAs octets items }
+    {}
+}

@@ -1,0 +1,248 @@
+//! Writes commands.
+
+ghost use Rattle.std.specs.Prelude.{◌≡◌, ◌++◌, ◌∷◌, [], IfOk, Ok, OnOk, option_map, string_bytes};
+ghost use Rattle.ftp_wire.specs.Commands.{verb_of, with_texts};
+ghost use Rattle.ftp_wire.specs.Given.{CanBeReadBack};
+ghost use Rattle.ftp_wire.specs.Reading.{OnlyReadsAs};
+ghost use Rattle.ftp_wire.specs.Written.{argument_part, extended_passive_text, extended_port_text, fact_text, facts_text, form_argument, has_facts, option_text, port_text, text_argument, type_text, written, written_line};
+
+use crate::commands::{
+    Command, DataType, ExtendedPassive, ExtendedPort, Facts, FeatureOption, HostPort,
+};
+use crate::table::{Bare, Form, Listing, Optional, Text, Verb};
+use std::alloc::{AllocError, Allocator};
+use std::fmt::Write;
+
+/// The command without its argument.
+fn verb<T>(command: &Command<T>) -> Verb
+    ensures value { result ≡ verb_of command.now }
+{
+    match command {
+        Command::User(_) => Verb::Text(Text::User),
+        Command::Pass(_) => Verb::Optional(Optional::Pass),
+        Command::Cwd(_) => Verb::Text(Text::Cwd),
+        Command::Cdup => Verb::Bare(Bare::Cdup),
+        Command::Quit => Verb::Bare(Bare::Quit),
+        Command::Rein => Verb::Bare(Bare::Rein),
+        Command::SetType(_) => Verb::Form(Form::SetType),
+        Command::Mode => Verb::Form(Form::Mode),
+        Command::Stru => Verb::Form(Form::Stru),
+        Command::Port(_) => Verb::Form(Form::Port),
+        Command::Eprt(_) => Verb::Form(Form::Eprt),
+        Command::Pasv => Verb::Bare(Bare::Pasv),
+        Command::Epsv(_) => Verb::Epsv,
+        Command::Retr(_) => Verb::Text(Text::Retr),
+        Command::Stor(_) => Verb::Text(Text::Stor),
+        Command::Appe(_) => Verb::Text(Text::Appe),
+        Command::Rest(_) => Verb::Form(Form::Rest),
+        Command::Rnfr(_) => Verb::Text(Text::Rnfr),
+        Command::Rnto(_) => Verb::Text(Text::Rnto),
+        Command::Abor => Verb::Bare(Bare::Abor),
+        Command::Dele(_) => Verb::Text(Text::Dele),
+        Command::Rmd(_) => Verb::Text(Text::Rmd),
+        Command::Mkd(_) => Verb::Text(Text::Mkd),
+        Command::Pwd => Verb::Bare(Bare::Pwd),
+        Command::Size(_) => Verb::Text(Text::Size),
+        Command::Mdtm(_) => Verb::Text(Text::Mdtm),
+        Command::List(_) => Verb::Listing(Listing::List),
+        Command::Nlst(_) => Verb::Listing(Listing::Nlst),
+        Command::Mlsd(_) => Verb::Optional(Optional::Mlsd),
+        Command::Mlst(_) => Verb::Optional(Optional::Mlst),
+        Command::Stat(_) => Verb::Listing(Listing::Stat),
+        Command::Opts(_) => Verb::Form(Form::Opts),
+        Command::Feat => Verb::Bare(Bare::Feat),
+        Command::Allo(_) => Verb::Optional(Optional::Allo),
+        Command::Syst => Verb::Bare(Bare::Syst),
+        Command::Help(_) => Verb::Optional(Optional::Help),
+        Command::Noop => Verb::Bare(Bare::Noop),
+    }
+}
+
+/// The text of the command, if it has one.
+fn text<A: Allocator>(command: &Command<String<A>>) -> Option<&str>
+    ensures value { option_map (λ t. t.now) result ≡ text_argument (with_texts string_bytes command.now) }
+{
+    match command {
+        Command::User(text)
+        | Command::Cwd(text)
+        | Command::Retr(text)
+        | Command::Stor(text)
+        | Command::Appe(text)
+        | Command::Rnfr(text)
+        | Command::Rnto(text)
+        | Command::Dele(text)
+        | Command::Rmd(text)
+        | Command::Mkd(text)
+        | Command::Size(text)
+        | Command::Mdtm(text) => Some(text.as_str()),
+        Command::Pass(text)
+        | Command::List(text)
+        | Command::Nlst(text)
+        | Command::Mlsd(text)
+        | Command::Mlst(text)
+        | Command::Stat(text)
+        | Command::Allo(text)
+        | Command::Help(text) => match text {
+            Some(text) => Some(text.as_str()),
+            None => None,
+        },
+        _ => None,
+    }
+}
+
+fn type_text(data_type: DataType) -> &'static str
+    ensures value { result.now ≡ type_text data_type }
+{
+    match data_type {
+        DataType::Ascii => "A",
+        DataType::Image => "I",
+    }
+}
+
+#[tactic(auto, unfolding(crate::specs::Written::port_text))]
+fn push_port<A: Allocator>(out: &mut String<A>, port: &HostPort) -> Result<(), AllocError>
+    ensures ok { OnOk result (string_bytes out.new ≡ string_bytes out.old ++ port_text port.now) }
+{
+    let [a, b, c, d] = port.address;
+    write!(
+        out,
+        "{a},{b},{c},{d},{},{}",
+        port.port / 256,
+        port.port % 256
+    )
+}
+
+#[tactic(auto, unfolding(crate::specs::Written::extended_port_text))]
+fn push_extended_port<A: Allocator>(
+    out: &mut String<A>,
+    port: &ExtendedPort,
+) -> Result<(), AllocError>
+    ensures ok { OnOk result (string_bytes out.new ≡ string_bytes out.old ++ extended_port_text port.now) }
+{
+    match port {
+        ExtendedPort::Ipv4(host) => {
+            let [a, b, c, d] = host.address;
+            let port = host.port;
+            write!(out, "|1|{a}.{b}.{c}.{d}|{port}|")
+        }
+        ExtendedPort::Unsupported(protocol) => write!(out, "|{protocol}|||"),
+    }
+}
+
+fn push_passive<A: Allocator>(
+    out: &mut String<A>,
+    passive: ExtendedPassive,
+) -> Result<(), AllocError>
+    ensures ok { OnOk result (string_bytes out.new ≡ string_bytes out.old ++ argument_part (extended_passive_text passive)) }
+{
+    match passive {
+        ExtendedPassive::Same => Ok(()),
+        ExtendedPassive::All => out.push_str(" ALL"),
+        ExtendedPassive::Protocol(protocol) => write!(out, " {protocol}"),
+    }
+}
+
+fn push_fact<A: Allocator>(
+    out: &mut String<A>,
+    is_named: bool,
+    name: &str,
+) -> Result<(), AllocError>
+    ensures ok { OnOk result (string_bytes out.new ≡ string_bytes out.old ++ fact_text is_named name.now) }
+{
+    if is_named { out.push_str(name) } else { Ok(()) }
+}
+
+#[tactic(auto, unfolding(crate::specs::Written::facts_text))]
+fn push_facts<A: Allocator>(out: &mut String<A>, facts: Facts) -> Result<(), AllocError>
+    ensures ok { OnOk result (string_bytes out.new ≡ string_bytes out.old ++ facts_text facts) }
+{
+    push_fact(out, facts.kind, "type;")?;
+    push_fact(out, facts.size, "size;")?;
+    push_fact(out, facts.modify, "modify;")?;
+    push_fact(out, facts.perm, "perm;")
+}
+
+fn has_facts(facts: Facts) -> bool
+    ensures value { result ≡ has_facts facts }
+{
+    facts.kind || facts.size || facts.modify || facts.perm
+}
+
+#[tactic(auto, unfolding(crate::specs::Written::option_text))]
+fn push_option<A: Allocator>(out: &mut String<A>, option: FeatureOption) -> Result<(), AllocError>
+    ensures ok { OnOk result (string_bytes out.new ≡ string_bytes out.old ++ option_text option) }
+{
+    match option {
+        FeatureOption::Utf8On => out.push_str("UTF8 ON"),
+        FeatureOption::Mlst(facts) => {
+            if !has_facts(facts) {
+                return out.push_str("MLST");
+            }
+            out.push_str("MLST ")?;
+            push_facts(out, facts)
+        }
+    }
+}
+
+/// Adds a space and the argument, if it has a form of its own.
+fn push_form<A: Allocator, T>(out: &mut String<A>, command: &Command<T>) -> Result<(), AllocError>
+    ensures ok { OnOk result (string_bytes out.new ≡ string_bytes out.old ++ argument_part (form_argument command.now)) }
+{
+    match command {
+        Command::SetType(data_type) => {
+            out.push_str(" ")?;
+            out.push_str(type_text(*data_type))
+        }
+        Command::Mode => out.push_str(" S"),
+        Command::Stru => out.push_str(" F"),
+        Command::Port(port) => {
+            out.push_str(" ")?;
+            push_port(out, port)
+        }
+        Command::Eprt(port) => {
+            out.push_str(" ")?;
+            push_extended_port(out, port)
+        }
+        Command::Epsv(passive) => push_passive(out, *passive),
+        Command::Rest(offset) => write!(out, " {offset}"),
+        Command::Opts(option) => {
+            out.push_str(" ")?;
+            push_option(out, *option)
+        }
+        _ => Ok(()),
+    }
+}
+
+/// Adds a space and the text, if there is one.
+fn push_text<A: Allocator>(out: &mut String<A>, text: Option<&str>) -> Result<(), AllocError>
+    ensures ok { OnOk result (string_bytes out.new ≡ string_bytes out.old ++ argument_part (option_map (λ t. t.now) text.entry)) }
+{
+    match text {
+        Some(text) => {
+            out.push_str(" ")?;
+            out.push_str(text)
+        }
+        None => Ok(()),
+    }
+}
+
+/// The line of a command: its code in capitals and without an X, a space and the argument where there is one,
+/// CR and LF.
+///
+/// A reader gives the command back from it, if the line without its end has at most 4,096 octets and the command
+/// is one that a reader gives.
+pub fn write_command<A: Allocator, B: Allocator>(
+    alloc: A,
+    command: &Command<String<B>>,
+) -> Result<Vec<u8, A>, AllocError>
+    ensures line { IfOk result (λ line. line.items ≡ written (with_texts string_bytes command.now)) }
+    ensures read_back { CanBeReadBack (with_texts string_bytes command.now)
+        → IfOk result (λ line. OnlyReadsAs line.items (Ok (with_texts string_bytes command.now) ∷ [])) }
+{
+    let mut out = String::new(alloc);
+    out.push_str(verb(command).code())?;
+    push_text(&mut out, text(command))?;
+    push_form(&mut out, command)?;
+    out.push_str("\r\n")?;
+    Ok(out.into_bytes())
+}

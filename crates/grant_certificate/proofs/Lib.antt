@@ -1,0 +1,7 @@
+pub mod Levels
+pub mod Order
+pub mod Plains
+pub mod Verdicts
+pub mod Places
+pub mod Seen
+pub mod Entries

@@ -1,0 +1,129 @@
+-- One node more for a look.
+use Rattle.std.proofs.Common.{◌≡◌, ℕ, suc, ◌+◌, ◌<◌, ◌≤◌, Bool, true, false, List, [], ◌∷◌, ◌++◌, length, take, refl, sym, ap, ◌∙◌, subst, arith, ◌⊎◌, inl, inr, Option, Some, None, length-append, set, replicate}
+use Rattle.std.proofs.lemmas.List.{take_more_set, get_or-replicate, get_or_past, length-replicate}
+use Rattle.std.specs.Prelude.{slice_get, IsTrue}
+use Rattle.std.specs.Option.{option_and_then}
+use Rattle.std.proofs.lemmas.Bool.{cases_lt, cases_eq, false≢true}
+use Rattle.std.proofs.lemmas.Option.{slice_get_past}
+use Rattle.limit_tree.specs.Sharing.{Branch as SharedBranch, IsBranch, IsFull}
+use Rattle.limit_tree.specs.Outline.{branch_of, leaf_range, limits, IsFullPlace}
+use Rattle.limit_tree.specs.declared.place.Place.{Place}
+use Rattle.limit_tree.proofs.Looks.{slice_get-last, slice_get-other, holds-range}
+use Rattle.limit_tree.specs.declared.bounds.TheConstants.{MAX_LEAVES}
+use Rattle.grant_certificate.specs.Flaws.{IsOver, IsFirstOver}
+use Rattle.grant_certificate.specs.Looks.{IsTable}
+use Rattle.grant_certificate.specs.Ranges.{IsOverPlace, IsMarked, IsHeld, IsHeldWithin, IsNear}
+
+-- the branch of a node's place
+branch_at : Option Place → Option SharedBranch
+branch_at o = option_and_then (λ (x : Place). branch_of x.kind x.first x.leaves) o
+
+none_some : (b : SharedBranch) → None ≡ Some b → ⊥
+none_some b h = cc
+
+branch_number : (seen : List Place) (k : ℕ) (b : SharedBranch) → IsBranch (limits seen) k b → k < length seen
+branch_number seen k b is = elim (cases_lt k (length seen)) [
+  | inl l ↦ l
+  | inr past ↦ absurd (none_some b (sym (ap (option_and_then (λ (x : Place). branch_of x.kind x.first x.leaves)) (slice_get_past seen k past)) ∙ is))
+]
+
+-- a branch of the nodes seen and one more is one of those seen, or that one
+branch_either : (seen : List Place) (p : Place) (k : ℕ) (b : SharedBranch) → IsBranch (limits (seen ++ p ∷ [])) k b → IsBranch (limits seen) k b ⊎ ((k ≡ length seen) × (branch_of p.kind p.first p.leaves ≡ Some b))
+branch_either seen p k b is = elim (cases_eq (length seen) k) [
+  | inl e ↦ inr (sym e, sym (ap (option_and_then (λ (x : Place). branch_of x.kind x.first x.leaves)) (slice_get-last seen p k e)) ∙ is)
+  | inr ne ↦ inl (sym (ap (option_and_then (λ (x : Place). branch_of x.kind x.first x.leaves)) (slice_get-other seen p k ne)) ∙ is)
+]
+
+branch_seen : (seen : List Place) (p : Place) (k : ℕ) (b : SharedBranch) → IsBranch (limits seen) k b → IsBranch (limits (seen ++ p ∷ [])) k b
+branch_seen seen p k b is =
+    let l : k < length seen = branch_number seen k b is in
+    ap (option_and_then (λ (x : Place). branch_of x.kind x.first x.leaves)) (slice_get-other seen p k (λ e. absurd (omega arith))) ∙ is
+
+branch_last : (seen : List Place) (p : Place) (n : ℕ) (b : SharedBranch) → length seen ≡ n → branch_of p.kind p.first p.leaves ≡ Some b → IsBranch (limits (seen ++ p ∷ [])) n b
+branch_last seen p n b count is = ap (option_and_then (λ (x : Place). branch_of x.kind x.first x.leaves)) (slice_get-last seen p n count) ∙ is
+
+-- a branch over its limit is one of those seen, or that one
+over_either : (seen : List Place) (p : Place) (g : List ℕ) (k : ℕ) → IsOver (limits (seen ++ p ∷ [])) g k → IsOver (limits seen) g k ⊎ ((k ≡ length seen) × IsOverPlace p g)
+over_either seen p g k over = elim (branch_either seen p k over.0 over.2) [
+  | inl was ↦ inl (over.0, over.1, was, over.3, over.4)
+  | inr is ↦ inr (is.0, (over.0, over.1, is.1, over.3, over.4))
+]
+
+pub over-nothing : (g : List ℕ) → IsFirstOver (limits []) g None
+over-nothing g k over = let l : k < 0 = branch_number [] k over.0 over.2 in absurd (omega arith)
+
+over-found : (seen : List Place) (p : Place) (g : List ℕ) (m : ℕ) → IsFirstOver (limits seen) g (Some m) → IsFirstOver (limits (seen ++ p ∷ [])) g (Some m)
+over-found seen p g m first =
+    let l : m < length seen = branch_number seen m first.0.0 first.0.2 in (
+      (first.0.0, first.0.1, branch_seen seen p m first.0.0 first.0.2, first.0.3, first.0.4),
+      λ k less over. elim (over_either seen p g k over) [
+        | inl was ↦ first.1 k less was
+        | inr is ↦ absurd (omega (arith, is.0))
+      ],
+    )
+
+pub over-last : (seen : List Place) (p : Place) (g : List ℕ) (n : ℕ) → length seen ≡ n → IsFirstOver (limits seen) g None → IsOverPlace p g → IsFirstOver (limits (seen ++ p ∷ [])) g (Some n)
+over-last seen p g n count none over = (
+  (over.0, over.1, branch_last seen p n over.0 count over.2, over.3, over.4),
+  λ k less is. elim (over_either seen p g k is) [
+    | inl was ↦ none k was
+    | inr here ↦ absurd (omega (arith, here.0))
+  ],
+)
+
+over-not : (seen : List Place) (p : Place) (g : List ℕ) → IsFirstOver (limits seen) g None → (IsOverPlace p g → ⊥) → IsFirstOver (limits (seen ++ p ∷ [])) g None
+over-not seen p g none not k is = elim (over_either seen p g k is) [
+  | inl was ↦ none k was
+  | inr here ↦ not here.1
+]
+
+pub over-stays : (seen : List Place) (p : Place) (g : List ℕ) (found : Option ℕ) → (found ≡ None → IsOverPlace p g → ⊥) → IsFirstOver (limits seen) g found → IsFirstOver (limits (seen ++ p ∷ [])) g found
+over-stays seen p g None not first = over-not seen p g first (not refl)
+over-stays seen p g (Some m) not first = over-found seen p g m first
+
+-- a leaf that is held stays so
+pub held-seen : (seen : List Place) (p : Place) (g floors : List ℕ) (c : List (Option ℕ)) (i : ℕ) → IsHeld (limits seen) g floors c i → IsHeld (limits (seen ++ p ∷ [])) g floors c i
+held-seen seen p g floors c i h = record {
+  node = h.node;
+  branch = h.branch;
+  named = h.named;
+  is = branch_seen seen p h.node h.branch h.is;
+  full = h.full;
+  holds = h.holds;
+  greatest = h.greatest;
+}
+
+-- a leaf that a full branch holds, by its place
+pub held-last : (seen : List Place) (p : Place) (n : ℕ) (g floors : List ℕ) (c : List (Option ℕ)) (i : ℕ) → length seen ≡ n → IsFullPlace p g → IsHeldWithin n p.first p.leaves g floors c i → IsHeld (limits (seen ++ p ∷ [])) g floors c i
+held-last seen p n g floors c i count full h = record {
+  node = n;
+  branch = full.0;
+  named = h.named;
+  is = branch_last seen p n full.0 count full.1;
+  full = full.2;
+  holds = holds-range p full.0 i full.1 ∙ h.holds;
+  greatest = λ j holds. h.greatest j (sym (holds-range p full.0 j full.1) ∙ holds);
+}
+
+-- the numbers of the leaves that were seen, with one more
+pub table-more : (table numbers more : List ℕ) (n first : ℕ) → more ≡ numbers ++ n ∷ [] → length numbers ≡ first → length table ≡ MAX_LEAVES → first < MAX_LEAVES → IsTable table numbers → IsTable (set table first n) more
+table-more table numbers more n first e count full l was = λ few.
+    let longer : length more ≡ first + 1 = ap length e ∙ (length-append numbers (n ∷ []) ∙ ap (λ (k : ℕ). k + 1) count) in
+    ap (λ (k : ℕ). take k (set table first n)) longer ∙ (
+    take_more_set table first n (omega arith) ∙ (
+    ap (λ (xs : List ℕ). xs ++ n ∷ []) (ap (λ (k : ℕ). take k table) (sym count) ∙ was (omega arith)) ∙ sym e))
+
+pub table-past : (table numbers more : List ℕ) (n first : ℕ) → more ≡ numbers ++ n ∷ [] → length numbers ≡ first → MAX_LEAVES ≤ first → IsTable table more
+table-past table numbers more n first e count past = λ few.
+    let longer : length more ≡ first + 1 = ap length e ∙ (length-append numbers (n ∷ []) ∙ ap (λ (k : ℕ). k + 1) count) in
+    absurd (omega arith)
+
+pub table-same : (table numbers more : List ℕ) → more ≡ numbers → IsTable table numbers → IsTable table more
+table-same table numbers more e was = subst (λ (xs : List ℕ). IsTable table xs) (sym e) was
+
+-- none of so many marks is set
+pub none_marked : (n i : ℕ) → IsMarked (replicate n false) i → ⊥
+none_marked n i marked = elim (cases_lt i n) [
+  | inl l ↦ false≢true (sym (get_or-replicate n i false false l) ∙ marked)
+  | inr past ↦ false≢true (sym (get_or_past (replicate n false) i false (omega (arith, length-replicate n false))) ∙ marked)
+]

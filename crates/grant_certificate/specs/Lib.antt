@@ -1,0 +1,5 @@
+pub mod Laws
+pub mod Flaws
+pub mod Ranges
+pub mod Looks
+pub mod Sealing

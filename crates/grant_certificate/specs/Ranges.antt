@@ -1,0 +1,51 @@
+-- What is asked of a range of leaves.
+use Rattle.std.specs.Prelude.{◌≡◌, ℕ, ◌+◌, ◌<◌, ◌≤◌, ◌⊎◌, List, Bool, true, false, Option, Some, IsTrue, slice_get, slice_index}
+use Rattle.std.proofs.Common.{get_or}
+use Rattle.limit_tree.specs.Sharing.{Branch, LimitTree, IsBranch, IsFull, sum_over}
+use Rattle.limit_tree.specs.Outline.{leaf_range, branch_of}
+use Rattle.limit_tree.specs.declared.place.Place.{Place}
+
+-- the place is that of a branch whose leaves have more than its limit
+abbrev pub IsOverPlace : Place → List ℕ → Type 0
+IsOverPlace p g = (b : Branch) × (most : ℕ) × (branch_of p.kind p.first p.leaves ≡ Some b) × (b.limit ≡ Some most) × (most < sum_over b.holds g)
+
+-- the grant of leaf j is at most a number, or is j's floor
+abbrev pub IsAtMostOrFloor : List ℕ → List ℕ → ℕ → ℕ → Type 0
+IsAtMostOrFloor g floors most j = (slice_index g j ≤ most) ⊎ (slice_index g j ≡ slice_index floors j)
+
+-- the grant of leaf j does not exceed a grant by two or more, or is j's floor
+abbrev pub IsNear : List ℕ → List ℕ → ℕ → ℕ → Type 0
+IsNear g floors grant j = (slice_index g j < grant + 2) ⊎ (slice_index g j ≡ slice_index floors j)
+
+-- it does, and is not
+abbrev pub IsGreater : List ℕ → List ℕ → ℕ → ℕ → Type 0
+IsGreater g floors grant j = (grant + 2 ≤ slice_index g j) × (slice_index g j ≡ slice_index floors j → ⊥)
+
+abbrev pub IsNoneGreater : ℕ → ℕ → List ℕ → List ℕ → ℕ → Type 0
+IsNoneGreater first leaves g floors grant = (j : ℕ) → IsTrue (leaf_range first leaves j) → IsNear g floors grant j
+
+-- the first leaf of a range
+abbrev pub IsFirstGreater : ℕ → ℕ → List ℕ → List ℕ → ℕ → ℕ → Type 0
+IsFirstGreater first leaves g floors grant leaf =
+    IsTrue (leaf_range first leaves leaf) × IsGreater g floors grant leaf ×
+    ((j : ℕ) → j < leaf → IsTrue (leaf_range first leaves j) → IsNear g floors grant j)
+
+-- the mark of leaf i is set
+abbrev pub IsMarked : List Bool → ℕ → Type 0
+IsMarked marks i = get_or marks i false ≡ true
+
+-- Leaf i names a number and lies in a range of leaves in which no grant is too great beside its own.
+pub record IsHeldWithin (number first leaves : ℕ) (g floors : List ℕ) (c : List (Option ℕ)) (i : ℕ) : Type 0 where
+  pub named : slice_get c i ≡ Some (Some number)
+  pub holds : IsTrue (leaf_range first leaves i)
+  pub greatest : (j : ℕ) → IsTrue (leaf_range first leaves j) → IsNear g floors (slice_index g i) j
+
+-- the entry of leaf i names a bottleneck
+pub record IsHeld (t : LimitTree) (g floors : List ℕ) (c : List (Option ℕ)) (i : ℕ) : Type 0 where
+  pub node : ℕ
+  pub branch : Branch
+  pub named : slice_get c i ≡ Some (Some node)
+  pub is : IsBranch t node branch
+  pub full : IsFull branch g
+  pub holds : IsTrue (branch.holds i)
+  pub greatest : (j : ℕ) → IsTrue (branch.holds j) → IsNear g floors (slice_index g i) j

@@ -1,0 +1,126 @@
+//! The leaves that the branches they name hold back.
+ghost use Rattle.limit_tree.specs.declared.bounds.TheConstants.{MAX_LEAVES};
+ghost use Rattle.std.specs.Prelude.{◌≡◌, ◌+◌, ◌<◌, ◌≤◌, ◌^◌, ◌⊎◌, ◌↔◌, ℕ, Some, IsTrue, length, slice_index, sum};
+ghost use Rattle.limit_tree.specs.Outline.{limits};
+ghost use Rattle.grant_certificate.specs.Ranges.{IsMarked, IsHeld, IsHeldWithin};
+
+use super::range::{greatest, is_full_place};
+use limit_tree::{MAX_LEAVES, Place, Tree, Visitor};
+use std::alloc::Allocator;
+
+/// Marks each leaf that names a bottleneck of its own.
+#[derive(Drop)]
+pub struct BackingLook<'a> {
+    pub grants: &'a [u64],
+    pub floors: &'a [u64],
+    pub entries: &'a [Option<u32>],
+    pub marks: [bool; MAX_LEAVES],
+    ghost fits: { sum grants.now < 2 ^ 64 },
+    ghost few: { length grants.now ≤ MAX_LEAVES },
+    ghost floored: { length floors.now ≡ length grants.now },
+    ghost entered: { length entries.now ≡ length grants.now },
+}
+
+impl<'a> BackingLook<'a> {
+    ghost use Rattle.std.specs.Prelude.{◌≡◌, ◌<◌, ◌≤◌, ◌^◌, [], length, sum};
+    ghost use Rattle.grant_certificate.specs.Looks.{SoughtBacking};
+
+    fn new(grants: &'a [u64], floors: &'a [u64], entries: &'a [Option<u32>]) -> BackingLook<'a>
+        requires fits { sum grants.now < 2 ^ 64 }
+        requires few { length grants.now ≤ MAX_LEAVES }
+        requires floors { length floors.now ≡ length grants.now }
+        requires entries { length entries.now ≡ length grants.now }
+        ensures grants { result.grants.now ≡ grants.now }
+        ensures floors { result.floors.now ≡ floors.now }
+        ensures entries { result.entries.now ≡ entries.now }
+        ensures start { SoughtBacking result [] result }
+    {
+        BackingLook {
+            grants,
+            floors,
+            entries,
+            marks: no_marks(),
+        }
+    }
+}
+
+impl<'a> Visitor for BackingLook<'a> {
+    ghost use Rattle.std.specs.Prelude.{length};
+    ghost use Rattle.grant_certificate.specs.Looks.{SoughtBacking};
+
+    ghost leaves = { λ s. length s.grants.now };
+
+    ghost Saw = { SoughtBacking };
+
+    fn visit(&mut self, number: usize, place: Place) {
+        if is_full_place(place, self.grants) {
+            mark_held(
+                number,
+                place,
+                self.grants,
+                self.floors,
+                self.entries,
+                &mut self.marks,
+            );
+        }
+    }
+}
+
+/// Marks the leaves of a place that name its number and beside whose grants none in it is too great. Takes
+/// O(leaves of the place) time.
+fn mark_held(
+    number: usize,
+    place: Place,
+    grants: &[u64],
+    floors: &[u64],
+    entries: &[Option<u32>],
+    marks: &mut [bool],
+)
+    requires inside { place.first + place.leaves ≤ length grants.now }
+    requires floors { length floors.now ≡ length grants.now }
+    requires entries { length entries.now ≡ length grants.now }
+    requires marks { length grants.now ≤ length marks.old }
+    ensures marked { (i : ℕ) → IsMarked marks.new i → IsMarked marks.old i ⊎ IsHeldWithin number place.first place.leaves grants.now floors.now entries.now i }
+{
+    let most = greatest(grants, floors, place.first, place.leaves);
+    for leaf in place.first..place.first + place.leaves {
+        if names(entries[leaf], number) && (most < 2 || most - 2 < grants[leaf]) {
+            marks[leaf] = true;
+        }
+    }
+}
+
+/// Whether the entry is that number.
+fn names(entry: Option<u32>, number: usize) -> bool
+    ensures named { IsTrue result ↔ (entry ≡ Some number) }
+{
+    match entry {
+        Some(named) => named as usize == number,
+        None => false,
+    }
+}
+
+/// Marks each leaf whose entry names a bottleneck of it. Takes one walk.
+pub fn backed_leaves<A: Allocator>(
+    tree: &Tree<A>,
+    grants: &[u64],
+    floors: &[u64],
+    entries: &[Option<u32>],
+) -> [bool; MAX_LEAVES]
+    requires leaves { length (limits tree.now).wants ≡ length grants.now }
+    requires few { length grants.now ≤ MAX_LEAVES }
+    requires fits { sum grants.now < 2 ^ 64 }
+    requires floors { length floors.now ≡ length grants.now }
+    requires entries { length entries.now ≡ length grants.now }
+    ensures held { (i : ℕ) → IsMarked result i → IsHeld (limits tree.now) grants.now floors.now entries.now i }
+{
+    let mut look = BackingLook::new(grants, floors, entries);
+    tree.walk(&mut look);
+    look.marks
+}
+
+fn no_marks() -> [bool; MAX_LEAVES]
+    ensures none { (i : ℕ) → IsMarked result i → ⊥ }
+{
+    [false; MAX_LEAVES]
+}

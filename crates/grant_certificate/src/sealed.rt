@@ -1,0 +1,108 @@
+//! Grants that were checked.
+ghost use Rattle.std.specs.Prelude.{◌≡◌, ◌<◌, ◌^◌, ◌↔◌, IfOk, IfErr, IsOk, sum};
+ghost use Rattle.limit_tree.specs.Outline.{limits};
+ghost use Rattle.limit_tree.specs.Sharing.{IsWithin, IsBackedBy, IsBest};
+ghost use Rattle.grant_certificate.specs.Flaws.{IsFirstFlaw};
+
+use super::certificate::Certificate;
+use super::checker::check;
+use super::flaw::{Flaw, Verdict};
+use limit_tree::Tree;
+use std::alloc::{Allocator, Global};
+use std::marker::Model;
+
+/// Grants that are within the limits of their tree and backed by their certificate, and so best.
+#[derive(Drop)]
+pub struct Sealed<A: Allocator = Global> {
+    tree: Tree<A>,
+    grants: Vec<u64, A>,
+    certificate: Certificate<A>,
+}
+
+impl<A: Allocator> Model for Sealed<A> {
+    ghost use Rattle.grant_certificate.specs.Sealing.{Sealing, IsSealed};
+
+    ghost Value = { Sealing };
+
+    ghost view = { λ s. record { tree = s.tree; grants = s.grants.items; certificate = s.certificate } };
+
+    ghost invariant = { λ s. IsSealed s.tree s.grants.items s.certificate };
+}
+
+/// A tree, grants and a certificate that were refused, with their first flaw.
+#[derive(Drop)]
+pub struct Refused<A: Allocator = Global> {
+    pub tree: Tree<A>,
+    pub grants: Vec<u64, A>,
+    pub certificate: Certificate<A>,
+    pub flaw: Flaw,
+}
+
+/// Seals grants that are within the limits of the tree and backed by the certificate, in octets by leaf. Takes
+/// no memory; what is refused comes back with the first flaw, as `check` finds it.
+pub fn seal<A: Allocator>(
+    tree: Tree<A>,
+    grants: Vec<u64, A>,
+    certificate: Certificate<A>,
+) -> Result<Sealed<A>, Refused<A>>
+    ensures seals { IsOk result ↔ (IsWithin (limits tree) grants.items × IsBackedBy (limits tree) grants.items certificate) }
+    ensures sealed { IfOk result (λ s. (s.tree ≡ tree) × (s.grants ≡ grants.items) × (s.certificate ≡ certificate)) }
+    ensures refused { IfErr result (λ r. (r.tree ≡ tree) × (r.grants ≡ grants) × (r.certificate ≡ certificate) × IsFirstFlaw (limits tree) grants.items certificate r.flaw) }
+{
+    match check(&tree, &grants, &certificate) {
+        Verdict::Yes => Ok(Sealed {
+            tree,
+            grants,
+            certificate,
+        }),
+        Verdict::No(flaw) => Err(Refused {
+            tree,
+            grants,
+            certificate,
+            flaw,
+        }),
+    }
+}
+
+impl<A: Allocator> Sealed<A> {
+    /// The tree.
+    pub fn tree(&self) -> &Tree<A>
+        ensures tree { result.now ≡ self.now.tree }
+        ensures best { IsBest (limits self.now.tree) self.now.grants }
+    {
+        &self.tree
+    }
+
+    /// The grants, in octets by leaf.
+    pub fn grants(&self) -> &[u64]
+        ensures grants { result.now ≡ self.now.grants }
+        ensures best { IsBest (limits self.now.tree) self.now.grants }
+    {
+        self.grants.as_slice()
+    }
+
+    /// The certificate.
+    pub fn certificate(&self) -> &Certificate<A>
+        ensures certificate { result.now ≡ self.now.certificate }
+        ensures backed { IsBackedBy (limits self.now.tree) self.now.grants self.now.certificate }
+        ensures best { IsBest (limits self.now.tree) self.now.grants }
+    {
+        &self.certificate
+    }
+
+    /// The sum of the grants, in octets.
+    pub fn total(&self) -> u64
+        ensures total { result ≡ sum self.now.grants }
+        ensures best { IsBest (limits self.now.tree) self.now.grants }
+    {
+        let _ = self.tree.leaves();
+        sum_of(&self.grants)
+    }
+}
+
+fn sum_of(grants: &[u64]) -> u64
+    requires fits { sum grants.now < 2 ^ 64 }
+    ensures sum { result ≡ sum grants.now }
+{
+    grants.iter().sum()
+}

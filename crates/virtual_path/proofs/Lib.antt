@@ -1,0 +1,7 @@
+pub mod Beneath
+pub mod Elements
+pub mod LastSlash
+pub mod Parts
+pub mod Splits
+pub mod Texts
+pub mod Walks

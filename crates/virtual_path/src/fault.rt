@@ -1,0 +1,28 @@
+//! Why a path is refused.
+
+use std::alloc::AllocError;
+use thiserror::Error;
+
+/// Why a text names no path. They are looked for in this order.
+#[derive(Clone, Copy, Debug, PartialEq, Eq, Error)]
+pub enum PathFault {
+    /// A name holds an octet below 32, or 127.
+    #[error("a name holds a control octet")]
+    BadName,
+    /// A name has more than 255 octets, or the path's text more than 4,096.
+    #[error("a name or the path is too long")]
+    TooLong,
+    #[error("out of memory")]
+    Memory,
+}
+
+impl From<AllocError> for PathFault {
+    ghost use Rattle.std.specs.Prelude.{◌≡◌};
+    ghost use Rattle.virtual_path.specs.declared.fault.PathFault.TheVariants.{Memory};
+
+    ghost from_gives = { λ _ fault. fault ≡ Memory };
+
+    fn from(_error: AllocError) -> PathFault {
+        PathFault::Memory
+    }
+}

@@ -1,0 +1,89 @@
+//! What no clause says: that calls succeed, and the names that texts give.
+
+use crate::{LONGEST_PATH, PathFault, VPath, parent_text};
+use linked_list_allocator::LocalHeap;
+use std::test::Fail;
+
+#[test]
+fn texts_name_paths(rt: HostRuntime) -> Result<(), Fail> {
+    let root = VPath::root(rt.alloc());
+    let home = root.resolve(rt.alloc(), "/home/ann")?;
+    for (text, want) in [
+        ("", "/home/ann"),
+        ("x", "/home/ann/x"),
+        ("./x//y/", "/home/ann/x/y"),
+        ("..", "/home"),
+        ("../../..", "/"),
+        ("/a/../b/.", "/b"),
+        ("...", "/home/ann/..."),
+    ] {
+        assert_eq!(rt; home.resolve(rt.alloc(), text)?.text(), want);
+    }
+    Ok(())
+}
+
+#[test]
+fn texts_are_refused(rt: HostRuntime) -> Result<(), Fail> {
+    let root = VPath::root(rt.alloc());
+    assert!(rt; root.resolve(rt.alloc(), "a\tb").err() == Some(PathFault::BadName));
+    assert!(rt; root.resolve(rt.alloc(), "a\u{7f}").err() == Some(PathFault::BadName));
+    let mut name = String::new(rt.alloc());
+    for _ in 0..255 {
+        name.push('a')?;
+    }
+    let mut path = root.resolve(rt.alloc(), name.as_str())?;
+    for _ in 0..15 {
+        path = path.child(rt.alloc(), name.as_str())?;
+    }
+    assert_eq!(rt; path.text().len(), LONGEST_PATH);
+    assert!(rt; path.resolve(rt.alloc(), "b").err() == Some(PathFault::TooLong));
+    assert!(rt; path.joined(rt.alloc(), &path).err() == Some(PathFault::TooLong));
+    name.push('a')?;
+    assert!(rt; root.resolve(rt.alloc(), name.as_str()).err() == Some(PathFault::TooLong));
+    assert!(rt; root.child(rt.alloc(), "..").err() == Some(PathFault::BadName));
+    Ok(())
+}
+
+#[test]
+fn paths_have_parts(rt: HostRuntime) -> Result<(), Fail> {
+    let root = VPath::root(rt.alloc());
+    let path = root.resolve(rt.alloc(), "a/b")?;
+    assert!(rt; root.is_root() && !path.is_root());
+    assert_eq!(rt; root.text(), "/");
+    assert_eq!(rt; path.depth(), 2);
+    assert!(rt; path.file_name() == Some("b"));
+    assert!(rt; path.parent_text() == Some("/a"));
+    assert!(rt; parent_text("/a") == Some("/"));
+    assert!(rt; parent_text("/").is_none());
+    let parent = path.parent(rt.alloc())?.ok_or("no parent")?;
+    assert_eq!(rt; parent.text(), "/a");
+    assert!(rt; path.starts_with(&parent) && !parent.starts_with(&path));
+    assert_eq!(rt; path.names(rt.alloc())?.len(), 2);
+    assert_eq!(rt; path.try_clone(rt.alloc())?.text(), "/a/b");
+    assert_eq!(rt; parent.child(rt.alloc(), "c")?.text(), "/a/c");
+    assert_eq!(rt; parent.joined(rt.alloc(), &path)?.text(), "/a/a/b");
+    Ok(())
+}
+
+#[test]
+fn each_growth_may_be_refused(rt: HostRuntime) -> Result<(), Fail> {
+    let heap = LocalHeap::new(rt.alloc(), 4096)?;
+    let home = VPath::root(&heap).resolve(&heap, "/home")?;
+    let mut refused = 0;
+    for step in 0..8 {
+        let hog = Vec::<u8, &LocalHeap>::with_capacity(&heap, 4000 - step * 16);
+        let path = home.resolve(&heap, "a/rather/long/path/of/names");
+        drop(hog);
+        match path {
+            Ok(path) => assert_eq!(rt; path.text(), "/home/a/rather/long/path/of/names"),
+            Err(fault) => {
+                assert!(rt; fault == PathFault::Memory);
+                refused |= 1 << step;
+            }
+        }
+        assert_eq!(rt; home.text(), "/home");
+    }
+    assert!(rt; refused != 0);
+    assert_eq!(rt; home.resolve(&heap, "..")?.text(), "/");
+    Ok(())
+}

@@ -1,0 +1,6 @@
+mod Cuts
+mod Numbers
+mod PathText
+mod Listing
+mod Held
+mod Fronts

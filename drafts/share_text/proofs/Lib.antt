@@ -1,6 +1,0 @@
-mod Cuts
-mod Numbers
-mod PathText
-mod Listing
-mod Held
-mod Fronts

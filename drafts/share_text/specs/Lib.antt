@@ -1,6 +1,0 @@
-pub mod Text
-pub mod Entries
-pub mod Sheet
-pub mod Arena
-pub mod Nodes
-pub mod Whole

@@ -1,7 +1,8 @@
 //! What no clause says: that calls succeed, and whether the clauses mean what they should.
 
+mod refused;
+
 use crate::{Authorizer, AuthorizerFault, Letter, is_message};
-use linked_list_allocator::LocalHeap;
 use std::alloc::Allocator;
 use std::test::Fail;
 use virtual_path::VPath;
@@ -104,53 +105,5 @@ fn refusals_come_in_order(rt: HostRuntime) -> Result<(), Fail> {
     );
     assert!(rt; users.remove_user("bob").err() == Some(AuthorizerFault::NoSuchUser));
     assert!(rt; users.set_group("bob", None).err() == Some(AuthorizerFault::NoSuchUser));
-    Ok(())
-}
-
-/// The most octets that a heap has left in one piece, to 64.
-fn left(heap: &LocalHeap) -> usize {
-    for steps in 0..256 {
-        let size = 16384 - 64 * steps;
-        if Vec::<u8, &LocalHeap>::with_capacity(heap, size).is_ok() {
-            return size;
-        }
-    }
-    0
-}
-
-#[test]
-fn each_growth_may_be_refused(rt: HostRuntime) -> Result<(), Fail> {
-    let heap = LocalHeap::new(rt.alloc(), 16384)?;
-    let mut users = Authorizer::new(&heap)?;
-    users.add_user("ann", "secret", "/home/ann", "elr")?;
-    let mut refused = 0;
-    let mut bob = false;
-    for room in 0..64usize {
-        // A hole of some octets, in a heap that is full but for it.
-        let hole = Vec::<u8, &LocalHeap>::with_capacity(&heap, 16 * room);
-        let hog = Vec::<u8, &LocalHeap>::with_capacity(&heap, left(&heap));
-        let mut fillers = Vec::new(rt.alloc());
-        for _ in 0..64 {
-            if let Ok(filler) = Vec::<u8, &LocalHeap>::with_capacity(&heap, 8) {
-                fillers.push(filler)?;
-            }
-        }
-        drop(hole);
-        let added = users.add_user("bob", "hidden", "/home/bob", "elr");
-        drop(fillers);
-        drop(hog);
-        if added.err() == Some(AuthorizerFault::Memory) {
-            refused |= 1;
-            assert!(rt; users.has_user("bob") == bob);
-        } else {
-            bob = true;
-        }
-        assert!(rt; users.check_password("ann", "secret") && users.number("ann") == Some(0));
-    }
-    assert!(rt; refused == 1);
-    if !bob {
-        users.add_user("bob", "hidden", "/home/bob", "elr")?;
-    }
-    assert!(rt; users.number("bob") == Some(1));
     Ok(())
 }

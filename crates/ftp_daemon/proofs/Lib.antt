@@ -1,1 +1,7 @@
 pub mod Taken
+mod Entries
+mod Reading
+mod Told
+mod Behind
+mod There
+mod Totals

@@ -58,6 +58,42 @@ shares (b ∷ bs) plain =
     let ne = ne_eqb _ _ plain in
     record { rows = _; taken = share_taken b bs ne; entered = share_entered b bs ne; sheet = share_first b bs ne }
 
+check_taken : (b d : ℕ) (bs ds : List ℕ) → (b == 45) ≡ false → (d == 45) ≡ false → takes program (codes "check" ∷ (b ∷ bs) ∷ (d ∷ ds) ∷ []) ≡ true
+unfolding clap_on_literals
+check_taken b d bs ds ne nf = simp (ne, nf) refl
+
+check_entered : (b d : ℕ) (bs ds : List ℕ) → (b == 45) ≡ false → (d == 45) ≡ false
+    → subcommand_of program (codes "check" ∷ (b ∷ bs) ∷ (d ∷ ds) ∷ [])
+    ≡ Some (codes "check", rows_in (subcommand_of program (codes "check" ∷ (b ∷ bs) ∷ (d ∷ ds) ∷ [])))
+unfolding clap_on_literals
+check_entered b d bs ds ne nf = simp (ne, nf) refl
+
+check_first : (b d : ℕ) (bs ds : List ℕ) → (b == 45) ≡ false → (d == 45) ≡ false
+    → first_of (codes "SHEET") (rows_in (subcommand_of program (codes "check" ∷ (b ∷ bs) ∷ (d ∷ ds) ∷ []))) ≡ Some (b ∷ bs)
+unfolding clap_on_literals
+check_first b d bs ds ne nf = simp (ne, nf) refl
+
+check_second : (b d : ℕ) (bs ds : List ℕ) → (b == 45) ≡ false → (d == 45) ≡ false
+    → first_of (codes "GRANTS") (rows_in (subcommand_of program (codes "check" ∷ (b ∷ bs) ∷ (d ∷ ds) ∷ []))) ≡ Some (d ∷ ds)
+unfolding clap_on_literals
+check_second b d bs ds ne nf = simp (ne, nf) refl
+
+-- what the parser makes of the words of `check`
+pub record Checks (first second : List ℕ) : Type 0 where
+  pub rows : List Row
+  pub taken : takes program (codes "check" ∷ first ∷ second ∷ []) ≡ true
+  pub entered : subcommand_of program (codes "check" ∷ first ∷ second ∷ []) ≡ Some (codes "check", rows)
+  pub sheet : first_of (codes "SHEET") rows ≡ Some first
+  pub grants : first_of (codes "GRANTS") rows ≡ Some second
+
+pub checks : (first second : List ℕ) → IsPlainWord first → IsPlainWord second → Checks first second
+checks [] second plain also = absurd plain
+checks (b ∷ bs) [] plain also = absurd also
+checks (b ∷ bs) (d ∷ ds) plain also =
+    let ne = ne_eqb _ _ plain in
+    let nf = ne_eqb _ _ also in
+    record { rows = _; taken = check_taken b d bs ds ne nf; entered = check_entered b d bs ds ne nf; sheet = check_first b d bs ds ne nf; grants = check_second b d bs ds ne nf }
+
 -- an error of one of those kinds is told as a refusal of one of them
 pub refusal : (kinds : Kinds) (kind : ErrorKind) (fault : WordsFault) → (kind ≡ OutOfMemory → fault ≡ Memory) → IsRefusedAs kind fault
     → (kind ≡ OutOfMemory) ⊎ IsAmong kind kinds → IsRefusal kinds fault

@@ -15,6 +15,10 @@ bare name = new_app name
 abbrev pub share : App
 share = with_rule (bare (codes "share")) (file_rule (codes "SHEET"))
 
+-- `check SHEET GRANTS`
+abbrev pub check : App
+check = with_rule (with_rule (bare (codes "check")) (file_rule (codes "SHEET"))) (file_rule (codes "GRANTS"))
+
 -- the program with no command yet; its first word is no program's name
 abbrev pub top : App
 top =
@@ -22,4 +26,4 @@ top =
     record app { top = record app.top { no_binary_name = true; has_version = true; subcommand_required = true } }
 
 abbrev pub program : App
-program = with_subcommand top share.top
+program = with_subcommand (with_subcommand top share.top) check.top

@@ -4,7 +4,7 @@ use Rattle.clap.specs.Words.{IsAmong, Kinds, Row, Text, first_of}
 use Rattle.clap.specs.declared.error.kind.ErrorKind.{ErrorKind}
 use Rattle.clap.specs.declared.error.kind.ErrorKind.TheVariants.{DisplayHelp, DisplayVersion}
 use Rattle.ftp_daemon.specs.declared.words.Words.{Words}
-use Rattle.ftp_daemon.specs.declared.words.Words.TheVariants.{Share}
+use Rattle.ftp_daemon.specs.declared.words.Words.TheVariants.{Share, Check}
 use Rattle.ftp_daemon.specs.declared.words.WordsFault.{WordsFault}
 use Rattle.ftp_daemon.specs.declared.words.WordsFault.TheVariants.{Refused, Memory}
 
@@ -16,11 +16,19 @@ IsPlainWord (octet ∷ rest) = octet ≢ 45
 -- the command `share` of that sheet
 abbrev pub IsShare : List ℕ → Words → Type 0
 IsShare word (Share sheet) = sheet.now ≡ word
+IsShare word (Check sheet grants) = ⊥
+
+-- the command `check` of that sheet and those grants
+abbrev pub IsCheck : List ℕ → List ℕ → Words → Type 0
+IsCheck first second (Share sheet) = ⊥
+IsCheck first second (Check sheet grants) = (sheet.now ≡ first) × (grants.now ≡ second)
 
 -- the parser found the command, and the words after it
 abbrev pub IsFound : Option (Text × List Row) → Words → Type 0
 IsFound found (Share sheet) =
     (rows : List Row) × (found ≡ Some (codes "share", rows)) × (first_of (codes "SHEET") rows ≡ Some sheet.now)
+IsFound found (Check sheet grants) =
+    (rows : List Row) × (found ≡ Some (codes "check", rows)) × (first_of (codes "SHEET") rows ≡ Some sheet.now) × (first_of (codes "GRANTS") rows ≡ Some grants.now)
 
 -- the words are given, or memory ran out
 abbrev pub GivesOrMemory : (Words → Type 0) → Result Words WordsFault → Type 0

@@ -3,6 +3,7 @@ ghost use Rattle.std.specs.Prelude.{◌≤◌};
 
 use super::*;
 use linked_list_allocator::LocalHeap;
+use share_text::{GrantsFault, SheetFault};
 use std::alloc::Global;
 use std::io;
 use std::io::{ErrorKind, Read, Write};
@@ -14,6 +15,10 @@ fn words_of_a_command(rt: HostRuntime) -> Result<(), Fail> {
     for sheet in ["a", "lunch.sheet", "/dev/stdin", "a b"] {
         assert!(rt; read_words(rt.alloc(), &["share", sheet])? == Words::Share { sheet });
     }
+    let (sheet, grants) = ("office.sheet", "office.grants");
+    assert!(rt;
+        read_words(rt.alloc(), &["check", sheet, grants])? == Words::Check { sheet, grants }
+    );
     Ok(())
 }
 
@@ -31,6 +36,7 @@ fn words_that_ask_for_help(rt: HostRuntime) {
         (["--version", ""], "ftpd 1\n"),
         (["--help", ""], "Usage: ftpd <COMMAND>"),
         (["--help", ""], "  share  Share the limits of a sheet"),
+        (["--help", ""], "  check  Check grants"),
         (["help", "share"], "Usage: ftpd share <SHEET>"),
         (
             ["share", "--help"],
@@ -66,9 +72,9 @@ fn words_that_are_refused(rt: HostRuntime) {
 
 /// Gives its octets, at most `step` at a time, and fails after them.
 #[derive(Drop)]
-struct FailingReader<'a> {
-    rest: &'a [u8],
-    step: usize,
+pub struct FailingReader<'a> {
+    pub rest: &'a [u8],
+    pub step: usize,
 }
 
 impl Read for FailingReader<'_> {
@@ -90,9 +96,9 @@ impl Read for FailingReader<'_> {
 
 /// Takes `left` octets and then fails.
 #[derive(Drop)]
-struct FailingWriter<'a> {
-    taken: &'a mut Vec<u8>,
-    left: usize,
+pub struct FailingWriter<'a> {
+    pub taken: &'a mut Vec<u8>,
+    pub left: usize,
 }
 
 impl Write for FailingWriter<'_> {
@@ -169,6 +175,14 @@ fn faults_print_their_names(rt: HostRuntime) -> Result<(), Fail> {
         (ProgramFault::ReadFault, "ReadFault"),
         (ProgramFault::WriteFault, "WriteFault"),
         (ProgramFault::Memory, "Memory"),
+        (
+            ProgramFault::Sheet(SheetFault::BadLine(3)),
+            "line 3: BadLine",
+        ),
+        (
+            ProgramFault::Grants(GrantsFault::WrongPath(2)),
+            "line 2: WrongPath",
+        ),
     ];
     for (fault, name) in cases {
         assert!(rt; format!(in rt.alloc(); "{fault}")?.as_str() == name);

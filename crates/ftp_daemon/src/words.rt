@@ -1,8 +1,8 @@
 //! The words of a command line.
 ghost use Rattle.std.specs.Prelude.{◌≡◌, ◌↔◌, ◌∷◌, [], ℕ, List, Some, IfOk, IfErr, IfSome, IsSomeAnd, IsTrue, false, map, codes};
 ghost use Rattle.clap.specs.Words.{Row, app_of, fault_of, first_of, kind_of, rule_of, subcommand_of, subcommand_rows_of};
-ghost use Rattle.ftp_daemon.specs.Commands.{bare, file_rule, program, share};
-ghost use Rattle.ftp_daemon.specs.Given.{GivesOrMemory, IsFound, IsHelp, IsPlainWord, IsRefusal, IsRefusedAs, IsShare};
+ghost use Rattle.ftp_daemon.specs.Commands.{bare, check, file_rule, program, share};
+ghost use Rattle.ftp_daemon.specs.Given.{GivesOrMemory, IsCheck, IsFound, IsHelp, IsPlainWord, IsRefusal, IsRefusedAs, IsShare};
 
 use clap::error::ErrorKind;
 use clap::{Arg, ArgAction, ArgMatches, Command, Error};
@@ -13,6 +13,8 @@ use std::alloc::{AllocError, Global};
 pub enum Words<'a> {
     /// Share the limits of a sheet, whose path this is.
     Share { sheet: &'a str },
+    /// Check the grants of a file within the limits of a sheet; the paths of both.
+    Check { sheet: &'a str, grants: &'a str },
 }
 
 /// Why the words give no command.
@@ -54,17 +56,32 @@ fn share_command<'a>(alloc: Global) -> Result<Command<'a>, AllocError>
     Ok(command)
 }
 
+fn check_command<'a>(alloc: Global) -> Result<Command<'a>, AllocError>
+    ensures check { IfOk result (λ c. app_of c ≡ check) }
+{
+    let about = "Check grants within the limits of a sheet: yes, or no and the first flaw";
+    let sheet = file(alloc, "SHEET", "File of limits and wants, as for `share`");
+    let grants = file(
+        alloc,
+        "GRANTS",
+        "File of lines `grant PATH N` or `grant PATH N NODE`, in the order of the wants",
+    );
+    let command = bare_command(alloc, "check", about).arg(sheet)?.arg(grants)?;
+    Ok(command)
+}
+
 fn program_command<'a>(alloc: Global) -> Result<Command<'a>, AllocError>
     ensures program { IfOk result (λ c. app_of c ≡ program) }
 {
     let share = share_command(alloc)?;
+    let check = check_command(alloc)?;
     let about = "Share bandwidth among transfers under nested limits";
     let top = bare_command(alloc, "ftpd", about)
         .no_binary_name(true)
         .version("1")
         .subcommand_required(true)
         .bin_name("ftpd")?;
-    let command = top.subcommand(share)?;
+    let command = top.subcommand(share)?.subcommand(check)?;
     Ok(command)
 }
 
@@ -101,6 +118,30 @@ fn share_given<'a>(matches: &ArgMatches<'a>) -> Option<Words<'a>>
     Some(Words::Share { sheet })
 }
 
+fn check_given<'a>(matches: &ArgMatches<'a>) -> Option<Words<'a>>
+    ensures check { (rows : List Row) (first second : List ℕ) → subcommand_rows_of matches.now ≡ Some (codes "check", rows)
+        → first_of (codes "SHEET") rows ≡ Some first → first_of (codes "GRANTS") rows ≡ Some second → IsSomeAnd result (IsCheck first second) }
+    ensures found { IfSome result (IsFound (subcommand_rows_of matches.now)) }
+{
+    let inner = matches.subcommand_matches("check")?;
+    let sheet = inner.get_str("SHEET")?;
+    let grants = inner.get_str("GRANTS")?;
+    Some(Words::Check { sheet, grants })
+}
+
+fn given<'a>(matches: &ArgMatches<'a>) -> Option<Words<'a>>
+    ensures share { (rows : List Row) (word : List ℕ) → subcommand_rows_of matches.now ≡ Some (codes "share", rows)
+        → first_of (codes "SHEET") rows ≡ Some word → IsSomeAnd result (IsShare word) }
+    ensures check { (rows : List Row) (first second : List ℕ) → subcommand_rows_of matches.now ≡ Some (codes "check", rows)
+        → first_of (codes "SHEET") rows ≡ Some first → first_of (codes "GRANTS") rows ≡ Some second → IsSomeAnd result (IsCheck first second) }
+    ensures found { IfSome result (IsFound (subcommand_rows_of matches.now)) }
+{
+    match share_given(matches) {
+        Some(words) => Some(words),
+        None => check_given(matches),
+    }
+}
+
 /// The command that the words give; they come without the program's name.
 ///
 /// `Refused` comes only where the parser refuses the words or they ask for help or the version, and `Memory` only
@@ -108,6 +149,8 @@ fn share_given<'a>(matches: &ArgMatches<'a>) -> Option<Words<'a>>
 pub fn read_words<'a>(alloc: Global, words: &'a [&'a str]) -> Result<Words<'a>, WordsFault>
     ensures share { (word : List ℕ) → IsPlainWord word → map (λ s. s.now) words.now ≡ codes "share" ∷ word ∷ []
         → GivesOrMemory (IsShare word) result }
+    ensures check { (first second : List ℕ) → IsPlainWord first → IsPlainWord second → map (λ s. s.now) words.now ≡ codes "check" ∷ first ∷ second ∷ []
+        → GivesOrMemory (IsCheck first second) result }
     ensures refused { IfErr result (IsRefusal (fault_of program (map (λ s. s.now) words.now))) }
     ensures given { IfOk result (λ _. fault_of program (map (λ s. s.now) words.now) ≡ []) }
     ensures found { IfOk result (IsFound (subcommand_of program (map (λ s. s.now) words.now))) }
@@ -119,7 +162,7 @@ pub fn read_words<'a>(alloc: Global, words: &'a [&'a str]) -> Result<Words<'a>, 
         Ok(matches) => matches,
         Err(error) => return Err(refused(alloc, &error)),
     };
-    match share_given(&matches) {
+    match given(&matches) {
         Some(words) => Ok(words),
         None => Err(WordsFault::Memory),
     }

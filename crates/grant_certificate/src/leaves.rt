@@ -35,8 +35,9 @@ impl Visitor for Leaves {
 }
 
 impl Leaves {
-    ghost use Rattle.std.specs.Prelude.{◌≡◌, ◌<◌, ◌≤◌, ◌^◌, [], length, sum, take};
+    ghost use Rattle.std.specs.Prelude.{◌≡◌, ◌<◌, ◌≤◌, ◌*◌, ◌^◌, [], length, sum, take};
     ghost use Rattle.limit_tree.specs.Outline.{limits};
+    ghost use Rattle.limit_tree.specs.declared.bounds.TheConstants.{MAX_WANT};
     ghost use Rattle.grant_certificate.specs.Looks.{SoughtLeaves};
 
     /// A table for so many leaves of which none was seen.
@@ -55,6 +56,7 @@ impl Leaves {
     /// Reads all leaves of a tree in one walk.
     pub fn of<A: Allocator>(tree: &Tree<A>) -> Leaves
         ensures few { length (limits tree.now).wants ≤ MAX_LEAVES }
+        ensures octets { sum (limits tree.now).wants ≤ MAX_LEAVES * MAX_WANT }
         ensures fits { sum (limits tree.now).wants < 2 ^ 64 }
         ensures count { result.count ≡ length (limits tree.now).wants }
         ensures wants { take result.count result.wants ≡ (limits tree.now).wants }

@@ -18,6 +18,7 @@ pub use laws::{
     backed_is_best, backed_is_largest_at_each_level, each_has_ascending, plain_backed_is_best,
     plain_backed_is_largest_at_each_level,
 };
+pub use leaves::Leaves;
 pub use sealed::{Refused, Sealed, seal};
 
 #[cfg(test)]

@@ -266,7 +266,7 @@ first-sum : (s : List ℕ) → first_or_zero s ≤ sum s
 first-sum [] = omega arith
 first-sum (x ∷ s) = omega (arith, sum_by-cons (λ x. x) x s)
 
-sum_wants-drop : (m : ℕ) (ps : List Place) → sum (wants_in (drop m ps)) ≤ sum (wants_in ps)
+pub sum_wants-drop : (m : ℕ) (ps : List Place) → sum (wants_in (drop m ps)) ≤ sum (wants_in ps)
 sum_wants-drop zero ps = omega arith
 sum_wants-drop (suc m) [] = omega arith
 sum_wants-drop (suc m) (x ∷ ps) = omega (arith, sum_wants-drop m ps, sum_wants-cons x ps)
@@ -290,12 +290,12 @@ pub absorb_zero-floors : {A : Type 0} (n : Node A) → absorb_of 0 n ≤ floor_s
 absorb_zero-floors n = omega (arith, first-sum (absorb_stack 0 (places n)), stack-floors (places n))
 
 -- at a higher level each tree takes in as much or more
-abbrev AreAtMost : List ℕ → List ℕ → Type 0
+abbrev pub AreAtMost : List ℕ → List ℕ → Type 0
 AreAtMost [] t = Unit {0}
 AreAtMost (x ∷ s) [] = ⊥
 AreAtMost (x ∷ s) (y ∷ t) = (x ≤ y) × AreAtMost s t
 
-sum_take-most : (k : ℕ) (s t : List ℕ) → AreAtMost s t → sum (take k s) ≤ sum (take k t)
+pub sum_take-most : (k : ℕ) (s t : List ℕ) → AreAtMost s t → sum (take k s) ≤ sum (take k t)
 sum_take-most zero s t most = omega arith
 sum_take-most (suc k) [] t most = omega arith
 sum_take-most (suc k) (x ∷ s) [] most = absurd most
@@ -316,7 +316,7 @@ step-most : (level higher kids : ℕ) (k : Kind) (s t : List ℕ) → level ≤ 
 step-most level higher kids (Leaf want floor) s t up most = (omega arith, most)
 step-most level higher kids (Branch limit) s t up most = (cut-most limit (sum (take kids s)) (sum (take kids t)) (sum_take-most kids s t most), drop-most kids s t most)
 
-stack-most : (level higher : ℕ) (ps : List Place) → level ≤ higher → AreAtMost (absorb_stack level ps) (absorb_stack higher ps)
+pub stack-most : (level higher : ℕ) (ps : List Place) → level ≤ higher → AreAtMost (absorb_stack level ps) (absorb_stack higher ps)
 stack-most level higher [] up = tt
 stack-most level higher (x ∷ ps) up = step-most level higher x.kids x.kind (absorb_stack level ps) (absorb_stack higher ps) up (stack-most level higher ps up)
 

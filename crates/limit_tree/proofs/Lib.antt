@@ -10,3 +10,6 @@ pub mod Nested
 pub mod Sound
 pub mod Looks
 pub mod Absorbs
+pub mod Shapes
+pub mod Hops
+pub mod Rows

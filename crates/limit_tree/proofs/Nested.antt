@@ -31,19 +31,19 @@ pub record IsOrdered (ps : List Place) (most : ℕ) : Type 0 where
   pub bounded : (k : ℕ) (a : Place) → slice_get ps k ≡ Some a → a.first + a.leaves ≤ most
 
 -- a node of two lists side by side is in the first, or the image of one in the second
-record InSecond (f : Place → Place) (p q : List Place) (k : ℕ) (x : Place) : Type 0 where
-  at : ℕ
-  node : Place
-  number : k ≡ length p + at
-  got : slice_get q at ≡ Some node
-  image : x ≡ f node
+pub record InSecond (f : Place → Place) (p q : List Place) (k : ℕ) (x : Place) : Type 0 where
+  pub at : ℕ
+  pub node : Place
+  pub number : k ≡ length p + at
+  pub got : slice_get q at ≡ Some node
+  pub image : x ≡ f node
 
-in_map : (f : Place → Place) (q : List Place) (k : ℕ) (x : Place) → slice_get (map f q) k ≡ Some x → (y : Place) × (slice_get q k ≡ Some y) × (x ≡ f y)
+pub in_map : (f : Place → Place) (q : List Place) (k : ℕ) (x : Place) → slice_get (map f q) k ≡ Some x → (y : Place) × (slice_get q k ≡ Some y) × (x ≡ f y)
 in_map f [] k x e = absurd (cc)
 in_map f (y ∷ q) zero x e = (y, refl, cc)
 in_map f (y ∷ q) (suc k) x e = in_map f q k x e
 
-split_at : (f : Place → Place) (p q : List Place) (k : ℕ) (x : Place) → slice_get (p ++ map f q) k ≡ Some x → ((k < length p) × (slice_get p k ≡ Some x)) ⊎ InSecond f p q k x
+pub split_at : (f : Place → Place) (p q : List Place) (k : ℕ) (x : Place) → slice_get (p ++ map f q) k ≡ Some x → ((k < length p) × (slice_get p k ≡ Some x)) ⊎ InSecond f p q k x
 split_at f [] q k x e = let m : (y : Place) × (slice_get q k ≡ Some y) × (x ≡ f y) = in_map f q k x e in inr (record { at = k; node = m.0; number = omega arith; got = m.1; image = m.2 })
 split_at f (y ∷ p) q zero x e = inl (omega arith, e)
 split_at f (y ∷ p) q (suc k) x e = elim (split_at f p q k x e) [

@@ -4,3 +4,5 @@ pub mod Outline
 pub mod Laws
 pub mod Faults
 pub mod Looks
+pub mod Flat
+pub mod Copies

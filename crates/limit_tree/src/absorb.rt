@@ -53,8 +53,8 @@ pub fn absorb_in<A: Allocator>(node: &Node<A>, number: usize, level: u64) -> Res
     }
 }
 
-// At most a limit, if there is one.
-fn at_most(limit: Option<u64>, octets: u64) -> u64
+/// At most a limit, if there is one.
+pub fn at_most(limit: Option<u64>, octets: u64) -> u64
     ensures cut { result ≡ cut limit octets }
 {
     match limit {

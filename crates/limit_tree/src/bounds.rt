@@ -10,7 +10,7 @@ pub const MAX_NODES: usize = 4_194_304;
 pub const MAX_LEAVES: usize = 4_096;
 
 /// The largest want, in octets.
-pub const MAX_WANT: u64 = 10_000;
+pub const MAX_WANT: u64 = 4_294_967_295;
 
 /// The largest limit, in octets.
 pub const MAX_LIMIT: u64 = 4_503_599_627_370_496;

@@ -4,6 +4,7 @@
 mod absorb;
 mod bounds;
 mod fault;
+mod flat;
 mod laws;
 mod look;
 mod node;
@@ -14,6 +15,7 @@ mod walk;
 
 pub use bounds::{MAX_DEPTH, MAX_LEAVES, MAX_LIMIT, MAX_NODES, MAX_WANT};
 pub use fault::TreeFault;
+pub use flat::Flat;
 pub use laws::no_floors_is_plain;
 pub use node::Node;
 pub use place::{Kind, Place};

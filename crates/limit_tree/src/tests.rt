@@ -104,6 +104,34 @@ fn tells_sums_and_full_branches(rt: HostRuntime) -> Result<(), AllocError> {
     Ok(())
 }
 
+// Whether a flat tree tells of each node and leaf what the tree tells.
+fn expect_same(rt: &impl Abort, tree: &Tree, flat: &Flat) {
+    assert!(rt; flat.nodes() == tree.nodes() && flat.leaves() == tree.leaves());
+    for node in 0..tree.nodes().min(flat.nodes()) {
+        assert!(rt; flat.place(node) == tree.place(node) && flat.limit(node) == tree.limit(node));
+        assert!(rt; flat.under(node, 2) == tree.under(node, 2));
+        assert!(rt; flat.absorb(node, 0) == tree.absorb(node, 0));
+        assert!(rt; flat.absorb(node, 12) == tree.absorb(node, 12));
+    }
+    for leaf in 0..tree.leaves().min(flat.leaves()) {
+        assert!(rt; flat.want(leaf) == tree.want(leaf) && flat.floor(leaf) == tree.floor(leaf));
+    }
+}
+
+#[test]
+fn a_flat_tree_tells_what_the_tree_tells(rt: HostRuntime) -> Result<(), AllocError> {
+    let Ok(tree) = Tree::new(users(rt.alloc())?) else {
+        panic!(rt; "a tree without a fault is refused");
+    };
+    let flat = Flat::of(rt.alloc(), &tree)?;
+    expect_same(&rt, &tree, &flat);
+    assert_eq!(rt; flat.nodes(), 8);
+    assert!(rt; flat.absorb(0, 12) == 46 && flat.absorb(1, 20) == 30);
+    assert!(rt; flat.absorb_below(0, 12) == 46 && flat.absorb_below(1, 20) == 40);
+    assert_eq!(rt; flat.absorb_below(3, 20), 0);
+    Ok(())
+}
+
 #[test]
 fn refuses_numbers_that_are_too_large(rt: HostRuntime) -> Result<(), AllocError> {
     let alloc = rt.alloc();

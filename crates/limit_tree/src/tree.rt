@@ -5,6 +5,7 @@ ghost use Rattle.limit_tree.specs.Sharing.{sum_over, IsWanted, IsLimitTree, Bran
 ghost use Rattle.limit_tree.specs.Outline.{places, limits, leaves_under, absorbed};
 ghost use Rattle.limit_tree.specs.Laws.{LaterIsInside};
 ghost use Rattle.limit_tree.specs.Faults.{tree_fault};
+ghost use Rattle.limit_tree.specs.Flat.{IsFlat};
 
 use super::absorb::absorb_in;
 use super::bounds::{MAX_LEAVES, MAX_NODES, MAX_WANT};
@@ -77,6 +78,13 @@ impl<A: Allocator> Tree<A> {
         ensures most { result ≤ MAX_NODES }
     {
         self.nodes
+    }
+
+    /// The nodes of a tree have the shape of a tree, and their numbers no fault.
+    pub fn nodes_are_a_tree(&self)
+        ensures flat { IsFlat self.now }
+    {
+        let _ = &self.leaves;
     }
 
     /// Shows a visitor each node in preorder. Takes O(nodes * depth) time.

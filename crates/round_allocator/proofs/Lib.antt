@@ -1,3 +1,8 @@
 pub mod Rooms
 pub mod Steps
 pub mod Names
+pub mod Pours
+pub mod Counts
+pub mod Ends
+pub mod Searches
+pub mod Marks

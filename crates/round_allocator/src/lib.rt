@@ -2,10 +2,15 @@
 //! the leaf that has the least among those with room.
 #![tactic(auto)]
 
+mod fill;
+mod level;
 mod named;
+
+pub use named::{allot, allot_counted};
+
+#[cfg(test)]
 mod plain;
-
-pub use named::allot;
-
+#[cfg(test)]
+mod small_trees;
 #[cfg(test)]
 mod tests;

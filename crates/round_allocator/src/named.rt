@@ -1,50 +1,132 @@
-//! The certificate of an allotment.
-ghost use Rattle.std.specs.Prelude.{◌<◌, length, IfOk};
-ghost use Rattle.limit_tree.specs.Sharing.{IsWanted, IsWithin, IsBackedBy};
+//! The certificate of an allotment, and the allotment.
+ghost use Rattle.std.specs.Prelude.{◌≡◌, ◌+◌, ◌*◌, ◌<◌, ◌≤◌, ◌⊎◌, ℕ, length, slice_get, Some, IfOk};
+ghost use Rattle.limit_tree.specs.Sharing.{IsWanted, IsWithin, IsBackedBy, IsBest};
 ghost use Rattle.limit_tree.specs.Outline.{limits};
 ghost use Rattle.round_allocator.specs.Rounds.{IsExhausted, IsEntry, IsNamed};
+ghost use Rattle.round_allocator.specs.Levels.{branch_count};
+ghost use Rattle.round_allocator.specs.Marks.{HasMark, AreDeepest};
 
-use super::plain::give;
-use grant_certificate::Certificate;
-use limit_tree::Tree;
+use super::fill::{Counted, give};
+use grant_certificate::{Certificate, backed_is_best};
+use limit_tree::{Flat, Tree};
 use std::alloc::{AllocError, Allocator};
 
-// The entry of a leaf: the deepest full branch above it, where it has less than it wants.
-fn entry<A: Allocator>(tree: &Tree<A>, grants: &[u64], leaf: usize) -> Option<u32>
-    requires grants { IsWanted (limits tree.now) grants.now }
-    requires leaf { leaf < length grants.now }
-    ensures entry { IsEntry (limits tree.now) grants.now leaf result }
+// Marks so many leaves from a first one on with a node.
+fn mark(marks: &mut [Option<u32>], first: usize, leaves: usize, node: u32)
+    requires inside { first + leaves ≤ length marks.old }
+    ensures size { length marks.new ≡ length marks.old }
+    ensures marked { (i : ℕ) → first ≤ i → i < first + leaves → slice_get marks.new i ≡ Some (Some node) }
+    ensures others { (i : ℕ) → (i < first) ⊎ (first + leaves ≤ i) → slice_get marks.new i ≡ slice_get marks.old i }
 {
-    let _nodes = tree.nodes();
-    if grants[leaf] >= tree.want(leaf) {
-        return None;
+    for leaf in first..first + leaves {
+        marks[leaf] = Some(node);
     }
-    match tree.full_above(leaf, grants) {
-        Some(node) => Some(node as u32),
-        None => None,
+}
+
+// No mark for any of so many leaves.
+fn no_marks<B: Allocator>(alloc: B, leaves: usize) -> Result<Vec<Option<u32>, B>, AllocError>
+    ensures leaves { IfOk result (λ m. length m.items ≡ leaves) }
+    ensures none { IfOk result (λ m. (i : ℕ) → i < leaves → slice_get m.items i ≡ Some None) }
+{
+    vec![in alloc; None; leaves]
+}
+
+// Marks each leaf with the last full branch among the first nodes, where one more is looked at.
+fn mark_full<A: Allocator>(flat: &Flat<A>, grants: &[u64], node: usize, marks: &mut [Option<u32>])
+    requires node { node < length flat.now }
+    requires grants { IsWanted (limits flat.now) grants.now }
+    requires size { length marks.old ≡ length grants.now }
+    requires marked { (i : ℕ) → i < length grants.now → HasMark (limits flat.now) grants.now node i marks.old }
+    ensures size { length marks.new ≡ length grants.now }
+    ensures marked { (i : ℕ) → i < length grants.now → HasMark (limits flat.now) grants.now (node + 1) i marks.new }
+{
+    let _nodes = flat.nodes();
+    let place = flat.place(node);
+    if flat.is_full(node, grants) {
+        mark(marks, place.first, place.leaves, node as u32);
+    }
+}
+
+// The last full branch above each leaf: takes O(nodes + leaves * depth) time.
+fn full_above<A: Allocator, B: Allocator>(
+    alloc: B,
+    flat: &Flat<A>,
+    grants: &[u64],
+) -> Result<Vec<Option<u32>, B>, AllocError>
+    requires grants { IsWanted (limits flat.now) grants.now }
+    ensures deepest { IfOk result (λ m. AreDeepest (limits flat.now) grants.now m.items) }
+{
+    let mut marks = no_marks(alloc, grants.len())?;
+    for node in 0..flat.nodes() {
+        mark_full(flat, grants, node, &mut marks);
+    }
+    Ok(marks)
+}
+
+// The entry of a leaf: the deepest full branch above it, where it has less than it wants.
+fn entry<A: Allocator>(
+    flat: &Flat<A>,
+    grants: &[u64],
+    marks: &[Option<u32>],
+    leaf: usize,
+) -> Option<u32>
+    requires grants { IsWanted (limits flat.now) grants.now }
+    requires marks { AreDeepest (limits flat.now) grants.now marks.now }
+    requires leaf { leaf < length grants.now }
+    ensures entry { IsEntry (limits flat.now) grants.now leaf result }
+{
+    if grants[leaf] >= flat.want(leaf) {
+        None
+    } else {
+        marks[leaf]
     }
 }
 
 // The entries of all leaves.
-fn name<A: Allocator, B: Allocator>(
+fn name<A: Allocator, B: Allocator + Clone>(
     alloc: B,
-    tree: &Tree<A>,
+    flat: &Flat<A>,
     grants: &[u64],
 ) -> Result<Certificate<B>, AllocError>
-    requires grants { IsWanted (limits tree.now) grants.now }
-    ensures named { IfOk result (λ c. IsNamed (limits tree.now) grants.now c) }
+    requires grants { IsWanted (limits flat.now) grants.now }
+    ensures named { IfOk result (λ c. IsNamed (limits flat.now) grants.now c) }
 {
-    let mut entries = Vec::with_capacity(alloc, grants.len())?;
+    let mut entries = Vec::with_capacity(alloc.clone()?, grants.len())?;
+    let marks = full_above(alloc, flat, grants)?;
     for leaf in 0..grants.len() {
-        let node = entry(tree, grants, leaf);
+        let node = entry(flat, grants, &marks, leaf);
         entries.push(node)?;
     }
     Ok(Certificate::new(entries))
 }
 
-/// The grants of the leaves of a tree, in octets, and their certificate: from the floors on, one octet at a time to the leaf
-/// with the least grant among those with room, the lowest leaf number first. Each leaf that has less than it wants
-/// names the deepest full branch above it, and no other names one. `AllocError` comes only where memory ran out.
+/// The grants of the leaves of a tree, in octets, their certificate, as `allot` gives them, and how many probes
+/// were taken: sums of what the kids of one branch take in up to one level.
+pub fn allot_counted<A: Allocator, B: Allocator + Clone>(
+    alloc: B,
+    tree: &Tree<A>,
+) -> Result<(Vec<u64, B>, Certificate<B>, u64), AllocError>
+    ensures within { IfOk result (λ r. IsWithin (limits tree.now) r.0.items) }
+    ensures exhausted { IfOk result (λ r. IsExhausted (limits tree.now) r.0.items) }
+    ensures named { IfOk result (λ r. IsNamed (limits tree.now) r.0.items r.1) }
+    ensures backed { IfOk result (λ r. IsBackedBy (limits tree.now) r.0.items r.1) }
+    ensures best { IfOk result (λ r. IsBest (limits tree.now) r.0.items) }
+    ensures counted { IfOk result (λ r. r.2 ≤ 33 * branch_count tree.now) }
+{
+    backed_is_best();
+    let _leaves = tree.leaves();
+    let flat = Flat::of(alloc.clone()?, tree)?;
+    let Counted { grants, probes } = give(alloc.clone()?, &flat)?;
+    let certificate = name(alloc, &flat, &grants)?;
+    Ok((grants, certificate, probes))
+}
+
+/// The grants of the leaves of a tree, in octets, and their certificate: those of giving one octet at a time, from
+/// the floors on, to the leaf with the least grant among those with room, the lowest leaf number first. They are
+/// best. Each leaf that has less than it wants names the deepest full branch above it, and no other names one.
+/// That they are best is proved; that of several best lists they are those of that rule, tests show.
+/// Takes memory a few times, and O(nodes * depth) time some 33 times, whatever the wants are. `AllocError` comes
+/// only where memory ran out.
 pub fn allot<A: Allocator, B: Allocator + Clone>(
     alloc: B,
     tree: &Tree<A>,
@@ -53,9 +135,8 @@ pub fn allot<A: Allocator, B: Allocator + Clone>(
     ensures exhausted { IfOk result (λ r. IsExhausted (limits tree.now) r.0.items) }
     ensures named { IfOk result (λ r. IsNamed (limits tree.now) r.0.items r.1) }
     ensures backed { IfOk result (λ r. IsBackedBy (limits tree.now) r.0.items r.1) }
+    ensures best { IfOk result (λ r. IsBest (limits tree.now) r.0.items) }
 {
-    let _leaves = tree.leaves();
-    let grants = give(alloc.clone()?, tree)?;
-    let certificate = name(alloc, tree, &grants)?;
+    let (grants, certificate, _) = allot_counted(alloc, tree)?;
     Ok((grants, certificate))
 }

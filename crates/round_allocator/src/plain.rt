@@ -1,10 +1,11 @@
-//! The plain allotment: one octet at a time. It is the definition's own slow program; each octet takes
-//! O(leaves * nodes * depth) time.
+//! The plain allotment: one octet at a time. It is the definition's own slow program, with which tests compare
+//! the allotment by levels; each octet takes O(leaves * nodes * depth) time.
 ghost use Rattle.std.specs.Prelude.{◌≡◌, ◌+◌, ◌<◌, ◌^◌, ◌↔◌, length, sum, IsTrue, IfSome, MatchOption, IfOk};
-ghost use Rattle.limit_tree.specs.Sharing.{IsLimitTree, IsWanted, IsWithin, HasRoom};
+ghost use Rattle.limit_tree.specs.Sharing.{IsLimitTree, IsWanted, IsWithin, IsBackedBy, HasRoom};
 ghost use Rattle.limit_tree.specs.Outline.{limits};
-ghost use Rattle.round_allocator.specs.Rounds.{IsExhausted, IsNext, IsBetter, IsBestBelow, HasBottlenecks};
+ghost use Rattle.round_allocator.specs.Rounds.{IsExhausted, IsNext, IsBetter, IsBestBelow, IsEntry, IsNamed, HasBottlenecks};
 
+use grant_certificate::Certificate;
 use limit_tree::Tree;
 use std::alloc::{AllocError, Allocator};
 
@@ -99,4 +100,53 @@ pub fn give<A: Allocator, B: Allocator>(alloc: B, tree: &Tree<A>) -> Result<Vec<
         grants[leaf] += 1;
     }
     Ok(grants)
+}
+
+// The entry of a leaf: the deepest full branch above it, where it has less than it wants.
+fn entry<A: Allocator>(tree: &Tree<A>, grants: &[u64], leaf: usize) -> Option<u32>
+    requires grants { IsWanted (limits tree.now) grants.now }
+    requires leaf { leaf < length grants.now }
+    ensures entry { IsEntry (limits tree.now) grants.now leaf result }
+{
+    let _nodes = tree.nodes();
+    if grants[leaf] >= tree.want(leaf) {
+        return None;
+    }
+    match tree.full_above(leaf, grants) {
+        Some(node) => Some(node as u32),
+        None => None,
+    }
+}
+
+// The entries of all leaves.
+fn name<A: Allocator, B: Allocator>(
+    alloc: B,
+    tree: &Tree<A>,
+    grants: &[u64],
+) -> Result<Certificate<B>, AllocError>
+    requires grants { IsWanted (limits tree.now) grants.now }
+    ensures named { IfOk result (λ c. IsNamed (limits tree.now) grants.now c) }
+{
+    let mut entries = Vec::with_capacity(alloc, grants.len())?;
+    for leaf in 0..grants.len() {
+        let node = entry(tree, grants, leaf);
+        entries.push(node)?;
+    }
+    Ok(Certificate::new(entries))
+}
+
+/// The grants of the leaves of a tree, in octets, and their certificate, as `allot` gives them.
+pub fn allot<A: Allocator, B: Allocator + Clone>(
+    alloc: B,
+    tree: &Tree<A>,
+) -> Result<(Vec<u64, B>, Certificate<B>), AllocError>
+    ensures within { IfOk result (λ r. IsWithin (limits tree.now) r.0.items) }
+    ensures exhausted { IfOk result (λ r. IsExhausted (limits tree.now) r.0.items) }
+    ensures named { IfOk result (λ r. IsNamed (limits tree.now) r.0.items r.1) }
+    ensures backed { IfOk result (λ r. IsBackedBy (limits tree.now) r.0.items r.1) }
+{
+    let _leaves = tree.leaves();
+    let grants = give(alloc.clone()?, tree)?;
+    let certificate = name(alloc, tree, &grants)?;
+    Ok((grants, certificate))
 }

@@ -1,2 +1,11 @@
 pub mod Text
 pub mod Entries
+pub mod Sheet
+pub mod Arena
+pub mod Nodes
+pub mod Whole
+pub mod Building
+pub mod Views
+pub mod Kept
+pub mod Grants
+pub mod Slots

@@ -1,4 +1,4 @@
-use Rattle.std.proofs.Common.{◌≡◌, ◌∙◌, ◌+◌, ◌<◌, ◌≤◌, suc, length, arith, ap, sym, take, drop, ◌∷◌, ◌-◌, ℕ, List}
+use Rattle.std.proofs.Common.{◌≡◌, ◌∙◌, ◌+◌, ◌≤◌, suc, length, arith, ap, sym, take, drop, ◌∷◌, ◌-◌, ℕ, List}
 use Rattle.std.proofs.Math.Seq.{take_all}
 use Rattle.std.proofs.lemmas.List.{length-drop}
 use Rattle.share_text.specs.Text.{parts}

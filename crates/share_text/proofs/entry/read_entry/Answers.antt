@@ -1,5 +1,4 @@
-use Rattle.std.proofs.Common.{◌≡◌, ◌∙◌, ap, sym, ◌∷◌, List, ℕ}
-use Rattle.share_text.specs.Text.{entry_of, parts}
+use Rattle.std.proofs.Common.{◌∙◌, ap, sym, ◌∷◌, List, ℕ}
 use Rattle.share_text.proofs.Cuts.{many_words, behind}
 use Rattle.share_text.proofs.entry.read_entry.Goals as goal
 

@@ -1,4 +1,4 @@
-use Rattle.std.proofs.Common.{◌≡◌, ◌∙◌, ap, sym, arith, ◌<◌, ◌≤◌, get_or, length, ◌*◌, ◌+◌, ◌-◌}
+use Rattle.std.proofs.Common.{ap, arith, get_or, ◌*◌, ◌+◌, ◌-◌}
 use Rattle.std.specs.Char.{is_ascii_digit}
 use Rattle.share_text.proofs.Numbers.{all_at, digit_bounds, value_small, value_more}
 use Rattle.share_text.proofs.number.value_of.Goals as goal

@@ -1,8 +1,7 @@
-use Rattle.std.proofs.Common.{rules, ◌≡◌, ◌==◌, tests}
-use Rattle.std.specs.List.{list_all}
+use Rattle.std.proofs.Common.{rules, ◌==◌, tests}
 use Rattle.std.proofs.lemmas.Iterator.Search.{all_from_yields_List}
 use Rattle.std.proofs.lemmas.Iterator.Splits.{YieldsList-from_slice_split}
-use Rattle.share_text.specs.Text.{is_name, parts}
+use Rattle.share_text.specs.Text.{is_name}
 use Rattle.share_text.proofs.path.are_names.Goals as goal
 
 pub returns : goal.returns

@@ -1,4 +1,4 @@
-use Rattle.std.proofs.Common.{◌≡◌, ◌∙◌, ap, sym, Some, true, Option, Bor, List, ℕ}
+use Rattle.std.proofs.Common.{◌≡◌, ◌∙◌, ap, sym, true, Option, Bor, List, ℕ}
 use Rattle.std.specs.Option.{option_copied}
 use Rattle.share_text.specs.Text.{is_named_path}
 use Rattle.share_text.proofs.PathText.{is_text, path_ascii, is_named}

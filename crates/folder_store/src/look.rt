@@ -1,0 +1,93 @@
+//! What the machine tells of an entry.
+
+ghost use Rattle.std.specs.Prelude.{◌≡◌, ◌≢◌, ◌≤◌, ◌⊎◌, IfSome};
+ghost use Rattle.std.specs.List.{list_any};
+ghost use Rattle.std.specs.IoError.{error_kind};
+ghost use Rattle.virtual_path.specs.Path.{is_control};
+ghost use Rattle.virtual_tree.specs.Calls.{IsDated};
+ghost use Rattle.folder_store.specs.Times.{shown};
+
+use std::fs::Metadata;
+use std::io;
+use std::io::ErrorKind;
+use std::os::unix::fs::MetadataExt;
+use virtual_tree::{Kind, LATEST, Meta, StoreFault};
+
+/// Why a call was refused, by the machine's own word for it. A full disk is a fault of the device.
+pub fn fault_of(error: &io::Error) -> StoreFault
+    ensures full { result ≢ StoreFault.Full }
+    ensures none { error_kind error.now ≡ ErrorKind.NotFound → result ≡ StoreFault.NotFound }
+    ensures file { error_kind error.now ≡ ErrorKind.NotADirectory → result ≡ StoreFault.NotDir }
+    ensures directory { error_kind error.now ≡ ErrorKind.IsADirectory → result ≡ StoreFault.IsDir }
+    ensures stands { error_kind error.now ≡ ErrorKind.AlreadyExists → result ≡ StoreFault.Exists }
+    ensures bare { error_kind error.now ≡ ErrorKind.DirectoryNotEmpty → result ≡ StoreFault.NotEmpty }
+    ensures memory { error_kind error.now ≡ ErrorKind.OutOfMemory → result ≡ StoreFault.Memory }
+    ensures denied { error_kind error.now ≡ ErrorKind.PermissionDenied → result ≡ StoreFault.Device }
+    ensures disk { error_kind error.now ≡ ErrorKind.StorageFull → result ≡ StoreFault.Device }
+{
+    match error.kind() {
+        ErrorKind::NotFound => StoreFault::NotFound,
+        ErrorKind::NotADirectory => StoreFault::NotDir,
+        ErrorKind::IsADirectory => StoreFault::IsDir,
+        ErrorKind::AlreadyExists => StoreFault::Exists,
+        ErrorKind::DirectoryNotEmpty => StoreFault::NotEmpty,
+        ErrorKind::OutOfMemory => StoreFault::Memory,
+        _ => StoreFault::Device,
+    }
+}
+
+/// Why an open file could not be read or written.
+pub fn end_fault(error: &io::Error) -> StoreFault
+    ensures either { (result ≡ StoreFault.Device) ⊎ (result ≡ StoreFault.Memory) }
+    ensures memory { error_kind error.now ≡ ErrorKind.OutOfMemory → result ≡ StoreFault.Memory }
+    ensures device { error_kind error.now ≢ ErrorKind.OutOfMemory → result ≡ StoreFault.Device }
+{
+    match error.kind() {
+        ErrorKind::OutOfMemory => StoreFault::Memory,
+        _ => StoreFault::Device,
+    }
+}
+
+/// Whole seconds since 1970; a time outside the years 1970 to 9999 is told as the nearer end.
+pub fn seconds(time: i64) -> u64
+    ensures seconds { result ≡ shown time }
+    ensures dated { result ≤ LATEST }
+{
+    match u64::try_from(time) {
+        Ok(seconds) => seconds.min(LATEST),
+        Err(_) => 0,
+    }
+}
+
+/// What is known of a directory or a file; none of anything else, as a link.
+pub fn meta_of(metadata: &Metadata) -> Option<Meta>
+    ensures { IfSome result IsDated }
+{
+    if metadata.is_dir() {
+        return Some(Meta {
+            kind: Kind::Directory,
+            size: 0,
+            modified: seconds(metadata.mtime()),
+        });
+    }
+    if metadata.is_file() {
+        return Some(Meta {
+            kind: Kind::File,
+            size: metadata.len(),
+            modified: seconds(metadata.mtime()),
+        });
+    }
+    None
+}
+
+/// Whether the machine knows both as one entry.
+pub fn is_same(looked: &Metadata, opened: &Metadata) -> bool {
+    looked.dev() == opened.dev() && looked.ino() == opened.ino()
+}
+
+/// Whether a name holds an octet below 32, or 127. No path names such an entry.
+pub fn has_control(name: &str) -> bool
+    ensures control { result ≡ list_any is_control name.now }
+{
+    name.bytes().any(|octet| octet < 32 || octet == 127)
+}

@@ -1,0 +1,68 @@
+use Rattle.std.proofs.Common.{arith, ◌≡◌, ◌+◌, ◌-◌, ◌∙◌, suc, ap}
+use Rattle.limit_tree.specs.Outline.{cut}
+use Rattle.limit_tree.specs.Flat.{taken_in, HasRow}
+use Rattle.limit_tree.proofs.Hops.{absorbed-leaf, absorbed-branch, taken-more, taken-wants, row-next, row-inside}
+use Rattle.limit_tree.proofs.flat.+absorb_row.Goals.{in-Leaf, in-Branch}
+use Rattle.limit_tree.proofs.flat.+absorb_row.Goals as goal
+
+pub place_at-place-requires : goal.place_at-place-requires
+place_at-place-requires t c = record { node = row-inside c.args.places.now c.loop-tree.node (c.args.trees - c.loop-tree._tree) c.loop-tree.invariant.row (omega arith) }
+
+pub absorb_row-below-requires : goal.absorb_row-below-requires
+absorb_row-below-requires t c =
+    let p = c.place_at-place.result in
+    let tree = c.requires.flat.shaped c.loop-tree.node p c.place_at-place.ensures.place in
+    let row : HasRow c.args.places.now (c.loop-tree.node + 1) p.kids = (p.first, c.loop-tree.node + p.nodes, p.first + p.leaves, tree.branch c.in-Branch.limit c.in-Branch.is) in
+    (omega (arith, tree.inside, tree.some, c.loop-tree.invariant.past), (c.requires.flat, row))
+
+pub overflow_add-total : goal.overflow_add-total
+overflow_add-total t c =
+    let ps = c.args.places.now in
+    let p = c.place_at-place.result in
+    let node = c.loop-tree.node in
+    let left = c.args.trees - (c.loop-tree._tree + 1) in
+    let more : c.args.trees - c.loop-tree._tree ≡ suc left = omega arith in
+    let taken = taken-more c.args.level ps node left p c.requires.flat.shaped c.place_at-place.ensures.place in
+    let was : taken_in c.args.level ps node (c.args.trees - c.loop-tree._tree) ≡ taken_in c.args.level ps node (suc left) = ap (taken_in c.args.level ps node) more in
+    let wants = taken-wants c.args.level ps c.args.first c.args.trees in
+    let octets = c.requires.flat.few_octets in
+    let leaves = c.requires.flat.few_leaves in
+    elim c.match-place.branch [
+      | in-Leaf w ↦ omega (arith, c.loop-tree.invariant.value, was, taken, wants, octets, leaves, absorbed-leaf c.args.level ps node p w.in-Leaf.want w.in-Leaf.floor c.place_at-place.ensures.place w.in-Leaf.is, w.total-is)
+      | in-Branch w ↦
+          let below = absorbed-branch c.args.level ps node p w.in-Branch.limit c.place_at-place.ensures.place w.in-Branch.is in
+          let cuts = w.at_most.ensures.cut ∙ ap (cut w.in-Branch.limit) w.absorb_row-below.ensures.value in
+          omega (arith, c.loop-tree.invariant.value, was, taken, wants, octets, leaves, below, cuts, w.total-is)
+    ]
+
+pub overflow_add-node-in-loop-tree : goal.overflow_add-node-in-loop-tree
+overflow_add-node-in-loop-tree t c =
+    let tree = c.requires.flat.shaped c.loop-tree.node c.place_at-place.result c.place_at-place.ensures.place in
+    omega (arith, tree.inside, c.requires.flat.few_nodes)
+
+pub loop-tree-preserved : goal.loop-tree-preserved
+loop-tree-preserved t c =
+    let ps = c.args.places.now in
+    let p = c.place_at-place.result in
+    let node = c.loop-tree.node in
+    let left = c.args.trees - (c.loop-tree._tree + 1) in
+    let more : c.args.trees - c.loop-tree._tree ≡ suc left = omega arith in
+    let taken = taken-more c.args.level ps node left p c.requires.flat.shaped c.place_at-place.ensures.place in
+    let was : taken_in c.args.level ps node (c.args.trees - c.loop-tree._tree) ≡ taken_in c.args.level ps node (suc left) = ap (taken_in c.args.level ps node) more in
+    record {
+      past = omega (arith, c.loop-tree.invariant.past);
+      row = row-next ps node (c.args.trees - c.loop-tree._tree) left p c.requires.flat.shaped c.loop-tree.invariant.row more c.place_at-place.ensures.place;
+      value = elim c.match-place.branch [
+        | in-Leaf w ↦ omega (arith, c.loop-tree.invariant.value, was, taken, absorbed-leaf c.args.level ps node p w.in-Leaf.want w.in-Leaf.floor c.place_at-place.ensures.place w.in-Leaf.is, w.total-is)
+        | in-Branch w ↦
+            let below = absorbed-branch c.args.level ps node p w.in-Branch.limit c.place_at-place.ensures.place w.in-Branch.is in
+            let cuts = w.at_most.ensures.cut ∙ ap (cut w.in-Branch.limit) w.absorb_row-below.ensures.value in
+            omega (arith, c.loop-tree.invariant.value, was, taken, below, cuts, w.total-is)
+      ];
+    }
+
+pub returns : goal.returns
+returns t c =
+    let none : c.args.trees - c.loop-tree._tree ≡ 0 = omega arith in
+    let past : taken_in c.args.level c.args.places.now c.loop-tree.node (c.args.trees - c.loop-tree._tree) ≡ 0 = ap (taken_in c.args.level c.args.places.now c.loop-tree.node) none in
+    record { value = omega (arith, c.loop-tree.invariant.value, past) }

@@ -1,0 +1,251 @@
+//! A tree whose nodes lie in preorder in an array, without pointers.
+ghost use Rattle.std.specs.Prelude.{◌≡◌, ◌+◌, ◌*◌, ◌<◌, ◌≤◌, ◌^◌, ◌↔◌, length, slice_get, slice_index, sum, IsTrue, Some, IfOk};
+ghost use Rattle.std.specs.Option.{option_and_then};
+ghost use Rattle.limit_tree.specs.Sharing.{IsWanted, IsLimitTree, Branch, IsBranch, IsFull};
+ghost use Rattle.limit_tree.specs.Outline.{limits, leaves_under, absorbed};
+ghost use Rattle.limit_tree.specs.Laws.{LaterIsInside};
+ghost use Rattle.limit_tree.specs.Flat.{taken_in, taken_below, HasRow, IsFlat};
+
+use super::absorb::at_most;
+use super::bounds::{MAX_LEAVES, MAX_NODES, MAX_WANT};
+use super::look::is_full_place;
+use super::place::{Kind, Place};
+use super::tree::Tree;
+use super::walk::Visitor;
+use std::alloc::{AllocError, Allocator, Global};
+use std::marker::Model;
+
+/// Copies the nodes that it is shown, in preorder.
+#[derive(Drop)]
+pub struct Copying<A: Allocator> {
+    pub places: Vec<Place, A>,
+    pub wants: Vec<u64, A>,
+    pub floors: Vec<u64, A>,
+    pub leaves: usize,
+    /// Whether memory ran out.
+    pub failed: bool,
+}
+
+impl<A: Allocator> Copying<A> {
+    ghost use Rattle.std.specs.Prelude.{◌≡◌, ◌++◌, ◌∷◌, [], IfOk};
+    ghost use Rattle.std.specs.List.{cons_option};
+    ghost use Rattle.limit_tree.specs.Outline.{leaf_want, leaf_floor};
+
+    fn keep(&mut self, place: Place) -> Result<(), AllocError>
+        ensures leaves { self.new.leaves ≡ self.old.leaves }
+        ensures failed { self.new.failed ≡ self.old.failed }
+        ensures places { IfOk result (λ _. self.new.places.items ≡ self.old.places.items ++ place ∷ []) }
+        ensures wants { IfOk result (λ _. self.new.wants.items ≡ self.old.wants.items ++ cons_option (leaf_want place.kind) []) }
+        ensures floors { IfOk result (λ _. self.new.floors.items ≡ self.old.floors.items ++ cons_option (leaf_floor place.kind) []) }
+    {
+        self.places.push(place)?;
+        match place.kind {
+            Kind::Leaf { want, floor } => {
+                self.wants.push(want)?;
+                self.floors.push(floor)?;
+            }
+            Kind::Branch { .. } => {}
+        }
+        Ok(())
+    }
+}
+
+impl<A: Allocator> Visitor for Copying<A> {
+    ghost use Rattle.limit_tree.specs.Copies.{HasCopied};
+
+    ghost leaves = { λ s. s.leaves };
+
+    ghost Saw = { HasCopied };
+
+    fn visit(&mut self, _number: usize, place: Place) {
+        match self.keep(place) {
+            Ok(()) => {}
+            Err(_) => self.failed = true,
+        }
+    }
+}
+
+/// A tree whose nodes lie in preorder in an array, each with its end, its limit, or its want and floor, and
+/// whose wants and floors lie in arrays by leaf. Contracts see it as its nodes, like the `Tree` that it was
+/// made of.
+#[derive(Drop)]
+pub struct Flat<A: Allocator = Global> {
+    places: Vec<Place, A>,
+    wants: Vec<u64, A>,
+    floors: Vec<u64, A>,
+}
+
+impl<A: Allocator> Model for Flat<A> {
+    ghost use Rattle.std.specs.Prelude.{List};
+    ghost use Rattle.limit_tree.specs.declared.place.Place.{Place};
+    ghost use Rattle.limit_tree.specs.Copies.{IsKept};
+
+    ghost Value = { List Place };
+
+    ghost view = { λ f. f.places.items };
+
+    ghost invariant = { λ f. IsKept f.places.items f.wants.items f.floors.items };
+}
+
+impl<A: Allocator> Flat<A> {
+    /// The nodes of a tree. Takes memory three times, and O(nodes * depth) time; `AllocError` comes only where
+    /// memory ran out.
+    pub fn of<B: Allocator>(alloc: A, tree: &Tree<B>) -> Result<Flat<A>, AllocError>
+    where
+        A: Clone,
+        ensures of { IfOk result (λ f. f ≡ tree.now) }
+    {
+        let leaves = tree.leaves();
+        tree.nodes_are_a_tree();
+        let mut copy = Copying {
+            places: Vec::with_capacity(alloc.clone()?, tree.nodes())?,
+            wants: Vec::with_capacity(alloc.clone()?, leaves)?,
+            floors: Vec::with_capacity(alloc, leaves)?,
+            leaves,
+            failed: false,
+        };
+        tree.walk(&mut copy);
+        if copy.failed {
+            return Err(AllocError);
+        }
+        let Copying {
+            places,
+            wants,
+            floors,
+            ..
+        } = copy;
+        Ok(Flat {
+            places,
+            wants,
+            floors,
+        })
+    }
+
+    /// How many leaves the tree has.
+    pub fn leaves(&self) -> usize
+        ensures leaves { result ≡ length (limits self.now).wants }
+        ensures most { result ≤ MAX_LEAVES }
+        ensures octets { sum (limits self.now).wants ≤ result * MAX_WANT }
+        ensures limit_tree { IsLimitTree (limits self.now) }
+        ensures later { LaterIsInside (limits self.now) }
+    {
+        self.wants.len()
+    }
+
+    /// How many nodes the tree has.
+    pub fn nodes(&self) -> usize
+        ensures nodes { result ≡ length self.now }
+        ensures most { result ≤ MAX_NODES }
+        ensures flat { IsFlat self.now }
+    {
+        self.places.len()
+    }
+
+    /// The node of a number.
+    pub fn place(&self, node: usize) -> Place
+        requires node { node < length self.now }
+        ensures place { slice_get self.now node ≡ Some result }
+        ensures inside { result.first + result.leaves ≤ length (limits self.now).wants }
+    {
+        place_at(&self.places, node)
+    }
+
+    /// The limit of a branch that has one.
+    pub fn limit(&self, node: usize) -> Option<u64>
+        requires node { node < length self.now }
+        ensures limit { result ≡ option_and_then (λ b. b.limit) ((limits self.now).branch node) }
+    {
+        match self.place(node).kind {
+            Kind::Branch { limit } => limit,
+            Kind::Leaf { .. } => None,
+        }
+    }
+
+    /// Whether the leaf is the node or stands below it.
+    pub fn under(&self, node: usize, leaf: usize) -> bool
+        requires node { node < length self.now }
+        ensures under { result ≡ leaves_under self.now node leaf }
+        ensures branch { (b : Branch) → IsBranch (limits self.now) node b → result ≡ b.holds leaf }
+    {
+        let place = self.place(node);
+        place.first <= leaf && leaf - place.first < place.leaves
+    }
+
+    /// Whether the node is a branch whose limit is reached. Takes O(leaves below) time.
+    pub fn is_full(&self, node: usize, grants: &[u64]) -> bool
+        requires node { node < length self.now }
+        requires grants { IsWanted (limits self.now) grants.now }
+        ensures full { IsTrue result ↔ ((b : Branch) × IsBranch (limits self.now) node b × IsFull b grants.now) }
+    {
+        let _ = &self.places;
+        is_full_place(self.place(node), grants)
+    }
+
+    /// The want of a leaf, in octets.
+    pub fn want(&self, leaf: usize) -> u64
+        requires leaf { leaf < length (limits self.now).wants }
+        ensures want { result ≡ slice_index (limits self.now).wants leaf }
+    {
+        self.wants[leaf]
+    }
+
+    /// The floor of a leaf, in octets.
+    pub fn floor(&self, leaf: usize) -> u64
+        requires leaf { leaf < length (limits self.now).wants }
+        ensures floor { result ≡ slice_index (limits self.now).floors leaf }
+    {
+        self.floors[leaf]
+    }
+
+    /// What the node takes in up to a level, in octets: a leaf the level, or its floor where that is greater, but
+    /// at most its want; a branch what its kids take in, cut to its limit. Takes O(nodes below) time.
+    pub fn absorb(&self, node: usize, level: u64) -> u64
+        requires node { node < length self.now }
+        ensures value { result ≡ absorbed level self.now node }
+        ensures most { result ≤ sum (limits self.now).wants }
+    {
+        absorb_row(&self.places, node, 1, level)
+    }
+
+    /// What the kids of a node take in up to a level, together, in octets. Takes O(nodes below) time.
+    pub fn absorb_below(&self, node: usize, level: u64) -> u64
+        requires node { node < length self.now }
+        ensures value { result ≡ taken_below level self.now node }
+        ensures most { result ≤ sum (limits self.now).wants }
+    {
+        let place = self.place(node);
+        match place.kind {
+            Kind::Branch { .. } => absorb_row(&self.places, node + 1, place.kids, level),
+            Kind::Leaf { .. } => 0,
+        }
+    }
+}
+
+fn place_at(places: &[Place], node: usize) -> Place
+    requires node { node < length places.now }
+    ensures place { slice_get places.now node ≡ Some result }
+{
+    places[node]
+}
+
+// What so many trees side by side take in up to a level, together; the first of them has a number.
+fn absorb_row(places: &[Place], first: usize, trees: usize, level: u64) -> u64
+    requires flat { IsFlat places.now }
+    requires row { HasRow places.now first trees }
+    ensures value { result ≡ taken_in level places.now first trees }
+{
+    let mut node = first;
+    let mut total = 0;
+    for _tree in 0..trees {
+        let place = place_at(places, node);
+        total += match place.kind {
+            Kind::Leaf { want, floor } => level.max(floor).min(want),
+            Kind::Branch { limit } => {
+                let below = absorb_row(places, node + 1, place.kids, level);
+                at_most(limit, below)
+            }
+        };
+        node += place.nodes;
+    }
+    total
+}

@@ -1,0 +1,89 @@
+//! Grants by levels: a pass over the nodes in preorder.
+ghost use Rattle.std.specs.Prelude.{◌≡◌, ◌+◌, ◌*◌, ◌<◌, ◌≤◌, ◌^◌, ℕ, length, take, sum, IfOk};
+ghost use Rattle.limit_tree.specs.Sharing.{IsWithin};
+ghost use Rattle.limit_tree.specs.Outline.{limits};
+ghost use Rattle.limit_tree.specs.Flat.{IsRow, HasRow};
+ghost use Rattle.round_allocator.specs.Rounds.{HasBottlenecks};
+ghost use Rattle.round_allocator.specs.Levels.{IsPouring, branch_count};
+
+use super::level::{Share, leaf_grant, share_out};
+use limit_tree::{Flat, Kind, MAX_WANT};
+use std::alloc::{AllocError, Allocator};
+
+// Gives the leaves of so many trees side by side, the first of which has a number, what they take in up to a
+// level, and of the spare octets one to each leaf with room, the lowest leaf number first. What is still spare.
+fn fill<A: Allocator>(
+    flat: &Flat<A>,
+    first: usize,
+    trees: usize,
+    share: Share,
+    grants: &mut [u64],
+    probes: &mut u64,
+) -> u64
+    requires row { HasRow flat.now first trees }
+    requires level { share.level < 2 ^ 32 }
+    requires spare { share.spare ≤ sum (limits flat.now).wants }
+    requires grants { length grants.old ≡ length (limits flat.now).wants }
+    requires counted { probes.old ≤ 33 * branch_count (take first flat.now) }
+    ensures poured { (begin last past : ℕ) → IsRow flat.now first begin trees last past → IsPouring flat.now first trees begin share grants.old last 0 past result grants.new }
+    ensures size { length grants.new ≡ length grants.old }
+    ensures counted { (begin last past : ℕ) → IsRow flat.now first begin trees last past → probes.new ≤ 33 * branch_count (take last flat.now) }
+{
+    let _nodes = flat.nodes();
+    let mut node = first;
+    let mut left = share.spare;
+    for _tree in 0..trees {
+        let place = flat.place(node);
+        let here = Share {
+            level: share.level,
+            spare: left,
+        };
+        match place.kind {
+            Kind::Leaf { want, floor } => {
+                let grant = leaf_grant(want, floor, here);
+                grants[place.first] = grant.octets;
+                left = grant.rest;
+            }
+            Kind::Branch { limit } => {
+                let plan = share_out(flat, node, limit, here, probes);
+                let rest = fill(flat, node + 1, place.kids, plan.share, grants, probes);
+                left = plan.kept + rest;
+            }
+        }
+        node += place.nodes;
+    }
+    left
+}
+
+/// Grants, in octets, and how many probes they took.
+#[derive(Drop)]
+pub struct Counted<B: Allocator> {
+    pub grants: Vec<u64, B>,
+    pub probes: u64,
+}
+
+// So many grants of 0 octets.
+fn zeros<B: Allocator>(alloc: B, leaves: usize) -> Result<Vec<u64, B>, AllocError>
+    ensures leaves { IfOk result (λ g. length g.items ≡ leaves) }
+{
+    vec![in alloc; 0; leaves]
+}
+
+/// The grants of the leaves of a tree, in octets, by the levels of its branches: takes memory once, and
+/// O(nodes * depth) time, some 33 times. `AllocError` comes only where memory ran out.
+pub fn give<A: Allocator, B: Allocator>(alloc: B, flat: &Flat<A>) -> Result<Counted<B>, AllocError>
+    ensures within { IfOk result (λ r. IsWithin (limits flat.now) r.grants.items) }
+    ensures bottlenecks { IfOk result (λ r. HasBottlenecks (limits flat.now) r.grants.items) }
+    ensures counted { IfOk result (λ r. r.probes ≤ 33 * branch_count flat.now) }
+{
+    let leaves = flat.leaves();
+    let _nodes = flat.nodes();
+    let mut grants = zeros(alloc, leaves)?;
+    let mut probes = 0;
+    let top = Share {
+        level: MAX_WANT,
+        spare: 0,
+    };
+    let _left = fill(flat, 0, 1, top, &mut grants, &mut probes);
+    Ok(Counted { grants, probes })
+}

@@ -1,0 +1,172 @@
+//! The level up to which a branch can fill its kids.
+ghost use Rattle.std.specs.Prelude.{◌≡◌, ◌+◌, ◌<◌, ◌≤◌, ◌^◌, length, Some};
+ghost use Rattle.limit_tree.specs.Flat.{taken_below};
+ghost use Rattle.round_allocator.specs.Levels.{IsBranchAt, IsLevel, IsNarrower, IsPlan, IsLeafGrant};
+
+use limit_tree::Flat;
+use std::alloc::Allocator;
+
+/// A level, and octets that may be given above it, one a leaf.
+#[derive(Clone, Copy)]
+pub struct Share {
+    pub level: u64,
+    pub spare: u64,
+}
+
+/// What a branch passes on to its kids, and the octets that it keeps from them.
+#[derive(Clone, Copy)]
+pub struct Plan {
+    pub share: Share,
+    pub kept: u64,
+}
+
+/// What a leaf is given, and the octets that are still spare.
+#[derive(Clone, Copy)]
+pub struct Grant {
+    pub octets: u64,
+    pub rest: u64,
+}
+
+/// Two levels: at the lower the kids of a branch keep its limit, at the higher they do not.
+#[derive(Clone, Copy)]
+pub struct Window {
+    pub low: u64,
+    pub high: u64,
+    /// What they take in at the lower level, where that was probed: where it is not 0.
+    pub taken: u64,
+}
+
+/// What the kids of a node take in up to a level, in octets. Each call is one probe.
+fn probe<A: Allocator>(flat: &Flat<A>, node: usize, level: u64, probes: &mut u64) -> u64
+    requires node { node < length flat.now }
+    requires room { probes.old < 2 ^ 63 }
+    ensures taken { result ≡ taken_below level flat.now node }
+    ensures counted { probes.new ≡ probes.old + 1 }
+{
+    *probes += 1;
+    flat.absorb_below(node, level)
+}
+
+// Halves a window by one probe, unless its levels are neighbours.
+fn narrow<A: Allocator>(
+    flat: &Flat<A>,
+    node: usize,
+    most: u64,
+    window: Window,
+    probes: &mut u64,
+) -> Window
+    requires node { node < length flat.now }
+    requires room { probes.old < 2 ^ 63 }
+    requires order { window.low < window.high }
+    requires below { 0 < window.low → (window.taken ≡ taken_below window.low flat.now node) × (window.taken ≤ most) }
+    requires above { most < taken_below window.high flat.now node }
+    ensures narrower { IsNarrower flat.now node most window result }
+    ensures counted { probes.new ≤ probes.old + 1 }
+    ensures neighbours { window.high ≤ window.low + 1 → probes.new ≡ probes.old }
+{
+    if window.high - window.low <= 1 {
+        return window;
+    }
+    let middle = window.low + (window.high - window.low) / 2;
+    let taken = probe(flat, node, middle, probes);
+    if taken <= most {
+        Window {
+            low: middle,
+            high: window.high,
+            taken,
+        }
+    } else {
+        Window {
+            low: window.low,
+            high: middle,
+            taken: window.taken,
+        }
+    }
+}
+
+// The greatest level below one that is too high, and what the limit leaves there: at most 32 probes.
+fn search<A: Allocator>(
+    flat: &Flat<A>,
+    node: usize,
+    most: u64,
+    level: u64,
+    probes: &mut u64,
+) -> Share
+    requires branch { IsBranchAt flat.now node (Some most) }
+    requires room { probes.old + 32 < 2 ^ 63 }
+    requires level { level < 2 ^ 32 }
+    requires above { most < taken_below level flat.now node }
+    ensures level { IsLevel flat.now node most result }
+    ensures lower { result.level < level }
+    ensures counted { probes.new ≤ probes.old + 32 }
+{
+    let _nodes = flat.nodes();
+    let mut window = Window {
+        low: 0,
+        high: level,
+        taken: 0,
+    };
+    for _step in 0..32u32 {
+        window = narrow(flat, node, most, window, probes);
+    }
+    if window.low == 0 {
+        window.taken = probe(flat, node, 0, probes);
+    }
+    Share {
+        level: window.low,
+        spare: most - window.taken,
+    }
+}
+
+/// How a branch with so many spare octets above a level shares them with its kids: at most 33 probes, one where
+/// what its kids take in fits its limit, none where it has no limit.
+pub fn share_out<A: Allocator>(
+    flat: &Flat<A>,
+    node: usize,
+    limit: Option<u64>,
+    share: Share,
+    probes: &mut u64,
+) -> Plan
+    requires branch { IsBranchAt flat.now node limit }
+    requires room { probes.old + 33 < 2 ^ 63 }
+    requires level { share.level < 2 ^ 32 }
+    ensures shared { IsPlan flat.now node limit share result }
+    ensures counted { probes.new ≤ probes.old + 33 }
+{
+    let Some(most) = limit else {
+        return Plan { share, kept: 0 };
+    };
+    let taken = probe(flat, node, share.level, probes);
+    if taken <= most {
+        let spare = share.spare.min(most - taken);
+        return Plan {
+            share: Share {
+                level: share.level,
+                spare,
+            },
+            kept: share.spare - spare,
+        };
+    }
+    Plan {
+        share: search(flat, node, most, share.level, probes),
+        kept: share.spare,
+    }
+}
+
+/// What a leaf is given up to a level, in octets, and one more where one is spare and it has room for it.
+pub fn leaf_grant(want: u64, floor: u64, share: Share) -> Grant
+    requires floor { floor ≤ want }
+    requires level { share.level < 2 ^ 32 }
+    ensures grant { IsLeafGrant want floor share result.octets result.rest }
+{
+    if share.spare > 0 && floor <= share.level && share.level < want {
+        return Grant {
+            octets: share.level + 1,
+            rest: share.spare - 1,
+        };
+    }
+    Grant {
+        octets: share.level.max(floor).min(want),
+        rest: share.spare,
+    }
+}

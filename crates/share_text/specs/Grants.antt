@@ -1,0 +1,94 @@
+-- What a grants file gives to the wants of a sheet, and its first fault.
+use Rattle.std.specs.Prelude.{ℕ, ◌+◌, nat_eq, Bool, false, not, if◌then◌else◌, List, [], ◌∷◌, length, map, filter_map, flat_map, slice_get, slice_index_or, Option, Some, None, bytes_eq, codes}
+use Rattle.std.specs.List.{position_from, range_with_len}
+use Rattle.std.specs.Option.{option_map, option_and_then, option_to_list, is_none}
+use Rattle.std.specs.Str.Lines.{lines}
+use Rattle.limit_tree.specs.Faults.{or_else}
+use Rattle.share_text.specs.declared.grants.GrantsFault.{GrantsFault}
+use Rattle.share_text.specs.declared.grants.GrantsFault.TheVariants.{BadLine, WrongPath, NoSuchNode}
+use Rattle.share_text.specs.Text.{Octets, parts, path, number}
+use Rattle.share_text.specs.Sheet.{is_skipped}
+use Rattle.share_text.specs.Views.{SheetValue, written}
+
+-- what one line gives: octets to a want, by its path, and the path of the node that it names, if it names one
+pub record GrantLine : Type 0 where
+  pub path : Octets
+  pub octets : ℕ
+  pub node : Option Octets
+
+abbrev pub grant_at : Option Octets → Option ℕ → Option (Option Octets) → Option GrantLine
+grant_at place amount node = option_and_then (λ p. option_and_then (λ n. option_map (λ name. record { path = p; octets = n; node = name }) node) amount) place
+
+-- `grant PATH N` or `grant PATH N NODE`, by the words between single spaces; NODE is a path too
+abbrev pub grant_of_words : List Octets → Option GrantLine
+grant_of_words (word ∷ place ∷ amount ∷ []) = if bytes_eq word (codes "grant") then grant_at (path place) (number amount) (Some None) else None
+grant_of_words (word ∷ place ∷ amount ∷ node ∷ []) = if bytes_eq word (codes "grant") then grant_at (path place) (number amount) (option_map Some (path node)) else None
+grant_of_words words = None
+
+abbrev pub grant_of : Octets → Option GrantLine
+grant_of line = grant_of_words (parts 32 line)
+
+-- the path of a want, by its place in the order of the sheet's lines
+abbrev pub want_path : SheetValue → ℕ → Option Octets
+want_path sheet place = option_map (λ leaf. slice_index_or sheet.leaves leaf []) (slice_get sheet.wants place)
+
+abbrev pub is_path : Option Octets → Octets → Bool
+is_path None path = false
+is_path (Some wanted) path = bytes_eq wanted path
+
+-- the number of a node, by its path as it is written
+abbrev pub node_number : SheetValue → Octets → Option ℕ
+node_number sheet path = position_from (bytes_eq path) 0 (map written sheet.paths)
+
+-- the number of the node that is named, if one is
+abbrev pub named_node : SheetValue → Option Octets → Option ℕ
+named_node sheet name = option_and_then (λ path. node_number sheet (written path)) name
+
+-- a node is named that the sheet does not mention
+abbrev pub names_no_node : SheetValue → Option Octets → Bool
+names_no_node sheet None = false
+names_no_node sheet (Some path) = is_none (node_number sheet (written path))
+
+-- the fault of a line that gives to the want of a place
+abbrev pub grant_fault : SheetValue → ℕ → ℕ → GrantLine → Option GrantsFault
+grant_fault sheet place number line =
+    if not (is_path (want_path sheet place) line.path) then Some (WrongPath number)
+    else if names_no_node sheet line.node then Some (NoSuchNode number)
+    else None
+
+abbrev pub read_grant_fault : SheetValue → ℕ → ℕ → Option GrantLine → Option GrantsFault
+read_grant_fault sheet place number None = Some (BadLine number)
+read_grant_fault sheet place number (Some line) = grant_fault sheet place number line
+
+abbrev pub grants_line_fault : SheetValue → ℕ → ℕ → Octets → Option GrantsFault
+grants_line_fault sheet place number line = if is_skipped line then None else read_grant_fault sheet place number (grant_of line)
+
+abbrev pub line_grants : Octets → List GrantLine
+line_grants line = if is_skipped line then [] else option_to_list (grant_of line)
+
+-- what lines give, in their order
+abbrev pub grant_lines : List Octets → List GrantLine
+grant_lines texts = flat_map line_grants texts
+
+-- the fault of the first faulty line, where lines are numbered from a number on and give to the wants from a place on
+abbrev pub first_grants_fault : SheetValue → ℕ → ℕ → List Octets → Option GrantsFault
+first_grants_fault sheet place number [] = None
+first_grants_fault sheet place number (line ∷ lines) =
+    or_else (grants_line_fault sheet place number line) (first_grants_fault sheet (place + length (line_grants line)) (number + 1) lines)
+
+abbrev pub grants_fault : SheetValue → Octets → Option GrantsFault
+grants_fault sheet text = first_grants_fault sheet 0 1 (lines text)
+
+-- the line that gives to a leaf: the lines stand in the order of the wants
+abbrev pub line_of_leaf : SheetValue → List GrantLine → ℕ → Option GrantLine
+line_of_leaf sheet given leaf = option_and_then (slice_get given) (position_from (nat_eq leaf) 0 sheet.wants)
+
+-- the lines in the order of the leaves; a leaf that no line gives to is left out, so fewer lines give a short list
+abbrev pub lines_by_leaf : SheetValue → List GrantLine → List GrantLine
+lines_by_leaf sheet given = filter_map (line_of_leaf sheet given) (range_with_len 0 (length sheet.leaves))
+
+abbrev pub grants_in : SheetValue → Octets → List ℕ
+grants_in sheet text = map (λ line. line.octets) (lines_by_leaf sheet (grant_lines (lines text)))
+
+abbrev pub entries_in : SheetValue → Octets → List (Option ℕ)
+entries_in sheet text = map (λ line. named_node sheet line.node) (lines_by_leaf sheet (grant_lines (lines text)))

@@ -1,0 +1,20 @@
+-- What the code's slots know of the lines that were read.
+use Rattle.std.specs.Prelude.{◌≡◌, ℕ, ◌<◌, List, length, slice_index_or, Option}
+use Rattle.std.specs.Option.{option_map, option_copied}
+use Rattle.share_text.specs.declared.grants.Grant.{Grant}
+use Rattle.share_text.specs.declared.grants.Given.{Given}
+use Rattle.share_text.specs.declared.grants.Slots.{Slots}
+use Rattle.share_text.specs.Views.{SheetValue}
+use Rattle.share_text.specs.Grants.{GrantLine, named_node, line_of_leaf}
+
+abbrev pub grant_view : Grant → GrantLine
+grant_view line = record { path = line.path.now; octets = line.octets; node = option_copied line.node }
+
+-- what a line gives, with the number of the node that it names
+abbrev pub given_by : SheetValue → GrantLine → Given
+given_by sheet line = record { octets = line.octets; node = named_node sheet line.node }
+
+pub record Filled {A : Type 0} (sheet : SheetValue) (slots : Slots A) (lines : List GrantLine) : Type 0 where
+  pub lines_are : slots.lines ≡ length lines
+  pub slots_length : length slots.slots.items ≡ length sheet.leaves
+  pub slots_are : (leaf : ℕ) (d : Option Given) → leaf < length sheet.leaves → slice_index_or slots.slots.items leaf d ≡ option_map (given_by sheet) (line_of_leaf sheet lines leaf)

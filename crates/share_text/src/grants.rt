@@ -1,0 +1,243 @@
+//! Reading a grants file beside its sheet.
+ghost use Rattle.std.specs.Prelude.{◌≡◌, ◌≢◌, ◌<◌, ◌≤◌, ◌∷◌, ◌++◌, [], List, IfOk, MatchResult, None, Some, filter_map, length, map, nat_eq, option_map, replicate, slice_get, true, false};
+ghost use Rattle.std.specs.List.{position_from};
+ghost use Rattle.std.specs.Option.{option_copied};
+ghost use Rattle.limit_tree.specs.declared.bounds.TheConstants.{MAX_LEAVES};
+ghost use Rattle.share_text.specs.Grants.{GrantLine, entries_in, grant_fault, grant_of, grant_of_words, grants_fault, grant_lines, grants_in, grants_line_fault, line_grants, named_node, names_no_node};
+ghost use Rattle.std.specs.Str.Lines.{lines};
+ghost use Rattle.share_text.specs.Text.{Octets};
+ghost use Rattle.share_text.specs.Slots.{Filled, given_by, grant_view};
+ghost use Rattle.share_text.specs.Views.{IsSheetOf, written};
+
+use crate::cut::{cut_at, cut_line};
+use crate::number::read_number;
+use crate::path::read_path;
+use crate::read::is_skipped;
+use crate::sheet::Sheet;
+use grant_certificate::Certificate;
+use std::alloc::{AllocError, Allocator};
+use thiserror::Error;
+
+/// Why a grants file is refused, with the number of the line; lines count from 1. The first faulty line decides,
+/// and at one line the order is that below.
+#[derive(Clone, Copy, Debug, PartialEq, Eq, Error)]
+pub enum GrantsFault {
+    /// The line is neither of the two forms.
+    #[error("line {0}: BadLine")]
+    BadLine(usize),
+    /// The path is not that of the sheet's next want, or each want has its line already.
+    #[error("line {0}: WrongPath")]
+    WrongPath(usize),
+    /// The sheet mentions no node of the path that is named.
+    #[error("line {0}: NoSuchNode")]
+    NoSuchNode(usize),
+    /// Memory ran out.
+    #[error("Memory")]
+    Memory,
+}
+
+impl From<AllocError> for GrantsFault {
+    ghost use Rattle.std.specs.Prelude.{◌≡◌};
+    ghost use Rattle.share_text.specs.declared.grants.GrantsFault.TheVariants.{Memory};
+
+    ghost from_gives = { λ e fault. fault ≡ Memory };
+
+    fn from(_error: AllocError) -> GrantsFault {
+        GrantsFault::Memory
+    }
+}
+
+/// What one line gives: octets to the want of a path, and the path of the node that it names, if it names one.
+#[derive(Clone, Copy)]
+struct Grant<'t> {
+    path: &'t str,
+    octets: u64,
+    node: Option<&'t str>,
+}
+
+/// What a leaf is given, with the number of the node that is named.
+#[derive(Clone, Copy)]
+struct Given {
+    octets: u64,
+    node: Option<u32>,
+}
+
+/// How many lines gave so far, and what they gave, by leaf.
+#[derive(Drop)]
+struct Slots<A: Allocator> {
+    lines: usize,
+    slots: Vec<Option<Given>, A>,
+}
+
+fn three_words<'t>(word: &[u8], place: &'t [u8], amount: &[u8]) -> Option<Grant<'t>>
+    ensures line { option_map grant_view result ≡ grant_of_words (word.now ∷ place.now ∷ amount.now ∷ []) }
+{
+    if word != b"grant".as_slice() {
+        return None;
+    }
+    let path = read_path(place)?;
+    let octets = read_number(amount)?;
+    Some(Grant {
+        path,
+        octets,
+        node: None,
+    })
+}
+
+fn four_words<'t>(word: &[u8], place: &'t [u8], amount: &[u8], name: &'t [u8]) -> Option<Grant<'t>>
+    ensures line { option_map grant_view result ≡ grant_of_words (word.now ∷ place.now ∷ amount.now ∷ name.now ∷ []) }
+{
+    if word != b"grant".as_slice() {
+        return None;
+    }
+    let path = read_path(place)?;
+    let octets = read_number(amount)?;
+    let node = read_path(name)?;
+    Some(Grant {
+        path,
+        octets,
+        node: Some(node),
+    })
+}
+
+/// Reads `grant PATH N` or `grant PATH N NODE`.
+fn read_grant(line: &[u8]) -> Option<Grant<'_>>
+    ensures line { option_map grant_view result ≡ grant_of line.now }
+{
+    let (word, rest) = cut_at(line, b' ');
+    let (place, rest) = cut_at(rest?, b' ');
+    let (amount, rest) = cut_at(rest?, b' ');
+    let Some(rest) = rest else {
+        return three_words(word, place, amount);
+    };
+    let (name, rest) = cut_at(rest, b' ');
+    match rest {
+        Some(_) => None,
+        None => four_words(word, place, amount, name),
+    }
+}
+
+fn as_written(path: &str) -> &str
+    ensures written { result.now ≡ written path.now }
+{
+    if path.is_empty() { "/" } else { path }
+}
+
+/// The number of the node that a line names, if it names one.
+fn find_node<A: Allocator>(
+    sheet: &Sheet<A>,
+    number: usize,
+    name: Option<&str>,
+) -> Result<Option<u32>, GrantsFault>
+    ensures found { MatchResult result
+        (λ node. (names_no_node sheet.now (option_copied name.entry) ≡ false) × (node ≡ named_node sheet.now (option_copied name.entry)))
+        (λ fault. (names_no_node sheet.now (option_copied name.entry) ≡ true) × (fault ≡ GrantsFault.NoSuchNode number)) }
+{
+    let Some(path) = name else {
+        return Ok(None);
+    };
+    match sheet.node_of(as_written(path)) {
+        Some(node) => Ok(Some(node)),
+        None => Err(GrantsFault::NoSuchNode(number)),
+    }
+}
+
+/// What a line gives to the want of a place in the order of the sheet, and the number of its leaf.
+fn judge<A: Allocator>(
+    sheet: &Sheet<A>,
+    place: usize,
+    number: usize,
+    line: Grant<'_>,
+) -> Result<(usize, Given), GrantsFault>
+    ensures judged { MatchResult result
+        (λ r. (grant_fault sheet.now place number (grant_view line.entry) ≡ None) × (r.1 ≡ given_by sheet.now (grant_view line.entry)))
+        (λ fault. grant_fault sheet.now place number (grant_view line.entry) ≡ Some fault) }
+    ensures leaf { IfOk result (λ r. (position_from (nat_eq r.0) 0 sheet.now.wants ≡ Some place) × (r.0 < length sheet.now.leaves)) }
+    ensures place { IfOk result (λ r. place < MAX_LEAVES) }
+{
+    let Some(leaf) = sheet.wants().get(place) else {
+        return Err(GrantsFault::WrongPath(number));
+    };
+    if line.path != sheet.leaf_path(*leaf) {
+        return Err(GrantsFault::WrongPath(number));
+    }
+    let node = find_node(sheet, number, line.node)?;
+    let given = Given {
+        octets: line.octets,
+        node,
+    };
+    Ok((*leaf, given))
+}
+
+impl<A: Allocator + Clone> Slots<A> {
+    fn new(alloc: A, leaves: usize) -> Result<Slots<A>, AllocError>
+        ensures new { IfOk result (λ slots. (slots.lines ≡ 0) × (slots.slots.items ≡ replicate leaves None)) }
+    {
+        Ok(Slots {
+            lines: 0,
+            slots: vec![in alloc; None; leaves]?,
+        })
+    }
+
+    /// Reads one line.
+    fn read_line(&mut self, sheet: &Sheet<A>, number: usize, line: &[u8]) -> Result<(), GrantsFault>
+        requires slots { length self.old.slots.items ≡ length sheet.now.leaves }
+        ensures read { MatchResult result
+            (λ _. (lines : List GrantLine) → Filled sheet.now self.old lines → (grants_line_fault sheet.now (length lines) number line.now ≡ None) × Filled sheet.now self.new (lines ++ line_grants line.now))
+            (λ fault. (lines : List GrantLine) → Filled sheet.now self.old lines → grants_line_fault sheet.now (length lines) number line.now ≡ Some fault) }
+    {
+        if is_skipped(line) {
+            return Ok(());
+        }
+        let Some(grant) = read_grant(line) else {
+            return Err(GrantsFault::BadLine(number));
+        };
+        let (leaf, given) = judge(sheet, self.lines, number, grant)?;
+        self.slots[leaf] = Some(given);
+        self.lines += 1;
+        Ok(())
+    }
+
+    /// The octets and the named nodes of the leaves that a line gives to.
+    fn lists(&self, alloc: A) -> Result<(Vec<u64, A>, Certificate<A>), AllocError>
+        ensures grants { IfOk result (λ lists. lists.0.items ≡ map (λ given. given.octets) (filter_map (λ slot. slot) self.now.slots.items)) }
+        ensures entries { IfOk result (λ lists. lists.1 ≡ map (λ given. given.node) (filter_map (λ slot. slot) self.now.slots.items)) }
+    {
+        let mut grants = Vec::new(alloc.clone()?);
+        let mut entries = Vec::new(alloc);
+        for slot in &self.slots {
+            if let Some(given) = slot {
+                grants.push(given.octets)?;
+                entries.push(given.node)?;
+            }
+        }
+        Ok((grants, Certificate::new(entries)))
+    }
+}
+
+/// Reads a grants file: the grants of the leaves, and the nodes that are named for them, by leaf number. The
+/// lines stand in the order of the sheet's wants. A leaf whose line is missing is left out of both lists, so they
+/// are as long as the leaves exactly where no line is missing.
+pub fn read_grants<A: Allocator + Clone>(
+    alloc: A,
+    text: &[u8],
+    sheet: &Sheet<A>,
+) -> Result<(Vec<u64, A>, Certificate<A>), GrantsFault>
+    ensures read { MatchResult result
+        (λ lists. (grants_fault sheet.now text.now ≡ None) × (lists.0.items ≡ grants_in sheet.now text.now) × (lists.1 ≡ entries_in sheet.now text.now))
+        (λ fault. fault ≢ GrantsFault.Memory → grants_fault sheet.now text.now ≡ Some fault) }
+    ensures full { IfOk result (λ lists. (source : Octets) → IsSheetOf source sheet.now → length (grant_lines (lines text.now)) ≡ length sheet.now.wants → length lists.0.items ≡ length sheet.now.leaves) }
+    ensures short { IfOk result (λ lists. (source : Octets) → IsSheetOf source sheet.now → length (grant_lines (lines text.now)) < length sheet.now.wants → length lists.0.items < length sheet.now.leaves) }
+{
+    let mut slots = Slots::new(alloc.clone()?, sheet.tree().leaves())?;
+    let mut number = 0;
+    let mut rest = text;
+    'lines: while !rest.is_empty() {
+        let (line, behind) = cut_line(rest);
+        number += 1;
+        slots.read_line(sheet, number, line)?;
+        rest = behind;
+    }
+    let lists = slots.lists(alloc)?;
+    Ok(lists)
+}

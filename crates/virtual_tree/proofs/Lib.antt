@@ -1,0 +1,5 @@
+pub mod Fills
+pub mod Listings
+pub mod Moves
+pub mod Places
+pub mod Trees

@@ -85,7 +85,7 @@ place_fault before line entry =
 abbrev pub entry_fault : List Statement → ℕ → Entry → Option SheetFault
 entry_fault before line entry =
     or_else (place_fault before line entry)
-        (option_map (Tree line) (size_fault_from (length (mention_all (mentions before) entry.path)) (want_count before) entry.kind))
+    (option_map (Tree line) (size_fault_from (length (mention_all (mentions before) entry.path)) (want_count before) entry.kind))
 
 -- an empty line, or one that begins with `#`
 abbrev pub is_skipped : Octets → Bool

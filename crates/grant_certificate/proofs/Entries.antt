@@ -1,14 +1,13 @@
 -- What the entry of a leaf names.
-use Rattle.std.proofs.Common.{◌≡◌, ℕ, zero, suc, get_or, [], ◌∷◌, ◌+◌, ◌<◌, ◌≤◌, Bool, true, false, List, length, refl, sym, ap, ◌∙◌, subst, arith, inl, inr, Option, Some, None}
+use Rattle.std.proofs.Common.{◌≡◌, ℕ, zero, suc, get_or, [], ◌∷◌, List, refl, sym, ap, ◌∙◌, subst, Option, Some, None}
 use Rattle.std.specs.Prelude.{slice_get, slice_index, IsTrue, IsFalse}
 use Rattle.std.specs.Option.{option_and_then}
-use Rattle.std.proofs.lemmas.Option.{slice_get_past}
-use Rattle.limit_tree.specs.Sharing.{Branch as SharedBranch, LimitTree, IsBranch, IsFull, IsUnmet, IsBottleneck}
+use Rattle.limit_tree.specs.Sharing.{Branch as SharedBranch, LimitTree, IsBranch, IsFull}
 use Rattle.limit_tree.specs.Outline.{branch_of, leaf_range, limits, IsFullPlace}
 use Rattle.limit_tree.specs.declared.place.Kind.{Kind}
-use Rattle.limit_tree.specs.declared.place.Kind.TheVariants.{Branch, Leaf}
+use Rattle.limit_tree.specs.declared.place.Kind.TheVariants.{Branch}
 use Rattle.limit_tree.specs.declared.place.Place.{Place}
-use Rattle.grant_certificate.specs.Flaws.{Names, IsBackedAt, IsLeafFlaw}
+use Rattle.grant_certificate.specs.Flaws.{IsBackedAt, IsLeafFlaw}
 use Rattle.grant_certificate.specs.Ranges.{IsNear, IsHeld, IsFirstGreater, IsNoneGreater}
 use Rattle.grant_certificate.specs.declared.flaw.Flaw.TheVariants.{NotAbove, NotFull, TooGreat}
 

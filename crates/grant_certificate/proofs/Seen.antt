@@ -1,44 +1,18 @@
 -- One node more for a look.
-use Rattle.std.proofs.Common.{◌≡◌, ℕ, suc, ◌+◌, ◌<◌, ◌≤◌, Bool, true, false, List, [], ◌∷◌, ◌++◌, length, take, refl, sym, ap, ◌∙◌, subst, arith, ◌⊎◌, inl, inr, Option, Some, None, length-append, set, replicate}
+use Rattle.std.proofs.Common.{◌≡◌, ℕ, ◌+◌, ◌<◌, ◌≤◌, false, List, [], ◌∷◌, ◌++◌, length, take, refl, sym, ap, ◌∙◌, subst, arith, ◌⊎◌, inl, inr, Option, Some, None, length-append, set, replicate}
 use Rattle.std.proofs.lemmas.List.{take_more_set, get_or-replicate, get_or_past, length-replicate}
-use Rattle.std.specs.Prelude.{slice_get, IsTrue}
 use Rattle.std.specs.Option.{option_and_then}
-use Rattle.std.proofs.lemmas.Bool.{cases_lt, cases_eq, false≢true}
-use Rattle.std.proofs.lemmas.Option.{slice_get_past}
-use Rattle.limit_tree.specs.Sharing.{Branch as SharedBranch, IsBranch, IsFull}
-use Rattle.limit_tree.specs.Outline.{branch_of, leaf_range, limits, IsFullPlace}
+use Rattle.std.proofs.lemmas.Bool.{cases_lt, false≢true}
+use Rattle.limit_tree.specs.Sharing.{Branch as SharedBranch, IsBranch}
+use Rattle.limit_tree.specs.Outline.{branch_of, limits, IsFullPlace}
 use Rattle.limit_tree.specs.declared.place.Place.{Place}
-use Rattle.limit_tree.proofs.Looks.{slice_get-last, slice_get-other, holds-range}
+use Rattle.limit_tree.proofs.Looks.{slice_get-last, holds-range, branch_number, branch_either, branch_seen}
 use Rattle.limit_tree.specs.declared.bounds.TheConstants.{MAX_LEAVES}
 use Rattle.grant_certificate.specs.Flaws.{IsOver, IsFirstOver}
 use Rattle.grant_certificate.specs.Looks.{IsTable}
-use Rattle.grant_certificate.specs.Ranges.{IsOverPlace, IsMarked, IsHeld, IsHeldWithin, IsNear}
+use Rattle.grant_certificate.specs.Ranges.{IsOverPlace, IsMarked, IsHeld, IsHeldWithin}
 
--- the branch of a node's place
-branch_at : Option Place → Option SharedBranch
-branch_at o = option_and_then (λ (x : Place). branch_of x.kind x.first x.leaves) o
-
-none_some : (b : SharedBranch) → None ≡ Some b → ⊥
-none_some b h = cc
-
-branch_number : (seen : List Place) (k : ℕ) (b : SharedBranch) → IsBranch (limits seen) k b → k < length seen
-branch_number seen k b is = elim (cases_lt k (length seen)) [
-  | inl l ↦ l
-  | inr past ↦ absurd (none_some b (sym (ap (option_and_then (λ (x : Place). branch_of x.kind x.first x.leaves)) (slice_get_past seen k past)) ∙ is))
-]
-
--- a branch of the nodes seen and one more is one of those seen, or that one
-branch_either : (seen : List Place) (p : Place) (k : ℕ) (b : SharedBranch) → IsBranch (limits (seen ++ p ∷ [])) k b → IsBranch (limits seen) k b ⊎ ((k ≡ length seen) × (branch_of p.kind p.first p.leaves ≡ Some b))
-branch_either seen p k b is = elim (cases_eq (length seen) k) [
-  | inl e ↦ inr (sym e, sym (ap (option_and_then (λ (x : Place). branch_of x.kind x.first x.leaves)) (slice_get-last seen p k e)) ∙ is)
-  | inr ne ↦ inl (sym (ap (option_and_then (λ (x : Place). branch_of x.kind x.first x.leaves)) (slice_get-other seen p k ne)) ∙ is)
-]
-
-branch_seen : (seen : List Place) (p : Place) (k : ℕ) (b : SharedBranch) → IsBranch (limits seen) k b → IsBranch (limits (seen ++ p ∷ [])) k b
-branch_seen seen p k b is =
-    let l : k < length seen = branch_number seen k b is in
-    ap (option_and_then (λ (x : Place). branch_of x.kind x.first x.leaves)) (slice_get-other seen p k (λ e. absurd (omega arith))) ∙ is
-
+-- the node seen last is that branch
 branch_last : (seen : List Place) (p : Place) (n : ℕ) (b : SharedBranch) → length seen ≡ n → branch_of p.kind p.first p.leaves ≡ Some b → IsBranch (limits (seen ++ p ∷ [])) n b
 branch_last seen p n b count is = ap (option_and_then (λ (x : Place). branch_of x.kind x.first x.leaves)) (slice_get-last seen p n count) ∙ is
 

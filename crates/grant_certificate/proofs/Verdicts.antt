@@ -2,7 +2,7 @@
 use Rattle.std.proofs.Common.{◌≡◌, ℕ, ◌<◌, List, length, refl, sym, ap, ◌∙◌, subst, arith, inl, inr, Option, Some, None, ◌≤◌}
 use Rattle.std.specs.Prelude.{◌↔◌, IsTrue, slice_get, slice_index, MatchOption, sum, ◌^◌}
 use Rattle.std.proofs.lemmas.Bool.{false≢true, cases_lt}
-use Rattle.limit_tree.specs.Sharing.{Branch, LimitTree, IsBranch, IsWithin, IsFull, IsUnmet, IsNotTooGreat, IsBottleneck, IsBackedBy, sum_over}
+use Rattle.limit_tree.specs.Sharing.{Branch, LimitTree, IsBranch, IsWithin, IsFull, IsNotTooGreat, IsBottleneck, IsBackedBy, sum_over}
 use Rattle.limit_tree.proofs.Sums.{sum-wanted}
 use Rattle.grant_certificate.specs.Flaws.{HasLengths, IsFirstOver, Names, IsBackedAt, IsTooGreat, IsLeafFlaw, IsFirstUnbacked, IsFirstFlaw, IsVerdict}
 use Rattle.grant_certificate.specs.declared.flaw.Flaw.{Flaw}

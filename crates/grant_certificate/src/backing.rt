@@ -4,7 +4,7 @@ ghost use Rattle.std.specs.Prelude.{◌≡◌, ◌+◌, ◌<◌, ◌≤◌, ◌^
 ghost use Rattle.limit_tree.specs.Outline.{limits};
 ghost use Rattle.grant_certificate.specs.Ranges.{IsMarked, IsHeld, IsHeldWithin};
 
-use super::range::{greatest, is_full_place};
+use super::range::greatest;
 use limit_tree::{MAX_LEAVES, Place, Tree, Visitor};
 use std::alloc::Allocator;
 
@@ -53,7 +53,7 @@ impl<'a> Visitor for BackingLook<'a> {
     ghost Saw = { SoughtBacking };
 
     fn visit(&mut self, number: usize, place: Place) {
-        if is_full_place(place, self.grants) {
+        if place.is_full(self.grants) {
             mark_held(
                 number,
                 place,

@@ -10,7 +10,7 @@ use super::certificate::Certificate;
 use super::flaw::{Flaw, Verdict};
 use super::leaves::Leaves;
 use super::over::{first_above, over_limit};
-use super::range::{first_greater, is_full_place, is_in_range};
+use super::range::first_greater;
 use limit_tree::{Kind, Tree};
 use std::alloc::Allocator;
 
@@ -41,10 +41,10 @@ fn entry_flaw<A: Allocator>(
     let Kind::Branch { .. } = place.kind else {
         return Some(Flaw::NoNode { leaf });
     };
-    if !is_in_range(leaf, place.first, place.leaves) {
+    if !place.holds(leaf) {
         return Some(Flaw::NotAbove { leaf, node });
     }
-    if !is_full_place(place, grants) {
+    if !place.is_full(grants) {
         return Some(Flaw::NotFull { leaf, node });
     }
     match first_greater(grants, floors, place.first, place.leaves, grants[leaf]) {

@@ -1,45 +1,9 @@
 //! Facts of a range of leaves, by the grants of all leaves.
 ghost use Rattle.std.specs.Prelude.{◌≡◌, ◌+◌, ◌<◌, ◌≤◌, ◌^◌, ◌↔◌, ℕ, IsTrue, MatchOption, length, slice_index, sum};
-ghost use Rattle.limit_tree.specs.Sharing.{sum_over};
-ghost use Rattle.limit_tree.specs.Outline.{leaf_range, IsFullPlace};
+ghost use Rattle.limit_tree.specs.Outline.{leaf_range};
 ghost use Rattle.grant_certificate.specs.Ranges.{IsAtMostOrFloor, IsFirstGreater, IsNoneGreater, IsOverPlace};
 
 use limit_tree::{Kind, Place};
-
-/// Whether the leaf is one of so many from a first one on.
-pub fn is_in_range(leaf: usize, first: usize, leaves: usize) -> bool
-    ensures range { result ≡ leaf_range first leaves leaf }
-{
-    first <= leaf && leaf - first < leaves
-}
-
-/// The sum of the grants of so many leaves from a first one on, in octets.
-pub fn sum_range(grants: &[u64], first: usize, leaves: usize) -> u64
-    requires inside { first + leaves ≤ length grants.now }
-    requires fits { sum grants.now < 2 ^ 64 }
-    ensures sum { result ≡ sum_over (leaf_range first leaves) grants.now }
-{
-    let mut total = 0;
-    for leaf in first..first + leaves {
-        total += grants[leaf];
-    }
-    total
-}
-
-/// Whether the place is that of a branch that is full.
-pub fn is_full_place(place: Place, grants: &[u64]) -> bool
-    requires inside { place.first + place.leaves ≤ length grants.now }
-    requires fits { sum grants.now < 2 ^ 64 }
-    ensures full { IsTrue result ↔ IsFullPlace place grants.now }
-{
-    match place.kind {
-        Kind::Branch { limit } => match limit {
-            Some(most) => sum_range(grants, place.first, place.leaves) == most,
-            None => false,
-        },
-        Kind::Leaf { .. } => false,
-    }
-}
 
 /// Whether the place is that of a branch whose leaves have more than its limit.
 pub fn is_over_place(place: Place, grants: &[u64]) -> bool
@@ -49,7 +13,7 @@ pub fn is_over_place(place: Place, grants: &[u64]) -> bool
 {
     match place.kind {
         Kind::Branch { limit } => match limit {
-            Some(most) => most < sum_range(grants, place.first, place.leaves),
+            Some(most) => most < place.sum(grants),
             None => false,
         },
         Kind::Leaf { .. } => false,

@@ -43,13 +43,13 @@ at_place : Option Place → Option SharedBranch
 at_place o = option_and_then (λ (x : Place). branch_of x.kind x.first x.leaves) o
 
 -- a branch of the nodes seen and one more is one of those seen, or that one
-branch_either : (seen : List Place) (p : Place) (k : ℕ) (b : SharedBranch) → IsBranch (limits (seen ++ p ∷ [])) k b → IsBranch (limits seen) k b ⊎ ((k ≡ length seen) × (branch_of p.kind p.first p.leaves ≡ Some b))
+pub branch_either : (seen : List Place) (p : Place) (k : ℕ) (b : SharedBranch) → IsBranch (limits (seen ++ p ∷ [])) k b → IsBranch (limits seen) k b ⊎ ((k ≡ length seen) × (branch_of p.kind p.first p.leaves ≡ Some b))
 branch_either seen p k b is = elim (cases_eq (length seen) k) [
   | inl e ↦ inr (sym e, sym (ap (option_and_then (λ (x : Place). branch_of x.kind x.first x.leaves)) (slice_get-last seen p k e)) ∙ is)
   | inr ne ↦ inl (sym (ap (option_and_then (λ (x : Place). branch_of x.kind x.first x.leaves)) (slice_get-other seen p k ne)) ∙ is)
 ]
 
-branch_seen : (seen : List Place) (p : Place) (k : ℕ) (b : SharedBranch) → IsBranch (limits seen) k b → IsBranch (limits (seen ++ p ∷ [])) k b
+pub branch_seen : (seen : List Place) (p : Place) (k : ℕ) (b : SharedBranch) → IsBranch (limits seen) k b → IsBranch (limits (seen ++ p ∷ [])) k b
 branch_seen seen p k b is = ap (option_and_then (λ (x : Place). branch_of x.kind x.first x.leaves)) (slice_get-other seen p k (λ e. absurd (not_past e))) ∙ is
   where
     not_past : length seen ≡ k → ⊥
@@ -103,7 +103,7 @@ not_full-open p g kind full = go full.0 (sym (ap (λ (k : Kind). branch_of k p.f
 pub holds-range : (p : Place) (b : SharedBranch) (i : ℕ) → branch_of p.kind p.first p.leaves ≡ Some b → b.holds i ≡ leaf_range p.first p.leaves i
 holds-range p b i is = (range_of p.kind p.first p.leaves b is).0 i
 
-branch_number : (seen : List Place) (k : ℕ) (b : SharedBranch) → IsBranch (limits seen) k b → k < length seen
+pub branch_number : (seen : List Place) (k : ℕ) (b : SharedBranch) → IsBranch (limits seen) k b → k < length seen
 branch_number seen k b is = elim (cases_lt k (length seen)) [
   | inl l ↦ l
   | inr past ↦ absurd (none_is_some (sym (ap (option_and_then (λ (x : Place). branch_of x.kind x.first x.leaves)) (slice_get_past seen k past)) ∙ is))

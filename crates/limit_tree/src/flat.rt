@@ -8,7 +8,6 @@ ghost use Rattle.limit_tree.specs.Flat.{taken_in, taken_below, HasRow, IsFlat};
 
 use super::absorb::at_most;
 use super::bounds::{MAX_LEAVES, MAX_NODES, MAX_WANT};
-use super::look::is_full_place;
 use super::place::{Kind, Place};
 use super::tree::Tree;
 use super::walk::Visitor;
@@ -167,8 +166,7 @@ impl<A: Allocator> Flat<A> {
         ensures under { result ≡ leaves_under self.now node leaf }
         ensures branch { (b : Branch) → IsBranch (limits self.now) node b → result ≡ b.holds leaf }
     {
-        let place = self.place(node);
-        place.first <= leaf && leaf - place.first < place.leaves
+        self.place(node).holds(leaf)
     }
 
     /// Whether the node is a branch whose limit is reached. Takes O(leaves below) time.
@@ -178,7 +176,7 @@ impl<A: Allocator> Flat<A> {
         ensures full { IsTrue result ↔ ((b : Branch) × IsBranch (limits self.now) node b × IsFull b grants.now) }
     {
         let _ = &self.places;
-        is_full_place(self.place(node), grants)
+        self.place(node).is_full(grants)
     }
 
     /// The want of a leaf, in octets.

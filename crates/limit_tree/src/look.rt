@@ -1,7 +1,6 @@
 //! Visitors that look for one node.
 ghost use Rattle.std.specs.Prelude.{◌≡◌, ◌+◌, ◌<◌, ◌≤◌, ◌^◌, ◌↔◌, IsTrue, length, sum};
-ghost use Rattle.limit_tree.specs.Sharing.{sum_over};
-ghost use Rattle.limit_tree.specs.Outline.{leaf_range, IsFullPlace, IsFullOver};
+ghost use Rattle.limit_tree.specs.Outline.{IsFullOver};
 
 use super::place::{Kind, Place};
 use super::walk::Visitor;
@@ -143,33 +142,5 @@ pub fn is_full_over(place: Place, grants: &[u64], leaf: usize) -> bool
     requires fits { sum grants.now < 2 ^ 64 }
     ensures full { IsTrue result ↔ IsFullOver place grants.now leaf }
 {
-    place.first <= leaf && leaf < place.first + place.leaves && is_full_place(place, grants)
-}
-
-/// Whether the place is that of a branch that is full.
-pub fn is_full_place(place: Place, grants: &[u64]) -> bool
-    requires inside { place.first + place.leaves ≤ length grants.now }
-    requires fits { sum grants.now < 2 ^ 64 }
-    ensures full { IsTrue result ↔ IsFullPlace place grants.now }
-{
-    match place.kind {
-        Kind::Branch { limit } => match limit {
-            Some(most) => sum_range(grants, place.first, place.leaves) == most,
-            None => false,
-        },
-        Kind::Leaf { .. } => false,
-    }
-}
-
-/// The sum of the grants of so many leaves from a first one on, in octets.
-pub fn sum_range(grants: &[u64], first: usize, leaves: usize) -> u64
-    requires inside { first + leaves ≤ length grants.now }
-    requires fits { sum grants.now < 2 ^ 64 }
-    ensures sum { result ≡ sum_over (leaf_range first leaves) grants.now }
-{
-    let mut total = 0;
-    for leaf in first..first + leaves {
-        total += grants[leaf];
-    }
-    total
+    place.holds(leaf) && place.is_full(grants)
 }

@@ -105,6 +105,23 @@ fn tells_sums_and_full_branches(rt: HostRuntime) -> Result<(), AllocError> {
 }
 
 // Whether a flat tree tells of each node and leaf what the tree tells.
+#[test]
+fn a_place_holds_its_leaves(rt: HostRuntime) {
+    let ann = Place {
+        depth: 1,
+        first: 1,
+        leaves: 2,
+        nodes: 3,
+        kids: 2,
+        floors: 0,
+        kind: Kind::Branch { limit: Some(30) },
+    };
+    assert!(rt; ann.holds(1) && ann.holds(2) && !ann.holds(0) && !ann.holds(3));
+    assert_eq!(rt; ann.sum(&[7, 20, 10, 6]), 30);
+    assert!(rt; ann.is_full(&[7, 20, 10, 6]));
+    assert!(rt; !ann.is_full(&[7, 20, 9, 6]));
+}
+
 fn expect_same(rt: &impl Abort, tree: &Tree, flat: &Flat) {
     assert!(rt; flat.nodes() == tree.nodes() && flat.leaves() == tree.leaves());
     for node in 0..tree.nodes().min(flat.nodes()) {

@@ -10,7 +10,7 @@ ghost use Rattle.limit_tree.specs.Flat.{IsFlat};
 use super::absorb::absorb_in;
 use super::bounds::{MAX_LEAVES, MAX_NODES, MAX_WANT};
 use super::fault::{TreeFault, check_tree, floors_of};
-use super::look::{FullLook, LeafLook, NodeLook, is_full_place, sum_range};
+use super::look::{FullLook, LeafLook, NodeLook};
 use super::node::Node;
 use super::place::{Kind, Place};
 use super::walk::{Passed, Visitor, walk_tree};
@@ -138,8 +138,7 @@ impl<A: Allocator> Tree<A> {
         ensures under { result ≡ leaves_under self.now node leaf }
         ensures branch { (b : Branch) → IsBranch (limits self.now) node b → result ≡ b.holds leaf }
     {
-        let place = self.place(node);
-        place.first <= leaf && leaf - place.first < place.leaves
+        self.place(node).holds(leaf)
     }
 
     /// The sum of the grants of the leaves under the node, in octets.
@@ -150,8 +149,7 @@ impl<A: Allocator> Tree<A> {
         ensures branch { (b : Branch) → IsBranch (limits self.now) node b → result ≡ sum_over b.holds grants.now }
     {
         let _ = &self.leaves;
-        let place = self.place(node);
-        sum_range(grants, place.first, place.leaves)
+        self.place(node).sum(grants)
     }
 
     /// Whether the node is a branch whose limit is reached.
@@ -161,7 +159,7 @@ impl<A: Allocator> Tree<A> {
         ensures full { IsTrue result ↔ ((b : Branch) × IsBranch (limits self.now) node b × IsFull b grants.now) }
     {
         let _ = &self.leaves;
-        is_full_place(self.place(node), grants)
+        self.place(node).is_full(grants)
     }
 
     /// What the node takes in up to a level, in octets: a leaf the level, or its floor where that is greater, but

@@ -1,13 +1,13 @@
 use Rattle.std.proofs.Common.{ℕ, List, Option, subst, inl, inr}
-use Rattle.limit_tree.specs.Outline.{limits, IsFullPlace}
-use Rattle.grant_certificate.specs.Ranges.{IsHeldWithin, IsHeld}
+use Rattle.limit_tree.specs.Outline.{IsFullPlace}
+use Rattle.grant_certificate.specs.Ranges.{IsHeldWithin}
 use Rattle.grant_certificate.proofs.Seen.{held-seen, held-last}
 use Rattle.grant_certificate.proofs.backing.BackingLookVisitor.visit.Goals as goal
 
-pub returns-then-is_full_place-clause-saw : goal.returns-then-is_full_place-clause-saw
-returns-then-is_full_place-clause-saw c = λ start seen count leaves was.
+pub returns-then-is_full-clause-saw : goal.returns-then-is_full-clause-saw
+returns-then-is_full-clause-saw c = λ start seen count leaves was.
     let place = c.args.place in
-    let full = subst (λ (g : List ℕ). IsFullPlace place g) was.grants (c.is_full_place.ensures.full.0 c.if-is_full_place.true) in
+    let full = subst (λ (g : List ℕ). IsFullPlace place g) was.grants (c.is_full.ensures.full.0 c.if-is_full.true) in
     record {
       grants = was.grants;
       floors = was.floors;
@@ -21,8 +21,8 @@ returns-then-is_full_place-clause-saw c = λ start seen count leaves was.
       ];
     }
 
-pub returns-else-is_full_place-clause-saw : goal.returns-else-is_full_place-clause-saw
-returns-else-is_full_place-clause-saw c = λ start seen count leaves was. record {
+pub returns-else-is_full-clause-saw : goal.returns-else-is_full-clause-saw
+returns-else-is_full-clause-saw c = λ start seen count leaves was. record {
   grants = was.grants;
   floors = was.floors;
   entries = was.entries;

@@ -1,4 +1,4 @@
-use Rattle.std.proofs.Common.{arith, ◌≡◌, ◌∙◌, ℕ, ap, sym, take, length}
+use Rattle.std.proofs.Common.{arith, ◌≡◌, ◌∙◌, ℕ, ap, take, length}
 use Rattle.limit_tree.specs.Outline.{limits}
 use Rattle.limit_tree.proofs.Leaves.{length-wants_in, length-floors_in}
 use Rattle.grant_certificate.proofs.leaves.Leaves.of.Goals as goal

@@ -4,6 +4,7 @@ ghost use Rattle.limit_tree.specs.Sharing.{IsWanted};
 ghost use Rattle.limit_tree.specs.Outline.{limits};
 
 use super::*;
+use linked_list_allocator::LocalHeap;
 use std::alloc::{AllocError, Global};
 use std::process::Abort;
 
@@ -146,6 +147,44 @@ fn a_flat_tree_tells_what_the_tree_tells(rt: HostRuntime) -> Result<(), AllocErr
     assert!(rt; flat.absorb(0, 12) == 46 && flat.absorb(1, 20) == 30);
     assert!(rt; flat.absorb_below(0, 12) == 46 && flat.absorb_below(1, 20) == 40);
     assert_eq!(rt; flat.absorb_below(3, 20), 0);
+    Ok(())
+}
+
+// Whether a tree's nodes have room in so small a heap; where they have none, they have once memory is there.
+fn lies_flat_in(rt: &impl Abort, alloc: Global, tree: &Tree, room: usize) -> bool
+    requires { room ≤ 8192 }
+{
+    let Ok(heap) = LocalHeap::new(alloc, 8192) else {
+        return false;
+    };
+    let Ok(hog) = Vec::<u8, &LocalHeap>::with_capacity(&heap, 8192 - room) else {
+        return false;
+    };
+    let first = Flat::of(&heap, tree).is_ok();
+    drop(hog);
+    match Flat::of(&heap, tree) {
+        Ok(flat) => assert!(rt; flat.nodes() == tree.nodes() && flat.leaves() == tree.leaves()),
+        Err(_) => panic!(rt; "memory is there again"),
+    }
+    first
+}
+
+#[test]
+fn memory_for_a_flat_tree_may_be_refused(rt: HostRuntime) -> Result<(), AllocError> {
+    let alloc = rt.alloc();
+    let Ok(tree) = Tree::new(users(alloc)?) else {
+        panic!(rt; "a tree without a fault is refused");
+    };
+    let mut refusals = 0u32;
+    let mut answers = 0u32;
+    for step in 0..64usize {
+        if lies_flat_in(&rt, alloc, &tree, 32 * step) {
+            answers = answers.saturating_add(1);
+        } else {
+            refusals = refusals.saturating_add(1);
+        }
+    }
+    assert!(rt; refusals > 3 && answers > 0);
     Ok(())
 }
 

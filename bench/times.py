@@ -1,6 +1,8 @@
-"""Times `ftpd share` and the yardstick on each sheet of a folder, and prints a table.
+"""Times `ftpd share` and the yardstick on each sheet of a folder, and `large_tree` on a tree that no sheet can hold.
 
-    python3 times.py FOLDER FTPD YARDSTICK [RUNS]
+    python3 times.py FOLDER FTPD YARDSTICK LARGE_TREE [RUNS]
+
+It prints a table of each.
 
 Each time is the least of so many runs (3), in milliseconds of the processor (the program's own and the system's for
 it). What is printed goes to a file of the folder, and an answer other than 0 ends the bench.
@@ -11,6 +13,12 @@ import sys
 
 NAMES = ["empty", "groups", "deep", "large", "nested", "largest"]
 HEAD = ["sheet", "octets", "lines", "nodes", "wants", "whole", "open", "bare", "reading", "sharing", "printing", "check", "yardstick", "MB"]
+
+# How many nodes the large tree has, and how often it is shared and checked.
+NODES = 4_000_000
+TREE_HEAD = ["nodes", "made", "allot", "check", "MB"]
+ALLOTS = 2
+CHECKS = 20
 
 
 def run(words, output):
@@ -57,11 +65,31 @@ def row_of(name, folder, ftpd, yardstick, runs):
     return [name, *facts, *[f"{time:.1f}" for time in times], f"{memory:.0f}"]
 
 
-def main(folder, ftpd, yardstick, runs="3"):
-    print("| " + " | ".join(HEAD) + " |")
-    print("|---|" + "---:|" * (len(HEAD) - 1))
-    for name in NAMES:
-        print("| " + " | ".join(row_of(name, folder, ftpd, yardstick, int(runs))) + " |", flush=True)
+def tree_row(folder, large_tree, runs):
+    """What one allotment and one check take beyond the making of the tree; a check's tree is shared once before."""
+    work = lambda word, times: least([large_tree, word, str(NODES), str(times)], f"{folder}/{word}.{times}.out", runs)
+    made, memory = work("allot", 0)
+    allotted, most = work("allot", ALLOTS)
+    unchecked, _ = work("check", 0)
+    checked, _ = work("check", CHECKS)
+    with open(f"{folder}/check.{CHECKS}.out", encoding="utf-8") as it:
+        if it.read() != f"yes {NODES}\n":
+            sys.exit("bench: the large tree is not checked")
+    times = [made, (allotted - made) / ALLOTS, (checked - unchecked) / CHECKS]
+    return [f"{NODES}", *[f"{time:.1f}" for time in times], f"{max(memory, most):.0f}"]
+
+
+def tell(head, rows):
+    print("| " + " | ".join(head) + " |")
+    print("|---|" + "---:|" * (len(head) - 1))
+    for row in rows:
+        print("| " + " | ".join(row) + " |", flush=True)
+
+
+def main(folder, ftpd, yardstick, large_tree, runs="3"):
+    tell(HEAD, (row_of(name, folder, ftpd, yardstick, int(runs)) for name in NAMES))
+    print()
+    tell(TREE_HEAD, [tree_row(folder, large_tree, int(runs))])
 
 
 main(*sys.argv[1:])

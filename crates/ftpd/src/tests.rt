@@ -47,7 +47,11 @@ fn shares_and_verdicts(rt: HostRuntime) -> Result<(), Fail> {
     let best = "grant /a 4 /\ngrant /b 3 /\ngrant /c 3 /\n";
     let best = file(&rt, "best.grants", best)?;
     assert!(rt; run(&rt, &["check", sheet, best.as_str()]) == Ok(ExitCode::SUCCESS));
-    let uneven = file(&rt, "uneven.grants", "grant /a 5 /\ngrant /b 3 /\ngrant /c 2 /\n")?;
+    let uneven = file(
+        &rt,
+        "uneven.grants",
+        "grant /a 5 /\ngrant /b 3 /\ngrant /c 2 /\n",
+    )?;
     assert!(rt; run(&rt, &["check", sheet, uneven.as_str()]) == Ok(ExitCode::from(FLAWED)));
     Ok(())
 }
@@ -55,7 +59,10 @@ fn shares_and_verdicts(rt: HostRuntime) -> Result<(), Fail> {
 #[test]
 fn files_that_cannot_be_read(rt: HostRuntime) {
     for path in ["/no/such/sheet", "/dev/null/sheet", "/"] {
-        assert!(rt; run(&rt, &["share", path]) == Err(ProgramFault::ReadFault), "{path}");
+        assert!(rt;
+            run(&rt, &["share", path]) == Err(ProgramFault::ReadFault),
+            "{path}"
+        );
         let words = ["check", "/dev/null", path];
         assert!(rt; run(&rt, &words) == Err(ProgramFault::ReadFault), "{path}");
     }

@@ -1,4 +1,4 @@
-ghost use Rattle.std.specs.Prelude.{◌≡◌, ◌<◌, ◌^◌, length};
+ghost use Rattle.std.specs.Prelude.{◌≡◌, ◌<◌, ◌^◌, length, IfSome};
 ghost use Rattle.limit_tree.specs.Outline.{places, leaf_count, floor_sum, root_place};
 
 use super::node::Node;
@@ -11,6 +11,32 @@ struct Size {
     nodes: usize,
     leaves: usize,
     floors: u64,
+}
+
+/// The size of a tree that is one node. Most nodes may be such, and are counted without a call of `size_of_tree`.
+fn size_of_one<A: Allocator>(node: &Node<A>) -> Option<Size>
+    ensures nodes { IfSome result (λ s. s.nodes ≡ length (places node.now)) }
+    ensures leaves { IfSome result (λ s. s.leaves ≡ leaf_count (places node.now)) }
+    ensures floors { IfSome result (λ s. s.floors ≡ floor_sum (places node.now)) }
+{
+    match node {
+        Node::Leaf { floor, .. } => Some(Size {
+            nodes: 1,
+            leaves: 1,
+            floors: *floor,
+        }),
+        Node::Branch { kids, .. } => {
+            if kids.is_empty() {
+                Some(Size {
+                    nodes: 1,
+                    leaves: 0,
+                    floors: 0,
+                })
+            } else {
+                None
+            }
+        }
+    }
 }
 
 fn size_of_tree<A: Allocator>(node: &Node<A>) -> Size
@@ -34,7 +60,10 @@ fn size_of_tree<A: Allocator>(node: &Node<A>) -> Size
                 floors: 0,
             };
             for kid in kids {
-                let more = size_of_tree(kid);
+                let more = match size_of_one(kid) {
+                    Some(one) => one,
+                    None => size_of_tree(kid),
+                };
                 total.nodes += more.nodes;
                 total.leaves += more.leaves;
                 total.floors += more.floors;

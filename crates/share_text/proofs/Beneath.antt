@@ -1,5 +1,5 @@
 -- A path and the path directly above it.
-use Rattle.std.proofs.Common.{◌≡◌, ◌∙◌, ℕ, zero, suc, ◌<◌, ◌≤◌, ◌+◌, ◌==◌, Bool, true, false, cond, List, [], ◌∷◌, ◌++◌, length, map, take, get_or, refl, sym, ap, arith, append-nil, Option, Some, None, bytes_eq, length-append, inl, inr, ◌⊎◌, Vec, eq-eqb, eqb-true, ne_eqb, set}
+use Rattle.std.proofs.Common.{◌≡◌, ◌∙◌, ℕ, zero, suc, ◌<◌, ◌≤◌, ◌+◌, ◌==◌, Bool, true, false, cond, List, [], ◌∷◌, ◌++◌, length, map, get_or, refl, sym, ap, arith, append-nil, Option, Some, None, bytes_eq, length-append, inl, inr, ◌⊎◌, Vec, eq-eqb, eqb-true, ne_eqb, set}
 use Rattle.std.specs.List.{filter, slice_get}
 use Rattle.std.specs.Option.{is_some}
 use Rattle.std.proofs.lemmas.Bool.{cases_lt}
@@ -11,8 +11,7 @@ use Rattle.share_text.specs.Text.{Octets}
 use Rattle.share_text.specs.Sheet.{above, fronts, is_last}
 use Rattle.share_text.specs.Arena.{place_of}
 use Rattle.share_text.specs.Nodes.{IsBeneath, joined}
-use Rattle.share_text.proofs.Listing.{is_same, same_path, found_at, push_found}
-use Rattle.share_text.proofs.Fronts.{above_more}
+use Rattle.share_text.proofs.Listing.{is_same, push_found}
 
 -- a list of one more ends with it
 pub last_push : (x y : Octets) (fs : List Octets) → is_last x (fs ++ y ∷ []) ≡ bytes_eq x y
@@ -207,21 +206,3 @@ pub no_row : (texts : List Octets) (path : Octets) (place : ℕ) (row : List ℕ
 no_row texts path place row listed absent last empty =
     let same : get_or (texts ++ path ∷ []) place [] ≡ path = ap (λ (n : ℕ). get_or (texts ++ path ∷ []) n []) last ∙ get_or-append_seam texts path [] [] in
     ap (map (λ k. get_or (texts ++ path ∷ []) k [])) empty ∙ sym (no_kids texts path listed absent) ∙ ap (λ (q : Octets). filter (λ p. is_last q (above p)) (texts ++ path ∷ [])) (sym same)
-
--- once what stands before a `/` is entered, its place is that directly above what goes further
-pub beneath_front : (texts : List Octets) (path : Octets) (at place : ℕ) → at < length path → (get_or path at 0 == 47) ≡ true → place_of (take at path) texts ≡ Some place → IsBeneath texts (Some place) (take (at + 1) path)
-beneath_front texts path at place less slash found =
-    let there = found_at (take at path) texts place found in
-    let fronts_are : above (take (at + 1) path) ≡ above (take at path) ++ take at path ∷ [] = above_more path at less ∙ ap (λ (b : Bool). cond b (above (take at path) ++ take at path ∷ []) (above (take at path))) slash in
-    (there.0, ap (is_last (get_or texts place [])) fronts_are ∙ last_push (get_or texts place []) (take at path) (above (take at path)) ∙ ap (λ (p : Octets). bytes_eq p (take at path)) there.1 ∙ same_path (take at path))
-
--- an octet that is no `/` leaves what is directly above
-pub beneath_on : (texts : List Octets) (path : Octets) (at : ℕ) (parent : Option ℕ) → at < length path → (get_or path at 0 == 47) ≡ false → IsBeneath texts parent (take at path) → IsBeneath texts parent (take (at + 1) path)
-beneath_on texts path at parent less slash beneath = go parent beneath
-  where
-    same : above (take (at + 1) path) ≡ above (take at path)
-    same = above_more path at less ∙ ap (λ (b : Bool). cond b (above (take at path) ++ take at path ∷ []) (above (take at path))) slash
-
-    go : (parent : Option ℕ) → IsBeneath texts parent (take at path) → IsBeneath texts parent (take (at + 1) path)
-    go None none = same ∙ none
-    go (Some place) there = (there.0, ap (is_last (get_or texts place [])) same ∙ there.1)

@@ -1,10 +1,9 @@
 -- The paths above a path, octet by octet.
-use Rattle.std.proofs.Common.{◌≡◌, ◌∙◌, ℕ, suc, ◌<◌, ◌+◌, ◌==◌, ◌&&◌, Bool, true, false, cond, List, [], ◌∷◌, ◌++◌, length, take, drop, get_or, refl, sym, ap, arith, append_assoc, append-nil, Some, None, bytes_eq, length-append, count_by}
+use Rattle.std.proofs.Common.{◌≡◌, ◌∙◌, ℕ, ◌<◌, ◌+◌, ◌==◌, Bool, true, false, cond, List, [], ◌∷◌, ◌++◌, length, take, get_or, refl, sym, ap, arith, append_assoc, append-nil, Some, None, bytes_eq, length-append, count_by, eq-eqb, ne_eqb}
 use Rattle.std.specs.List.{fold, list_any}
 use Rattle.std.specs.Option.{is_some}
 use Rattle.std.proofs.lemmas.List.{take_more}
 use Rattle.std.proofs.lemmas.List.Sums.{fold_push, sum_by-cons}
-use Rattle.std.proofs.Math.Seq.{drop-cons}
 use Rattle.share_text.specs.Sheet.{fronts, above, mention, mention_all}
 use Rattle.share_text.specs.Arena.{place_of}
 use Rattle.share_text.proofs.Listing.{any_is_some, push_none, same_path}
@@ -35,16 +34,12 @@ fronts_push front (y ∷ ys) x =
 pub above_more : (path : List ℕ) (i : ℕ) → i < length path → above (take (i + 1) path) ≡ cond (get_or path i 0 == 47) (above (take i path) ++ take i path ∷ []) (above (take i path))
 above_more path i l = ap (λ (p : List ℕ). above p) (take_more path i 0 l) ∙ fronts_push [] (take i path) (get_or path i 0)
 
--- what is left from one octet on
-pub fronts_left : (path : List ℕ) (i : ℕ) → i < length path → fronts (take i path) (drop i path) ≡ cond (get_or path i 0 == 47) (take i path ∷ fronts (take (i + 1) path) (drop (i + 1) path)) (fronts (take (i + 1) path) (drop (i + 1) path))
-fronts_left path i l =
-    let next : suc i ≡ i + 1 = omega arith in
-    ap (λ (r : List ℕ). fronts (take i path) r) (drop-cons path i 0 l)
-    ∙ ap (λ (r : List ℕ). cond (get_or path i 0 == 47) (take i path ∷ fronts r (drop (suc i) path)) (fronts r (drop (suc i) path))) (sym (take_more path i 0 l))
-    ∙ ap (λ (n : ℕ). cond (get_or path i 0 == 47) (take i path ∷ fronts (take (i + 1) path) (drop n path)) (fronts (take (i + 1) path) (drop n path))) next
+-- past a slash, and past another octet
+pub above_slash : (path : List ℕ) (i : ℕ) → i < length path → get_or path i 0 ≡ 47 → above (take (i + 1) path) ≡ above (take i path) ++ take i path ∷ []
+above_slash path i l e = above_more path i l ∙ ap (λ (b : Bool). cond b (above (take i path) ++ take i path ∷ []) (above (take i path))) (eq-eqb (get_or path i 0) 47 e)
 
-pub mention_old : (texts : List (List ℕ)) (path : List ℕ) (place : ℕ) → place_of path texts ≡ Some place → mention texts path ≡ texts
-mention_old texts path place e = let listed : list_any (bytes_eq path) texts ≡ true = sym (any_is_some (bytes_eq path) 0 texts) ∙ ap is_some e in rw listed refl
+pub above_other : (path : List ℕ) (i : ℕ) → i < length path → (get_or path i 0 ≡ 47 → ⊥) → above (take (i + 1) path) ≡ above (take i path)
+above_other path i l e = above_more path i l ∙ ap (λ (b : Bool). cond b (above (take i path) ++ take i path ∷ []) (above (take i path))) (ne_eqb (get_or path i 0) 47 e)
 
 pub mention_new : (texts : List (List ℕ)) (path : List ℕ) → place_of path texts ≡ None → mention texts path ≡ texts ++ path ∷ []
 mention_new texts path e = let listed : list_any (bytes_eq path) texts ≡ false = sym (any_is_some (bytes_eq path) 0 texts) ∙ ap is_some e in rw listed refl
@@ -66,19 +61,3 @@ above_count front (x ∷ xs) = one (x == 47) (fronts (front ++ x ∷ []) xs) ∙
     one : (b : Bool) (fs : List (List ℕ)) → length (cond b (front ∷ fs) fs) ≡ cond b 1 0 + length fs
     one true fs = omega arith
     one false fs = omega arith
-
--- the fronts up to one octet further are mentioned
-pub mention_further : (texts : List (List ℕ)) (path : List ℕ) (i : ℕ) → i < length path → cond (get_or path i 0 == 47) (mention (fold mention texts (above (take i path))) (take i path)) (fold mention texts (above (take i path))) ≡ fold mention texts (above (take (i + 1) path))
-mention_further texts path i l = go (get_or path i 0 == 47) ∙ ap (λ (fs : List (List ℕ)). fold mention texts fs) (sym (above_more path i l))
-  where
-    go : (b : Bool) → cond b (mention (fold mention texts (above (take i path))) (take i path)) (fold mention texts (above (take i path))) ≡ fold mention texts (cond b (above (take i path) ++ take i path ∷ []) (above (take i path)))
-    go true = sym (fold_push mention texts (above (take i path)) (take i path))
-    go false = refl
-
-pub any_here : (test : List ℕ → Bool) (b : Bool) (front : List ℕ) (rest : List (List ℕ)) → (b && test front) ≡ true → list_any test (cond b (front ∷ rest) rest) ≡ true
-any_here test true front rest e = rw e refl
-any_here test false front rest e = cc
-
-pub any_past : (test : List ℕ → Bool) (b : Bool) (front : List ℕ) (rest : List (List ℕ)) → (b && test front) ≡ false → list_any test (cond b (front ∷ rest) rest) ≡ list_any test rest
-any_past test true front rest e = rw e refl
-any_past test false front rest e = refl

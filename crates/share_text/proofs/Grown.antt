@@ -5,7 +5,7 @@ use Rattle.std.specs.Prelude.{nat_lt}
 use Rattle.std.specs.Cmp.{IsEquivalence}
 use Rattle.std.specs.List.{list_any, find, IsDistinct}
 use Rattle.std.specs.Option.{option_map, is_some, option_or}
-use Rattle.std.proofs.lemmas.Bool.{or_cases, or_left, or_right, or_parts, and_parts, cases_Bool, false_from_ne_true}
+use Rattle.std.proofs.lemmas.Bool.{or_cases, or_left, or_right, and_parts, cases_Bool, false_from_ne_true}
 use Rattle.std.proofs.lemmas.List.{map-append}
 use Rattle.std.proofs.lemmas.List.Elements.{filter-append}
 use Rattle.std.proofs.lemmas.List.Folds.{find-append, list_any-append}
@@ -19,7 +19,7 @@ use Rattle.share_text.specs.declared.fault.SheetFault.TheVariants.{Twice, LeafHa
 use Rattle.share_text.specs.Text.{Entry}
 use Rattle.share_text.specs.Sheet.{Statement, above, is_path_of, kind_of_statement, kind_at, lines_at, mention_all, mentions, want_paths, place_fault, entry_fault}
 use Rattle.share_text.proofs.Listing.{same_path, is_same, swapped}
-use Rattle.share_text.proofs.Members.{has, has_all, front_of_front, not_own_front, front_not_deeper, is_rooted, front_rooted}
+use Rattle.share_text.proofs.Members.{has, has_all, none_of, front_of_front, not_own_front, front_not_deeper, is_rooted, front_rooted}
 
 pub record Grown (st : List Statement) : Type 0 where
   pub closed : (path front : List ℕ) → has (mentions st) path ≡ true → has (above path) front ≡ true → has (mentions st) front ≡ true
@@ -61,15 +61,6 @@ no_fault before line entry e =
     go false a false b true c deep d h = cc
     go false a false b false c true d h = cc
     go false a false b false c false d h = record { unstated = unstated (find (is_path_of entry.path) before) a; no_want_above = b; no_want_over = c; shallow = ltb-false MAX_DEPTH (length (above entry.path)) d }
-
-none_of : (test : List ℕ → Bool) (texts : List (List ℕ)) (path : List ℕ) → list_any test texts ≡ false → has texts path ≡ true → test path ≡ false
-none_of test [] path h e = cc
-none_of test (text ∷ texts) path h e =
-    let parts = or_parts (test text) (list_any test texts) h in
-    elim (or_cases (bytes_eq path text) (has texts path) e) [
-      | inl here ↦ ap test (is_same path text here) ∙ parts.0
-      | inr further ↦ none_of test texts path parts.1 further
-    ]
 
 kind_elsewhere : (before : List Statement) (s : Statement) (path : List ℕ) → bytes_eq path s.entry.path ≡ false → kind_at (before ++ s ∷ []) path ≡ kind_at before path
 kind_elsewhere before s path e =

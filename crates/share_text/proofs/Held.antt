@@ -1,10 +1,9 @@
 -- What the nodes know at a place.
-use Rattle.std.proofs.Common.{◌≡◌, ◌∙◌, ℕ, ◌<◌, List, [], ◌∷◌, ◌++◌, length, get_or, refl, sym, ap, arith, Option, Some, None, false, bytes_eq, inl, inr, length-append}
+use Rattle.std.proofs.Common.{◌≡◌, ◌∙◌, ℕ, ◌<◌, List, [], ◌∷◌, ◌++◌, length, get_or, refl, sym, ap, arith, Option, Some, None, bytes_eq, inl, inr, length-append}
 use Rattle.std.proofs.lemmas.Bool.{cases_lt}
 use Rattle.std.proofs.lemmas.List.{get_or_append_left}
 use Rattle.std.proofs.Math.Seq.{get_or-append_seam}
 use Rattle.limit_tree.specs.declared.place.Kind.{Kind}
-use Rattle.limit_tree.specs.Outline.{is_leaf_kind}
 use Rattle.share_text.specs.declared.arena.Arena.{Arena}
 use Rattle.share_text.specs.Sheet.{Statement, kind_at, lines_at}
 use Rattle.share_text.specs.Arena.{place_of}
@@ -20,9 +19,6 @@ pub kind_there : {A : Type 0} (arena : Arena A) (texts : List (List ℕ)) (state
 kind_there arena texts statements path place d h e is =
     let found = found_at path texts place e in
     is ∙ h.kinds_are place d found.0 ∙ ap (λ (p : List ℕ). kind_at statements p) found.1
-
-pub no_want : {A : Type 0} (arena : Arena A) (texts : List (List ℕ)) (statements : List Statement) (path : List ℕ) → Holds arena texts statements → place_of path texts ≡ None → false ≡ is_leaf_kind (kind_at statements path)
-no_want arena texts statements path h e = sym (ap is_leaf_kind (h.all_listed path e).0)
 
 -- a row at the end for a path at the end
 pub row_after : {X : Type 0} (rows : List X) (texts : List (List ℕ)) (f : List ℕ → X) (path : List ℕ) (x : X) → length rows ≡ length texts → ((j : ℕ) (d : X) → j < length texts → get_or rows j d ≡ f (get_or texts j [])) → x ≡ f path → (j : ℕ) (d : X) → j < length (texts ++ path ∷ []) → get_or (rows ++ x ∷ []) j d ≡ f (get_or (texts ++ path ∷ []) j [])

@@ -9,6 +9,7 @@ mod Builds
 mod Noted
 mod Judged
 mod Members
+mod Closed
 mod Grown
 mod Reached
 mod Wanted

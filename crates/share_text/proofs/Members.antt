@@ -1,7 +1,7 @@
 -- Whether a path stands in a list, and which paths stand above a path.
 use Rattle.std.proofs.Common.{◌≡◌, ◌∙◌, ℕ, zero, suc, ◌<◌, ◌≤◌, ◌==◌, ◌||◌, Bool, true, false, cond, List, [], ◌∷◌, ◌++◌, length, filter, flat_map, take, get_or, refl, sym, ap, arith, append_assoc, append-nil, bytes_eq, count_by, inl, inr, eqb-true, eq-eqb}
 use Rattle.std.specs.List.{fold, list_any}
-use Rattle.std.proofs.lemmas.Bool.{or_cases, or_left, or_right}
+use Rattle.std.proofs.lemmas.Bool.{or_cases, or_left, or_parts, or_right}
 use Rattle.std.proofs.lemmas.List.{get_or-take, take-take, length-take-le}
 use Rattle.std.proofs.lemmas.List.Folds.{list_any-append}
 use Rattle.std.proofs.lemmas.List.Sums.{sum_by-take-le}
@@ -147,3 +147,13 @@ front_rooted path front h e = let found = front_at path front h in ap is_rooted 
     go [] (suc i) r = r
     go (x ∷ rest) zero r = refl
     go (x ∷ rest) (suc i) r = r
+
+-- what is true of none in a list is not true of one there
+pub none_of : (test : List ℕ → Bool) (texts : List (List ℕ)) (path : List ℕ) → list_any test texts ≡ false → has texts path ≡ true → test path ≡ false
+none_of test [] path h e = cc
+none_of test (text ∷ texts) path h e =
+    let parts = or_parts (test text) (list_any test texts) h in
+    elim (or_cases (bytes_eq path text) (has texts path) e) [
+      | inl here ↦ ap test (is_same path text here) ∙ parts.0
+      | inr further ↦ none_of test texts path parts.1 further
+    ]

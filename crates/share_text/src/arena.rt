@@ -1,10 +1,10 @@
 //! The nodes that a sheet mentions.
-ghost use Rattle.std.specs.Prelude.{◌≡◌, ◌<◌, ◌+◌, ◌∷◌, ◌++◌, [], ℕ, List, IfOk, OnOk, IfSome, length, Vec, vec_len, Some, None, cond, ◌==◌, ◌&&◌, slice_get, slice_index, take};
+ghost use Rattle.std.specs.Prelude.{◌≡◌, ◌<◌, ◌∷◌, ◌++◌, [], ℕ, List, IfOk, OnOk, IfSome, MatchOption, length, Vec, vec_len, Some, None, slice_get};
 ghost use Rattle.std.specs.List.{list_any};
-ghost use Rattle.std.specs.Option.{is_some};
+ghost use Rattle.std.specs.Option.{is_some, option_copied};
 ghost use Rattle.limit_tree.specs.Outline.{is_leaf_kind};
 ghost use Rattle.share_text.specs.Text.{Octets};
-ghost use Rattle.share_text.specs.Sheet.{Statement, above, kind_at, lines_at, mention, mention_all};
+ghost use Rattle.share_text.specs.Sheet.{Statement, above, kind_at, lines_at, mention_all};
 ghost use Rattle.share_text.specs.Arena.{Lists, place_of, texts_in};
 ghost use Rattle.share_text.specs.Nodes.{Holds, IsHeld, IsBeneath, joined};
 
@@ -64,75 +64,35 @@ impl<A: Allocator + Clone> Arena<A> {
         Ok(place)
     }
 
-    /// The place of a path, which is put at the end where it is not there yet.
-    fn enter(&mut self, parent: Option<usize>, path: &str) -> Result<usize, AllocError>
+    /// The place of a path, which is mentioned with those above it, by the place that it has so far. Only what is
+    /// not there yet is walked: a path that is there has each path above it there.
+    pub fn mention(&mut self, path: &str, found: Option<usize>) -> Result<usize, AllocError>
         requires held { IsHeld self.old }
-        requires beneath { IsBeneath (texts_in self.old.paths) parent path.now }
-        ensures entered { IfOk result (λ place. (texts : List Octets) (statements : List Statement) → Holds self.old texts statements → Holds self.new (mention texts path.now) statements × (place_of path.now (mention texts path.now) ≡ Some place)) }
-    {
-        match self.paths.find(path) {
-            Some(place) => Ok(place),
-            None => {
-                let place = self.put(parent, path)?;
-                Ok(place)
-            }
-        }
-    }
-
-    /// Enters what stands before an octet of a path where that is a `/`, and gives the place of the last that
-    /// was entered.
-    fn enter_front(
-        &mut self,
-        parent: Option<usize>,
-        path: &str,
-        at: usize,
-    ) -> Result<Option<usize>, AllocError>
-        requires held { IsHeld self.old }
-        requires within { at < length path.now }
-        requires beneath { IsBeneath (texts_in self.old.paths) parent (take at path.now) }
-        ensures entered { OnOk result ((texts : List Octets) (statements : List Statement) → Holds self.old texts statements → Holds self.new (cond (slice_index path.now at == 47) (mention texts (take at path.now)) texts) statements) }
-        ensures held { OnOk result (IsHeld self.new) }
-        ensures beneath { IfOk result (λ parent. IsBeneath (texts_in self.new.paths) parent (take (at + 1) path.now)) }
-    {
-        if path.as_bytes()[at] == b'/' {
-            let place = self.enter(parent, &path[..at])?;
-            Ok(Some(place))
-        } else {
-            Ok(parent)
-        }
-    }
-
-    /// The place of a path, which is mentioned with those above it.
-    pub fn mention(&mut self, path: &str) -> Result<usize, AllocError>
-        requires held { IsHeld self.old }
+        requires found { (texts : List Octets) → Lists self.old.paths texts → found ≡ place_of path.now texts }
         ensures mentioned { IfOk result (λ place. (texts : List Octets) (statements : List Statement) → Holds self.old texts statements → Holds self.new (mention_all texts path.now) statements × (place_of path.now (mention_all texts path.now) ≡ Some place)) }
     {
-        let mut parent = None;
-        for at in 0..path.len() {
-            parent = self.enter_front(parent, path, at)?;
+        if let Some(place) = found {
+            return Ok(place);
         }
-        let place = self.enter(parent, path)?;
+        let Some(front) = parent_of(path) else {
+            let place = self.put(None, path)?;
+            return Ok(place);
+        };
+        let above = self.paths.find(front);
+        let parent = self.mention(front, above)?;
+        let place = self.put(Some(parent), path)?;
         Ok(place)
     }
 
-    /// Whether a path is that of a want.
-    fn is_want(&self, path: &str) -> bool
-        requires held { IsHeld self.now }
-        ensures want { (texts : List Octets) (statements : List Statement) → Holds self.now texts statements → result ≡ is_leaf_kind (kind_at statements path.now) }
+    /// Whether a path has a line of its own, by the place that was found for it.
+    pub fn has_line(&self, found: Option<usize>) -> bool
+        requires within { IfSome found (λ place. place < vec_len self.now.lines) }
+        ensures line { (path : Octets) (texts : List Octets) (statements : List Statement) → Holds self.now texts statements → found ≡ place_of path texts → result ≡ is_some (lines_at statements path) }
     {
-        match self.paths.find(path) {
-            Some(place) => is_leaf(self.kinds[place]),
+        match found {
+            Some(place) => self.lines[place].is_some(),
             None => false,
         }
-    }
-
-    /// Whether what stands before an octet of a path is a want.
-    fn is_want_front(&self, path: &str, at: usize) -> bool
-        requires held { IsHeld self.now }
-        requires within { at < length path.now }
-        ensures want { (texts : List Octets) (statements : List Statement) → Holds self.now texts statements → result ≡ ((slice_index path.now at == 47) && is_leaf_kind (kind_at statements (take at path.now))) }
-    {
-        path.as_bytes()[at] == b'/' && self.is_want(&path[..at])
     }
 
     /// Whether a path lies beneath a want.
@@ -141,30 +101,32 @@ impl<A: Allocator + Clone> Arena<A> {
         ensures above { (texts : List Octets) (statements : List Statement) → Holds self.now texts statements → result ≡ list_any (λ front. is_leaf_kind (kind_at statements front)) (above path.now) }
     {
         for at in 0..path.len() {
-            if self.is_want_front(path, at) {
-                return true;
+            if path.as_bytes()[at] == b'/' {
+                // What lies beneath a path that is not there is not there either.
+                let Some(place) = self.paths.find(&path[..at]) else {
+                    return false;
+                };
+                if is_leaf(self.kinds[place]) {
+                    return true;
+                }
             }
         }
         false
     }
+}
 
-    /// Whether a path was mentioned or lies above one that was.
-    pub fn is_mentioned(&self, path: &str) -> bool
-        ensures mentioned { (texts : List Octets) (statements : List Statement) → Holds self.now texts statements → result ≡ is_some (place_of path.now texts) }
-    {
-        self.paths.find(path).is_some()
-    }
-
-    /// Whether a path has a line of its own.
-    pub fn has_line(&self, path: &str) -> bool
-        requires held { IsHeld self.now }
-        ensures line { (texts : List Octets) (statements : List Statement) → Holds self.now texts statements → result ≡ is_some (lines_at statements path.now) }
-    {
-        match self.paths.find(path) {
-            Some(place) => self.lines[place].is_some(),
-            None => false,
+/// The path directly above a path.
+pub fn parent_of(path: &str) -> Option<&str>
+    ensures parent { MatchOption (option_copied result) (above path.now ≡ []) (λ front. above path.now ≡ above front ++ front ∷ []) }
+{
+    let mut at = path.len();
+    while at > 0 {
+        at -= 1;
+        if path.as_bytes()[at] == b'/' {
+            return Some(&path[..at]);
         }
     }
+    None
 }
 
 /// Puts a kid into the row of its parent, if it has one.

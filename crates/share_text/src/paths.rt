@@ -3,13 +3,15 @@ ghost use Rattle.std.specs.Prelude.{◌≡◌, ◌<◌, ◌++◌, ◌∷◌, [],
 ghost use Rattle.share_text.specs.Arena.{Lists, place_of};
 
 use std::alloc::{AllocError, Allocator};
-use std::collections::BTreeMap;
+use std::collections::HashMap;
+use std::hash::{BuildHasherDefault, FoldHasher};
 
-/// Paths that differ, in an order.
+/// Paths that differ, in an order. They are found by a hash whose seed is fixed, so whoever writes a sheet could pick
+/// paths that collide, and have each looked for among all of these.
 #[derive(Drop)]
 pub struct Paths<A: Allocator> {
     pub texts: Vec<String<A>, A>,
-    pub places: BTreeMap<String<A>, usize, A>,
+    pub places: HashMap<String<A>, usize, BuildHasherDefault<FoldHasher>, A>,
 }
 
 impl<A: Allocator> Paths<A> {
@@ -34,7 +36,7 @@ impl<A: Allocator + Clone> Paths<A> {
     {
         Ok(Paths {
             texts: Vec::new(alloc.clone()?),
-            places: BTreeMap::new(alloc),
+            places: HashMap::new(alloc),
         })
     }
 

@@ -3,7 +3,7 @@ ghost use Rattle.std.specs.Prelude.{◌≡◌, ◌≢◌, ◌<◌, ◌++◌, ◌
 ghost use Rattle.std.specs.Str.Lines.{lines};
 ghost use Rattle.share_text.specs.Text.{Octets};
 ghost use Rattle.share_text.specs.Sheet.{Statement, above, mentions, is_skipped, entry_fault, line_fault, line_states, lines_at, stated, place_fault, first_line_fault, statements_from, size_fault_from};
-ghost use Rattle.share_text.specs.Arena.{place_of};
+ghost use Rattle.share_text.specs.Arena.{Lists, place_of};
 ghost use Rattle.share_text.specs.Nodes.{Holds, IsHeld};
 ghost use Rattle.share_text.specs.Entries.{entry_view};
 
@@ -59,15 +59,22 @@ fn size_fault(nodes: usize, wants: usize, kind: Kind) -> Option<TreeFault>
 }
 
 impl<A: Allocator + Clone> Arena<A> {
-    /// The fault of a statement that the paths before it show: `Twice`, `LeafHasKids` or `TooDeep`.
-    fn place_fault(&self, number: usize, entry: Entry<'_>) -> Option<SheetFault>
+    /// The fault of a statement that the paths before it show: `Twice`, `LeafHasKids` or `TooDeep`. What is found
+    /// is the place of its path.
+    fn place_fault(
+        &self,
+        number: usize,
+        entry: Entry<'_>,
+        found: Option<usize>,
+    ) -> Option<SheetFault>
         requires held { IsHeld self.now }
+        requires found { (texts : List Octets) → Lists self.now.paths texts → found ≡ place_of entry.path.now texts }
         ensures fault { (statements : List Statement) → Holds self.now (mentions statements) statements → result ≡ place_fault statements number (entry_view entry.entry) }
     {
-        if self.has_line(entry.path) {
+        if self.has_line(found) {
             return Some(SheetFault::Twice(number));
         }
-        if self.has_want_above(entry.path) || is_leaf(entry.kind) && self.is_mentioned(entry.path) {
+        if self.has_want_above(entry.path) || is_leaf(entry.kind) && found.is_some() {
             return Some(SheetFault::LeafHasKids(number));
         }
         if depth(entry.path) > MAX_DEPTH {
@@ -97,10 +104,11 @@ impl<A: Allocator + Clone> Arena<A> {
             (λ _. (statements : List Statement) → Holds self.old (mentions statements) statements → (entry_fault statements number (entry_view entry.entry) ≡ None) × Holds self.new (mentions (statements ++ stated number (Some (entry_view entry.entry)))) (statements ++ stated number (Some (entry_view entry.entry))))
             (λ fault. fault ≢ SheetFault.Memory → (statements : List Statement) → Holds self.old (mentions statements) statements → entry_fault statements number (entry_view entry.entry) ≡ Some fault) }
     {
-        if let Some(fault) = self.place_fault(number, entry) {
+        let found = self.paths.find(entry.path);
+        if let Some(fault) = self.place_fault(number, entry, found) {
             return Err(fault);
         }
-        let place = self.mention(entry.path)?;
+        let place = self.mention(entry.path, found)?;
         if let Some(fault) = size_fault(self.paths.len(), self.wants.len(), entry.kind) {
             return Err(SheetFault::Tree(number, fault));
         }

@@ -1,9 +1,8 @@
 -- Which letters decide at a path.
-use Rattle.std.proofs.Common.{◌≡◌, ◌≢◌, ◌⊎◌, ◌↔◌, ℕ, zero, suc, ◌<◌, ◌≤◌, ◌+◌, ◌-◌, min, Bool, true, false, List, [], ◌∷◌, Option, Some, None, MatchOption, length, take, refl, sym, ap, subst, ◌∙◌, inl, inr, arith}
+use Rattle.std.proofs.Common.{◌≡◌, ◌⊎◌, ◌↔◌, ℕ, zero, suc, ◌<◌, ◌≤◌, ◌+◌, ◌-◌, Bool, true, false, List, [], ◌∷◌, Option, Some, None, MatchOption, length, take, refl, sym, ap, subst, ◌∙◌, inl, inr, arith}
 use Rattle.std.proofs.lemmas.Bool.{cases_lt, false≢true}
 use Rattle.std.specs.FinMap.{get}
-use Rattle.std.specs.List.{AllByRecursion}
-use Rattle.virtual_path.specs.Path.{Path, path_text, parent_of, IsName, AllNames}
+use Rattle.virtual_path.specs.Path.{Path, path_text, parent_of, AllNames}
 use Rattle.authorizer.specs.declared.letters.Letter.{Letter}
 use Rattle.authorizer.specs.declared.letters.Letters.{Letters}
 use Rattle.authorizer.specs.declared.account.Rule.{Rule}

@@ -1,2 +1,5 @@
 pub mod Decides
 pub mod Maps
+pub mod Numbering
+pub mod Outcomes
+pub mod Owned

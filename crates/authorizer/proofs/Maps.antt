@@ -8,7 +8,7 @@ use Rattle.std.proofs.lemmas.Cmp.{nat_list_cmp_total}
 use Rattle.std.specs.Cmp.Lexicographic.{slice_cmp}
 use Rattle.std.specs.FinMap as finite
 use Rattle.std.specs.FinMap.{FinMap, find, get-from_entries, get-insert, get-remove, same_map, slice_cmp-IsAntisymmetric, nat_cmp-IsAntisymmetric}
-use Rattle.std.specs.Map.{lookup, update}
+use Rattle.std.specs.Map.{lookup}
 use Rattle.std.specs.Ordering.{nat_cmp, is_eq, eq_by_cmp}
 use Rattle.std.specs.Prelude.{String}
 use Rattle.std.specs.String.{string_bytes, string_cmp}
@@ -82,7 +82,7 @@ same_variant v (Some x) = refl
 pub contains-map_of : {Y X V : Type 0} (v : X → V) (m : BTreeMap (String Y) X) (q : List ℕ) → finite.contains_key (map_of v m) q ≡ is_some (tree.get_by_text m q)
 contains-map_of v m q = ap is_some (get-map_of v m q) ∙ same_variant v (tree.get_by_text m q)
 
-equal_keys : (q bs : List ℕ) → eq_by_cmp (slice_cmp nat_cmp) q bs ≡ true → q ≡ bs
+pub equal_keys : (q bs : List ℕ) → eq_by_cmp (slice_cmp nat_cmp) q bs ≡ true → q ≡ bs
 equal_keys q bs e = (bytes_eq-Decides q bs).0 (sym (is_eq-slice_cmp q bs) ∙ e)
 
 put_back : {V : Type 0} (m : FinMap (slice_cmp nat_cmp) V) (bs : List ℕ) (x : V) → finite.get m bs ≡ Some x → (q : List ℕ) (b : Bool) → eq_by_cmp (slice_cmp nat_cmp) q bs ≡ b → cond b (Some x) (finite.get m q) ≡ finite.get m q

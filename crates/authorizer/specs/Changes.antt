@@ -1,5 +1,5 @@
 -- What each call makes of the users, were memory never wanting. The first refusal that applies is the answer.
-use Rattle.std.specs.Prelude.{◌≡◌, ℕ, ◌+◌, ◌^◌, Bool, true, false, cond, ◌||◌, List, [], Option, Some, None, Result, Ok, Err, nat_lt, nat_eq, bytes_eq, codes}
+use Rattle.std.specs.Prelude.{◌≡◌, ℕ, ◌+◌, ◌^◌, Bool, false, cond, ◌||◌, List, [], Option, Some, None, Result, Ok, Err, nat_lt, nat_eq, bytes_eq, codes}
 use Rattle.std.specs.List.{list_any}
 use Rattle.std.specs.FinMap as map
 use Rattle.virtual_path.specs.Path.{Path, path_text, resolved}

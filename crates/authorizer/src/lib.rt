@@ -5,6 +5,7 @@ mod account;
 mod allowed;
 mod authorizer;
 mod fault;
+mod laws;
 mod letters;
 mod password;
 mod table;
@@ -13,4 +14,5 @@ mod tests;
 
 pub use authorizer::{Authorizer, is_message};
 pub use fault::AuthorizerFault;
+pub use laws::{each_has_own_number, no_number_again};
 pub use letters::{Letter, Letters};

@@ -1,11 +1,12 @@
 //! What the machine tells of an entry.
 
-ghost use Rattle.std.specs.Prelude.{◌≡◌, ◌≢◌, ◌≤◌, ◌⊎◌, IfSome};
+ghost use Rattle.std.specs.Prelude.{◌≡◌, ◌≢◌, ◌≤◌, ◌⊎◌, ◌↔◌, IsTrue, IfSome, MatchOption};
 ghost use Rattle.std.specs.List.{list_any};
 ghost use Rattle.std.specs.IoError.{error_kind};
 ghost use Rattle.virtual_path.specs.Path.{is_control};
 ghost use Rattle.virtual_tree.specs.Calls.{IsDated};
 ghost use Rattle.folder_store.specs.Times.{shown};
+ghost use Rattle.folder_store.specs.Told.{IsTold, IsNeither};
 
 use std::fs::Metadata;
 use std::io;
@@ -42,10 +43,10 @@ pub fn end_fault(error: &io::Error) -> StoreFault
     ensures memory { error_kind error.now ≡ ErrorKind.OutOfMemory → result ≡ StoreFault.Memory }
     ensures device { error_kind error.now ≢ ErrorKind.OutOfMemory → result ≡ StoreFault.Device }
 {
-    match error.kind() {
-        ErrorKind::OutOfMemory => StoreFault::Memory,
-        _ => StoreFault::Device,
+    if error.kind() == ErrorKind::OutOfMemory {
+        return StoreFault::Memory;
     }
+    StoreFault::Device
 }
 
 /// Whole seconds since 1970; a time outside the years 1970 to 9999 is told as the nearer end.
@@ -61,7 +62,8 @@ pub fn seconds(time: i64) -> u64
 
 /// What is known of a directory or a file; none of anything else, as a link.
 pub fn meta_of(metadata: &Metadata) -> Option<Meta>
-    ensures { IfSome result IsDated }
+    ensures told { MatchOption result (IsNeither metadata.now) (IsTold metadata.now) }
+    ensures dated { IfSome result IsDated }
 {
     if metadata.is_dir() {
         return Some(Meta {
@@ -80,9 +82,26 @@ pub fn meta_of(metadata: &Metadata) -> Option<Meta>
     None
 }
 
-/// Whether the machine knows both as one entry.
-pub fn is_same(looked: &Metadata, opened: &Metadata) -> bool {
-    looked.dev() == opened.dev() && looked.ino() == opened.ino()
+/// What the machine knows an entry by: its device, and its number there.
+#[derive(Clone, Copy)]
+pub struct Identity {
+    device: u64,
+    number: u64,
+}
+
+/// What the machine knows an entry by. No contract can say which numbers it gives.
+pub fn identity_of(metadata: &Metadata) -> Identity {
+    Identity {
+        device: metadata.dev(),
+        number: metadata.ino(),
+    }
+}
+
+/// Whether both are one entry.
+pub fn is_same(looked: Identity, opened: Identity) -> bool
+    ensures same { IsTrue result ↔ (looked ≡ opened) }
+{
+    looked.device == opened.device && looked.number == opened.number
 }
 
 /// Whether a name holds an octet below 32, or 127. No path names such an entry.

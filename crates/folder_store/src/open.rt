@@ -3,7 +3,7 @@
 ghost use Rattle.std.specs.Prelude.{None};
 ghost use Rattle.folder_store.specs.Honest.{NeverFull};
 
-use crate::look::{end_fault, fault_of, is_same};
+use crate::look::{end_fault, fault_of, identity_of, is_same};
 use std::fs::{Metadata, OpenFile};
 use std::io::{Read, Seek, SeekFrom, Write};
 use virtual_tree::{Sink, Source, StoreFault};
@@ -49,7 +49,8 @@ fn length_of<F: OpenFile>(file: &F, looked: &Metadata) -> Result<u64, StoreFault
 {
     match file.metadata() {
         Ok(metadata) => {
-            let is_that_file = metadata.is_file() && is_same(looked, &metadata);
+            let is_same = is_same(identity_of(looked), identity_of(&metadata));
+            let is_that_file = metadata.is_file() && is_same;
             if is_that_file {
                 Ok(metadata.len())
             } else {

@@ -1,4 +1,4 @@
-use Rattle.std.proofs.Common.{◌≡◌, ◌∙◌, Some, None, sym, refl, ap, subst, true, false}
+use Rattle.std.proofs.Common.{◌∙◌, sym, refl, subst}
 use Rattle.std.proofs.lemmas.Bool.{true≢false}
 use Rattle.authorizer.specs.Users.{Covers}
 use Rattle.authorizer.proofs.Maps.{get-found, get-missing}

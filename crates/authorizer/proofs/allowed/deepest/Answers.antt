@@ -1,4 +1,4 @@
-use Rattle.std.proofs.Common.{◌≡◌, ◌∙◌, ◌≤◌, ℕ, length, sym, ap, subst, arith, rules}
+use Rattle.std.proofs.Common.{◌≡◌, ◌∙◌, ap, subst, arith, rules}
 use Rattle.std.specs.FinMap.{get}
 use Rattle.virtual_path.specs.Path.{path_text}
 use Rattle.authorizer.specs.Stored.{map_of}

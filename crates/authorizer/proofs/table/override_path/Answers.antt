@@ -1,5 +1,4 @@
-use Rattle.std.proofs.Common.{◌≡◌, ◌∙◌, refl, sym, ap, rules}
-use Rattle.std.specs.String.{string_bytes}
+use Rattle.std.proofs.Common.{◌∙◌, refl, ap, rules}
 use Rattle.std.specs.FinMap.{insert}
 use Rattle.std.proofs.lemmas.Result.{err_from_is_err_and}
 use Rattle.authorizer.specs.Stored.{user_of, map_of}

@@ -1,4 +1,3 @@
-use Rattle.std.specs.String.{string_bytes}
 use Rattle.authorizer.specs.Stored.{user_of}
 use Rattle.authorizer.proofs.Maps.{map_of-insert_key}
 use Rattle.authorizer.proofs.table.place.Goals as goal

@@ -1,4 +1,4 @@
-use Rattle.std.proofs.Common.{◌≡◌, ◌∙◌, ap, sym}
+use Rattle.std.proofs.Common.{◌∙◌, ap, sym}
 use Rattle.std.specs.Option.{is_some}
 use Rattle.authorizer.specs.Stored.{user_of}
 use Rattle.authorizer.proofs.Maps.{map_of-remove, contains-map_of}

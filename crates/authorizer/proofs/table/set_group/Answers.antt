@@ -1,4 +1,4 @@
-use Rattle.std.proofs.Common.{◌≡◌, refl, sym, ap, rules}
+use Rattle.std.proofs.Common.{refl, ap, rules}
 use Rattle.authorizer.specs.Stored.{user_of, map_of}
 use Rattle.authorizer.proofs.Maps.{get-found, get-missing, map_of-insert}
 use Rattle.authorizer.proofs.table.set_group.Goals as goal

@@ -1,0 +1,15 @@
+-- What is told of an entry of the machine.
+use Rattle.std.specs.Prelude.{◌≡◌, ◌⊎◌}
+use Rattle.std.specs.Fs.{metadata_len, file_type, IsDir, IsFile}
+use Rattle.std.specs.declared.fs.attrs.Metadata.{Metadata}
+use Rattle.virtual_tree.specs.declared.meta.Meta.{Meta}
+use Rattle.virtual_tree.specs.declared.meta.Kind.TheVariants.{Directory, File}
+
+-- a directory, or a file and its length; the time that is shown is the machine's to say
+abbrev pub IsTold : Metadata → Meta → Type 0
+IsTold metadata meta = (IsDir (file_type metadata) × (meta.kind ≡ Directory) × (meta.size ≡ 0))
+    ⊎ (IsFile (file_type metadata) × (meta.kind ≡ File) × (meta.size ≡ metadata_len metadata))
+
+-- anything else, as a link
+abbrev pub IsNeither : Metadata → Type 0
+IsNeither metadata = (IsDir (file_type metadata) → ⊥) × (IsFile (file_type metadata) → ⊥)

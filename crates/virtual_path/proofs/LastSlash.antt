@@ -1,5 +1,5 @@
 -- What `rsplit_once` gives.
-use Rattle.std.proofs.Common.{◌≡◌, ◌≢◌, ℕ, ◌<◌, ◌≤◌, ◌+◌, false, List, Option, Some, None, MatchOption, Bor, ◌∷◌, ◌++◌, take, drop, length, get_or, sym, ap, subst, ◌∙◌, lit<}
+use Rattle.std.proofs.Common.{◌≡◌, ℕ, ◌≤◌, ◌+◌, List, Option, Some, None, MatchOption, Bor, ◌∷◌, ◌++◌, take, drop, length, sym, ap, subst, ◌∙◌, lit<}
 use Rattle.std.specs.Str.Pattern.{RFindsChar}
 use Rattle.std.proofs.lemmas.Bool.{ne_eqb}
 use Rattle.std.proofs.lemmas.List.{take-append-drop}

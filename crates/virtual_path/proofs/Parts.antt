@@ -1,12 +1,11 @@
 -- What a path's stored text says of the path.
-use Rattle.std.proofs.Common.{◌≡◌, ◌≢◌, ℕ, zero, suc, ◌<◌, ◌≤◌, ◌+◌, ◌-◌, Bool, true, false, cond, not, ◌||◌, List, [], ◌∷◌, ◌++◌, length, take, drop, refl, sym, ap, subst, ◌∙◌, Result, Ok, Err, nat_eq, nat_lt, bytes_eq, codes, arith, length-append}
+use Rattle.std.proofs.Common.{◌≡◌, ◌≢◌, ℕ, suc, ◌<◌, ◌≤◌, ◌+◌, ◌-◌, Bool, true, false, cond, not, ◌||◌, List, [], ◌∷◌, ◌++◌, length, drop, refl, sym, ap, subst, ◌∙◌, Ok, Err, nat_eq, bytes_eq, codes, arith, length-append}
 use Rattle.std.proofs.lemmas.Bool.{true≢false, eqb-true, eqb-false, lt-ltb, le-ltb}
 use Rattle.std.proofs.lemmas.List.Splits.{length-slice_split}
 use Rattle.std.specs.List.{list_any, count_by, AllByRecursion}
 use Rattle.virtual_path.specs.declared.TheConstants.{LONGEST_NAME, LONGEST_PATH}
-use Rattle.virtual_path.specs.declared.fault.PathFault.{PathFault}
 use Rattle.virtual_path.specs.declared.fault.PathFault.TheVariants.{BadName, TooLong}
-use Rattle.virtual_path.specs.Path.{Path, path_text, parent_of, names_of, names_in, slashed, is_slash, is_control, is_long_name, is_long, is_one_name, child_of, joined, HasNoSlash, HasNoControl, IsName, AllNames, IsPathText}
+use Rattle.virtual_path.specs.Path.{Path, path_text, parent_of, names_of, names_in, slashed, is_slash, is_control, is_long_name, is_long, is_one_name, child_of, joined, HasNoSlash, IsName, AllNames, IsPathText}
 use Rattle.virtual_path.proofs.Elements.{each-append, each-take, none_passes}
 use Rattle.virtual_path.proofs.Texts.{slashed-append, slashed-push, path_text-slashed, last_name}
 use Rattle.virtual_path.proofs.Walks.{no_slash_in_path, names_in-slashed, is_path_text, length-path_text, short-path_text}

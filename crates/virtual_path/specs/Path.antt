@@ -1,5 +1,5 @@
 -- Paths of a virtual file system: the names that lead from its root to a place.
-use Rattle.std.specs.Prelude.{◌≡◌, ◌≢◌, ℕ, ◌<◌, ◌≤◌, ◌-◌, ◌==◌, Bool, true, false, cond, not, ◌||◌, List, [], ◌∷◌, ◌++◌, length, take, drop, map, slice_index, Result, Ok, Err, nat_lt, nat_eq, bytes_eq, codes}
+use Rattle.std.specs.Prelude.{◌≡◌, ◌≢◌, ℕ, ◌≤◌, ◌-◌, ◌==◌, Bool, false, cond, not, ◌||◌, List, [], ◌∷◌, ◌++◌, length, take, drop, slice_index, Result, Ok, Err, nat_lt, nat_eq, bytes_eq, codes}
 use Rattle.std.specs.List.{list_any, slice_split, join_with_byte, fold, AllByRecursion}
 use Rattle.virtual_path.specs.declared.TheConstants.{LONGEST_NAME, LONGEST_PATH}
 use Rattle.virtual_path.specs.declared.fault.PathFault.{PathFault}

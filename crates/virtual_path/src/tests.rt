@@ -58,7 +58,7 @@ fn paths_have_parts(rt: HostRuntime) -> Result<(), Fail> {
     let parent = path.parent(rt.alloc())?.ok_or("no parent")?;
     assert_eq!(rt; parent.text(), "/a");
     assert!(rt; path.starts_with(&parent) && !parent.starts_with(&path));
-    assert_eq!(rt; path.names(rt.alloc())?.len(), 2);
+    assert!(rt; path.names(rt.alloc())?.as_slice() == ["a", "b"].as_slice());
     assert_eq!(rt; path.try_clone(rt.alloc())?.text(), "/a/b");
     assert_eq!(rt; parent.child(rt.alloc(), "c")?.text(), "/a/c");
     assert_eq!(rt; parent.joined(rt.alloc(), &path)?.text(), "/a/a/b");
@@ -85,5 +85,35 @@ fn each_growth_may_be_refused(rt: HostRuntime) -> Result<(), Fail> {
     }
     assert!(rt; refused != 0);
     assert_eq!(rt; home.resolve(&heap, "..")?.text(), "/");
+    Ok(())
+}
+
+// Which of the calls that make something of a path find no memory in a heap.
+fn refusals(heap: &LocalHeap, path: &VPath) -> [bool; 5] {
+    [
+        path.names(heap).is_err(),
+        path.parent(heap).is_err(),
+        path.try_clone(heap).is_err(),
+        path.child(heap, "b").is_err(),
+        path.joined(heap, path).is_err(),
+    ]
+}
+
+#[test]
+fn other_calls_may_be_refused(rt: HostRuntime) -> Result<(), Fail> {
+    let heap = LocalHeap::new(rt.alloc(), 4096)?;
+    let path = VPath::root(rt.alloc()).resolve(rt.alloc(), "/home/of/ann")?;
+    let mut some = 0u32;
+    for step in 0..32 {
+        let hog = Vec::<u8, &LocalHeap>::with_capacity(&heap, 4080 - step * 16);
+        let refused = refusals(&heap, &path);
+        drop(hog);
+        if refused != [false; 5] {
+            some = some.saturating_add(1);
+        }
+        assert!(rt; refusals(&heap, &path) == [false; 5]);
+    }
+    assert!(rt; some > 0 && some < 32);
+    assert_eq!(rt; path.child(&heap, "b")?.text(), "/home/of/ann/b");
     Ok(())
 }

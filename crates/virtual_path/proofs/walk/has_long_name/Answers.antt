@@ -1,4 +1,4 @@
-use Rattle.std.proofs.Common.{◌≡◌, Bool, true, false, ℕ, ◌<◌, List, [], length, sym, lit<, rules}
+use Rattle.std.proofs.Common.{◌≡◌, true, false, [], lit<, rules}
 use borrow.Author.Tests.{tests}
 use Rattle.std.proofs.lemmas.Iterator.{cases_from_any}
 use Rattle.std.proofs.lemmas.Iterator.Splits.{YieldsList-from_str_split}

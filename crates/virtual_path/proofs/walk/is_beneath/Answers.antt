@@ -1,4 +1,4 @@
-use Rattle.std.proofs.Common.{◌≡◌, ◌∙◌, ◌++◌, sym, ap}
+use Rattle.std.proofs.Common.{◌∙◌, ◌++◌, sym, ap}
 use Rattle.virtual_path.proofs.Beneath.{beneath_answer, not_beneath}
 use Rattle.virtual_path.proofs.walk.is_beneath.Goals as goal
 

@@ -1,4 +1,4 @@
-use Rattle.std.proofs.Common.{◌≡◌, ◌≢◌, ◌<◌, ℕ, List, Option, Some, None, length, get_or, ◌∙◌, subst, lit<}
+use Rattle.std.proofs.Common.{◌≢◌, ◌<◌, ℕ, Some, None, length, get_or, ◌∙◌, subst, lit<}
 use Rattle.std.proofs.lemmas.Str.Pattern.{rfind_char}
 use Rattle.virtual_path.proofs.Texts.{IsLastSlash, up_to_slash, no_slash_at_root}
 use Rattle.virtual_path.proofs.walk.leave.Goals as goal

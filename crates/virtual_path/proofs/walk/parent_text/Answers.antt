@@ -1,4 +1,4 @@
-use Rattle.std.proofs.Common.{◌≡◌, sym}
+use Rattle.std.proofs.Common.{sym}
 use Rattle.virtual_path.specs.Path.{parent_of}
 use Rattle.virtual_path.proofs.Parts.{cut_shown, root_shown, slash_shown}
 use Rattle.virtual_path.proofs.walk.parent_text.Goals as goal

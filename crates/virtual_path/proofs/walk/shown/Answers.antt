@@ -1,4 +1,4 @@
-use Rattle.std.proofs.Common.{◌≡◌, sym}
+use Rattle.std.proofs.Common.{sym}
 use Rattle.virtual_path.proofs.Walks.{path_text-full, path_text-empty}
 use Rattle.virtual_path.proofs.walk.shown.Goals as goal
 

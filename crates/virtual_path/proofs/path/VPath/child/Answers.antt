@@ -1,7 +1,6 @@
-use Rattle.std.proofs.Common.{◌≡◌, ◌≢◌, ◌≤◌, ◌<◌, ◌+◌, ◌∙◌, ◌++◌, ◌∷◌, [], sym, ap, subst, length, take, Ok, Err, Some, None, MatchOption, arith}
+use Rattle.std.proofs.Common.{◌∙◌, ◌++◌, ◌∷◌, sym, ap, Ok, arith}
 use Rattle.std.specs.String.{string_bytes}
-use Rattle.virtual_path.specs.Path.{parent_of, path_text, slashed}
-use Rattle.virtual_path.proofs.Parts.{IsTextOf, is_text_of, kept, names_in_text, root_of, cut, parent_text_of, joined_text, joined-short, joined-long, child_text, child_of-short, child_of-long_name, child_of-long, no_slash_of}
+use Rattle.virtual_path.proofs.Parts.{is_text_of, kept, names_in_text, child_text, child_of-short, child_of-long_name, child_of-long}
 use Rattle.virtual_path.proofs.path.VPath.child.Goals as goal
 use Rattle.virtual_path.proofs.path.VPath.child.Goals.{then-name-gt-LONGEST_NAME-via-then-name-gt-LONGEST_NAME, then-name-gt-LONGEST_NAME-via-else-name-gt-LONGEST_NAME+then-name-as_str}
 

@@ -1,4 +1,4 @@
-use Rattle.std.proofs.Common.{◌≡◌, ◌∙◌, ap}
+use Rattle.std.proofs.Common.{◌∙◌, ap}
 use Rattle.std.specs.List.{count_by}
 use Rattle.std.specs.String.{string_bytes}
 use Rattle.virtual_path.specs.Path.{is_slash}

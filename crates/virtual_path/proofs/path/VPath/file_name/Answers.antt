@@ -1,7 +1,4 @@
-use Rattle.std.proofs.Common.{◌≡◌, ◌≢◌, ◌≤◌, ◌<◌, ◌+◌, ◌∙◌, ◌++◌, ◌∷◌, [], sym, ap, subst, length, take, Ok, Err, Some, None, MatchOption, arith}
-use Rattle.std.specs.String.{string_bytes}
-use Rattle.virtual_path.specs.Path.{parent_of, path_text, slashed}
-use Rattle.virtual_path.proofs.Parts.{IsTextOf, is_text_of, kept, names_in_text, root_of, cut, parent_text_of, joined_text, joined-short, joined-long, child_text, child_of-short, child_of-long_name, child_of-long, no_slash_of}
+use Rattle.virtual_path.proofs.Parts.{is_text_of, root_of, cut}
 use Rattle.virtual_path.proofs.path.VPath.file_name.Goals as goal
 
 pub returns-in_err-name : goal.returns-in_err-name

@@ -1,7 +1,5 @@
-use Rattle.std.proofs.Common.{◌≡◌, ◌≢◌, ◌≤◌, ◌<◌, ◌+◌, ◌∙◌, ◌++◌, ◌∷◌, [], sym, ap, subst, length, take, Ok, Err, Some, None, MatchOption, arith}
-use Rattle.std.specs.String.{string_bytes}
-use Rattle.virtual_path.specs.Path.{parent_of, path_text, slashed}
-use Rattle.virtual_path.proofs.Parts.{IsTextOf, is_text_of, kept, names_in_text, root_of, cut, parent_text_of, joined_text, joined-short, joined-long, child_text, child_of-short, child_of-long_name, child_of-long, no_slash_of}
+use Rattle.std.proofs.Common.{◌∙◌, ◌++◌, sym, ap, Ok}
+use Rattle.virtual_path.proofs.Parts.{is_text_of, kept, names_in_text, joined_text, joined-short, joined-long}
 use Rattle.virtual_path.proofs.path.VPath.joined.Goals as goal
 
 pub returns-then-as_str-gt-LONGEST_PATH : goal.returns-then-as_str-gt-LONGEST_PATH

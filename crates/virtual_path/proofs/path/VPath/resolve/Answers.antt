@@ -1,7 +1,7 @@
-use Rattle.std.proofs.Common.{◌≡◌, ◌≤◌, ◌<◌, ◌∙◌, sym, ap, subst, length, Ok}
+use Rattle.std.proofs.Common.{◌≤◌, ◌<◌, ◌∙◌, sym, ap, subst, length, Ok}
 use Rattle.std.specs.String.{string_bytes}
-use Rattle.virtual_path.specs.Path.{slashed, AllNames, named}
-use Rattle.virtual_path.proofs.Walks.{IsWalked, is_walked, resolved-long, resolved-short, walked_names, is_path_text, names_in-slashed}
+use Rattle.virtual_path.specs.Path.{slashed, AllNames}
+use Rattle.virtual_path.proofs.Walks.{is_walked, resolved-long, resolved-short, walked_names, is_path_text, names_in-slashed}
 use Rattle.virtual_path.proofs.path.VPath.resolve.Goals as goal
 
 pub returns-then-as_str-gt-LONGEST_PATH : goal.returns-then-as_str-gt-LONGEST_PATH

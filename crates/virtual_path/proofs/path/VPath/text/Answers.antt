@@ -1,6 +1,5 @@
-use Rattle.std.proofs.Common.{◌≡◌, ◌≤◌, length, sym, subst}
-use Rattle.virtual_path.specs.Path.{slashed}
-use Rattle.virtual_path.proofs.Parts.{IsTextOf, is_text_of}
+use Rattle.std.proofs.Common.{◌≤◌, length, sym, subst}
+use Rattle.virtual_path.proofs.Parts.{is_text_of}
 use Rattle.virtual_path.proofs.Walks.{short-path_text}
 use Rattle.virtual_path.proofs.path.VPath.text.Goals as goal
 

@@ -6,3 +6,4 @@ pub mod Faults
 pub mod Looks
 pub mod Flat
 pub mod Copies
+pub mod Sizes

@@ -1,5 +1,7 @@
+//! How much a tree holds.
 ghost use Rattle.std.specs.Prelude.{◌≡◌, ◌<◌, ◌^◌, length, IfSome};
 ghost use Rattle.limit_tree.specs.Outline.{places, leaf_count, floor_sum, root_place};
+ghost use Rattle.limit_tree.specs.Sizes.{IsSizeOf};
 
 use super::node::Node;
 use super::place::{Kind, Place};
@@ -7,10 +9,10 @@ use std::alloc::Allocator;
 
 /// How much a tree holds.
 #[derive(Clone, Copy)]
-struct Size {
-    nodes: usize,
-    leaves: usize,
-    floors: u64,
+pub struct Size {
+    pub nodes: usize,
+    pub leaves: usize,
+    pub floors: u64,
 }
 
 /// The size of a tree that is one node. Most nodes may be such, and are counted without a call of `size_of_tree`.
@@ -39,7 +41,8 @@ fn size_of_one<A: Allocator>(node: &Node<A>) -> Option<Size>
     }
 }
 
-fn size_of_tree<A: Allocator>(node: &Node<A>) -> Size
+/// The size of a tree, by its nodes one by one.
+pub fn size_of_tree<A: Allocator>(node: &Node<A>) -> Size
     requires nodes { length (places node.now) < 2 ^ 63 }
     requires leaves { leaf_count (places node.now) < 2 ^ 63 }
     requires floors { floor_sum (places node.now) < 2 ^ 63 }
@@ -73,14 +76,11 @@ fn size_of_tree<A: Allocator>(node: &Node<A>) -> Size
     }
 }
 
-/// The place of a node at a depth, with so many leaves before it.
-pub fn place_of<A: Allocator>(node: &Node<A>, depth: usize, first: usize) -> Place
-    requires nodes { length (places node.now) < 2 ^ 63 }
-    requires leaves { leaf_count (places node.now) < 2 ^ 63 }
-    requires floors { floor_sum (places node.now) < 2 ^ 63 }
+/// The place of a node at a depth, with so many leaves before it, by the size of its tree.
+pub fn place_of<A: Allocator>(node: &Node<A>, size: Size, depth: usize, first: usize) -> Place
+    requires size { IsSizeOf size (places node.now) }
     ensures place { result ≡ root_place depth first node.now }
 {
-    let size = size_of_tree(node);
     let (kids, kind) = match node {
         Node::Leaf { want, floor } => (
             0,

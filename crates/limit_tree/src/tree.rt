@@ -13,6 +13,7 @@ use super::fault::{TreeFault, check_tree, floors_of};
 use super::look::{FullLook, LeafLook, NodeLook};
 use super::node::Node;
 use super::place::{Kind, Place};
+use super::size::size_of_tree;
 use super::walk::{Passed, Visitor, walk_tree};
 use std::alloc::{Allocator, Global};
 use std::marker::Model;
@@ -87,13 +88,15 @@ impl<A: Allocator> Tree<A> {
         let _ = &self.leaves;
     }
 
-    /// Shows a visitor each node in preorder. Takes O(nodes * depth) time.
+    /// Shows a visitor each node in preorder. Takes O(nodes * depth) time, in which each node is counted once for each
+    /// branch above it, but for last kids.
     pub fn walk<V: Visitor>(&self, visitor: &mut V)
         requires leaves { V.leaves visitor.old ≡ length (limits self.now).wants }
         ensures same { V.leaves visitor.new ≡ V.leaves visitor.old }
         ensures saw { (start : V) → V.Saw start [] visitor.old → V.Saw start self.now visitor.new }
     {
-        let _passed = walk_tree(&self.root, 0, NOTHING, visitor);
+        let size = size_of_tree(&self.root);
+        let _passed = walk_tree(&self.root, size, 0, NOTHING, visitor);
     }
 
     /// The node of a number.

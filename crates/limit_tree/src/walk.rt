@@ -2,10 +2,11 @@
 ghost use Rattle.std.specs.Prelude.{◌≡◌, ◌+◌, ◌<◌, ◌≤◌, ◌^◌, ◌++◌, List, length, map};
 ghost use Rattle.limit_tree.specs.declared.place.Place.{Place};
 ghost use Rattle.limit_tree.specs.Outline.{places, leaf_count, floor_sum, moved};
+ghost use Rattle.limit_tree.specs.Sizes.{IsSizeOf};
 
 use super::node::Node;
 use super::place::Place;
-use super::size::place_of;
+use super::size::{Size, place_of, size_of_tree};
 use std::alloc::Allocator;
 
 /// What is shown the nodes of a tree in preorder, one by one.
@@ -34,9 +35,22 @@ pub struct Passed {
     pub leaves: usize,
 }
 
-/// Shows a visitor a tree that stands at a depth, behind the nodes and leaves that were passed.
+/// The size of the next of so many kids, which together have the size of the rest.
+fn size_of_next<A: Allocator>(kid: &Node<A>, kids: usize, rest: Size) -> Size
+    requires nodes { length (places kid.now) < 2 ^ 63 }
+    requires leaves { leaf_count (places kid.now) < 2 ^ 63 }
+    requires floors { floor_sum (places kid.now) < 2 ^ 63 }
+    requires last { kids ≡ 1 → IsSizeOf rest (places kid.now) }
+    ensures size { IsSizeOf result (places kid.now) }
+{
+    if kids == 1 { rest } else { size_of_tree(kid) }
+}
+
+/// Shows a visitor a tree of a size that stands at a depth, behind the nodes and leaves that were passed. The last
+/// kid of a branch has what the others leave of its size; each other one is counted.
 pub fn walk_tree<A: Allocator, V: Visitor>(
     node: &Node<A>,
+    size: Size,
     depth: usize,
     passed: Passed,
     visitor: &mut V,
@@ -45,13 +59,14 @@ pub fn walk_tree<A: Allocator, V: Visitor>(
     requires nodes { passed.nodes + length (places node.now) < 2 ^ 63 }
     requires leaves { passed.leaves + leaf_count (places node.now) < 2 ^ 63 }
     requires floors { floor_sum (places node.now) < 2 ^ 63 }
+    requires size { IsSizeOf size (places node.now) }
     requires inside { passed.leaves + leaf_count (places node.now) ≤ V.leaves visitor.old }
     ensures nodes { result.nodes ≡ passed.nodes + length (places node.now) }
     ensures leaves { result.leaves ≡ passed.leaves + leaf_count (places node.now) }
     ensures same { V.leaves visitor.new ≡ V.leaves visitor.old }
     ensures saw { (start : V) (seen : List Place) → length seen ≡ passed.nodes → leaf_count seen ≡ passed.leaves → V.Saw start seen visitor.old → V.Saw start (seen ++ map (moved depth passed.leaves) (places node.now)) visitor.new }
 {
-    let place = place_of(node, depth, passed.leaves);
+    let place = place_of(node, size, depth, passed.leaves);
     visitor.visit(passed.nodes, place);
     let mut next = Passed {
         nodes: passed.nodes + 1,
@@ -60,8 +75,18 @@ pub fn walk_tree<A: Allocator, V: Visitor>(
     match node {
         Node::Leaf { .. } => next.leaves += 1,
         Node::Branch { kids, .. } => {
+            let mut left = kids.len();
+            let mut rest = Size {
+                nodes: size.nodes - 1,
+                ..size
+            };
             for kid in kids {
-                next = walk_tree(kid, depth + 1, next, visitor);
+                let own = size_of_next(kid, left, rest);
+                next = walk_tree(kid, own, depth + 1, next, visitor);
+                left -= 1;
+                rest.nodes -= own.nodes;
+                rest.leaves -= own.leaves;
+                rest.floors -= own.floors;
             }
         }
     }

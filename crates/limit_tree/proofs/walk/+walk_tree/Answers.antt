@@ -1,7 +1,7 @@
-use Rattle.std.proofs.Common.{rules, arith, ◌≡◌, ◌+◌, ◌∙◌, ◌∷◌, ◌++◌, [], ℕ, List, length, map, drop, sym, ap, subst, length-append, append_assoc}
-use Rattle.std.proofs.lemmas.List.{length-map}
+use Rattle.std.proofs.Common.{rules, arith, ◌≡◌, ◌+◌, ◌≤◌, ◌∙◌, ◌∷◌, ◌++◌, [], ℕ, List, length, map, drop, sym, ap, subst, length-append, append_assoc}
+use Rattle.std.proofs.lemmas.List.{length-map, at_drop_all}
 use Rattle.limit_tree.specs.declared.place.Place.{Place}
-use Rattle.limit_tree.specs.Outline.{places, leaf_count, floor_sum, moved, kids_of, kind_of}
+use Rattle.limit_tree.specs.Outline.{places, leaf_count, floor_sum, moved, kids_of, kind_of, own_floor}
 use Rattle.limit_tree.specs.declared.place.Kind.TheVariants.{Branch}
 use Rattle.limit_tree.specs.declared.node.Node.TheViews.{the_lemmas}
 use Rattle.limit_tree.proofs.Places.{places_of_all, own_leaves, leaf_count-append, leaf_count-cons, length_places_out, leaf_count_out, floor_sum_out, length_places_of_all-drop, leaf_count_of_all-drop, floor_sum_of_all-drop}
@@ -12,6 +12,7 @@ pub loop-kid-init : goal.loop-kid-init
 loop-kid-init g t c =
     let below : places_of_all (kids_of c.args.node.now) ≡ places_of_all c.deref-kid-items.result.now = search (rules, the_lemmas) in
     let kind : kind_of c.args.node.now ≡ Branch c.in-Branch.limit = search (rules, the_lemmas) in
+    let count : c.len-left.result ≡ length c.deref-kid-items.result.now = search (rules, the_lemmas) in
     let root = c.place_of-place.result in
     let rest = moved (c.args.depth + 1) c.args.passed.leaves in
     record {
@@ -19,6 +20,12 @@ loop-kid-init g t c =
       nodes = omega (arith, length_places_out c.args.node.now, ap length below);
       leaves = omega (arith, leaf_count_out c.args.node.now, ap own_leaves kind, ap leaf_count below);
       floors = omega (arith, floor_sum_out c.args.node.now, ap floor_sum below);
+      left = omega (arith, count);
+      rest = record {
+        nodes = omega (arith, length_places_out c.args.node.now, ap length below, c.requires.size.nodes);
+        leaves = omega (arith, leaf_count_out c.args.node.now, ap own_leaves kind, ap leaf_count below, c.requires.size.leaves);
+        floors = omega (arith, floor_sum_out c.args.node.now, ap own_floor kind, ap floor_sum below, c.requires.size.floors);
+      };
       same = c.visit.ensures.leaves;
       saw = λ start seen count leaves saw. (
         root ∷ [],
@@ -44,6 +51,12 @@ loop-kid-preserved g t c =
       nodes = omega (arith, length_places_of_all-drop kids i kid c.loop-kid-test.true c.kid-item.is, c.walk_tree-next.ensures.nodes, c.loop-kid.invariant.nodes);
       leaves = omega (arith, leaf_count_of_all-drop kids i kid c.loop-kid-test.true c.kid-item.is, c.walk_tree-next.ensures.leaves, c.loop-kid.invariant.leaves);
       floors = omega (arith, floor_sum_of_all-drop kids i kid c.loop-kid-test.true c.kid-item.is, c.loop-kid.invariant.floors);
+      left = omega (arith, c.loop-kid.invariant.left, c.loop-kid-test.true);
+      rest = record {
+        nodes = omega (arith, length_places_of_all-drop kids i kid c.loop-kid-test.true c.kid-item.is, c.loop-kid.invariant.rest.nodes, c.size_of_next-own.ensures.size.nodes);
+        leaves = omega (arith, leaf_count_of_all-drop kids i kid c.loop-kid-test.true c.kid-item.is, c.loop-kid.invariant.rest.leaves, c.size_of_next-own.ensures.size.leaves);
+        floors = omega (arith, floor_sum_of_all-drop kids i kid c.loop-kid-test.true c.kid-item.is, c.loop-kid.invariant.rest.floors, c.size_of_next-own.ensures.size.floors);
+      };
       same = c.walk_tree-next.ensures.same ∙ c.loop-kid.invariant.same;
       saw = λ start seen count leaves saw.
           let was = c.loop-kid.invariant.saw start seen count leaves saw in (
@@ -57,3 +70,21 @@ loop-kid-preserved g t c =
                 ap (λ (n : ℕ). was.0 ++ here ++ map (moved depth n) others) (sym c.walk_tree-next.ensures.leaves))),
           );
     }
+
+pub size_of_next-own-requires-clause-last : goal.size_of_next-own-requires-clause-last
+size_of_next-own-requires-clause-last g t c = λ one.
+    let kids = c.deref-kid-items.result.now in
+    let kid = c.kid-item.result in
+    let i = c.loop-kid.kid-index in
+    let past : length kids ≤ i + 1 = omega (arith, one, c.loop-kid.invariant.left) in
+    record {
+      nodes = omega (arith, length_places_of_all-drop kids i kid c.loop-kid-test.true c.kid-item.is, c.loop-kid.invariant.rest.nodes, at_drop_all (λ ks. length (places_of_all ks)) kids (i + 1) past);
+      leaves = omega (arith, leaf_count_of_all-drop kids i kid c.loop-kid-test.true c.kid-item.is, c.loop-kid.invariant.rest.leaves, at_drop_all (λ ks. leaf_count (places_of_all ks)) kids (i + 1) past);
+      floors = omega (arith, floor_sum_of_all-drop kids i kid c.loop-kid-test.true c.kid-item.is, c.loop-kid.invariant.rest.floors, at_drop_all (λ ks. floor_sum (places_of_all ks)) kids (i + 1) past);
+    }
+
+pub overflow_sub-rest-in-loop-kid : goal.overflow_sub-rest-in-loop-kid
+overflow_sub-rest-in-loop-kid g t c = omega (arith, length_places_of_all-drop c.deref-kid-items.result.now c.loop-kid.kid-index c.kid-item.result c.loop-kid-test.true c.kid-item.is, c.loop-kid.invariant.rest.nodes, c.size_of_next-own.ensures.size.nodes)
+
+pub overflow_sub-rest-in-loop-kid-3 : goal.overflow_sub-rest-in-loop-kid-3
+overflow_sub-rest-in-loop-kid-3 g t c = omega (arith, floor_sum_of_all-drop c.deref-kid-items.result.now c.loop-kid.kid-index c.kid-item.result c.loop-kid-test.true c.kid-item.is, c.loop-kid.invariant.rest.floors, c.size_of_next-own.ensures.size.floors)

@@ -10,3 +10,6 @@ walk_tree-passed-requires-clause-floors g c = omega (arith, sum-floors_in (place
 
 pub returns-clause-saw : goal.returns-clause-saw
 returns-clause-saw g c = λ start was. subst (λ (ps : List Place). g.V.Visitor.Saw start ps c.walk_tree-passed.new.visitor) (map_moved-here (places c.self.inside.root) ∙ c.self.view_is) (c.walk_tree-passed.ensures.saw start _ refl refl was)
+
+pub size_of_tree-size-requires-clause-floors : goal.size_of_tree-size-requires-clause-floors
+size_of_tree-size-requires-clause-floors g c = omega (arith, sum-floors_in (places c.self.inside.root), c.self.invariant.few_floors, c.self.invariant.few_octets, c.self.invariant.few_leaves)

@@ -1,0 +1,67 @@
+//! What one walk finds of the branches.
+ghost use Rattle.limit_tree.specs.declared.bounds.TheConstants.{MAX_LEAVES};
+ghost use Rattle.std.specs.Prelude.{◌≡◌, ◌<◌, ◌≤◌, ◌^◌, ℕ, length, sum};
+ghost use Rattle.limit_tree.specs.Outline.{limits};
+ghost use Rattle.grant_certificate.specs.Flaws.{IsFirstOver};
+ghost use Rattle.grant_certificate.specs.Ranges.{IsMarked, IsHeld};
+
+use super::backing::BackingLook;
+use super::over::OverLook;
+use limit_tree::{MAX_LEAVES, Place, Tree, Visitor};
+use std::alloc::Allocator;
+
+/// Looks for the first branch over its limit, and marks each leaf that names a bottleneck of its own.
+#[derive(Drop)]
+struct BranchLook<'a> {
+    over: OverLook<'a>,
+    backing: BackingLook<'a>,
+    ghost same: { length over.grants.now ≡ length backing.grants.now },
+}
+
+impl<'a> Visitor for BranchLook<'a> {
+    ghost use Rattle.std.specs.Prelude.{length};
+    ghost use Rattle.grant_certificate.specs.Looks.{SoughtBranches};
+
+    ghost leaves = { λ s. length s.over.grants.now };
+
+    ghost Saw = { SoughtBranches };
+
+    fn visit(&mut self, number: usize, place: Place) {
+        self.over.visit(number, place);
+        self.backing.visit(number, place);
+    }
+}
+
+/// What is found of the branches.
+pub struct Branches {
+    /// The first whose leaves have more than its limit.
+    pub over: Option<usize>,
+    /// Which leaves are marked: each of them names a bottleneck.
+    pub backed: [bool; MAX_LEAVES],
+}
+
+/// Looks at the branches. Takes one walk.
+pub fn look_at_branches<A: Allocator>(
+    tree: &Tree<A>,
+    grants: &[u64],
+    floors: &[u64],
+    entries: &[Option<u32>],
+) -> Branches
+    requires leaves { length (limits tree.now).wants ≡ length grants.now }
+    requires few { length grants.now ≤ MAX_LEAVES }
+    requires fits { sum grants.now < 2 ^ 64 }
+    requires floors { length floors.now ≡ length grants.now }
+    requires entries { length entries.now ≡ length grants.now }
+    ensures over { IsFirstOver (limits tree.now) grants.now result.over }
+    ensures held { (i : ℕ) → IsMarked result.backed i → IsHeld (limits tree.now) grants.now floors.now entries.now i }
+{
+    let mut look = BranchLook {
+        over: OverLook::new(grants),
+        backing: BackingLook::new(grants, floors, entries),
+    };
+    tree.walk(&mut look);
+    Branches {
+        over: look.over.found,
+        backed: look.backing.marks,
+    }
+}

@@ -8,6 +8,7 @@ use Rattle.grant_certificate.specs.Ranges.{IsMarked, IsHeld}
 use Rattle.grant_certificate.specs.declared.leaves.Leaves.{Leaves}
 use Rattle.grant_certificate.specs.declared.over.OverLook.{OverLook}
 use Rattle.grant_certificate.specs.declared.backing.BackingLook.{BackingLook}
+use Rattle.grant_certificate.specs.declared.branches.BranchLook.{BranchLook}
 
 -- the numbers of the first leaves are those of the leaves that were seen
 abbrev pub IsTable : List ℕ → List ℕ → Type 0
@@ -30,3 +31,8 @@ pub record SoughtBacking (start : BackingLook) (seen : List Place) (now : Backin
   pub floors : now.floors.now ≡ start.floors.now
   pub entries : now.entries.now ≡ start.entries.now
   pub marked : (i : ℕ) → IsMarked now.marks i → IsHeld (limits seen) start.grants.now start.floors.now start.entries.now i
+
+-- both
+pub record SoughtBranches (start : BranchLook) (seen : List Place) (now : BranchLook) : Type 0 where
+  pub over : SoughtOver start.over seen now.over
+  pub backing : SoughtBacking start.backing seen now.backing

@@ -1,12 +1,10 @@
 //! The leaves that the branches they name hold back.
 ghost use Rattle.limit_tree.specs.declared.bounds.TheConstants.{MAX_LEAVES};
 ghost use Rattle.std.specs.Prelude.{◌≡◌, ◌+◌, ◌<◌, ◌≤◌, ◌^◌, ◌⊎◌, ◌↔◌, ℕ, Some, IsTrue, length, slice_index, sum};
-ghost use Rattle.limit_tree.specs.Outline.{limits};
-ghost use Rattle.grant_certificate.specs.Ranges.{IsMarked, IsHeld, IsHeldWithin};
+ghost use Rattle.grant_certificate.specs.Ranges.{IsMarked, IsHeldWithin};
 
 use super::range::greatest;
-use limit_tree::{MAX_LEAVES, Place, Tree, Visitor};
-use std::alloc::Allocator;
+use limit_tree::{MAX_LEAVES, Place, Visitor};
 
 /// Marks each leaf that names a bottleneck of its own.
 #[derive(Drop)]
@@ -25,7 +23,8 @@ impl<'a> BackingLook<'a> {
     ghost use Rattle.std.specs.Prelude.{◌≡◌, ◌<◌, ◌≤◌, ◌^◌, [], length, sum};
     ghost use Rattle.grant_certificate.specs.Looks.{SoughtBacking};
 
-    fn new(grants: &'a [u64], floors: &'a [u64], entries: &'a [Option<u32>]) -> BackingLook<'a>
+    /// Nothing is marked yet.
+    pub fn new(grants: &'a [u64], floors: &'a [u64], entries: &'a [Option<u32>]) -> BackingLook<'a>
         requires fits { sum grants.now < 2 ^ 64 }
         requires few { length grants.now ≤ MAX_LEAVES }
         requires floors { length floors.now ≡ length grants.now }
@@ -98,25 +97,6 @@ fn names(entry: Option<u32>, number: usize) -> bool
         Some(named) => named as usize == number,
         None => false,
     }
-}
-
-/// Marks each leaf whose entry names a bottleneck of it. Takes one walk.
-pub fn backed_leaves<A: Allocator>(
-    tree: &Tree<A>,
-    grants: &[u64],
-    floors: &[u64],
-    entries: &[Option<u32>],
-) -> [bool; MAX_LEAVES]
-    requires leaves { length (limits tree.now).wants ≡ length grants.now }
-    requires few { length grants.now ≤ MAX_LEAVES }
-    requires fits { sum grants.now < 2 ^ 64 }
-    requires floors { length floors.now ≡ length grants.now }
-    requires entries { length entries.now ≡ length grants.now }
-    ensures held { (i : ℕ) → IsMarked result i → IsHeld (limits tree.now) grants.now floors.now entries.now i }
-{
-    let mut look = BackingLook::new(grants, floors, entries);
-    tree.walk(&mut look);
-    look.marks
 }
 
 fn no_marks() -> [bool; MAX_LEAVES]

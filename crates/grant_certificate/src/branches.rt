@@ -33,6 +33,7 @@ impl<'a> Visitor for BranchLook<'a> {
 }
 
 /// What is found of the branches.
+#[derive(Drop)]
 pub struct Branches {
     /// The first whose leaves have more than its limit.
     pub over: Option<usize>,

@@ -3,13 +3,14 @@ ghost use Rattle.limit_tree.specs.declared.bounds.TheConstants.{MAX_LEAVES};
 ghost use Rattle.std.specs.Prelude.{◌≡◌, ◌<◌, ◌≤◌, ◌^◌, ◌↔◌, ℕ, MatchOption, length, sum};
 ghost use Rattle.limit_tree.specs.Sharing.{HasNestedBranches, IsWithin, IsBackedBy, IsBest};
 ghost use Rattle.limit_tree.specs.Outline.{limits};
+ghost use Rattle.grant_certificate.specs.Ranges.{IsMarked, IsHeld};
 ghost use Rattle.grant_certificate.specs.Flaws.{HasLengths, IsBackedAt, IsLeafFlaw, IsFirstUnbacked, IsFirstFlaw, IsVerdict};
 
-use super::backing::backed_leaves;
+use super::branches::look_at_branches;
 use super::certificate::Certificate;
 use super::flaw::{Flaw, Verdict};
 use super::leaves::Leaves;
-use super::over::{first_above, over_limit};
+use super::over::first_above;
 use super::range::first_greater;
 use limit_tree::{Kind, Tree};
 use std::alloc::Allocator;
@@ -61,6 +62,7 @@ fn backing_flaw<A: Allocator>(
     wants: &[u64],
     floors: &[u64],
     entries: &[Option<u32>],
+    backed: &[bool],
 ) -> Option<Flaw>
     requires lengths { length wants.now ≡ length grants.now }
     requires few { length grants.now ≤ MAX_LEAVES }
@@ -69,9 +71,10 @@ fn backing_flaw<A: Allocator>(
     requires floors { floors.now ≡ (limits tree.now).floors }
     requires floored { length floors.now ≡ length grants.now }
     requires entries { length entries.now ≡ length grants.now }
+    requires marks { length grants.now ≤ length backed.now }
+    requires held { (i : ℕ) → IsMarked backed.now i → IsHeld (limits tree.now) grants.now floors.now entries.now i }
     ensures flaw { MatchOption result ((i : ℕ) → i < length grants.now → IsBackedAt (limits tree.now) grants.now entries.now i) (λ flaw. IsFirstUnbacked (limits tree.now) grants.now entries.now flaw) }
 {
-    let backed = backed_leaves(tree, grants, floors, entries);
     for leaf in 0..grants.len() {
         if grants[leaf] < wants[leaf] && !backed[leaf] {
             if let Some(flaw) = entry_flaw(tree, grants, floors, entries, leaf) {
@@ -96,10 +99,11 @@ fn first_flaw<A: Allocator>(tree: &Tree<A>, grants: &[u64], entries: &[Option<u3
     if let Some(leaf) = first_above(floors, grants) {
         return Some(Flaw::UnderFloor { leaf });
     }
-    if let Some(node) = over_limit(tree, grants) {
+    let branches = look_at_branches(tree, grants, floors, entries);
+    if let Some(node) = branches.over {
         return Some(Flaw::OverLimit { node });
     }
-    backing_flaw(tree, grants, wants, floors, entries)
+    backing_flaw(tree, grants, wants, floors, entries, &branches.backed)
 }
 
 /// Whether grants, in octets by leaf, are within the limits of the tree and backed by their certificate, or else
@@ -109,8 +113,8 @@ fn first_flaw<A: Allocator>(tree: &Tree<A>, grants: &[u64], entries: &[Option<u3
 /// leaf of that branch may have at least two octets more and more than its own floor. The entry of a leaf that
 /// has what it wants is not looked at.
 ///
-/// Takes no memory, and O(nodes * depth) time: three walks over the tree, in which each branch sums the grants
-/// of its leaves, and one walk more where there is a flaw.
+/// Takes no memory, and O(nodes * depth) time: two walks over the tree, in one of which each branch sums the
+/// grants of its leaves, and one walk more where there is a flaw.
 pub fn check<A: Allocator>(tree: &Tree<A>, grants: &[u64], certificate: &Certificate<A>) -> Verdict
     ensures verdict { IsVerdict (limits tree.now) grants.now certificate.now result }
     ensures yes { (result ≡ Verdict.Yes) ↔ (IsWithin (limits tree.now) grants.now × IsBackedBy (limits tree.now) grants.now certificate.now) }

@@ -2,6 +2,7 @@
 #![tactic(auto)]
 
 mod backing;
+mod branches;
 mod certificate;
 mod checker;
 mod flaw;

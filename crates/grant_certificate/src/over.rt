@@ -1,11 +1,8 @@
 //! Grants that pass their bounds.
 ghost use Rattle.std.specs.Prelude.{◌≡◌, ◌<◌, ◌≤◌, ◌^◌, ℕ, MatchOption, length, slice_index, sum};
-ghost use Rattle.limit_tree.specs.Outline.{limits};
-ghost use Rattle.grant_certificate.specs.Flaws.{IsFirstOver};
 
 use super::range::is_over_place;
-use limit_tree::{Place, Tree, Visitor};
-use std::alloc::Allocator;
+use limit_tree::{Place, Visitor};
 
 /// The first number that is larger than its bound.
 pub fn first_above(numbers: &[u64], bounds: &[u64]) -> Option<usize>
@@ -33,7 +30,8 @@ impl<'a> OverLook<'a> {
     ghost use Rattle.std.specs.Prelude.{◌≡◌, ◌<◌, ◌^◌, [], sum};
     ghost use Rattle.grant_certificate.specs.Looks.{SoughtOver};
 
-    fn new(grants: &'a [u64]) -> OverLook<'a>
+    /// Nothing is found yet.
+    pub fn new(grants: &'a [u64]) -> OverLook<'a>
         requires fits { sum grants.now < 2 ^ 64 }
         ensures grants { result.grants.now ≡ grants.now }
         ensures start { SoughtOver result [] result }
@@ -63,15 +61,4 @@ impl<'a> Visitor for OverLook<'a> {
             }
         }
     }
-}
-
-/// The first branch whose leaves have more than its limit. Takes one walk.
-pub fn over_limit<A: Allocator>(tree: &Tree<A>, grants: &[u64]) -> Option<usize>
-    requires leaves { length (limits tree.now).wants ≡ length grants.now }
-    requires fits { sum grants.now < 2 ^ 64 }
-    ensures first { IsFirstOver (limits tree.now) grants.now result }
-{
-    let mut look = OverLook::new(grants);
-    tree.walk(&mut look);
-    look.found
 }

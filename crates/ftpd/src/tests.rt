@@ -42,17 +42,15 @@ fn words_that_are_refused_or_ask_for_help(rt: HostRuntime) {
 #[test]
 fn shares_and_verdicts(rt: HostRuntime) -> Result<(), Fail> {
     let sheet = file(&rt, "lunch.sheet", LUNCH)?;
-    let sheet = sheet.as_str();
-    assert!(rt; run(&rt, &["share", sheet]) == Ok(ExitCode::SUCCESS));
+    assert!(rt; share(&rt, sheet.as_str()) == Ok(()));
     let best = "grant /a 4 /\ngrant /b 3 /\ngrant /c 3 /\n";
     let best = file(&rt, "best.grants", best)?;
-    assert!(rt; run(&rt, &["check", sheet, best.as_str()]) == Ok(ExitCode::SUCCESS));
-    let uneven = file(
-        &rt,
-        "uneven.grants",
-        "grant /a 5 /\ngrant /b 3 /\ngrant /c 2 /\n",
-    )?;
-    assert!(rt; run(&rt, &["check", sheet, uneven.as_str()]) == Ok(ExitCode::from(FLAWED)));
+    let verdict = check(&rt, sheet.as_str(), best.as_str());
+    assert!(rt; verdict == Ok(ExitCode::SUCCESS));
+    let uneven = "grant /a 5 /\ngrant /b 3 /\ngrant /c 2 /\n";
+    let uneven = file(&rt, "uneven.grants", uneven)?;
+    let verdict = check(&rt, sheet.as_str(), uneven.as_str());
+    assert!(rt; verdict == Ok(ExitCode::from(FLAWED)));
     Ok(())
 }
 

@@ -1,13 +1,13 @@
 -- Which letters decide at a path.
-use Rattle.std.proofs.Common.{◌≡◌, ◌⊎◌, ◌↔◌, ℕ, zero, suc, ◌<◌, ◌≤◌, ◌+◌, ◌-◌, Bool, true, false, List, [], ◌∷◌, Option, Some, None, MatchOption, length, take, refl, sym, ap, subst, ◌∙◌, inl, inr, arith}
-use Rattle.std.proofs.lemmas.Bool.{cases_lt, false≢true}
+use Rattle.std.proofs.Common.{◌≡◌, ◌⊎◌, ◌↔◌, ℕ, zero, suc, ◌<◌, ◌≤◌, ◌+◌, ◌-◌, Bool, true, false, List, [], ◌∷◌, Option, Some, None, MatchOption, cond, ◌||◌, nat_le, unwrap_or, length, take, refl, sym, ap, subst, ◌∙◌, inl, inr, arith}
+use Rattle.std.proofs.lemmas.Bool.{cases_lt, false≢true, true≢false, leb-true, le-leb}
 use Rattle.std.specs.FinMap.{get}
 use Rattle.virtual_path.specs.Path.{Path, path_text, parent_of, AllNames}
-use Rattle.authorizer.specs.declared.letters.Letter.{Letter}
-use Rattle.authorizer.specs.declared.letters.Letters.{Letters}
+use Rattle.ftp_terms.specs.declared.letters.Letter.{Letter}
+use Rattle.ftp_terms.specs.declared.letters.Letters.{Letters}
 use Rattle.authorizer.specs.declared.account.Rule.{Rule}
-use Rattle.authorizer.specs.Letters.{holds}
-use Rattle.authorizer.specs.Users.{Overrides, User, Users, Covers, IsCovered, IsDeepest, DecidesAt, Allowed, above}
+use Rattle.ftp_terms.specs.Letters.{holds}
+use Rattle.authorizer.specs.Users.{Overrides, User, Users, Covers, IsCovered, IsDeepest, DecidesAt, Allowed, above, covers, if_covers, letters_above, first_of, first_above, letters_at, holds_at, allowed, AllowedByTheDeepest}
 
 -- no override that lies less than so many names above a path covers it
 abbrev pub NoneBelow : Overrides → Path → ℕ → Type 0
@@ -90,7 +90,7 @@ one_decides user path letters more (inl is) (inr are) = absurd (are.0 is.0 is.1 
 one_decides user path letters more (inr is) (inl are) = absurd (is.0 are.0 are.1 are.2.covered)
 one_decides user path letters more (inr is) (inr are) = is.1 ∙ sym are.1
 
-pub allowed_by : (users : Users) (name : List ℕ) (letter : Letter) (path : Path) (user : User) (letters : Letters) (r : Bool) → get users name ≡ Some user → DecidesAt user path letters → r ≡ holds letters letter
+allowed_by : (users : Users) (name : List ℕ) (letter : Letter) (path : Path) (user : User) (letters : Letters) (r : Bool) → get users name ≡ Some user → DecidesAt user path letters → r ≡ holds letters letter
     → (r ≡ true) ↔ Allowed users name letter path
 allowed_by users name letter path user letters r found decides is = (λ yes. (user, letters, found, decides, sym is ∙ yes), back)
   where
@@ -99,9 +99,6 @@ allowed_by users name letter path user letters r found decides is = (λ yes. (us
         let both : Some user ≡ Some other = sym found ∙ e in
         let same : user ≡ other = cc in
         is ∙ ap (λ l. holds l letter) (one_decides user path letters more decides (subst (λ u. DecidesAt u path more) (sym same) d)) ∙ h
-
-pub not_allowed : (users : Users) (name : List ℕ) (letter : Letter) (path : Path) → get users name ≡ None → (false ≡ true) ↔ Allowed users name letter path
-not_allowed users name letter path missing = (λ e. absurd (false≢true e), λ is. let none : None ≡ Some is.0 = sym missing ∙ is.2 in absurd cc)
 
 pub none_is_no_rule : (overrides : Overrides) (text : List ℕ) (rule : Rule) → get overrides text ≡ None → get overrides text ≡ Some rule → ⊥
 none_is_no_rule overrides text rule missing found = let none : None ≡ Some rule = sym missing ∙ found in cc
@@ -117,3 +114,76 @@ at_root overrides path depth text None same here none is =
     none_at_all overrides path (subst (λ n. NoneBelow overrides path (n + 1)) same (none_below_more overrides path depth none (λ rule kept covers. is rule (ap (get overrides) here ∙ kept) covers)))
 at_root overrides path depth text (Some letters) same here none is =
     deepest_here overrides path depth letters (omega arith) none (is.0, ap (get overrides) (sym here) ∙ is.1, is.2, is.3)
+
+-- ---- the function and the relation
+
+covers_is : (rule : Rule) (up : ℕ) → covers rule up ≡ true → Covers rule up
+covers_is rule up is = elim rule.recursive as (λ b. rule.recursive ≡ b → (b || nat_le up 1) ≡ true → Covers rule up) [
+  | true ↦ λ recursive _. inl recursive
+  | false ↦ λ _ near. inr (leb-true up 1 near)
+] refl is
+
+covers_not : (rule : Rule) (up : ℕ) → covers rule up ≡ false → Covers rule up → ⊥
+covers_not rule up is (inl recursive) = true≢false (ap (λ b. b || nat_le up 1) (sym recursive) ∙ is)
+covers_not rule up is (inr near) = elim rule.recursive as (λ b. (b || nat_le up 1) ≡ false → ⊥) [
+  | true ↦ λ no. true≢false no
+  | false ↦ λ no. true≢false (sym (le-leb up 1 near) ∙ no)
+] is
+
+abbrev IsFound : Overrides → Path → ℕ → Option Letters → Type 0
+IsFound overrides path up r = MatchOption r
+    ((rule : Rule) → get overrides (path_text (above up path)) ≡ Some rule → Covers rule up → ⊥)
+    (λ letters. IsRuleAt overrides path up letters)
+
+found_above : (overrides : Overrides) (path : Path) (up : ℕ) (kept : Option Rule) → get overrides (path_text (above up path)) ≡ kept → IsFound overrides path up (if_covers up kept)
+found_above overrides path up None is = λ rule kept _. none_is_no_rule overrides (path_text (above up path)) rule is kept
+found_above overrides path up (Some rule) is =
+    elim (covers rule up) as (λ b. covers rule up ≡ b → IsFound overrides path up (cond b (Some rule.letters) None)) [
+      | true ↦ λ yes. (rule, is, covers_is rule up yes, refl)
+      | false ↦ λ no next kept covered. covers_not rule up no (subst (λ r. Covers r up) (one_rule overrides (path_text (above up path)) next rule kept is) covered)
+    ] refl
+
+abbrev IsOutcome : Overrides → Path → Option Letters → Type 0
+IsOutcome overrides path r = MatchOption r
+    ((up : ℕ) (rule : Rule) → IsCovered overrides path up rule → ⊥)
+    (λ letters. (up : ℕ) × (rule : Rule) × IsDeepest overrides path up rule × (letters ≡ rule.letters))
+
+outcome_at_root : (overrides : Overrides) (path : Path) (up : ℕ) (r : Option Letters) → up ≡ length path → NoneBelow overrides path up → IsFound overrides path up r → IsOutcome overrides path r
+outcome_at_root overrides path up None end none is =
+    none_at_all overrides path (subst (λ n. NoneBelow overrides path (n + 1)) end (none_below_more overrides path up none is))
+outcome_at_root overrides path up (Some letters) end none is = deepest_here overrides path up letters (omega arith) none is
+
+by_here : (overrides : Overrides) (path : Path) (up : ℕ) (here others : Option Letters) → up ≤ length path → NoneBelow overrides path up → IsFound overrides path up here
+    → (NoneBelow overrides path (up + 1) → IsOutcome overrides path others) → IsOutcome overrides path (first_of here others)
+by_here overrides path up None others within none is rest = rest (none_below_more overrides path up none is)
+by_here overrides path up (Some letters) others within none is rest = deepest_here overrides path up letters within none is
+
+outcome : (overrides : Overrides) (path : Path) (up left : ℕ) → up + left ≡ length path → NoneBelow overrides path up → IsOutcome overrides path (first_above overrides path up left)
+outcome overrides path up zero end none =
+    outcome_at_root overrides path up (letters_above overrides path up) (omega arith) none (found_above overrides path up _ refl)
+outcome overrides path up (suc left) end none =
+    by_here overrides path up (letters_above overrides path up) (first_above overrides path (up + 1) left) (omega arith) none (found_above overrides path up _ refl)
+    (λ below. outcome overrides path (up + 1) left (omega arith) below)
+
+decides_by : (user : User) (path : Path) (r : Option Letters) → IsOutcome user.overrides path r → DecidesAt user path (unwrap_or r user.letters)
+decides_by user path None is = inr (is, refl)
+decides_by user path (Some letters) is = inl is
+
+-- the letters of the function are those of the relation
+pub letters_decide : (user : User) (path : Path) → DecidesAt user path (letters_at user path)
+letters_decide user path =
+    decides_by user path (first_above user.overrides path 0 (length path))
+    (outcome user.overrides path 0 (length path) (omega arith) (λ lower rule less _. nothing_below lower less))
+  where
+    nothing_below : (lower : ℕ) → lower < 0 → ⊥
+    nothing_below lower less = omega arith
+
+pub one_letters : (user : User) (path : Path) (letters : Letters) → DecidesAt user path letters → letters ≡ letters_at user path
+one_letters user path letters is = one_decides user path letters (letters_at user path) is (letters_decide user path)
+
+pub allowed_by_the_deepest : AllowedByTheDeepest
+allowed_by_the_deepest users name letter path = by_user (get users name) refl
+  where
+    by_user : (found : Option User) → get users name ≡ found → (holds_at found letter path ≡ true) ↔ Allowed users name letter path
+    by_user None is = (λ e. absurd (false≢true e), λ given. let none : None ≡ Some given.0 = sym is ∙ given.2 in absurd cc)
+    by_user (Some user) is = allowed_by users name letter path user (letters_at user path) (holds (letters_at user path) letter) is (letters_decide user path) refl

@@ -5,8 +5,8 @@ use Rattle.virtual_path.specs.Path.{Path, resolved}
 use Rattle.virtual_path.specs.declared.fault.PathFault.{PathFault}
 use Rattle.authorizer.specs.declared.fault.AuthorizerFault.{AuthorizerFault}
 use Rattle.authorizer.specs.declared.fault.AuthorizerFault.TheVariants.{UserExists, NoSuchUser, BadLetter, BadPath, NoNumber}
-use Rattle.authorizer.specs.declared.letters.Letters.{Letters}
-use Rattle.authorizer.specs.Letters.{letters_of}
+use Rattle.ftp_terms.specs.declared.letters.Letters.{Letters}
+use Rattle.ftp_terms.specs.Letters.{letters_of}
 use Rattle.authorizer.specs.Users.{User, Accounts}
 use Rattle.authorizer.specs.Changes.{user_then, letters_then, path_then, placed, new_user, with_user, overriding}
 use Rattle.authorizer.specs.Numbers.{made}

@@ -1,14 +1,13 @@
 -- What each call makes of the users, were memory never wanting. The first refusal that applies is the answer.
 use Rattle.std.specs.Prelude.{◌≡◌, ℕ, ◌+◌, ◌^◌, Bool, false, cond, ◌||◌, List, [], Option, Some, None, Result, Ok, Err, nat_lt, nat_eq, bytes_eq, codes}
-use Rattle.std.specs.List.{list_any}
 use Rattle.std.specs.FinMap as map
 use Rattle.virtual_path.specs.Path.{Path, path_text, resolved}
 use Rattle.virtual_path.specs.declared.fault.PathFault.{PathFault}
 use Rattle.authorizer.specs.declared.fault.AuthorizerFault.{AuthorizerFault}
 use Rattle.authorizer.specs.declared.fault.AuthorizerFault.TheVariants.{UserExists, NoSuchUser, BadLetter, BadPath, NoNumber}
-use Rattle.authorizer.specs.declared.letters.Letters.{Letters}
+use Rattle.ftp_terms.specs.declared.letters.Letters.{Letters}
 use Rattle.authorizer.specs.declared.account.Rule.{Rule}
-use Rattle.authorizer.specs.Letters.{letters_of}
+use Rattle.ftp_terms.specs.Letters.{letters_of}
 use Rattle.authorizer.specs.Users.{User, Users, Accounts}
 
 abbrev pub user_then : {X : Type 0} → Option User → (User → Result X AuthorizerFault) → Result X AuthorizerFault
@@ -65,13 +64,6 @@ with_messages accounts name login quit = user_then (map.get accounts.users name)
 
 abbrev pub with_group : Accounts → List ℕ → Option ℕ → Result Accounts AuthorizerFault
 with_group accounts name group = user_then (map.get accounts.users name) (λ user. Ok (with_user accounts name (record user { group = group })))
-
--- a reply has one line for a message
-abbrev pub is_line_end : ℕ → Bool
-is_line_end octet = nat_eq octet 10 || nat_eq octet 13
-
-abbrev pub IsMessage : List ℕ → Type 0
-IsMessage text = list_any is_line_end text ≡ false
 
 -- the anonymous user has every password
 abbrev pub passes : List ℕ → List ℕ → Option User → Bool

@@ -1,5 +1,4 @@
 pub mod Changes
-pub mod Letters
 pub mod Numbers
 pub mod Stored
 pub mod Users

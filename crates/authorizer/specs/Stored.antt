@@ -7,7 +7,9 @@ use Rattle.std.specs.FinMap as finite
 use Rattle.std.specs.Ordering.{nat_cmp}
 use Rattle.std.specs.Prelude.{String}
 use Rattle.std.specs.String.{string_bytes}
-use Rattle.authorizer.specs.declared.letters.Letters.{Letters}
+use Rattle.ftp_terms.specs.LineText.{text_of}
+use Rattle.ftp_terms.specs.declared.letters.Letters.{Letters}
+use Rattle.ftp_terms.specs.declared.line_text.LineText.{LineText}
 use Rattle.authorizer.specs.declared.account.Rule.{Rule}
 use Rattle.authorizer.specs.declared.account.Account.{Account}
 use Rattle.authorizer.specs.Users.{Overrides, User, Users, Accounts}
@@ -17,9 +19,9 @@ abbrev pub map_of : {Y X V : Type 0} → (X → V) → BTreeMap (String Y) X →
 map_of v m = finite.from_entries (map (λ e. (string_bytes e.0, v e.1)) m.entries)
 
 -- a message, or the one that is told where none was set
-abbrev pub message_of : {Y : Type 0} → List ℕ → Option (String Y) → List ℕ
+abbrev pub message_of : {Y : Type 0} → List ℕ → Option (LineText Y) → List ℕ
 message_of plain None = plain
-message_of plain (Some text) = string_bytes text
+message_of plain (Some text) = text_of text
 
 abbrev pub user_of : {Y : Type 0} → Account Y → User
 user_of account = record {

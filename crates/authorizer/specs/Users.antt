@@ -1,12 +1,12 @@
 -- The users of a server, and what each may do where.
-use Rattle.std.specs.Prelude.{◌≡◌, ◌⊎◌, ℕ, ◌≤◌, ◌-◌, true, List, Option, Some, length, take}
+use Rattle.std.specs.Prelude.{◌≡◌, ◌⊎◌, ◌↔◌, ℕ, zero, suc, ◌≤◌, ◌+◌, ◌-◌, Bool, true, false, cond, ◌||◌, nat_le, IsTrue, List, Option, Some, None, unwrap_or, length, take}
 use Rattle.std.specs.Cmp.Lexicographic.{slice_cmp}
 use Rattle.std.specs.FinMap as map
 use Rattle.std.specs.Ordering.{nat_cmp}
 use Rattle.virtual_path.specs.Path.{Path, path_text}
-use Rattle.authorizer.specs.Letters.{holds}
-use Rattle.authorizer.specs.declared.letters.Letter.{Letter}
-use Rattle.authorizer.specs.declared.letters.Letters.{Letters}
+use Rattle.ftp_terms.specs.Letters.{holds}
+use Rattle.ftp_terms.specs.declared.letters.Letter.{Letter}
+use Rattle.ftp_terms.specs.declared.letters.Letters.{Letters}
 use Rattle.authorizer.specs.declared.account.Rule.{Rule}
 
 -- a user's overrides, by the texts of their paths
@@ -58,3 +58,39 @@ DecidesAt user path letters = ((up : ℕ) × (rule : Rule) × IsDeepest user.ove
 
 abbrev pub Allowed : Users → List ℕ → Letter → Path → Type 0
 Allowed users name letter path = (user : User) × (letters : Letters) × (map.get users name ≡ Some user) × DecidesAt user path letters × (holds letters letter ≡ true)
+
+-- ---- the same as a function
+
+abbrev pub covers : Rule → ℕ → Bool
+covers rule up = rule.recursive || nat_le up 1
+
+-- the letters of an override so many names above a path, if it covers the path
+abbrev pub if_covers : ℕ → Option Rule → Option Letters
+if_covers up None = None
+if_covers up (Some rule) = cond (covers rule up) (Some rule.letters) None
+
+abbrev pub letters_above : Overrides → Path → ℕ → Option Letters
+letters_above overrides path up = if_covers up (map.get overrides (path_text (above up path)))
+
+abbrev pub first_of : Option Letters → Option Letters → Option Letters
+first_of (Some letters) others = Some letters
+first_of None others = others
+
+-- the first that are found so many names above a path, or up to `left` names further up
+abbrev pub first_above : Overrides → Path → ℕ → ℕ → Option Letters
+first_above overrides path up zero = letters_above overrides path up
+first_above overrides path up (suc left) = first_of (letters_above overrides path up) (first_above overrides path (up + 1) left)
+
+-- the letters that a user holds at a path
+abbrev pub letters_at : User → Path → Letters
+letters_at user path = unwrap_or (first_above user.overrides path 0 (length path)) user.letters
+
+abbrev pub holds_at : Option User → Letter → Path → Bool
+holds_at None letter path = false
+holds_at (Some user) letter path = holds (letters_at user path) letter
+
+abbrev pub allowed : Users → List ℕ → Letter → Path → Bool
+allowed users name letter path = holds_at (map.get users name) letter path
+
+abbrev pub AllowedByTheDeepest : Type 0
+AllowedByTheDeepest = (users : Users) (name : List ℕ) (letter : Letter) (path : Path) → IsTrue (allowed users name letter path) ↔ Allowed users name letter path

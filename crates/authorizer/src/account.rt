@@ -1,9 +1,10 @@
 //! What is kept of a user.
 
 ghost use Rattle.std.specs.Prelude.{◌≡◌};
+ghost use Rattle.ftp_terms.specs.Lines.{IsLine};
 ghost use Rattle.authorizer.specs.Stored.{user_of};
 
-use crate::letters::Letters;
+use ftp_terms::{Letters, LineText};
 use std::alloc::Allocator;
 use std::collections::BTreeMap;
 use virtual_path::VPath;
@@ -22,8 +23,8 @@ pub struct Account<A: Allocator> {
     pub home: VPath<A>,
     pub letters: Letters,
     // none until the first messages are set
-    pub login: Option<String<A>>,
-    pub quit: Option<String<A>>,
+    pub login: Option<LineText<A>>,
+    pub quit: Option<LineText<A>>,
     // by the texts of their paths
     pub overrides: BTreeMap<String<A>, Rule, A>,
     pub group: Option<u32>,
@@ -32,6 +33,7 @@ pub struct Account<A: Allocator> {
 /// What the user is told at login.
 pub fn login_of<A: Allocator>(account: &Account<A>) -> &str
     ensures login { result.now ≡ (user_of account.now).login }
+    ensures line { IsLine result.now }
 {
     match &account.login {
         Some(text) => text.as_str(),
@@ -42,6 +44,7 @@ pub fn login_of<A: Allocator>(account: &Account<A>) -> &str
 /// What the user is told at the end.
 pub fn quit_of<A: Allocator>(account: &Account<A>) -> &str
     ensures quit { result.now ≡ (user_of account.now).quit }
+    ensures line { IsLine result.now }
 {
     match &account.quit {
         Some(text) => text.as_str(),

@@ -3,12 +3,12 @@
 ghost use Rattle.std.specs.Prelude.{◌≡◌, ◌↔◌, ℕ, IsTrue, Some, MatchOption};
 ghost use Rattle.std.specs.FinMap as map;
 ghost use Rattle.authorizer.specs.declared.account.Rule.{Rule};
-ghost use Rattle.authorizer.specs.Users.{Covers, IsCovered, IsDeepest, DecidesAt};
+ghost use Rattle.authorizer.specs.Users.{Covers, IsCovered, IsDeepest, letters_at};
 ghost use Rattle.authorizer.specs.Stored.{map_of, user_of};
 
 use crate::account::{Account, Rule};
-use crate::letters::Letters;
 use crate::table::Rules;
+use ftp_terms::Letters;
 use std::alloc::Allocator;
 use virtual_path::{VPath, parent_text};
 
@@ -51,7 +51,7 @@ fn deepest<A: Allocator, B: Allocator>(rules: &Rules<A>, path: &VPath<B>) -> Opt
 
 /// The letters by which a user may do something at a path.
 pub fn letters_at<A: Allocator, B: Allocator>(account: &Account<A>, path: &VPath<B>) -> Letters
-    ensures decides { DecidesAt (user_of account.now) path.now result }
+    ensures letters { result ≡ letters_at (user_of account.now) path.now }
 {
     match deepest(&account.overrides, path) {
         Some(letters) => letters,

@@ -1,22 +1,22 @@
 //! The users.
 
-ghost use Rattle.std.specs.Prelude.{◌≡◌, ◌≢◌, ◌≤◌, ◌^◌, [], IsTrue, ◌↔◌, IfOk, IfErr, OnOk, OnErr, MatchResult, Some, None, Ok, Err, codes};
+ghost use Rattle.std.specs.Prelude.{◌≡◌, ◌≢◌, ◌≤◌, ◌^◌, [], IsTrue, ◌↔◌, IfOk, IfErr, IfSome, OnOk, OnErr, MatchResult, Some, None, Ok, Err, codes};
 ghost use Rattle.std.specs.FinMap as map;
-ghost use Rattle.std.specs.List.{list_any};
 ghost use Rattle.std.specs.Option.{option_map, option_copied, option_and_then};
 ghost use Rattle.std.specs.String.{string_bytes};
 ghost use Rattle.virtual_path.specs.Path.{Path, resolved};
-ghost use Rattle.authorizer.specs.Letters.{letters_of};
-ghost use Rattle.authorizer.specs.Users.{Allowed};
+ghost use Rattle.ftp_terms.specs.Letters.{letters_of};
+ghost use Rattle.ftp_terms.specs.Lines.{IsLine};
+ghost use Rattle.authorizer.specs.Users.{allowed, letters_at};
 ghost use Rattle.authorizer.specs.Stored.{user_of};
-ghost use Rattle.authorizer.specs.Changes.{added, placed, new_user, removed, overridden, with_messages, with_group, is_password, is_line_end, IsMessage};
+ghost use Rattle.authorizer.specs.Changes.{added, placed, new_user, removed, overridden, with_messages, with_group, is_password};
 
 use crate::account::{Account, Rule, login_of, quit_of};
 use crate::allowed::letters_at;
 use crate::fault::AuthorizerFault;
-use crate::letters::{Letter, Letters};
 use crate::password::is_same_password;
 use crate::table;
+use ftp_terms::{Letter, Letters, LineText};
 use std::alloc::{AllocError, Allocator, Global};
 use std::collections::BTreeMap;
 use std::marker::Model;
@@ -137,15 +137,16 @@ impl<A: Allocator + Clone> Authorizer<A> {
         table::override_path(&mut self.accounts, name, text, Rule { letters, recursive })
     }
 
-    /// Sets what a user is told at login and at the end.
+    /// Sets what a user is told at login and at the end, each on one line; `is_line_text` of `ftp_terms`
+    /// is the test.
     pub fn set_messages(
         &mut self,
         name: &str,
         login: &str,
         quit: &str,
     ) -> Result<(), AuthorizerFault>
-        requires login { IsMessage login.now }
-        requires quit { IsMessage quit.now }
+        requires login { IsLine login.now }
+        requires quit { IsLine quit.now }
         ensures ok { OnOk result (with_messages self.old name.now login.now quit.now ≡ Ok self.new) }
         ensures err { OnErr result (self.new ≡ self.old) }
         ensures which { IfErr result (λ fault. fault ≢ AuthorizerFault.Memory → with_messages self.old name.now login.now quit.now ≡ Err fault) }
@@ -155,6 +156,7 @@ impl<A: Allocator + Clone> Authorizer<A> {
         }
         let login = String::from_str(self.alloc.clone()?, login)?;
         let quit = String::from_str(self.alloc.clone()?, quit)?;
+        let (login, quit) = (LineText::made(login), LineText::made(quit));
         table::set_messages(&mut self.accounts, name, login, quit)
     }
 
@@ -186,12 +188,20 @@ impl<A: Allocator + Clone> Authorizer<A> {
 
     /// Whether a user holds a letter at a path.
     pub fn has_perm<B: Allocator>(&self, user: &str, letter: Letter, path: &VPath<B>) -> bool
-        ensures allowed { IsTrue result ↔ Allowed self.now.users user.now letter path.now }
+        ensures allowed { result ≡ allowed self.now.users user.now letter path.now }
     {
         match table::find(&self.accounts, user) {
             Some(account) => letters_at(account, path).holds(letter),
             None => false,
         }
+    }
+
+    /// All letters that a user holds at a path, found in one walk from the path up to the root.
+    pub fn letters_at<B: Allocator>(&self, user: &str, path: &VPath<B>) -> Option<Letters>
+        ensures letters { result ≡ option_map (λ user. letters_at user path.now) (map.get self.now.users user.now) }
+    {
+        let account = table::find(&self.accounts, user)?;
+        Some(letters_at(account, path))
     }
 
     /// The number of a user. Users are numbered as they are added, and no number is given twice.
@@ -226,34 +236,23 @@ impl<A: Allocator + Clone> Authorizer<A> {
         Some(&account.home)
     }
 
-    /// What a user is told at login.
+    /// What a user is told at login, on one line.
     pub fn msg_login(&self, name: &str) -> Option<&str>
         ensures login { option_copied result ≡ option_map (λ user. user.login) (map.get self.now.users name.now) }
+        ensures line { IfSome result (λ text. IsLine text.now) }
     {
         let account = table::find(&self.accounts, name)?;
         Some(login_of(account))
     }
 
-    /// What a user is told at the end.
+    /// What a user is told at the end, on one line.
     pub fn msg_quit(&self, name: &str) -> Option<&str>
         ensures quit { option_copied result ≡ option_map (λ user. user.quit) (map.get self.now.users name.now) }
+        ensures line { IfSome result (λ text. IsLine text.now) }
     {
         let account = table::find(&self.accounts, name)?;
         Some(quit_of(account))
     }
-}
-
-/// Whether a text may be a message: it has no end of a line, an octet 10 or 13.
-pub fn is_message(text: &str) -> bool
-    ensures message { IsTrue result ↔ IsMessage text.now }
-{
-    !has_line_end(text)
-}
-
-fn has_line_end(text: &str) -> bool
-    ensures end { result ≡ list_any is_line_end text.now }
-{
-    text.bytes().any(|octet| octet == 10 || octet == 13)
 }
 
 fn read_letters(text: &str) -> Result<Letters, AuthorizerFault>

@@ -1,4 +1,13 @@
 //! The users of an FTP server, and what each may do.
+//!
+//! ```text
+//! let mut users = Authorizer::new(alloc)?;
+//! users.add_user("ann", "secret", "/home/ann", "elr")?;
+//! users.override_perm("ann", "/in", "w", true)?;
+//! let may_log_in = users.check_password("ann", "secret");
+//! let may_store = users.has_perm("ann", Letter::Store, &path);
+//! let letters = users.letters_at("ann", &path);
+//! ```
 #![tactic(auto)]
 
 mod account;
@@ -6,13 +15,9 @@ mod allowed;
 mod authorizer;
 mod fault;
 mod laws;
-mod letters;
 mod password;
 mod table;
-#[cfg(test)]
-mod tests;
 
-pub use authorizer::{Authorizer, is_message};
+pub use authorizer::Authorizer;
 pub use fault::AuthorizerFault;
-pub use laws::{each_has_own_number, no_number_again};
-pub use letters::{Letter, Letters};
+pub use laws::{allowed_by_the_deepest, each_has_own_number, no_number_again};

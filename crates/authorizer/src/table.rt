@@ -3,11 +3,13 @@
 ghost use Rattle.std.specs.Prelude.{◌≡◌, ◌≢◌, false, Some, None, Ok, Err, is_some, MatchOption, MatchResult, IfErr, OnOk, OnErr};
 ghost use Rattle.std.specs.FinMap as map;
 ghost use Rattle.std.specs.String.{string_bytes};
+ghost use Rattle.ftp_terms.specs.LineText.{text_of};
 ghost use Rattle.authorizer.specs.Users.{User};
 ghost use Rattle.authorizer.specs.Stored.{map_of, user_of};
 
 use crate::account::{Account, Rule};
 use crate::fault::AuthorizerFault;
+use ftp_terms::LineText;
 use std::alloc::{AllocError, Allocator};
 use std::collections::BTreeMap;
 
@@ -81,12 +83,12 @@ pub fn override_path<A: Allocator + Clone>(
 pub fn set_messages<A: Allocator>(
     accounts: &mut Table<A>,
     name: &str,
-    login: String<A>,
-    quit: String<A>,
+    login: LineText<A>,
+    quit: LineText<A>,
 ) -> Result<(), AuthorizerFault>
     ensures messages { MatchResult result
         (λ _. (user : User) × (map.get (map_of user_of accounts.old) name.now ≡ Some user)
-        × (map_of user_of accounts.new ≡ map.insert (map_of user_of accounts.old) name.now (record user { login = string_bytes login; quit = string_bytes quit })))
+        × (map_of user_of accounts.new ≡ map.insert (map_of user_of accounts.old) name.now (record user { login = text_of login; quit = text_of quit })))
         (λ fault. (fault ≡ AuthorizerFault.NoSuchUser) × (map.get (map_of user_of accounts.old) name.now ≡ None) × (map_of user_of accounts.new ≡ map_of user_of accounts.old)) }
 {
     match accounts.get_mut(name) {

@@ -3,6 +3,7 @@ use Rattle.std.specs.Prelude.{◌≡◌, ◌≢◌, ℕ, Option, Some, Result, I
 use Rattle.virtual_tree.specs.declared.fault.StoreFault.{StoreFault}
 use Rattle.virtual_tree.specs.declared.fault.StoreFault.TheVariants.{Device, Full}
 use Rattle.virtual_tree.specs.Calls.{Exchange, refusal}
+use Rattle.folder_store.specs.declared.count.FaultCount.{FaultCount}
 
 -- the count of faults is another exactly where it was refused for the device; and it is never refused as full
 pub record IsHonest (old new : ℕ) (refused : Option StoreFault) : Type 0 where
@@ -14,5 +15,5 @@ abbrev pub NeverFull : {X : Type 0} → Result X StoreFault → Type 0
 NeverFull answer = IfErr answer (λ fault. fault ≢ Full)
 
 -- a call of such a store, seen as its count of faults
-abbrev pub FolderStep : {R K : Type 0} → ℕ → Exchange R K → ℕ → Type 0
-FolderStep old exchange new = IsHonest old new (refusal exchange)
+abbrev pub FolderStep : {R K : Type 0} → FaultCount → Exchange R K → FaultCount → Type 0
+FolderStep old exchange new = IsHonest old.count new.count (refusal exchange)

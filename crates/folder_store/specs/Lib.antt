@@ -1,3 +1,4 @@
 pub mod Honest
+pub mod Listings
 pub mod Times
 pub mod Told

@@ -1,6 +1,6 @@
 -- Which time of an entry is shown.
 use Rattle.std.specs.Prelude.{ℕ, ℤ, pos, negsuc, min}
-use Rattle.virtual_tree.specs.declared.TheConstants.{LATEST}
+use Rattle.ftp_terms.specs.declared.entries.TheConstants.{LATEST}
 
 -- a machine's time in seconds since 1970, as the nearest one that a listing can show
 abbrev pub shown : ℤ → ℕ

@@ -2,8 +2,8 @@
 use Rattle.std.specs.Prelude.{◌≡◌, ◌⊎◌}
 use Rattle.std.specs.Fs.{metadata_len, file_type, IsDir, IsFile}
 use Rattle.std.specs.declared.fs.attrs.Metadata.{Metadata}
-use Rattle.virtual_tree.specs.declared.meta.Meta.{Meta}
-use Rattle.virtual_tree.specs.declared.meta.Kind.TheVariants.{Directory, File}
+use Rattle.ftp_terms.specs.declared.entries.Meta.{Meta}
+use Rattle.ftp_terms.specs.declared.entries.Kind.TheVariants.{Directory, File}
 
 -- a directory, or a file and its length; the time that is shown is the machine's to say
 abbrev pub IsTold : Metadata → Meta → Type 0

@@ -5,24 +5,37 @@
 //! are sockets, pipes and devices. An entry that is not listed still stands: nothing is made in its
 //! place, and its directory is not empty.
 //!
+//! ```text
+//! let mut store = DirStore::new(rt, "/srv/ftp")?;
+//! let path = VPath::root(rt.alloc()).resolve(rt.alloc(), "/in/report")?;
+//! let mut sink = store.open_write(&path, WriteMode::New, moment)?;
+//! sink.write(b"all is well")?;
+//! store.finish(sink, moment)?;
+//! ```
+//!
+//! A new file is made only where nothing stands, not even a link. A file that stands is opened without
+//! cutting it off, and is read or cut only if it is the very one that was looked at. A rename replaces just
+//! the empty entry that it made at the new name itself, where nothing stood.
+//!
 //! What another process of the machine could still do: between the look at a directory and the call that
 //! goes through it, it can put a symbolic link in the directory's place, and the call then follows that
-//! link, which may lead out of the folder. A new file is made only where nothing stands, not even a link.
-//! A file that stands is opened without cutting it off, and is read or cut only if it is the very one
-//! that was looked at; a pipe that came to its place holds the call until someone opens its other end.
-//! A rename of a file never replaces another; a rename of a directory looks for the new name first, and
-//! can replace an empty directory that came between. So no other process may write below the folder
-//! that is not trusted with all that this one may reach.
+//! link, which may lead out of the folder. What it writes into the empty entry of a rename is lost. A pipe
+//! that it puts in a file's place holds the call, where this process may only read or only write that
+//! pipe. So no other process may write below the folder that is not trusted with all that this one may
+//! reach.
 //!
-//! What a call that is refused for the device leaves is the machine's to say; a rename of a file leaves
-//! the file at one of its two places at least.
+//! What a call that is refused for the device leaves is the machine's to say; a rename leaves the entry at
+//! one of its two places.
 #![tactic(auto)]
 
+mod changes;
+mod count;
+mod files;
 mod folder;
+mod listing;
 mod look;
 mod open;
-#[cfg(test)]
-mod tests;
+mod store;
 
-pub use folder::DirStore;
 pub use open::{DirSink, DirSource};
+pub use store::DirStore;

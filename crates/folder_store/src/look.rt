@@ -1,18 +1,16 @@
 //! What the machine tells of an entry.
 
-ghost use Rattle.std.specs.Prelude.{◌≡◌, ◌≢◌, ◌≤◌, ◌⊎◌, ◌↔◌, IsTrue, IfSome, MatchOption};
-ghost use Rattle.std.specs.List.{list_any};
+ghost use Rattle.std.specs.Prelude.{◌≡◌, ◌≢◌, ◌≤◌, ◌⊎◌, ◌↔◌, IsTrue, MatchOption};
 ghost use Rattle.std.specs.IoError.{error_kind};
-ghost use Rattle.virtual_path.specs.Path.{is_control};
-ghost use Rattle.virtual_tree.specs.Calls.{IsDated};
 ghost use Rattle.folder_store.specs.Times.{shown};
 ghost use Rattle.folder_store.specs.Told.{IsTold, IsNeither};
 
+use ftp_terms::{Kind, LATEST, Meta};
 use std::fs::Metadata;
 use std::io;
 use std::io::ErrorKind;
 use std::os::unix::fs::MetadataExt;
-use virtual_tree::{Kind, LATEST, Meta, StoreFault};
+use virtual_tree::StoreFault;
 
 /// Why a call was refused, by the machine's own word for it. A full disk is a fault of the device.
 pub fn fault_of(error: &io::Error) -> StoreFault
@@ -52,7 +50,6 @@ pub fn end_fault(error: &io::Error) -> StoreFault
 /// Whole seconds since 1970; a time outside the years 1970 to 9999 is told as the nearer end.
 pub fn seconds(time: i64) -> u64
     ensures seconds { result ≡ shown time }
-    ensures dated { result ≤ LATEST }
 {
     match u64::try_from(time) {
         Ok(seconds) => seconds.min(LATEST),
@@ -63,21 +60,12 @@ pub fn seconds(time: i64) -> u64
 /// What is known of a directory or a file; none of anything else, as a link.
 pub fn meta_of(metadata: &Metadata) -> Option<Meta>
     ensures told { MatchOption result (IsNeither metadata.now) (IsTold metadata.now) }
-    ensures dated { IfSome result IsDated }
 {
     if metadata.is_dir() {
-        return Some(Meta {
-            kind: Kind::Directory,
-            size: 0,
-            modified: seconds(metadata.mtime()),
-        });
+        return Some(Meta::new(Kind::Directory, 0, seconds(metadata.mtime())));
     }
     if metadata.is_file() {
-        return Some(Meta {
-            kind: Kind::File,
-            size: metadata.len(),
-            modified: seconds(metadata.mtime()),
-        });
+        return Some(Meta::new(Kind::File, metadata.len(), seconds(metadata.mtime())));
     }
     None
 }
@@ -102,11 +90,4 @@ pub fn is_same(looked: Identity, opened: Identity) -> bool
     ensures same { IsTrue result ↔ (looked ≡ opened) }
 {
     looked.device == opened.device && looked.number == opened.number
-}
-
-/// Whether a name holds an octet below 32, or 127. No path names such an entry.
-pub fn has_control(name: &str) -> bool
-    ensures control { result ≡ list_any is_control name.now }
-{
-    name.bytes().any(|octet| octet < 32 || octet == 127)
 }

@@ -34,6 +34,8 @@ impl<F: Read + Drop> Source for DirSource<F> {
 impl<F: Write + Drop> Sink for DirSink<F> {
     ghost collected = { λ _. None };
 
+    ghost target = { λ _. None };
+
     fn write(&mut self, octets: &[u8]) -> Result<(), StoreFault> {
         match self.file.write_all(octets) {
             Ok(()) => Ok(()),
@@ -108,15 +110,14 @@ pub fn write_behind<F: Write + Seek + OpenFile + Drop>(
     Ok(DirSink { file })
 }
 
-/// A file to write behind all its octets.
-pub fn write_at_end<F: Write + Seek + OpenFile + Drop>(
+/// A file that was opened to be appended to.
+pub fn write_at_end<F: Write + OpenFile + Drop>(
     file: F,
     looked: &Metadata,
 ) -> Result<DirSink<F>, StoreFault>
     ensures full { NeverFull result }
 {
     let _length = length_of(&file, looked)?;
-    let file = seek_to(file, SeekFrom::End(0))?;
     Ok(DirSink { file })
 }
 

@@ -5,3 +5,4 @@ pub mod LineLemmas
 pub mod ListingLemmas
 pub mod NumberLemmas
 pub mod QuoteLemmas
+pub mod ReplyLemmas

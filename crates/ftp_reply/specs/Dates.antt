@@ -10,7 +10,8 @@ FallsOn seconds date = epoch_day date ≡ pos (seconds / 86400)
 
 -- YYYYMMDDHHMMSS (RFC 3659 section 2.3)
 abbrev pub time_val : ℕ → Date → List ℕ
-time_val seconds date = zeroed 4 (unsigned_abs date.year) ++ zeroed 2 date.month ++ zeroed 2 date.day
+time_val seconds date =
+    zeroed 4 (unsigned_abs date.year) ++ zeroed 2 date.month ++ zeroed 2 date.day
     ++ zeroed 2 (seconds / 3600 % 24) ++ zeroed 2 (seconds / 60 % 60) ++ zeroed 2 (seconds % 60)
 
 -- the text is the moment's date and time

@@ -1,8 +1,8 @@
 -- Each listing text is the only one.
 use Rattle.std.specs.Prelude.{◌≡◌, ℕ, List}
-use Rattle.ftp_reply.specs.declared.entries.ListEntry.{ListEntry}
-use Rattle.ftp_reply.specs.declared.entries.Facts.{Facts}
-use Rattle.ftp_reply.specs.declared.entries.Letters.{Letters}
+use Rattle.ftp_terms.specs.declared.entries.Meta.{Meta}
+use Rattle.ftp_terms.specs.declared.facts.Facts.{Facts}
+use Rattle.ftp_terms.specs.declared.letters.Letters.{Letters}
 use Rattle.ftp_reply.specs.Dates.{IsTimeVal}
 use Rattle.ftp_reply.specs.Listings.{IsListLine, IsMlstEntry}
 
@@ -15,8 +15,8 @@ abbrev pub MomentsHaveOneText : Type 0
 MomentsHaveOneText = (seconds : ℕ) → HasOneText (IsTimeVal seconds)
 
 abbrev pub LinesHaveOneText : Type 0
-LinesHaveOneText = (entry : ListEntry) (name : List ℕ) → HasOneText (IsListLine entry name)
+LinesHaveOneText = (entry : Meta) (name : List ℕ) → HasOneText (IsListLine entry name)
 
 abbrev pub EntriesHaveOneText : Type 0
-EntriesHaveOneText =
-    (entry : ListEntry) (facts : Facts) (letters : Letters) (path : List ℕ) → HasOneText (IsMlstEntry entry facts letters path)
+EntriesHaveOneText = (entry : Meta) (facts : Facts) (letters : Letters) (path : List ℕ)
+    → HasOneText (IsMlstEntry entry facts letters path)

@@ -5,3 +5,4 @@ pub mod Numbers
 pub mod Quoting
 pub mod Replies
 pub mod ReplyView
+pub mod Written

@@ -1,21 +1,33 @@
 -- What a reply says (RFC 959 section 4.2).
-use Rattle.std.specs.Prelude.{ℕ, Bool, false, not, ◌&&◌, ◌==◌, if◌then◌else◌, List, [], ◌∷◌, ◌++◌, codes}
-use Rattle.std.specs.List.{list_all, flat_map}
+use Rattle.std.specs.Prelude.{ℕ, ◌≤◌, Bool, false, if◌then◌else◌, List, [], ◌∷◌, ◌++◌, codes}
+use Rattle.std.specs.List.{AllByRecursion, flat_map}
 use Rattle.std.specs.Char.{is_ascii_digit}
 use Rattle.std.specs.Fmt.{decimal}
+use Rattle.ftp_terms.specs.Lines.{IsLine}
+use Rattle.ftp_reply.specs.declared.codes.TheConstants.{HIGHEST_CODE, LOWEST_CODE}
 
 -- CR and LF, the end of a line
 abbrev pub line_end : List ℕ
 line_end = 13 ∷ 10 ∷ []
 
--- the text stands on one line: none of its octets is CR or LF
-abbrev pub is_line : List ℕ → Bool
-is_line = list_all (λ octet. not (octet == 13) && not (octet == 10))
-
 -- a reply has a code, and is one line of text, or a first line, lines inside and a last line
 pub data ReplyForm : Type 0 where
   OneLine : (code : ℕ) (text : List ℕ) → ReplyForm
   SeveralLines : (code : ℕ) (first : List ℕ) (inner : List (List ℕ)) (last : List ℕ) → ReplyForm
+
+abbrev pub code_of : ReplyForm → ℕ
+code_of (OneLine code text) = code
+code_of (SeveralLines code first inner last) = code
+
+abbrev pub texts_of : ReplyForm → List (List ℕ)
+texts_of (OneLine code text) = text ∷ []
+texts_of (SeveralLines code first inner last) = first ∷ last ∷ inner
+
+-- a code of three digits whose first is 1 to 5, and texts of one line each
+pub record IsReply (form : ReplyForm) : Type 0 where
+  pub low : LOWEST_CODE ≤ code_of form
+  pub high : code_of form ≤ HIGHEST_CODE
+  pub lines : AllByRecursion IsLine (texts_of form)
 
 -- a line that bears the code, with a mark between the code and the text
 abbrev pub coded_line : ℕ → List ℕ → List ℕ → List ℕ
@@ -25,7 +37,8 @@ abbrev pub begins_with_digit : List ℕ → Bool
 begins_with_digit [] = false
 begins_with_digit (octet ∷ _) = is_ascii_digit octet
 
--- a line inside: where it begins with a digit, a space in front keeps it apart from a line with a code
+-- a line inside: where it begins with a digit, a space in front keeps it apart from a line with a
+-- code
 abbrev pub inner_line : List ℕ → List ℕ
 inner_line text = (if begins_with_digit text then codes " " else []) ++ text ++ line_end
 
@@ -33,4 +46,5 @@ inner_line text = (if begins_with_digit text then codes " " else []) ++ text ++ 
 abbrev pub reply_text : ReplyForm → List ℕ
 reply_text (OneLine code text) = coded_line code (codes " ") text
 reply_text (SeveralLines code first inner last) =
-    coded_line code (codes "-") first ++ flat_map inner_line inner ++ coded_line code (codes " ") last
+    coded_line code (codes "-") first ++ flat_map inner_line inner
+    ++ coded_line code (codes " ") last

@@ -1,16 +1,17 @@
 //! Moments by the civil calendar.
-ghost use Rattle.std.specs.Prelude.{◌≡◌, ◌≤◌, ◌+◌, ◌/◌, ◌%◌, ◌∷◌, [], unsigned_abs};
+ghost use Rattle.std.specs.Prelude.{IfOk, ◌≡◌, ◌≤◌, ◌+◌, ◌/◌, ◌%◌, ◌∷◌, [], unsigned_abs};
+ghost use Rattle.std.specs.Str.{IsAscii};
+ghost use Rattle.ftp_terms.specs.LineText.{text_of};
 ghost use Rattle.ftp_reply.specs.Dates.{FallsOn, IsTimeVal};
 ghost use Rattle.ftp_reply.specs.Numbers.{zeroed};
 
+use ftp_terms::{LATEST, LineText};
 use jiff_core::civil::Date;
-
-/// The last second of the year 9999, the latest moment that fourteen digits can tell.
-pub const LATEST_MOMENT: u64 = 253_402_300_799;
+use std::alloc::{AllocError, Allocator};
 
 /// The calendar's day, in UTC, on which the moment falls.
 pub(crate) fn date_of(seconds: u64) -> Date
-    requires in_calendar { seconds ≤ LATEST_MOMENT }
+    requires in_calendar { seconds ≤ LATEST }
     ensures falls_on { FallsOn seconds result }
 {
     Date::from_unix_epoch_day((seconds / 86_400) as i64).unwrap()
@@ -34,7 +35,8 @@ fn two_digits(n: u32) -> [u8; 2]
 
 fn four_digits(n: u32) -> [u8; 4]
     requires fits { n ≤ 9999 }
-    ensures octets { result ≡ (48 + n / 1000) ∷ (48 + n / 100 % 10) ∷ (48 + n / 10 % 10) ∷ (48 + n % 10) ∷ [] }
+    ensures octets { result ≡ (48 + n / 1000) ∷ (48 + n / 100 % 10) ∷ (48 + n / 10 % 10)
+        ∷ (48 + n % 10) ∷ [] }
     ensures digits { result ≡ zeroed 4 n }
 {
     [
@@ -46,9 +48,9 @@ fn four_digits(n: u32) -> [u8; 4]
 }
 
 /// The moment, in seconds since 1970, as `YYYYMMDDHHMMSS` in UTC (RFC 3659 section 2.3). It takes no
-/// memory, and a moment up to [`LATEST_MOMENT`].
+/// memory, and a moment up to [`LATEST`].
 pub fn mdtm_text(seconds: u64) -> [u8; 14]
-    requires in_calendar { seconds ≤ LATEST_MOMENT }
+    requires in_calendar { seconds ≤ LATEST }
     ensures text { IsTimeVal seconds result }
 {
     let date = date_of(seconds);
@@ -59,4 +61,22 @@ pub fn mdtm_text(seconds: u64) -> [u8; 14]
     let [n0, n1] = two_digits((seconds / 60 % 60) as u32);
     let [s0, s1] = two_digits((seconds % 60) as u32);
     [y0, y1, y2, y3, m0, m1, d0, d1, h0, h1, n0, n1, s0, s1]
+}
+
+/// ASCII digits as a text.
+pub(crate) fn digits_text(digits: &[u8]) -> &str
+    requires ascii { IsAscii digits.now }
+    ensures text { result.now ≡ digits.now }
+{
+    str::from_utf8(digits).unwrap()
+}
+
+/// The text of [`mdtm_text`], for a reply. `Err` is want of memory.
+pub fn mdtm_line<A: Allocator>(alloc: A, seconds: u64) -> Result<LineText<A>, AllocError>
+    requires in_calendar { seconds ≤ LATEST }
+    ensures text { IfOk result (λ line. IsTimeVal seconds (text_of line)) }
+{
+    let digits = mdtm_text(seconds);
+    let text = String::from_str(alloc, digits_text(&digits))?;
+    Ok(LineText::made(text))
 }

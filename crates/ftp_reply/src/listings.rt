@@ -1,31 +1,40 @@
 //! The lines of listings.
-ghost use Rattle.std.specs.Prelude.{◌≡◌, ◌≤◌, ◌++◌, [], IfOk, IsTrue, OnOk, ◌&&◌, not, if◌then◌else◌, codes};
+
+ghost use Rattle.std.specs.Prelude.{◌≡◌, ◌≤◌, [], IfOk, ◌&&◌, if◌then◌else◌, codes};
 ghost use Rattle.std.specs.Fmt.{decimal};
-ghost use Rattle.std.specs.Str.{IsAscii};
 ghost use Rattle.std.specs.String.{string_bytes};
+ghost use Rattle.ftp_terms.specs.LineText.{text_of};
+ghost use Rattle.ftp_terms.specs.Lines.{IsLine};
 ghost use Rattle.ftp_reply.specs.Determined.{EntriesHaveOneText, LinesHaveOneText, MomentsHaveOneText};
 ghost use Rattle.ftp_reply.specs.Listings as Listings;
-ghost use Rattle.ftp_reply.specs.Listings.{IsListLine, IsMlstEntry, directory_perms, fact, file_perms, mode_text, perm_fact};
-ghost use Rattle.ftp_reply.specs.Replies.{is_line};
+ghost use Rattle.ftp_reply.specs.Listings.{IsListLine, IsMlstEntry, directory_perms, fact, file_perms, has_size, mode_text, perms, type_name};
+ghost use Rattle.ftp_reply.specs.Written.{Appends};
 
-use crate::dates::{date_of, mdtm_text, year_of};
-use crate::entries::{Facts, Letters, ListEntry};
+use crate::dates::{date_of, digits_text, mdtm_text, year_of};
+use ftp_terms::{Facts, Kind, Letters, LineText, Meta};
 use std::alloc::{AllocError, Allocator};
 use std::fmt::Write;
 
 /// A line of a listing in the style of `ls -l`, without the end of the line:
 /// `-rw-r--r-- 1 ftp ftp          120 Feb 29  2000 a.txt`. The size stands right in 12 places, and
-/// takes more where it has more digits. A name of one line gives one line. `Err` is want of memory.
+/// takes more where it has more digits. `Err` is want of memory.
 pub fn list_line<A: Allocator>(
     alloc: A,
-    entry: &ListEntry,
+    entry: &Meta,
     name: &str,
-) -> Result<String<A>, AllocError>
+) -> Result<LineText<A>, AllocError>
+    requires line { IsLine name.now }
+    ensures text { IfOk result (λ line. IsListLine entry.now name.now (text_of line)) }
+{
+    let text = list_text(alloc, entry, name)?;
+    Ok(LineText::made(text))
+}
+
+fn list_text<A: Allocator>(alloc: A, entry: &Meta, name: &str) -> Result<String<A>, AllocError>
     ensures text { IfOk result (λ text. IsListLine entry.now name.now (string_bytes text)) }
-    ensures line { IsTrue (is_line name.now) → IfOk result (λ text. IsTrue (is_line (string_bytes text))) }
 {
     let date = date_of(entry.modified);
-    let mode = mode(entry.dir);
+    let mode = mode_text(entry.kind);
     let size = listed_size(entry);
     let month = month_name(date.month);
     let day = date.day;
@@ -42,16 +51,22 @@ pub fn listings_have_one_text()
     ensures entries { EntriesHaveOneText }
 {}
 
-fn mode(dir: bool) -> &'static str
-    ensures text { result.now ≡ mode_text dir }
+fn mode_text(kind: Kind) -> &'static str
+    ensures text { result.now ≡ mode_text kind }
 {
-    if dir { "drwxr-xr-x" } else { "-rw-r--r--" }
+    match kind {
+        Kind::Directory => "drwxr-xr-x",
+        Kind::File => "-rw-r--r--",
+    }
 }
 
-fn listed_size(entry: &ListEntry) -> u64
-    ensures size { result ≡ Listings.listed_size entry.now }
+fn listed_size(entry: &Meta) -> u64
+    ensures size { result ≡ Listings.listed_size entry.now.kind entry.now.size }
 {
-    if entry.dir { 0 } else { entry.size }
+    match entry.kind {
+        Kind::Directory => 0,
+        Kind::File => entry.size,
+    }
 }
 
 fn month_name(month: u8) -> &'static str
@@ -76,48 +91,58 @@ fn month_name(month: u8) -> &'static str
 }
 
 /// An entry of MLST and MLSD, without the end of the line (RFC 3659 section 7.2): each fact in
-/// force as `name=value;` in the order type, size, modify, perm, a space and the path. A path of one
-/// line gives one line. `Err` is want of memory.
+/// force as `name=value;` in the order type, size, modify, perm, a space and the path. `Err` is want
+/// of memory.
 pub fn mlst_entry<A: Allocator>(
     alloc: A,
-    entry: &ListEntry,
+    entry: &Meta,
+    facts: Facts,
+    letters: Letters,
+    path: &str,
+) -> Result<LineText<A>, AllocError>
+    requires line { IsLine path.now }
+    ensures text { IfOk result
+        (λ line. IsMlstEntry entry.now facts letters path.now (text_of line)) }
+{
+    let text = entry_text(alloc, entry, facts, letters, path)?;
+    Ok(LineText::made(text))
+}
+
+fn entry_text<A: Allocator>(
+    alloc: A,
+    entry: &Meta,
     facts: Facts,
     letters: Letters,
     path: &str,
 ) -> Result<String<A>, AllocError>
-    ensures text { IfOk result (λ text. IsMlstEntry entry.now facts letters path.now (string_bytes text)) }
-    ensures line { IsTrue (is_line path.now) → IfOk result (λ text. IsTrue (is_line (string_bytes text))) }
+    ensures text { IfOk result
+        (λ text. IsMlstEntry entry.now facts letters path.now (string_bytes text)) }
 {
     let time = mdtm_text(entry.modified);
     let mut text = String::new(alloc);
-    push_fact(&mut text, facts.kind, "type", type_name(entry.dir))?;
+    push_fact(&mut text, facts.kind, "type", type_name(entry.kind))?;
     push_size(&mut text, facts.size, entry)?;
     push_fact(&mut text, facts.modify, "modify", digits_text(&time))?;
-    push_perm(&mut text, facts.perm, entry.dir, letters)?;
+    push_perm(&mut text, facts.perm, entry.kind, letters)?;
     text.push_str(" ")?;
     text.push_str(path)?;
     Ok(text)
 }
 
-fn type_name(dir: bool) -> &'static str
-    ensures name { result.now ≡ (if dir then codes "dir" else codes "file") }
+fn type_name(kind: Kind) -> &'static str
+    ensures name { result.now ≡ type_name kind }
 {
-    if dir { "dir" } else { "file" }
+    match kind {
+        Kind::Directory => "dir",
+        Kind::File => "file",
+    }
 }
 
-/// ASCII digits as a text.
-fn digits_text(digits: &[u8]) -> &str
-    requires ascii { IsAscii digits.now }
-    ensures text { result.now ≡ digits.now }
+/// Appends the text where it is in force.
+fn push_if<A: Allocator>(text: &mut String<A>, in_force: bool, part: &str) -> Result<(), AllocError>
+    ensures appended { Appends result text.old text.new (if in_force then part.now else []) }
 {
-    str::from_utf8(digits).unwrap()
-}
-
-/// Appends the text where it counts.
-fn push_if<A: Allocator>(text: &mut String<A>, counts: bool, part: &str) -> Result<(), AllocError>
-    ensures ok { OnOk result (string_bytes text.new ≡ string_bytes text.old ++ (if counts then part.now else [])) }
-{
-    if counts {
+    if in_force {
         text.push_str(part)?;
     }
     Ok(())
@@ -130,7 +155,8 @@ fn push_fact<A: Allocator>(
     name: &str,
     value: &str,
 ) -> Result<(), AllocError>
-    ensures ok { OnOk result (string_bytes text.new ≡ string_bytes text.old ++ (if in_force then fact name.now value.now else [])) }
+    ensures appended { Appends result text.old text.new
+        (if in_force then fact name.now value.now else []) }
 {
     push_if(text, in_force, name)?;
     push_if(text, in_force, "=")?;
@@ -138,15 +164,23 @@ fn push_fact<A: Allocator>(
     push_if(text, in_force, ";")
 }
 
+fn has_size(kind: Kind) -> bool
+    ensures size { result ≡ has_size kind }
+{
+    kind == Kind::File
+}
+
 /// Appends the fact of a file's size where it is in force.
 fn push_size<A: Allocator>(
     text: &mut String<A>,
     in_force: bool,
-    entry: &ListEntry,
+    entry: &Meta,
 ) -> Result<(), AllocError>
-    ensures ok { OnOk result (string_bytes text.new ≡ string_bytes text.old ++ (if in_force && not entry.now.dir then fact (codes "size") (decimal entry.now.size) else [])) }
+    ensures appended { Appends result text.old text.new
+        (if in_force && has_size entry.now.kind
+        then fact (codes "size") (decimal entry.now.size) else []) }
 {
-    if in_force && !entry.dir {
+    if in_force && has_size(entry.kind) {
         let size = entry.size;
         write!(text, "size={size};")?;
     }
@@ -156,19 +190,19 @@ fn push_size<A: Allocator>(
 fn push_perm<A: Allocator>(
     text: &mut String<A>,
     in_force: bool,
-    dir: bool,
+    kind: Kind,
     letters: Letters,
 ) -> Result<(), AllocError>
-    ensures ok { OnOk result (string_bytes text.new ≡ string_bytes text.old ++ (if in_force then perm_fact dir letters else [])) }
+    ensures appended { Appends result text.old text.new
+        (if in_force then fact (codes "perm") (perms kind letters) else []) }
 {
     if !in_force {
         return Ok(());
     }
     text.push_str("perm=")?;
-    if dir {
-        push_directory_perms(text, letters)?;
-    } else {
-        push_file_perms(text, letters)?;
+    match kind {
+        Kind::Directory => push_directory_perms(text, letters)?,
+        Kind::File => push_file_perms(text, letters)?,
     }
     text.push_str(";")
 }
@@ -177,23 +211,23 @@ fn push_directory_perms<A: Allocator>(
     text: &mut String<A>,
     letters: Letters,
 ) -> Result<(), AllocError>
-    ensures ok { OnOk result (string_bytes text.new ≡ string_bytes text.old ++ directory_perms letters) }
+    ensures appended { Appends result text.old text.new (directory_perms letters) }
 {
-    push_if(text, letters.write, "c")?;
+    push_if(text, letters.store, "c")?;
     push_if(text, letters.delete, "d")?;
-    push_if(text, letters.enter, "e")?;
+    push_if(text, letters.change_directory, "e")?;
     push_if(text, letters.rename, "f")?;
-    push_if(text, letters.list, "l")?;
-    push_if(text, letters.make, "m")?;
+    push_if(text, letters.listing, "l")?;
+    push_if(text, letters.make_directory, "m")?;
     push_if(text, letters.delete, "p")
 }
 
 fn push_file_perms<A: Allocator>(text: &mut String<A>, letters: Letters) -> Result<(), AllocError>
-    ensures ok { OnOk result (string_bytes text.new ≡ string_bytes text.old ++ file_perms letters) }
+    ensures appended { Appends result text.old text.new (file_perms letters) }
 {
-    push_if(text, letters.append, "a")?;
+    push_if(text, letters.append_to, "a")?;
     push_if(text, letters.delete, "d")?;
     push_if(text, letters.rename, "f")?;
-    push_if(text, letters.read, "r")?;
-    push_if(text, letters.write, "w")
+    push_if(text, letters.retrieve, "r")?;
+    push_if(text, letters.store, "w")
 }

@@ -1,17 +1,20 @@
 //! Paths in replies.
-ghost use Rattle.std.specs.Prelude.{◌≡◌, ◌++◌, IfOk, IsTrue, OnOk, encode_utf8};
-ghost use Rattle.std.specs.List.{flat_map};
-ghost use Rattle.std.specs.String.{string_bytes};
-ghost use Rattle.ftp_reply.specs.Quoting.{doubled, quoted};
-ghost use Rattle.ftp_reply.specs.Replies.{is_line};
 
+ghost use Rattle.std.specs.Prelude.{◌≡◌, IfOk, encode_utf8};
+ghost use Rattle.std.specs.List.{flat_map};
+ghost use Rattle.ftp_terms.specs.LineText.{text_of};
+ghost use Rattle.ftp_terms.specs.Lines.{IsLine};
+ghost use Rattle.ftp_reply.specs.Quoting.{doubled, quoted};
+ghost use Rattle.ftp_reply.specs.Written.{Appends};
+
+use ftp_terms::LineText;
 use std::alloc::{AllocError, Allocator};
 
-/// The path in double quotes, with each double quote in it doubled (RFC 959 appendix II). A path of
-/// one line gives one line. `Err` is want of memory.
-pub fn quoted_path<A: Allocator>(alloc: A, path: &str) -> Result<String<A>, AllocError>
-    ensures text { IfOk result (λ text. string_bytes text ≡ quoted path.now) }
-    ensures line { IsTrue (is_line path.now) → IfOk result (λ text. IsTrue (is_line (string_bytes text))) }
+/// The path in double quotes, with each double quote in it doubled (RFC 959 appendix II). `Err` is
+/// want of memory.
+pub fn quoted_path<A: Allocator>(alloc: A, path: &str) -> Result<LineText<A>, AllocError>
+    requires line { IsLine path.now }
+    ensures text { IfOk result (λ line. text_of line ≡ quoted path.now) }
 {
     let mut text = String::new(alloc);
     text.push_str("\"")?;
@@ -19,12 +22,12 @@ pub fn quoted_path<A: Allocator>(alloc: A, path: &str) -> Result<String<A>, Allo
         push_doubled(&mut text, character)?;
     }
     text.push_str("\"")?;
-    Ok(text)
+    Ok(LineText::made(text))
 }
 
 /// Appends the character, and a double quote twice.
 fn push_doubled<A: Allocator>(text: &mut String<A>, character: char) -> Result<(), AllocError>
-    ensures ok { OnOk result (string_bytes text.new ≡ string_bytes text.old ++ flat_map doubled (encode_utf8 character)) }
+    ensures appended { Appends result text.old text.new (flat_map doubled (encode_utf8 character)) }
 {
     if character == '"' {
         text.push_str("\"\"")?;

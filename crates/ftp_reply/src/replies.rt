@@ -1,10 +1,13 @@
 //! Replies.
-ghost use Rattle.std.specs.Prelude.{◌≡◌, ℕ, List, ◌++◌, ◌∷◌, [], OnOk, OnErr, vec_len, take, length, codes};
+
+ghost use Rattle.std.specs.Prelude.{◌≡◌, map, OnErr};
 ghost use Rattle.std.specs.List.{flat_map};
+ghost use Rattle.ftp_terms.specs.LineText.{text_of};
 ghost use Rattle.ftp_reply.specs.Replies.{SeveralLines, begins_with_digit, coded_line, inner_line, reply_text};
+ghost use Rattle.ftp_reply.specs.Written.{Adds, KeepsFront};
 
 use crate::codes::ReplyCode;
-use crate::line_text::LineText;
+use ftp_terms::LineText;
 use std::alloc::{AllocError, Allocator, Global};
 use std::marker::Model;
 
@@ -22,21 +25,22 @@ enum Lines<A: Allocator> {
 }
 
 impl<A: Allocator> Model for Reply<A> {
-    ghost use Rattle.ftp_reply.specs.Replies.{ReplyForm};
+    ghost use Rattle.ftp_reply.specs.Replies.{IsReply, ReplyForm};
+    ghost use Rattle.ftp_reply.specs.ReplyView.{form_of};
 
     ghost Value = { ReplyForm };
 
-    ghost use Rattle.ftp_reply.specs.ReplyView.{form_of};
-
     ghost view = { λ reply. form_of reply.code reply.lines };
+
+    ghost invariant = { λ reply. IsReply (form_of reply.code reply.lines) };
 }
 
 impl<A: Allocator> Reply<A> {
-    ghost use Rattle.ftp_reply.specs.Replies.{OneLine, SeveralLines};
+    ghost use Rattle.ftp_reply.specs.Replies.{IsReply, OneLine, SeveralLines};
 
     /// A reply of one line. With a fixed text it takes no memory.
     pub fn one_line(code: ReplyCode, text: LineText<A>) -> Reply<A>
-        ensures form { result ≡ OneLine code text }
+        ensures form { result ≡ OneLine code.number (text_of text) }
     {
         Reply {
             code,
@@ -51,7 +55,8 @@ impl<A: Allocator> Reply<A> {
         inner: Vec<LineText<A>, A>,
         last: LineText<A>,
     ) -> Reply<A>
-        ensures form { result ≡ SeveralLines code first inner.items last }
+        ensures form { result
+            ≡ SeveralLines code.number (text_of first) (map text_of inner.items) (text_of last) }
     {
         Reply {
             code,
@@ -60,9 +65,12 @@ impl<A: Allocator> Reply<A> {
     }
 
     /// Appends the octets of the reply. `Err` is want of memory, and then nothing is appended.
+    ///
+    /// No reply holds a CR or an LF within a line, nor a code outside 100 to 599.
     pub fn write_to<B: Allocator>(&self, buffer: &mut Vec<u8, B>) -> Result<(), AllocError>
-        ensures ok { OnOk result (buffer.new.items ≡ buffer.old.items ++ reply_text self.now) }
-        ensures memory { OnErr result (buffer.new.items ≡ buffer.old.items) }
+        ensures reply { IsReply self.now }
+        ensures appended { Adds result buffer.old buffer.new (reply_text self.now) }
+        ensures unchanged { OnErr result (buffer.new.items ≡ buffer.old.items) }
     {
         let length = buffer.len();
         let written = match &self.lines {
@@ -85,8 +93,9 @@ fn push_coded<B: Allocator>(
     mark: &str,
     text: &str,
 ) -> Result<(), AllocError>
-    ensures ok { OnOk result (buffer.new.items ≡ buffer.old.items ++ coded_line code mark.now text.now) }
-    ensures memory { OnErr result (take (vec_len buffer.old) buffer.new.items ≡ buffer.old.items) }
+    ensures appended { Adds result buffer.old buffer.new
+        (coded_line code.number mark.now text.now) }
+    ensures front { KeepsFront result buffer.old buffer.new }
 {
     buffer.extend_from_slice(&code.digits())?;
     buffer.extend_from_slice(mark.as_bytes())?;
@@ -102,8 +111,8 @@ fn starts_with_digit(text: &str) -> bool
 
 /// Appends a line that stands inside a reply.
 fn push_inner<B: Allocator>(buffer: &mut Vec<u8, B>, text: &str) -> Result<(), AllocError>
-    ensures ok { OnOk result (buffer.new.items ≡ buffer.old.items ++ inner_line text.now) }
-    ensures memory { OnErr result (take (vec_len buffer.old) buffer.new.items ≡ buffer.old.items) }
+    ensures appended { Adds result buffer.old buffer.new (inner_line text.now) }
+    ensures front { KeepsFront result buffer.old buffer.new }
 {
     if starts_with_digit(text) {
         buffer.push(b' ')?;
@@ -116,8 +125,9 @@ fn push_inner_lines<A: Allocator, B: Allocator>(
     buffer: &mut Vec<u8, B>,
     inner: &[LineText<A>],
 ) -> Result<(), AllocError>
-    ensures ok { OnOk result (buffer.new.items ≡ buffer.old.items ++ flat_map inner_line inner.now) }
-    ensures memory { OnErr result (take (vec_len buffer.old) buffer.new.items ≡ buffer.old.items) }
+    ensures appended { Adds result buffer.old buffer.new
+        (flat_map inner_line (map text_of inner.now)) }
+    ensures front { KeepsFront result buffer.old buffer.new }
 {
     for text in inner {
         push_inner(buffer, text.as_str())?;
@@ -132,8 +142,10 @@ fn push_several<A: Allocator, B: Allocator>(
     inner: &[LineText<A>],
     last: &LineText<A>,
 ) -> Result<(), AllocError>
-    ensures ok { OnOk result (buffer.new.items ≡ buffer.old.items ++ reply_text (SeveralLines code first.now inner.now last.now)) }
-    ensures memory { OnErr result (take (vec_len buffer.old) buffer.new.items ≡ buffer.old.items) }
+    ensures appended { Adds result buffer.old buffer.new
+        (reply_text
+        (SeveralLines code.number (text_of first.now) (map text_of inner.now) (text_of last.now))) }
+    ensures front { KeepsFront result buffer.old buffer.new }
 {
     push_coded(buffer, code, "-", first.as_str())?;
     push_inner_lines(buffer, inner)?;

@@ -2,7 +2,7 @@
 use Rattle.std.proofs.Common.{refl, ◌≡◌, ℕ, List, Result, Ok, Err}
 use Rattle.ftp_wire.specs.declared.commands.Command.{Command}
 use Rattle.ftp_wire.specs.declared.commands.Command.TheVariants as command
-use Rattle.ftp_wire.specs.declared.commands.LineFault.{LineFault}
+use Rattle.ftp_wire.specs.declared.faults.LineFault.{LineFault}
 use Rattle.ftp_wire.specs.declared.table.Form.{Form}
 use Rattle.ftp_wire.specs.declared.table.Form.TheVariants as form
 use Rattle.ftp_wire.specs.Arguments.{extended_port_of, letter_of, offset_of, option_of, port_of, type_of}

@@ -11,7 +11,7 @@ use Rattle.std.proofs.lemmas.Str.{IsCharBoundary-after_ascii, IsUtf8-drop, IsUtf
 use Rattle.std.proofs.lemmas.Str.Parse.{digits_value_short}
 use Rattle.ftp_wire.specs.declared.commands.ExtendedPassive.TheVariants.{Protocol}
 use Rattle.ftp_wire.specs.declared.commands.ExtendedPort.TheVariants.{Unsupported}
-use Rattle.ftp_wire.specs.declared.commands.LineFault.{LineFault}
+use Rattle.ftp_wire.specs.declared.faults.LineFault.{LineFault}
 use Rattle.ftp_wire.specs.Arguments.{◌>>=◌, extended_parts, extended_passive_of, extended_port_of, host, host_of, host_port, ipv4, is_number, number_cut_at, number_of, number_up_to, octet_of, offset_of, or_bad, parts_at, port_of, without_switches}
 use Rattle.ftp_wire.specs.Given.{IsArgument, IsExtendedPassive, IsExtendedPort, IsHostPort, IsOffset}
 use Rattle.ftp_wire.specs.Words.{is_blank, is_printed, is_space, is_text, same_letters}

@@ -11,8 +11,8 @@ use Rattle.std.proofs.lemmas.List.Elements.{All-append, All-cons, All-nil}
 use Rattle.std.proofs.lemmas.List.Splits.{slice_split_at}
 use Rattle.std.proofs.lemmas.Str.Ascii.{lowercase_is}
 use Rattle.std.proofs.lemmas.Str.Parse.{tells_all_ascii_digits}
-use Rattle.ftp_wire.specs.declared.commands.DataType.{DataType}
-use Rattle.ftp_wire.specs.declared.commands.DataType.TheVariants.{Ascii, Image}
+use Rattle.ftp_terms.specs.declared.data_type.DataType.{DataType}
+use Rattle.ftp_terms.specs.declared.data_type.DataType.TheVariants.{Ascii, Image}
 use Rattle.ftp_wire.specs.declared.commands.ExtendedPassive.TheVariants.{Protocol}
 use Rattle.ftp_wire.specs.declared.commands.ExtendedPort.{ExtendedPort}
 use Rattle.ftp_wire.specs.declared.commands.ExtendedPort.TheVariants.{Ipv4, Unsupported}

@@ -2,9 +2,12 @@
 use Rattle.std.proofs.Common.{subst, ◌≡◌, ◌==◌, ℕ, List, false, Result, Ok, Err, Option, Some, None, length, nat_le}
 use Rattle.std.specs.Prelude.{IfOk, IfSome, codes}
 use Rattle.std.specs.List.{after_first, before_first}
+use Rattle.ftp_wire.specs.declared.items.TheConstants.{LONGEST_LINE}
 use Rattle.ftp_wire.specs.declared.commands.Command.{Command}
 use Rattle.ftp_wire.specs.declared.commands.Command.TheVariants as command
-use Rattle.ftp_wire.specs.declared.commands.LineFault.{LineFault}
+use Rattle.ftp_wire.specs.declared.faults.LineFault.{LineFault}
+use Rattle.ftp_wire.specs.declared.table.Known.{Known}
+use Rattle.ftp_wire.specs.declared.table.Known.TheVariants.{NotServed, Served}
 use Rattle.ftp_wire.specs.declared.table.Verb.{Verb}
 use Rattle.ftp_wire.specs.declared.table.Verb.TheVariants as verb
 use Rattle.ftp_wire.specs.declared.table.Bare.{Bare}
@@ -103,10 +106,10 @@ argument_holds (verb.Optional v) t b = cond_ok IsGiven (is_text t) _ _ (λ e. te
 argument_holds (verb.Listing v) t b = cond_ok IsGiven (is_text t) _ _ (λ e. text_item_holds (verb.Listing v) t (record { some = b; printed = e })) (λ _. tt)
 argument_holds verb.Epsv t b = cond_ok IsGiven (is_text t) _ _ (λ e. text_item_holds verb.Epsv t (record { some = b; printed = e })) (λ _. tt)
 
-known_holds : (o : Option (Option Verb)) (t : List ℕ) → IfOk (known_item o t) IsGiven
+known_holds : (o : Option Known) (t : List ℕ) → IfOk (known_item o t) IsGiven
 known_holds None t = tt
-known_holds (Some None) t = tt
-known_holds (Some (Some v)) t = cond_ok IsGiven (is_blank t) (absent_item v) (argument_item v t) (λ _. absent_holds v) (λ e. argument_holds v t e)
+known_holds (Some NotServed) t = tt
+known_holds (Some (Served v)) t = cond_ok IsGiven (is_blank t) (absent_item v) (argument_item v t) (λ _. absent_holds v) (λ e. argument_holds v t e)
 
 words_hold : (line : List ℕ) → IfOk (words_item line) IsGiven
 unfolding words_item
@@ -114,7 +117,7 @@ words_hold line = cond_ok IsGiven (length (before_first is_space line) == 0) _ _
 
 line_holds : (line : List ℕ) → IfOk (line_item line) IsGiven
 unfolding line_item
-line_holds line = cond_ok IsGiven (nat_le (length (without_cr line)) 4096) _ _ (λ _. words_hold (without_cr line)) (λ _. tt)
+line_holds line = cond_ok IsGiven (nat_le (length (without_cr line)) LONGEST_LINE) _ _ (λ _. words_hold (without_cr line)) (λ _. tt)
 
 pub given : (line : List ℕ) (c : Command (List ℕ)) → line_item line ≡ Ok c → IsGiven c
 given line c e = subst (λ (i : Item). IfOk i IsGiven) e (line_holds line)

@@ -14,6 +14,7 @@ mod PlainText
 mod Reading
 mod ReadsBack
 mod Splitting
+mod TextLemmas
 mod Tokens
 mod TokensApart
 mod Utf8Octets

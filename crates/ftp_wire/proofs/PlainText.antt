@@ -4,6 +4,7 @@ use Rattle.std.specs.Prelude.{slice_index_or}
 use Rattle.std.specs.List.{AllByRecursion}
 use Rattle.std.proofs.lemmas.Bool.{le-leb}
 use Rattle.std.proofs.lemmas.List.Concat.{flat_map-cons}
+use Rattle.ftp_wire.specs.declared.items.TheConstants.{LONGEST_LINE}
 use Rattle.ftp_wire.specs.Items.{Item, line_item, without_cr, words_item}
 use Rattle.ftp_wire.specs.Lines.{HasNoEnd, ended}
 use Rattle.ftp_wire.specs.Reading.{ReadsAs}
@@ -57,12 +58,12 @@ cr_dropped line =
     let size : length (line ++ 13 ∷ []) - 1 ≡ length line = omega (arith, length-append line (13 ∷ [])) in
     rw (size, last_octet line 13) (front line 13)
 
-pub ended_item : (line : List ℕ) → length line ≤ 4096 → line_item (line ++ 13 ∷ []) ≡ words_item line
+pub ended_item : (line : List ℕ) → length line ≤ LONGEST_LINE → line_item (line ++ 13 ∷ []) ≡ words_item line
 unfolding line_item
-ended_item line short = rw (cr_dropped line, le-leb (length line) 4096 short) refl
+ended_item line short = rw (cr_dropped line, le-leb (length line) LONGEST_LINE short) refl
 
 -- a line of its own stands for its item
-pub reads_line : (line : List ℕ) (item : Item) → AllByRecursion IsPlain line → length line ≤ 4096 → words_item line ≡ item → ReadsAs (line ++ 13 ∷ 10 ∷ []) (item ∷ [])
+pub reads_line : (line : List ℕ) (item : Item) → AllByRecursion IsPlain line → length line ≤ LONGEST_LINE → words_item line ≡ item → ReadsAs (line ++ 13 ∷ 10 ∷ []) (item ∷ [])
 reads_line line item plain_line short is = record {
   text = line ++ 13 ∷ 10 ∷ [];
   lines = (line ++ 13 ∷ []) ∷ [];

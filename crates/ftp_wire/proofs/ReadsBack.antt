@@ -2,6 +2,7 @@
 use Rattle.std.proofs.Common.{arith, refl, ap, ◌∙◌, ◌≡◌, ◌≤◌, ◌<◌, ◌^◌, ◌∷◌, [], ℕ, List, Ok, Some, None, length}
 use Rattle.std.specs.Prelude.{codes}
 use Rattle.std.specs.List.{AllByRecursion}
+use Rattle.ftp_wire.specs.declared.items.TheConstants.{LONGEST_LINE}
 use Rattle.ftp_wire.specs.declared.commands.Command.{Command}
 use Rattle.ftp_wire.specs.declared.commands.Command.TheVariants as command
 use Rattle.ftp_wire.specs.declared.commands.ExtendedPassive.TheVariants as passive
@@ -156,7 +157,7 @@ plain (command.Help None) h = plain_bare (verb.Optional optional.Help)
 plain (command.Help (Some t)) h = plain_text (verb.Optional optional.Help) t h.printed
 plain command.Noop h = plain_bare (verb.Bare bare.Noop)
 
-pub reads_back : (c : Command (List ℕ)) → IsGiven c → HasNoSwitch c → length (written_line c) ≤ 4096 → OnlyReadsAs (written c) (Ok c ∷ [])
+pub reads_back : (c : Command (List ℕ)) → IsGiven c → HasNoSwitch c → length (written_line c) ≤ LONGEST_LINE → OnlyReadsAs (written c) (Ok c ∷ [])
 reads_back c h n fits =
     let r = reads_line (written_line c) (Ok c) (plain c h) fits (reads c h n) in
     (r, λ others s. same_items (written c) (Ok c ∷ []) others r s)

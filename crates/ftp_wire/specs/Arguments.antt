@@ -3,19 +3,19 @@ use Rattle.std.specs.Prelude.{ℕ, ◌+◌, ◌*◌, ◌==◌, ◌&&◌, ◌||�
 use Rattle.std.specs.List.{after_first, list_any, slice_split}
 use Rattle.std.specs.Str.{all_ascii_digits}
 use Rattle.std.specs.Str.Parse.{digits_value}
-use Rattle.ftp_wire.specs.declared.commands.DataType.{DataType}
-use Rattle.ftp_wire.specs.declared.commands.DataType.TheVariants.{Ascii, Image}
+use Rattle.ftp_terms.specs.declared.data_type.DataType.{DataType}
+use Rattle.ftp_terms.specs.declared.data_type.DataType.TheVariants.{Ascii, Image}
 use Rattle.ftp_wire.specs.declared.commands.ExtendedPassive.{ExtendedPassive}
 use Rattle.ftp_wire.specs.declared.commands.ExtendedPassive.TheVariants.{All, Protocol}
 use Rattle.ftp_wire.specs.declared.commands.ExtendedPort.{ExtendedPort}
 use Rattle.ftp_wire.specs.declared.commands.ExtendedPort.TheVariants.{Ipv4, Unsupported}
-use Rattle.ftp_wire.specs.declared.commands.Facts.{Facts}
+use Rattle.ftp_terms.specs.declared.facts.Facts.{Facts}
 use Rattle.ftp_wire.specs.declared.commands.FeatureOption.{FeatureOption}
 use Rattle.ftp_wire.specs.declared.commands.FeatureOption.TheVariants.{Mlst, Utf8On}
 use Rattle.ftp_wire.specs.declared.commands.HostPort.{HostPort}
-use Rattle.ftp_wire.specs.declared.commands.LineFault.{LineFault}
-use Rattle.ftp_wire.specs.declared.commands.LineFault.TheVariants.{BadArgument, BadParameter}
-use Rattle.ftp_wire.specs.Words.{is_blank, is_space, same_letters}
+use Rattle.ftp_wire.specs.declared.faults.LineFault.{LineFault}
+use Rattle.ftp_wire.specs.declared.faults.LineFault.TheVariants.{BadArgument, BadParameter}
+use Rattle.ftp_wire.specs.Words.{comma, dot, hyphen, is_blank, is_space, same_letters, semicolon}
 
 infixl 10 ◌>>=◌
 abbrev pub ◌>>=◌ : {A B : Type 0} → Option A → (A → Option B) → Option B
@@ -47,12 +47,15 @@ octet_of text = if nat_le (length text) 3 then number_up_to 255 text else None
 
 -- what follows a word at the front, letters of either case
 unfoldable pub after_word : List ℕ → List ℕ → Option (List ℕ)
-after_word word text = if same_letters (take (length word) text) word then Some (drop (length word) text) else None
+after_word word text =
+    if same_letters (take (length word) text) word then Some (drop (length word) text) else None
 
 -- L and the size of an octet: 8 is as I, another up to 255 is not served
 abbrev pub local_size : Option ℕ → Result DataType LineFault
 local_size None = Err BadArgument
-local_size (Some n) = if n == 8 then Ok Image else (if nat_lt 0 n && nat_le n 255 then Err BadParameter else Err BadArgument)
+local_size (Some n) =
+    if n == 8 then Ok Image
+    else (if nat_lt 0 n && nat_le n 255 then Err BadParameter else Err BadArgument)
 
 abbrev pub local_type : List ℕ → Result DataType LineFault
 local_type text = local_size (after_word (codes "L ") text >>= number_cut_at 65535)
@@ -62,13 +65,16 @@ unfoldable pub type_of : List ℕ → Result DataType LineFault
 type_of text =
     if same_letters text (codes "A") || same_letters text (codes "A N") then Ok Ascii else
     (if same_letters text (codes "I") then Ok Image else
-    (if same_letters text (codes "E") || (same_letters text (codes "A T") || same_letters text (codes "A C")) then Err BadParameter else
+    (if same_letters text (codes "E")
+    || (same_letters text (codes "A T") || same_letters text (codes "A C")) then Err BadParameter else
     local_type text))
 
 -- MODE and STRU: one letter is served, and two others are known (RFC 959, sections 3.4 and 3.1.2)
 unfoldable pub letter_of : List ℕ → List ℕ → List ℕ → List ℕ → Result (Unit {0}) LineFault
 letter_of served one other text =
-    if same_letters text served then Ok tt else (if same_letters text one || same_letters text other then Err BadParameter else Err BadArgument)
+    if same_letters text served then Ok tt else
+    (if same_letters text one || same_letters text other then Err BadParameter else
+    Err BadArgument)
 
 -- six numbers of one octet, the last two the port (RFC 959, section 4.1.2)
 abbrev pub host_port : List (List ℕ) → Option HostPort
@@ -87,7 +93,7 @@ abbrev pub parts_at : ℕ → List ℕ → List (List ℕ)
 parts_at wanted text = slice_split (λ octet. octet == wanted) text
 
 unfoldable pub port_of : List ℕ → Result HostPort LineFault
-port_of text = or_bad (host_port (parts_at 44 text))
+port_of text = or_bad (host_port (parts_at comma text))
 
 -- four numbers up to 255
 abbrev pub host : List (List ℕ) → Option (List ℕ)
@@ -100,7 +106,7 @@ host (a ∷ b ∷ c ∷ d ∷ []) = do
 host _ = None
 
 unfoldable pub host_of : List ℕ → Option (List ℕ)
-host_of text = host (parts_at 46 text)
+host_of text = host (parts_at dot text)
 
 abbrev pub ipv4 : List ℕ → List ℕ → Option ExtendedPort
 ipv4 address port = do
@@ -108,8 +114,8 @@ ipv4 address port = do
   p ← number_up_to 65535 port
   Some (Ipv4 (record { address = h; port = p }))
 
--- the parts of EPRT's argument: protocol, address, port, and nothing after the last delimiter (RFC 2428, section 2);
--- of another protocol than 1 nothing more is looked at
+-- the parts of EPRT's argument: protocol, address, port, and nothing after the last delimiter
+-- (RFC 2428, section 2); with another protocol than 1, address and port may be anything
 abbrev pub extended_parts : List (List ℕ) → Option ExtendedPort
 extended_parts (protocol ∷ address ∷ port ∷ [] ∷ []) = do
   n ← number_cut_at 65535 protocol
@@ -120,11 +126,15 @@ extended_parts _ = None
 unfoldable pub extended_port_of : List ℕ → Result ExtendedPort LineFault
 extended_port_of [] = Err BadArgument
 extended_port_of (delimiter ∷ text) =
-    if nat_le 33 delimiter && nat_le delimiter 126 then or_bad (extended_parts (parts_at delimiter text)) else Err BadArgument
+    if nat_le 33 delimiter && nat_le delimiter 126
+    then or_bad (extended_parts (parts_at delimiter text))
+    else Err BadArgument
 
 -- EPSV (RFC 2428, section 3)
 unfoldable pub extended_passive_of : List ℕ → Result ExtendedPassive LineFault
-extended_passive_of text = if same_letters text (codes "ALL") then Ok All else or_bad (option_map Protocol (number_cut_at 65535 text))
+extended_passive_of text =
+    if same_letters text (codes "ALL") then Ok All
+    else or_bad (option_map Protocol (number_cut_at 65535 text))
 
 -- REST: an offset of at most 19 digits (RFC 3659, section 5)
 unfoldable pub offset_of : List ℕ → Result ℕ LineFault
@@ -145,13 +155,16 @@ facts_of names = record {
 abbrev pub no_facts : Facts
 no_facts = record { kind = false; size = false; modify = false; perm = false }
 
--- no names, or each ended by a semicolon
+-- no names, or each ended by a semicolon and without a space
 abbrev pub is_name_list : List ℕ → Bool
-is_name_list text = length text == 0 || slice_index_or text (length text - 1) 0 == 59
+is_name_list text =
+    length text == 0
+    || (slice_index_or text (length text - 1) 0 == semicolon && not (list_any is_space text))
 
 abbrev pub listed_facts : Option (List ℕ) → Option FeatureOption
 listed_facts None = None
-listed_facts (Some names) = if is_name_list names then Some (Mlst (facts_of (parts_at 59 names))) else None
+listed_facts (Some names) =
+    if is_name_list names then Some (Mlst (facts_of (parts_at semicolon names))) else None
 
 -- OPTS (RFC 2389, section 4; RFC 3659, section 7.9)
 unfoldable pub option_of : List ℕ → Result FeatureOption LineFault
@@ -160,7 +173,10 @@ option_of text =
     (if same_letters text (codes "MLST") then Ok (Mlst no_facts) else
     or_bad (listed_facts (after_word (codes "MLST ") text)))
 
--- a first word that begins with a hyphen, as `-la` in LIST, NLST and STAT, is dropped with the space after it
+-- a first word that begins with a hyphen, as `-la` in LIST, NLST and STAT, is dropped with the
+-- space after it
 unfoldable pub without_switches : List ℕ → Option (List ℕ)
 without_switches text =
-    if slice_index_or text 0 0 == 45 then (if is_blank (after_first is_space text) then None else Some (after_first is_space text)) else Some text
+    if slice_index_or text 0 0 == hyphen
+    then (if is_blank (after_first is_space text) then None else Some (after_first is_space text))
+    else Some text

@@ -1,5 +1,6 @@
 -- The commands that lines stand for.
 use Rattle.std.specs.Prelude.{◌≡◌, ◌≢◌, ◌≤◌, ◌<◌, ◌^◌, ◌==◌, ℕ, List, IfSome, Ok, false, length, slice_index, true}
+use Rattle.ftp_wire.specs.declared.items.TheConstants.{LONGEST_LINE}
 use Rattle.ftp_wire.specs.declared.commands.Command.{Command}
 use Rattle.ftp_wire.specs.declared.commands.Command.TheVariants as command
 use Rattle.ftp_wire.specs.declared.commands.ExtendedPassive.{ExtendedPassive}
@@ -76,4 +77,4 @@ pub record CanBeReadBack (c : Command (List ℕ)) : Type 0 where
   pub line : List ℕ
   pub given : line_item line ≡ Ok c
   pub no_switch : HasNoSwitch c
-  pub fits : length (written_line c) ≤ 4096
+  pub fits : length (written_line c) ≤ LONGEST_LINE

@@ -1,11 +1,14 @@
 -- What a line stands for.
 use Rattle.std.specs.Prelude.{ℕ, List, Option, Some, None, Result, Ok, Err, codes, if◌then◌else◌, ◌-◌, ◌==◌, length, nat_le, slice_index_or, take}
 use Rattle.std.specs.List.{after_first, before_first}
+use Rattle.ftp_wire.specs.declared.items.TheConstants.{LONGEST_LINE}
 use Rattle.ftp_wire.specs.declared.commands.Command.{Command}
 use Rattle.ftp_wire.specs.declared.commands.Command.TheVariants as command
 use Rattle.ftp_wire.specs.declared.commands.ExtendedPassive.TheVariants.{Same}
-use Rattle.ftp_wire.specs.declared.commands.LineFault.{LineFault}
-use Rattle.ftp_wire.specs.declared.commands.LineFault.TheVariants as fault
+use Rattle.ftp_wire.specs.declared.faults.LineFault.{LineFault}
+use Rattle.ftp_wire.specs.declared.faults.LineFault.TheVariants as fault
+use Rattle.ftp_wire.specs.declared.table.Known.{Known}
+use Rattle.ftp_wire.specs.declared.table.Known.TheVariants.{NotServed, Served}
 use Rattle.ftp_wire.specs.declared.table.Verb.{Verb}
 use Rattle.ftp_wire.specs.declared.table.Verb.TheVariants as verb
 use Rattle.ftp_wire.specs.declared.table.Form.{Form}
@@ -19,15 +22,18 @@ use Rattle.ftp_wire.specs.Words.{is_blank, is_space, is_text}
 abbrev pub Item : Type 0
 Item = Result (Command (List ℕ)) LineFault
 
-abbrev pub with_command : {X T : Type 0} → (X → Command T) → Result X LineFault → Result (Command T) LineFault
+abbrev pub with_command : {X T : Type 0}
+    → (X → Command T) → Result X LineFault → Result (Command T) LineFault
 with_command make (Ok argument) = Ok (make argument)
 with_command make (Err fault) = Err fault
 
 -- the commands whose argument has a form of its own
 abbrev pub form_command : {T : Type 0} → Form → List ℕ → Result (Command T) LineFault
 form_command form.SetType text = with_command command.SetType (type_of text)
-form_command form.Mode text = with_command (λ _. command.Mode) (letter_of (codes "S") (codes "B") (codes "C") text)
-form_command form.Stru text = with_command (λ _. command.Stru) (letter_of (codes "F") (codes "R") (codes "P") text)
+form_command form.Mode text =
+    with_command (λ _. command.Mode) (letter_of (codes "S") (codes "B") (codes "C") text)
+form_command form.Stru text =
+    with_command (λ _. command.Stru) (letter_of (codes "F") (codes "R") (codes "P") text)
 form_command form.Port text = with_command command.Port (port_of text)
 form_command form.Eprt text = with_command command.Eprt (extended_port_of text)
 form_command form.Rest text = with_command command.Rest (offset_of text)
@@ -61,20 +67,24 @@ abbrev pub verb_item : Verb → List ℕ → Item
 verb_item v argument = if is_blank argument then absent_item v else argument_item v argument
 
 -- what stands in the table for a code, and the argument
-abbrev pub known_item : Option (Option Verb) → List ℕ → Item
+abbrev pub known_item : Option Known → List ℕ → Item
 known_item None argument = Err fault.Unknown
-known_item (Some None) argument = Err fault.NotServed
-known_item (Some (Some v)) argument = verb_item v argument
+known_item (Some NotServed) argument = Err fault.NotServed
+known_item (Some (Served v)) argument = verb_item v argument
 
 -- a line without its end: the code stands before the first space, the argument follows that space
 unfoldable pub words_item : List ℕ → Item
 words_item line =
-    if length (before_first is_space line) == 0 then Err fault.Empty else known_item (row_of table (before_first is_space line)) (after_first is_space line)
+    if length (before_first is_space line) == 0 then Err fault.Empty
+    else known_item (row_of table (before_first is_space line)) (after_first is_space line)
 
 -- a line without the CR that may stand before its LF
 abbrev pub without_cr : List ℕ → List ℕ
-without_cr line = if slice_index_or line (length line - 1) 0 == 13 then take (length line - 1) line else line
+without_cr line =
+    if slice_index_or line (length line - 1) 0 == 13 then take (length line - 1) line else line
 
 -- a line without its LF
 unfoldable pub line_item : List ℕ → Item
-line_item line = if nat_le (length (without_cr line)) 4096 then words_item (without_cr line) else Err fault.TooLong
+line_item line =
+    if nat_le (length (without_cr line)) LONGEST_LINE then words_item (without_cr line)
+    else Err fault.TooLong

@@ -1,5 +1,6 @@
 pub mod Arguments
 pub mod Commands
+pub mod Faults
 pub mod Given
 pub mod Items
 pub mod Lines

@@ -1,5 +1,6 @@
 -- What the octets of a control connection stand for.
 use Rattle.std.specs.Prelude.{◌≡◌, ◌<◌, ◌≤◌, ◌++◌, ◌∷◌, [], ℕ, List, Bool, true, false, Ok, Err, length, map, string_bytes, vec_len}
+use Rattle.ftp_wire.specs.declared.items.TheConstants.{LONGEST_HELD}
 use Rattle.ftp_wire.specs.declared.commands.Command.{Command}
 use Rattle.ftp_wire.specs.declared.items.LineItem.{LineItem}
 use Rattle.ftp_wire.specs.declared.items.LineItem.TheVariants as item
@@ -19,7 +20,8 @@ item_of (item.Fault fault) = Err fault
 abbrev pub items_of : {A : Type 0} → List (LineItem A) → List Item
 items_of = map item_of
 
--- The octets stand for the items: the Telnet commands are removed, the rest is cut at each LF, and each line is one item.
+-- The octets stand for the items: the Telnet commands are removed, the rest is cut at each LF, and
+-- each line is one item.
 pub record ReadsAs (octets : List ℕ) (items : List Item) : Type 0 where
   pub text : List ℕ
   pub lines : List (List ℕ)
@@ -30,7 +32,8 @@ pub record ReadsAs (octets : List ℕ) (items : List Item) : Type 0 where
 
 -- they stand for these items, and for no others
 abbrev pub OnlyReadsAs : List ℕ → List Item → Type 0
-OnlyReadsAs octets items = ReadsAs octets items × ((others : List Item) → ReadsAs octets others → others ≡ items)
+OnlyReadsAs octets items =
+    ReadsAs octets items × ((others : List Item) → ReadsAs octets others → others ≡ items)
 
 -- a spelling of a command: it comes with the last octet, and nothing before
 pub record IsSpelling (octets : List ℕ) (command : Command (List ℕ)) : Type 0 where
@@ -42,14 +45,15 @@ pub record IsSpelling (octets : List ℕ) (command : Command (List ℕ)) : Type 
 
 -- what is held of the rest: all of it, or that it is too long whatever ends it
 abbrev pub KnowsRest : Bool → List ℕ → List ℕ → Type 0
-KnowsRest true held rest = (4097 < length rest) × (held ≡ [])
-KnowsRest false held rest = (held ≡ rest) × (length rest ≤ 4097)
+KnowsRest true held rest = (LONGEST_HELD < length rest) × (held ≡ [])
+KnowsRest false held rest = (held ≡ rest) × (length rest ≤ LONGEST_HELD)
 
 abbrev pub Holds : {A : Type 0} → List ℕ → OpenLine A → Type 0
 Holds rest line = KnowsRest line.is_long line.octets.items rest
 
 -- the reader has read the octets and told the items
-pub record HasRead {A : Type 0} (octets : List ℕ) (items : List Item) (reader : LineReader A) : Type 0 where
+pub record HasRead {A : Type 0} (octets : List ℕ) (items : List Item) (reader : LineReader A)
+    : Type 0 where
   pub text : List ℕ
   pub lines : List (List ℕ)
   pub rest : List ℕ

@@ -1,5 +1,6 @@
--- The codes of commands (RFC 959, section 5.3; RFC 775, 2228, 2389, 2428, 2640, 3659 and 7151).
-use Rattle.std.specs.Prelude.{ℕ, List, [], ◌∷◌, Option, Some, None, option_map, codes}
+-- The codes of commands (RFC 959, section 5.3; RFC 1123, section 4.1.3.1; RFC 2228, 2389, 2428,
+-- 2640, 3659 and 7151).
+use Rattle.std.specs.Prelude.{ℕ, List, [], ◌∷◌, Option, option_map, codes}
 use Rattle.std.specs.List.{find}
 use Rattle.ftp_wire.specs.declared.table.Verb.{Verb}
 use Rattle.ftp_wire.specs.declared.table.Verb.TheVariants as verb
@@ -13,6 +14,8 @@ use Rattle.ftp_wire.specs.declared.table.Optional.{Optional}
 use Rattle.ftp_wire.specs.declared.table.Optional.TheVariants as optional
 use Rattle.ftp_wire.specs.declared.table.Listing.{Listing}
 use Rattle.ftp_wire.specs.declared.table.Listing.TheVariants as listing
+use Rattle.ftp_wire.specs.declared.table.Known.{Known}
+use Rattle.ftp_wire.specs.declared.table.Known.TheVariants.{NotServed, Served}
 use Rattle.ftp_wire.specs.declared.table.Row.{Row}
 use Rattle.ftp_wire.specs.Words.{same_letters}
 
@@ -76,12 +79,12 @@ code (verb.Optional v) = optional_code v
 code (verb.Listing v) = listing_code v
 code verb.Epsv = codes "EPSV"
 
--- a code, and its command where that is served
+-- a code, and what it stands for
 abbrev pub Entry : Type 0
-Entry = List ℕ × Option Verb
+Entry = List ℕ × Known
 
 abbrev pub served : Verb → Entry
-served v = (code v, Some v)
+served v = (code v, Served v)
 
 abbrev pub row : Row → Entry
 row r = (r.0.now, r.1)
@@ -126,28 +129,29 @@ table =
     served (verb.Listing listing.Nlst) ∷
     served (verb.Listing listing.Stat) ∷
     served verb.Epsv ∷
-    (codes "XCUP", Some (verb.Bare bare.Cdup)) ∷
-    (codes "XPWD", Some (verb.Bare bare.Pwd)) ∷
-    (codes "XCWD", Some (verb.Text text.Cwd)) ∷
-    (codes "XRMD", Some (verb.Text text.Rmd)) ∷
-    (codes "XMKD", Some (verb.Text text.Mkd)) ∷
-    (codes "ACCT", None) ∷
-    (codes "SMNT", None) ∷
-    (codes "STOU", None) ∷
-    (codes "SITE", None) ∷
-    (codes "LANG", None) ∷
-    (codes "HOST", None) ∷
-    (codes "AUTH", None) ∷
-    (codes "ADAT", None) ∷
-    (codes "PBSZ", None) ∷
-    (codes "PROT", None) ∷
-    (codes "CCC", None) ∷
-    (codes "MIC", None) ∷
-    (codes "CONF", None) ∷
-    (codes "ENC", None) ∷
-    (codes "MFMT", None) ∷
+    (codes "XCUP", Served (verb.Bare bare.Cdup)) ∷
+    (codes "XPWD", Served (verb.Bare bare.Pwd)) ∷
+    (codes "XCWD", Served (verb.Text text.Cwd)) ∷
+    (codes "XRMD", Served (verb.Text text.Rmd)) ∷
+    (codes "XMKD", Served (verb.Text text.Mkd)) ∷
+    (codes "ACCT", NotServed) ∷
+    (codes "SMNT", NotServed) ∷
+    (codes "STOU", NotServed) ∷
+    (codes "SITE", NotServed) ∷
+    (codes "LANG", NotServed) ∷
+    (codes "HOST", NotServed) ∷
+    (codes "AUTH", NotServed) ∷
+    (codes "ADAT", NotServed) ∷
+    (codes "PBSZ", NotServed) ∷
+    (codes "PROT", NotServed) ∷
+    (codes "CCC", NotServed) ∷
+    (codes "MIC", NotServed) ∷
+    (codes "CONF", NotServed) ∷
+    (codes "ENC", NotServed) ∷
+    (codes "MFMT", NotServed) ∷
     []
 
 -- what the first row with this code stands for, letters of either case
-abbrev pub row_of : List Entry → List ℕ → Option (Option Verb)
-row_of rows text = option_map (λ (r : Entry). r.1) (find (λ (r : Entry). same_letters r.0 text) rows)
+abbrev pub row_of : List Entry → List ℕ → Option Known
+row_of rows text =
+    option_map (λ (r : Entry). r.1) (find (λ (r : Entry). same_letters r.0 text) rows)

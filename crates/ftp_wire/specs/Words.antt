@@ -8,6 +8,19 @@ use Rattle.std.specs.Str.{bytes_eq, is_utf8}
 abbrev pub same_letters : List ℕ → List ℕ → Bool
 same_letters a b = bytes_eq (map to_ascii_lowercase a) (map to_ascii_lowercase b)
 
+-- octets that part the parts of arguments
+abbrev pub comma : ℕ
+comma = 44
+
+abbrev pub hyphen : ℕ
+hyphen = 45
+
+abbrev pub dot : ℕ
+dot = 46
+
+abbrev pub semicolon : ℕ
+semicolon = 59
+
 abbrev pub is_space : ℕ → Bool
 is_space octet = octet == 32
 

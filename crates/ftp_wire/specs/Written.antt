@@ -3,18 +3,19 @@ use Rattle.std.specs.Prelude.{ℕ, ◌/◌, ◌%◌, ◌++◌, List, [], ◌∷�
 use Rattle.std.specs.Fmt.{decimal}
 use Rattle.ftp_wire.specs.declared.commands.Command.{Command}
 use Rattle.ftp_wire.specs.declared.commands.Command.TheVariants as command
-use Rattle.ftp_wire.specs.declared.commands.DataType.{DataType}
-use Rattle.ftp_wire.specs.declared.commands.DataType.TheVariants.{Ascii, Image}
+use Rattle.ftp_terms.specs.declared.data_type.DataType.{DataType}
+use Rattle.ftp_terms.specs.declared.data_type.DataType.TheVariants.{Ascii, Image}
 use Rattle.ftp_wire.specs.declared.commands.ExtendedPassive.{ExtendedPassive}
 use Rattle.ftp_wire.specs.declared.commands.ExtendedPassive.TheVariants as passive
 use Rattle.ftp_wire.specs.declared.commands.ExtendedPort.{ExtendedPort}
 use Rattle.ftp_wire.specs.declared.commands.ExtendedPort.TheVariants.{Ipv4, Unsupported}
-use Rattle.ftp_wire.specs.declared.commands.Facts.{Facts}
+use Rattle.ftp_terms.specs.declared.facts.Facts.{Facts}
 use Rattle.ftp_wire.specs.declared.commands.FeatureOption.{FeatureOption}
 use Rattle.ftp_wire.specs.declared.commands.FeatureOption.TheVariants as feature
 use Rattle.ftp_wire.specs.declared.commands.HostPort.{HostPort}
 use Rattle.ftp_wire.specs.Commands.{verb_of}
 use Rattle.ftp_wire.specs.Table.{code}
+use Rattle.ftp_wire.specs.Words.{comma, dot}
 
 abbrev pub type_text : DataType → List ℕ
 type_text Ascii = codes "A"
@@ -23,13 +24,17 @@ type_text Image = codes "I"
 -- the four numbers of an address, a separator between them, and what follows
 abbrev pub host_text : ℕ → List ℕ → List ℕ → List ℕ
 host_text separator address after =
-    decimal (slice_index address 0) ++ separator ∷ (decimal (slice_index address 1) ++ separator ∷ (decimal (slice_index address 2) ++ separator ∷ (decimal (slice_index address 3) ++ after)))
+    decimal (slice_index address 0) ++ separator ∷ (decimal (slice_index address 1)
+    ++ separator ∷ (decimal (slice_index address 2)
+    ++ separator ∷ (decimal (slice_index address 3) ++ after)))
 
 unfoldable pub port_text : HostPort → List ℕ
-port_text host_port = host_text 44 host_port.address (44 ∷ (decimal (host_port.port / 256) ++ 44 ∷ decimal (host_port.port % 256)))
+port_text host_port = host_text comma host_port.address
+    (comma ∷ (decimal (host_port.port / 256) ++ comma ∷ decimal (host_port.port % 256)))
 
 unfoldable pub extended_port_text : ExtendedPort → List ℕ
-extended_port_text (Ipv4 host_port) = codes "|1|" ++ host_text 46 host_port.address (124 ∷ (decimal host_port.port ++ codes "|"))
+extended_port_text (Ipv4 host_port) =
+    codes "|1|" ++ host_text dot host_port.address (124 ∷ (decimal host_port.port ++ codes "|"))
 extended_port_text (Unsupported protocol) = 124 ∷ (decimal protocol ++ codes "|||")
 
 abbrev pub extended_passive_text : ExtendedPassive → Option (List ℕ)
@@ -42,14 +47,26 @@ fact_text true name = name
 fact_text false name = []
 
 unfoldable pub facts_text : Facts → List ℕ
-facts_text facts = fact_text facts.kind (codes "type;") ++ (fact_text facts.size (codes "size;") ++ (fact_text facts.modify (codes "modify;") ++ fact_text facts.perm (codes "perm;")))
+facts_text facts =
+    fact_text facts.kind (codes "type;") ++ (fact_text facts.size (codes "size;")
+    ++ (fact_text facts.modify (codes "modify;") ++ fact_text facts.perm (codes "perm;")))
+
+-- a star behind the name of a fact that is in force
+abbrev pub starred_fact : Bool → List ℕ → List ℕ
+starred_fact in_force name = name ++ (if in_force then codes "*;" else codes ";")
+
+unfoldable pub starred_facts_text : Facts → List ℕ
+starred_facts_text facts =
+    starred_fact facts.kind (codes "type") ++ (starred_fact facts.size (codes "size")
+    ++ (starred_fact facts.modify (codes "modify") ++ starred_fact facts.perm (codes "perm")))
 
 abbrev pub has_facts : Facts → Bool
 has_facts facts = facts.kind || (facts.size || (facts.modify || facts.perm))
 
 unfoldable pub option_text : FeatureOption → List ℕ
 option_text feature.Utf8On = codes "UTF8 ON"
-option_text (feature.Mlst facts) = if has_facts facts then codes "MLST " ++ facts_text facts else codes "MLST"
+option_text (feature.Mlst facts) =
+    if has_facts facts then codes "MLST " ++ facts_text facts else codes "MLST"
 
 -- the text of a command, if it has one
 abbrev pub text_argument : Command (List ℕ) → Option (List ℕ)
@@ -94,7 +111,8 @@ argument_part (Some text) = 32 ∷ text
 
 -- the code in capitals and the argument
 unfoldable pub written_line : Command (List ℕ) → List ℕ
-written_line c = code (verb_of c) ++ (argument_part (text_argument c) ++ argument_part (form_argument c))
+written_line c =
+    code (verb_of c) ++ (argument_part (text_argument c) ++ argument_part (form_argument c))
 
 abbrev pub written : Command (List ℕ) → List ℕ
 written c = written_line c ++ 13 ∷ 10 ∷ []

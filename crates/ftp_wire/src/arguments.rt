@@ -2,17 +2,19 @@
 
 ghost use Rattle.std.specs.Prelude.{◌≡◌, ◌==◌, ◌≤◌, ◌-◌, ◌^◌, IfSome, codes, min, option_map, slice_index, true};
 ghost use Rattle.std.specs.Char.{is_ascii_digit};
-ghost use Rattle.std.specs.List.{after_first, list_all};
+ghost use Rattle.std.specs.List.{after_first, list_all, list_any};
 ghost use Rattle.std.specs.Str.Parse.{digits_value};
-ghost use Rattle.ftp_wire.specs.Words.{is_space, same_letters};
+ghost use Rattle.ftp_wire.specs.Words.{hyphen, is_space, same_letters, semicolon};
 ghost use Rattle.ftp_wire.specs.Arguments.{after_word, extended_passive_of, facts_of, is_name_list, is_number, letter_of, listed_facts, local_size, local_type, names_fact, number_cut_at, number_up_to, offset_of, option_of, or_bad, parts_at, type_of, without_switches};
 
-use crate::commands::{DataType, ExtendedPassive, Facts, FeatureOption, LineFault};
+use crate::commands::{ExtendedPassive, FeatureOption};
+use crate::faults::LineFault;
 use crate::words::{find_octet, is_blank, same_letters, split_part};
+use ftp_terms::{DataType, Facts};
 
 /// Whether there are decimal digits and nothing else.
 fn is_number(text: &[u8]) -> bool
-    ensures value { result ≡ is_number text.now }
+    ensures number { result ≡ is_number text.now }
 {
     if text.is_empty() {
         return false;
@@ -21,7 +23,7 @@ fn is_number(text: &[u8]) -> bool
 }
 
 fn has_only_digits(text: &[u8]) -> bool
-    ensures value { result ≡ list_all is_ascii_digit text.now }
+    ensures digits { result ≡ list_all is_ascii_digit text.now }
 {
     text.iter().all(|octet| octet.is_ascii_digit())
 }
@@ -29,7 +31,7 @@ fn has_only_digits(text: &[u8]) -> bool
 /// The number that decimal digits stand for, or 2^64 - 1 where it is above.
 fn value_of(digits: &[u8]) -> u64
     requires digits { is_number digits.now ≡ true }
-    ensures value { result ≡ min (digits_value 10 digits.now) (2 ^ 64 - 1) }
+    ensures number { result ≡ min (digits_value 10 digits.now) (2 ^ 64 - 1) }
 {
     let mut number = 0u64;
     for octet in digits {
@@ -41,8 +43,8 @@ fn value_of(digits: &[u8]) -> u64
 
 /// The number that decimal digits stand for, or 2^64 - 1 where it is above.
 #[tactic(auto, unfolding(crate::specs::Arguments::number_cut_at, crate::specs::Arguments::number_of))]
-pub fn number_of(text: &[u8]) -> Option<u64>
-    ensures value { result ≡ number_cut_at (2 ^ 64 - 1) text.now }
+pub fn number_or_most(text: &[u8]) -> Option<u64>
+    ensures number { result ≡ number_cut_at (2 ^ 64 - 1) text.now }
 {
     if is_number(text) {
         Some(value_of(text))
@@ -54,10 +56,10 @@ pub fn number_of(text: &[u8]) -> Option<u64>
 /// A number up to the limit.
 #[tactic(auto, unfolding(crate::specs::Arguments::number_up_to, crate::specs::Arguments::number_cut_at, crate::specs::Arguments::number_of))]
 pub fn number_up_to(limit: u16, text: &[u8]) -> Option<u16>
-    ensures value { result ≡ number_up_to limit text.now }
+    ensures number { result ≡ number_up_to limit text.now }
     ensures bound { IfSome result (λ number. number ≤ limit) }
 {
-    let number = number_of(text)?;
+    let number = number_or_most(text)?;
     if number <= u64::from(limit) {
         Some(number as u16)
     } else {
@@ -68,16 +70,16 @@ pub fn number_up_to(limit: u16, text: &[u8]) -> Option<u16>
 /// A number, or 65,535 where it is above.
 #[tactic(auto, unfolding(crate::specs::Arguments::number_cut_at, crate::specs::Arguments::number_of))]
 pub fn number_cut(text: &[u8]) -> Option<u16>
-    ensures value { result ≡ number_cut_at 65535 text.now }
+    ensures number { result ≡ number_cut_at 65535 text.now }
 {
-    let number = number_of(text)?;
+    let number = number_or_most(text)?;
     Some(number.min(65535) as u16)
 }
 
 /// What follows the word at the front, letters of either case.
 #[tactic(auto, using(crate::proofs::Fronts::no_word, crate::proofs::Fronts::word_found, crate::proofs::Fronts::word_absent))]
 fn after_word<'a>(text: &'a [u8], word: &[u8]) -> Option<&'a [u8]>
-    ensures value { option_map (λ rest. rest.now) result ≡ after_word word.now text.now }
+    ensures rest { option_map (λ rest. rest.now) result ≡ after_word word.now text.now }
 {
     if text.len() < word.len() {
         return None;
@@ -91,14 +93,14 @@ fn after_word<'a>(text: &'a [u8], word: &[u8]) -> Option<&'a [u8]>
 }
 
 fn is_word(text: &str, word: &str) -> bool
-    ensures value { result ≡ same_letters text.now word.now }
+    ensures word { result ≡ same_letters text.now word.now }
 {
     same_letters(text.as_bytes(), word.as_bytes())
 }
 
 /// The type of L and the size of an octet.
 fn local_size(size: Option<u16>) -> Result<DataType, LineFault>
-    ensures value { result ≡ local_size size }
+    ensures data_type { result ≡ local_size size }
 {
     match size {
         Some(8) => Ok(DataType::Image),
@@ -108,7 +110,7 @@ fn local_size(size: Option<u16>) -> Result<DataType, LineFault>
 }
 
 fn local_type(text: &[u8]) -> Result<DataType, LineFault>
-    ensures value { result ≡ local_type text.now }
+    ensures data_type { result ≡ local_type text.now }
 {
     match after_word(text, b"L ") {
         Some(size) => local_size(number_cut(size)),
@@ -119,7 +121,7 @@ fn local_type(text: &[u8]) -> Result<DataType, LineFault>
 /// The argument of TYPE.
 #[tactic(auto, unfolding(crate::specs::Arguments::type_of))]
 pub fn type_of(text: &str) -> Result<DataType, LineFault>
-    ensures value { result ≡ type_of text.now }
+    ensures data_type { result ≡ type_of text.now }
 {
     if is_word(text, "A") || is_word(text, "A N") {
         return Ok(DataType::Ascii);
@@ -136,7 +138,7 @@ pub fn type_of(text: &str) -> Result<DataType, LineFault>
 /// The argument of MODE or STRU: one letter is served, and two others are known.
 #[tactic(auto, unfolding(crate::specs::Arguments::letter_of))]
 pub fn letter_of(text: &str, served: &str, one: &str, other: &str) -> Result<(), LineFault>
-    ensures value { result ≡ letter_of served.now one.now other.now text.now }
+    ensures answer { result ≡ letter_of served.now one.now other.now text.now }
 {
     if is_word(text, served) {
         return Ok(());
@@ -150,7 +152,7 @@ pub fn letter_of(text: &str, served: &str, one: &str, other: &str) -> Result<(),
 /// The argument of EPSV.
 #[tactic(auto, unfolding(crate::specs::Arguments::extended_passive_of))]
 pub fn extended_passive_of(text: &str) -> Result<ExtendedPassive, LineFault>
-    ensures value { result ≡ extended_passive_of text.now }
+    ensures passive { result ≡ extended_passive_of text.now }
 {
     if is_word(text, "ALL") {
         return Ok(ExtendedPassive::All);
@@ -164,12 +166,12 @@ pub fn extended_passive_of(text: &str) -> Result<ExtendedPassive, LineFault>
 /// The argument of REST.
 #[tactic(auto, unfolding(crate::specs::Arguments::offset_of, crate::specs::Arguments::number_cut_at, crate::specs::Arguments::number_of))]
 pub fn offset_of(text: &str) -> Result<u64, LineFault>
-    ensures value { result ≡ offset_of text.now }
+    ensures offset { result ≡ offset_of text.now }
 {
     if text.len() > 19 {
         return Err(LineFault::BadArgument);
     }
-    match number_of(text.as_bytes()) {
+    match number_or_most(text.as_bytes()) {
         Some(offset) => Ok(offset),
         None => Err(LineFault::BadArgument),
     }
@@ -177,7 +179,7 @@ pub fn offset_of(text: &str) -> Result<u64, LineFault>
 
 /// Whether the names between semicolons have this fact.
 fn names_fact(names: &[u8], fact: &[u8]) -> bool
-    ensures value { result ≡ names_fact fact.now (parts_at 59 names.now) }
+    ensures named { result ≡ names_fact fact.now (parts_at semicolon names.now) }
 {
     let mut rest = names;
     while let Some((name, more)) = split_part(rest, b';') {
@@ -191,7 +193,7 @@ fn names_fact(names: &[u8], fact: &[u8]) -> bool
 
 #[tactic(auto, unfolding(crate::specs::Arguments::facts_of))]
 fn facts_of(names: &[u8]) -> Facts
-    ensures value { result ≡ facts_of (parts_at 59 names.now) }
+    ensures facts { result ≡ facts_of (parts_at semicolon names.now) }
 {
     Facts {
         kind: names_fact(names, b"type"),
@@ -201,18 +203,24 @@ fn facts_of(names: &[u8]) -> Facts
     }
 }
 
-/// Whether there are no names, or each is ended by a semicolon.
+fn has_space(text: &[u8]) -> bool
+    ensures space { result ≡ list_any is_space text.now }
+{
+    text.iter().any(|octet| *octet == b' ')
+}
+
+/// Whether there are no names, or each is ended by a semicolon and holds no space.
 fn is_name_list(text: &[u8]) -> bool
-    ensures value { result ≡ is_name_list text.now }
+    ensures names { result ≡ is_name_list text.now }
 {
     match text {
         [] => true,
-        [.., last] => *last == b';',
+        [.., last] => *last == b';' && !has_space(text),
     }
 }
 
 fn listed_facts(text: &[u8]) -> Result<FeatureOption, LineFault>
-    ensures value { result ≡ or_bad (listed_facts (after_word (codes "MLST ") text.now)) }
+    ensures facts { result ≡ or_bad (listed_facts (after_word (codes "MLST ") text.now)) }
 {
     match after_word(text, b"MLST ") {
         Some(names) if is_name_list(names) => Ok(FeatureOption::Mlst(facts_of(names))),
@@ -220,30 +228,23 @@ fn listed_facts(text: &[u8]) -> Result<FeatureOption, LineFault>
     }
 }
 
-const NO_FACTS: Facts = Facts {
-    kind: false,
-    size: false,
-    modify: false,
-    perm: false,
-};
-
 /// The argument of OPTS.
 #[tactic(auto, unfolding(crate::specs::Arguments::option_of))]
 pub fn option_of(text: &str) -> Result<FeatureOption, LineFault>
-    ensures value { result ≡ option_of text.now }
+    ensures option { result ≡ option_of text.now }
 {
     if is_word(text, "UTF8 ON") {
         return Ok(FeatureOption::Utf8On);
     }
     if is_word(text, "MLST") {
-        return Ok(FeatureOption::Mlst(NO_FACTS));
+        return Ok(FeatureOption::Mlst(Facts::NONE));
     }
     listed_facts(text.as_bytes())
 }
 
 /// What follows the first space, or nothing where there is none.
 fn after_space(text: &str) -> &str
-    ensures value { result.now ≡ after_first is_space text.now }
+    ensures rest { result.now ≡ after_first is_space text.now }
 {
     match find_octet(text.as_bytes(), b' ') {
         Some(at) => &text[at + 1..],
@@ -252,7 +253,7 @@ fn after_space(text: &str) -> &str
 }
 
 fn has_switch(text: &str) -> bool
-    ensures value { result ≡ (slice_index text.now 0 == 45) }
+    ensures switch { result ≡ (slice_index text.now 0 == hyphen) }
 {
     match text.as_bytes() {
         [first, ..] => *first == b'-',
@@ -263,7 +264,7 @@ fn has_switch(text: &str) -> bool
 /// The text without a first word that begins with a hyphen.
 #[tactic(auto, unfolding(crate::specs::Arguments::without_switches))]
 pub fn without_switches(text: &str) -> Option<&str>
-    ensures value { option_map (λ t. t.now) result ≡ without_switches text.now }
+    ensures text { option_map (λ t. t.now) result ≡ without_switches text.now }
 {
     if !has_switch(text) {
         return Some(text);

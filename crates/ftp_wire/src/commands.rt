@@ -1,12 +1,14 @@
 //! What a line of a control connection asks for.
 
-use thiserror::Error;
+use ftp_terms::{DataType, Facts};
 
 /// A command with its argument read, its texts of type `T`: one variant for each code that is served
 /// (RFC 959, section 5.3.1; RFC 2428, sections 2 and 3; RFC 3659; RFC 2389).
 ///
 /// Texts are UTF-8 without control characters (an octet below 32, or 127), and never of spaces alone.
-#[derive(Debug, Drop)]
+///
+/// A command has no `Debug`, so that nothing prints a password.
+#[derive(Drop)]
 pub enum Command<T> {
     /// USER: the user's name.
     User(T),
@@ -84,15 +86,6 @@ pub enum Command<T> {
     Noop,
 }
 
-/// How octets are represented on a data connection (RFC 959, section 3.1.1).
-#[derive(Clone, Copy, Debug, PartialEq, Eq)]
-pub enum DataType {
-    /// TYPE A: text, its lines ended by CR LF.
-    Ascii,
-    /// TYPE I: octets as they are.
-    Image,
-}
-
 /// A host of IPv4 and a port (RFC 959, section 5.3.2).
 #[derive(Clone, Copy, Debug, PartialEq, Eq)]
 pub struct HostPort {
@@ -105,7 +98,8 @@ pub struct HostPort {
 pub enum ExtendedPort {
     /// Protocol 1.
     Ipv4(HostPort),
-    /// Another protocol, by its number; one above 65,535 is told as 65,535.
+    /// Another protocol, by its number, whatever stands for address and port; a number above 65,535 is
+    /// told as 65,535.
     Unsupported(u16),
 }
 
@@ -127,41 +121,4 @@ pub enum FeatureOption {
     Utf8On,
     /// MLST and the facts that are named.
     Mlst(Facts),
-}
-
-/// A set of facts of a file (RFC 3659, section 7.5).
-#[derive(Clone, Copy, Debug, PartialEq, Eq)]
-pub struct Facts {
-    /// The fact `type`.
-    pub kind: bool,
-    pub size: bool,
-    pub modify: bool,
-    pub perm: bool,
-}
-
-/// Why a line is no command. Where several apply it is the first in this order.
-#[derive(Clone, Copy, Debug, PartialEq, Eq, Drop, Error)]
-pub enum LineFault {
-    /// More than 4,096 octets stand before the line's end.
-    #[error("line too long")]
-    TooLong,
-    /// No code: nothing stands before the first space.
-    #[error("empty line")]
-    Empty,
-    /// The code is none that this server knows.
-    #[error("unknown command")]
-    Unknown,
-    /// The code is known and not served.
-    #[error("command not served")]
-    NotServed,
-    #[error("argument missing")]
-    ArgumentMissing,
-    #[error("argument not wanted")]
-    ArgumentUnwanted,
-    /// The argument is no text of UTF-8 without control characters, or not of the command's form.
-    #[error("bad argument")]
-    BadArgument,
-    /// The argument is of the command's form, and names what is not served.
-    #[error("parameter not served")]
-    BadParameter,
 }

@@ -8,24 +8,28 @@ ghost use Rattle.ftp_wire.specs.Reading.{item_of};
 use crate::arguments::{
     extended_passive_of, letter_of, offset_of, option_of, type_of, without_switches,
 };
-use crate::commands::{Command, ExtendedPassive, LineFault};
+use crate::commands::{Command, ExtendedPassive};
+use crate::faults::LineFault;
 use crate::ports::{read_eprt, read_port};
-use crate::table::{Bare, Form, Listing, Optional, Text, Verb, verb_of};
+use crate::table::{Bare, Form, Known, Listing, Optional, Text, Verb, verb_of};
 use crate::words::{is_blank, split_word, text_of};
 use std::alloc::{AllocError, Allocator, Global};
 
 /// The most octets of a line without its end.
-pub const LIMIT: usize = 4096;
+pub const LONGEST_LINE: usize = 4096;
 
-/// What a line stands for.
-#[derive(Debug, Drop)]
+/// The most octets that are held of a line: a CR after the longest one may belong to its end.
+pub const LONGEST_HELD: usize = LONGEST_LINE + 1;
+
+/// What a line stands for. It has no `Debug`, as a command has none.
+#[derive(Drop)]
 pub enum LineItem<A: Allocator = Global> {
     Command(Command<String<A>>),
     Fault(LineFault),
 }
 
 fn from_result<A: Allocator>(read: Result<Command<String<A>>, LineFault>) -> LineItem<A>
-    ensures value { item_of result ≡ with_command (with_texts string_bytes) read }
+    ensures item { item_of result ≡ with_command (with_texts string_bytes) read }
 {
     match read {
         Ok(command) => LineItem::Command(command),
@@ -34,7 +38,7 @@ fn from_result<A: Allocator>(read: Result<Command<String<A>>, LineFault>) -> Lin
 }
 
 fn bare_command<T>(verb: Bare) -> Command<T>
-    ensures value { result ≡ bare_command verb }
+    ensures command { result ≡ bare_command verb }
 {
     match verb {
         Bare::Cdup => Command::Cdup,
@@ -50,7 +54,7 @@ fn bare_command<T>(verb: Bare) -> Command<T>
 }
 
 fn text_command<T>(verb: Text, text: T) -> Command<T>
-    ensures value { result ≡ text_command verb text }
+    ensures command { result ≡ text_command verb text }
 {
     match verb {
         Text::User => Command::User(text),
@@ -69,7 +73,7 @@ fn text_command<T>(verb: Text, text: T) -> Command<T>
 }
 
 fn optional_command<T>(verb: Optional, text: Option<T>) -> Command<T>
-    ensures value { result ≡ optional_command verb text }
+    ensures command { result ≡ optional_command verb text }
 {
     match verb {
         Optional::Pass => Command::Pass(text),
@@ -81,7 +85,7 @@ fn optional_command<T>(verb: Optional, text: Option<T>) -> Command<T>
 }
 
 fn listing_command<T>(verb: Listing, text: Option<T>) -> Command<T>
-    ensures value { result ≡ listing_command verb text }
+    ensures command { result ≡ listing_command verb text }
 {
     match verb {
         Listing::List => Command::List(text),
@@ -91,7 +95,7 @@ fn listing_command<T>(verb: Listing, text: Option<T>) -> Command<T>
 }
 
 fn form_command<T>(verb: Form, text: &str) -> Result<Command<T>, LineFault>
-    ensures value { result ≡ form_command verb text.now }
+    ensures command { result ≡ form_command verb text.now }
 {
     match verb {
         Form::SetType => Ok(Command::SetType(type_of(text)?)),
@@ -111,7 +115,8 @@ fn form_command<T>(verb: Form, text: &str) -> Result<Command<T>, LineFault>
 }
 
 fn copied<A: Allocator>(alloc: A, text: Option<&str>) -> Result<Option<String<A>>, AllocError>
-    ensures text { IfOk result (λ copy. option_map string_bytes copy ≡ option_map (λ t. t.now) text.entry) }
+    ensures text { IfOk result
+        (λ copy. option_map string_bytes copy ≡ option_map (λ t. t.now) text.entry) }
 {
     match text {
         Some(text) => Ok(Some(String::from_str(alloc, text)?)),
@@ -192,8 +197,8 @@ fn read_words<A: Allocator>(alloc: A, line: &[u8]) -> Result<LineItem<A>, AllocE
     }
     match verb_of(code) {
         None => Ok(LineItem::Fault(LineFault::Unknown)),
-        Some(None) => Ok(LineItem::Fault(LineFault::NotServed)),
-        Some(Some(verb)) => {
+        Some(Known::NotServed) => Ok(LineItem::Fault(LineFault::NotServed)),
+        Some(Known::Served(verb)) => {
             if is_blank(argument) {
                 Ok(absent_item(verb))
             } else {
@@ -204,7 +209,7 @@ fn read_words<A: Allocator>(alloc: A, line: &[u8]) -> Result<LineItem<A>, AllocE
 }
 
 fn without_cr(line: &[u8]) -> &[u8]
-    ensures value { result.now ≡ without_cr line.now }
+    ensures line { result.now ≡ without_cr line.now }
 {
     match line {
         [front @ .., 13] => front,
@@ -218,7 +223,7 @@ pub fn read_line<A: Allocator>(alloc: A, line: &[u8]) -> Result<LineItem<A>, All
     ensures item { IfOk result (λ item. item_of item ≡ line_item line.now) }
 {
     let line = without_cr(line);
-    if line.len() > LIMIT {
+    if line.len() > LONGEST_LINE {
         return Ok(LineItem::Fault(LineFault::TooLong));
     }
     read_words(alloc, line)

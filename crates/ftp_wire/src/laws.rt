@@ -7,17 +7,20 @@ ghost use Rattle.ftp_wire.specs.Reading.{IsSpelling, ReadsAs};
 
 /// Octets stand for one list of items.
 pub fn only_items()
-    ensures only { (octets : List ℕ) (items others : List Item) → ReadsAs octets items → ReadsAs octets others → others ≡ items }
+    ensures only { (octets : List ℕ) (items others : List Item)
+        → ReadsAs octets items → ReadsAs octets others → others ≡ items }
 {}
 
 /// What octets stand for stays, whatever follows them.
 pub fn items_stay()
-    ensures stay { (octets more : List ℕ) (items others : List Item) → ReadsAs octets items → ReadsAs (octets ++ more) others
+    ensures stay { (octets more : List ℕ) (items others : List Item)
+        → ReadsAs octets items → ReadsAs (octets ++ more) others
         → (later : List Item) × (others ≡ items ++ later) }
 {}
 
 /// No spelling of a command is a proper prefix of another's.
 pub fn spellings_apart()
-    ensures apart { (first second more : List ℕ) (c d : Command (List ℕ)) → IsSpelling first c → IsSpelling second d
+    ensures apart { (first second more : List ℕ) (c d : Command (List ℕ))
+        → IsSpelling first c → IsSpelling second d
         → second ≡ first ++ more → more ≡ [] }
 {}

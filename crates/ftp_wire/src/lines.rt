@@ -1,9 +1,10 @@
 //! The octets of a line whose end is not there yet.
 
 ghost use Rattle.std.specs.Prelude.{◌≤◌, vec_len};
+ghost use Rattle.ftp_wire.specs.declared.items.TheConstants.{LONGEST_HELD};
 
-use crate::commands::LineFault;
-use crate::items::{LIMIT, LineItem, read_line};
+use crate::faults::LineFault;
+use crate::items::{LONGEST_HELD, LONGEST_LINE, LineItem, read_line};
 use std::alloc::{AllocError, Allocator};
 
 /// What is held of a line: its octets, or nothing where it is too long whatever ends it.
@@ -11,8 +12,7 @@ use std::alloc::{AllocError, Allocator};
 pub struct OpenLine<A: Allocator> {
     octets: Vec<u8, A>,
     is_long: bool,
-    // A CR after the limit may belong to the line's end.
-    ghost bound: { vec_len octets ≤ 4097 },
+    ghost bound: { vec_len octets ≤ LONGEST_HELD },
 }
 
 impl<A: Allocator + Clone> OpenLine<A> {
@@ -31,9 +31,9 @@ impl<A: Allocator + Clone> OpenLine<A> {
 
     /// A copy with room for so many octets more, as far as a line may hold them.
     pub fn copy(&self, more: usize) -> Result<OpenLine<A>, AllocError>
-        ensures ok { (rest : List ℕ) → Holds rest self.now → IfOk result (Holds rest) }
+        ensures holds { (rest : List ℕ) → Holds rest self.now → IfOk result (Holds rest) }
     {
-        let room = self.octets.len().saturating_add(more).min(LIMIT + 1);
+        let room = self.octets.len().saturating_add(more).min(LONGEST_HELD);
         let mut octets = Vec::with_capacity(self.allocator()?, room)?;
         octets.extend_from_slice(self.octets.as_slice())?;
         Ok(OpenLine {
@@ -48,20 +48,21 @@ impl<A: Allocator + Clone> OpenLine<A> {
 
     /// The number of octets that are held.
     pub fn len(&self) -> usize
-        ensures value { result ≡ vec_len self.now.octets }
-        ensures bound { result ≤ 4097 }
+        ensures length { result ≡ vec_len self.now.octets }
+        ensures bound { result ≤ LONGEST_HELD }
     {
         self.octets.len()
     }
 
     /// Takes an octet that does not end the line.
     pub fn keep(&mut self, octet: u8) -> Result<(), AllocError>
-        ensures ok { (rest : List ℕ) → Holds rest self.old → OnOk result (Holds (rest ++ octet ∷ []) self.new) }
+        ensures holds { (rest : List ℕ) → Holds rest self.old
+            → OnOk result (Holds (rest ++ octet ∷ []) self.new) }
     {
         if self.is_long {
             return Ok(());
         }
-        if self.octets.len() > LIMIT {
+        if self.octets.len() > LONGEST_LINE {
             self.octets.clear();
             self.is_long = true;
             return Ok(());
@@ -72,7 +73,8 @@ impl<A: Allocator + Clone> OpenLine<A> {
 
     /// What the line stands for.
     fn item(&self) -> Result<LineItem<A>, AllocError>
-        ensures item { (rest : List ℕ) → Holds rest self.now → IfOk result (λ item. item_of item ≡ line_item rest) }
+        ensures item { (rest : List ℕ) → Holds rest self.now
+            → IfOk result (λ item. item_of item ≡ line_item rest) }
     {
         if self.is_long {
             return Ok(LineItem::Fault(LineFault::TooLong));
@@ -90,7 +92,8 @@ impl<A: Allocator + Clone> OpenLine<A> {
 
     /// Takes the end of the line, and gives what the line stands for.
     pub fn end(&mut self) -> Result<LineItem<A>, AllocError>
-        ensures item { (rest : List ℕ) → Holds rest self.old → IfOk result (λ item. item_of item ≡ line_item rest) }
+        ensures item { (rest : List ℕ) → Holds rest self.old
+            → IfOk result (λ item. item_of item ≡ line_item rest) }
         ensures empty { OnOk result (Holds [] self.new) }
     {
         let item = self.item()?;

@@ -2,15 +2,17 @@
 
 ghost use Rattle.std.specs.Prelude.{◌≡◌, ◌∷◌, [], List, ℕ, MatchOption, option_map};
 ghost use Rattle.ftp_wire.specs.Arguments.{extended_parts, extended_port_of, host_of, host_port, ipv4, octet_of, parts_at, port_of};
+ghost use Rattle.ftp_wire.specs.Words.{comma};
 
 use crate::arguments::{number_cut, number_up_to};
-use crate::commands::{ExtendedPort, HostPort, LineFault};
+use crate::commands::{ExtendedPort, HostPort};
+use crate::faults::LineFault;
 use crate::words::split_part;
 
 /// One to three digits, up to 255.
 #[tactic(auto, unfolding(crate::specs::Arguments::octet_of))]
 fn octet_of(text: &[u8]) -> Option<u8>
-    ensures value { result ≡ octet_of text.now }
+    ensures octet { result ≡ octet_of text.now }
 {
     if text.len() > 3 {
         return None;
@@ -21,7 +23,9 @@ fn octet_of(text: &[u8]) -> Option<u8>
 
 /// The last part, where no octet of this value follows.
 fn last_part(text: &[u8], wanted: u8) -> Option<&[u8]>
-    ensures part { MatchOption result ((front back : List ℕ) × (next : List (List ℕ)) × (parts_at wanted text.now ≡ front ∷ back ∷ next))
+    ensures part { MatchOption result
+        ((front back : List ℕ) × (next : List (List ℕ))
+        × (parts_at wanted text.now ≡ front ∷ back ∷ next))
         (λ part. (part.now ≡ text.now) × (parts_at wanted text.now ≡ text.now ∷ [])) }
 {
     match split_part(text, wanted) {
@@ -31,7 +35,7 @@ fn last_part(text: &[u8], wanted: u8) -> Option<&[u8]>
 }
 
 fn host_port(text: &[u8]) -> Option<HostPort>
-    ensures value { result ≡ host_port (parts_at 44 text.now) }
+    ensures port { result ≡ host_port (parts_at comma text.now) }
 {
     let (h1, rest) = split_part(text, b',')?;
     let (h2, rest) = split_part(rest, b',')?;
@@ -51,7 +55,7 @@ fn host_port(text: &[u8]) -> Option<HostPort>
 /// The argument of PORT: an address and a port, or `BadArgument` (RFC 959, section 5.3.2).
 #[tactic(auto, unfolding(crate::specs::Arguments::port_of))]
 pub fn read_port(text: &str) -> Result<HostPort, LineFault>
-    ensures value { result ≡ port_of text.now }
+    ensures port { result ≡ port_of text.now }
 {
     match host_port(text.as_bytes()) {
         Some(port) => Ok(port),
@@ -61,7 +65,7 @@ pub fn read_port(text: &str) -> Result<HostPort, LineFault>
 
 #[tactic(auto, unfolding(crate::specs::Arguments::host_of))]
 fn host_of(text: &[u8]) -> Option<[u8; 4]>
-    ensures value { result ≡ host_of text.now }
+    ensures host { result ≡ host_of text.now }
 {
     let (h1, rest) = split_part(text, b'.')?;
     let (h2, rest) = split_part(rest, b'.')?;
@@ -75,7 +79,7 @@ fn host_of(text: &[u8]) -> Option<[u8; 4]>
 }
 
 fn ipv4(address: &[u8], port: &[u8]) -> Option<ExtendedPort>
-    ensures value { result ≡ ipv4 address.now port.now }
+    ensures port { result ≡ ipv4 address.now port.now }
 {
     let address = host_of(address)?;
     let port = number_up_to(65535, port)?;
@@ -84,7 +88,7 @@ fn ipv4(address: &[u8], port: &[u8]) -> Option<ExtendedPort>
 
 /// The three fields between delimiters, and nothing after the last.
 fn extended_port(text: &[u8], delimiter: u8) -> Option<ExtendedPort>
-    ensures value { result ≡ extended_parts (parts_at delimiter text.now) }
+    ensures port { result ≡ extended_parts (parts_at delimiter text.now) }
 {
     let (protocol, rest) = split_part(text, delimiter)?;
     let (address, rest) = split_part(rest, delimiter)?;
@@ -103,7 +107,7 @@ fn extended_port(text: &[u8], delimiter: u8) -> Option<ExtendedPort>
 /// The argument of EPRT: an address and a port, another protocol, or `BadArgument` (RFC 2428, section 2).
 #[tactic(auto, unfolding(crate::specs::Arguments::extended_port_of))]
 pub fn read_eprt(text: &str) -> Result<ExtendedPort, LineFault>
-    ensures value { result ≡ extended_port_of text.now }
+    ensures port { result ≡ extended_port_of text.now }
 {
     let Some((delimiter, rest)) = text.as_bytes().split_first() else {
         return Err(LineFault::BadArgument);

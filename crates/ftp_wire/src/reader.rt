@@ -1,6 +1,6 @@
 //! Reads a control connection, in whatever pieces it comes.
 
-use crate::items::LineItem;
+use crate::items::{LONGEST_HELD, LineItem};
 use crate::lines::OpenLine;
 use crate::telnet::Stage;
 use std::alloc::{AllocError, Allocator, Global};
@@ -10,7 +10,9 @@ const LF: u8 = 10;
 /// Reads the octets that a client sends on its control connection.
 ///
 /// Telnet commands are taken out, the rest is cut into lines at each LF, and each line is one item. The reader
-/// holds at most the octets of one line, and nothing of a line that is too long or of a Telnet command.
+/// holds at most the octets of one line, and nothing of a Telnet command. Of a line of 4,097 octets it holds all,
+/// as a CR at their end may belong to the line's end; with the next octet the line is too long, and nothing of it
+/// is held.
 #[derive(Drop)]
 pub struct LineReader<A: Allocator = Global> {
     stage: Stage,
@@ -32,17 +34,19 @@ impl<A: Allocator + Clone> LineReader<A> {
         }
     }
 
-    /// The number of octets that are held, at most 4,097: a line of 4,096 octets and a CR that may belong to its end.
+    /// The number of octets of the open line that are held, at most [`LONGEST_HELD`]: a longest line and a CR that
+    /// may belong to its end. The reader holds no other octets.
     pub fn kept(&self) -> usize
-        ensures value { result ≡ held self.now }
-        ensures bound { result ≤ 4097 }
+        ensures kept { result ≡ held self.now }
+        ensures bound { result ≤ LONGEST_HELD }
     {
         self.line.len()
     }
 
     /// A copy with room for so many octets more.
     fn copy(&self, more: usize) -> Result<LineReader<A>, AllocError>
-        ensures ok { (octets : List ℕ) (items : List Item) → HasRead octets items self.now → IfOk result (HasRead octets items) }
+        ensures reads { (octets : List ℕ) (items : List Item) → HasRead octets items self.now
+            → IfOk result (HasRead octets items) }
     {
         let line = self.line.copy(more)?;
         Ok(LineReader {
@@ -53,8 +57,10 @@ impl<A: Allocator + Clone> LineReader<A> {
 
     /// Takes the next octet, and adds the item that it ends.
     fn take(&mut self, octet: u8, found: &mut Vec<LineItem<A>, A>) -> Result<(), AllocError>
-        ensures ok { (octets : List ℕ) (items : List Item) → HasRead octets (items ++ items_of found.old.items) self.old
-            → OnOk result (HasRead (octets ++ octet ∷ []) (items ++ items_of found.new.items) self.new) }
+        ensures reads { (octets : List ℕ) (items : List Item)
+            → HasRead octets (items ++ items_of found.old.items) self.old
+            → OnOk result
+            (HasRead (octets ++ octet ∷ []) (items ++ items_of found.new.items) self.new) }
     {
         let Some(kept) = self.stage.step(octet) else {
             return Ok(());
@@ -74,11 +80,13 @@ impl<A: Allocator + Clone> LineReader<A> {
     /// comes only where memory runs out, leaves the reader as it was. Takes time in proportion to the piece and
     /// to what the reader holds.
     pub fn feed(&mut self, piece: &[u8]) -> Result<Vec<LineItem<A>, A>, AllocError>
-        ensures ok { (octets : List ℕ) (items : List Item) → HasRead octets items self.old
-            → IfOk result (λ found. HasRead (octets ++ piece.now) (items ++ items_of found.items) self.new) }
+        ensures reads { (octets : List ℕ) (items : List Item) → HasRead octets items self.old
+            → IfOk result
+            (λ found. HasRead (octets ++ piece.now) (items ++ items_of found.items) self.new) }
         ensures only { (octets : List ℕ) (items : List Item) → HasRead octets items self.old
-            → IfOk result (λ found. OnlyReadsAs (octets ++ piece.now) (items ++ items_of found.items)) }
-        ensures err { OnErr result (self.new ≡ self.old) }
+            → IfOk result
+            (λ found. OnlyReadsAs (octets ++ piece.now) (items ++ items_of found.items)) }
+        ensures unchanged { OnErr result (self.new ≡ self.old) }
     {
         let mut next = self.copy(piece.len())?;
         let mut found = Vec::new(self.line.allocator()?);
@@ -91,6 +99,7 @@ impl<A: Allocator + Clone> LineReader<A> {
 
     /// A law: what a reader has read stands for the items that it has told, and for no others.
     pub fn reads_as(&self)
-        ensures only { (octets : List ℕ) (items : List Item) → HasRead octets items self.now → OnlyReadsAs octets items }
+        ensures only { (octets : List ℕ) (items : List Item) → HasRead octets items self.now
+            → OnlyReadsAs octets items }
     {}
 }

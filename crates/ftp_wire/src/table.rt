@@ -78,70 +78,77 @@ pub enum Listing {
     Stat,
 }
 
-/// A code, in capitals, and its command, or none where it is known and not served.
+/// What a code that is known stands for.
 #[derive(Clone, Copy)]
-struct Row(&'static str, Option<Verb>);
+pub enum Known {
+    Served(Verb),
+    NotServed,
+}
 
-/// The codes that are known (RFC 959, section 5.3; the X codes by RFC 775; RFC 2228, 2389, 2428, 2640, 3659
-/// and 7151). A code with an X is that of the command without it, and XCUP is CDUP.
+/// A code, in capitals, and what it stands for.
+#[derive(Clone, Copy)]
+struct Row(&'static str, Known);
+
+/// The codes that are known (RFC 959, section 5.3; the X codes by RFC 1123, section 4.1.3.1; RFC 2228, 2389,
+/// 2428, 2640, 3659 and 7151). A code with an X is that of the command without it, and XCUP is CDUP.
 static TABLE: [Row; 57] = [
-    Row("CDUP", Some(Verb::Bare(Bare::Cdup))),
-    Row("QUIT", Some(Verb::Bare(Bare::Quit))),
-    Row("REIN", Some(Verb::Bare(Bare::Rein))),
-    Row("PASV", Some(Verb::Bare(Bare::Pasv))),
-    Row("ABOR", Some(Verb::Bare(Bare::Abor))),
-    Row("PWD", Some(Verb::Bare(Bare::Pwd))),
-    Row("SYST", Some(Verb::Bare(Bare::Syst))),
-    Row("FEAT", Some(Verb::Bare(Bare::Feat))),
-    Row("NOOP", Some(Verb::Bare(Bare::Noop))),
-    Row("USER", Some(Verb::Text(Text::User))),
-    Row("CWD", Some(Verb::Text(Text::Cwd))),
-    Row("RETR", Some(Verb::Text(Text::Retr))),
-    Row("STOR", Some(Verb::Text(Text::Stor))),
-    Row("APPE", Some(Verb::Text(Text::Appe))),
-    Row("RNFR", Some(Verb::Text(Text::Rnfr))),
-    Row("RNTO", Some(Verb::Text(Text::Rnto))),
-    Row("DELE", Some(Verb::Text(Text::Dele))),
-    Row("RMD", Some(Verb::Text(Text::Rmd))),
-    Row("MKD", Some(Verb::Text(Text::Mkd))),
-    Row("SIZE", Some(Verb::Text(Text::Size))),
-    Row("MDTM", Some(Verb::Text(Text::Mdtm))),
-    Row("TYPE", Some(Verb::Form(Form::SetType))),
-    Row("MODE", Some(Verb::Form(Form::Mode))),
-    Row("STRU", Some(Verb::Form(Form::Stru))),
-    Row("PORT", Some(Verb::Form(Form::Port))),
-    Row("EPRT", Some(Verb::Form(Form::Eprt))),
-    Row("REST", Some(Verb::Form(Form::Rest))),
-    Row("OPTS", Some(Verb::Form(Form::Opts))),
-    Row("PASS", Some(Verb::Optional(Optional::Pass))),
-    Row("ALLO", Some(Verb::Optional(Optional::Allo))),
-    Row("HELP", Some(Verb::Optional(Optional::Help))),
-    Row("MLSD", Some(Verb::Optional(Optional::Mlsd))),
-    Row("MLST", Some(Verb::Optional(Optional::Mlst))),
-    Row("LIST", Some(Verb::Listing(Listing::List))),
-    Row("NLST", Some(Verb::Listing(Listing::Nlst))),
-    Row("STAT", Some(Verb::Listing(Listing::Stat))),
-    Row("EPSV", Some(Verb::Epsv)),
-    Row("XCUP", Some(Verb::Bare(Bare::Cdup))),
-    Row("XPWD", Some(Verb::Bare(Bare::Pwd))),
-    Row("XCWD", Some(Verb::Text(Text::Cwd))),
-    Row("XRMD", Some(Verb::Text(Text::Rmd))),
-    Row("XMKD", Some(Verb::Text(Text::Mkd))),
-    Row("ACCT", None),
-    Row("SMNT", None),
-    Row("STOU", None),
-    Row("SITE", None),
-    Row("LANG", None),
-    Row("HOST", None),
-    Row("AUTH", None),
-    Row("ADAT", None),
-    Row("PBSZ", None),
-    Row("PROT", None),
-    Row("CCC", None),
-    Row("MIC", None),
-    Row("CONF", None),
-    Row("ENC", None),
-    Row("MFMT", None),
+    Row("CDUP", Known::Served(Verb::Bare(Bare::Cdup))),
+    Row("QUIT", Known::Served(Verb::Bare(Bare::Quit))),
+    Row("REIN", Known::Served(Verb::Bare(Bare::Rein))),
+    Row("PASV", Known::Served(Verb::Bare(Bare::Pasv))),
+    Row("ABOR", Known::Served(Verb::Bare(Bare::Abor))),
+    Row("PWD", Known::Served(Verb::Bare(Bare::Pwd))),
+    Row("SYST", Known::Served(Verb::Bare(Bare::Syst))),
+    Row("FEAT", Known::Served(Verb::Bare(Bare::Feat))),
+    Row("NOOP", Known::Served(Verb::Bare(Bare::Noop))),
+    Row("USER", Known::Served(Verb::Text(Text::User))),
+    Row("CWD", Known::Served(Verb::Text(Text::Cwd))),
+    Row("RETR", Known::Served(Verb::Text(Text::Retr))),
+    Row("STOR", Known::Served(Verb::Text(Text::Stor))),
+    Row("APPE", Known::Served(Verb::Text(Text::Appe))),
+    Row("RNFR", Known::Served(Verb::Text(Text::Rnfr))),
+    Row("RNTO", Known::Served(Verb::Text(Text::Rnto))),
+    Row("DELE", Known::Served(Verb::Text(Text::Dele))),
+    Row("RMD", Known::Served(Verb::Text(Text::Rmd))),
+    Row("MKD", Known::Served(Verb::Text(Text::Mkd))),
+    Row("SIZE", Known::Served(Verb::Text(Text::Size))),
+    Row("MDTM", Known::Served(Verb::Text(Text::Mdtm))),
+    Row("TYPE", Known::Served(Verb::Form(Form::SetType))),
+    Row("MODE", Known::Served(Verb::Form(Form::Mode))),
+    Row("STRU", Known::Served(Verb::Form(Form::Stru))),
+    Row("PORT", Known::Served(Verb::Form(Form::Port))),
+    Row("EPRT", Known::Served(Verb::Form(Form::Eprt))),
+    Row("REST", Known::Served(Verb::Form(Form::Rest))),
+    Row("OPTS", Known::Served(Verb::Form(Form::Opts))),
+    Row("PASS", Known::Served(Verb::Optional(Optional::Pass))),
+    Row("ALLO", Known::Served(Verb::Optional(Optional::Allo))),
+    Row("HELP", Known::Served(Verb::Optional(Optional::Help))),
+    Row("MLSD", Known::Served(Verb::Optional(Optional::Mlsd))),
+    Row("MLST", Known::Served(Verb::Optional(Optional::Mlst))),
+    Row("LIST", Known::Served(Verb::Listing(Listing::List))),
+    Row("NLST", Known::Served(Verb::Listing(Listing::Nlst))),
+    Row("STAT", Known::Served(Verb::Listing(Listing::Stat))),
+    Row("EPSV", Known::Served(Verb::Epsv)),
+    Row("XCUP", Known::Served(Verb::Bare(Bare::Cdup))),
+    Row("XPWD", Known::Served(Verb::Bare(Bare::Pwd))),
+    Row("XCWD", Known::Served(Verb::Text(Text::Cwd))),
+    Row("XRMD", Known::Served(Verb::Text(Text::Rmd))),
+    Row("XMKD", Known::Served(Verb::Text(Text::Mkd))),
+    Row("ACCT", Known::NotServed),
+    Row("SMNT", Known::NotServed),
+    Row("STOU", Known::NotServed),
+    Row("SITE", Known::NotServed),
+    Row("LANG", Known::NotServed),
+    Row("HOST", Known::NotServed),
+    Row("AUTH", Known::NotServed),
+    Row("ADAT", Known::NotServed),
+    Row("PBSZ", Known::NotServed),
+    Row("PROT", Known::NotServed),
+    Row("CCC", Known::NotServed),
+    Row("MIC", Known::NotServed),
+    Row("CONF", Known::NotServed),
+    Row("ENC", Known::NotServed),
+    Row("MFMT", Known::NotServed),
 ];
 
 fn rows() -> &'static [Row]
@@ -151,8 +158,8 @@ fn rows() -> &'static [Row]
 }
 
 /// The first row with this code, letters of either case.
-fn find_row(rows: &[Row], code: &[u8]) -> Option<Option<Verb>>
-    ensures value { result ≡ row_of (map row rows.now) code.now }
+fn find_row(rows: &[Row], code: &[u8]) -> Option<Known>
+    ensures row { result ≡ row_of (map row rows.now) code.now }
 {
     for row in rows {
         if same_letters(row.0.as_bytes(), code) {
@@ -162,9 +169,9 @@ fn find_row(rows: &[Row], code: &[u8]) -> Option<Option<Verb>>
     None
 }
 
-/// What a code stands for: a command, or none where it is not served.
-pub fn verb_of(code: &[u8]) -> Option<Option<Verb>>
-    ensures value { result ≡ row_of table code.now }
+/// What a code stands for, if it is known.
+pub fn verb_of(code: &[u8]) -> Option<Known>
+    ensures row { result ≡ row_of table code.now }
 {
     find_row(rows(), code)
 }
@@ -172,7 +179,7 @@ pub fn verb_of(code: &[u8]) -> Option<Option<Verb>>
 impl Verb {
     /// The code of the command, in capitals and without an X.
     pub fn code(self) -> &'static str
-        ensures value { result.now ≡ code self }
+        ensures code { result.now ≡ code self }
     {
         match self {
             Verb::Bare(verb) => verb.code(),
@@ -187,7 +194,7 @@ impl Verb {
 
 impl Bare {
     fn code(self) -> &'static str
-        ensures value { result.now ≡ bare_code self }
+        ensures code { result.now ≡ bare_code self }
     {
         match self {
             Bare::Cdup => "CDUP",
@@ -205,7 +212,7 @@ impl Bare {
 
 impl Text {
     fn code(self) -> &'static str
-        ensures value { result.now ≡ text_code self }
+        ensures code { result.now ≡ text_code self }
     {
         match self {
             Text::User => "USER",
@@ -226,7 +233,7 @@ impl Text {
 
 impl Form {
     fn code(self) -> &'static str
-        ensures value { result.now ≡ form_code self }
+        ensures code { result.now ≡ form_code self }
     {
         match self {
             Form::SetType => "TYPE",
@@ -242,7 +249,7 @@ impl Form {
 
 impl Optional {
     fn code(self) -> &'static str
-        ensures value { result.now ≡ optional_code self }
+        ensures code { result.now ≡ optional_code self }
     {
         match self {
             Optional::Pass => "PASS",
@@ -256,7 +263,7 @@ impl Optional {
 
 impl Listing {
     fn code(self) -> &'static str
-        ensures value { result.now ≡ listing_code self }
+        ensures code { result.now ≡ listing_code self }
     {
         match self {
             Listing::List => "LIST",

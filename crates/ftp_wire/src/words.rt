@@ -1,27 +1,29 @@
 //! Words of a line.
 
 ghost use Rattle.std.specs.Prelude.{◌≡◌, ◌<◌, ◌==◌, ◌∷◌, [], List, IfSome, MatchOption, false, length, slice_index, true};
-ghost use Rattle.std.specs.List.{after_first, before_first, list_all, position, slice_split};
+ghost use Rattle.std.specs.List.{after_first, before_first, list_all, position};
+ghost use Rattle.ftp_wire.specs.Arguments.{parts_at};
 ghost use Rattle.ftp_wire.specs.Words.{is_blank, is_printed, is_space, is_text, same_letters};
 
 /// Whether two texts are the same but for the case of ASCII letters.
 pub fn same_letters(a: &[u8], b: &[u8]) -> bool
-    ensures value { result ≡ same_letters a.now b.now }
+    ensures same { result ≡ same_letters a.now b.now }
 {
     a.eq_ignore_ascii_case(b)
 }
 
 /// Whether there is nothing but spaces.
 pub fn is_blank(octets: &[u8]) -> bool
-    ensures value { result ≡ is_blank octets.now }
+    ensures blank { result ≡ is_blank octets.now }
 {
     octets.iter().all(|octet| *octet == b' ')
 }
 
 /// The place of the first octet of this value.
 pub fn find_octet(octets: &[u8], wanted: u8) -> Option<usize>
-    ensures value { result ≡ position (λ octet. octet == wanted) octets.now }
-    ensures found { IfSome result (λ at. (at < length octets.now) × (slice_index octets.now at ≡ wanted)) }
+    ensures first { result ≡ position (λ octet. octet == wanted) octets.now }
+    ensures found { IfSome result
+        (λ at. (at < length octets.now) × (slice_index octets.now at ≡ wanted)) }
 {
     octets.iter().position(|octet| *octet == wanted)
 }
@@ -39,8 +41,8 @@ pub fn split_word(octets: &[u8]) -> (&[u8], &[u8])
 
 /// The part before the first octet of this value, and what follows it.
 pub fn split_part(octets: &[u8], wanted: u8) -> Option<(&[u8], &[u8])>
-    ensures parts { MatchOption result (slice_split (λ octet. octet == wanted) octets.now ≡ octets.now ∷ [])
-        (λ part. slice_split (λ octet. octet == wanted) octets.now ≡ part.0.now ∷ slice_split (λ octet. octet == wanted) part.1.now) }
+    ensures parts { MatchOption result (parts_at wanted octets.now ≡ octets.now ∷ [])
+        (λ part. parts_at wanted octets.now ≡ part.0.now ∷ parts_at wanted part.1.now) }
     ensures shorter { IfSome result (λ part. length part.1.now < length octets.now) }
 {
     match find_octet(octets, wanted) {
@@ -50,14 +52,14 @@ pub fn split_part(octets: &[u8], wanted: u8) -> Option<(&[u8], &[u8])>
 }
 
 fn is_printed(octets: &[u8]) -> bool
-    ensures value { result ≡ list_all is_printed octets.now }
+    ensures printed { result ≡ list_all is_printed octets.now }
 {
     octets.iter().all(|octet| *octet >= 32 && *octet != 127)
 }
 
 /// The octets as a text, if they are UTF-8 without control characters.
 pub fn text_of(octets: &[u8]) -> Option<&str>
-    ensures value { MatchOption result (is_text octets.now ≡ false)
+    ensures text { MatchOption result (is_text octets.now ≡ false)
         (λ text. (is_text octets.now ≡ true) × (text.now ≡ octets.now)) }
 {
     if !is_printed(octets) {

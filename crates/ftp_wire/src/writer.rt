@@ -1,21 +1,22 @@
 //! Writes commands.
 
 ghost use Rattle.std.specs.Prelude.{◌≡◌, ◌++◌, ◌∷◌, [], IfOk, Ok, OnOk, option_map, string_bytes};
+ghost use Rattle.ftp_reply.specs.Written.{Appends};
 ghost use Rattle.ftp_wire.specs.Commands.{verb_of, with_texts};
 ghost use Rattle.ftp_wire.specs.Given.{CanBeReadBack};
 ghost use Rattle.ftp_wire.specs.Reading.{OnlyReadsAs};
-ghost use Rattle.ftp_wire.specs.Written.{argument_part, extended_passive_text, extended_port_text, fact_text, facts_text, form_argument, has_facts, option_text, port_text, text_argument, type_text, written, written_line};
+ghost use Rattle.ftp_wire.specs.Written.{argument_part, extended_passive_text, extended_port_text, form_argument, has_facts, option_text, text_argument, type_text, written, written_line};
 
-use crate::commands::{
-    Command, DataType, ExtendedPassive, ExtendedPort, Facts, FeatureOption, HostPort,
-};
+use crate::commands::{Command, ExtendedPassive, ExtendedPort, FeatureOption, HostPort};
 use crate::table::{Bare, Form, Listing, Optional, Text, Verb};
+use crate::texts::{push_facts, push_port};
+use ftp_terms::{DataType, Facts};
 use std::alloc::{AllocError, Allocator};
 use std::fmt::Write;
 
 /// The command without its argument.
 fn verb<T>(command: &Command<T>) -> Verb
-    ensures value { result ≡ verb_of command.now }
+    ensures verb { result ≡ verb_of command.now }
 {
     match command {
         Command::User(_) => Verb::Text(Text::User),
@@ -60,7 +61,8 @@ fn verb<T>(command: &Command<T>) -> Verb
 
 /// The text of the command, if it has one.
 fn text<A: Allocator>(command: &Command<String<A>>) -> Option<&str>
-    ensures value { option_map (λ t. t.now) result ≡ text_argument (with_texts string_bytes command.now) }
+    ensures text { option_map (λ t. t.now) result
+        ≡ text_argument (with_texts string_bytes command.now) }
 {
     match command {
         Command::User(text)
@@ -91,7 +93,7 @@ fn text<A: Allocator>(command: &Command<String<A>>) -> Option<&str>
 }
 
 fn type_text(data_type: DataType) -> &'static str
-    ensures value { result.now ≡ type_text data_type }
+    ensures text { result.now ≡ type_text data_type }
 {
     match data_type {
         DataType::Ascii => "A",
@@ -99,25 +101,12 @@ fn type_text(data_type: DataType) -> &'static str
     }
 }
 
-#[tactic(auto, unfolding(crate::specs::Written::port_text))]
-fn push_port<A: Allocator>(out: &mut String<A>, port: &HostPort) -> Result<(), AllocError>
-    ensures ok { OnOk result (string_bytes out.new ≡ string_bytes out.old ++ port_text port.now) }
-{
-    let [a, b, c, d] = port.address;
-    write!(
-        out,
-        "{a},{b},{c},{d},{},{}",
-        port.port / 256,
-        port.port % 256
-    )
-}
-
 #[tactic(auto, unfolding(crate::specs::Written::extended_port_text))]
 fn push_extended_port<A: Allocator>(
     out: &mut String<A>,
     port: &ExtendedPort,
 ) -> Result<(), AllocError>
-    ensures ok { OnOk result (string_bytes out.new ≡ string_bytes out.old ++ extended_port_text port.now) }
+    ensures appended { Appends result out.old out.new (extended_port_text port.now) }
 {
     match port {
         ExtendedPort::Ipv4(host) => {
@@ -133,7 +122,8 @@ fn push_passive<A: Allocator>(
     out: &mut String<A>,
     passive: ExtendedPassive,
 ) -> Result<(), AllocError>
-    ensures ok { OnOk result (string_bytes out.new ≡ string_bytes out.old ++ argument_part (extended_passive_text passive)) }
+    ensures appended { Appends result out.old out.new
+        (argument_part (extended_passive_text passive)) }
 {
     match passive {
         ExtendedPassive::Same => Ok(()),
@@ -142,35 +132,15 @@ fn push_passive<A: Allocator>(
     }
 }
 
-fn push_fact<A: Allocator>(
-    out: &mut String<A>,
-    is_named: bool,
-    name: &str,
-) -> Result<(), AllocError>
-    ensures ok { OnOk result (string_bytes out.new ≡ string_bytes out.old ++ fact_text is_named name.now) }
-{
-    if is_named { out.push_str(name) } else { Ok(()) }
-}
-
-#[tactic(auto, unfolding(crate::specs::Written::facts_text))]
-fn push_facts<A: Allocator>(out: &mut String<A>, facts: Facts) -> Result<(), AllocError>
-    ensures ok { OnOk result (string_bytes out.new ≡ string_bytes out.old ++ facts_text facts) }
-{
-    push_fact(out, facts.kind, "type;")?;
-    push_fact(out, facts.size, "size;")?;
-    push_fact(out, facts.modify, "modify;")?;
-    push_fact(out, facts.perm, "perm;")
-}
-
 fn has_facts(facts: Facts) -> bool
-    ensures value { result ≡ has_facts facts }
+    ensures named { result ≡ has_facts facts }
 {
     facts.kind || facts.size || facts.modify || facts.perm
 }
 
 #[tactic(auto, unfolding(crate::specs::Written::option_text))]
 fn push_option<A: Allocator>(out: &mut String<A>, option: FeatureOption) -> Result<(), AllocError>
-    ensures ok { OnOk result (string_bytes out.new ≡ string_bytes out.old ++ option_text option) }
+    ensures appended { Appends result out.old out.new (option_text option) }
 {
     match option {
         FeatureOption::Utf8On => out.push_str("UTF8 ON"),
@@ -186,7 +156,7 @@ fn push_option<A: Allocator>(out: &mut String<A>, option: FeatureOption) -> Resu
 
 /// Adds a space and the argument, if it has a form of its own.
 fn push_form<A: Allocator, T>(out: &mut String<A>, command: &Command<T>) -> Result<(), AllocError>
-    ensures ok { OnOk result (string_bytes out.new ≡ string_bytes out.old ++ argument_part (form_argument command.now)) }
+    ensures appended { Appends result out.old out.new (argument_part (form_argument command.now)) }
 {
     match command {
         Command::SetType(data_type) => {
@@ -215,7 +185,8 @@ fn push_form<A: Allocator, T>(out: &mut String<A>, command: &Command<T>) -> Resu
 
 /// Adds a space and the text, if there is one.
 fn push_text<A: Allocator>(out: &mut String<A>, text: Option<&str>) -> Result<(), AllocError>
-    ensures ok { OnOk result (string_bytes out.new ≡ string_bytes out.old ++ argument_part (option_map (λ t. t.now) text.entry)) }
+    ensures appended { Appends result out.old out.new
+        (argument_part (option_map (λ t. t.now) text.entry)) }
 {
     match text {
         Some(text) => {
@@ -235,9 +206,11 @@ pub fn write_command<A: Allocator, B: Allocator>(
     alloc: A,
     command: &Command<String<B>>,
 ) -> Result<Vec<u8, A>, AllocError>
-    ensures line { IfOk result (λ line. line.items ≡ written (with_texts string_bytes command.now)) }
+    ensures line { IfOk result
+        (λ line. line.items ≡ written (with_texts string_bytes command.now)) }
     ensures read_back { CanBeReadBack (with_texts string_bytes command.now)
-        → IfOk result (λ line. OnlyReadsAs line.items (Ok (with_texts string_bytes command.now) ∷ [])) }
+        → IfOk result
+        (λ line. OnlyReadsAs line.items (Ok (with_texts string_bytes command.now) ∷ [])) }
 {
     let mut out = String::new(alloc);
     out.push_str(verb(command).code())?;

@@ -1,6 +1,7 @@
 //! The files that the words of a command name.
 
-use ftp_daemon::ProgramFault;
+use sheet_commands::Outside;
+use sheet_program::{Openings, STANDARD_INPUT};
 use std::io::Read;
 use std::rt::Files;
 use std::{fs, io};
@@ -21,17 +22,23 @@ impl<F: Read, I: Read> Read for Opened<F, I> {
     }
 }
 
-/// Opens the file of that path. Standard input is read as it was handed over, since a process of another user may
-/// not open it anew by its path.
-pub fn open<R: Files + Input>(
-    rt: &R,
-    path: &str,
-) -> Result<Opened<R::File, R::Reader>, ProgramFault> {
-    if path == "/dev/stdin" {
-        return Ok(Opened::Input(rt.reader()));
-    }
-    match fs::open(rt, path) {
-        Ok(file) => Ok(Opened::File(file)),
-        Err(_) => Err(ProgramFault::ReadFault),
+/// The files of the machine that the program runs on. Standard input is read as it was handed over, since a process
+/// of another user may not open it anew by its path.
+#[derive(Drop)]
+pub struct Machine<'r, R> {
+    pub rt: &'r R,
+}
+
+impl<'r, R: Files + Input> Openings for Machine<'r, R> {
+    type End = Outside<Opened<R::File, R::Reader>>;
+
+    fn open(&mut self, path: &str) -> Option<Outside<Opened<R::File, R::Reader>>> {
+        if path == STANDARD_INPUT {
+            return Some(Outside(Opened::Input(self.rt.reader())));
+        }
+        match fs::open(self.rt, path) {
+            Ok(file) => Some(Outside(Opened::File(file))),
+            Err(_) => None,
+        }
     }
 }

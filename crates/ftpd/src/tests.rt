@@ -1,8 +1,7 @@
-//! What the program answers to its words: a status, or the fault that it tells.
+//! The program on real files.
 
 use super::*;
 use std::fs;
-use std::process::Abort;
 use std::test::Fail;
 
 const LUNCH: &str = "limit / 10\nwant /a 10\nwant /b 10\nwant /c 10\n";
@@ -22,46 +21,31 @@ fn file(rt: &(impl Env + Files + AllocGlobal), name: &str, text: &str) -> Result
 }
 
 #[test]
-fn words_that_are_refused_or_ask_for_help(rt: HostRuntime) {
-    let rows: [(&[&str], u8); 9] = [
-        (&[], REFUSED),
-        (&["serve"], REFUSED),
-        (&["share"], REFUSED),
-        (&["share", "a", "b"], REFUSED),
-        (&["check", "a"], REFUSED),
-        (&["share", "--loud", "a"], REFUSED),
-        (&["--help"], 0),
-        (&["check", "--help"], 0),
-        (&["--version"], 0),
-    ];
-    for (words, status) in rows {
-        assert!(rt; run(&rt, words) == Ok(ExitCode::from(status)), "{words:?}");
-    }
-}
-
-#[test]
 fn shares_and_verdicts(rt: HostRuntime) -> Result<(), Fail> {
     let sheet = file(&rt, "lunch.sheet", LUNCH)?;
-    assert!(rt; share(&rt, sheet.as_str()) == Ok(()));
+    assert_eq!(rt; run(&rt, &["share", sheet.as_str()]).status(), 0);
     let best = "grant /a 4 /\ngrant /b 3 /\ngrant /c 3 /\n";
     let best = file(&rt, "best.grants", best)?;
-    let verdict = check(&rt, sheet.as_str(), best.as_str());
-    assert!(rt; verdict == Ok(ExitCode::SUCCESS));
+    assert_eq!(rt;
+        run(&rt, &["check", sheet.as_str(), best.as_str()]).status(),
+        0
+    );
     let uneven = "grant /a 5 /\ngrant /b 3 /\ngrant /c 2 /\n";
     let uneven = file(&rt, "uneven.grants", uneven)?;
-    let verdict = check(&rt, sheet.as_str(), uneven.as_str());
-    assert!(rt; verdict == Ok(ExitCode::from(FLAWED)));
+    assert_eq!(rt;
+        run(&rt, &["check", sheet.as_str(), uneven.as_str()]).status(),
+        3
+    );
     Ok(())
 }
 
 #[test]
 fn files_that_cannot_be_read(rt: HostRuntime) {
     for path in ["/no/such/sheet", "/dev/null/sheet", "/"] {
+        assert!(rt; run(&rt, &["share", path]).status() == 1, "{path}");
         assert!(rt;
-            run(&rt, &["share", path]) == Err(ProgramFault::ReadFault),
+            run(&rt, &["check", "/dev/null", path]).status() == 1,
             "{path}"
         );
-        let words = ["check", "/dev/null", path];
-        assert!(rt; run(&rt, &words) == Err(ProgramFault::ReadFault), "{path}");
     }
 }

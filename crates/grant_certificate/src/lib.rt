@@ -21,6 +21,3 @@ pub use laws::{
 };
 pub use leaves::Leaves;
 pub use sealed::{Refused, Sealed, seal};
-
-#[cfg(test)]
-mod tests;

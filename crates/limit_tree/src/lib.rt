@@ -21,6 +21,3 @@ pub use node::Node;
 pub use place::{Kind, Place};
 pub use tree::Tree;
 pub use walk::{Passed, Visitor};
-
-#[cfg(test)]
-mod tests;

@@ -6,7 +6,7 @@ use Rattle.std.proofs.lemmas.Option.{slice_get_within}
 use Rattle.std.proofs.lemmas.List.{get_or_past}
 use Rattle.limit_tree.specs.Sharing.{Branch as SharedBranch, IsBranch, IsWithin, IsBottleneck, sum_over}
 use Rattle.limit_tree.specs.Outline.{limits, leaf_range}
-use Rattle.limit_tree.specs.Flat.{IsFlat}
+use Rattle.limit_tree.specs.Flat.{IsFlat, IsRow}
 use Rattle.limit_tree.specs.declared.bounds.TheConstants.{MAX_WANT}
 use Rattle.limit_tree.specs.declared.place.Kind.TheVariants.{Branch}
 use Rattle.limit_tree.specs.declared.place.Place.{Place}
@@ -21,6 +21,10 @@ use Rattle.round_allocator.specs.declared.level.Share.{Share}
 -- all leaves of a tree have their grants
 abbrev pub IsPoured : List Place → Share → List ℕ → ℕ → List ℕ → Type 0
 IsPoured outline share old rest g = IsPouring outline 0 1 0 share old (length outline) 0 (length (limits outline).wants) rest g
+
+-- in whichever row the tree stands
+abbrev pub ArePoured : List Place → Share → List ℕ → ℕ → List ℕ → Type 0
+ArePoured outline share old rest g = (begin last past : ℕ) → IsRow outline 0 begin 1 last past → IsPouring outline 0 1 begin share old last 0 past rest g
 
 pub poured-within : (outline : List Place) (share : Share) (old : List ℕ) (rest : ℕ) (g : List ℕ) → IsFlat outline → length old ≡ length (limits outline).wants → IsPoured outline share old rest g → IsWithin (limits outline) g
 poured-within outline share old rest g flat leaves poured =

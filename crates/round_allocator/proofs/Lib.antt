@@ -1,5 +1,4 @@
 pub mod Rooms
-pub mod Steps
 pub mod Names
 pub mod Pours
 pub mod Counts

@@ -7,33 +7,34 @@ ghost use Rattle.round_allocator.specs.Rounds.{HasBottlenecks};
 ghost use Rattle.round_allocator.specs.Levels.{IsPouring, branch_count};
 
 use super::level::{Share, leaf_grant, share_out};
+use super::probe::{ProbedTree, Probes, unprobed};
 use limit_tree::{Flat, Kind, MAX_WANT};
 use std::alloc::{AllocError, Allocator};
 
 // Gives the leaves of so many trees side by side, the first of which has a number, what they take in up to a
 // level, and of the spare octets one to each leaf with room, the lowest leaf number first. What is still spare.
 fn fill<A: Allocator>(
-    flat: &Flat<A>,
+    tree: &ProbedTree<'_, A>,
     first: usize,
     trees: usize,
     share: Share,
     grants: &mut [u64],
-    probes: &mut u64,
+    probes: &mut Probes,
 ) -> u64
-    requires row { HasRow flat.now first trees }
+    requires row { HasRow tree.now first trees }
     requires level { share.level < 2 ^ 32 }
-    requires spare { share.spare ≤ sum (limits flat.now).wants }
-    requires grants { length grants.old ≡ length (limits flat.now).wants }
-    requires counted { probes.old ≤ 33 * branch_count (take first flat.now) }
-    ensures poured { (begin last past : ℕ) → IsRow flat.now first begin trees last past → IsPouring flat.now first trees begin share grants.old last 0 past result grants.new }
+    requires spare { share.spare ≤ sum (limits tree.now).wants }
+    requires grants { length grants.old ≡ length (limits tree.now).wants }
+    requires counted { probes.old ≤ 33 * branch_count (take first tree.now) }
+    ensures poured { (begin last past : ℕ) → IsRow tree.now first begin trees last past → IsPouring tree.now first trees begin share grants.old last 0 past result grants.new }
     ensures size { length grants.new ≡ length grants.old }
-    ensures counted { (begin last past : ℕ) → IsRow flat.now first begin trees last past → probes.new ≤ 33 * branch_count (take last flat.now) }
+    ensures counted { (begin last past : ℕ) → IsRow tree.now first begin trees last past → probes.new ≤ 33 * branch_count (take last tree.now) }
 {
-    let _nodes = flat.nodes();
+    tree.is_flat();
     let mut node = first;
     let mut left = share.spare;
     for _tree in 0..trees {
-        let place = flat.place(node);
+        let place = tree.place(node);
         let here = Share {
             level: share.level,
             spare: left,
@@ -45,8 +46,8 @@ fn fill<A: Allocator>(
                 left = grant.rest;
             }
             Kind::Branch { limit } => {
-                let plan = share_out(flat, node, limit, here, probes);
-                let rest = fill(flat, node + 1, place.kids, plan.share, grants, probes);
+                let plan = share_out(tree, node, limit, here, probes);
+                let rest = fill(tree, node + 1, place.kids, plan.share, grants, probes);
                 left = plan.kept + rest;
             }
         }
@@ -79,11 +80,14 @@ pub fn give<A: Allocator, B: Allocator>(alloc: B, flat: &Flat<A>) -> Result<Coun
     let leaves = flat.leaves();
     let _nodes = flat.nodes();
     let mut grants = zeros(alloc, leaves)?;
-    let mut probes = 0;
+    let (tree, mut probes) = unprobed(flat);
     let top = Share {
         level: MAX_WANT,
         spare: 0,
     };
-    let _left = fill(flat, 0, 1, top, &mut grants, &mut probes);
-    Ok(Counted { grants, probes })
+    let _left = fill(&tree, 0, 1, top, &mut grants, &mut probes);
+    Ok(Counted {
+        grants,
+        probes: probes.count(),
+    })
 }

@@ -3,7 +3,7 @@ ghost use Rattle.std.specs.Prelude.{◌≡◌, ◌+◌, ◌<◌, ◌≤◌, ◌^
 ghost use Rattle.limit_tree.specs.Flat.{taken_below};
 ghost use Rattle.round_allocator.specs.Levels.{IsBranchAt, IsLevel, IsNarrower, IsPlan, IsLeafGrant};
 
-use limit_tree::Flat;
+use super::probe::{ProbedTree, Probes};
 use std::alloc::Allocator;
 
 /// A level, and octets that may be given above it, one a leaf.
@@ -36,31 +36,20 @@ pub struct Window {
     pub taken: u64,
 }
 
-/// What the kids of a node take in up to a level, in octets. Each call is one probe.
-fn probe<A: Allocator>(flat: &Flat<A>, node: usize, level: u64, probes: &mut u64) -> u64
-    requires node { node < length flat.now }
-    requires room { probes.old < 2 ^ 63 }
-    ensures taken { result ≡ taken_below level flat.now node }
-    ensures counted { probes.new ≡ probes.old + 1 }
-{
-    *probes += 1;
-    flat.absorb_below(node, level)
-}
-
 // Halves a window by one probe, unless its levels are neighbours.
 fn narrow<A: Allocator>(
-    flat: &Flat<A>,
+    tree: &ProbedTree<'_, A>,
     node: usize,
     most: u64,
     window: Window,
-    probes: &mut u64,
+    probes: &mut Probes,
 ) -> Window
-    requires node { node < length flat.now }
+    requires node { node < length tree.now }
     requires room { probes.old < 2 ^ 63 }
     requires order { window.low < window.high }
-    requires below { 0 < window.low → (window.taken ≡ taken_below window.low flat.now node) × (window.taken ≤ most) }
-    requires above { most < taken_below window.high flat.now node }
-    ensures narrower { IsNarrower flat.now node most window result }
+    requires below { 0 < window.low → (window.taken ≡ taken_below window.low tree.now node) × (window.taken ≤ most) }
+    requires above { most < taken_below window.high tree.now node }
+    ensures narrower { IsNarrower tree.now node most window result }
     ensures counted { probes.new ≤ probes.old + 1 }
     ensures neighbours { window.high ≤ window.low + 1 → probes.new ≡ probes.old }
 {
@@ -68,7 +57,7 @@ fn narrow<A: Allocator>(
         return window;
     }
     let middle = window.low + (window.high - window.low) / 2;
-    let taken = probe(flat, node, middle, probes);
+    let taken = tree.probe(node, middle, probes);
     if taken <= most {
         Window {
             low: middle,
@@ -86,31 +75,31 @@ fn narrow<A: Allocator>(
 
 // The greatest level below one that is too high, and what the limit leaves there: at most 32 probes.
 fn search<A: Allocator>(
-    flat: &Flat<A>,
+    tree: &ProbedTree<'_, A>,
     node: usize,
     most: u64,
     level: u64,
-    probes: &mut u64,
+    probes: &mut Probes,
 ) -> Share
-    requires branch { IsBranchAt flat.now node (Some most) }
+    requires branch { IsBranchAt tree.now node (Some most) }
     requires room { probes.old + 32 < 2 ^ 63 }
     requires level { level < 2 ^ 32 }
-    requires above { most < taken_below level flat.now node }
-    ensures level { IsLevel flat.now node most result }
+    requires above { most < taken_below level tree.now node }
+    ensures level { IsLevel tree.now node most result }
     ensures lower { result.level < level }
     ensures counted { probes.new ≤ probes.old + 32 }
 {
-    let _nodes = flat.nodes();
+    tree.is_flat();
     let mut window = Window {
         low: 0,
         high: level,
         taken: 0,
     };
     for _step in 0..32u32 {
-        window = narrow(flat, node, most, window, probes);
+        window = narrow(tree, node, most, window, probes);
     }
     if window.low == 0 {
-        window.taken = probe(flat, node, 0, probes);
+        window.taken = tree.probe(node, 0, probes);
     }
     Share {
         level: window.low,
@@ -121,22 +110,22 @@ fn search<A: Allocator>(
 /// How a branch with so many spare octets above a level shares them with its kids: at most 33 probes, one where
 /// what its kids take in fits its limit, none where it has no limit.
 pub fn share_out<A: Allocator>(
-    flat: &Flat<A>,
+    tree: &ProbedTree<'_, A>,
     node: usize,
     limit: Option<u64>,
     share: Share,
-    probes: &mut u64,
+    probes: &mut Probes,
 ) -> Plan
-    requires branch { IsBranchAt flat.now node limit }
+    requires branch { IsBranchAt tree.now node limit }
     requires room { probes.old + 33 < 2 ^ 63 }
     requires level { share.level < 2 ^ 32 }
-    ensures shared { IsPlan flat.now node limit share result }
+    ensures shared { IsPlan tree.now node limit share result }
     ensures counted { probes.new ≤ probes.old + 33 }
 {
     let Some(most) = limit else {
         return Plan { share, kept: 0 };
     };
-    let taken = probe(flat, node, share.level, probes);
+    let taken = tree.probe(node, share.level, probes);
     if taken <= most {
         let spare = share.spare.min(most - taken);
         return Plan {
@@ -148,7 +137,7 @@ pub fn share_out<A: Allocator>(
         };
     }
     Plan {
-        share: search(flat, node, most, share.level, probes),
+        share: search(tree, node, most, share.level, probes),
         kept: share.spare,
     }
 }

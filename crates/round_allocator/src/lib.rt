@@ -5,12 +5,6 @@
 mod fill;
 mod level;
 mod named;
+mod probe;
 
 pub use named::{allot, allot_counted};
-
-#[cfg(test)]
-mod plain;
-#[cfg(test)]
-mod small_trees;
-#[cfg(test)]
-mod tests;

@@ -22,10 +22,3 @@ pub use grants::{GrantsFault, read_grants};
 pub use number::{MOST_DIGITS, read_number};
 pub use path::{LONGEST_NAME, read_named_path, read_path};
 pub use sheet::{Sheet, read_sheet};
-
-#[cfg(test)]
-mod grants_tests;
-#[cfg(test)]
-mod sheet_tests;
-#[cfg(test)]
-mod tests;

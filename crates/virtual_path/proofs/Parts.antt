@@ -3,9 +3,10 @@ use Rattle.std.proofs.Common.{◌≡◌, ◌≢◌, ℕ, suc, ◌<◌, ◌≤◌
 use Rattle.std.proofs.lemmas.Bool.{true≢false, eqb-true, eqb-false, lt-ltb, le-ltb}
 use Rattle.std.proofs.lemmas.List.Splits.{length-slice_split}
 use Rattle.std.specs.List.{list_any, count_by, AllByRecursion}
+use Rattle.ftp_terms.specs.Lines.{is_control}
 use Rattle.virtual_path.specs.declared.TheConstants.{LONGEST_NAME, LONGEST_PATH}
 use Rattle.virtual_path.specs.declared.fault.PathFault.TheVariants.{BadName, TooLong}
-use Rattle.virtual_path.specs.Path.{Path, path_text, parent_of, names_of, names_in, slashed, is_slash, is_control, is_long_name, is_long, is_one_name, child_of, joined, HasNoSlash, IsName, AllNames, IsPathText}
+use Rattle.virtual_path.specs.Path.{Path, path_text, parent_of, names_of, names_in, slashed, is_slash, is_long_name, is_long, is_one_name, child_of, joined, HasNoSlash, IsName, AllNames, IsPathText}
 use Rattle.virtual_path.proofs.Elements.{each-append, each-take, none_passes}
 use Rattle.virtual_path.proofs.Texts.{slashed-append, slashed-push, path_text-slashed, last_name}
 use Rattle.virtual_path.proofs.Walks.{no_slash_in_path, names_in-slashed, is_path_text, length-path_text, short-path_text}
@@ -135,8 +136,8 @@ depth_of text path e = let n = length-slice_split is_slash text in let l = ap le
     length-drop_one (x ∷ xs) = omega arith
 
 -- a name that the test lets through
-no_octet : (name : List ℕ) → is_one_name name ≡ true → length name ≤ LONGEST_NAME → IsName name
-no_octet name one short = name_tested (bytes_eq name []) (bytes_eq name (codes ".")) (bytes_eq name (codes "..")) (list_any is_slash name) (list_any is_control name) refl refl refl refl refl one
+pub tested_name : (name : List ℕ) → is_one_name name ≡ true → length name ≤ LONGEST_NAME → IsName name
+tested_name name one short = name_tested (bytes_eq name []) (bytes_eq name (codes ".")) (bytes_eq name (codes "..")) (list_any is_slash name) (list_any is_control name) refl refl refl refl refl one
   where
     name_tested : (a b d e f : Bool) → bytes_eq name [] ≡ a → bytes_eq name (codes ".") ≡ b → bytes_eq name (codes "..") ≡ d → list_any is_slash name ≡ e → list_any is_control name ≡ f
         → not (a || b || d || e || f) ≡ true → IsName name
@@ -156,7 +157,7 @@ no_octet name one short = name_tested (bytes_eq name []) (bytes_eq name (codes "
 
 pub child_text : (text built name : List ℕ) (path : Path) → IsTextOf text path → is_one_name name ≡ true → length name ≤ LONGEST_NAME → built ≡ text ++ 47 ∷ name → length text + 1 + length name ≤ LONGEST_PATH → IsTextOf built (path ++ name ∷ [])
 child_text text built name path is one short e fits = record {
-  names = each-append IsName path (name ∷ []) is.names (no_octet name one short, tt);
+  names = each-append IsName path (name ∷ []) is.names (tested_name name one short, tt);
   slashes = e ∙ ap (λ t. t ++ 47 ∷ name) is.slashes ∙ sym (slashed-push path name);
   short = let w = ap length e in let l = length-append text (47 ∷ name) in omega arith;
 }

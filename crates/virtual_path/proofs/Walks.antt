@@ -3,10 +3,11 @@ use Rattle.std.proofs.Common.{◌≡◌, ℕ, ◌<◌, ◌≤◌, ◌-◌, Bool,
 use Rattle.std.proofs.Math.Dec.{eqb-suc-zero}
 use Rattle.std.proofs.lemmas.Bool.{true≢false, ltb-false, lt-ltb, le-ltb}
 use Rattle.std.specs.List.{list_any, AllByRecursion, fold}
+use Rattle.ftp_terms.specs.Lines.{is_control}
 use Rattle.virtual_path.specs.declared.TheConstants.{LONGEST_NAME, LONGEST_PATH}
 use Rattle.virtual_path.specs.declared.fault.PathFault.{PathFault}
 use Rattle.virtual_path.specs.declared.fault.PathFault.TheVariants.{BadName, TooLong}
-use Rattle.virtual_path.specs.Path.{Path, path_text, through, parent_of, named, names_of, names_in, resolved, start_of, slashed, is_control, is_slash, is_long_name, text_refusal, HasNoSlash, IsName, AllNames, IsPathText}
+use Rattle.virtual_path.specs.Path.{Path, path_text, through, parent_of, named, names_of, names_in, resolved, start_of, slashed, is_slash, is_long_name, text_refusal, HasNoSlash, IsName, AllNames, IsPathText}
 use Rattle.virtual_path.proofs.Elements.{each-append, each-take, each-both, each-weaker, none_passes}
 use Rattle.virtual_path.proofs.Splits.{each_name, names_of-slashed}
 use Rattle.virtual_path.proofs.Texts.{path_text-slashed}

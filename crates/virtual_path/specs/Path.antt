@@ -1,6 +1,7 @@
 -- Paths of a virtual file system: the names that lead from its root to a place.
-use Rattle.std.specs.Prelude.{◌≡◌, ◌≢◌, ℕ, ◌≤◌, ◌-◌, ◌==◌, Bool, false, cond, not, ◌||◌, List, [], ◌∷◌, ◌++◌, length, take, drop, slice_index, Result, Ok, Err, nat_lt, nat_eq, bytes_eq, codes}
+use Rattle.std.specs.Prelude.{◌≡◌, ◌≢◌, ℕ, ◌≤◌, ◌-◌, ◌==◌, Bool, false, cond, not, ◌||◌, ◌&&◌, List, [], ◌∷◌, ◌++◌, length, take, drop, slice_index, Result, Ok, Err, nat_lt, nat_eq, bytes_eq, codes}
 use Rattle.std.specs.List.{list_any, slice_split, join_with_byte, fold, AllByRecursion}
+use Rattle.ftp_terms.specs.Lines.{is_control, HasNoControl}
 use Rattle.virtual_path.specs.declared.TheConstants.{LONGEST_NAME, LONGEST_PATH}
 use Rattle.virtual_path.specs.declared.fault.PathFault.{PathFault}
 use Rattle.virtual_path.specs.declared.fault.PathFault.TheVariants.{BadName, TooLong}
@@ -15,10 +16,6 @@ path_text path = 47 ∷ join_with_byte 47 path
 
 abbrev pub is_slash : ℕ → Bool
 is_slash octet = nat_eq octet 47
-
--- an octet that no name may hold
-abbrev pub is_control : ℕ → Bool
-is_control octet = nat_lt octet 32 || nat_eq octet 127
 
 -- the names that a text gives, between its slashes; some may be empty
 abbrev pub names_of : List ℕ → List (List ℕ)
@@ -61,6 +58,10 @@ resolved from text = cond (list_any is_control text) (Err BadName)
 abbrev pub is_one_name : List ℕ → Bool
 is_one_name name = not (bytes_eq name [] || bytes_eq name (codes ".") || bytes_eq name (codes "..") || list_any is_slash name || list_any is_control name)
 
+-- a name that a path may hold, as a test
+abbrev pub is_name : List ℕ → Bool
+is_name name = is_one_name name && not (is_long_name name)
+
 abbrev pub child_of : Path → List ℕ → Result Path PathFault
 child_of path name = cond (is_one_name name)
     (cond (is_long_name name || is_long (path ++ name ∷ [])) (Err TooLong) (Ok (path ++ name ∷ [])))
@@ -76,9 +77,6 @@ IsBeneath path above = (rest : Path) × (path ≡ above ++ rest)
 
 abbrev pub HasNoSlash : List ℕ → Type 0
 HasNoSlash name = AllByRecursion (λ octet. is_slash octet ≡ false) name
-
-abbrev pub HasNoControl : List ℕ → Type 0
-HasNoControl name = AllByRecursion (λ octet. is_control octet ≡ false) name
 
 -- a name that a path may hold
 pub record IsName (name : List ℕ) : Type 0 where

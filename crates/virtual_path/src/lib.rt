@@ -2,17 +2,22 @@
 //!
 //! A [`VPath`] is the names that lead from a root to a place. No name in it is empty, `.` or `..`,
 //! so no path leaves its root (compare RFC 3986, section 5.2.4).
+//!
+//! ```text
+//! let root = VPath::root(alloc);
+//! let home = root.resolve(alloc, "/home/ann")?;
+//! let file = home.resolve(alloc, "../bob/./f")?; // /home/bob/f
+//! let name = file.file_name();                   // f
+//! ```
 #![tactic(auto)]
 
 mod fault;
 mod path;
-#[cfg(test)]
-mod tests;
 mod walk;
 
 pub use fault::PathFault;
 pub use path::VPath;
-pub use walk::parent_text;
+pub use walk::{is_name, parent_text};
 
 /// The most octets that a name may have.
 pub const LONGEST_NAME: usize = 255;

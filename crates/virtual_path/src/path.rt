@@ -1,6 +1,7 @@
 //! A path as one value.
 
-ghost use Rattle.std.specs.Prelude.{◌≡◌, ◌≢◌, ◌≤◌, ◌==◌, ◌++◌, ◌∷◌, [], length, map, IsTrue, ◌↔◌, IfOk, MatchResult, MatchOption, Ok, Err};
+ghost use Rattle.std.specs.Prelude.{◌≡◌, ◌≢◌, ◌≤◌, ◌==◌, ◌++◌, ◌∷◌, [], length, map, IsTrue, ◌↔◌, IfOk, IfSome, MatchResult, MatchOption, Ok, Err};
+ghost use Rattle.ftp_terms.specs.Lines.{IsLine};
 ghost use Rattle.virtual_path.specs.Path.{path_text, parent_of, resolved, child_of, joined, IsBeneath, AllNames};
 
 use crate::fault::PathFault;
@@ -40,10 +41,11 @@ impl<A: Allocator> VPath<A> {
         }
     }
 
-    /// `/` and the names joined by `/`.
+    /// `/` and the names joined by `/`, on one line.
     pub fn text(&self) -> &str
         ensures text { result.now ≡ path_text self.now }
         ensures names { AllNames self.now }
+        ensures line { IsLine result.now }
         ensures short { length result.now ≤ LONGEST_PATH }
     {
         shown(self.text.as_str())
@@ -86,8 +88,9 @@ impl<A: Allocator> VPath<A> {
         self.text.as_str().split('/').skip(1).collect(alloc)
     }
 
-    /// The last name; the root has none.
+    /// The last name, on one line; the root has none.
     pub fn file_name(&self) -> Option<&str>
+        ensures line { IfSome result (λ name. IsLine name.now) }
         ensures name { MatchOption result (self.now ≡ []) (λ name. self.now ≡ parent_of self.now ++ name.now ∷ []) }
     {
         let (_, name) = split_last(self.text.as_str())?;

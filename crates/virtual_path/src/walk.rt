@@ -5,7 +5,8 @@
 ghost use Rattle.std.specs.Prelude.{◌≡◌, ◌≢◌, ◌==◌, [], ◌++◌, ◌∷◌, cond, ◌||◌, length, nat_eq, slice_index, IsTrue, ◌↔◌, IfOk, OnOk, MatchOption};
 ghost use Rattle.std.specs.List.{count_by, fold, list_any, AllByRecursion};
 ghost use Rattle.std.specs.String.{string_bytes};
-ghost use Rattle.virtual_path.specs.Path.{Path, path_text, slashed, through, parent_of, names_of, HasNoSlash, AllNames, IsBeneath, is_slash, is_control, is_long_name, text_refusal, is_one_name};
+ghost use Rattle.ftp_terms.specs.Lines.{is_control, IsLine};
+ghost use Rattle.virtual_path.specs.Path.{Path, path_text, slashed, through, parent_of, names_of, HasNoSlash, AllNames, IsBeneath, is_slash, is_long_name, text_refusal, is_one_name, is_name, IsName};
 
 use crate::LONGEST_NAME;
 use crate::fault::PathFault;
@@ -118,6 +119,18 @@ pub fn is_one_name(name: &str) -> bool
         return false;
     }
     !has_control(name)
+}
+
+/// Whether a text is a name that a path may hold.
+pub fn is_name(name: &str) -> bool
+    ensures tested { result ≡ is_name name.now }
+    ensures name { IsTrue result → IsName name.now }
+    ensures line { IsTrue result → IsLine name.now }
+{
+    if !is_one_name(name) {
+        return false;
+    }
+    name.len() <= LONGEST_NAME
 }
 
 /// A path's text as a caller sees it: `/` at the root.

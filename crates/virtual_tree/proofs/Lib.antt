@@ -3,3 +3,4 @@ pub mod Listings
 pub mod Moves
 pub mod Places
 pub mod Trees
+pub mod UploadLaws

@@ -1,11 +1,12 @@
 -- The entries of one directory among all.
-use Rattle.std.proofs.Common.{◌≡◌, ◌≢◌, ℕ, zero, suc, ◌+◌, ◌<◌, ◌≤◌, Bool, true, false, cond, not, ◌&&◌, T, List, [], ◌∷◌, ◌++◌, length, map, filter, refl, sym, ap, subst, ◌∙◌, arith, Option, Some, None, nat_eq, nat_lt, bytes_eq, is_some, append_assoc, drop, get_or}
+use Rattle.std.proofs.Common.{◌≡◌, ◌≢◌, ℕ, zero, suc, ◌+◌, ◌<◌, ◌≤◌, Bool, true, false, cond, not, ◌&&◌, T, List, [], ◌∷◌, ◌++◌, length, map, filter, refl, sym, ap, subst, ◌∙◌, arith, Option, Some, None, nat_eq, nat_lt, bytes_eq, is_some, append_assoc, drop, Vec}
 use Rattle.std.proofs.lemmas.List.{append-nil}
 use Rattle.std.proofs.lemmas.Map.Iter.{rest_more, rest_all}
 use Rattle.std.specs.Map.Iter.{TakesFirst}
-use Rattle.virtual_tree.specs.Calls.{Entry, entry_of, IsDated, IsDatedEntry}
-use Rattle.virtual_tree.specs.declared.meta.Listed.{Listed}
-use Rattle.virtual_tree.specs.Tree.Node.{Directory, File}
+use Rattle.std.proofs.lemmas.Map.Text.{is_eq-slice_cmp}
+use Rattle.std.specs.String.{string_bytes}
+use Rattle.virtual_tree.specs.Calls.{Entry, entry_of, entries_of, names_of}
+use Rattle.virtual_tree.specs.declared.listed.Listed.{Listed}
 use borrow.Author.Tests.{ltb-true, eqb-true, lt-ltb}
 use Rattle.std.specs.declared.cmp.Ordering.{Ordering}
 use Rattle.std.specs.declared.cmp.Ordering.TheVariants.{Less, Equal, Greater}
@@ -16,13 +17,14 @@ use Rattle.std.specs.Ordering.{nat_cmp, is_eq, is_lt, is_le, is_gt, ordering_the
 use Rattle.std.specs.BTreeMap.Range.{range_contains, entries_between, IsLeBy}
 use Rattle.std.specs.List.{AllByRecursion}
 use Rattle.std.specs.Cmp.{tied_itself, nat_cmp_total}
+use Rattle.std.specs.Cmp.Lexicographic.{nat_list_cmp_total}
 use Rattle.std.specs.List.Sorted.{IsStrictlySortedBy}
 use Rattle.std.specs.Map.{keys_of}
-use Rattle.std.specs.FinMap.{entries, from_entries, entries-insert, empty, len-entries, len-empty}
-use Rattle.std.specs.FinMap.Entries.{put, by_order}
+use Rattle.std.specs.FinMap.{entries, entries_sorted, from_entries, entries-insert, empty, len-entries, len-empty}
+use Rattle.std.specs.FinMap.Entries.{put, by_order, is_sorted, below_all}
 use Rattle.std.proofs.lemmas.Map.Keys.{sorted_head, sorted_tail}
-use Rattle.virtual_tree.specs.Tree.{Node, Place, Tree, place_cmp, is_in, children_in, told_of, meta_of}
-use Rattle.virtual_tree.proofs.Trees.{places_total}
+use Rattle.virtual_tree.specs.Tree.{Node, Place, Tree, place_cmp, is_in, is_named, children_in, listing_in, told_of}
+use Rattle.virtual_tree.proofs.Trees.{places_total, exact_texts}
 
 abbrev text_cmp : List ℕ → List ℕ → Ordering
 text_cmp = slice_cmp nat_cmp
@@ -131,29 +133,98 @@ pub bare_answer : {A : Type 0} (shows : A → Place × Node) (s t : List (Place 
 bare_answer shows s t r true is e = sym (ap not e) ∙ found_first shows s t r is
 bare_answer shows s t r false is e = sym (ap not e) ∙ found_first shows s t r is
 
--- one more entry is told
-pub told_more : {A : Type 0} (shows : A → Place × Node) (told all : List Entry) (s t : List (Place × Node)) (r : Option A) (x : A) (entry : Entry) → told ++ map told_of s ≡ all → r ≡ Some x → TakesFirst shows s r t → entry ≡ told_of (shows x) → (told ++ entry ∷ []) ++ map told_of t ≡ all
-told_more shows told all s t r x entry so_far is step entry_is =
-    append_assoc told (entry ∷ []) (map told_of t)
-    ∙ ap (λ e. told ++ e ∷ map told_of t) entry_is
-    ∙ ap (λ es. told ++ map told_of es) (sym (rest_more shows s t r x is step))
+-- one more entry is told, or one that no path can name is passed over
+pub told_more : {A : Type 0} (shows : A → Place × Node) (told all : List Entry) (s t : List (Place × Node)) (r : Option A) (x : A) (entry : Entry) → told ++ map told_of (filter is_named s) ≡ all → r ≡ Some x → TakesFirst shows s r t → entry ≡ told_of (shows x) → is_named (shows x) ≡ true
+    → (told ++ entry ∷ []) ++ map told_of (filter is_named t) ≡ all
+told_more shows told all s t r x entry so_far is step entry_is named =
+    append_assoc told (entry ∷ []) (map told_of (filter is_named t))
+    ∙ ap (λ e. told ++ e ∷ map told_of (filter is_named t)) entry_is
+    ∙ ap (λ b. told ++ map told_of (cond b (shows x ∷ filter is_named t) (filter is_named t))) (sym named)
+    ∙ ap (λ es. told ++ map told_of (filter is_named es)) (sym (rest_more shows s t r x is step))
     ∙ so_far
 
-pub told_all : {A : Type 0} (shows : A → Place × Node) (told all : List Entry) (s t : List (Place × Node)) (r : Option A) → told ++ map told_of s ≡ all → r ≡ None → TakesFirst shows s r t → told ≡ all
-told_all shows told all s t r so_far is step = sym (append-nil told) ∙ ap (λ es. told ++ map told_of es) (sym (rest_all shows s t r is step)) ∙ so_far
+pub told_past : {A : Type 0} (shows : A → Place × Node) (told all : List Entry) (s t : List (Place × Node)) (r : Option A) (x : A) → told ++ map told_of (filter is_named s) ≡ all → r ≡ Some x → TakesFirst shows s r t → is_named (shows x) ≡ false
+    → told ++ map told_of (filter is_named t) ≡ all
+told_past shows told all s t r x so_far is step named =
+    ap (λ b. told ++ map told_of (cond b (shows x ∷ filter is_named t) (filter is_named t))) (sym named)
+    ∙ ap (λ es. told ++ map told_of (filter is_named es)) (sym (rest_more shows s t r x is step))
+    ∙ so_far
 
-pub dated_entries : {A : Type 0} (told : List (Listed A)) (es : List (Place × Node)) → map entry_of told ≡ map told_of es → AllByRecursion IsDatedEntry told
-dated_entries [] es e = tt
-dated_entries (x ∷ told) [] e = absurd (more x told e)
-  where
-    more : {A : Type 0} (x : Listed A) (told : List (Listed A)) → map entry_of (x ∷ told) ≡ [] → ⊥
-    more x told e = cc
-dated_entries (x ∷ told) (f ∷ es) e =
-    (subst IsDated (sym (first x f told es e)) (dated f.1), dated_entries told es (ap (drop 1) e))
-  where
-    dated : (node : Node) → IsDated (meta_of node)
-    dated Directory = omega arith
-    dated (File octets moment) = omega arith
+pub told_all : {A : Type 0} (shows : A → Place × Node) (told all : List Entry) (s t : List (Place × Node)) (r : Option A) → told ++ map told_of (filter is_named s) ≡ all → r ≡ None → TakesFirst shows s r t → told ≡ all
+told_all shows told all s t r so_far is step = sym (append-nil told) ∙ ap (λ es. told ++ map told_of (filter is_named es)) (sym (rest_all shows s t r is step)) ∙ so_far
 
-    first : {A : Type 0} (x : Listed A) (f : Place × Node) (told : List (Listed A)) (es : List (Place × Node)) → map entry_of (x ∷ told) ≡ map told_of (f ∷ es) → x.meta ≡ meta_of f.1
-    first x f told es e = ap (λ (entries : List Entry). (get_or entries 0 (entry_of x)).1) e
+-- ---- the names rise
+
+names_told : {A : Type 0} (listed : List (Listed A)) → map (λ entry. string_bytes entry.name) listed ≡ map (λ (e : Entry). e.0) (map entry_of listed)
+names_told [] = refl
+names_told (entry ∷ listed) = ap (λ names. string_bytes entry.name ∷ names) (names_told listed)
+
+only_less : (order : Ordering) → T (is_lt order) → order ≡ Less
+only_less Less h = refl
+only_less Equal h = absurd h
+only_less Greater h = absurd h
+
+only_equal : (order : Ordering) → is_eq order ≡ true → order ≡ Equal
+only_equal Less h = absurd (subst T (sym h) tt)
+only_equal Equal h = refl
+only_equal Greater h = absurd (subst T (sym h) tt)
+
+same_text : (a b : List ℕ) → bytes_eq a b ≡ true → a ≡ b
+same_text a b same = exact_texts a b (only_equal (text_cmp a b) (is_eq-slice_cmp a b ∙ same))
+
+-- in one directory the names are in the order of the places
+name_below : (directory : List ℕ) (p q : Place) → p.0 ≡ directory → is_in directory q ≡ true → T (is_lt (place_cmp p q)) → text_cmp p.1 q.1 ≡ Less
+name_below directory p q here there less =
+    let one : p.0 ≡ q.0 = here ∙ same_text directory q.0 there in
+    let tie : text_cmp p.0 q.0 ≡ Equal = ap (text_cmp p.0) (sym one) ∙ tied_itself nat_list_cmp_total p.0 in
+    only_less (text_cmp p.1 q.1) (subst (λ order. T (is_lt (ordering_then order (text_cmp p.1 q.1)))) tie less)
+
+abbrev shown_names : List ℕ → List (Place × Node) → List (List ℕ)
+shown_names directory es = map (λ (e : Entry). e.0) (map told_of (filter is_named (filter (λ entry. is_in directory entry.0) es)))
+
+first_part : (a b : Bool) → T (a && b) → T a
+first_part true b h = tt
+first_part false b h = absurd h
+
+second_part : (a b : Bool) → T (a && b) → T b
+second_part true b h = h
+second_part false b h = absurd h
+
+names_below : (directory : List ℕ) (p : Place) (es : List (Place × Node)) → p.0 ≡ directory → T (below_all place_cmp p es) → AllByRecursion (λ name. text_cmp p.1 name ≡ Less) (shown_names directory es)
+names_below directory p [] here below = tt
+names_below directory p (e ∷ es) here below =
+    let rest = names_below directory p es here (second_part (is_lt (place_cmp p e.0)) (below_all place_cmp p es) below) in
+    let children : List (Place × Node) = filter (λ entry. is_in directory entry.0) es in
+    elim (is_in directory e.0) as (λ b. is_in directory e.0 ≡ b → AllByRecursion (λ name. text_cmp p.1 name ≡ Less) (map (λ (e : Entry). e.0) (map told_of (filter is_named (cond b (e ∷ children) children))))) [
+      | true ↦ λ there. elim (is_named e) as (λ b. AllByRecursion (λ name. text_cmp p.1 name ≡ Less) (map (λ (e : Entry). e.0) (map told_of (cond b (e ∷ filter is_named children) (filter is_named children))))) [
+        | true ↦ (name_below directory p e.0 here there (first_part (is_lt (place_cmp p e.0)) (below_all place_cmp p es) below), rest)
+        | false ↦ rest
+      ]
+      | false ↦ λ _. rest
+    ] refl
+
+names_rise : (directory : List ℕ) (es : List (Place × Node)) → T (is_sorted place_cmp es) → IsStrictlySortedBy text_cmp (shown_names directory es)
+unfolding IsStrictlySortedBy
+names_rise directory [] sorted = tt
+names_rise directory (e ∷ es) sorted =
+    let rest = names_rise directory es (second_part (below_all place_cmp e.0 es) (is_sorted place_cmp es) sorted) in
+    let children : List (Place × Node) = filter (λ entry. is_in directory entry.0) es in
+    elim (is_in directory e.0) as (λ b. is_in directory e.0 ≡ b → IsStrictlySortedBy text_cmp (map (λ (e : Entry). e.0) (map told_of (filter is_named (cond b (e ∷ children) children))))) [
+      | true ↦ λ there. elim (is_named e) as (λ b. IsStrictlySortedBy text_cmp (map (λ (e : Entry). e.0) (map told_of (cond b (e ∷ filter is_named children) (filter is_named children))))) [
+        | true ↦ (names_below directory e.0 es (sym (same_text directory e.0.0 there)) (first_part (below_all place_cmp e.0 es) (is_sorted place_cmp es) sorted), rest)
+        | false ↦ rest
+      ]
+      | false ↦ λ _. rest
+    ] refl
+
+-- what was listed rises
+pub listing_rises : {A B : Type 0} (listed : Vec (Listed A) B) (tree : Tree) (directory : List ℕ) → entries_of listed ≡ listing_in tree directory → IsStrictlySortedBy text_cmp (names_of listed)
+listing_rises listed tree directory is =
+    subst (IsStrictlySortedBy text_cmp) (sym (names_told listed.items ∙ ap (map (λ (e : Entry). e.0)) is)) (names_rise directory (entries tree) (entries_sorted tree))
+
+pub entries_push : {A : Type 0} (listed more : List (Listed A)) (entry : Listed A) (rest : List Entry) → more ≡ listed ++ entry ∷ [] → map entry_of more ++ rest ≡ (map entry_of listed ++ entry_of entry ∷ []) ++ rest
+entries_push listed more entry rest is = ap (λ entries. map entry_of entries ++ rest) is ∙ ap (λ entries. entries ++ rest) (pushed listed entry)
+  where
+    pushed : {A : Type 0} (listed : List (Listed A)) (entry : Listed A) → map entry_of (listed ++ entry ∷ []) ≡ map entry_of listed ++ entry_of entry ∷ []
+    pushed [] entry = refl
+    pushed (first ∷ listed) entry = ap (λ entries. entry_of first ∷ entries) (pushed listed entry)

@@ -15,7 +15,7 @@ use Rattle.virtual_tree.specs.Tree.{Node, Place, Tree, place_cmp, size_of, size_
 pub places_total : IsTotalOrder place_cmp
 places_total = then_total (on_total (λ (place : Place). place.0) nat_list_cmp_total) (on_total (λ (place : Place). place.1) nat_list_cmp_total)
 
-exact_texts : IsAntisymmetric (slice_cmp nat_cmp)
+pub exact_texts : IsAntisymmetric (slice_cmp nat_cmp)
 exact_texts = slice_cmp-IsAntisymmetric nat_cmp-IsAntisymmetric
 
 both_tie : (r s : Ordering) → ordering_then r s ≡ Equal → (r ≡ Equal) × (s ≡ Equal)

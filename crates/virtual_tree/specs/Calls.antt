@@ -1,13 +1,14 @@
 -- What a store is asked, with what it answered, and what a list of such exchanges leaves.
-use Rattle.std.specs.Prelude.{ℕ, ◌≡◌, ◌≤◌, List, [], ◌∷◌, map, Option, Result, Ok, Err, Vec}
+use Rattle.std.specs.Prelude.{ℕ, ◌≡◌, ◌⊎◌, ◌<◌, List, [], ◌∷◌, map, Option, None, Result, Ok, Err, IsSomeAnd, Vec}
+use Rattle.std.specs.Io.KnownBytes.{Appends}
 use Rattle.std.specs.Result.{result_err}
 use Rattle.std.specs.String.{string_bytes}
+use Rattle.ftp_terms.specs.declared.entries.Meta.{Meta}
 use Rattle.virtual_path.specs.Path.{Path}
 use Rattle.virtual_tree.specs.declared.fault.StoreFault.{StoreFault}
-use Rattle.virtual_tree.specs.declared.meta.Meta.{Meta}
-use Rattle.virtual_tree.specs.declared.meta.WriteMode.{WriteMode}
-use Rattle.virtual_tree.specs.declared.meta.Listed.{Listed}
-use Rattle.virtual_tree.specs.declared.TheConstants.{LATEST}
+use Rattle.virtual_tree.specs.declared.fault.StoreFault.TheVariants.{Device, Memory}
+use Rattle.virtual_tree.specs.declared.mode.WriteMode.{WriteMode}
+use Rattle.virtual_tree.specs.declared.listed.Listed.{Listed}
 
 -- an entry of a directory: its name, and what is known of it
 abbrev pub Entry : Type 0
@@ -54,9 +55,31 @@ abbrev pub Leaves : {S R K : Type 0} → (S → Exchange R K → S → Type 0) �
 Leaves Step old [] new = new ≡ old
 Leaves {S} Step old (exchange ∷ exchanges) new = (mid : S) × Step old exchange mid × Leaves Step mid exchanges new
 
--- the time of an entry is one that a listing can show
-abbrev pub IsDated : Meta → Type 0
-IsDated meta = meta.modified ≤ LATEST
+-- the call is the end of an upload, after which the files would hold more than this capacity
+abbrev pub PassesCapacity : {R K : Type 0} → Option ℕ → (K → ℕ → ℕ) → Exchange R K → Type 0
+PassesCapacity capacity after (Finish sink moment answer) = IsSomeAnd capacity (λ most. most < after sink moment)
+PassesCapacity capacity after _ = ⊥
 
-abbrev pub IsDatedEntry : {A : Type 0} → Listed A → Type 0
-IsDatedEntry listed = IsDated listed.meta
+-- the names of a listing
+abbrev pub names_of : {A B : Type 0} → Vec (Listed A) B → List (List ℕ)
+names_of listed = map (λ entry. string_bytes entry.name) listed.items
+
+-- ---- the two ends of a file
+
+-- the file that a sink writes into: the text of its directory, its name there, and how many of its first octets stay
+-- in front of what comes
+pub record Target : Type 0 where
+  pub directory : List ℕ
+  pub name : List ℕ
+  pub kept : ℕ
+
+-- why an end refuses: where its octets are known, the device has no part in it
+abbrev pub IsEndFault : Option (List ℕ) → StoreFault → Type 0
+IsEndFault known fault = (fault ≡ Memory) ⊎ ((fault ≡ Device) × (known ≡ None))
+
+-- writes of these pieces, one after another, make one sink of another
+abbrev pub Writes : {K : Type 0} → (K → Option Target) → (K → Option (List ℕ)) → K → List (List ℕ) → K → Type 0
+Writes target collected first [] last = last ≡ first
+Writes {K} target collected first (piece ∷ pieces) last =
+    (next : K) × (target next ≡ target first) × Appends (collected first) (collected next) piece
+    × Writes target collected next pieces last

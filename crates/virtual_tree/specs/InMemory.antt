@@ -4,12 +4,12 @@ use Rattle.std.specs.FinMap.{get, insert, remove}
 use Rattle.virtual_path.specs.Path.{Path, slashed, parent_of}
 use Rattle.virtual_tree.specs.declared.fault.StoreFault.{StoreFault}
 use Rattle.virtual_tree.specs.declared.fault.StoreFault.TheVariants as fault
-use Rattle.virtual_tree.specs.declared.meta.Meta.{Meta}
-use Rattle.virtual_tree.specs.declared.meta.Kind.{Kind}
-use Rattle.virtual_tree.specs.declared.meta.Kind.TheVariants as kind
-use Rattle.virtual_tree.specs.declared.meta.WriteMode.{WriteMode}
-use Rattle.virtual_tree.specs.declared.meta.WriteMode.TheVariants.{New, At, Append}
-use Rattle.virtual_tree.specs.Calls.{Entry, in_answer, Exchange}
+use Rattle.ftp_terms.specs.declared.entries.Meta.{Meta}
+use Rattle.ftp_terms.specs.declared.entries.Kind.{Kind}
+use Rattle.ftp_terms.specs.declared.entries.Kind.TheVariants as kind
+use Rattle.virtual_tree.specs.declared.mode.WriteMode.{WriteMode}
+use Rattle.virtual_tree.specs.declared.mode.WriteMode.TheVariants.{New, At, Append}
+use Rattle.virtual_tree.specs.Calls.{Entry, in_answer, Exchange, Target}
 use Rattle.virtual_tree.specs.Calls.Exchange.{Stat, Listing, OpenRead, OpenWrite, Finish, MakeDir, RemoveDir, RemoveFile, Rename}
 use Rattle.virtual_tree.specs.Tree.{Node, Place, Tree, place_of, node_at, meta_of, kind_of, octets_of, total, children_in, listing, begins_with, renamed}
 use Rattle.virtual_tree.specs.Tree.Node.{Directory, File}
@@ -24,6 +24,10 @@ pub record Upload : Type 0 where
   pub place : Place
   pub kept : ℕ
   pub octets : List ℕ
+
+-- where they go
+abbrev pub target_of : Upload → Target
+target_of upload = record { directory = upload.place.0; name = upload.place.1; kept = upload.kept }
 
 -- the answer where something stands, and else that nothing does
 abbrev pub if_found : {X : Type 0} → (Node → Result X StoreFault) → Option Node → Result X StoreFault
@@ -112,6 +116,10 @@ abbrev pub move_of : Tree → Path → Path → Option Place → Option Place �
 move_of tree from to None target = Err fault.Inside
 move_of tree from to (Some before) None = Err fault.Inside
 move_of tree from to (Some before) (Some afterwards) = if_found (move_to tree from to before afterwards) (get tree before)
+
+-- what is renamed between two paths, or why nothing is
+abbrev pub move_between : Tree → Path → Path → Result Move StoreFault
+move_between tree from to = move_of tree from to (place_of from) (place_of to)
 
 -- a directory takes along all that stands beneath it
 abbrev pub moved_by_kind : Tree → Path → Path → Move → Kind → Tree
@@ -217,7 +225,6 @@ InMemory old (Rename from to answer) new =
 abbrev pub octets_at : Tree → Place → List ℕ
 octets_at tree place = unwrap_or (option_and_then octets_of (get tree place)) []
 
--- the octets that the files would hold after a call
-abbrev pub would_hold : Memory → Exchange (List ℕ) Upload → ℕ
-would_hold memory (Finish upload moment answer) = total (filled memory.tree upload moment (octets_at memory.tree upload.place))
-would_hold memory _ = total memory.tree
+-- the octets that the files would hold once those of an upload have come
+abbrev pub would_hold : Memory → Upload → ℕ → ℕ
+would_hold memory upload moment = total (filled memory.tree upload moment (octets_at memory.tree upload.place))

@@ -1,16 +1,17 @@
--- What holds of each step of a store in memory.
-use Rattle.std.proofs.Common.{◌≡◌, ◌≢◌, ℕ, eqb, eq-eqb, ◌<◌, Bool, true, false, cond, not, T, List, [], ◌∷◌, ◌++◌, Option, Some, None, Result, Ok, Err, length, nat_lt, IsSomeAnd, unwrap_or, option_and_then, refl, sym, ap, ◌∙◌, subst, take}
+-- Proofs, and nothing to be believed: that each step of a store in memory keeps the laws of the trait `Store`. They stand
+-- here since the toolchain wants the proof of a trait's law among the definitions.
+use Rattle.std.proofs.Common.{◌≡◌, ◌≢◌, ℕ, eqb, eq-eqb, ◌<◌, Bool, true, false, cond, not, T, List, [], ◌∷◌, ◌++◌, Option, Some, None, Result, Ok, Err, length, nat_lt, IsSomeAnd, unwrap_or, arith, lit<, ◌+◌, ◌^◌, option_and_then, refl, sym, ap, ◌∙◌, subst, take}
 use borrow.Author.Tests.{ltb-true}
 use Rattle.std.specs.Result.{result_err}
 use Rattle.std.specs.FinMap.{get, insert}
 use Rattle.virtual_path.specs.Path.{Path, slashed}
 use Rattle.virtual_tree.specs.declared.fault.StoreFault.{StoreFault}
 use Rattle.virtual_tree.specs.declared.fault.StoreFault.TheVariants as fault
-use Rattle.virtual_tree.specs.declared.meta.Kind.{Kind}
-use Rattle.virtual_tree.specs.declared.meta.Kind.TheVariants as kind
-use Rattle.virtual_tree.specs.declared.meta.WriteMode.{WriteMode}
-use Rattle.virtual_tree.specs.declared.meta.WriteMode.TheVariants.{New, At, Append}
-use Rattle.virtual_tree.specs.Calls.{in_answer, Exchange, refusal}
+use Rattle.ftp_terms.specs.declared.entries.Kind.{Kind}
+use Rattle.ftp_terms.specs.declared.entries.Kind.TheVariants as kind
+use Rattle.virtual_tree.specs.declared.mode.WriteMode.{WriteMode}
+use Rattle.virtual_tree.specs.declared.mode.WriteMode.TheVariants.{New, At, Append}
+use Rattle.virtual_tree.specs.Calls.{in_answer, Exchange, refusal, PassesCapacity}
 use Rattle.virtual_tree.specs.Calls.Exchange.{Stat, Listing, OpenRead, OpenWrite, Finish, MakeDir, RemoveDir, RemoveFile, Rename}
 use Rattle.virtual_tree.specs.Tree.{Node, Place, Tree, place_of, node_at, octets_of, total, begins_with}
 use Rattle.virtual_tree.specs.InMemory.{Memory, Upload, Opening, Move, Tells, Changes, InMemory, would_hold, if_found, meta_told, listing_told, octets_from, kind_in, kind_at, vacancy, vacant, place_to_make, bare_only, is_bare, place_of_bare, file_only, place_of_file, outside_itself, move_to, move_of, open_new, open_absent, open_octets, open_node, opened, filled, unit_of, finish_octets, finish_node, finished, octets_at}
@@ -254,7 +255,10 @@ never_device old new (Finish upload moment answer) step is =
     absurd ((finish-step old upload moment).not_device (decided_by old new upload moment answer fault.Device device_is_grave.not_memory step is))
 never_device old new exchange step is = absurd (plain_step old new exchange fault.Device device_is_grave step is)
 
-pub full_only_past : (old new : Memory) (exchange : Exchange (List ℕ) Upload) → InMemory old exchange new → refusal exchange ≡ Some fault.Full → IsSomeAnd (Some old.capacity) (λ most. most < would_hold old exchange)
+pub full_only_past : (old new : Memory) (exchange : Exchange (List ℕ) Upload) → InMemory old exchange new → refusal exchange ≡ Some fault.Full → PassesCapacity (Some old.capacity) (would_hold old) exchange
 full_only_past old new (Finish upload moment answer) step is =
     (finish-step old upload moment).full (decided_by old new upload moment answer fault.Full full_is_grave.not_memory step is)
 full_only_past old new exchange step is = absurd (plain_step old new exchange fault.Full full_is_grave step is)
+
+pub count_is_small : (store : Memory) → 0 < 2 ^ 64
+count_is_small store = lit< tt

@@ -4,3 +4,4 @@ pub mod Held
 pub mod InMemory
 pub mod Laws
 pub mod Tree
+pub mod Uploads

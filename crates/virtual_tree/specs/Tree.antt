@@ -1,14 +1,14 @@
 -- What a store in memory holds: a finite map from places to directories and files.
-use Rattle.std.specs.Prelude.{ℕ, ◌/◌, Bool, true, false, cond, min, List, [], ◌∷◌, ◌++◌, map, length, take, drop, Option, Some, None, bytes_eq, filter, sum_by}
+use Rattle.std.specs.Prelude.{ℕ, ◌/◌, Bool, true, false, cond, List, [], ◌∷◌, ◌++◌, map, length, take, drop, Option, Some, None, bytes_eq, filter, sum_by}
 use Rattle.std.specs.Ordering.{nat_cmp, then_cmp, on, is_eq}
 use Rattle.std.specs.Cmp.Lexicographic.{slice_cmp}
 use Rattle.std.specs.declared.cmp.Ordering.{Ordering}
 use Rattle.std.specs.FinMap.{FinMap, get, entries, values, from_entries}
-use Rattle.virtual_path.specs.Path.{Path, slashed, parent_of}
-use Rattle.virtual_tree.specs.declared.TheConstants.{LATEST}
-use Rattle.virtual_tree.specs.declared.meta.Meta.{Meta}
-use Rattle.virtual_tree.specs.declared.meta.Kind.{Kind}
-use Rattle.virtual_tree.specs.declared.meta.Kind.TheVariants as kind
+use Rattle.ftp_terms.specs.Entries as terms
+use Rattle.ftp_terms.specs.declared.entries.Meta.{Meta}
+use Rattle.ftp_terms.specs.declared.entries.Kind.{Kind}
+use Rattle.ftp_terms.specs.declared.entries.Kind.TheVariants as kind
+use Rattle.virtual_path.specs.Path.{Path, slashed, parent_of, is_name}
 
 -- a directory, or a file: its octets, and the moment when it was modified, in milliseconds since 1970
 pub data Node : Type 0 where
@@ -45,14 +45,10 @@ node_in tree (Some place) = get tree place
 abbrev pub node_at : Tree → Path → Option Node
 node_at tree path = node_in tree (place_of path)
 
--- whole seconds since 1970
-abbrev pub seconds : ℕ → ℕ
-seconds moment = min (moment / 1000) LATEST
-
--- what is told of a directory, or of a file
+-- what is told of a directory, or of a file, whose moment is told in whole seconds
 abbrev pub meta_of : Node → Meta
-meta_of Directory = record { kind = kind.Directory; size = 0; modified = 0 }
-meta_of (File octets moment) = record { kind = kind.File; size = length octets; modified = seconds moment }
+meta_of Directory = terms.entry_meta kind.Directory 0 0
+meta_of (File octets moment) = terms.entry_meta kind.File (length octets) (moment / 1000)
 
 abbrev pub kind_of : Node → Kind
 kind_of Directory = kind.Directory
@@ -88,8 +84,12 @@ children_in tree directory = filter (λ entry. is_in directory entry.0) (entries
 abbrev pub told_of : Place × Node → List ℕ × Meta
 told_of entry = (entry.0.1, meta_of entry.1)
 
+-- a listing shows what a path can name
+abbrev pub is_named : Place × Node → Bool
+is_named entry = is_name entry.0.1
+
 abbrev pub listing_in : Tree → List ℕ → List (List ℕ × Meta)
-listing_in tree directory = map told_of (children_in tree directory)
+listing_in tree directory = map told_of (filter is_named (children_in tree directory))
 
 abbrev pub listing : Tree → Path → List (List ℕ × Meta)
 listing tree path = listing_in tree (slashed path)

@@ -70,8 +70,11 @@ impl<A: Allocator> Source for MemSource<A> {
 
 impl<A: Allocator> Sink for MemSink<A> {
     ghost use Rattle.std.specs.Prelude.{Some};
+    ghost use Rattle.virtual_tree.specs.InMemory.{target_of};
 
     ghost collected = { λ sink. Some sink.octets };
+
+    ghost target = { λ sink. Some (target_of sink) };
 
     fn write(&mut self, octets: &[u8]) -> Result<(), StoreFault> {
         match self.octets.extend_from_slice(octets) {

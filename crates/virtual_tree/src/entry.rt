@@ -2,8 +2,7 @@
 
 ghost use Rattle.std.specs.Prelude.{◌≡◌, IfOk};
 
-use crate::LATEST;
-use crate::meta::{Kind, Meta};
+use ftp_terms::{Kind, Meta};
 use std::alloc::{AllocError, Allocator};
 use std::marker::Model;
 use std::sync::Arc;
@@ -80,16 +79,10 @@ impl<A: Allocator> Entry<A> {
         ensures { result ≡ meta_of self.now }
     {
         match &self.held {
-            Held::Directory => Meta {
-                kind: Kind::Directory,
-                size: 0,
-                modified: 0,
-            },
-            Held::File(octets, moment) => Meta {
-                kind: Kind::File,
-                size: octets.len() as u64,
-                modified: (*moment / 1000).min(LATEST),
-            },
+            Held::Directory => Meta::new(Kind::Directory, 0, 0),
+            Held::File(octets, moment) => {
+                Meta::new(Kind::File, octets.len() as u64, *moment / 1000)
+            }
         }
     }
 

@@ -1,12 +1,15 @@
 //! The entries of a store in memory, by their places.
 
 ghost use Rattle.std.specs.Prelude.{◌≡◌, ◌<◌, ◌^◌, IfOk, OnOk, OnErr, option_copied, Some, None, length, nat_eq};
+ghost use Rattle.std.specs.Cmp.Lexicographic.{slice_cmp};
 ghost use Rattle.std.specs.FinMap as map;
-ghost use Rattle.virtual_tree.specs.Calls.{entries_of};
+ghost use Rattle.std.specs.List.Sorted.{IsStrictlySortedBy};
+ghost use Rattle.std.specs.Ordering.{nat_cmp};
+ghost use Rattle.virtual_tree.specs.Calls.{entries_of, names_of};
 ghost use Rattle.virtual_tree.specs.Tree.{total, size_of, size_at, children_in, listing_in, renamed};
 
 use crate::entry::Entry;
-use crate::meta::Listed;
+use crate::listed::Listed;
 use crate::place::Place;
 use std::alloc::{AllocError, Allocator};
 use std::collections::BTreeMap;
@@ -92,9 +95,10 @@ impl<A: Allocator + Clone> Files<A> {
         }
     }
 
-    /// The entries of the directory with this text, in the order of their names.
+    /// The entries of the directory with this text that a path can name, in the order of their names.
     pub fn listing(&self, alloc: &A, directory: &str) -> Result<Vec<Listed<A>, A>, AllocError>
-        ensures listing { IfOk result (λ listed. entries_of listed ≡ listing_in self.now directory.now) }
+        ensures entries { IfOk result (λ listed. entries_of listed ≡ listing_in self.now directory.now) }
+        ensures rising { IfOk result (λ listed. IsStrictlySortedBy (slice_cmp nat_cmp) (names_of listed)) }
     {
         let first = Place::first_in(alloc, directory)?;
         let end = Place::past(alloc, directory)?;
@@ -103,8 +107,9 @@ impl<A: Allocator + Clone> Files<A> {
             .nodes
             .range((Bound::Included(&first), Bound::Excluded(&end)))
         {
-            let found = place.listed(alloc, entry)?;
-            listed.push(found)?;
+            if let Some(found) = place.listed(alloc, entry)? {
+                listed.push(found)?;
+            }
         }
         Ok(listed)
     }

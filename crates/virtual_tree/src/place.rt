@@ -1,15 +1,15 @@
 //! Where an entry stands.
 
 ghost use Rattle.std.specs.Prelude.{◌≡◌, ◌++◌, ◌∷◌, [], true, false, drop, length, MatchOption, IfOk};
-ghost use Rattle.virtual_path.specs.Path.{Path, slashed, parent_of, AllNames};
+ghost use Rattle.virtual_path.specs.Path.{Path, slashed, parent_of, AllNames, is_name};
 ghost use Rattle.virtual_tree.specs.Tree.{place_cmp, place_of, begins_with, is_at_or_under};
 
 use crate::entry::Entry;
-use crate::meta::Listed;
+use crate::listed::Listed;
 use std::alloc::{AllocError, Allocator};
 use std::cmp::Ordering;
 use std::marker::Model;
-use virtual_path::VPath;
+use virtual_path::{VPath, is_name};
 
 /// The text of a directory, `/` before each name, and the name of an entry in it.
 ///
@@ -155,14 +155,19 @@ impl<A: Allocator + Clone> Place<A> {
         Ok(place)
     }
 
-    /// What is told of an entry here.
-    pub fn listed(&self, alloc: &A, entry: &Entry<A>) -> Result<Listed<A>, AllocError>
-        ensures { IfOk result (λ listed. entry_of listed ≡ told_of (self.now, entry.now)) }
+    /// What is told of an entry here; none where no path can name it.
+    pub fn listed(&self, alloc: &A, entry: &Entry<A>) -> Result<Option<Listed<A>>, AllocError>
+        ensures { IfOk result (λ found. MatchOption found
+            (is_name self.now.1 ≡ false)
+            (λ listed. (is_name self.now.1 ≡ true) × (entry_of listed ≡ told_of (self.now, entry.now)))) }
     {
-        Ok(Listed {
+        if !is_name(self.name.as_str()) {
+            return Ok(None);
+        }
+        Ok(Some(Listed {
             name: String::from_str(alloc.clone()?, self.name.as_str())?,
             meta: entry.meta(),
-        })
+        }))
     }
 
     /// Where an entry here stands after a rename, from one place and text to another.

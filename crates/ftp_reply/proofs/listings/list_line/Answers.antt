@@ -1,18 +1,5 @@
-use Rattle.std.specs.String.{string_bytes}
-use Rattle.ftp_reply.specs.Listings.{IsListLine}
 use Rattle.ftp_reply.proofs.LineLemmas.{line_listed}
-use Rattle.ftp_reply.proofs.ListingLemmas.{list_parts}
-use Rattle.ftp_reply.proofs.NumberLemmas.{hole_spaced, hole_zeroed}
 use Rattle.ftp_reply.proofs.listings.list_line.Goals as goal
 
-pub returns : goal.returns
-returns g c =
-    let told : IsListLine c.args.entry.now c.args.name.now (string_bytes c.in_ok-text.text) = record {
-      date = c.date_of-date.result;
-      falls_on = c.date_of-date.ensures.falls_on;
-      text_is =
-          rw (c.in_ok-text.ensures.ok, c.laid_out.ensures, c.laid_out-2.ensures, c.laid_out-3.ensures, hole_spaced 12 c.listed_size-size.result, hole_spaced 2 c.date_of-date.result.day, hole_zeroed 4 c.year_of-year.result)
-          (rw (c.mode-mode.ensures.text, c.listed_size-size.ensures.size, c.month_name-month.ensures.name, c.year_of-year.ensures.year)
-          (list_parts _ _ _ _ _ _));
-    } in
-    record { text = told; line = line_listed _ _ _ told }
+pub made-requires : goal.made-requires
+made-requires g c = record { line = line_listed _ _ _ c.in_ok-text.ensures.text c.requires.line }

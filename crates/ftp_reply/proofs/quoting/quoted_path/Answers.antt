@@ -5,7 +5,7 @@ use Rattle.ftp_reply.specs.Quoting.{quoted}
 use Rattle.ftp_reply.proofs.LineLemmas.{line_quoted}
 use Rattle.ftp_reply.proofs.quoting.quoted_path.Goals as goal
 
-pub returns : goal.returns
-returns g c =
+pub made-requires : goal.made-requires
+made-requires g c =
     let told : string_bytes c.push_str-2.new.self ≡ quoted c.args.path.now = grind (arith, common_steps) in
-    record { text = told; line = line_quoted c.args.path.now (string_bytes c.push_str-2.new.self) told }
+    record { line = line_quoted c.args.path.now (string_bytes c.push_str-2.new.self) told c.requires.line }

@@ -7,4 +7,4 @@ pub returns : goal.returns
 returns c =
     let text = c.args.text.now in
     let some : (length text == 0) ≡ false = sym c.is_empty.ensures ∙ c.if-is_empty.false in
-    record { value = c.has_only_digits.ensures.value ∙ all_digits text ∙ sym (ap (λ b. not b && all_ascii_digits text) some) }
+    record { number = c.has_only_digits.ensures.digits ∙ all_digits text ∙ sym (ap (λ b. not b && all_ascii_digits text) some) }

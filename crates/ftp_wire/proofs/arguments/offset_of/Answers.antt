@@ -9,4 +9,4 @@ unfolding offset_of
 returns-in-Some c =
     let text = c.args.text.now in
     let short : length text ≤ 19 = search (rules, arith) in
-    record { value = rw (le-leb _ _ short, offset_exact text c.in-Some.offset _ refl short (rw c.as_bytes.ensures.value at c.in-Some.ensures.value)) refl }
+    record { offset = rw (le-leb _ _ short, offset_exact text c.in-Some.offset _ refl short (rw c.as_bytes.ensures.value at c.in-Some.ensures.number)) refl }

@@ -8,6 +8,6 @@ use Rattle.ftp_wire.proofs.items.text_item.Goals as goal
 pub returns-in-Form : goal.returns-in-Form
 returns-in-Form g c =
     record {
-      item = c.from_result.ensures.value ∙ ap (with_command (with_texts string_bytes)) c.form_command.ensures.value ∙ form_texts string_bytes c.in-Form.verb c.args.text.now
+      item = c.from_result.ensures.item ∙ ap (with_command (with_texts string_bytes)) c.form_command.ensures.command ∙ form_texts string_bytes c.in-Form.verb c.args.text.now
           ∙ sym (ap (λ v. text_item v c.args.text.now) c.in-Form.is);
     }

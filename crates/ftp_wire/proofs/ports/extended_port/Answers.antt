@@ -14,4 +14,4 @@ returns-then-not-is_empty c =
     let port = c.in_ok-port.port.now in
     let whole = c.in_ok-protocol.ensures.parts ∙ ap (λ t. protocol ∷ t) (c.in_ok-address.ensures.parts ∙ ap (λ t. address ∷ t) c.in_ok-port.ensures.parts) in
     let some = sym c.is_empty.ensures ∙ c.if-not-is_empty.true in
-    record { value = sym (ap extended_parts whole ∙ not_last protocol address port (λ octet. octet == c.args.delimiter) c.in_ok-port.rest.now some) }
+    record { port = sym (ap extended_parts whole ∙ not_last protocol address port (λ octet. octet == c.args.delimiter) c.in_ok-port.rest.now some) }

@@ -22,9 +22,9 @@ pub returns-in-Ok : goal.returns-in-Ok
 returns-in-Ok c =
     let octets = c.args.octets.now in
     let printed : list_all is_printed octets ≡ true = cc in
-    record { value = (both (list_all is_printed octets) (is_utf8 octets) printed (is_utf8-from_IsUtf8 octets c.in-Ok.ensures.cases.1), c.in-Ok.ensures.cases.0) }
+    record { text = (both (list_all is_printed octets) (is_utf8 octets) printed (is_utf8-from_IsUtf8 octets c.in-Ok.ensures.cases.1), c.in-Ok.ensures.cases.0) }
 
 pub returns-in-Err : goal.returns-in-Err
 returns-in-Err c =
     let octets = c.args.octets.now in
-    record { value = second_fails (list_all is_printed octets) (is_utf8 octets) (refused (is_utf8 octets) (λ e. c.in-Err.ensures.cases.0 (IsUtf8-from_is_utf8 octets e))) }
+    record { text = second_fails (list_all is_printed octets) (is_utf8 octets) (refused (is_utf8 octets) (λ e. c.in-Err.ensures.cases.0 (IsUtf8-from_is_utf8 octets e))) }

@@ -12,10 +12,10 @@ use Rattle.ftp_wire.proofs.writer.write_command.Goals as goal
 pub returns-clause-line : goal.returns-clause-line
 returns-clause-line g c =
     let start : string_bytes c.push_str.new.self ≡ code (verb_of c.args.command.now) =
-    c.in_ok-push_str.ensures.bytes ∙ ap (λ t. t ++ c.code.result.now) c.new-out.ensures.bytes ∙ c.code.ensures.value ∙ ap code c.verb.ensures.value in
-    let text = c.in_ok-push_text.ensures.ok ∙ ap (λ o. string_bytes c.push_str.new.self ++ argument_part o) c.text.ensures.value in
+    c.in_ok-push_str.ensures.bytes ∙ ap (λ t. t ++ c.code.result.now) c.new-out.ensures.bytes ∙ c.code.ensures.code ∙ ap code c.verb.ensures.verb in
+    let text = c.in_ok-push_text.ensures.appended ∙ ap (λ o. string_bytes c.push_str.new.self ++ argument_part o) c.text.ensures.text in
     ap (λ v. v.items) c.into_bytes.ensures.value
-    ∙ line_of string_bytes c.args.command.now _ _ _ _ start text c.in_ok-push_form.ensures.ok c.in_ok-push_str-2.ensures.bytes
+    ∙ line_of string_bytes c.args.command.now _ _ _ _ start text c.in_ok-push_form.ensures.appended c.in_ok-push_str-2.ensures.bytes
 
 pub returns-clause-read_back : goal.returns-clause-read_back
 returns-clause-read_back g c can =

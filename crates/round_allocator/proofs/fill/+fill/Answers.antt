@@ -14,33 +14,33 @@ loop-tree-init g t c =
     let none : c.args.trees ≡ c.args.trees - 0 = omega arith in
     record {
       past = omega arith;
-      row = subst (λ (n : ℕ). HasRow c.args.flat.now c.args.first n) none c.requires.row;
+      row = subst (λ (n : ℕ). HasRow c.args.tree.now c.args.first n) none c.requires.row;
       size = refl;
       spare = omega arith;
       counted = c.requires.counted;
       poured = λ begin last past row. (
         begin,
-        subst (λ (n : ℕ). IsRow c.args.flat.now c.args.first begin n last past) none row,
-        subst (λ (n : ℕ). IsPouring c.args.flat.now c.args.first c.args.trees begin c.args.share c.args.grants.now c.args.first n begin c.args.share.spare c.args.grants.now) none (pouring-start c.args.flat.now c.args.first c.args.trees begin c.args.share c.args.grants.now),
+        subst (λ (n : ℕ). IsRow c.args.tree.now c.args.first begin n last past) none row,
+        subst (λ (n : ℕ). IsPouring c.args.tree.now c.args.first c.args.trees begin c.args.share c.args.grants.now c.args.first n begin c.args.share.spare c.args.grants.now) none (pouring-start c.args.tree.now c.args.first c.args.trees begin c.args.share c.args.grants.now),
       );
     }
 
 pub place-place-requires : goal.place-place-requires
-place-place-requires g t c = record { node = row-inside c.args.flat.now c.loop-tree.node (c.args.trees - c.loop-tree._tree) c.loop-tree.invariant.row (omega arith) }
+place-place-requires g t c = record { node = row-inside c.args.tree.now c.loop-tree.node (c.args.trees - c.loop-tree._tree) c.loop-tree.invariant.row (omega arith) }
 
 pub leaf_grant-grant-requires-clause-floor : goal.leaf_grant-grant-requires-clause-floor
-leaf_grant-grant-requires-clause-floor g t c = leaf-floored c.args.flat.now c.loop-tree.node c.place-place.result c.in-Leaf.want c.in-Leaf.floor c.nodes-nodes.ensures.flat c.place-place.ensures.place c.in-Leaf.is
+leaf_grant-grant-requires-clause-floor g t c = leaf-floored c.args.tree.now c.loop-tree.node c.place-place.result c.in-Leaf.want c.in-Leaf.floor c.is_flat.ensures.flat c.place-place.ensures.place c.in-Leaf.is
 
 pub bounds-grants-place : goal.bounds-grants-place
 bounds-grants-place g t c =
-    let one = (c.nodes-nodes.ensures.flat.shaped c.loop-tree.node c.place-place.result c.place-place.ensures.place).leaf c.in-Leaf.want c.in-Leaf.floor c.in-Leaf.is in
+    let one = (c.is_flat.ensures.flat.shaped c.loop-tree.node c.place-place.result c.place-place.ensures.place).leaf c.in-Leaf.want c.in-Leaf.floor c.in-Leaf.is in
     omega (arith, one.1, c.place-place.ensures.inside, c.loop-tree.invariant.size, c.requires.grants)
 
 pub fill-rest-requires : goal.fill-rest-requires
 fill-rest-requires g t c =
-    let ps = c.args.flat.now in
+    let ps = c.args.tree.now in
     let p = c.place-place.result in
-    let tree = c.nodes-nodes.ensures.flat.shaped c.loop-tree.node p c.place-place.ensures.place in
+    let tree = c.is_flat.ensures.flat.shaped c.loop-tree.node p c.place-place.ensures.place in
     let plan = c.share_out-plan.ensures.shared in
     let row : HasRow ps (c.loop-tree.node + 1) p.kids = (p.first, c.loop-tree.node + p.nodes, p.first + p.leaves, tree.branch c.in-Branch.limit c.in-Branch.is) in
     let level : c.share_out-plan.result.share.level < 2 ^ 32 = omega (arith, c.requires.level, plan-level ps c.loop-tree.node c.in-Branch.limit (left_of c.args.share c.loop-tree.left) c.share_out-plan.result plan) in
@@ -52,9 +52,9 @@ fill-rest-requires g t c =
 
 pub overflow_add-left : goal.overflow_add-left
 overflow_add-left g t c =
-    let ps = c.args.flat.now in
+    let ps = c.args.tree.now in
     let p = c.place-place.result in
-    let flat = c.nodes-nodes.ensures.flat in
+    let flat = c.is_flat.ensures.flat in
     let tree = flat.shaped c.loop-tree.node p c.place-place.ensures.place in
     let one = pouring-branch ps (left_of c.args.share c.loop-tree.left) c.loop-tree.grants c.loop-tree.node p c.in-Branch.limit c.share_out-plan.result c.fill-rest.result c.fill-rest.new.grants flat.shaped c.place-place.ensures.place c.in-Branch.is c.share_out-plan.ensures.shared
     (c.fill-rest.ensures.poured p.first (c.loop-tree.node + p.nodes) (p.first + p.leaves) (tree.branch c.in-Branch.limit c.in-Branch.is)) in
@@ -62,13 +62,13 @@ overflow_add-left g t c =
 
 pub loop-tree-preserved : goal.loop-tree-preserved
 loop-tree-preserved g t c =
-    let ps = c.args.flat.now in
+    let ps = c.args.tree.now in
     let p = c.place-place.result in
     let node = c.loop-tree.node in
     let left = c.args.trees - c.loop-tree._tree in
     let more = c.args.trees - (c.loop-tree._tree + 1) in
     let is : left ≡ suc more = omega (arith, c.loop-tree-test.true) in
-    let flat = c.nodes-nodes.ensures.flat in
+    let flat = c.is_flat.ensures.flat in
     let got = c.place-place.ensures.place in
     let tree = flat.shaped node p got in
     let here = left_of c.args.share c.loop-tree.left in
@@ -114,10 +114,10 @@ loop-tree-preserved g t c =
 pub returns-clause-poured : goal.returns-clause-poured
 returns-clause-poured g t c = λ begin last past row.
     let was = c.loop-tree.invariant.poured begin last past row in
-    (pouring-end c.args.flat.now c.args.first c.args.trees begin c.args.share c.args.grants.now c.loop-tree.node (c.args.trees - c.loop-tree._tree) was.0 c.loop-tree.left c.loop-tree.grants last past (omega arith) was.1 was.2).1
+    (pouring-end c.args.tree.now c.args.first c.args.trees begin c.args.share c.args.grants.now c.loop-tree.node (c.args.trees - c.loop-tree._tree) was.0 c.loop-tree.left c.loop-tree.grants last past (omega arith) was.1 was.2).1
 
 pub returns-clause-counted : goal.returns-clause-counted
 returns-clause-counted g t c = λ begin last past row.
     let was = c.loop-tree.invariant.poured begin last past row in
-    let ends = (pouring-end c.args.flat.now c.args.first c.args.trees begin c.args.share c.args.grants.now c.loop-tree.node (c.args.trees - c.loop-tree._tree) was.0 c.loop-tree.left c.loop-tree.grants last past (omega arith) was.1 was.2).0 in
-    subst (λ (n : ℕ). c.loop-tree.probes ≤ 33 * branch_count (take n c.args.flat.now)) ends c.loop-tree.invariant.counted
+    let ends = (pouring-end c.args.tree.now c.args.first c.args.trees begin c.args.share c.args.grants.now c.loop-tree.node (c.args.trees - c.loop-tree._tree) was.0 c.loop-tree.left c.loop-tree.grants last past (omega arith) was.1 was.2).0 in
+    subst (λ (n : ℕ). c.loop-tree.probes ≤ 33 * branch_count (take n c.args.tree.now)) ends c.loop-tree.invariant.counted

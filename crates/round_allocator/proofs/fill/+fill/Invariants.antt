@@ -4,14 +4,14 @@ use Rattle.round_allocator.specs.Levels.{IsPouring, branch_count}
 use Rattle.round_allocator.proofs.fill.+fill.Given as goal
 
 abbrev pub decreases-fill : goal.decreases-fill
-decreases-fill g l = length l.flat.now - l.first
+decreases-fill g l = length l.tree.now - l.first
 
 abbrev pub invariant-loop-tree : goal.invariant-loop-tree
 invariant-loop-tree g l = record {
   past : l.fn.first ≤ l.node;
-  row : HasRow l.flat l.node (l.fn.trees - l._tree);
+  row : HasRow l.tree l.node (l.fn.trees - l._tree);
   size : length l.grants ≡ length l.fn.grants;
   spare : l.left ≤ l.fn.share.spare;
-  counted : l.probes ≤ 33 * branch_count (take l.node l.flat);
-  poured : (begin last past : ℕ) → IsRow l.flat l.fn.first begin l.fn.trees last past → (now : ℕ) × IsRow l.flat l.node now (l.fn.trees - l._tree) last past × IsPouring l.flat l.fn.first l.fn.trees begin l.fn.share l.fn.grants l.node (l.fn.trees - l._tree) now l.left l.grants;
+  counted : l.probes ≤ 33 * branch_count (take l.node l.tree);
+  poured : (begin last past : ℕ) → IsRow l.tree l.fn.first begin l.fn.trees last past → (now : ℕ) × IsRow l.tree l.node now (l.fn.trees - l._tree) last past × IsPouring l.tree l.fn.first l.fn.trees begin l.fn.share l.fn.grants l.node (l.fn.trees - l._tree) now l.left l.grants;
 }

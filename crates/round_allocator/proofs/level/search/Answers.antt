@@ -9,7 +9,7 @@ use Rattle.round_allocator.proofs.level.search.Goals as goal
 
 pub loop-step-init : goal.loop-step-init
 loop-step-init g c = record {
-  order = level-some c.args.flat.now c.args.node c.args.most c.args.level c.nodes-nodes.ensures.flat c.requires.branch c.requires.above;
+  order = level-some c.args.tree.now c.args.node c.args.most c.args.level c.is_flat.ensures.flat c.requires.branch c.requires.above;
   top = omega arith;
   below = λ some. absurd (omega arith);
   above = c.requires.above;
@@ -47,7 +47,7 @@ loop-step-preserved g c =
 
 pub overflow_sub-result : goal.overflow_sub-result
 overflow_sub-result g c = elim c.if-window-eq0.branch [
-  | then-window-eq0 w ↦ omega (arith, ap (λ (x : Window). x.taken) w.window-is, w.probe.ensures.taken, keeps-at_zero c.args.flat.now c.args.node c.args.most c.nodes-nodes.ensures.flat c.requires.branch)
+  | then-window-eq0 w ↦ omega (arith, ap (λ (x : Window). x.taken) w.window-is, w.probe.ensures.taken, keeps-at_zero c.args.tree.now c.args.node c.args.most c.is_flat.ensures.flat c.requires.branch)
   | else-window-eq0 w ↦
       let kept = c.loop-step.invariant.below (omega (arith, w.if-window-eq0.false)) in
       omega (arith, ap (λ (x : Window). x.taken) w.window-is, kept.1)
@@ -55,7 +55,7 @@ overflow_sub-result g c = elim c.if-window-eq0.branch [
 
 pub returns-clause-level : goal.returns-clause-level
 returns-clause-level g c =
-    let ps = c.args.flat.now in
+    let ps = c.args.tree.now in
     let last : 32 - c.loop-step._step ≡ 0 = omega (arith, c.loop-step-test.false) in
     let one : 2 ^ (32 - c.loop-step._step) ≡ 1 = ap (λ (n : ℕ). 2 ^ n) last in
     let near : c.loop-step.window.high ≤ c.loop-step.window.low + 1 = omega (arith, c.loop-step.invariant.width, one) in
@@ -64,7 +64,7 @@ returns-clause-level g c =
           let taken = ap (λ (x : Window). x.taken) w.window-is in (
             ap (λ (x : Window). x.low) w.window-is,
             taken ∙ (w.probe.ensures.taken ∙ ap (λ (l : ℕ). taken_below l ps c.args.node) (sym w.if-window-eq0.true)),
-            omega (arith, taken, w.probe.ensures.taken, keeps-at_zero ps c.args.node c.args.most c.nodes-nodes.ensures.flat c.requires.branch),
+            omega (arith, taken, w.probe.ensures.taken, keeps-at_zero ps c.args.node c.args.most c.is_flat.ensures.flat c.requires.branch),
           )
       | else-window-eq0 w ↦
           let kept = c.loop-step.invariant.below (omega (arith, w.if-window-eq0.false)) in

@@ -6,8 +6,8 @@ abbrev pub invariant-loop-step : goal.invariant-loop-step
 invariant-loop-step g l = record {
   order : l.window.low < l.window.high;
   top : l.window.high ≤ l.level;
-  below : 0 < l.window.low → (l.window.taken ≡ taken_below l.window.low l.flat l.node) × (l.window.taken ≤ l.most);
-  above : l.most < taken_below l.window.high l.flat l.node;
+  below : 0 < l.window.low → (l.window.taken ≡ taken_below l.window.low l.tree l.node) × (l.window.taken ≤ l.most);
+  above : l.most < taken_below l.window.high l.tree l.node;
   width : l.window.high ≤ l.window.low + 2 ^ (32 - l._step);
   start : l.window.low ≡ 0 → (l.window.high ≤ 1) ⊎ (l.window.high < 2 ^ (32 - l._step));
   counted : l.probes ≤ l.fn.probes + l._step;

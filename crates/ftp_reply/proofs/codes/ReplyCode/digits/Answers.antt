@@ -4,5 +4,5 @@ use Rattle.ftp_reply.proofs.codes.ReplyCode.digits.Goals as goal
 
 pub returns : goal.returns
 returns c = record {
-  digits = rw (← c.number-code.ensures.number) (sym (decimal_three c.number-code.result c.number-code.ensures.low (omega arith)));
+  digits = sym (decimal_three c.args.self.number c.args.self.low (omega (arith, c.args.self.high)));
 }

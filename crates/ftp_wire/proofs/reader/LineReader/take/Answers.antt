@@ -6,7 +6,7 @@ use Rattle.ftp_wire.proofs.reader.LineReader.take.Goals as goal
 
 pub returns-then-kept-eq-LF : goal.returns-then-kept-eq-LF
 returns-then-kept-eq-LF g c = record {
-  ok = λ octets items h.
+  reads = λ octets items h.
       let old = c.args.found.now.items in
       let item = c.in_ok-item.item in
       let views : (items ++ items_of old) ++ item_of item ∷ [] ≡ items ++ items_of c.push.new.self.items =
@@ -18,7 +18,7 @@ returns-then-kept-eq-LF g c = record {
 
 pub returns : goal.returns
 returns g c = record {
-  ok = λ octets items h.
+  reads = λ octets items h.
       read_octet octets (items ++ items_of c.args.found.now.items) c.args.octet c.in-Some.kept c.args.self.now _ h
-      c.in-Some.ensures.strips c.if-kept-eq-LF.false c.in_ok-keep.ensures.ok;
+      c.in-Some.ensures.strips c.if-kept-eq-LF.false c.in_ok-keep.ensures.holds;
 }

@@ -1,0 +1,86 @@
+use Rattle.std.specs.Bool.{OnTrue}
+use Rattle.std.proofs.Common.{◌≡◌, ◌+◌, ◌<◌, ◌≤◌, ◌++◌, ℕ, Bool, true, false, List, [], ◌∷◌, length, take, drop, Option, Some, None, refl, sym, ap, ◌∙◌, subst, append_assoc, append-nil, take-append-drop}
+use Rattle.std.specs.Io.KnownBytes.{Appends, Consumes, IsAtEnd, Keeps}
+use Rattle.ftp_terms.specs.declared.data_type.DataType.{DataType}
+use Rattle.ftp_terms.specs.declared.data_type.DataType.TheVariants.{Ascii, Image}
+use Rattle.data_pump.specs.declared.pumped.Pumped.{Pumped}
+use Rattle.data_pump.specs.declared.pumped.PumpEnd.TheVariants.{Ended}
+use Rattle.data_pump.specs.WireText.{sent}
+use Rattle.data_pump.specs.Buffers.{Fills}
+use Rattle.data_pump.specs.Downloads.{OutView, MovesOut, IsSending, still_to_come, to_come}
+use Rattle.data_pump.proofs.KnownLemmas.{known-appended, known-consumed, known-kept, known-at_end}
+use Rattle.data_pump.proofs.WireLemmas.{sent-append}
+
+-- the first octets that wait were the first to come
+pub to_come-let_go : (data_type : DataType) (n : ℕ) (waiting : List ℕ) (known : Option (List ℕ))
+    → Consumes (still_to_come data_type waiting known) (still_to_come data_type (drop n waiting) known) (take n waiting)
+to_come-let_go data_type n waiting None = tt
+to_come-let_go data_type n waiting (Some octets) =
+    ap (λ l. l ++ sent data_type octets) (sym (take-append-drop n waiting)) ∙ append_assoc (take n waiting) (drop n waiting) (sent data_type octets)
+
+-- what a read gave was to come
+pub to_come-filled : (data_type : DataType) (old new : Option (List ℕ)) (count : ℕ) (wire : List ℕ) → Fills data_type old new count wire
+    → Keeps (still_to_come data_type [] old) (still_to_come data_type wire new)
+to_come-filled data_type None new count wire filled = tt
+to_come-filled data_type (Some xs) None count wire filled = absurd filled.consumed
+to_come-filled data_type (Some xs) (Some ys) count wire filled =
+    ap (λ l. l ++ sent data_type ys) filled.turned
+    ∙ (sym (sent-append data_type filled.read ys) ∙ ap (sent data_type) (sym filled.consumed))
+
+pub to_come-kept : (data_type : DataType) (waiting : List ℕ) (old new : Option (List ℕ)) → Keeps old new
+    → Keeps (still_to_come data_type waiting old) (still_to_come data_type waiting new)
+to_come-kept data_type waiting None new kept = tt
+to_come-kept data_type waiting (Some xs) None kept = absurd kept
+to_come-kept data_type waiting (Some xs) (Some ys) kept = ap (λ l. waiting ++ sent data_type l) kept
+
+sent-nil : (data_type : DataType) → sent data_type [] ≡ []
+sent-nil Ascii = refl
+sent-nil Image = refl
+
+pub to_come-at_end : (data_type : DataType) (known : Option (List ℕ)) → IsAtEnd known → IsAtEnd (still_to_come data_type [] known)
+to_come-at_end data_type None ended = tt
+to_come-at_end data_type (Some xs) ended = ap (sent data_type) ended ∙ sent-nil data_type
+
+-- what holds where it is so, where it is so
+pub on_true : (b : Bool) {P : Type 0} → OnTrue b P → b ≡ true → P
+on_true true h is = h
+on_true false h is = absurd (cc is)
+
+module _ {S K : Type 0} (remaining : S → Option (List ℕ)) (contents : K → Option (List ℕ)) where
+  pub sending_at_open : (before octets : List ℕ) (out : OutView S K) → contents out.connection ≡ Some before
+      → to_come remaining out ≡ Some (sent out.data_type octets) → IsSending remaining contents before (sent out.data_type octets) out
+  sending_at_open before octets out holds comes = record {
+    written = [];
+    rest = sent out.data_type octets;
+    holds = holds ∙ ap Some (sym (append-nil before));
+    comes = comes;
+    whole = refl;
+  }
+
+  pub sending_moved : (octets : ℕ) (old new : OutView S K) (pumped : Pumped) (before text : List ℕ)
+      → MovesOut remaining contents octets old new pumped → IsSending remaining contents before text old
+      → IsSending remaining contents before text new
+  sending_moved octets old new pumped before text moves sending =
+      let moved = take pumped.moved old.waiting in
+      let left = known-consumed (to_come remaining old) (to_come remaining new) sending.rest moved sending.comes moves.come in
+      record {
+        written = sending.written ++ moved;
+        rest = left.rest;
+        holds =
+            known-appended (contents old.connection) (contents new.connection) (before ++ sending.written) moved sending.holds moves.written
+            ∙ ap Some (append_assoc before sending.written moved);
+        comes = left.known;
+        whole = sending.whole ∙ (ap (λ l. sending.written ++ l) left.whole ∙ sym (append_assoc sending.written moved left.rest));
+      }
+
+  pub sending_ended : (out : OutView S K) (before text : List ℕ) → IsSending remaining contents before text out
+      → IsAtEnd (to_come remaining out) → contents out.connection ≡ Some (before ++ text)
+  sending_ended out before text sending ended =
+      let none : sending.rest ≡ [] = known-at_end (to_come remaining out) sending.rest sending.comes ended in
+      let all : text ≡ sending.written = sending.whole ∙ (ap (λ l. sending.written ++ l) none ∙ append-nil sending.written) in
+      sending.holds ∙ ap (λ l. Some (before ++ l)) (sym all)
+
+  -- the same download under another name
+  pub moves_from : (octets : ℕ) (seen old new : OutView S K) (pumped : Pumped) → seen ≡ old
+      → MovesOut remaining contents octets seen new pumped → MovesOut remaining contents octets old new pumped
+  moves_from octets seen old new pumped same moves = subst (λ (d : OutView S K). MovesOut remaining contents octets d new pumped) same moves

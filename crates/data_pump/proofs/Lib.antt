@@ -1,0 +1,4 @@
+pub mod DownloadLemmas
+pub mod KnownLemmas
+pub mod UploadLemmas
+pub mod WireLemmas

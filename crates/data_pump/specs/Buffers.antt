@@ -1,0 +1,30 @@
+-- What is seen of wire octets that wait.
+use Rattle.std.specs.Prelude.{◌≡◌, ◌*◌, ◌<◌, ◌≤◌, ℕ, List, [], length, Option}
+use Rattle.std.specs.Io.KnownBytes.{Consumes, IsAtEnd}
+use Rattle.ftp_terms.specs.declared.data_type.DataType.{DataType}
+use Rattle.ftp_terms.specs.declared.data_type.DataType.TheVariants.{Ascii, Image}
+use Rattle.data_pump.specs.WireText.{sent}
+
+pub record Waiting : Type 0 where
+  pub data_type : DataType
+  pub octets : List ℕ
+
+-- a text has room before it is turned
+abbrev pub HasText : DataType → List ℕ → Type 0
+HasText Ascii text = 0 < length text
+HasText Image text = Unit {0}
+
+pub record IsBuffer (data_type : DataType) (text octets : List ℕ) (from to : ℕ) : Type 0 where
+  pub has_text : HasText data_type text
+  pub has_octets : 0 < length octets
+  pub room : 2 * length text ≤ length octets
+  pub most : length octets ≤ 65536
+  pub in_order : from ≤ to
+  pub within : to ≤ length octets
+
+-- One read of a source gave octets, which are these on the wire; it gave none only at the end.
+pub record Fills (data_type : DataType) (old new : Option (List ℕ)) (count : ℕ) (wire : List ℕ) : Type 0 where
+  pub read : List ℕ
+  pub consumed : Consumes old new read
+  pub turned : wire ≡ sent data_type read
+  pub at_end : count ≡ 0 → IsAtEnd new

@@ -1,0 +1,4 @@
+pub mod Buffers
+pub mod Downloads
+pub mod Uploads
+pub mod WireText

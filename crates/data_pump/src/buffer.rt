@@ -1,0 +1,130 @@
+//! Wire octets that wait to be written.
+
+ghost use Rattle.std.specs.Prelude.{◌≡◌, ◌+◌, ◌*◌, ◌<◌, ◌≤◌, [], length, take, drop, IfOk, OnErr};
+ghost use Rattle.std.specs.Io.KnownBytes.{Keeps};
+ghost use Rattle.data_pump.specs.Buffers.{Fills};
+
+use crate::wire::send_text;
+use ftp_terms::DataType;
+use std::alloc::{AllocError, Allocator};
+use std::marker::Model;
+use virtual_tree::{Source, StoreFault};
+
+/// How many wire octets may wait at once.
+pub const MAX_WAITING: usize = 65_536;
+
+/// Wire octets that wait. Under TYPE I a source is read right into them; under TYPE A it is read into a buffer of its
+/// own, half as long, from which they are made.
+#[derive(Drop)]
+pub struct WireBuffer<A: Allocator> {
+    data_type: DataType,
+    text: Vec<u8, A>,
+    octets: Vec<u8, A>,
+    from: usize,
+    to: usize,
+}
+
+impl<A: Allocator> Model for WireBuffer<A> {
+    ghost use Rattle.std.specs.Prelude.{slice_range};
+    ghost use Rattle.data_pump.specs.Buffers.{Waiting, IsBuffer};
+
+    ghost Value = { Waiting };
+
+    ghost view = { λ b. record { data_type = b.data_type; octets = slice_range b.octets.items b.from b.to } };
+
+    ghost invariant = { λ b. IsBuffer b.data_type b.text.items b.octets.items b.from b.to };
+}
+
+impl<A: Allocator> WireBuffer<A> {
+    /// An empty buffer with this room, which is not 0, and is even.
+    pub fn new(alloc: A, data_type: DataType, half: usize) -> Result<WireBuffer<A>, AllocError>
+    where
+        A: Clone,
+        requires some { 0 < half }
+        requires most { 2 * half ≤ MAX_WAITING }
+        ensures empty { IfOk result (λ buffer. buffer ≡ record { data_type = data_type; octets = [] }) }
+    {
+        let text = match data_type {
+            DataType::Ascii => vec![in alloc.clone()?; 0u8; half]?,
+            DataType::Image => Vec::new(alloc.clone()?),
+        };
+        let octets = vec![in alloc; 0u8; 2 * half]?;
+        Ok(WireBuffer {
+            data_type,
+            text,
+            octets,
+            from: 0,
+            to: 0,
+        })
+    }
+
+    /// How many octets wait.
+    pub fn len(&self) -> usize
+        ensures len { result ≡ length self.now.octets }
+        ensures most { result ≤ MAX_WAITING }
+    {
+        self.to - self.from
+    }
+
+    /// The first `count` of them.
+    pub fn front(&self, count: usize) -> &[u8]
+        requires some { count ≤ length self.now.octets }
+        ensures front { result.now ≡ take count self.now.octets }
+    {
+        &self.octets[self.from..self.from + count]
+    }
+
+    /// Lets the first `count` of them go.
+    pub fn let_go(&mut self, count: usize)
+        requires some { count ≤ length self.old.octets }
+        ensures data_type { self.new.data_type ≡ self.old.data_type }
+        ensures left { self.new.octets ≡ drop count self.old.octets }
+    {
+        self.from += count;
+    }
+
+    /// Puts what one read of the source gives in their place, as wire octets, and tells how many those are. After a
+    /// fault none wait.
+    pub fn fill<S: Source>(&mut self, source: &mut S) -> Result<usize, StoreFault>
+        ensures data_type { self.new.data_type ≡ self.old.data_type }
+        ensures count { IfOk result (λ count. count ≡ length self.new.octets) }
+        ensures filled { IfOk result (λ count. Fills self.old.data_type (S.remaining source.old) (S.remaining source.new) count self.new.octets) }
+        ensures empty { OnErr result (self.new.octets ≡ []) }
+        ensures kept { OnErr result (Keeps (S.remaining source.old) (S.remaining source.new)) }
+    {
+        self.from = 0;
+        self.to = 0;
+        let count = match self.data_type {
+            DataType::Ascii => read_text(source, &mut self.text, &mut self.octets)?,
+            DataType::Image => read_octets(source, &mut self.octets)?,
+        };
+        self.to = count;
+        Ok(count)
+    }
+}
+
+// One read, right into the octets.
+fn read_octets<S: Source>(source: &mut S, octets: &mut [u8]) -> Result<usize, StoreFault>
+    requires room { 0 < length octets.old }
+    ensures bound { IfOk result (λ count. count ≤ length octets.new) }
+    ensures filled { IfOk result (λ count. Fills DataType.Image (S.remaining source.old) (S.remaining source.new) count (take count octets.new)) }
+    ensures kept { OnErr result (Keeps (S.remaining source.old) (S.remaining source.new)) }
+{
+    source.read(octets)
+}
+
+// One read into the text, from which the wire octets are made.
+fn read_text<S: Source>(
+    source: &mut S,
+    text: &mut [u8],
+    octets: &mut [u8],
+) -> Result<usize, StoreFault>
+    requires some { 0 < length text.old }
+    requires room { 2 * length text.old ≤ length octets.old }
+    ensures bound { IfOk result (λ count. count ≤ length octets.new) }
+    ensures filled { IfOk result (λ count. Fills DataType.Ascii (S.remaining source.old) (S.remaining source.new) count (take count octets.new)) }
+    ensures kept { OnErr result (Keeps (S.remaining source.old) (S.remaining source.new)) }
+{
+    let count = source.read(text)?;
+    Ok(send_text(&text[..count], octets))
+}

@@ -1,0 +1,2 @@
+pub mod FailLaws
+pub mod Failing

@@ -1,0 +1,9 @@
+//! Tests of guaranteed rates, by their public calls alone.
+#![tactic(auto)]
+
+#[cfg(test)]
+mod admitting;
+#[cfg(test)]
+mod rates;
+#[cfg(test)]
+mod shortages;

@@ -1,0 +1,112 @@
+//! What a folder's directories are told to hold.
+
+ghost use Rattle.std.specs.Prelude.{◌≡◌, IsTrue, IfOk, IfSome, string_bytes};
+ghost use Rattle.std.specs.Cmp.Lexicographic.{slice_cmp};
+ghost use Rattle.std.specs.List.Sorted.{IsStrictlySortedBy};
+ghost use Rattle.std.specs.Ordering.{nat_cmp};
+ghost use Rattle.virtual_tree.specs.Calls.{names_of};
+ghost use Rattle.folder_store.specs.Honest.{NeverFull};
+ghost use Rattle.folder_store.specs.Listings.{ComesLast};
+
+use crate::folder::Folder;
+use crate::look::fault_of;
+use ftp_terms::Kind;
+use std::alloc::Allocator;
+use std::fs;
+use std::io::ErrorKind;
+use std::rt::Files;
+use virtual_path::{VPath, is_name};
+use virtual_tree::{Listed, StoreFault};
+
+impl<R: Files + Alloc + Clone + Drop> Folder<R> {
+    /// The entries of a directory, in the order of their names' octets.
+    pub fn list(&self, path: &VPath<R::A>) -> Result<Vec<Listed<R::A>, R::A>, StoreFault>
+        ensures full { NeverFull result }
+        ensures rising { IfOk result (λ listed. IsStrictlySortedBy (slice_cmp nat_cmp) (names_of listed)) }
+    {
+        let meta = self.look_at(path)?;
+        if meta.kind == Kind::File {
+            return Err(StoreFault::NotDir);
+        }
+        let place = self.found(path)?;
+        self.entries(place.as_str())
+    }
+
+    /// The entries in a folder of the machine that a path can name, each name once.
+    #[tactic(auto, using(crate::proofs::Rising::rising_push))]
+    fn entries(&self, folder: &str) -> Result<Vec<Listed<R::A>, R::A>, StoreFault>
+        ensures full { NeverFull result }
+        ensures rising { IfOk result (λ listed. IsStrictlySortedBy (slice_cmp nat_cmp) (names_of listed)) }
+    {
+        let names = self.names(folder)?;
+        let mut listed = Vec::new(self.rt.alloc());
+        for name in names {
+            if comes_last(listed.as_slice(), name.as_str()) {
+                if let Some(entry) = self.entry(folder, name)? {
+                    if listed.push(entry).is_err() {
+                        return Err(StoreFault::Memory);
+                    }
+                }
+            }
+        }
+        Ok(listed)
+    }
+
+    /// The names in a folder of the machine that are UTF-8, in the order of their octets.
+    fn names(&self, folder: &str) -> Result<Vec<String<R::A>, R::A>, StoreFault>
+        ensures full { NeverFull result }
+    {
+        let entries = match fs::read_dir(&self.rt, folder) {
+            Ok(entries) => entries,
+            Err(error) => return Err(fault_of(&error)),
+        };
+        let mut names = Vec::new(self.rt.alloc());
+        for entry in entries {
+            match entry {
+                Ok(entry) => {
+                    let name = String::from_str(self.rt.alloc(), entry.file_name())?;
+                    if names.push(name).is_err() {
+                        return Err(StoreFault::Memory);
+                    }
+                }
+                // A name that is no UTF-8.
+                Err(error) => {
+                    if error.kind() != ErrorKind::InvalidFilename {
+                        return Err(fault_of(&error));
+                    }
+                }
+            }
+        }
+        names.sort()?;
+        Ok(names)
+    }
+
+    /// An entry of a folder of the machine. There is none to tell where no path can name it, where it is
+    /// neither a directory nor a file, and where the machine does not tell what it is.
+    fn entry(&self, folder: &str, name: String<R::A>) -> Result<Option<Listed<R::A>>, StoreFault>
+        ensures full { NeverFull result }
+        ensures name { IfOk result (λ found. IfSome found (λ entry. string_bytes entry.name ≡ string_bytes name)) }
+    {
+        if !is_name(name.as_str()) {
+            return Ok(None);
+        }
+        let mut place = String::from_str(self.rt.alloc(), folder)?;
+        place.push('/')?;
+        place.push_str(name.as_str())?;
+        match self.look(place.as_str()) {
+            Ok(meta) => Ok(Some(Listed { name, meta })),
+            Err(StoreFault::Memory) => Err(StoreFault::Memory),
+            Err(_) => Ok(None),
+        }
+    }
+}
+
+/// Whether a name comes after the last one that is listed.
+fn comes_last<A: Allocator>(listed: &[Listed<A>], name: &str) -> bool
+    ensures last { IsTrue result → ComesLast listed.now name.now }
+{
+    match listed.last() {
+        None => true,
+        Some(entry) => entry.name.as_str().cmp(name).is_lt(),
+    }
+}

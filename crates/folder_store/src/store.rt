@@ -1,0 +1,160 @@
+//! The store.
+
+ghost use Rattle.std.specs.Prelude.{◌≡◌, ◌⊎◌, IfOk, IfErr};
+ghost use Rattle.std.specs.Result.{result_err};
+ghost use Rattle.folder_store.specs.Honest.{IsHonest, NeverFull};
+
+use crate::count::FaultCount;
+use crate::folder::Folder;
+use crate::open::{DirSink, DirSource, flushed};
+use ftp_terms::Meta;
+use std::fs;
+use std::io::ErrorKind;
+use std::marker::Model;
+use std::rt::Files;
+use virtual_path::VPath;
+use virtual_tree::{Listed, Store, StoreFault, WriteMode};
+
+/// A folder of the machine and all beneath it. It has no capacity: a full disk is a fault of the device.
+#[derive(Drop)]
+pub struct DirStore<R: Files + Alloc + Clone + Drop> {
+    folder: Folder<R>,
+    faults: FaultCount,
+}
+
+impl<R: Files + Alloc + Clone + Drop> Model for DirStore<R> {
+    ghost use Rattle.folder_store.specs.declared.count.FaultCount.{FaultCount};
+
+    ghost Value = { FaultCount };
+
+    ghost view = { λ store. store.faults };
+}
+
+impl<R: Files + Alloc + Clone + Drop> DirStore<R> {
+    /// The folder at a path of the machine, which has to be there. A link at its end is followed.
+    pub fn new(rt: R, folder: &str) -> Result<DirStore<R>, StoreFault>
+        ensures new { IfOk result (λ store. store.count ≡ 0) }
+        ensures faults { IfErr result (λ fault. (fault ≡ StoreFault.NotFound) ⊎ (fault ≡ StoreFault.NotDir) ⊎ (fault ≡ StoreFault.Device) ⊎ (fault ≡ StoreFault.Memory)) }
+    {
+        match fs::metadata(&rt, folder) {
+            Ok(metadata) => {
+                if !metadata.is_dir() {
+                    return Err(StoreFault::NotDir);
+                }
+            }
+            Err(error) => {
+                return match error.kind() {
+                    ErrorKind::NotFound => Err(StoreFault::NotFound),
+                    ErrorKind::NotADirectory => Err(StoreFault::NotDir),
+                    ErrorKind::OutOfMemory => Err(StoreFault::Memory),
+                    _ => Err(StoreFault::Device),
+                };
+            }
+        }
+        let path = String::from_str(rt.alloc(), folder)?;
+        Ok(DirStore {
+            folder: Folder { rt, path },
+            faults: FaultCount { count: 0 },
+        })
+    }
+
+    /// The answer, counted where it is a fault of the device.
+    fn answer<T>(&mut self, answer: Result<T, StoreFault>) -> Result<T, StoreFault>
+        requires { NeverFull answer }
+        ensures same { result ≡ answer }
+        ensures honest { IsHonest self.old.count self.new.count (result_err answer) }
+    {
+        match answer {
+            Ok(told) => Ok(told),
+            Err(fault) => {
+                if fault == StoreFault::Device {
+                    self.faults = FaultCount {
+                        count: self.faults.count.wrapping_add(1),
+                    };
+                }
+                Err(fault)
+            }
+        }
+    }
+}
+
+impl<R: Files + Alloc + Clone + Drop> Store<R::A> for DirStore<R> {
+    ghost use Rattle.std.specs.Prelude.{None};
+    ghost use Rattle.folder_store.specs.Honest.{FolderStep};
+
+    type Source = DirSource<R::File>;
+
+    type Sink = DirSink<R::File>;
+
+    ghost Step = { FolderStep };
+
+    ghost capacity = { λ _. None };
+
+    ghost would_hold = { λ _ _ _. 0 };
+
+    ghost fault_count = { λ store. store.count };
+
+    fn faults(&self) -> u64 {
+        self.faults.count
+    }
+
+    fn stat(&mut self, path: &VPath<R::A>) -> Result<Meta, StoreFault> {
+        let answer = self.folder.look_at(path);
+        self.answer(answer)
+    }
+
+    fn list(&mut self, path: &VPath<R::A>) -> Result<Vec<Listed<R::A>, R::A>, StoreFault> {
+        let answer = self.folder.list(path);
+        self.answer(answer)
+    }
+
+    fn open_read(
+        &mut self,
+        path: &VPath<R::A>,
+        offset: u64,
+    ) -> Result<DirSource<R::File>, StoreFault> {
+        let answer = self.folder.read_from(path, offset);
+        self.answer(answer)
+    }
+
+    fn open_write(
+        &mut self,
+        path: &VPath<R::A>,
+        mode: WriteMode,
+        _moment: u64,
+    ) -> Result<DirSink<R::File>, StoreFault> {
+        let answer = self.folder.write_by(path, mode);
+        self.answer(answer)
+    }
+
+    fn finish(&mut self, sink: DirSink<R::File>, _moment: u64) -> Result<(), StoreFault> {
+        let answer = flushed(sink);
+        self.answer(answer)
+    }
+
+    fn make_dir(&mut self, path: &VPath<R::A>) -> Result<(), StoreFault> {
+        let answer = self.folder.make_directory(path);
+        self.answer(answer)
+    }
+
+    fn remove_dir(&mut self, path: &VPath<R::A>) -> Result<(), StoreFault> {
+        let answer = self.folder.remove_directory(path);
+        self.answer(answer)
+    }
+
+    fn remove_file(&mut self, path: &VPath<R::A>) -> Result<(), StoreFault> {
+        let answer = self.folder.remove_file(path);
+        self.answer(answer)
+    }
+
+    fn rename(&mut self, from: &VPath<R::A>, to: &VPath<R::A>) -> Result<(), StoreFault> {
+        let answer = self.folder.rename(from, to);
+        self.answer(answer)
+    }
+
+    ghost honest = { λ old new exchange step. step.device };
+
+    ghost fits = { λ old new exchange step full. absurd (step.never_full full) };
+
+    ghost counts = { λ store. store.small };
+}

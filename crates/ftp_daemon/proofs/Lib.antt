@@ -1,7 +1,0 @@
-pub mod Taken
-mod Entries
-mod Reading
-mod Told
-mod Behind
-mod There
-mod Totals

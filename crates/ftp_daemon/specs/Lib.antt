@@ -1,6 +1,0 @@
-pub mod Commands
-pub mod Given
-pub mod Lines
-pub mod Faults
-pub mod Sharing
-pub mod Checking

@@ -1,0 +1,4 @@
+pub mod Entries
+pub mod Letters
+pub mod LineText
+pub mod Lines

@@ -1,0 +1,43 @@
+//! What is known of an entry of a directory.
+
+ghost use Rattle.std.specs.Prelude.{◌≤◌};
+ghost use Rattle.ftp_terms.specs.declared.entries.TheConstants.{LATEST};
+
+/// The last second of the year 9999, in seconds since 1970: the latest one that a listing can show
+/// (RFC 3659, section 2.3, gives a year four digits).
+pub const LATEST: u64 = 253_402_300_799;
+
+/// What an entry is.
+#[derive(Clone, Copy, Debug, PartialEq, Eq)]
+pub enum Kind {
+    Directory,
+    File,
+}
+
+/// What is known of an entry.
+#[derive(Clone, Copy, Debug, PartialEq, Eq)]
+pub struct Meta {
+    pub kind: Kind,
+    /// Octets; 0 for a directory.
+    pub size: u64,
+    /// When it was last changed, in whole seconds since 1970.
+    pub modified: u64,
+    pub ghost can_be_shown: { modified ≤ LATEST },
+}
+
+impl Meta {
+    ghost use Rattle.std.specs.Prelude.{◌≡◌};
+    ghost use Rattle.ftp_terms.specs.Entries.{entry_meta};
+
+    /// What is known of an entry that was changed at that second. A later one than [`LATEST`] is
+    /// told as that.
+    pub fn new(kind: Kind, size: u64, seconds: u64) -> Meta
+        ensures meta { result ≡ entry_meta kind size seconds }
+    {
+        Meta {
+            kind,
+            size,
+            modified: seconds.min(LATEST),
+        }
+    }
+}

@@ -1,0 +1,57 @@
+//! Lines that are no command.
+
+ghost use Rattle.std.specs.Prelude.{◌≡◌, ◌≤◌};
+ghost use Rattle.ftp_terms.specs.Lines.{IsLine};
+ghost use Rattle.ftp_reply.specs.Replies.{OneLine};
+
+use ftp_reply::{HIGHEST_CODE, LOWEST_CODE, Reply, ReplyCode};
+use ftp_terms::LineText;
+use std::alloc::Allocator;
+
+/// Why a line is no command. Where several apply it is the first in this order.
+#[derive(Clone, Copy, Debug, PartialEq, Eq)]
+pub enum LineFault {
+    /// More than 4,096 octets stand before the line's end.
+    TooLong,
+    /// No code: nothing stands before the first space.
+    Empty,
+    /// The code is none that this server knows.
+    Unknown,
+    /// The code is known and not served.
+    NotServed,
+    ArgumentMissing,
+    ArgumentUnwanted,
+    /// The argument is no text of UTF-8 without control characters, or not of the command's form.
+    BadArgument,
+    /// The argument is of the command's form, and names what is not served.
+    BadParameter,
+}
+
+impl LineFault {
+    ghost use Rattle.ftp_wire.specs.Faults.{fault_reply};
+
+    /// The reply to such a line (RFC 959, section 4.2.1). It takes no memory.
+    pub fn reply<A: Allocator>(self) -> Reply<A>
+        ensures reply { result ≡ fault_reply self }
+    {
+        match self {
+            LineFault::TooLong => one_line(500, "Line too long"),
+            LineFault::Empty => one_line(500, "Empty line"),
+            LineFault::Unknown => one_line(500, "Unknown command"),
+            LineFault::NotServed => one_line(502, "Command not served"),
+            LineFault::ArgumentMissing => one_line(501, "Argument missing"),
+            LineFault::ArgumentUnwanted => one_line(501, "Argument not wanted"),
+            LineFault::BadArgument => one_line(501, "Bad argument"),
+            LineFault::BadParameter => one_line(504, "Parameter not served"),
+        }
+    }
+}
+
+fn one_line<A: Allocator>(code: u16, text: &'static str) -> Reply<A>
+    requires low { LOWEST_CODE ≤ code }
+    requires high { code ≤ HIGHEST_CODE }
+    requires line { IsLine text.now }
+    ensures form { result ≡ OneLine code text.now }
+{
+    Reply::one_line(ReplyCode::new(code), LineText::fixed(text))
+}

@@ -1,0 +1,49 @@
+-- What is seen of a book, a grant, a purse and a tally.
+use Rattle.std.specs.Prelude.{◌≢◌, ◌+◌, ◌<◌, ℕ, List, [], ◌∷◌, replicate, slice_set, min, Option, Some, None}
+
+-- the octets issued, the tick of the last entry, and for each lane the amount that is not yet drawn
+pub record BookView : Type 0 where
+  pub issued : ℕ
+  pub last_tick : Option ℕ
+  pub undrawn : List (Option ℕ)
+
+pub record GrantView : Type 0 where
+  pub octets : ℕ
+  pub lane : ℕ
+  pub tick : ℕ
+
+pub record PurseView : Type 0 where
+  pub left : ℕ
+  pub tick : ℕ
+
+pub record TallyView : Type 0 where
+  pub moved : ℕ
+  pub back : ℕ
+
+-- nothing is left to draw
+abbrev pub nothing_undrawn : List (Option ℕ)
+nothing_undrawn = replicate 64 None
+
+-- the amounts of an entry, each at its lane
+abbrev pub by_lane : List ℕ → List ℕ → List (Option ℕ)
+by_lane [] grants = nothing_undrawn
+by_lane (lane ∷ lanes) [] = nothing_undrawn
+by_lane (lane ∷ lanes) (grant ∷ grants) = slice_set (by_lane lanes grants) lane (Some grant)
+
+-- the list does not name the lane
+abbrev pub NamesNot : ℕ → List ℕ → Type 0
+NamesNot lane [] = Unit {0}
+NamesNot lane (other ∷ lanes) = (lane ≢ other) × NamesNot lane lanes
+
+-- the lanes are below 64, and none is named twice
+abbrev pub AreLanes : List ℕ → Type 0
+AreLanes [] = Unit {0}
+AreLanes (lane ∷ lanes) = (lane < 64) × NamesNot lane lanes × AreLanes lanes
+
+-- a sum that stops at the greatest u64
+abbrev pub capped : ℕ → ℕ → ℕ
+capped a b = min (a + b) 18446744073709551615
+
+-- all that a tally counts
+abbrev pub counted : TallyView → ℕ
+counted t = t.moved + t.back

@@ -1,0 +1,377 @@
+//! The book, and the values that have to be spent. This module alone owns their fields, so each octet of a grant
+//! comes from an entry of a book.
+
+ghost use Rattle.std.specs.Prelude.{◌≡◌, ◌+◌, ◌-◌, ◌<◌, ◌≤◌, sum, length, slice_index_or, slice_set, IsSome, OnOk, OnErr, IfOk, MatchResult};
+ghost use Rattle.limit_tree.specs.Outline.{limits};
+ghost use Rattle.limit_tree.specs.Sharing.{IsBest};
+ghost use Rattle.grant_ledger.specs.Books.{nothing_undrawn, by_lane, AreLanes, capped};
+ghost use Rattle.grant_ledger.specs.Faults.{refusal};
+
+use super::fault::BookFault;
+use grant_certificate::Sealed;
+use std::alloc::Allocator;
+use std::marker::Model;
+
+/// How many lanes an entry can name. They are numbered from 0.
+pub const MAX_LANES: usize = 64;
+
+/// The most octets that one book issues: 2^62.
+pub const MAX_ISSUED: u64 = 4_611_686_018_427_387_904;
+
+/// The octets issued, the tick of the last entry, and for each lane the amount that is not yet drawn. It has to be
+/// settled.
+pub struct Book {
+    issued: u64,
+    last_tick: Option<u64>,
+    undrawn: [Option<u64>; MAX_LANES],
+}
+
+impl Model for Book {
+    ghost use Rattle.std.specs.Prelude.{◌≡◌, ◌≤◌, ◌^◌, IfNone};
+    ghost use Rattle.grant_ledger.specs.Books.{BookView, nothing_undrawn};
+
+    ghost Value = { BookView };
+
+    ghost view = { λ b. record { issued = b.issued; last_tick = b.last_tick; undrawn = b.undrawn } };
+
+    ghost invariant = { λ b. (b.issued ≤ 2 ^ 62) × IfNone b.last_tick (b.undrawn ≡ nothing_undrawn) };
+}
+
+/// Leave to move octets on one lane, from the entry of one tick. It has to be spent.
+pub struct Grant {
+    octets: u64,
+    lane: u8,
+    tick: u64,
+}
+
+impl Model for Grant {
+    ghost use Rattle.grant_ledger.specs.Books.{GrantView};
+
+    ghost Value = { GrantView };
+
+    ghost view = { λ g. record { octets = g.octets; lane = g.lane; tick = g.tick } };
+}
+
+/// Octets of one entry that no grant has yet. It has to be closed.
+pub struct Purse {
+    left: u64,
+    tick: u64,
+}
+
+impl Model for Purse {
+    ghost use Rattle.grant_ledger.specs.Books.{PurseView};
+
+    ghost Value = { PurseView };
+
+    ghost view = { λ p. record { left = p.left; tick = p.tick } };
+}
+
+/// What became of spent grants, in octets: moved, and given back. It has to be joined to another or settled.
+pub struct Tally {
+    moved: u64,
+    back: u64,
+}
+
+impl Model for Tally {
+    ghost use Rattle.grant_ledger.specs.Books.{TallyView};
+
+    ghost Value = { TallyView };
+
+    ghost view = { λ t. record { moved = t.moved; back = t.back } };
+}
+
+/// The numbers of a book and a tally at the end, in octets.
+#[derive(Clone, Copy, Debug, PartialEq, Eq)]
+pub struct Settled {
+    pub issued: u64,
+    pub moved: u64,
+    pub back: u64,
+}
+
+impl Book {
+    /// A book that has issued `carried` octets, and its tally, in which all of them were moved.
+    pub fn open(carried: u64) -> (Book, Tally)
+        requires few { carried ≤ MAX_ISSUED }
+        ensures book { result.0 ≡ record { issued = carried; last_tick = None; undrawn = nothing_undrawn } }
+        ensures tally { result.1 ≡ record { moved = carried; back = 0 } }
+    {
+        let book = Book {
+            issued: carried,
+            last_tick: None,
+            undrawn: [None; MAX_LANES],
+        };
+        let tally = Tally {
+            moved: carried,
+            back: 0,
+        };
+        (book, tally)
+    }
+
+    /// The octets issued so far.
+    pub fn issued(&self) -> u64
+        ensures issued { result ≡ self.now.issued }
+        ensures most { result ≤ MAX_ISSUED }
+    {
+        self.issued
+    }
+
+    /// The tick of the last entry, or none before the first.
+    pub fn last_tick(&self) -> Option<u64>
+        ensures last_tick { result ≡ self.now.last_tick }
+    {
+        self.last_tick
+    }
+
+    /// The amount of this lane in the last entry, where it is not yet drawn.
+    pub fn undrawn(&self, lane: u8) -> Option<u64>
+        requires lane { lane < MAX_LANES }
+        ensures undrawn { result ≡ slice_index_or self.now.undrawn lane None }
+    {
+        self.undrawn[lane as usize]
+    }
+
+    /// Issues the grants of a decision: the i-th is to be drawn at the i-th of the lanes.
+    ///
+    /// It refuses with `NotYet` where the tick is not above that of the last entry, else with `BookFull` where more
+    /// than `MAX_ISSUED` octets would be issued. The book is unchanged then.
+    pub fn enter<A: Allocator>(
+        &mut self,
+        sealed: &Sealed<A>,
+        lanes: &[u8],
+        tick: u64,
+    ) -> Result<(), BookFault>
+        requires one_each { length lanes.now ≡ length sealed.now.grants }
+        requires lanes { AreLanes lanes.now }
+        requires drawn { self.old.undrawn ≡ nothing_undrawn }
+        ensures issued { OnOk result (self.new.issued ≡ self.old.issued + sum sealed.now.grants) }
+        ensures last_tick { OnOk result (self.new.last_tick ≡ Some tick) }
+        ensures undrawn { OnOk result (self.new.undrawn ≡ by_lane lanes.now sealed.now.grants) }
+        ensures best { IsBest (limits sealed.now.tree) sealed.now.grants }
+        ensures refusal { MatchResult result (λ _. refusal self.old (sum sealed.now.grants) tick ≡ None) (λ e. refusal self.old (sum sealed.now.grants) tick ≡ Some e) }
+        ensures unchanged { OnErr result (self.new ≡ self.old) }
+    {
+        self.admit(sealed.total(), tick)?;
+        self.undrawn = amounts_by_lane(sealed.grants(), lanes);
+        Ok(())
+    }
+
+    /// Issues the grants of a decision into a purse, with the refusals of `enter`.
+    pub fn enter_out<A: Allocator>(
+        &mut self,
+        sealed: &Sealed<A>,
+        tick: u64,
+    ) -> Result<Purse, BookFault>
+        ensures purse { IfOk result (λ p. p ≡ record { left = sum sealed.now.grants; tick = tick }) }
+        ensures issued { OnOk result (self.new.issued ≡ self.old.issued + sum sealed.now.grants) }
+        ensures last_tick { OnOk result (self.new.last_tick ≡ Some tick) }
+        ensures undrawn { self.new.undrawn ≡ self.old.undrawn }
+        ensures best { IsBest (limits sealed.now.tree) sealed.now.grants }
+        ensures refusal { MatchResult result (λ _. refusal self.old (sum sealed.now.grants) tick ≡ None) (λ e. refusal self.old (sum sealed.now.grants) tick ≡ Some e) }
+        ensures unchanged { OnErr result (self.new ≡ self.old) }
+    {
+        let total = sealed.total();
+        self.admit(total, tick)?;
+        Ok(Purse { left: total, tick })
+    }
+
+    // Issues this many octets, if the book takes them.
+    fn admit(&mut self, total: u64, tick: u64) -> Result<(), BookFault>
+        ensures issued { OnOk result (self.new.issued ≡ self.old.issued + total) }
+        ensures last_tick { OnOk result (self.new.last_tick ≡ Some tick) }
+        ensures undrawn { self.new.undrawn ≡ self.old.undrawn }
+        ensures refusal { MatchResult result (λ _. refusal self.old total tick ≡ None) (λ e. refusal self.old total tick ≡ Some e) }
+        ensures unchanged { OnErr result (self.new ≡ self.old) }
+    {
+        if let Some(last) = self.last_tick {
+            if tick <= last {
+                return Err(BookFault::NotYet(last));
+            }
+        }
+        if total > MAX_ISSUED - self.issued {
+            return Err(BookFault::BookFull);
+        }
+        self.issued += total;
+        self.last_tick = Some(tick);
+        Ok(())
+    }
+
+    /// Hands out the amount of a lane in the last entry, which has to be there still (`undrawn` tells it).
+    pub fn draw(&mut self, lane: u8) -> Grant
+        requires lane { lane < MAX_LANES }
+        requires undrawn { IsSome (slice_index_or self.old.undrawn lane None) }
+        ensures amount { slice_index_or self.old.undrawn lane None ≡ Some result.octets }
+        ensures lane { result.lane ≡ lane }
+        ensures tick { self.old.last_tick ≡ Some result.tick }
+        ensures issued { self.new.issued ≡ self.old.issued }
+        ensures last_tick { self.new.last_tick ≡ self.old.last_tick }
+        ensures undrawn { self.new.undrawn ≡ slice_set self.old.undrawn lane None }
+    {
+        let octets = self.undrawn[lane as usize].unwrap();
+        self.undrawn[lane as usize] = None;
+        Grant {
+            octets,
+            lane,
+            tick: self.last_tick.unwrap(),
+        }
+    }
+}
+
+// The amounts, each at its lane.
+fn amounts_by_lane(amounts: &[u64], lanes: &[u8]) -> [Option<u64>; MAX_LANES]
+    requires one_each { length lanes.now ≡ length amounts.now }
+    requires lanes { AreLanes lanes.now }
+    ensures amounts { result ≡ by_lane lanes.now amounts.now }
+{
+    let mut undrawn = [None; MAX_LANES];
+    for i in (0..lanes.len()).rev() {
+        undrawn[lanes[i] as usize] = Some(amounts[i]);
+    }
+    undrawn
+}
+
+impl Grant {
+    /// A grant of no octets, which needs no book.
+    pub fn none(lane: u8, tick: u64) -> Grant
+        ensures grant { result ≡ record { octets = 0; lane = lane; tick = tick } }
+    {
+        Grant {
+            octets: 0,
+            lane,
+            tick,
+        }
+    }
+
+    /// How many octets may be moved.
+    pub fn octets(&self) -> u64
+        ensures octets { result ≡ self.now.octets }
+    {
+        self.octets
+    }
+
+    /// The lane that they may be moved on.
+    pub fn lane(&self) -> u8
+        ensures lane { result ≡ self.now.lane }
+    {
+        self.lane
+    }
+
+    /// The tick of the entry that they are from.
+    pub fn tick(&self) -> u64
+        ensures tick { result ≡ self.now.tick }
+    {
+        self.tick
+    }
+
+    /// Cuts off a grant of `n` of the octets.
+    pub fn cut(&mut self, n: u64) -> Grant
+        requires enough { n ≤ self.old.octets }
+        ensures cut { result ≡ record { octets = n; lane = self.old.lane; tick = self.old.tick } }
+        ensures left { self.new ≡ record self.old { octets = self.old.octets - n } }
+    {
+        self.octets -= n;
+        Grant {
+            octets: n,
+            lane: self.lane,
+            tick: self.tick,
+        }
+    }
+
+    /// Uses the grant up: so many octets were moved, and the rest is given back. The tally's sums stop at the
+    /// greatest u64.
+    pub fn spend(self, moved: u64, tally: &mut Tally)
+        requires within { moved ≤ self.octets }
+        ensures moved { tally.new.moved ≡ capped tally.old.moved moved }
+        ensures back { tally.new.back ≡ capped tally.old.back (self.octets - moved) }
+    {
+        let Grant {
+            octets,
+            lane: _,
+            tick: _,
+        } = self;
+        tally.moved = tally.moved.saturating_add(moved);
+        tally.back = tally.back.saturating_add(octets - moved);
+    }
+}
+
+impl Purse {
+    /// Takes a grant of `n` of the octets out, for a lane.
+    pub fn split(&mut self, lane: u8, n: u64) -> Grant
+        requires enough { n ≤ self.old.left }
+        ensures grant { result ≡ record { octets = n; lane = lane; tick = self.old.tick } }
+        ensures left { self.new ≡ record self.old { left = self.old.left - n } }
+    {
+        self.left -= n;
+        Grant {
+            octets: n,
+            lane,
+            tick: self.tick,
+        }
+    }
+
+    /// The octets that are left.
+    pub fn left(&self) -> u64
+        ensures left { result ≡ self.now.left }
+    {
+        self.left
+    }
+
+    /// Lets a purse go in which nothing is left.
+    pub fn close(self)
+        requires empty { self.left ≡ 0 }
+    {
+        let Purse { left: _, tick: _ } = self;
+    }
+}
+
+impl Tally {
+    /// An empty tally, for a worker of its own. It is to be joined again.
+    pub fn split(&mut self) -> Tally
+        ensures empty { result ≡ record { moved = 0; back = 0 } }
+        ensures unchanged { self.new ≡ self.old }
+    {
+        Tally { moved: 0, back: 0 }
+    }
+
+    /// Adds what the other counted. Each sum stops at the greatest u64.
+    pub fn join(&mut self, other: Tally)
+        ensures moved { self.new.moved ≡ capped self.old.moved other.moved }
+        ensures back { self.new.back ≡ capped self.old.back other.back }
+    {
+        let Tally { moved, back } = other;
+        self.moved = self.moved.saturating_add(moved);
+        self.back = self.back.saturating_add(back);
+    }
+
+    /// The octets moved.
+    pub fn moved(&self) -> u64
+        ensures moved { result ≡ self.now.moved }
+    {
+        self.moved
+    }
+
+    /// The octets given back.
+    pub fn back(&self) -> u64
+        ensures back { result ≡ self.now.back }
+    {
+        self.back
+    }
+}
+
+/// Ends a book and a tally, and tells the numbers of both as they stand.
+pub fn settle(book: Book, tally: Tally) -> Settled
+    ensures issued { result.issued ≡ book.issued }
+    ensures moved { result.moved ≡ tally.moved }
+    ensures back { result.back ≡ tally.back }
+{
+    let Book {
+        issued,
+        last_tick: _,
+        undrawn: _,
+    } = book;
+    let Tally { moved, back } = tally;
+    Settled {
+        issued,
+        moved,
+        back,
+    }
+}

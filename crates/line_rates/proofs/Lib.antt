@@ -1,0 +1,10 @@
+mod GatherLemmas
+mod GrantLemmas
+mod KidLemmas
+mod LimitsLemmas
+mod MarkLemmas
+mod NameLemmas
+pub mod RowLemmas
+mod TickLemmas
+mod TwiceLemmas
+mod WholeLemmas

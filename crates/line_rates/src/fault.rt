@@ -1,0 +1,41 @@
+//! Why rates, and the trees of ticks, are refused.
+
+use limit_tree::TreeFault;
+use std::alloc::AllocError;
+use thiserror::Error;
+
+/// Why rates are refused: the first of these that applies.
+#[derive(Clone, Copy, Debug, PartialEq, Eq, Error)]
+pub enum LimitsFault {
+    /// A rate is above `MAX_RATE`.
+    #[error("RateTooLarge")]
+    RateTooLarge,
+    /// Two rows have the number of one group, or of one user.
+    #[error("Twice")]
+    Twice,
+    /// A user is in a group that has no row.
+    #[error("NoSuchGroup")]
+    NoSuchGroup,
+}
+
+/// Why the tree of a tick is refused.
+#[derive(Clone, Copy, Debug, PartialEq, Eq, Error)]
+pub enum PlanFault {
+    /// The tree of the tick has a fault: a want above the largest, too many asks, or floors above a limit.
+    #[error("{0}")]
+    Tree(TreeFault),
+    /// Memory ran out.
+    #[error("Memory")]
+    Memory,
+}
+
+impl From<AllocError> for PlanFault {
+    ghost use Rattle.std.specs.Prelude.{◌≡◌};
+    ghost use Rattle.line_rates.specs.declared.fault.PlanFault.TheVariants.{Memory};
+
+    ghost from_gives = { λ e fault. fault ≡ Memory };
+
+    fn from(_error: AllocError) -> PlanFault {
+        PlanFault::Memory
+    }
+}

@@ -1,0 +1,24 @@
+//! The rates that an administrator states, and the limits that they set in each tick of 100 ms.
+//!
+//! `Limits::of` takes the rates of the line, of its two ways, of groups and of users. In each tick, `tree_of` makes of the
+//! asks of the transfers the limit tree that a round shares out; `rate_limit` is what a rate lets through in a tick.
+#![tactic(auto)]
+
+mod ask;
+mod fault;
+mod laws;
+mod limits;
+mod names;
+mod plan;
+mod rate;
+mod row;
+mod rows;
+mod trees;
+
+pub use ask::{Ask, Name, Way};
+pub use fault::{LimitsFault, PlanFault};
+pub use laws::{grants_keep_names, ten_ticks_make_a_second};
+pub use limits::Limits;
+pub use plan::{Plan, tree_of};
+pub use rate::{MAX_RATE, rate_limit};
+pub use row::{GroupRate, UserRate};

@@ -1,0 +1,172 @@
+//! The rates of a line, of its groups and of its users.
+
+ghost use Rattle.std.specs.Prelude.{◌≡◌, ◌≤◌, MatchResult, IfOk, IfSome, Some, None};
+ghost use Rattle.std.specs.FinMap as finite;
+ghost use Rattle.line_rates.specs.Rates.{group_of, rate_of};
+ghost use Rattle.std.specs.List.{All};
+ghost use Rattle.line_rates.specs.Stated.{group_number, user_number, by_number, stated, limits_fault, has_large_rate, IsRising, FitsGroup, FitsUser};
+ghost use Rattle.line_rates.specs.Names.{floor_of};
+
+use crate::ask::{Ask, Name};
+use crate::fault::LimitsFault;
+use crate::rate::MAX_RATE;
+use crate::row::{GroupRate, UserRate, either};
+use crate::rows::{
+    find_group, find_user, groups_rise, has_large_group, has_large_user, has_stray_user,
+    sort_groups, sort_users, users_rise,
+};
+use std::alloc::{Allocator, Global};
+use std::marker::Model;
+
+/// The rates of a line, of its groups and of its users. Contracts see the rows as finite maps from numbers to rates.
+#[derive(Drop)]
+pub struct Limits<A: Allocator = Global> {
+    server: u64,
+    down: u64,
+    up: u64,
+    // in the order of their numbers
+    groups: Vec<GroupRate, A>,
+    users: Vec<UserRate, A>,
+}
+
+impl<A: Allocator> Model for Limits<A> {
+    ghost use Rattle.line_rates.specs.Rates.{Rates, rates_code};
+    ghost use Rattle.line_rates.specs.Stated.{stated, IsKept};
+
+    ghost Value = { Rates };
+
+    ghost coded = { rates_code };
+
+    ghost view = { λ l. stated l.server l.down l.up l.groups.items l.users.items };
+
+    ghost invariant = { λ l. IsKept l.server l.down l.up l.groups.items l.users.items };
+}
+
+fn has_large_rate(server: u64, down: u64, up: u64, groups: &[GroupRate], users: &[UserRate]) -> bool
+    ensures large { result ≡ has_large_rate server down up groups.now users.now }
+{
+    server > MAX_RATE
+        || down > MAX_RATE
+        || up > MAX_RATE
+        || has_large_group(groups)
+        || has_large_user(users)
+}
+
+impl<A: Allocator> Limits<A> {
+    /// The limits that the rates of the server, of its two ways, of groups and of users set. The rows may come in any
+    /// order; a user or a group without a row has no limit of its own. Takes no memory, and O(n log n) time.
+    pub fn of(
+        server: u64,
+        down: u64,
+        up: u64,
+        groups: Vec<GroupRate, A>,
+        users: Vec<UserRate, A>,
+    ) -> Result<Limits<A>, LimitsFault>
+        ensures fault { MatchResult result (λ _. limits_fault server down up groups.items users.items ≡ None) (λ e. limits_fault server down up groups.items users.items ≡ Some e) }
+        ensures limits { IfOk result (λ l. l ≡ stated server down up groups.items users.items) }
+    {
+        if has_large_rate(server, down, up, &groups, &users) {
+            return Err(LimitsFault::RateTooLarge);
+        }
+        let mut groups = groups;
+        let mut users = users;
+        sort_groups(&mut groups);
+        sort_users(&mut users);
+        if !groups_rise(&groups) {
+            return Err(LimitsFault::Twice);
+        }
+        if !users_rise(&users) {
+            return Err(LimitsFault::Twice);
+        }
+        if has_stray_user(&groups, &users) {
+            return Err(LimitsFault::NoSuchGroup);
+        }
+        Ok(Limits {
+            server,
+            down,
+            up,
+            groups,
+            users,
+        })
+    }
+
+    /// The users' rows, by rising numbers.
+    pub fn users(&self) -> &[UserRate]
+        ensures rows { by_number user_number result.now ≡ self.now.users }
+        ensures rising { IsRising user_number result.now }
+        ensures fit { All FitsUser result.now }
+    {
+        self.users.as_slice()
+    }
+
+    /// The groups' rows, by rising numbers.
+    pub fn groups(&self) -> &[GroupRate]
+        ensures rows { by_number group_number result.now ≡ self.now.groups }
+        ensures rising { IsRising group_number result.now }
+        ensures fit { All FitsGroup result.now }
+    {
+        self.groups.as_slice()
+    }
+
+    /// The row of a user.
+    pub fn user_row(&self, user: u32) -> Option<UserRate>
+        ensures row { result ≡ finite.get self.now.users user }
+        ensures fits { IfSome result FitsUser }
+    {
+        find_user(&self.users, user)
+    }
+
+    /// The row of a group.
+    pub fn group_row(&self, group: u32) -> Option<GroupRate>
+        ensures row { result ≡ finite.get self.now.groups group }
+        ensures fits { IfSome result FitsGroup }
+    {
+        find_group(&self.groups, group)
+    }
+
+    /// The group of a user.
+    pub fn group_of(&self, user: u32) -> Option<u32>
+        ensures group { result ≡ group_of self.now user }
+    {
+        match self.user_row(user) {
+            Some(row) => row.group,
+            None => None,
+        }
+    }
+
+    /// The rate of a name, in octets a second: 0, which is no limit, where none is stated.
+    pub fn rate(&self, name: Name) -> u64
+        ensures rate { result ≡ rate_of self.now name }
+        ensures most { result ≤ MAX_RATE }
+    {
+        match name {
+            Name::Server => self.server,
+            Name::Direction(way) => either(self.down, self.up, way),
+            Name::Group(way, group) => match self.group_row(group) {
+                Some(row) => either(row.down, row.up, way),
+                None => 0,
+            },
+            Name::User(way, user) => match self.user_row(user) {
+                Some(row) => either(row.down, row.up, way),
+                None => 0,
+            },
+            Name::Session(way, user, _) => match self.user_row(user) {
+                Some(row) => either(row.session_down, row.session_up, way),
+                None => 0,
+            },
+        }
+    }
+
+    /// What an ask is guaranteed in any tick, in octets: a tenth of what its session is guaranteed a second, rounded
+    /// down, but at most its want.
+    pub fn floor(&self, ask: Ask) -> u64
+        ensures floor { result ≡ floor_of self.now ask }
+    {
+        match self.user_row(ask.user) {
+            Some(row) => ask.want.min(
+                either(row.session_down_floor, row.session_up_floor, ask.way) / 10,
+            ),
+            None => 0,
+        }
+    }
+}

@@ -1,0 +1,143 @@
+//! Rows of rates in the order of their numbers.
+
+ghost use Rattle.std.specs.Prelude.{◌≡◌, ◌||◌, IfSome, IsPermutation};
+ghost use Rattle.std.specs.Bool.{MatchBool};
+ghost use Rattle.std.specs.FinMap as finite;
+ghost use Rattle.std.specs.List.{Contains};
+ghost use Rattle.std.specs.List.Sorted.{IsNonDecreasingBy};
+ghost use Rattle.line_rates.specs.Stated.{group_number, user_number, by_number, is_large_group, is_large_user, has_large_group, has_large_user, has_no_row, has_stray_user, IsRising, HasTie};
+
+use crate::rate::MAX_RATE;
+use crate::row::{GroupRate, UserRate};
+use std::alloc::Allocator;
+
+fn is_large_group(row: GroupRate) -> bool
+    ensures large { result ≡ is_large_group row }
+{
+    row.down > MAX_RATE || row.up > MAX_RATE
+}
+
+fn is_large_user(row: UserRate) -> bool
+    ensures large { result ≡ is_large_user row }
+{
+    row.down > MAX_RATE
+        || row.up > MAX_RATE
+        || row.session_down > MAX_RATE
+        || row.session_up > MAX_RATE
+        || row.session_down_floor > MAX_RATE
+        || row.session_up_floor > MAX_RATE
+}
+
+/// Whether a rate of some group is above `MAX_RATE`.
+pub fn has_large_group(groups: &[GroupRate]) -> bool
+    ensures large { result ≡ has_large_group groups.now }
+{
+    for row in groups {
+        if is_large_group(*row) {
+            return true;
+        }
+    }
+    false
+}
+
+/// Whether a rate of some user is above `MAX_RATE`.
+pub fn has_large_user(users: &[UserRate]) -> bool
+    ensures large { result ≡ has_large_user users.now }
+{
+    for row in users {
+        if is_large_user(*row) {
+            return true;
+        }
+    }
+    false
+}
+
+/// Puts groups in the order of their numbers.
+pub fn sort_groups<A: Allocator>(groups: &mut Vec<GroupRate, A>)
+    ensures same { IsPermutation groups.old.items groups.new.items }
+    ensures sorted { IsNonDecreasingBy group_number groups.new.items }
+{
+    groups.sort_unstable_by_key(|row| row.group);
+}
+
+/// Puts users in the order of their numbers.
+pub fn sort_users<A: Allocator>(users: &mut Vec<UserRate, A>)
+    ensures same { IsPermutation users.old.items users.new.items }
+    ensures sorted { IsNonDecreasingBy user_number users.new.items }
+{
+    users.sort_unstable_by_key(|row| row.user);
+}
+
+/// Whether each group's number is above that of the one before it.
+pub fn groups_rise(groups: &[GroupRate]) -> bool
+    ensures rise { MatchBool result (IsRising group_number groups.now) (HasTie group_number groups.now) }
+{
+    for place in 1..groups.len() {
+        if groups[place].group <= groups[place - 1].group {
+            return false;
+        }
+    }
+    true
+}
+
+/// Whether each user's number is above that of the one before them.
+pub fn users_rise(users: &[UserRate]) -> bool
+    ensures rise { MatchBool result (IsRising user_number users.now) (HasTie user_number users.now) }
+{
+    for place in 1..users.len() {
+        if users[place].user <= users[place - 1].user {
+            return false;
+        }
+    }
+    true
+}
+
+/// The row of a group, by binary search.
+pub fn find_group(groups: &[GroupRate], group: u32) -> Option<GroupRate>
+    requires rising { IsRising group_number groups.now }
+    ensures row { result ≡ finite.get (by_number group_number groups.now) group }
+    ensures stands { IfSome result (Contains groups.now) }
+{
+    match groups.binary_search_by_key(&group, |row| row.group) {
+        Ok(place) => Some(groups[place]),
+        Err(_) => None,
+    }
+}
+
+/// The row of a user, by binary search.
+pub fn find_user(users: &[UserRate], user: u32) -> Option<UserRate>
+    requires rising { IsRising user_number users.now }
+    ensures row { result ≡ finite.get (by_number user_number users.now) user }
+    ensures stands { IfSome result (Contains users.now) }
+{
+    match users.binary_search_by_key(&user, |row| row.user) {
+        Ok(place) => Some(users[place]),
+        Err(_) => None,
+    }
+}
+
+fn is_stray(groups: &[GroupRate], group: Option<u32>) -> bool
+    requires rising { IsRising group_number groups.now }
+    ensures stray { result ≡ has_no_row groups.now group }
+{
+    match group {
+        None => false,
+        Some(group) => match find_group(groups, group) {
+            Some(_) => false,
+            None => true,
+        },
+    }
+}
+
+/// Whether some user is in a group that has no row.
+pub fn has_stray_user(groups: &[GroupRate], users: &[UserRate]) -> bool
+    requires rising { IsRising group_number groups.now }
+    ensures stray { result ≡ has_stray_user groups.now users.now }
+{
+    for row in users {
+        if is_stray(groups, row.group) {
+            return true;
+        }
+    }
+    false
+}

@@ -1,0 +1,4 @@
+pub mod BitLemmas
+pub mod PortLemmas
+pub mod CountLemmas
+pub mod ConnectionLemmas

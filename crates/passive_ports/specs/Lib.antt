@@ -1,0 +1,4 @@
+pub mod Bits
+pub mod Ports
+pub mod Connections
+pub mod Refusals

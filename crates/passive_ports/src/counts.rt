@@ -1,0 +1,43 @@
+//! How many connections each address has.
+
+ghost use Rattle.std.specs.Prelude.{◌≡◌, ◌-◌, ◌<◌, OnOk, OnErr};
+ghost use Rattle.std.specs.BTreeMap.{IsUnchanged};
+ghost use Rattle.passive_ports.specs.Connections.{count_in, SetsCount};
+
+use std::alloc::{AllocError, Allocator};
+use std::collections::BTreeMap;
+
+/// The addresses that have a connection, each with how many it has.
+pub type Counts<A> = BTreeMap<[u8; 4], usize, A>;
+
+pub fn count_in<A: Allocator>(counts: &Counts<A>, address: [u8; 4]) -> usize
+    ensures count { result ≡ count_in counts.now address }
+{
+    counts.get(&address).copied().unwrap_or(0)
+}
+
+/// Sets a count that is not 0.
+pub fn set_count<A: Allocator + Clone>(
+    counts: &mut Counts<A>,
+    address: [u8; 4],
+    count: usize,
+) -> Result<(), AllocError>
+    requires { 0 < count }
+    ensures set { OnOk result (SetsCount counts.old counts.new address count) }
+    ensures unchanged { OnErr result (IsUnchanged counts.old counts.new) }
+{
+    counts.insert(address, count)?;
+    Ok(())
+}
+
+/// Takes one from the count of an address.
+pub fn count_down<A: Allocator>(counts: &mut Counts<A>, address: [u8; 4])
+    ensures down { SetsCount counts.old counts.new address (count_in counts.old address - 1) }
+{
+    let rest = count_in(counts, address).saturating_sub(1);
+    if rest == 0 {
+        counts.remove(&address);
+    } else if let Some(count) = counts.get_mut(&address) {
+        *count = rest;
+    }
+}

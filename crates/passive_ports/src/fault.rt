@@ -1,0 +1,47 @@
+//! Why a call is refused.
+
+use std::alloc::AllocError;
+use thiserror::Error;
+
+/// Why a pool of ports cannot be made. They are looked for in this order.
+#[derive(Clone, Copy, Debug, PartialEq, Eq, Error)]
+pub enum PoolFault {
+    /// The first port is above the last, or 0.
+    #[error("a range without a port")]
+    EmptyRange,
+    #[error("out of memory")]
+    Memory,
+}
+
+impl From<AllocError> for PoolFault {
+    ghost use Rattle.std.specs.Prelude.{◌≡◌};
+    ghost use Rattle.passive_ports.specs.declared.fault.PoolFault.TheVariants.{Memory};
+
+    ghost from_gives = { λ _ fault. fault ≡ Memory };
+
+    fn from(_error: AllocError) -> PoolFault {
+        PoolFault::Memory
+    }
+}
+
+/// Why a connection is not admitted. They are looked for in this order.
+#[derive(Clone, Copy, Debug, PartialEq, Eq, Error)]
+pub enum AdmitFault {
+    #[error("too many connections")]
+    TooMany,
+    #[error("too many connections of one address")]
+    TooManyOfAddress,
+    #[error("out of memory")]
+    Memory,
+}
+
+impl From<AllocError> for AdmitFault {
+    ghost use Rattle.std.specs.Prelude.{◌≡◌};
+    ghost use Rattle.passive_ports.specs.declared.fault.AdmitFault.TheVariants.{Memory};
+
+    ghost from_gives = { λ _ fault. fault ≡ Memory };
+
+    fn from(_error: AllocError) -> AdmitFault {
+        AdmitFault::Memory
+    }
+}

@@ -1,0 +1,108 @@
+//! The connections that a server has admitted, within its limits.
+
+ghost use Rattle.std.specs.Prelude.{◌≡◌, false, IfOk, OnErr};
+ghost use Rattle.std.specs.FinMap as map;
+ghost use Rattle.passive_ports.specs.Connections.{none_admitted, count_of, IsWithinLimits, reaches, limit_fault, Admits, without};
+ghost use Rattle.passive_ports.specs.Refusals.{RefusedFor};
+
+use crate::counts::{Counts, count_down, count_in, set_count};
+use crate::fault::AdmitFault;
+use slab::Slab;
+use std::alloc::{AllocError, Allocator, Global};
+use std::collections::BTreeMap;
+use std::marker::Model;
+
+/// Connections by their keys, at most so many in all and so many of one IPv4 address.
+#[derive(Drop)]
+pub struct Registry<A: Allocator = Global> {
+    max: usize,
+    // 0: no limit
+    max_of_address: usize,
+    addresses: Slab<[u8; 4], A>,
+    counts: Counts<A>,
+}
+
+impl<A: Allocator> Model for Registry<A> {
+    ghost use Rattle.passive_ports.specs.Connections.{Admitted, admitted_code, kept_admitted, IsRegistry};
+
+    ghost Value = { Admitted };
+
+    ghost coded = { admitted_code };
+
+    ghost view = { λ inside. kept_admitted inside.max inside.max_of_address inside.addresses };
+
+    ghost invariant = { λ inside. IsRegistry inside.max inside.max_of_address inside.addresses inside.counts };
+}
+
+impl<A: Allocator + Clone> Registry<A> {
+    /// No connection yet, and at most `max` at a time, `max_of_address` of them from one address. For the second, 0
+    /// sets no limit; for the first, it admits none.
+    pub fn new(alloc: A, max: usize, max_of_address: usize) -> Result<Registry<A>, AllocError>
+        ensures none { IfOk result (λ admitted. admitted ≡ none_admitted max max_of_address) }
+    {
+        let addresses = Slab::new(alloc.clone()?);
+        Ok(Registry {
+            max,
+            max_of_address,
+            addresses,
+            counts: BTreeMap::new(alloc),
+        })
+    }
+
+    /// Admits a connection of an address, and answers its key, which no other connection has until this one leaves.
+    pub fn admit(&mut self, address: [u8; 4]) -> Result<usize, AdmitFault>
+        ensures admitted { IfOk result (Admits self.old self.new address) }
+        ensures refused { RefusedFor AdmitFault.Memory (limit_fault self.old address) result }
+        ensures unchanged { OnErr result (self.new ≡ self.old) }
+    {
+        if self.addresses.len() >= self.max {
+            return Err(AdmitFault::TooMany);
+        }
+        let count = count_in(&self.counts, address);
+        if reaches(count, self.max_of_address) {
+            return Err(AdmitFault::TooManyOfAddress);
+        }
+        self.addresses.reserve(1)?;
+        set_count(&mut self.counts, address, count + 1)?;
+        Ok(self.addresses.insert_reserved(address))
+    }
+}
+
+impl<A: Allocator> Registry<A> {
+    /// Removes a connection, and answers whether it was there. Takes no memory.
+    pub fn leave(&mut self, key: usize) -> bool
+        ensures was_there { result ≡ map.contains_key self.old.connections key }
+        ensures removed { self.new ≡ without self.old key }
+        ensures unchanged { result ≡ false → self.new ≡ self.old }
+    {
+        match self.addresses.try_remove(key) {
+            Some(address) => {
+                count_down(&mut self.counts, address);
+                true
+            }
+            None => false,
+        }
+    }
+
+    /// How many connections there are.
+    pub fn count(&self) -> usize
+        ensures count { result ≡ map.len self.now.connections }
+        ensures within { IsWithinLimits self.now }
+    {
+        self.addresses.len()
+    }
+
+    /// How many connections come from an address.
+    pub fn count_of_address(&self, address: [u8; 4]) -> usize
+        ensures count { result ≡ count_of self.now.connections address }
+    {
+        count_in(&self.counts, address)
+    }
+}
+
+/// Whether a count is as high as a limit, where 0 sets no limit.
+fn reaches(count: usize, limit: usize) -> bool
+    ensures { result ≡ reaches count limit }
+{
+    limit != 0 && count >= limit
+}

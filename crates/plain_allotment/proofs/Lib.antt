@@ -1,0 +1,4 @@
+mod Rooms
+mod Turns
+mod Steps
+mod Runs

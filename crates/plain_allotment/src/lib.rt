@@ -1,0 +1,7 @@
+//! The plain allotment: the rule of sharing, octet by octet, as a slow program. Tests compare the allotment by levels
+//! with it; each octet takes O(leaves * nodes * depth) time.
+#![tactic(auto)]
+
+mod plain;
+
+pub use plain::{allot_plainly, runs_end_alike};

@@ -1,0 +1,137 @@
+//! Each growth of each call refused in turn: nothing has changed, and the call passes once there is memory.
+
+use linked_list_allocator::LocalHeap;
+use passive_ports::{AdmitFault, PoolFault, PortPool, Registry};
+use std::process::Abort;
+use std::test::Fail;
+
+/// Takes all that a heap has left, in pieces.
+fn take_rest<'h>(
+    rt: &impl AllocGlobal,
+    heap: &'h LocalHeap,
+) -> Result<Vec<Vec<u8, &'h LocalHeap>>, Fail> {
+    let mut pieces = Vec::new(rt.alloc());
+    for size in [4096, 512, 64, 8] {
+        for _ in 0..64 {
+            match Vec::with_capacity(heap, size) {
+                Ok(piece) => pieces.push(piece)?,
+                Err(_) => break,
+            }
+        }
+    }
+    Ok(pieces)
+}
+
+/// Makes a pool of 65,535 ports in a heap that has only so much room, and answers whether memory was refused.
+fn is_pool_refused(rt: &(impl Abort + AllocGlobal), room: usize) -> Result<bool, Fail> {
+    let heap = LocalHeap::new(rt.alloc(), 16384)?;
+    let hole = Vec::<u8, &LocalHeap>::with_capacity(&heap, room)?;
+    let rest = take_rest(rt, &heap)?;
+    drop(hole);
+    let fault = PortPool::new(&heap, 1, 65535).err();
+    drop(rest);
+    assert!(rt; fault.is_none() || fault == Some(PoolFault::Memory));
+    assert!(rt; PortPool::new(&heap, 1, 65535).is_ok());
+    Ok(fault.is_some())
+}
+
+#[test]
+fn each_growth_of_a_pool(rt: HostRuntime) -> Result<(), Fail> {
+    let mut refused = 0u32;
+    for step in 0..600u32 {
+        if is_pool_refused(&rt, 16 * step as usize)? {
+            refused = refused.saturating_add(1);
+        }
+    }
+    assert!(rt; 0 < refused && refused < 600);
+    Ok(())
+}
+
+#[test]
+fn an_empty_range_takes_no_memory(rt: HostRuntime) -> Result<(), Fail> {
+    let heap = LocalHeap::new(rt.alloc(), 4096)?;
+    let _rest = take_rest(&rt, &heap)?;
+    assert_eq!(rt;
+        PortPool::new(&heap, 2, 1).err(),
+        Some(PoolFault::EmptyRange)
+    );
+    assert_eq!(rt; PortPool::new(&heap, 1, 2).err(), Some(PoolFault::Memory));
+    Ok(())
+}
+
+#[test]
+fn leases_take_no_memory(rt: HostRuntime) -> Result<(), Fail> {
+    let heap = LocalHeap::new(rt.alloc(), 4096)?;
+    let mut pool = PortPool::new(&heap, 1, 100)?;
+    let _rest = take_rest(&rt, &heap)?;
+    for port in 1..=100u16 {
+        assert_eq!(rt; pool.lease(), Some(port));
+    }
+    assert_eq!(rt; pool.lease(), None);
+    assert!(rt; pool.give_back(64));
+    assert_eq!(rt; pool.lease(), Some(64));
+    Ok(())
+}
+
+/// So many connections, each from an address of its own.
+fn filled(heap: &LocalHeap, count: u8) -> Result<Registry<&LocalHeap>, Fail> {
+    let mut registry = Registry::new(heap, 1000, 0)?;
+    for last in 0..count {
+        registry.admit([10, 0, 0, last])?;
+    }
+    Ok(registry)
+}
+
+/// Admits one more in a heap that has only so much room, and answers whether memory was refused.
+fn is_refused(rt: &(impl Abort + AllocGlobal), count: u8, room: usize) -> Result<bool, Fail> {
+    let heap = LocalHeap::new(rt.alloc(), 32768)?;
+    let mut registry = filled(&heap, count)?;
+    let hole = Vec::<u8, &LocalHeap>::with_capacity(&heap, room)?;
+    let rest = take_rest(rt, &heap)?;
+    drop(hole);
+    let answer = registry.admit([10, 0, 1, 0]);
+    drop(rest);
+    if answer.is_ok() {
+        assert!(rt; registry.count_of_address([10, 0, 1, 0]) == 1);
+        return Ok(false);
+    }
+    assert!(rt; answer == Err(AdmitFault::Memory));
+    assert!(rt; registry.count() == count as usize);
+    assert!(rt; registry.count_of_address([10, 0, 1, 0]) == 0);
+    assert!(rt; registry.admit([10, 0, 1, 0]).is_ok());
+    assert!(rt; registry.count_of_address([10, 0, 1, 0]) == 1);
+    Ok(true)
+}
+
+/// How many growths of an admission are refused before it passes.
+fn count_refused(rt: &(impl Abort + AllocGlobal), count: u8) -> Result<u32, Fail> {
+    for step in 0..512u32 {
+        if !is_refused(rt, count, 16 * step as usize)? {
+            return Ok(step);
+        }
+    }
+    Err(Fail::from("never enough memory"))
+}
+
+#[test]
+fn each_growth_of_an_admission(rt: HostRuntime) -> Result<(), Fail> {
+    assert!(rt; 0 < count_refused(&rt, 0)?);
+    let mut refused = 0u32;
+    for count in 1..40u8 {
+        refused = refused.saturating_add(count_refused(&rt, count)?);
+    }
+    assert!(rt; 0 < refused);
+    Ok(())
+}
+
+#[test]
+fn leaving_takes_no_memory(rt: HostRuntime) -> Result<(), Fail> {
+    let heap = LocalHeap::new(rt.alloc(), 32768)?;
+    let mut registry = filled(&heap, 40)?;
+    let _rest = take_rest(&rt, &heap)?;
+    for key in 0..40usize {
+        assert!(rt; registry.leave(key) && !registry.leave(key));
+    }
+    assert_eq!(rt; registry.count(), 0);
+    Ok(())
+}

@@ -1,0 +1,123 @@
+//! Each code that is known, without an argument and with one.
+
+use crate::told::told_of;
+use std::alloc::Global;
+use std::fmt::Write;
+use std::process::Abort;
+use std::test::Fail;
+
+/// A code, what it stands for alone, and what it stands for with the argument `x`.
+struct Row(&'static str, &'static str, &'static str);
+
+static BARE: [Row; 11] = [
+    Row("CDUP", "CDUP", "ArgumentUnwanted"),
+    Row("QUIT", "QUIT", "ArgumentUnwanted"),
+    Row("REIN", "REIN", "ArgumentUnwanted"),
+    Row("PASV", "PASV", "ArgumentUnwanted"),
+    Row("ABOR", "ABOR", "ArgumentUnwanted"),
+    Row("PWD", "PWD", "ArgumentUnwanted"),
+    Row("SYST", "SYST", "ArgumentUnwanted"),
+    Row("FEAT", "FEAT", "ArgumentUnwanted"),
+    Row("NOOP", "NOOP", "ArgumentUnwanted"),
+    Row("XCUP", "CDUP", "ArgumentUnwanted"),
+    Row("XPWD", "PWD", "ArgumentUnwanted"),
+];
+
+static TEXT: [Row; 15] = [
+    Row("USER", "ArgumentMissing", "USER x"),
+    Row("CWD", "ArgumentMissing", "CWD x"),
+    Row("RETR", "ArgumentMissing", "RETR x"),
+    Row("STOR", "ArgumentMissing", "STOR x"),
+    Row("APPE", "ArgumentMissing", "APPE x"),
+    Row("RNFR", "ArgumentMissing", "RNFR x"),
+    Row("RNTO", "ArgumentMissing", "RNTO x"),
+    Row("DELE", "ArgumentMissing", "DELE x"),
+    Row("RMD", "ArgumentMissing", "RMD x"),
+    Row("MKD", "ArgumentMissing", "MKD x"),
+    Row("SIZE", "ArgumentMissing", "SIZE x"),
+    Row("MDTM", "ArgumentMissing", "MDTM x"),
+    Row("XCWD", "ArgumentMissing", "CWD x"),
+    Row("XRMD", "ArgumentMissing", "RMD x"),
+    Row("XMKD", "ArgumentMissing", "MKD x"),
+];
+
+static OTHERS: [Row; 16] = [
+    Row("TYPE", "ArgumentMissing", "BadArgument"),
+    Row("MODE", "ArgumentMissing", "BadArgument"),
+    Row("STRU", "ArgumentMissing", "BadArgument"),
+    Row("PORT", "ArgumentMissing", "BadArgument"),
+    Row("EPRT", "ArgumentMissing", "BadArgument"),
+    Row("REST", "ArgumentMissing", "BadArgument"),
+    Row("OPTS", "ArgumentMissing", "BadArgument"),
+    Row("EPSV", "EPSV", "BadArgument"),
+    Row("PASS", "PASS", "PASS x"),
+    Row("ALLO", "ALLO", "ALLO x"),
+    Row("HELP", "HELP", "HELP x"),
+    Row("MLSD", "MLSD", "MLSD x"),
+    Row("MLST", "MLST", "MLST x"),
+    Row("LIST", "LIST", "LIST x"),
+    Row("NLST", "NLST", "NLST x"),
+    Row("STAT", "STAT", "STAT x"),
+];
+
+static NOT_SERVED: [Row; 15] = [
+    Row("ACCT", "NotServed", "NotServed"),
+    Row("SMNT", "NotServed", "NotServed"),
+    Row("STOU", "NotServed", "NotServed"),
+    Row("SITE", "NotServed", "NotServed"),
+    Row("LANG", "NotServed", "NotServed"),
+    Row("HOST", "NotServed", "NotServed"),
+    Row("AUTH", "NotServed", "NotServed"),
+    Row("ADAT", "NotServed", "NotServed"),
+    Row("PBSZ", "NotServed", "NotServed"),
+    Row("PROT", "NotServed", "NotServed"),
+    Row("CCC", "NotServed", "NotServed"),
+    Row("MIC", "NotServed", "NotServed"),
+    Row("CONF", "NotServed", "NotServed"),
+    Row("ENC", "NotServed", "NotServed"),
+    Row("MFMT", "NotServed", "NotServed"),
+];
+
+fn check_line(
+    rt: &impl Abort,
+    alloc: Global,
+    code: &str,
+    argument: &str,
+    item: &str,
+) -> Result<(), Fail> {
+    let mut line = String::new(alloc);
+    write!(line, "{code}{argument}\r\n")?;
+    let mut wanted = String::new(alloc);
+    write!(wanted, "{item}\r\n")?;
+    let found = told_of(alloc, line.as_bytes())?;
+    assert_eq!(rt; found.as_str(), wanted.as_str(), "{code}{argument}");
+    Ok(())
+}
+
+fn check_codes(rt: &impl Abort, alloc: Global, rows: &[Row]) -> Result<(), Fail> {
+    for row in rows {
+        check_line(rt, alloc, row.0, "", row.1)?;
+        check_line(rt, alloc, row.0, " x", row.2)?;
+    }
+    Ok(())
+}
+
+#[test]
+fn codes_without_argument(rt: HostRuntime) -> Result<(), Fail> {
+    check_codes(&rt, rt.alloc(), &BARE)
+}
+
+#[test]
+fn codes_with_a_text(rt: HostRuntime) -> Result<(), Fail> {
+    check_codes(&rt, rt.alloc(), &TEXT)
+}
+
+#[test]
+fn codes_with_another_argument(rt: HostRuntime) -> Result<(), Fail> {
+    check_codes(&rt, rt.alloc(), &OTHERS)
+}
+
+#[test]
+fn codes_that_are_not_served(rt: HostRuntime) -> Result<(), Fail> {
+    check_codes(&rt, rt.alloc(), &NOT_SERVED)
+}

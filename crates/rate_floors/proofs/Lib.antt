@@ -1,0 +1,3 @@
+mod FloorLemmas
+mod PlaceLemmas
+mod SumLemmas

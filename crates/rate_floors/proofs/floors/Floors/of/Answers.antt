@@ -1,0 +1,35 @@
+use Rattle.std.proofs.Common.{rules, arith, ◌≡◌, ◌+◌, ◌*◌, ◌<◌, ◌≤◌, ◌^◌, ◌∙◌, sym, ap, subst, refl, List, ℕ, Some, None, true, map}
+use Rattle.std.specs.List.{All}
+use Rattle.line_rates.specs.declared.row.GroupRate.{GroupRate}
+use Rattle.line_rates.specs.declared.row.UserRate.{UserRate}
+use Rattle.line_rates.specs.Rates.{Rates}
+use Rattle.line_rates.specs.Stated.{by_number, stated, group_number, user_number}
+use Rattle.rate_floors.specs.declared.find.GroupPromise.{GroupPromise}
+use Rattle.rate_floors.specs.declared.find.UserSessions.{UserSessions}
+use Rattle.rate_floors.specs.Promises.{Promises, group_row, user_row, no_session, no_promise, IsTold, IsInGroup, HasNone, IsAt, user_key, admits, has_counted, has_session, one_more, one_less, added, taken, changed}
+use Rattle.rate_floors.proofs.FloorLemmas.{is_after, group_room, group_none, group_some, told_none, same_limits, none_counted, unchanged, cond_same, cond_true, entry_key, entry_stands, changed_value, told_after, told_before, has_room, has_floors, line_floors}
+use Rattle.rate_floors.proofs.floors.Floors.of.Goals as goal
+
+same_of : (r : Rates) (server down up : ℕ) (gs : List GroupPromise) (us : List UserSessions) (groups : List GroupRate) (users : List UserRate) → server ≡ r.server → down ≡ r.down → up ≡ r.up
+    → gs ≡ map no_promise groups → us ≡ map no_session users → by_number group_number groups ≡ r.groups → by_number user_number users ≡ r.users → stated server down up (map group_row gs) (map user_row us) ≡ r
+same_of r server down up gs us groups users s d u g t a b =
+    ap (λ x. stated x down up (map group_row gs) (map user_row us)) s
+    ∙ ap (λ x. stated r.server x up (map group_row gs) (map user_row us)) d
+    ∙ ap (λ x. stated r.server r.down x (map group_row gs) (map user_row us)) u
+    ∙ ap (λ x. stated r.server r.down r.up (map group_row x) (map user_row us)) g
+    ∙ ap (λ x. stated r.server r.down r.up (map group_row (map no_promise groups)) (map user_row x)) t
+    ∙ same_limits r groups users a b
+
+pub invariant_of-result : goal.invariant_of-result
+invariant_of-result g c =
+    subst (λ (gs : List GroupPromise). IsTold 0 0 gs c.in_ok-users.users.items) (sym c.in_ok-groups.ensures.none)
+    (subst (λ (us : List UserSessions). IsTold 0 0 (map no_promise c.groups.result.now) us) (sym c.in_ok-users.ensures.none)
+    (told_none c.groups.result.now c.users.result.now c.groups.ensures.rising c.users.ensures.rising c.users.ensures.fit))
+
+pub returns-clause-rates : goal.returns-clause-rates
+returns-clause-rates g c =
+    same_of c.args.limits.now c.rate.result c.rate-2.result c.rate-3.result c.in_ok-groups.groups.items c.in_ok-users.users.items c.groups.result.now c.users.result.now
+    c.rate.ensures.rate c.rate-2.ensures.rate c.rate-3.ensures.rate c.in_ok-groups.ensures.none c.in_ok-users.ensures.none c.groups.ensures.rows c.users.ensures.rows
+
+pub returns-clause-none : goal.returns-clause-none
+returns-clause-none g c = subst (All (λ (entry : UserSessions). entry.sessions ≡ 0)) (sym c.in_ok-users.ensures.none) (none_counted c.users.result.now)

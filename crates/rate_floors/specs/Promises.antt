@@ -1,0 +1,173 @@
+-- What counted sessions are promised, and when one more still fits, in octets a second.
+use Rattle.std.specs.Prelude.{◌≡◌, ℕ, ◌+◌, ◌-◌, ◌*◌, ◌^◌, ◌<◌, ◌≤◌, Bool, true, false, ◌&&◌, ◌||◌, nat_eq, nat_le, nat_lt, if◌then◌else◌, List, map, sum_by, length, slice_index_or, Option, Some, None, refl}
+use Rattle.std.specs.Coded.{Coded, code_by, coded×, coded_ℕ, coded_list}
+use Rattle.std.specs.FinMap as finite
+use Rattle.std.specs.List.{All}
+use Rattle.std.specs.Ordering.{nat_cmp}
+use Rattle.line_rates.specs.declared.ask.Way.{Way}
+use Rattle.line_rates.specs.declared.ask.Way.TheVariants.{Down, Up}
+use Rattle.line_rates.specs.declared.row.GroupRate.{GroupRate}
+use Rattle.line_rates.specs.declared.row.UserRate.{UserRate}
+use Rattle.line_rates.specs.Names.{is_number}
+use Rattle.line_rates.specs.Rates.{Rates, way_of, group_rate, user_code, rates_code}
+use Rattle.line_rates.specs.Stated.{by_number, IsRising, FitsGroup, FitsUser}
+use Rattle.rate_floors.specs.declared.find.GroupPromise.{GroupPromise}
+use Rattle.rate_floors.specs.declared.find.UserSessions.{UserSessions}
+use Rattle.rate_floors.specs.declared.fits.TheConstants.{MAX_PROMISED}
+
+-- the rates, and each user that has a row with the number of their counted sessions
+pub record Promises : Type 0 where
+  pub rates : Rates
+  pub users : List UserSessions
+
+abbrev pub entry_code : Coded UserSessions
+entry_code = code_by (UserRate × ℕ) (coded× user_code coded_ℕ) (λ e. (e.row, e.sessions)) (λ p. record { row = p.0; sessions = p.1 }) (λ _. refl)
+
+abbrev pub promises_code : Coded Promises
+promises_code = code_by (Rates × List UserSessions) (coded× rates_code (coded_list entry_code)) (λ p. (p.rates, p.users)) (λ p. record { rates = p.0; users = p.1 }) (λ _. refl)
+
+abbrev pub user_key : UserSessions → ℕ
+user_key entry = entry.row.user
+
+abbrev pub user_row : UserSessions → UserRate
+user_row entry = entry.row
+
+abbrev pub group_key : GroupPromise → ℕ
+group_key entry = entry.row.group
+
+abbrev pub group_row : GroupPromise → GroupRate
+group_row entry = entry.row
+
+-- what each session of a user is guaranteed
+abbrev pub floor_in : UserRate → Way → ℕ
+floor_in row way = way_of row.session_down_floor row.session_up_floor way
+
+-- what a user's counted sessions are promised
+abbrev pub promised_user : Way → UserSessions → ℕ
+promised_user way entry = entry.sessions * floor_in entry.row way
+
+-- what all are promised
+abbrev pub promised : List UserSessions → Way → ℕ
+promised users way = sum_by (promised_user way) users
+
+-- what those of the users in a group are promised
+abbrev pub promised_group : List UserSessions → Way → ℕ → ℕ
+promised_group users way group = sum_by (λ entry. if is_number entry.row.group group then promised_user way entry else 0) users
+
+-- another number of counted sessions of a user
+abbrev pub with_sessions : (ℕ → ℕ) → ℕ → UserSessions → UserSessions
+with_sessions change user entry = if nat_eq (user_key entry) user then record { row = entry.row; sessions = change entry.sessions } else entry
+
+abbrev pub changed : (ℕ → ℕ) → Promises → ℕ → Promises
+changed change p user = record { rates = p.rates; users = map (with_sessions change user) p.users }
+
+abbrev pub one_more : ℕ → ℕ
+one_more sessions = sessions + 1
+
+abbrev pub one_less : ℕ → ℕ
+one_less sessions = sessions - 1
+
+-- one more session of a user is counted, and one less
+abbrev pub counted : Promises → ℕ → Promises
+counted = changed one_more
+
+abbrev pub released : Promises → ℕ → Promises
+released = changed one_less
+
+-- the user with their counted sessions, if they have a row
+abbrev pub user_of : Promises → ℕ → Option UserSessions
+user_of p user = finite.get (by_number user_key p.users) user
+
+-- a sum is within a rate, where a rate of 0 is no limit
+abbrev pub keeps : ℕ → ℕ → Bool
+keeps sum rate = nat_eq rate 0 || nat_le sum rate
+
+abbrev pub session_fits : UserRate → Bool
+session_fits row = keeps row.session_down_floor row.session_down && keeps row.session_up_floor row.session_up
+
+abbrev pub user_fits : UserRate → ℕ → Bool
+user_fits row sessions = keeps (sessions * row.session_down_floor) row.down && keeps (sessions * row.session_up_floor) row.up
+
+abbrev pub group_fits : Promises → Option ℕ → Bool
+group_fits p None = true
+group_fits p (Some group) =
+    keeps (promised_group p.users Down group) (group_rate (finite.get p.rates.groups group) Down) && keeps (promised_group p.users Up group) (group_rate (finite.get p.rates.groups group) Up)
+
+abbrev pub line_fits : Promises → Bool
+line_fits p = keeps (promised p.users Down) p.rates.down && keeps (promised p.users Up) p.rates.up && keeps (promised p.users Down + promised p.users Up) p.rates.server
+
+-- sums stay so small, and so many sessions can be one more
+abbrev pub is_small : Promises → ℕ → Bool
+is_small p sessions = nat_le (promised p.users Down + promised p.users Up) MAX_PROMISED && nat_lt sessions MAX_PROMISED
+
+-- What is promised to a user's counted sessions fits: within the rates of each session, of the user, of their group,
+-- of each way, and of the server, for which both ways are added.
+abbrev pub fits : Promises → Option UserSessions → Bool
+fits after None = true
+fits after (Some entry) = is_small after entry.sessions && (session_fits entry.row && user_fits entry.row (entry.sessions + 1) && group_fits after entry.row.group && line_fits after)
+
+-- one more session of a user fits; that of a user without a row always does
+abbrev pub admits : Promises → ℕ → Bool
+admits p user = fits (counted p user) (user_of p user)
+
+abbrev pub has_session : Option UserSessions → Bool
+has_session None = false
+has_session (Some entry) = nat_lt 0 entry.sessions
+
+-- a session of a user is counted
+abbrev pub has_counted : Promises → ℕ → Bool
+has_counted p user = has_session (user_of p user)
+
+abbrev pub no_session : UserRate → UserSessions
+no_session row = record { row = row; sessions = 0 }
+
+abbrev pub no_promise : GroupRate → GroupPromise
+no_promise row = record { row = row; down = 0; up = 0 }
+
+-- a number stands at a place
+abbrev pub IsAt : {X : Type 0} → (X → ℕ) → List X → ℕ → ℕ → Type 0
+IsAt {X} number rows q i = (i < length rows) × ((d : X) → finite.get (by_number number rows) q ≡ Some (slice_index_or rows i d)) × ((d : X) → number (slice_index_or rows i d) ≡ q)
+
+-- the group of a user gets and loses what one session of theirs is promised
+abbrev pub with_floors : (ℕ → ℕ → ℕ) → UserRate → GroupPromise → GroupPromise
+with_floors change row entry =
+    if is_number row.group (group_key entry) then record { row = entry.row; down = change entry.down row.session_down_floor; up = change entry.up row.session_up_floor } else entry
+
+abbrev pub added : ℕ → ℕ → ℕ
+added sum floor = sum + floor
+
+abbrev pub taken : ℕ → ℕ → ℕ
+taken sum floor = sum - floor
+
+abbrev pub HasNone : List GroupPromise → Option ℕ → Type 0
+HasNone groups None = Unit {0}
+HasNone groups (Some group) = finite.get (by_number group_key groups) group ≡ None
+
+abbrev pub IsInGroup : List GroupPromise → Option ℕ → ℕ → Type 0
+IsInGroup groups None i = ⊥
+IsInGroup groups (Some group) i = IsAt group_key groups group i
+
+-- the sums of a user's group, and what one more session of theirs is promised, fit into a number
+abbrev pub HasRoom : List GroupPromise → UserRate → Type 0
+HasRoom groups row = (i : ℕ) (d : GroupPromise) → i < length groups → is_number row.group (group_key (slice_index_or groups i d)) ≡ true
+    → ((slice_index_or groups i d).down + row.session_down_floor < 2 ^ 64) × ((slice_index_or groups i d).up + row.session_up_floor < 2 ^ 64)
+
+-- they have what one session of theirs is promised
+abbrev pub HasFloors : List GroupPromise → UserRate → Type 0
+HasFloors groups row = (i : ℕ) (d : GroupPromise) → i < length groups → is_number row.group (group_key (slice_index_or groups i d)) ≡ true
+    → (row.session_down_floor ≤ (slice_index_or groups i d).down) × (row.session_up_floor ≤ (slice_index_or groups i d).up)
+
+pub record IsPromised (users : List UserSessions) (entry : GroupPromise) : Type 0 where
+  pub down : entry.down ≡ promised_group users Down entry.row.group
+  pub up : entry.up ≡ promised_group users Up entry.row.group
+
+-- how the sums are kept
+pub record IsTold (down up : ℕ) (groups : List GroupPromise) (users : List UserSessions) : Type 0 where
+  pub down_told : down ≡ promised users Down
+  pub up_told : up ≡ promised users Up
+  pub small : down + up ≤ MAX_PROMISED
+  pub few : All (λ (entry : UserSessions). entry.sessions ≤ MAX_PROMISED) users
+  pub users_rise : IsRising user_key users
+  pub users_fit : All (λ (entry : UserSessions). FitsUser entry.row) users
+  pub groups_rise : IsRising group_key groups
+  pub groups_told : All (IsPromised users) groups

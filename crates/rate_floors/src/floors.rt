@@ -1,0 +1,198 @@
+//! The sessions that are counted, and what they are promised.
+
+ghost use Rattle.std.specs.Prelude.{◌≡◌, ◌+◌, ◌*◌, ◌<◌, ◌≤◌, ◌^◌, IsTrue, IfOk, Some, map, if◌then◌else◌};
+ghost use Rattle.std.specs.List.{All};
+ghost use Rattle.line_rates.specs.declared.ask.Way.TheVariants.{Down, Up};
+ghost use Rattle.rate_floors.specs.Promises.{no_session, no_promise, admits, counted, released, has_counted, user_of, user_key, promised, is_small, group_fits, line_fits};
+
+use crate::find::{GroupPromise, UserSessions, add, find_group, find_user, take};
+use crate::fits::{MAX_PROMISED, group_keeps, keeps, session_fits, user_fits};
+use line_rates::{GroupRate, Limits, Name, UserRate, Way};
+use std::alloc::{AllocError, Allocator, Global};
+use std::marker::Model;
+
+/// The sessions of each user that are counted, and the sums of what they are promised.
+#[derive(Drop)]
+pub struct Floors<A: Allocator = Global> {
+    server: u64,
+    down: u64,
+    up: u64,
+    promised_down: u64,
+    promised_up: u64,
+    // in the order of their numbers
+    groups: Vec<GroupPromise, A>,
+    users: Vec<UserSessions, A>,
+}
+
+impl<A: Allocator> Model for Floors<A> {
+    ghost use Rattle.std.specs.Prelude.{map};
+    ghost use Rattle.line_rates.specs.Stated.{stated};
+    ghost use Rattle.rate_floors.specs.Promises.{Promises, promises_code, group_row, user_row, IsTold};
+
+    ghost Value = { Promises };
+
+    ghost coded = { promises_code };
+
+    ghost view = { λ f. record { rates = stated f.server f.down f.up (map group_row f.groups.items) (map user_row f.users.items); users = f.users.items } };
+
+    ghost invariant = { λ f. IsTold f.promised_down f.promised_up f.groups.items f.users.items };
+}
+
+fn no_sessions<A: Allocator>(
+    alloc: A,
+    rows: &[UserRate],
+) -> Result<Vec<UserSessions, A>, AllocError>
+    ensures none { IfOk result (λ users. users.items ≡ map no_session rows.now) }
+{
+    let mut users = Vec::new(alloc);
+    for row in rows {
+        users.push(UserSessions {
+            row: *row,
+            sessions: 0,
+        })?;
+    }
+    Ok(users)
+}
+
+fn no_promises<A: Allocator>(
+    alloc: A,
+    rows: &[GroupRate],
+) -> Result<Vec<GroupPromise, A>, AllocError>
+    ensures none { IfOk result (λ groups. groups.items ≡ map no_promise rows.now) }
+{
+    let mut groups = Vec::new(alloc);
+    for row in rows {
+        groups.push(GroupPromise {
+            row: *row,
+            down: 0,
+            up: 0,
+        })?;
+    }
+    Ok(groups)
+}
+
+impl<A: Allocator + Clone> Floors<A> {
+    /// The guarantees of limits, with no session counted.
+    pub fn of<L: Allocator>(alloc: A, limits: &Limits<L>) -> Result<Floors<A>, AllocError>
+        ensures rates { IfOk result (λ f. f.rates ≡ limits.now) }
+        ensures none { IfOk result (λ f. All (λ (entry : UserSessions). entry.sessions ≡ 0) f.users) }
+    {
+        let users = no_sessions(alloc.clone()?, limits.users())?;
+        let groups = no_promises(alloc, limits.groups())?;
+        Ok(Floors {
+            server: limits.rate(Name::Server),
+            down: limits.rate(Name::Direction(Way::Down)),
+            up: limits.rate(Name::Direction(Way::Up)),
+            promised_down: 0,
+            promised_up: 0,
+            groups,
+            users,
+        })
+    }
+}
+
+impl<A: Allocator> Floors<A> {
+    // What all counted sessions are promised with one more of a user.
+    fn line_after(&self, entry: UserSessions) -> (u64, u64)
+        requires stands { user_of self.now (user_key entry) ≡ Some entry }
+        ensures down { result.0 ≡ promised (counted self.now (user_key entry)).users Down }
+        ensures up { result.1 ≡ promised (counted self.now (user_key entry)).users Up }
+        ensures room { result.0 + result.1 < 2 ^ 64 }
+        ensures user_down { (entry.sessions + 1) * entry.row.session_down_floor ≤ result.0 }
+        ensures user_up { (entry.sessions + 1) * entry.row.session_up_floor ≤ result.1 }
+    {
+        let down = self.promised_down + entry.row.session_down_floor;
+        let up = self.promised_up + entry.row.session_up_floor;
+        (down, up)
+    }
+
+    // Whether sums and counts stay small with one more session of a user.
+    fn is_small(&self, entry: UserSessions) -> bool
+        requires stands { user_of self.now (user_key entry) ≡ Some entry }
+        ensures small { result ≡ is_small (counted self.now (user_key entry)) entry.sessions }
+        ensures user_down { IsTrue result → (entry.sessions + 1) * entry.row.session_down_floor ≤ MAX_PROMISED }
+        ensures user_up { IsTrue result → (entry.sessions + 1) * entry.row.session_up_floor ≤ MAX_PROMISED }
+        ensures room { IsTrue result → entry.sessions < MAX_PROMISED }
+    {
+        let (down, up) = self.line_after(entry);
+        down + up <= MAX_PROMISED && entry.sessions < MAX_PROMISED
+    }
+
+    // Whether one more session of a user is within the rates of the ways and of the server.
+    fn line_fits(&self, entry: UserSessions) -> bool
+        requires stands { user_of self.now (user_key entry) ≡ Some entry }
+        ensures fits { result ≡ line_fits (counted self.now (user_key entry)) }
+    {
+        let (down, up) = self.line_after(entry);
+        keeps(down, self.down) && keeps(up, self.up) && keeps(down + up, self.server)
+    }
+
+    // Whether it is within the rates of the user's group.
+    fn group_fits(&self, entry: UserSessions) -> bool
+        requires stands { user_of self.now (user_key entry) ≡ Some entry }
+        ensures fits { result ≡ group_fits (counted self.now (user_key entry)) entry.row.group }
+    {
+        match find_group(&self.groups, entry.row.group) {
+            None => true,
+            Some(at) => group_keeps(self.groups[at], entry.row),
+        }
+    }
+
+    // Whether one more session of a user fits.
+    fn fits(&self, entry: UserSessions) -> bool
+        requires stands { user_of self.now (user_key entry) ≡ Some entry }
+        ensures fits { result ≡ admits self.now (user_key entry) }
+    {
+        self.is_small(entry)
+            && (session_fits(entry.row)
+                && user_fits(entry.row, entry.sessions + 1)
+                && self.group_fits(entry)
+                && self.line_fits(entry))
+    }
+
+    /// Counts one more session of a user where what all counted sessions are promised then fits within the rates of each
+    /// session, of the user, of their group, of each way and of the server, and else answers that it does not. A user
+    /// without a row is always admitted, and not counted.
+    pub fn admit(&mut self, user: u32) -> bool
+        ensures admits { result ≡ admits self.old user }
+        ensures counted { self.new ≡ (if admits self.old user then counted self.old user else self.old) }
+    {
+        let Some(place) = find_user(&self.users, user) else {
+            return true;
+        };
+        let entry = self.users[place];
+        if !self.fits(entry) {
+            return false;
+        }
+        add(&mut self.groups, entry.row);
+        self.promised_down += entry.row.session_down_floor;
+        self.promised_up += entry.row.session_up_floor;
+        self.users[place] = UserSessions {
+            row: entry.row,
+            sessions: entry.sessions + 1,
+        };
+        true
+    }
+
+    /// Takes a session of a user back, if one is counted, and else answers that none is.
+    pub fn release(&mut self, user: u32) -> bool
+        ensures has { result ≡ has_counted self.old user }
+        ensures released { self.new ≡ (if has_counted self.old user then released self.old user else self.old) }
+    {
+        let Some(place) = find_user(&self.users, user) else {
+            return false;
+        };
+        let entry = self.users[place];
+        if entry.sessions == 0 {
+            return false;
+        }
+        take(&mut self.groups, entry.row);
+        self.promised_down -= entry.row.session_down_floor;
+        self.promised_up -= entry.row.session_up_floor;
+        self.users[place] = UserSessions {
+            row: entry.row,
+            sessions: entry.sessions - 1,
+        };
+        true
+    }
+}

@@ -1,0 +1,14 @@
+//! Guaranteed rates: whether one more session's guarantee still fits.
+//!
+//! `Floors::of` starts from the limits that an administrator states, with no session counted. `admit` counts one more
+//! session of a user where what is then guaranteed fits within all rates above it, and else refuses it; `release` takes one
+//! back. Neither takes memory, and each costs two binary searches and a few sums.
+#![tactic(auto)]
+
+mod find;
+mod fits;
+mod floors;
+
+pub use find::{GroupPromise, UserSessions};
+pub use fits::MAX_PROMISED;
+pub use floors::Floors;

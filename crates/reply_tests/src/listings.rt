@@ -1,0 +1,163 @@
+//! Lines of listings, entries, moments and quoted paths.
+
+use ftp_reply::{list_line, listings_have_one_text, mdtm_line, mdtm_text, mlst_entry, quoted_path};
+use ftp_terms::{Facts, Kind, LATEST, Letters, Meta};
+use std::test::Fail;
+
+/// 2000-02-29 12:34:56.
+const LEAP_DAY: u64 = 951_827_696;
+
+const MOMENTS: [(u64, &[u8; 14]); 3] = [
+    (LEAP_DAY, b"20000229123456"),
+    (0, b"19700101000000"),
+    (LATEST, b"99991231235959"),
+];
+
+#[test]
+fn moments_are_civil_dates(rt: HostRuntime) -> Result<(), Fail> {
+    for (seconds, text) in MOMENTS {
+        assert!(rt; seconds <= LATEST);
+        assert!(rt; mdtm_text(seconds) == *text, "at {seconds}");
+        let line = mdtm_line(rt.alloc(), seconds)?;
+        assert_eq!(rt; line.as_str().as_bytes(), text.as_slice());
+    }
+    listings_have_one_text();
+    Ok(())
+}
+
+#[test]
+fn later_moments_are_told_as_the_latest(rt: HostRuntime) {
+    let meta = Meta::new(Kind::File, 3, LATEST + 1);
+    assert_eq!(rt; meta.modified, LATEST);
+    assert!(rt; meta == Meta::new(Kind::File, 3, u64::MAX));
+    assert!(rt; meta != Meta::new(Kind::Directory, 3, LATEST));
+}
+
+const LISTED: [(Kind, u64, u64, &str); 4] = [
+    (
+        Kind::File,
+        120,
+        LEAP_DAY,
+        "-rw-r--r-- 1 ftp ftp          120 Feb 29  2000 x",
+    ),
+    (
+        Kind::Directory,
+        120,
+        0,
+        "drwxr-xr-x 1 ftp ftp            0 Jan  1  1970 x",
+    ),
+    (
+        Kind::File,
+        1_234_567_890_123,
+        LATEST,
+        "-rw-r--r-- 1 ftp ftp 1234567890123 Dec 31  9999 x",
+    ),
+    (
+        Kind::File,
+        u64::MAX,
+        0,
+        "-rw-r--r-- 1 ftp ftp 18446744073709551615 Jan  1  1970 x",
+    ),
+];
+
+#[test]
+fn list_lines(rt: HostRuntime) -> Result<(), Fail> {
+    for (kind, size, seconds, wanted) in LISTED {
+        let line = list_line(rt.alloc(), &Meta::new(kind, size, seconds), "x")?;
+        assert_eq!(rt; line.as_str(), wanted);
+    }
+    Ok(())
+}
+
+const SIZE_ALONE: Facts = Facts {
+    kind: false,
+    size: true,
+    modify: false,
+    perm: false,
+};
+
+const READS: Letters = Letters {
+    change_directory: false,
+    listing: false,
+    retrieve: true,
+    append_to: false,
+    delete: false,
+    rename: false,
+    make_directory: false,
+    store: false,
+};
+
+const FILES: [(Facts, Letters, &str); 5] = [
+    (
+        Facts::ALL,
+        READS,
+        "type=file;size=3;modify=20000229123456;perm=r; /f",
+    ),
+    (
+        Facts::ALL,
+        Letters::ALL,
+        "type=file;size=3;modify=20000229123456;perm=adfrw; /f",
+    ),
+    (
+        Facts::ALL,
+        Letters::NONE,
+        "type=file;size=3;modify=20000229123456;perm=; /f",
+    ),
+    (SIZE_ALONE, Letters::ALL, "size=3; /f"),
+    (Facts::NONE, Letters::ALL, " /f"),
+];
+
+#[test]
+fn entries_of_files(rt: HostRuntime) -> Result<(), Fail> {
+    let meta = Meta::new(Kind::File, 3, LEAP_DAY);
+    for (facts, letters, wanted) in FILES {
+        let entry = mlst_entry(rt.alloc(), &meta, facts, letters, "/f")?;
+        assert_eq!(rt; entry.as_str(), wanted);
+    }
+    Ok(())
+}
+
+const FOLDERS: [(Facts, Letters, &str); 4] = [
+    (
+        Facts::ALL,
+        Letters::ALL,
+        "type=dir;modify=19700101000000;perm=cdeflmp; /",
+    ),
+    (
+        Facts::ALL,
+        Letters::NONE,
+        "type=dir;modify=19700101000000;perm=; /",
+    ),
+    (SIZE_ALONE, Letters::NONE, " /"),
+    (Facts::NONE, Letters::NONE, " /"),
+];
+
+#[test]
+fn entries_of_folders(rt: HostRuntime) -> Result<(), Fail> {
+    let meta = Meta::new(Kind::Directory, 0, 0);
+    for (facts, letters, wanted) in FOLDERS {
+        let entry = mlst_entry(rt.alloc(), &meta, facts, letters, "/")?;
+        assert_eq!(rt; entry.as_str(), wanted);
+    }
+    Ok(())
+}
+
+#[test]
+fn longest_size_in_an_entry(rt: HostRuntime) -> Result<(), Fail> {
+    let meta = Meta::new(Kind::File, u64::MAX, 0);
+    let entry = mlst_entry(rt.alloc(), &meta, SIZE_ALONE, Letters::NONE, "/f")?;
+    assert_eq!(rt; entry.as_str(), "size=18446744073709551615; /f");
+    Ok(())
+}
+
+#[test]
+fn paths_are_quoted(rt: HostRuntime) -> Result<(), Fail> {
+    let alloc = rt.alloc();
+    assert_eq!(rt; quoted_path(alloc, "/a\"b")?.as_str(), "\"/a\"\"b\"");
+    assert_eq!(rt; quoted_path(alloc, "/")?.as_str(), "\"/\"");
+    assert_eq!(rt;
+        quoted_path(alloc, "/\u{e9}\"\"")?.as_str(),
+        "\"/\u{e9}\"\"\"\"\""
+    );
+    Ok(())
+}

@@ -1,4 +1,0 @@
-use Rattle.round_allocator.proofs.tests.+any_tree.Given as goal
-
-abbrev pub decreases-any_tree : goal.decreases-any_tree
-decreases-any_tree l = l.levels

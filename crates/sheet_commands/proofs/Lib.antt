@@ -1,0 +1,6 @@
+mod Entries
+mod Reading
+mod Told
+mod Behind
+mod There
+mod Totals

@@ -1,0 +1,61 @@
+-- Faults that are told as those of a program.
+use Rattle.std.proofs.Common.{◌≡◌, ◌≢◌, Option, Some, None, Result, Ok, Err, IfErr, IsErrAnd, IsErrOf, refl, subst, sym}
+use Rattle.sheet_commands.specs.declared.fault.ProgramFault.{ProgramFault}
+use Rattle.share_text.specs.declared.fault.SheetFault.{SheetFault}
+use Rattle.share_text.specs.declared.fault.SheetFault.TheVariants.{BadLine, Twice, LeafHasKids, Tree, Memory}
+use Rattle.share_text.specs.declared.grants.GrantsFault.{GrantsFault}
+use Rattle.share_text.specs.declared.grants.GrantsFault.TheVariants.{BadLine as BadGrant, WrongPath, NoSuchNode, Memory as NoMemory}
+use Rattle.sheet_commands.specs.declared.fault.ProgramFault.TheVariants.{Sheet, Grants, Memory as OutOfMemory}
+use Rattle.sheet_commands.specs.Faults.{of_sheet, of_grants}
+
+-- a fault that is told as that of a sheet is that fault, and not want of memory
+pub sheet_told : (e fault : SheetFault) → of_sheet e ≡ Sheet fault → (e ≡ fault) × (e ≢ Memory)
+sheet_told (BadLine line) fault is = (cc, λ no. cc)
+sheet_told (Twice line) fault is = (cc, λ no. cc)
+sheet_told (LeafHasKids line) fault is = (cc, λ no. cc)
+sheet_told (Tree line f) fault is = (cc, λ no. cc)
+sheet_told Memory fault is = absurd (cc)
+
+-- a refusal that is told as one fault and bears another bears that one
+pub told_as : {T : Type 0} (r : Result T ProgramFault) (e fault : ProgramFault) → IsErrAnd r (λ f. f ≡ e) → IsErrOf r fault → e ≡ fault
+told_as (Ok value) e fault gives is = absurd (cc)
+told_as (Err f) e fault gives is = cc
+
+-- a fault that is told as that of a grants file is that fault, and not want of memory
+pub grants_told : (e fault : GrantsFault) → of_grants e ≡ Grants fault → (e ≡ fault) × (e ≢ NoMemory)
+grants_told (BadGrant line) fault is = (cc, λ no. cc)
+grants_told (WrongPath line) fault is = (cc, λ no. cc)
+grants_told (NoSuchNode line) fault is = (cc, λ no. cc)
+grants_told NoMemory fault is = absurd (cc)
+
+-- neither fault is told as the other
+pub sheet_is_no_grants : (e : SheetFault) (fault : GrantsFault) → of_sheet e ≡ Grants fault → ⊥
+sheet_is_no_grants (BadLine line) fault is = cc
+sheet_is_no_grants (Twice line) fault is = cc
+sheet_is_no_grants (LeafHasKids line) fault is = cc
+sheet_is_no_grants (Tree line f) fault is = cc
+sheet_is_no_grants Memory fault is = cc
+
+pub grants_are_no_sheet : (e : GrantsFault) (fault : SheetFault) → of_grants e ≡ Sheet fault → ⊥
+grants_are_no_sheet (BadGrant line) fault is = cc
+grants_are_no_sheet (WrongPath line) fault is = cc
+grants_are_no_sheet (NoSuchNode line) fault is = cc
+grants_are_no_sheet NoMemory fault is = cc
+
+-- what a refusal must be, the fault that it bears is
+pub if_err_of : {T : Type 0} (r : Result T ProgramFault) (fault : ProgramFault) (P : ProgramFault → Type 0) → IfErr r P → IsErrOf r fault → P fault
+if_err_of (Ok value) fault P p is = absurd (cc)
+if_err_of (Err f) fault P p is = let same : f ≡ fault = cc in subst P same p
+
+-- a sound sheet is refused only for want of memory
+pub sound_is_memory : (e : SheetFault) (judged : Option SheetFault) → (e ≢ Memory → judged ≡ Some e) → judged ≡ None → of_sheet e ≡ OutOfMemory
+sound_is_memory (BadLine line) judged told sound = let is = told (λ no. cc) in absurd (cc)
+sound_is_memory (Twice line) judged told sound = let is = told (λ no. cc) in absurd (cc)
+sound_is_memory (LeafHasKids line) judged told sound = let is = told (λ no. cc) in absurd (cc)
+sound_is_memory (Tree line f) judged told sound = let is = told (λ no. cc) in absurd (cc)
+sound_is_memory Memory judged told sound = refl
+
+-- a refusal that tells one fault is of its kind
+pub err_and : {T : Type 0} (r : Result T ProgramFault) (e : ProgramFault) (P : ProgramFault → Type 0) → IsErrAnd r (λ f. f ≡ e) → P e → IsErrAnd r P
+err_and (Ok value) e P gives p = absurd gives
+err_and (Err f) e P gives p = subst P (sym gives) p

@@ -1,0 +1,6 @@
+use Rattle.std.proofs.KnownBytes.{Keeps-refl, Keeps-trans}
+use Rattle.sheet_commands.proofs.Reading.{read_kept}
+use Rattle.sheet_commands.proofs.ends.read_through.Goals as goal
+
+pub reads-init : goal.reads-init
+reads-init g c = Keeps-refl _

@@ -1,0 +1,7 @@
+//! Tests of users, by the public calls of `authorizer` alone.
+#![tactic(auto)]
+
+#[cfg(test)]
+mod refused;
+#[cfg(test)]
+mod users;

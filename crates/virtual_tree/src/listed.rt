@@ -1,0 +1,17 @@
+//! What a listing tells.
+
+ghost use Rattle.std.specs.Prelude.{IsTrue, string_bytes};
+ghost use Rattle.ftp_terms.specs.Lines.{IsLine};
+ghost use Rattle.virtual_path.specs.Path.{is_name};
+
+use ftp_terms::Meta;
+use std::alloc::{Allocator, Global};
+
+/// An entry of a directory. Its name is one that a path may hold, so it stands on one line.
+#[derive(Debug, Drop)]
+pub struct Listed<A: Allocator = Global> {
+    pub name: String<A>,
+    pub meta: Meta,
+    pub ghost named: { IsTrue (is_name (string_bytes name)) },
+    pub ghost one_line: { IsLine (string_bytes name) },
+}

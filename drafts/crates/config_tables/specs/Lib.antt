@@ -1,0 +1,5 @@
+pub mod Rows
+pub mod Server
+pub mod Tables
+pub mod Users
+pub mod World

@@ -1,0 +1,165 @@
+//! The refusals of a line, in their order.
+
+ghost use Rattle.std.specs.Prelude.{◌≡◌, IfOk};
+ghost use Rattle.std.specs.String.{string_bytes};
+ghost use Rattle.ftp_wire.specs.Commands.{with_texts};
+ghost use Rattle.authorizer.specs.Users.{allowed};
+ghost use Rattle.session_table.specs.Judged.{at_once, at_place, first_refusal, home_of, judged, judged_at, located, stored_at};
+ghost use Rattle.virtual_path.specs.Path.{joined, resolved};
+
+use crate::commands::{asked, is_appe, is_rnto, needs_data, needs_login, needs_plain};
+use crate::place::Place;
+use crate::state::State;
+use authorizer::Authorizer;
+use ftp_terms::Letter;
+use ftp_wire::Command;
+use session_table::{Refusal, Stage};
+use std::alloc::{AllocError, Allocator};
+use virtual_path::{PathFault, VPath};
+
+/// The place of a user's path, from the user's home on.
+fn stored_at<A: Allocator + Clone>(
+    alloc: A,
+    home: &VPath<A>,
+    path: VPath<A>,
+) -> Result<Result<Place<A>, PathFault>, AllocError>
+    ensures place { IfOk result (λ found. found ≡ stored_at path (joined home.now path)) }
+{
+    match home.joined(alloc, &path) {
+        Ok(stored) => Ok(Ok(Place::new(path, stored))),
+        Err(PathFault::Memory) => Err(AllocError),
+        Err(fault) => Ok(Err(fault)),
+    }
+}
+
+/// The place of a user's path; the home of a user that was removed counts as the root.
+fn in_home<A: Allocator + Clone>(
+    alloc: A,
+    users: &Authorizer<A>,
+    name: &str,
+    path: VPath<A>,
+) -> Result<Result<Place<A>, PathFault>, AllocError>
+    ensures place { IfOk result (λ found.
+        found ≡ stored_at path (joined (home_of users.now.users name.now) path)) }
+{
+    match users.home(name) {
+        Some(home) => stored_at(alloc, home, path),
+        None => {
+            let root = VPath::root(alloc.clone()?);
+            stored_at(alloc, &root, path)
+        }
+    }
+}
+
+fn resolved<A: Allocator + Clone>(
+    alloc: A,
+    from: &VPath<A>,
+    text: &str,
+) -> Result<Result<VPath<A>, PathFault>, AllocError>
+    ensures path { IfOk result (λ found. found ≡ resolved from.now text.now) }
+{
+    match from.resolve(alloc, text) {
+        Ok(path) => Ok(Ok(path)),
+        Err(PathFault::Memory) => Err(AllocError),
+        Err(fault) => Ok(Err(fault)),
+    }
+}
+
+impl<A: Allocator + Clone> State<A> {
+    /// The place that a text names, from the current directory on.
+    fn located(
+        &self,
+        users: &Authorizer<A>,
+        text: &str,
+    ) -> Result<Result<Place<A>, PathFault>, AllocError>
+        ensures place { IfOk result (λ found. found ≡ located users.now.users self.now text.now) }
+    {
+        match resolved(self.alloc()?, self.cwd(), text)? {
+            Ok(path) => in_home(self.alloc()?, users, self.name(), path),
+            Err(fault) => Ok(Err(fault)),
+        }
+    }
+
+    /// What is refused before the path is looked at.
+    fn refused_at_once(&self, command: &Command<String<A>>) -> Option<Refusal>
+        ensures refusal { result
+            ≡ first_refusal (at_once self.now (with_texts string_bytes command.now)) }
+    {
+        if needs_login(command) && self.stage != Stage::Inside {
+            return Some(Refusal::LogInFirst);
+        }
+        if is_rnto(command) && self.source.is_none() {
+            return Some(Refusal::NoSource);
+        }
+        if is_appe(command) && self.offset > 0 {
+            return Some(Refusal::OffsetBeforeAppend);
+        }
+        if needs_plain(command) && self.only_extended {
+            return Some(Refusal::OnlyExtended);
+        }
+        None
+    }
+
+    /// What is refused at the place.
+    fn refused_at_place(
+        &self,
+        users: &Authorizer<A>,
+        command: &Command<String<A>>,
+        letter: Letter,
+        path: &VPath<A>,
+    ) -> Option<Refusal>
+        ensures refusal { result
+            ≡ first_refusal (at_place users.now.users self.now (with_texts string_bytes command.now) letter path.now) }
+    {
+        if !users.has_perm(self.name(), letter, path) {
+            return Some(Refusal::NotPermitted);
+        }
+        if needs_data(command) && !self.prepared {
+            return Some(Refusal::NothingPrepared);
+        }
+        None
+    }
+
+    fn judge_path(
+        &self,
+        users: &Authorizer<A>,
+        command: &Command<String<A>>,
+        letter: Letter,
+        text: &str,
+    ) -> Result<Result<Place<A>, Refusal>, AllocError>
+        ensures judged { IfOk result (λ found.
+            found
+            ≡ judged_at users.now.users self.now (with_texts string_bytes command.now) letter (located users.now.users self.now text.now)) }
+    {
+        match self.located(users, text)? {
+            Err(fault) => Ok(Err(Refusal::Path(fault))),
+            Ok(place) => match self.refused_at_place(users, command, letter, place.path()) {
+                Some(refusal) => Ok(Err(refusal)),
+                None => Ok(Ok(place)),
+            },
+        }
+    }
+
+    /// The first refusal that holds, or the place that the command names.
+    #[tactic(auto, unfolding(session_table::specs::Judged::judged))]
+    pub fn judge(
+        &self,
+        users: &Authorizer<A>,
+        command: &Command<String<A>>,
+    ) -> Result<Result<Place<A>, Refusal>, AllocError>
+        ensures judged { IfOk result (λ found.
+            found ≡ judged users.now.users self.now (with_texts string_bytes command.now)) }
+    {
+        if let Some(refusal) = self.refused_at_once(command) {
+            return Ok(Err(refusal));
+        }
+        match asked(command) {
+            Some((letter, text)) => self.judge_path(users, command, letter, text),
+            None => {
+                let root = VPath::root(self.alloc.clone()?);
+                let stored = VPath::root(self.alloc.clone()?);
+                Ok(Ok(Place::new(root, stored)))
+            }
+        }
+    }
+}

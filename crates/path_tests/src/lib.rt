@@ -1,0 +1,5 @@
+//! Tests of paths, by their public calls alone.
+#![tactic(auto)]
+
+#[cfg(test)]
+mod paths;

@@ -1,5 +1,6 @@
 //! Pools of ports: worked rows and the bounds of ranges.
 
+use crate::expect::{holds, same};
 use passive_ports::{PoolFault, PortPool};
 use std::alloc::{Allocator, Global};
 use std::process::Abort;
@@ -12,40 +13,43 @@ fn fault(alloc: Global, first: u16, last: u16) -> Option<PoolFault> {
 /// Leases as often as there are ports in a range, which come in ascending order.
 fn expect_leases<A: Allocator>(rt: &impl Abort, pool: &mut PortPool<A>, first: u16, last: u16) {
     for port in first..=last {
-        assert_eq!(rt; pool.lease(), Some(port));
+        same(rt, &pool.lease(), &Some(port));
     }
 }
 
 #[test]
 fn the_lowest_free_port_is_leased(rt: HostRuntime) -> Result<(), Fail> {
     let mut pool = PortPool::new(rt.alloc(), 40000, 40001)?;
-    assert_eq!(rt; pool.lease(), Some(40000));
-    assert_eq!(rt; pool.lease(), Some(40001));
-    assert_eq!(rt; pool.lease(), None);
-    assert!(rt; pool.give_back(40000));
-    assert!(rt; !pool.give_back(40000));
-    assert_eq!(rt; pool.lease(), Some(40000));
-    assert_eq!(rt; pool.lease(), None);
+    same(&rt, &pool.lease(), &Some(40000));
+    same(&rt, &pool.lease(), &Some(40001));
+    same(&rt, &pool.lease(), &None);
+    holds(&rt, pool.give_back(40000));
+    holds(&rt, !pool.give_back(40000));
+    same(&rt, &pool.lease(), &Some(40000));
+    same(&rt, &pool.lease(), &None);
     Ok(())
 }
 
 #[test]
 fn a_range_has_a_port(rt: HostRuntime) {
-    assert_eq!(rt; fault(rt.alloc(), 5, 4), Some(PoolFault::EmptyRange));
-    assert_eq!(rt; fault(rt.alloc(), 0, 4), Some(PoolFault::EmptyRange));
-    assert_eq!(rt; fault(rt.alloc(), 0, 0), Some(PoolFault::EmptyRange));
-    assert_eq!(rt; fault(rt.alloc(), 5, 5), None);
-    assert_eq!(rt; fault(rt.alloc(), 65535, 65535), None);
+    same(&rt, &fault(rt.alloc(), 5, 4), &Some(PoolFault::EmptyRange));
+    same(&rt, &fault(rt.alloc(), 0, 4), &Some(PoolFault::EmptyRange));
+    same(&rt, &fault(rt.alloc(), 0, 0), &Some(PoolFault::EmptyRange));
+    same(&rt, &fault(rt.alloc(), 5, 5), &None);
+    same(&rt, &fault(rt.alloc(), 65535, 65535), &None);
 }
 
 #[test]
 fn one_port_alone(rt: HostRuntime) -> Result<(), Fail> {
     let mut pool = PortPool::new(rt.alloc(), 65535, 65535)?;
-    assert!(rt; !pool.give_back(65535) && !pool.give_back(65534) && !pool.give_back(0));
-    assert_eq!(rt; pool.lease(), Some(65535));
-    assert_eq!(rt; pool.lease(), None);
-    assert!(rt; !pool.give_back(65534) && pool.give_back(65535));
-    assert_eq!(rt; pool.lease(), Some(65535));
+    holds(
+        &rt,
+        !pool.give_back(65535) && !pool.give_back(65534) && !pool.give_back(0),
+    );
+    same(&rt, &pool.lease(), &Some(65535));
+    same(&rt, &pool.lease(), &None);
+    holds(&rt, !pool.give_back(65534) && pool.give_back(65535));
+    same(&rt, &pool.lease(), &Some(65535));
     Ok(())
 }
 
@@ -53,15 +57,15 @@ fn one_port_alone(rt: HostRuntime) -> Result<(), Fail> {
 fn every_port_that_there_is(rt: HostRuntime) -> Result<(), Fail> {
     let mut pool = PortPool::new(rt.alloc(), 1, 65535)?;
     expect_leases(&rt, &mut pool, 1, 65535);
-    assert_eq!(rt; pool.lease(), None);
-    assert!(rt; !pool.give_back(0));
+    same(&rt, &pool.lease(), &None);
+    holds(&rt, !pool.give_back(0));
     for port in [65535, 4097, 4096, 65, 64, 1] {
-        assert!(rt; pool.give_back(port));
+        holds(&rt, pool.give_back(port));
     }
     for port in [1, 64, 65, 4096, 4097, 65535] {
-        assert_eq!(rt; pool.lease(), Some(port));
+        same(&rt, &pool.lease(), &Some(port));
     }
-    assert_eq!(rt; pool.lease(), None);
+    same(&rt, &pool.lease(), &None);
     Ok(())
 }
 
@@ -69,12 +73,12 @@ fn every_port_that_there_is(rt: HostRuntime) -> Result<(), Fail> {
 fn expect_each_again(rt: &impl Abort, alloc: Global, first: u16, last: u16) -> Result<(), Fail> {
     let mut pool = PortPool::new(alloc, first, last)?;
     expect_leases(rt, &mut pool, first, last);
-    assert_eq!(rt; pool.lease(), None);
+    same(rt, &pool.lease(), &None);
     for port in first..=last {
-        assert!(rt; pool.give_back(port) && !pool.give_back(port));
-        assert_eq!(rt; pool.lease(), Some(port));
+        holds(rt, pool.give_back(port) && !pool.give_back(port));
+        same(rt, &pool.lease(), &Some(port));
     }
-    assert_eq!(rt; pool.lease(), None);
+    same(rt, &pool.lease(), &None);
     Ok(())
 }
 

@@ -1,5 +1,6 @@
 //! Each growth of each call refused in turn: nothing has changed, and the call passes once there is memory.
 
+use crate::expect::{holds, same};
 use linked_list_allocator::LocalHeap;
 use passive_ports::{AdmitFault, PoolFault, PortPool, Registry};
 use std::process::Abort;
@@ -30,8 +31,8 @@ fn is_pool_refused(rt: &(impl Abort + AllocGlobal), room: usize) -> Result<bool,
     drop(hole);
     let fault = PortPool::new(&heap, 1, 65535).err();
     drop(rest);
-    assert!(rt; fault.is_none() || fault == Some(PoolFault::Memory));
-    assert!(rt; PortPool::new(&heap, 1, 65535).is_ok());
+    holds(rt, fault.is_none() || fault == Some(PoolFault::Memory));
+    holds(rt, PortPool::new(&heap, 1, 65535).is_ok());
     Ok(fault.is_some())
 }
 
@@ -43,7 +44,7 @@ fn each_growth_of_a_pool(rt: HostRuntime) -> Result<(), Fail> {
             refused = refused.saturating_add(1);
         }
     }
-    assert!(rt; 0 < refused && refused < 600);
+    holds(&rt, 0 < refused && refused < 600);
     Ok(())
 }
 
@@ -51,11 +52,16 @@ fn each_growth_of_a_pool(rt: HostRuntime) -> Result<(), Fail> {
 fn an_empty_range_takes_no_memory(rt: HostRuntime) -> Result<(), Fail> {
     let heap = LocalHeap::new(rt.alloc(), 4096)?;
     let _rest = take_rest(&rt, &heap)?;
-    assert_eq!(rt;
-        PortPool::new(&heap, 2, 1).err(),
-        Some(PoolFault::EmptyRange)
+    same(
+        &rt,
+        &PortPool::new(&heap, 2, 1).err(),
+        &Some(PoolFault::EmptyRange),
     );
-    assert_eq!(rt; PortPool::new(&heap, 1, 2).err(), Some(PoolFault::Memory));
+    same(
+        &rt,
+        &PortPool::new(&heap, 1, 2).err(),
+        &Some(PoolFault::Memory),
+    );
     Ok(())
 }
 
@@ -65,11 +71,11 @@ fn leases_take_no_memory(rt: HostRuntime) -> Result<(), Fail> {
     let mut pool = PortPool::new(&heap, 1, 100)?;
     let _rest = take_rest(&rt, &heap)?;
     for port in 1..=100u16 {
-        assert_eq!(rt; pool.lease(), Some(port));
+        same(&rt, &pool.lease(), &Some(port));
     }
-    assert_eq!(rt; pool.lease(), None);
-    assert!(rt; pool.give_back(64));
-    assert_eq!(rt; pool.lease(), Some(64));
+    same(&rt, &pool.lease(), &None);
+    holds(&rt, pool.give_back(64));
+    same(&rt, &pool.lease(), &Some(64));
     Ok(())
 }
 
@@ -92,14 +98,14 @@ fn is_refused(rt: &(impl Abort + AllocGlobal), count: u8, room: usize) -> Result
     let answer = registry.admit([10, 0, 1, 0]);
     drop(rest);
     if answer.is_ok() {
-        assert!(rt; registry.count_of_address([10, 0, 1, 0]) == 1);
+        holds(rt, registry.count_of_address([10, 0, 1, 0]) == 1);
         return Ok(false);
     }
-    assert!(rt; answer == Err(AdmitFault::Memory));
-    assert!(rt; registry.count() == count as usize);
-    assert!(rt; registry.count_of_address([10, 0, 1, 0]) == 0);
-    assert!(rt; registry.admit([10, 0, 1, 0]).is_ok());
-    assert!(rt; registry.count_of_address([10, 0, 1, 0]) == 1);
+    holds(rt, answer == Err(AdmitFault::Memory));
+    holds(rt, registry.count() == count as usize);
+    holds(rt, registry.count_of_address([10, 0, 1, 0]) == 0);
+    holds(rt, registry.admit([10, 0, 1, 0]).is_ok());
+    holds(rt, registry.count_of_address([10, 0, 1, 0]) == 1);
     Ok(true)
 }
 
@@ -115,12 +121,12 @@ fn count_refused(rt: &(impl Abort + AllocGlobal), count: u8) -> Result<u32, Fail
 
 #[test]
 fn each_growth_of_an_admission(rt: HostRuntime) -> Result<(), Fail> {
-    assert!(rt; 0 < count_refused(&rt, 0)?);
+    holds(&rt, 0 < count_refused(&rt, 0)?);
     let mut refused = 0u32;
     for count in 1..40u8 {
         refused = refused.saturating_add(count_refused(&rt, count)?);
     }
-    assert!(rt; 0 < refused);
+    holds(&rt, 0 < refused);
     Ok(())
 }
 
@@ -130,8 +136,8 @@ fn leaving_takes_no_memory(rt: HostRuntime) -> Result<(), Fail> {
     let mut registry = filled(&heap, 40)?;
     let _rest = take_rest(&rt, &heap)?;
     for key in 0..40usize {
-        assert!(rt; registry.leave(key) && !registry.leave(key));
+        holds(&rt, registry.leave(key) && !registry.leave(key));
     }
-    assert_eq!(rt; registry.count(), 0);
+    same(&rt, &registry.count(), &0);
     Ok(())
 }

@@ -1,5 +1,6 @@
 //! Registries of connections: worked rows, keys and counts.
 
+use crate::expect::{holds, same};
 use passive_ports::{AdmitFault, Registry};
 use std::alloc::Global;
 use std::test::Fail;
@@ -14,11 +15,14 @@ const C: [u8; 4] = [198, 51, 100, 1];
 fn limits_come_in_order(rt: HostRuntime) -> Result<(), Fail> {
     let mut registry = Registry::new(rt.alloc(), 2, 1)?;
     registry.admit(A)?;
-    assert_eq!(rt; registry.admit(A), Err(AdmitFault::TooManyOfAddress));
+    same(&rt, &registry.admit(A), &Err(AdmitFault::TooManyOfAddress));
     registry.admit(B)?;
-    assert_eq!(rt; registry.admit(C), Err(AdmitFault::TooMany));
-    assert_eq!(rt; registry.admit(A), Err(AdmitFault::TooMany));
-    assert!(rt; registry.count() == 2 && registry.count_of_address(C) == 0);
+    same(&rt, &registry.admit(C), &Err(AdmitFault::TooMany));
+    same(&rt, &registry.admit(A), &Err(AdmitFault::TooMany));
+    holds(
+        &rt,
+        registry.count() == 2 && registry.count_of_address(C) == 0,
+    );
     Ok(())
 }
 
@@ -38,21 +42,24 @@ fn admitted(registry: &mut Registry<Global>, address: [u8; 4]) -> Result<u32, Fa
 #[test]
 fn a_thousand_connections_at_once(rt: HostRuntime) -> Result<(), Fail> {
     let mut registry = Registry::new(rt.alloc(), 2, 2)?;
-    assert_eq!(rt; admitted(&mut registry, A)?, 2);
-    assert!(rt; registry.count() == 2 && registry.count_of_address(A) == 2);
+    same(&rt, &admitted(&mut registry, A)?, &2);
+    holds(
+        &rt,
+        registry.count() == 2 && registry.count_of_address(A) == 2,
+    );
     let mut many = Registry::new(rt.alloc(), 512, 0)?;
-    assert_eq!(rt; admitted(&mut many, A)?, 512);
-    assert!(rt; many.count() == 512 && many.count_of_address(A) == 512);
+    same(&rt, &admitted(&mut many, A)?, &512);
+    holds(&rt, many.count() == 512 && many.count_of_address(A) == 512);
     Ok(())
 }
 
 #[test]
 fn none_where_none_may_be(rt: HostRuntime) -> Result<(), Fail> {
     let mut registry = Registry::new(rt.alloc(), 0, 0)?;
-    assert_eq!(rt; registry.admit(A), Err(AdmitFault::TooMany));
-    assert!(rt; !registry.leave(0));
+    same(&rt, &registry.admit(A), &Err(AdmitFault::TooMany));
+    holds(&rt, !registry.leave(0));
     let mut open = Registry::new(rt.alloc(), usize::MAX, usize::MAX)?;
-    assert_eq!(rt; admitted(&mut open, A)?, 1000);
+    same(&rt, &admitted(&mut open, A)?, &1000);
     Ok(())
 }
 
@@ -62,9 +69,15 @@ fn a_key_is_of_one_connection(rt: HostRuntime) -> Result<(), Fail> {
     let first = registry.admit(A)?;
     let second = registry.admit(A)?;
     let third = registry.admit(B)?;
-    assert!(rt; first != second && first != third && second != third);
-    assert!(rt; registry.leave(first) && !registry.leave(first) && !registry.leave(7));
-    assert!(rt; registry.count_of_address(A) == 1 && registry.count_of_address(B) == 1);
+    holds(&rt, first != second && first != third && second != third);
+    holds(
+        &rt,
+        registry.leave(first) && !registry.leave(first) && !registry.leave(7),
+    );
+    holds(
+        &rt,
+        registry.count_of_address(A) == 1 && registry.count_of_address(B) == 1,
+    );
     Ok(())
 }
 
@@ -73,9 +86,12 @@ fn who_leaves_makes_room(rt: HostRuntime) -> Result<(), Fail> {
     let mut registry = Registry::new(rt.alloc(), 2, 1)?;
     let key = registry.admit(A)?;
     registry.admit(B)?;
-    assert!(rt; registry.leave(key) && registry.count_of_address(A) == 0);
+    holds(
+        &rt,
+        registry.leave(key) && registry.count_of_address(A) == 0,
+    );
     registry.admit(A)?;
-    assert_eq!(rt; registry.admit(C), Err(AdmitFault::TooMany));
-    assert_eq!(rt; registry.count(), 2);
+    same(&rt, &registry.admit(C), &Err(AdmitFault::TooMany));
+    same(&rt, &registry.count(), &2);
     Ok(())
 }

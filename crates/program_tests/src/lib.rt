@@ -5,6 +5,8 @@
 #[cfg(test)]
 mod ends;
 #[cfg(test)]
+mod expect;
+#[cfg(test)]
 mod program;
 #[cfg(test)]
 mod rows;

@@ -2,6 +2,7 @@
 ghost use Rattle.std.specs.Prelude.{◌≤◌};
 
 use super::ends::{FailingReader, FailingWriter};
+use crate::expect::holds;
 use grant_certificate::Verdict;
 use linked_list_allocator::LocalHeap;
 use share_text::{Sheet, SheetFault, read_sheet};
@@ -32,13 +33,13 @@ fn shares_in(rt: &impl Abort, alloc: Global, room: usize) -> Result<bool, Fail>
     let first = match sharing_of(&heap, LUNCH.as_bytes()) {
         Ok(lines) => lines.as_str() == LUNCH_LINES,
         Err(fault) => {
-            assert!(rt; fault == ProgramFault::Memory);
+            holds(rt, fault == ProgramFault::Memory);
             false
         }
     };
     drop(hog);
     let lines = sharing_of(&heap, LUNCH.as_bytes())?;
-    assert!(rt; lines.as_str() == LUNCH_LINES);
+    holds(rt, lines.as_str() == LUNCH_LINES);
     Ok(first)
 }
 
@@ -46,11 +47,11 @@ fn shares_in(rt: &impl Abort, alloc: Global, room: usize) -> Result<bool, Fail>
 fn is_judged<A: Allocator + Clone>(rt: &impl Abort, alloc: A, sheet: &Sheet<A>) -> bool {
     match verdict_of(alloc, sheet, LUNCH_GRANTS.as_bytes()) {
         Ok(checked) => {
-            assert!(rt; checked.line.as_str() == "yes\n");
+            holds(rt, checked.line.as_str() == "yes\n");
             true
         }
         Err(fault) => {
-            assert!(rt; fault == ProgramFault::Memory);
+            holds(rt, fault == ProgramFault::Memory);
             false
         }
     }
@@ -75,9 +76,9 @@ fn verdicts_without_memory(rt: HostRuntime) -> Result<(), Fail> {
         let hog = hogs.pop();
         drop(hog);
     }
-    assert!(rt; refusals > 4);
+    holds(&rt, refusals > 4);
     drop(hogs);
-    assert!(rt; is_judged(&rt, &heap, &sheet));
+    holds(&rt, is_judged(&rt, &heap, &sheet));
     Ok(())
 }
 
@@ -102,12 +103,15 @@ fn runs_without_memory(rt: HostRuntime) -> Result<(), Fail> {
     let heap = LocalHeap::new(rt.alloc(), HEAP)?;
     let mut out = Vec::from_slice(rt.alloc(), BEFORE)?;
     let mut sheet = LUNCH.as_bytes();
-    assert!(rt; run_share(&heap, &mut sheet, &mut out) == Err(ProgramFault::Memory));
+    holds(
+        &rt,
+        run_share(&heap, &mut sheet, &mut out) == Err(ProgramFault::Memory),
+    );
     let mut sheet = LUNCH.as_bytes();
     let mut grants = LUNCH_GRANTS.as_bytes();
     let answer = run_check(&heap, &mut sheet, &mut grants, &mut out);
-    assert!(rt; answer == Err(ProgramFault::Memory));
-    assert!(rt; out.as_slice() == BEFORE);
+    holds(&rt, answer == Err(ProgramFault::Memory));
+    holds(&rt, out.as_slice() == BEFORE);
     Ok(())
 }
 
@@ -116,10 +120,11 @@ fn runs_without_memory(rt: HostRuntime) -> Result<(), Fail> {
 fn outputs_without_memory(rt: HostRuntime) -> Result<(), Fail> {
     let heap = LocalHeap::new(rt.alloc(), 32)?;
     let mut out = Vec::new(&heap);
-    assert!(rt;
-        run_share(rt.alloc(), &mut LUNCH.as_bytes(), &mut out) == Err(ProgramFault::WriteFault)
+    holds(
+        &rt,
+        run_share(rt.alloc(), &mut LUNCH.as_bytes(), &mut out) == Err(ProgramFault::WriteFault),
     );
-    assert!(rt; out.is_empty());
+    holds(&rt, out.is_empty());
     Ok(())
 }
 
@@ -131,11 +136,12 @@ fn sharings_written_in_part(rt: HostRuntime) {
             taken: &mut taken,
             left,
         });
-        assert!(rt;
+        holds(
+            &rt,
             run_share(rt.alloc(), &mut LUNCH.as_bytes(), &mut writer)
-                == Err(ProgramFault::WriteFault)
+                == Err(ProgramFault::WriteFault),
         );
-        assert!(rt; taken.len() == left);
+        holds(&rt, taken.len() == left);
     }
 }
 
@@ -149,11 +155,12 @@ fn verdicts_written_in_part(rt: HostRuntime) {
         });
         let mut sheet = LUNCH.as_bytes();
         let mut grants = LUNCH_GRANTS.as_bytes();
-        assert!(rt;
+        holds(
+            &rt,
             run_check(rt.alloc(), &mut sheet, &mut grants, &mut writer)
-                == Err(ProgramFault::WriteFault)
+                == Err(ProgramFault::WriteFault),
         );
-        assert!(rt; taken.len() == left);
+        holds(&rt, taken.len() == left);
     }
 }
 
@@ -165,8 +172,11 @@ fn sheets_that_break_off(rt: HostRuntime) {
             rest: LUNCH.as_bytes(),
             step,
         });
-        assert!(rt; run_share(rt.alloc(), &mut sheet, &mut out) == Err(ProgramFault::ReadFault));
-        assert!(rt; out.is_empty());
+        holds(
+            &rt,
+            run_share(rt.alloc(), &mut sheet, &mut out) == Err(ProgramFault::ReadFault),
+        );
+        holds(&rt, out.is_empty());
     }
 }
 
@@ -178,19 +188,21 @@ fn checks_that_break_off(rt: HostRuntime) {
         step: 20,
     });
     let mut grants = LUNCH_GRANTS.as_bytes();
-    assert!(rt;
-        run_check(rt.alloc(), &mut broken, &mut grants, &mut out) == Err(ProgramFault::ReadFault)
+    holds(
+        &rt,
+        run_check(rt.alloc(), &mut broken, &mut grants, &mut out) == Err(ProgramFault::ReadFault),
     );
-    assert!(rt; grants.len() == LUNCH_GRANTS.len());
+    holds(&rt, grants.len() == LUNCH_GRANTS.len());
     let mut sheet = LUNCH.as_bytes();
     let mut broken = Outside(FailingReader {
         rest: LUNCH_GRANTS.as_bytes(),
         step: 20,
     });
-    assert!(rt;
-        run_check(rt.alloc(), &mut sheet, &mut broken, &mut out) == Err(ProgramFault::ReadFault)
+    holds(
+        &rt,
+        run_check(rt.alloc(), &mut sheet, &mut broken, &mut out) == Err(ProgramFault::ReadFault),
     );
-    assert!(rt; out.is_empty());
+    holds(&rt, out.is_empty());
 }
 
 #[test]
@@ -198,7 +210,7 @@ fn sheets_of_the_most_octets(rt: HostRuntime) -> Result<(), Fail> {
     let mut out = Vec::new(rt.alloc());
     let mut longest = Outside(io::repeat(b'#').take(4_194_304));
     run_share(rt.alloc(), &mut longest, &mut out)?;
-    assert!(rt; out.as_slice() == b"total 0\n".as_slice());
+    holds(&rt, out.as_slice() == b"total 0\n".as_slice());
     // the length is told before a faulty line and before the writer
     let mut longer = Outside(io::repeat(b'x').take(4_194_305));
     let mut taken = Vec::new(rt.alloc());
@@ -206,7 +218,10 @@ fn sheets_of_the_most_octets(rt: HostRuntime) -> Result<(), Fail> {
         taken: &mut taken,
         left: 0,
     });
-    assert!(rt; run_share(rt.alloc(), &mut longer, &mut writer) == Err(ProgramFault::TooLong));
+    holds(
+        &rt,
+        run_share(rt.alloc(), &mut longer, &mut writer) == Err(ProgramFault::TooLong),
+    );
     Ok(())
 }
 
@@ -216,20 +231,23 @@ fn checks_of_too_many_octets(rt: HostRuntime) {
     let mut out = Vec::new(rt.alloc());
     let mut longer = Outside(io::repeat(b'x').take(4_194_305));
     let mut grants = LUNCH_GRANTS.as_bytes();
-    assert!(rt;
-        run_check(rt.alloc(), &mut longer, &mut grants, &mut out) == Err(ProgramFault::TooLong)
+    holds(
+        &rt,
+        run_check(rt.alloc(), &mut longer, &mut grants, &mut out) == Err(ProgramFault::TooLong),
     );
-    assert!(rt; grants.len() == LUNCH_GRANTS.len());
+    holds(&rt, grants.len() == LUNCH_GRANTS.len());
     let mut sheet = LUNCH.as_bytes();
     let mut longer = Outside(io::repeat(b'x').take(4_194_305));
-    assert!(rt;
-        run_check(rt.alloc(), &mut sheet, &mut longer, &mut out) == Err(ProgramFault::TooLong)
+    holds(
+        &rt,
+        run_check(rt.alloc(), &mut sheet, &mut longer, &mut out) == Err(ProgramFault::TooLong),
     );
     let mut faulty = b"limit / x\n".as_slice();
     let mut longer = Outside(io::repeat(b'x').take(4_194_305));
-    assert!(rt;
+    holds(
+        &rt,
         run_check(rt.alloc(), &mut faulty, &mut longer, &mut out)
-            == Err(ProgramFault::Sheet(SheetFault::BadLine(1)))
+            == Err(ProgramFault::Sheet(SheetFault::BadLine(1))),
     );
-    assert!(rt; out.is_empty());
+    holds(&rt, out.is_empty());
 }

@@ -2,6 +2,7 @@
 ghost use Rattle.std.specs.Prelude.{◌≤◌};
 
 use super::ends::{FailingReader, FailingWriter, InterruptedReader};
+use crate::expect::holds;
 use linked_list_allocator::LocalHeap;
 use share_text::{GrantsFault, SheetFault};
 use sheet_commands::{
@@ -17,17 +18,18 @@ use std::test::Fail;
 fn texts_read_whole(rt: HostRuntime) -> Result<(), Fail> {
     for text in ["", "limit / 10\n", "no end", "a\0b\r\n"] {
         let octets = read_whole(rt.alloc(), &mut text.as_bytes())?;
-        assert!(rt; octets.as_slice() == text.as_bytes());
+        holds(&rt, octets.as_slice() == text.as_bytes());
     }
     for step in [1, 3, 100] {
         let mut reader = FailingReader {
             rest: b"limit / 10\n",
             step,
         };
-        assert!(rt;
-            read_whole(rt.alloc(), &mut Outside(&mut reader)) == Err(ProgramFault::ReadFault)
+        holds(
+            &rt,
+            read_whole(rt.alloc(), &mut Outside(&mut reader)) == Err(ProgramFault::ReadFault),
         );
-        assert!(rt; reader.rest.is_empty());
+        holds(&rt, reader.rest.is_empty());
     }
     Ok(())
 }
@@ -39,16 +41,19 @@ fn interrupted_reads_are_tried_again(rt: HostRuntime) -> Result<(), Fail> {
         is_ready: false,
     });
     let octets = read_whole(rt.alloc(), &mut reader)?;
-    assert!(rt; octets.as_slice() == b"limit / 10\n".as_slice());
+    holds(&rt, octets.as_slice() == b"limit / 10\n".as_slice());
     Ok(())
 }
 
 #[test]
 fn texts_of_the_most_octets(rt: HostRuntime) -> Result<(), Fail> {
     let mut longest = Outside(io::repeat(b'#').take(4_194_304));
-    assert!(rt; read_whole(rt.alloc(), &mut longest)?.len() == MAX_TEXT);
+    holds(&rt, read_whole(rt.alloc(), &mut longest)?.len() == MAX_TEXT);
     let mut longer = Outside(io::repeat(b'#').take(4_194_305));
-    assert!(rt; read_whole(rt.alloc(), &mut longer) == Err(ProgramFault::TooLong));
+    holds(
+        &rt,
+        read_whole(rt.alloc(), &mut longer) == Err(ProgramFault::TooLong),
+    );
     Ok(())
 }
 
@@ -70,8 +75,8 @@ const LINES: &str = "/cy/1 10 of 10\n/ann/1 15 of 50 full /ann\ntotal 25\n";
 
 #[test]
 fn lines_of_shares(rt: HostRuntime) -> Result<(), Fail> {
-    assert!(rt; lines_of(rt.alloc(), &[])?.as_str() == "total 0\n");
-    assert!(rt; lines_of(rt.alloc(), &[MET, UNMET])?.as_str() == LINES);
+    holds(&rt, lines_of(rt.alloc(), &[])?.as_str() == "total 0\n");
+    holds(&rt, lines_of(rt.alloc(), &[MET, UNMET])?.as_str() == LINES);
     Ok(())
 }
 
@@ -92,7 +97,7 @@ fn faults_print_their_names(rt: HostRuntime) -> Result<(), Fail> {
         ),
     ];
     for (fault, name) in cases {
-        assert!(rt; format!(in rt.alloc(); "{fault}")?.as_str() == name);
+        holds(&rt, format!(in rt.alloc(); "{fault}")?.as_str() == name);
     }
     Ok(())
 }
@@ -102,15 +107,18 @@ fn faults_print_their_names(rt: HostRuntime) -> Result<(), Fail> {
 fn texts_written(rt: HostRuntime) -> Result<(), Fail> {
     let mut out = Vec::new(rt.alloc());
     write_whole(LINES, &mut out)?;
-    assert!(rt; out.as_slice() == LINES.as_bytes());
+    holds(&rt, out.as_slice() == LINES.as_bytes());
     for left in [0, 1, LINES.len() - 1] {
         let mut taken = Vec::new(rt.alloc());
         let mut writer = Outside(FailingWriter {
             taken: &mut taken,
             left,
         });
-        assert!(rt; write_whole(LINES, &mut writer) == Err(ProgramFault::WriteFault));
-        assert!(rt; taken.len() == left);
+        holds(
+            &rt,
+            write_whole(LINES, &mut writer) == Err(ProgramFault::WriteFault),
+        );
+        holds(&rt, taken.len() == left);
     }
     Ok(())
 }
@@ -125,8 +133,8 @@ fn writers_that_fail(rt: HostRuntime) -> Result<(), Fail> {
         })
         .write_text(b"abc")
         .is_ok();
-        assert!(rt; outcome == (left == 3));
-        assert!(rt; taken.len() == left.min(3));
+        holds(&rt, outcome == (left == 3));
+        holds(&rt, taken.len() == left.min(3));
     }
     Ok(())
 }
@@ -141,7 +149,7 @@ fn lines_in(rt: &impl Abort, alloc: Global, room: usize) -> Option<bool>
     let first = lines_of(&heap, &[MET, UNMET]).is_ok();
     drop(hog);
     match lines_of(&heap, &[MET, UNMET]) {
-        Ok(text) => assert!(rt; text.as_str() == LINES),
+        Ok(text) => holds(rt, text.as_str() == LINES),
         Err(_) => rt.abort(),
     }
     Some(first)
@@ -153,8 +161,8 @@ fn lines_without_memory(rt: HostRuntime) {
     for (step, outcome) in outcomes.iter_mut().enumerate() {
         *outcome = lines_in(&rt, rt.alloc(), 16 * step.min(63));
     }
-    assert!(rt; outcomes.contains(&Some(false)));
-    assert!(rt; outcomes.contains(&Some(true)));
+    holds(&rt, outcomes.contains(&Some(false)));
+    holds(&rt, outcomes.contains(&Some(true)));
 }
 
 // Room for the buffer of a read, and some more.
@@ -168,12 +176,15 @@ fn text_in(rt: &impl Abort, alloc: Global, room: usize) -> Option<bool>
     let first = match read_whole(&heap, &mut b"limit / 10\n".as_slice()) {
         Ok(_) => true,
         Err(fault) => {
-            assert!(rt; fault == ProgramFault::Memory);
+            holds(rt, fault == ProgramFault::Memory);
             false
         }
     };
     drop(hog);
-    assert!(rt; read_whole(&heap, &mut b"limit / 10\n".as_slice()).is_ok());
+    holds(
+        rt,
+        read_whole(&heap, &mut b"limit / 10\n".as_slice()).is_ok(),
+    );
     Some(first)
 }
 
@@ -185,6 +196,6 @@ fn texts_without_memory(rt: HostRuntime) {
         let room = 65_536 - 256 + 16 * step.min(63);
         *outcome = text_in(&rt, rt.alloc(), room);
     }
-    assert!(rt; outcomes.contains(&Some(false)));
-    assert!(rt; outcomes.contains(&Some(true)));
+    holds(&rt, outcomes.contains(&Some(false)));
+    holds(&rt, outcomes.contains(&Some(true)));
 }

@@ -1,4 +1,5 @@
 //! Worked command lines.
+use crate::expect::holds;
 use command_line::{Words, WordsFault, read_words};
 use std::alloc::Global;
 use std::process::Abort;
@@ -7,11 +8,15 @@ use std::test::Fail;
 #[test]
 fn words_of_a_command(rt: HostRuntime) -> Result<(), Fail> {
     for sheet in ["a", "lunch.sheet", "/dev/stdin", "a b"] {
-        assert!(rt; read_words(rt.alloc(), &["share", sheet])? == Words::Share { sheet });
+        holds(
+            &rt,
+            read_words(rt.alloc(), &["share", sheet])? == Words::Share { sheet },
+        );
     }
     let (sheet, grants) = ("office.sheet", "office.grants");
-    assert!(rt;
-        read_words(rt.alloc(), &["check", sheet, grants])? == Words::Check { sheet, grants }
+    holds(
+        &rt,
+        read_words(rt.alloc(), &["check", sheet, grants])? == Words::Check { sheet, grants },
     );
     Ok(())
 }
@@ -64,7 +69,7 @@ fn words_that_are_refused(rt: HostRuntime) {
         assert!(rt; !is_help, "{words:?}");
         assert!(rt; text.as_str().starts_with("error: "), "{text}");
     }
-    assert!(rt; !refusal(&rt, rt.alloc(), &[]).1);
-    assert!(rt; !refusal(&rt, rt.alloc(), &["share"]).1);
-    assert!(rt; !refusal(&rt, rt.alloc(), &["share", "a", "b"]).1);
+    holds(&rt, !refusal(&rt, rt.alloc(), &[]).1);
+    holds(&rt, !refusal(&rt, rt.alloc(), &["share"]).1);
+    holds(&rt, !refusal(&rt, rt.alloc(), &["share", "a", "b"]).1);
 }

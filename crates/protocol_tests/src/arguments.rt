@@ -1,5 +1,6 @@
 //! Arguments of commands, and lines that common clients send.
 
+use crate::expect::same;
 use crate::told::check_rows;
 use ftp_wire::{ExtendedPort, HostPort, LineFault, read_eprt, read_port};
 use std::test::Fail;
@@ -148,13 +149,21 @@ const HOST: HostPort = HostPort {
 
 #[test]
 fn ports_are_read(rt: HostRuntime) {
-    assert_eq!(rt; read_port("127,0,0,1,0,21"), Ok(HOST));
-    assert_eq!(rt; read_port("127,0,0,1,0"), Err(LineFault::BadArgument));
+    same(&rt, &read_port("127,0,0,1,0,21"), &Ok(HOST));
+    same(&rt, &read_port("127,0,0,1,0"), &Err(LineFault::BadArgument));
 }
 
 #[test]
 fn extended_ports_are_read(rt: HostRuntime) {
-    assert_eq!(rt; read_eprt("|1|127.0.0.1|21|"), Ok(ExtendedPort::Ipv4(HOST)));
-    assert_eq!(rt; read_eprt("|2|::1|5000|"), Ok(ExtendedPort::Unsupported(2)));
-    assert_eq!(rt; read_eprt("|2|"), Err(LineFault::BadArgument));
+    same(
+        &rt,
+        &read_eprt("|1|127.0.0.1|21|"),
+        &Ok(ExtendedPort::Ipv4(HOST)),
+    );
+    same(
+        &rt,
+        &read_eprt("|2|::1|5000|"),
+        &Ok(ExtendedPort::Unsupported(2)),
+    );
+    same(&rt, &read_eprt("|2|"), &Err(LineFault::BadArgument));
 }

@@ -1,5 +1,6 @@
 //! The longest line, and floods.
 
+use crate::expect::{holds, same};
 use crate::told::{told, told_of};
 use ftp_wire::{LONGEST_HELD, LineReader};
 use std::alloc::Global;
@@ -20,9 +21,9 @@ fn long_line(alloc: Global, letters: usize) -> Result<String, Fail> {
 #[test]
 fn longest_line(rt: HostRuntime) -> Result<(), Fail> {
     let fits = long_line(rt.alloc(), 4092)?;
-    assert_eq!(rt; fits.len(), 4098);
+    same(&rt, &fits.len(), &4098);
     let long = long_line(rt.alloc(), 4093)?;
-    assert_eq!(rt; long.as_str(), "TooLong\r\n");
+    same(&rt, &long.as_str(), &"TooLong\r\n");
     Ok(())
 }
 
@@ -64,19 +65,19 @@ fn flood(alloc: Global, start: &[u8], octet: u8, end: &[u8]) -> Result<(String, 
 #[test]
 fn long_floods(rt: HostRuntime) -> Result<(), Fail> {
     let (long, kept) = flood(rt.alloc(), b"", 255, b"\n")?;
-    assert_eq!(rt; long.as_str(), "TooLong\r\n");
-    assert!(rt; kept <= LONGEST_HELD);
+    same(&rt, &long.as_str(), &"TooLong\r\n");
+    holds(&rt, kept <= LONGEST_HELD);
     let (next, kept) = flood(rt.alloc(), b"CWD ", b'x', b"\r\nNOOP\r\n")?;
-    assert_eq!(rt; next.as_str(), "TooLong\r\nNOOP\r\n");
-    assert_eq!(rt; kept, 0);
+    same(&rt, &next.as_str(), &"TooLong\r\nNOOP\r\n");
+    same(&rt, &kept, &0);
     Ok(())
 }
 
 #[test]
 fn telnet_floods(rt: HostRuntime) -> Result<(), Fail> {
     let (none, kept) = flood(rt.alloc(), b"\xff\xfa", b'x', b"")?;
-    assert_eq!(rt; none.as_str(), "");
-    assert_eq!(rt; kept, 0);
+    same(&rt, &none.as_str(), &"");
+    same(&rt, &kept, &0);
     Ok(())
 }
 
@@ -85,6 +86,6 @@ fn many_lines_in_one_piece(rt: HostRuntime) -> Result<(), Fail> {
     let alloc = rt.alloc();
     let lines = many(alloc, b'\n', 10_000)?;
     let mut reader = LineReader::new(alloc);
-    assert_eq!(rt; reader.feed(lines.as_slice())?.len(), 10_000);
+    same(&rt, &reader.feed(lines.as_slice())?.len(), &10_000);
     Ok(())
 }

@@ -8,6 +8,8 @@ mod bounds;
 #[cfg(test)]
 mod codes;
 #[cfg(test)]
+mod expect;
+#[cfg(test)]
 mod refused;
 #[cfg(test)]
 mod sessions;

@@ -2,6 +2,7 @@
 
 ghost use Rattle.std.specs.Prelude.{◌≤◌};
 
+use crate::expect::{holds, same};
 use ftp_wire::{Command, LineReader, write_command};
 use linked_list_allocator::LocalHeap;
 use std::alloc::Global;
@@ -24,7 +25,7 @@ fn feed_outcome(rt: &impl Abort, alloc: Global, room: usize) -> Option<bool>
         None => b"RETR x\r\nNOOP\n".as_slice(),
     };
     match reader.feed(again) {
-        Ok(items) => assert_eq!(rt; items.len().saturating_add(first.unwrap_or(0)), 2),
+        Ok(items) => same(rt, &items.len().saturating_add(first.unwrap_or(0)), &2),
         Err(_) => panic!(rt; "memory is there again"),
     }
     Some(first.is_some())
@@ -41,7 +42,7 @@ fn pieces_refused(rt: HostRuntime) {
             None => {}
         }
     }
-    assert!(rt; refused && answered);
+    holds(&rt, refused && answered);
 }
 
 /// Whether the line of a command fits so little memory; it fits all of it.
@@ -58,7 +59,7 @@ fn write_outcome(
     let first = write_command(&heap, command).is_ok();
     drop(hog);
     match write_command(&heap, command) {
-        Ok(line) => assert_eq!(rt; line.len(), 1007),
+        Ok(line) => same(rt, &line.len(), &1007),
         Err(_) => panic!(rt; "memory is there again"),
     }
     Some(first)
@@ -84,6 +85,6 @@ fn lines_refused(rt: HostRuntime) -> Result<(), Fail> {
             None => {}
         }
     }
-    assert!(rt; refused && answered);
+    holds(&rt, refused && answered);
     Ok(())
 }

@@ -1,5 +1,6 @@
 //! A control connection in pieces, with Telnet commands in it.
 
+use crate::expect::{holds, same};
 use crate::told::told;
 use ftp_wire::{
     Command, LONGEST_HELD, LineReader, items_stay, only_items, spellings_apart, write_command,
@@ -87,9 +88,9 @@ fn session_by_octets(rt: HostRuntime) -> Result<(), Fail> {
     for octet in octets.as_slice() {
         let found = told(alloc, reader.feed(&[*octet])?.as_slice())?;
         out.push_str(found.as_str())?;
-        assert!(rt; reader.kept() <= LONGEST_HELD);
+        holds(&rt, reader.kept() <= LONGEST_HELD);
     }
-    assert_eq!(rt; out.as_str(), items.as_str());
+    same(&rt, &out.as_str(), &items.as_str());
     reader.reads_as();
     Ok(())
 }
@@ -98,7 +99,7 @@ fn session_by_octets(rt: HostRuntime) -> Result<(), Fail> {
 fn laws_are_called(rt: HostRuntime) -> Result<(), Fail> {
     let command = Command::Retr(String::from_str(rt.alloc(), "x")?);
     let line = write_command(rt.alloc(), &command)?;
-    assert_eq!(rt; line.as_slice(), b"RETR x\r\n".as_slice());
+    same(&rt, &line.as_slice(), &b"RETR x\r\n".as_slice());
     only_items();
     items_stay();
     spellings_apart();

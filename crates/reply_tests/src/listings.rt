@@ -1,5 +1,6 @@
 //! Lines of listings, entries, moments and quoted paths.
 
+use crate::expect::{holds, same};
 use ftp_reply::{list_line, listings_have_one_text, mdtm_line, mdtm_text, mlst_entry, quoted_path};
 use ftp_terms::{Facts, Kind, LATEST, Letters, Meta};
 use std::test::Fail;
@@ -16,10 +17,10 @@ const MOMENTS: [(u64, &[u8; 14]); 3] = [
 #[test]
 fn moments_are_civil_dates(rt: HostRuntime) -> Result<(), Fail> {
     for (seconds, text) in MOMENTS {
-        assert!(rt; seconds <= LATEST);
+        holds(&rt, seconds <= LATEST);
         assert!(rt; mdtm_text(seconds) == *text, "at {seconds}");
         let line = mdtm_line(rt.alloc(), seconds)?;
-        assert_eq!(rt; line.as_str().as_bytes(), text.as_slice());
+        same(&rt, &line.as_str().as_bytes(), &text.as_slice());
     }
     listings_have_one_text();
     Ok(())
@@ -28,9 +29,9 @@ fn moments_are_civil_dates(rt: HostRuntime) -> Result<(), Fail> {
 #[test]
 fn later_moments_are_told_as_the_latest(rt: HostRuntime) {
     let meta = Meta::new(Kind::File, 3, LATEST + 1);
-    assert_eq!(rt; meta.modified, LATEST);
-    assert!(rt; meta == Meta::new(Kind::File, 3, u64::MAX));
-    assert!(rt; meta != Meta::new(Kind::Directory, 3, LATEST));
+    same(&rt, &meta.modified, &LATEST);
+    holds(&rt, meta == Meta::new(Kind::File, 3, u64::MAX));
+    holds(&rt, meta != Meta::new(Kind::Directory, 3, LATEST));
 }
 
 const LISTED: [(Kind, u64, u64, &str); 4] = [
@@ -64,7 +65,7 @@ const LISTED: [(Kind, u64, u64, &str); 4] = [
 fn list_lines(rt: HostRuntime) -> Result<(), Fail> {
     for (kind, size, seconds, wanted) in LISTED {
         let line = list_line(rt.alloc(), &Meta::new(kind, size, seconds), "x")?;
-        assert_eq!(rt; line.as_str(), wanted);
+        same(&rt, &line.as_str(), &wanted);
     }
     Ok(())
 }
@@ -112,7 +113,7 @@ fn entries_of_files(rt: HostRuntime) -> Result<(), Fail> {
     let meta = Meta::new(Kind::File, 3, LEAP_DAY);
     for (facts, letters, wanted) in FILES {
         let entry = mlst_entry(rt.alloc(), &meta, facts, letters, "/f")?;
-        assert_eq!(rt; entry.as_str(), wanted);
+        same(&rt, &entry.as_str(), &wanted);
     }
     Ok(())
 }
@@ -137,7 +138,7 @@ fn entries_of_folders(rt: HostRuntime) -> Result<(), Fail> {
     let meta = Meta::new(Kind::Directory, 0, 0);
     for (facts, letters, wanted) in FOLDERS {
         let entry = mlst_entry(rt.alloc(), &meta, facts, letters, "/")?;
-        assert_eq!(rt; entry.as_str(), wanted);
+        same(&rt, &entry.as_str(), &wanted);
     }
     Ok(())
 }
@@ -146,18 +147,19 @@ fn entries_of_folders(rt: HostRuntime) -> Result<(), Fail> {
 fn longest_size_in_an_entry(rt: HostRuntime) -> Result<(), Fail> {
     let meta = Meta::new(Kind::File, u64::MAX, 0);
     let entry = mlst_entry(rt.alloc(), &meta, SIZE_ALONE, Letters::NONE, "/f")?;
-    assert_eq!(rt; entry.as_str(), "size=18446744073709551615; /f");
+    same(&rt, &entry.as_str(), &"size=18446744073709551615; /f");
     Ok(())
 }
 
 #[test]
 fn paths_are_quoted(rt: HostRuntime) -> Result<(), Fail> {
     let alloc = rt.alloc();
-    assert_eq!(rt; quoted_path(alloc, "/a\"b")?.as_str(), "\"/a\"\"b\"");
-    assert_eq!(rt; quoted_path(alloc, "/")?.as_str(), "\"/\"");
-    assert_eq!(rt;
-        quoted_path(alloc, "/\u{e9}\"\"")?.as_str(),
-        "\"/\u{e9}\"\"\"\"\""
+    same(&rt, &quoted_path(alloc, "/a\"b")?.as_str(), &"\"/a\"\"b\"");
+    same(&rt, &quoted_path(alloc, "/")?.as_str(), &"\"/\"");
+    same(
+        &rt,
+        &quoted_path(alloc, "/\u{e9}\"\"")?.as_str(),
+        &"\"/\u{e9}\"\"\"\"\"",
     );
     Ok(())
 }

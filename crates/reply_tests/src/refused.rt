@@ -2,6 +2,7 @@
 
 ghost use Rattle.std.specs.Prelude.{◌≤◌};
 
+use crate::expect::{holds, same};
 use ftp_reply::{Reply, ReplyCode, list_line, mdtm_line, mlst_entry, quoted_path};
 use ftp_terms::{Facts, Kind, Letters, LineText, Meta};
 use ftp_wire::{HostPort, facts_text, port_text, starred_facts_text};
@@ -112,11 +113,11 @@ fn reply_outcome(rt: &impl Abort, alloc: Global, room: usize) -> Option<bool>
     let mut buffer = Vec::from_slice(&heap, b"before").ok()?;
     let hog = Vec::<u8, &LocalHeap>::with_capacity(&heap, ROOM - room).ok()?;
     let first = reply.write_to(&mut buffer).is_ok();
-    assert!(rt; first || buffer.as_slice() == b"before".as_slice());
+    holds(rt, first || buffer.as_slice() == b"before".as_slice());
     drop(hog);
     buffer.clear();
-    assert!(rt; reply.write_to(&mut buffer).is_ok());
-    assert_eq!(rt; buffer.as_slice(), OCTETS);
+    holds(rt, reply.write_to(&mut buffer).is_ok());
+    same(rt, &buffer.as_slice(), &OCTETS);
     Some(first)
 }
 
@@ -131,5 +132,5 @@ fn replies_refused(rt: HostRuntime) {
             None => {}
         }
     }
-    assert!(rt; refused && answered);
+    holds(&rt, refused && answered);
 }

@@ -1,5 +1,6 @@
 //! Replies as octets.
 
+use crate::expect::{holds, same};
 use ftp_reply::{Reply, ReplyCode};
 use ftp_terms::{Facts, LineText};
 use ftp_wire::{HostPort, LineFault, facts_text, port_text, starred_facts_text};
@@ -28,7 +29,7 @@ fn check_octets(rt: &impl Abort, alloc: Global, reply: &Reply, octets: &str) -> 
     wanted.push_str(octets)?;
     let mut buffer = Vec::from_slice(alloc, b"before ")?;
     reply.write_to(&mut buffer)?;
-    assert_eq!(rt; buffer.as_slice(), wanted.as_bytes());
+    same(rt, &buffer.as_slice(), &wanted.as_bytes());
     Ok(())
 }
 
@@ -66,9 +67,9 @@ fn thousand_lines_behind_a_long_buffer(rt: HostRuntime) -> Result<(), Fail> {
     let count: usize = 1_000_000;
     let mut buffer = vec![in alloc; b'x'; count]?;
     long_reply(alloc, 1000)?.write_to(&mut buffer)?;
-    assert_eq!(rt; buffer.len(), 1_000_000 + 10 + 4000 + 9);
-    assert!(rt; buffer.as_slice().starts_with(b"xxxx"));
-    assert!(rt; buffer.as_slice().ends_with(b" 1\r\n 1\r\n211 End\r\n"));
+    same(&rt, &buffer.len(), &(1_000_000 + 10 + 4000 + 9));
+    holds(&rt, buffer.as_slice().starts_with(b"xxxx"));
+    holds(&rt, buffer.as_slice().ends_with(b" 1\r\n 1\r\n211 End\r\n"));
     Ok(())
 }
 
@@ -97,14 +98,19 @@ fn texts_of_ports(rt: HostRuntime) -> Result<(), Fail> {
         address: [127, 0, 0, 1],
         port: 21,
     };
-    assert_eq!(rt; port_text(rt.alloc(), &low)?.as_str(), "127,0,0,1,0,21");
+    same(
+        &rt,
+        &port_text(rt.alloc(), &low)?.as_str(),
+        &"127,0,0,1,0,21",
+    );
     let high = HostPort {
         address: [255, 255, 255, 255],
         port: 65535,
     };
-    assert_eq!(rt;
-        port_text(rt.alloc(), &high)?.as_str(),
-        "255,255,255,255,255,255"
+    same(
+        &rt,
+        &port_text(rt.alloc(), &high)?.as_str(),
+        &"255,255,255,255,255,255",
     );
     Ok(())
 }
@@ -118,15 +124,17 @@ fn texts_of_facts(rt: HostRuntime) -> Result<(), Fail> {
         modify: true,
         perm: false,
     };
-    assert_eq!(rt; facts_text(alloc, Facts::NONE)?.as_str(), "");
-    assert_eq!(rt; facts_text(alloc, some)?.as_str(), "type;modify;");
-    assert_eq!(rt;
-        starred_facts_text(alloc, some)?.as_str(),
-        "type*;size;modify*;perm;"
+    same(&rt, &facts_text(alloc, Facts::NONE)?.as_str(), &"");
+    same(&rt, &facts_text(alloc, some)?.as_str(), &"type;modify;");
+    same(
+        &rt,
+        &starred_facts_text(alloc, some)?.as_str(),
+        &"type*;size;modify*;perm;",
     );
-    assert_eq!(rt;
-        starred_facts_text(alloc, Facts::ALL)?.as_str(),
-        "type*;size*;modify*;perm*;"
+    same(
+        &rt,
+        &starred_facts_text(alloc, Facts::ALL)?.as_str(),
+        &"type*;size*;modify*;perm*;",
     );
     Ok(())
 }

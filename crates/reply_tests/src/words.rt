@@ -1,5 +1,6 @@
 //! The shared words.
 
+use crate::expect::{holds, same};
 use ftp_terms::{DataType, Facts, Letter, Letters, LineText, is_line_text, texts_of_one_line};
 use std::test::Fail;
 
@@ -22,11 +23,11 @@ fn letters_are_read(rt: HostRuntime) {
             assert_eq!(rt; held.holds(other), other == letter, "{text}");
         }
     }
-    assert_eq!(rt; Letters::read(""), Some(Letters::NONE));
-    assert_eq!(rt; Letters::read("elradfmw"), Some(Letters::ALL));
-    assert_eq!(rt; Letters::read("wwmfdarle"), Some(Letters::ALL));
-    assert_eq!(rt; Letters::read("elx"), None);
-    assert_eq!(rt; Letters::read("E"), None);
+    same(&rt, &Letters::read(""), &Some(Letters::NONE));
+    same(&rt, &Letters::read("elradfmw"), &Some(Letters::ALL));
+    same(&rt, &Letters::read("wwmfdarle"), &Some(Letters::ALL));
+    same(&rt, &Letters::read("elx"), &None);
+    same(&rt, &Letters::read("E"), &None);
 }
 
 #[test]
@@ -37,19 +38,19 @@ fn constants_are_whole(rt: HostRuntime) {
         modify,
         perm,
     } = Facts::ALL;
-    assert!(rt; kind && size && modify && perm);
-    assert!(rt; Facts::NONE != Facts::ALL);
-    assert!(rt; DataType::Ascii != DataType::Image);
+    holds(&rt, kind && size && modify && perm);
+    holds(&rt, Facts::NONE != Facts::ALL);
+    holds(&rt, DataType::Ascii != DataType::Image);
 }
 
 #[test]
 fn lines_are_told_from_texts(rt: HostRuntime) -> Result<(), Fail> {
     for (text, answer) in [("", true), ("a b", true), ("a\r", false), ("\na", false)] {
-        assert_eq!(rt; is_line_text(text), answer);
+        same(&rt, &is_line_text(text), &answer);
     }
     let made = String::from_str(rt.alloc(), "made")?;
-    assert!(rt; is_line_text(made.as_str()));
-    assert_eq!(rt; LineText::made(made).as_str(), "made");
+    holds(&rt, is_line_text(made.as_str()));
+    same(&rt, &LineText::made(made).as_str(), &"made");
     Ok(())
 }
 
@@ -57,11 +58,11 @@ fn lines_are_told_from_texts(rt: HostRuntime) -> Result<(), Fail> {
 fn texts_are_joined(rt: HostRuntime) -> Result<(), Fail> {
     let alloc = rt.alloc();
     let most = LineText::with_number(alloc, "Restarting at ", u64::MAX, ".")?;
-    assert_eq!(rt; most.as_str(), "Restarting at 18446744073709551615.");
+    same(&rt, &most.as_str(), &"Restarting at 18446744073709551615.");
     let none = LineText::with_number(alloc, "", 0, "")?;
-    assert_eq!(rt; none.as_str(), "0");
+    same(&rt, &none.as_str(), &"0");
     let joined = LineText::joined(alloc, "a", "", "\u{e9}b")?;
-    assert_eq!(rt; joined.as_str(), "a\u{e9}b");
+    same(&rt, &joined.as_str(), &"a\u{e9}b");
     texts_of_one_line();
     Ok(())
 }

@@ -1,5 +1,6 @@
 //! The worked allotments, and random ones beside those of the plain rule.
 use super::trees::{Numbers, branch, leaf, three, tree, users};
+use crate::expect::holds;
 use grant_certificate::{Verdict, check};
 use limit_tree::{MAX_WANT, Node, Tree};
 use plain_allotment::{allot_plainly, runs_end_alike};
@@ -15,8 +16,8 @@ fn expect_grants(
 ) -> Result<(), AllocError> {
     let tree = tree(rt, root);
     let (granted, certificate) = allot(alloc, &tree)?;
-    assert!(rt; granted.as_slice() == grants);
-    assert!(rt; check(&tree, grants, &certificate) == Verdict::Yes);
+    holds(rt, granted.as_slice() == grants);
+    holds(rt, check(&tree, grants, &certificate) == Verdict::Yes);
     Ok(())
 }
 
@@ -64,7 +65,7 @@ fn expect_probes(
     probes: u64,
 ) -> Result<(), AllocError> {
     let (granted, _, counted) = allot_counted(alloc, &tree(rt, root))?;
-    assert!(rt; granted.as_slice() == grants);
+    holds(rt, granted.as_slice() == grants);
     assert!(rt; counted == probes, "{counted}");
     Ok(())
 }
@@ -130,10 +131,10 @@ fn any_branch(alloc: Global, numbers: &mut Numbers, levels: u32) -> Result<Node,
 fn expect_plain(rt: &impl Abort, alloc: Global, tree: &Tree) -> Result<(), AllocError> {
     let plain = allot_plainly(alloc, tree)?;
     let (grants, certificate) = allot(alloc, tree)?;
-    assert!(rt; grants.as_slice() == plain.as_slice());
+    holds(rt, grants.as_slice() == plain.as_slice());
     let (counted, marked, _) = allot_counted(alloc, tree)?;
-    assert!(rt; counted.as_slice() == grants.as_slice());
-    assert!(rt; marked.entries() == certificate.entries());
+    holds(rt, counted.as_slice() == grants.as_slice());
+    holds(rt, marked.entries() == certificate.entries());
     Ok(())
 }
 
@@ -150,6 +151,6 @@ fn levels_give_what_single_octets_do(rt: HostRuntime) -> Result<(), AllocError> 
             }
         }
     }
-    assert!(rt; trees == 500);
+    holds(&rt, trees == 500);
     Ok(())
 }

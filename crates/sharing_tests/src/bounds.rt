@@ -1,5 +1,6 @@
 //! Trees of as many leaves, levels and nodes as there may be, and one more.
 use super::trees::{below, leaf, row, tree, wide};
+use crate::expect::holds;
 use grant_certificate::{Certificate, Verdict, check, seal};
 use limit_tree::{Flat, MAX_LEAVES, MAX_NODES, Node, Tree, TreeFault};
 use plain_allotment::allot_plainly;
@@ -13,34 +14,40 @@ fn refusal(root: Node) -> Option<TreeFault> {
 
 #[test]
 fn one_level_more_is_refused(rt: HostRuntime) -> Result<(), AllocError> {
-    assert!(rt; refusal(below(rt.alloc(), 16, leaf(1))?).is_none());
-    assert!(rt; refusal(below(rt.alloc(), 17, leaf(1))?) == Some(TreeFault::TooDeep));
+    holds(&rt, refusal(below(rt.alloc(), 16, leaf(1))?).is_none());
+    holds(
+        &rt,
+        refusal(below(rt.alloc(), 17, leaf(1))?) == Some(TreeFault::TooDeep),
+    );
     Ok(())
 }
 
 #[test]
 fn one_leaf_more_is_refused(rt: HostRuntime) -> Result<(), AllocError> {
     let more = refusal(row(rt.alloc(), MAX_LEAVES + 1)?);
-    assert!(rt; more == Some(TreeFault::TooManyLeaves));
+    holds(&rt, more == Some(TreeFault::TooManyLeaves));
     Ok(())
 }
 
 #[test]
 fn one_node_more_is_refused(rt: HostRuntime) -> Result<(), AllocError> {
     let more = refusal(wide(rt.alloc(), MAX_NODES - 2)?);
-    assert!(rt; more == Some(TreeFault::TooManyLeaves));
+    holds(&rt, more == Some(TreeFault::TooManyLeaves));
     Ok(())
 }
 
 // Each call that takes memory answers, and the allotment is best.
 fn expect_all(rt: &impl Abort, alloc: Global, tree: &Tree) -> Result<(), AllocError> {
     let flat = Flat::of(alloc, tree)?;
-    assert!(rt; flat.nodes() == tree.nodes() && flat.leaves() == tree.leaves());
+    holds(
+        rt,
+        flat.nodes() == tree.nodes() && flat.leaves() == tree.leaves(),
+    );
     let (grants, certificate) = allot(alloc, tree)?;
-    assert!(rt; check(tree, &grants, &certificate) == Verdict::Yes);
+    holds(rt, check(tree, &grants, &certificate) == Verdict::Yes);
     let (counted, marked, _) = allot_counted(alloc, tree)?;
-    assert!(rt; counted.as_slice() == grants.as_slice());
-    assert!(rt; marked.entries() == certificate.entries());
+    holds(rt, counted.as_slice() == grants.as_slice());
+    holds(rt, marked.entries() == certificate.entries());
     Ok(())
 }
 
@@ -48,19 +55,19 @@ fn expect_all(rt: &impl Abort, alloc: Global, tree: &Tree) -> Result<(), AllocEr
 fn as_many_leaves_as_there_may_be(rt: HostRuntime) -> Result<(), AllocError> {
     let alloc = rt.alloc();
     let tree = tree(&rt, below(alloc, 15, row(alloc, MAX_LEAVES)?)?);
-    assert!(rt; tree.leaves() == 4096 && tree.nodes() == 16 + 4096);
-    assert!(rt; tree.place(16).depth == 16);
+    holds(&rt, tree.leaves() == 4096 && tree.nodes() == 16 + 4096);
+    holds(&rt, tree.place(16).depth == 16);
     expect_all(&rt, alloc, &tree)?;
     let (grants, certificate) = allot(alloc, &tree)?;
     let sealed = seal(tree, grants, certificate);
-    assert!(rt; sealed.is_ok_and(|sealed| sealed.total() == 4096));
+    holds(&rt, sealed.is_ok_and(|sealed| sealed.total() == 4096));
     Ok(())
 }
 
 #[test]
 fn as_many_nodes_as_there_may_be(rt: HostRuntime) -> Result<(), AllocError> {
     let tree = tree(&rt, wide(rt.alloc(), MAX_NODES - 3)?);
-    assert!(rt; tree.nodes() == 4_194_304);
+    holds(&rt, tree.nodes() == 4_194_304);
     expect_all(&rt, rt.alloc(), &tree)
 }
 
@@ -77,9 +84,12 @@ fn as_many_leaves_as_are_held_back(rt: HostRuntime) -> Result<(), AllocError> {
     let limit = Some(4096);
     let tree = tree(&rt, Node::Branch { limit, kids });
     let grants = allot_plainly(alloc, &super::trees::tree(&rt, row(alloc, 64)?))?;
-    assert!(rt; grants.len() == 64);
+    holds(&rt, grants.len() == 64);
     let (grants, _) = allot(alloc, &tree)?;
-    assert!(rt; grants.iter().all(|grant| *grant == 1));
-    assert!(rt; check(&tree, &grants, &Certificate::new(entries)) == Verdict::Yes);
+    holds(&rt, grants.iter().all(|grant| *grant == 1));
+    holds(
+        &rt,
+        check(&tree, &grants, &Certificate::new(entries)) == Verdict::Yes,
+    );
     Ok(())
 }

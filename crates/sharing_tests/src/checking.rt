@@ -1,5 +1,6 @@
 //! Worked verdicts.
 use super::trees::{three, tree, users};
+use crate::expect::holds;
 use grant_certificate::{
     Certificate, Flaw, Leaves, Verdict, backed_is_best, backed_is_largest_at_each_level, check,
     each_has_ascending, plain_backed_is_best, plain_backed_is_largest_at_each_level, seal,
@@ -46,10 +47,10 @@ fn three_leaves(rt: HostRuntime) -> Result<(), Fail> {
     for (grants, second, want) in rows {
         let entries = [ROOT, second, ROOT];
         let answer = verdict(rt.alloc(), &tree, &grants, &entries)?;
-        assert!(rt; answer == want);
+        holds(&rt, answer == want);
     }
     let answer = verdict(rt.alloc(), &tree, &[4, 3], &[ROOT, ROOT])?;
-    assert!(rt; answer == Verdict::No(Flaw::WrongLength));
+    holds(&rt, answer == Verdict::No(Flaw::WrongLength));
     Ok(())
 }
 
@@ -70,7 +71,7 @@ fn three_users(rt: HostRuntime) -> Result<(), Fail> {
     ];
     for (entries, want) in rows {
         let answer = verdict(rt.alloc(), &tree, &[15, 15, 35, 10], &entries)?;
-        assert!(rt; answer == want);
+        holds(&rt, answer == want);
     }
     Ok(())
 }
@@ -85,7 +86,7 @@ fn floors(rt: HostRuntime) -> Result<(), Fail> {
     ];
     for (grants, want) in rows {
         let answer = verdict(rt.alloc(), &tree, &grants, &[ROOT, ROOT, ROOT])?;
-        assert!(rt; answer == want);
+        holds(&rt, answer == want);
     }
     Ok(())
 }
@@ -97,10 +98,10 @@ fn seals(rt: HostRuntime) -> Result<(), Fail> {
     let certificate = Certificate::new([Some(1), Some(1), ROOT, NONE].to_vec(rt.alloc())?);
     match seal(tree, grants, certificate) {
         Ok(sealed) => {
-            assert!(rt; sealed.total() == 75);
-            assert!(rt; sealed.grants().len() == 4);
-            assert!(rt; sealed.tree().leaves() == 4);
-            assert!(rt; sealed.certificate().entries().len() == 4);
+            holds(&rt, sealed.total() == 75);
+            holds(&rt, sealed.grants().len() == 4);
+            holds(&rt, sealed.tree().leaves() == 4);
+            holds(&rt, sealed.certificate().entries().len() == 4);
         }
         Err(_) => panic!(rt; "what is best is refused"),
     }
@@ -115,10 +116,10 @@ fn hands_back(rt: HostRuntime) -> Result<(), Fail> {
     match seal(tree, grants, certificate) {
         Ok(_) => panic!(rt; "what is over a limit is sealed"),
         Err(refused) => {
-            assert!(rt; refused.flaw == Flaw::OverLimit { node: 0 });
-            assert!(rt; refused.grants.len() == 4);
-            assert!(rt; refused.tree.nodes() == 8);
-            assert!(rt; refused.certificate.into_entries().len() == 4);
+            holds(&rt, refused.flaw == Flaw::OverLimit { node: 0 });
+            holds(&rt, refused.grants.len() == 4);
+            holds(&rt, refused.tree.nodes() == 8);
+            holds(&rt, refused.certificate.into_entries().len() == 4);
         }
     }
     Ok(())
@@ -128,8 +129,8 @@ fn hands_back(rt: HostRuntime) -> Result<(), Fail> {
 fn tables_of_leaves(rt: HostRuntime) -> Result<(), Fail> {
     let tree = tree(&rt, users(rt.alloc(), 6)?);
     let leaves = Leaves::of(&tree);
-    assert!(rt; leaves.wants() == [50, 50, 50, 10].as_slice());
-    assert!(rt; leaves.floors() == [0, 0, 0, 6].as_slice());
+    holds(&rt, leaves.wants() == [50, 50, 50, 10].as_slice());
+    holds(&rt, leaves.floors() == [0, 0, 0, 6].as_slice());
     Ok(())
 }
 

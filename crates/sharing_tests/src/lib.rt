@@ -8,6 +8,8 @@ mod bounds;
 #[cfg(test)]
 mod checking;
 #[cfg(test)]
+mod expect;
+#[cfg(test)]
 mod limits;
 #[cfg(test)]
 mod shortages;

@@ -2,6 +2,7 @@
 ghost use Rattle.std.specs.Prelude.{◌≤◌};
 
 use super::trees::{three, tree, users};
+use crate::expect::holds;
 use limit_tree::{Flat, Tree};
 use linked_list_allocator::LocalHeap;
 use plain_allotment::allot_plainly;
@@ -46,7 +47,7 @@ fn grants_of<A: Allocator + Clone>(
 fn answers(rt: &impl Abort, heap: &LocalHeap, tree: &Tree, call: Call, grants: &[u64]) -> bool {
     match grants_of(heap, tree, call) {
         Ok(granted) => {
-            assert!(rt; granted.as_slice() == grants);
+            holds(rt, granted.as_slice() == grants);
             true
         }
         Err(_) => false,
@@ -70,7 +71,7 @@ fn answers_in(
     let hog = Vec::<u8, &LocalHeap>::with_capacity(&heap, HEAP - room)?;
     let first = answers(rt, &heap, tree, call, grants);
     drop(hog);
-    assert!(rt; answers(rt, &heap, tree, call, grants));
+    holds(rt, answers(rt, &heap, tree, call, grants));
     Ok(first)
 }
 

@@ -1,5 +1,6 @@
 //! Small random trees, whose grants are held against all grants that there are.
 use super::trees::Numbers;
+use crate::expect::holds;
 use grant_certificate::{Verdict, check};
 use limit_tree::{Node, Tree};
 use round_allocator::allot;
@@ -158,7 +159,7 @@ fn greatest(rt: &impl Abort, alloc: Global, made: &Made) -> Result<Option<Vec<u6
 
 fn expect_checked(rt: &impl Abort, alloc: Global, tree: &Tree) -> Result<Vec<u64>, AllocError> {
     let (grants, certificate) = allot(alloc, tree)?;
-    assert!(rt; check(tree, &grants, &certificate) == Verdict::Yes);
+    holds(rt, check(tree, &grants, &certificate) == Verdict::Yes);
     Ok(grants)
 }
 
@@ -176,12 +177,12 @@ fn expect_greatest(
     let root = any_node(alloc, numbers, &mut made, 3)?;
     let known = greatest(rt, alloc, &made)?;
     let Ok(tree) = Tree::new(root) else {
-        assert!(rt; known.is_none());
+        holds(rt, known.is_none());
         return Ok(false);
     };
     let grants = sorted(alloc, &expect_checked(rt, alloc, &tree)?)?;
     match known {
-        Some(greatest) => assert!(rt; grants.as_slice() == greatest.as_slice()),
+        Some(greatest) => holds(rt, grants.as_slice() == greatest.as_slice()),
         None => panic!(rt; "the grants are not among all lists"),
     }
     Ok(true)
@@ -196,6 +197,6 @@ fn no_other_grants_are_greater(rt: HostRuntime) -> Result<(), AllocError> {
             trees = trees.saturating_add(1);
         }
     }
-    assert!(rt; 300 <= trees && trees < 500);
+    holds(&rt, 300 <= trees && trees < 500);
     Ok(())
 }

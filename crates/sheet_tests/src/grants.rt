@@ -1,5 +1,6 @@
 //! What no clause says of grants files: that the calls succeed, and what texts give.
 
+use crate::expect::{holds, same};
 use linked_list_allocator::LocalHeap;
 use share_text::{GrantsFault, Sheet, SheetFault, read_grants, read_sheet};
 use std::alloc::Allocator;
@@ -23,8 +24,11 @@ fn fault_of<A: Allocator + Clone>(
 fn have_room<A: Allocator + Clone>(rt: &impl Abort, alloc: A, sheet: &Sheet<A>) -> bool {
     match read_grants(alloc, GRANTS, sheet) {
         Ok((grants, certificate)) => {
-            assert!(rt; grants.as_slice() == [2, 3, 1].as_slice());
-            assert!(rt; certificate.entries() == [Some(0), None, Some(2)].as_slice());
+            holds(rt, grants.as_slice() == [2, 3, 1].as_slice());
+            holds(
+                rt,
+                certificate.entries() == [Some(0), None, Some(2)].as_slice(),
+            );
             true
         }
         Err(fault) => {
@@ -38,8 +42,11 @@ fn have_room<A: Allocator + Clone>(rt: &impl Abort, alloc: A, sheet: &Sheet<A>) 
 fn grants_stand_by_leaf(rt: HostRuntime) -> Result<(), Fail> {
     let sheet = read_sheet(rt.alloc(), SHEET)?;
     let (grants, certificate) = read_grants(rt.alloc(), GRANTS, &sheet)?;
-    assert!(rt; grants.as_slice() == [2, 3, 1].as_slice());
-    assert!(rt; certificate.entries() == [Some(0), None, Some(2)].as_slice());
+    holds(&rt, grants.as_slice() == [2, 3, 1].as_slice());
+    holds(
+        &rt,
+        certificate.entries() == [Some(0), None, Some(2)].as_slice(),
+    );
     Ok(())
 }
 
@@ -51,36 +58,66 @@ fn missing_lines_leave_short_lists(rt: HostRuntime) -> Result<(), Fail> {
         b"grant /x/1 2 /\ngrant /y 1 /x\n",
         &sheet,
     )?;
-    assert!(rt; grants.as_slice() == [2, 1].as_slice());
-    assert!(rt; certificate.entries() == [Some(0), Some(1)].as_slice());
+    holds(&rt, grants.as_slice() == [2, 1].as_slice());
+    holds(&rt, certificate.entries() == [Some(0), Some(1)].as_slice());
     let (none, _) = read_grants(rt.alloc(), b"", &sheet)?;
-    assert!(rt; none.is_empty());
+    holds(&rt, none.is_empty());
     Ok(())
 }
 
 #[test]
 fn lines_are_refused(rt: HostRuntime) -> Result<(), Fail> {
     let alloc = rt.alloc();
-    assert!(rt; fault_of(alloc, b"grant /x/1 2 /\ngrant /y 1")?.is_none());
-    assert!(rt; fault_of(alloc, b"grant /y 1 /")? == Some(GrantsFault::WrongPath(1)));
-    assert!(rt; fault_of(alloc, b"grant / 1 /")? == Some(GrantsFault::WrongPath(1)));
-    assert!(rt;
-        fault_of(alloc, b"#\n\ngrant /x/1 1 /\ngrant /x/2 1 /z")? == Some(GrantsFault::WrongPath(4))
+    holds(
+        &rt,
+        fault_of(alloc, b"grant /x/1 2 /\ngrant /y 1")?.is_none(),
     );
-    assert!(rt;
+    holds(
+        &rt,
+        fault_of(alloc, b"grant /y 1 /")? == Some(GrantsFault::WrongPath(1)),
+    );
+    holds(
+        &rt,
+        fault_of(alloc, b"grant / 1 /")? == Some(GrantsFault::WrongPath(1)),
+    );
+    holds(
+        &rt,
+        fault_of(alloc, b"#\n\ngrant /x/1 1 /\ngrant /x/2 1 /z")?
+            == Some(GrantsFault::WrongPath(4)),
+    );
+    holds(
+        &rt,
         fault_of(
             alloc,
-            b"grant /x/1 1\ngrant /y 1\ngrant /x/2 1\ngrant /x/2 1"
-        )? == Some(GrantsFault::WrongPath(4))
+            b"grant /x/1 1\ngrant /y 1\ngrant /x/2 1\ngrant /x/2 1",
+        )? == Some(GrantsFault::WrongPath(4)),
     );
-    assert!(rt; fault_of(alloc, b"grant /x/1 1 /z")? == Some(GrantsFault::NoSuchNode(1)));
-    assert!(rt; fault_of(alloc, b"grant /x/1 1 z")? == Some(GrantsFault::BadLine(1)));
-    assert!(rt; fault_of(alloc, b"grant /x/1 01")? == Some(GrantsFault::BadLine(1)));
-    assert!(rt; fault_of(alloc, b"grant /x/1 1 ")? == Some(GrantsFault::BadLine(1)));
-    assert!(rt; fault_of(alloc, b"give /x/1 1 /")? == Some(GrantsFault::BadLine(1)));
-    assert!(rt; fault_of(alloc, b"grant /x/1 1 / /")? == Some(GrantsFault::BadLine(1)));
+    holds(
+        &rt,
+        fault_of(alloc, b"grant /x/1 1 /z")? == Some(GrantsFault::NoSuchNode(1)),
+    );
+    holds(
+        &rt,
+        fault_of(alloc, b"grant /x/1 1 z")? == Some(GrantsFault::BadLine(1)),
+    );
+    holds(
+        &rt,
+        fault_of(alloc, b"grant /x/1 01")? == Some(GrantsFault::BadLine(1)),
+    );
+    holds(
+        &rt,
+        fault_of(alloc, b"grant /x/1 1 ")? == Some(GrantsFault::BadLine(1)),
+    );
+    holds(
+        &rt,
+        fault_of(alloc, b"give /x/1 1 /")? == Some(GrantsFault::BadLine(1)),
+    );
+    holds(
+        &rt,
+        fault_of(alloc, b"grant /x/1 1 / /")? == Some(GrantsFault::BadLine(1)),
+    );
     let text = format!(in alloc; "{}", GrantsFault::NoSuchNode(3))?;
-    assert_eq!(rt; text.as_str(), "line 3: NoSuchNode");
+    same(&rt, &text.as_str(), &"line 3: NoSuchNode");
     Ok(())
 }
 
@@ -102,8 +139,8 @@ fn each_growth_may_be_refused(rt: HostRuntime) -> Result<(), Fail> {
         let hog = hogs.pop();
         drop(hog);
     }
-    assert!(rt; refusals == 1);
+    holds(&rt, refusals == 1);
     drop(hogs);
-    assert!(rt; have_room(&rt, &heap, &sheet));
+    holds(&rt, have_room(&rt, &heap, &sheet));
     Ok(())
 }

@@ -1,4 +1,5 @@
 //! Lines and what they say.
+use crate::expect::{holds, same};
 use limit_tree::Kind;
 use share_text::{cut_line, read_entry, read_number, read_path};
 use std::test::Fail;
@@ -7,33 +8,33 @@ use std::test::Fail;
 fn lines_end_with_lf_or_cr_lf(rt: HostRuntime) -> Result<(), Fail> {
     let text = b"a\r\n\n#b\nc\r".as_slice();
     let (first, text) = cut_line(text);
-    assert_eq!(rt; first, b"a".as_slice());
-    assert!(rt; !text.is_empty());
+    same(&rt, &first, &b"a".as_slice());
+    holds(&rt, !text.is_empty());
     let (second, text) = cut_line(text);
-    assert_eq!(rt; second, b"".as_slice());
-    assert!(rt; !text.is_empty());
+    same(&rt, &second, &b"".as_slice());
+    holds(&rt, !text.is_empty());
     let (third, text) = cut_line(text);
-    assert_eq!(rt; third, b"#b".as_slice());
-    assert!(rt; !text.is_empty());
+    same(&rt, &third, &b"#b".as_slice());
+    holds(&rt, !text.is_empty());
     let (last, text) = cut_line(text);
-    assert_eq!(rt; last, b"c\r".as_slice());
-    assert!(rt; text.is_empty());
+    same(&rt, &last, &b"c\r".as_slice());
+    holds(&rt, text.is_empty());
     Ok(())
 }
 
 #[test]
 fn entries(rt: HostRuntime) -> Result<(), Fail> {
     let limit = read_entry(b"limit / 10").ok_or("refused")?;
-    assert_eq!(rt; limit.path, "");
-    assert_eq!(rt; limit.kind, Kind::Branch { limit: Some(10) });
+    same(&rt, &limit.path, &"");
+    same(&rt, &limit.kind, &Kind::Branch { limit: Some(10) });
     let open = read_entry(b"limit /x/y -").ok_or("refused")?;
-    assert_eq!(rt; open.path, "/x/y");
-    assert_eq!(rt; open.kind, Kind::Branch { limit: None });
+    same(&rt, &open.path, &"/x/y");
+    same(&rt, &open.kind, &Kind::Branch { limit: None });
     let want = read_entry(b"want /a-_.9 10").ok_or("refused")?;
-    assert_eq!(rt; want.path, "/a-_.9");
-    assert_eq!(rt; want.kind, Kind::Leaf { want: 10, floor: 0 });
+    same(&rt, &want.path, &"/a-_.9");
+    same(&rt, &want.kind, &Kind::Leaf { want: 10, floor: 0 });
     let floor = read_entry(b"want /a 10 6").ok_or("refused")?;
-    assert_eq!(rt; floor.kind, Kind::Leaf { want: 10, floor: 6 });
+    same(&rt, &floor.kind, &Kind::Leaf { want: 10, floor: 6 });
     Ok(())
 }
 
@@ -58,21 +59,22 @@ fn bad_lines(rt: HostRuntime) -> Result<(), Fail> {
         b"limit /\xff 1",
     ];
     for line in lines.iter() {
-        assert!(rt; read_entry(line).is_none());
+        holds(&rt, read_entry(line).is_none());
     }
     Ok(())
 }
 
 #[test]
 fn numbers_and_paths(rt: HostRuntime) -> Result<(), Fail> {
-    assert_eq!(rt; read_number(b"0"), Some(0));
-    assert_eq!(rt;
-        read_number(b"9999999999999999999"),
-        Some(9_999_999_999_999_999_999)
+    same(&rt, &read_number(b"0"), &Some(0));
+    same(
+        &rt,
+        &read_number(b"9999999999999999999"),
+        &Some(9_999_999_999_999_999_999),
     );
-    assert_eq!(rt; read_number(b"00"), None);
-    assert_eq!(rt; read_number(b""), None);
-    assert!(rt; read_path(b"/").is_some());
-    assert!(rt; read_path(b"").is_none());
+    same(&rt, &read_number(b"00"), &None);
+    same(&rt, &read_number(b""), &None);
+    holds(&rt, read_path(b"/").is_some());
+    holds(&rt, read_path(b"").is_none());
     Ok(())
 }

@@ -1,6 +1,7 @@
 //! What no clause says of sheets: that the calls succeed, and what texts give.
 ghost use Rattle.std.specs.Prelude.{◌≤◌};
 
+use crate::expect::holds;
 use limit_tree::{Kind, TreeFault};
 use linked_list_allocator::LocalHeap;
 use share_text::{Sheet, SheetFault, read_sheet};
@@ -36,7 +37,7 @@ fn sheet_of(rt: &impl Abort, alloc: Global, text: &[u8]) -> Sheet {
 
 /// The sheet has these nodes and no others.
 fn expect_nodes<A: Allocator>(rt: &impl Abort, sheet: &Sheet<A>, nodes: &[(&str, Kind)]) {
-    assert!(rt; sheet.tree().nodes() == nodes.len());
+    holds(rt, sheet.tree().nodes() == nodes.len());
     for (node, (path, kind)) in nodes.iter().enumerate() {
         if node >= sheet.tree().nodes() {
             rt.abort();
@@ -49,14 +50,14 @@ fn expect_nodes<A: Allocator>(rt: &impl Abort, sheet: &Sheet<A>, nodes: &[(&str,
 
 /// The sheet has these leaves and no others, and the wants are theirs in this order.
 fn expect_leaves<A: Allocator>(rt: &impl Abort, sheet: &Sheet<A>, paths: &[&str], wants: &[usize]) {
-    assert!(rt; sheet.tree().leaves() == paths.len());
+    holds(rt, sheet.tree().leaves() == paths.len());
     for (leaf, path) in paths.iter().enumerate() {
         if leaf >= sheet.tree().leaves() {
             rt.abort();
         }
         assert!(rt; sheet.leaf_path(leaf) == *path, "{path}");
     }
-    assert!(rt; sheet.wants() == wants);
+    holds(rt, sheet.wants() == wants);
 }
 
 fn expect_sheet<A: Allocator>(rt: &impl Abort, sheet: &Sheet<A>) {
@@ -206,6 +207,6 @@ fn each_growth_may_be_refused(rt: HostRuntime) {
     for (step, outcome) in outcomes.iter_mut().enumerate() {
         *outcome = Some(has_room(&rt, rt.alloc(), 16 * step.min(255)));
     }
-    assert!(rt; outcomes.contains(&Some(false)));
-    assert!(rt; outcomes.contains(&Some(true)));
+    holds(&rt, outcomes.contains(&Some(false)));
+    holds(&rt, outcomes.contains(&Some(true)));
 }

@@ -51,6 +51,11 @@ def write_grants(shared, output):
                 print("grant", *words[:2], *words[5:], file=grants)
 
 
+def octets_of(file):
+    with open(file, "rb") as it:
+        return it.read()
+
+
 def row_of(name, folder, ftpd, yardstick, runs):
     with open(f"{folder}/{name}.facts", encoding="utf-8") as it:
         facts = it.read().split()
@@ -61,6 +66,8 @@ def row_of(name, folder, ftpd, yardstick, runs):
     opened, _ = share("open")
     bare, _ = share("bare")
     beside, _ = least([yardstick, f"{folder}/{name}.sheet"], f"{folder}/yardstick.out", runs)
+    if octets_of(f"{folder}/yardstick.out") != octets_of(f"{folder}/{name}.sheet.out"):
+        sys.exit(f"bench: of {name} the yardstick prints something else")
     times = [whole, opened, bare, bare, whole - opened, opened - bare, judged - bare, beside]
     return [name, *facts, *[f"{time:.1f}" for time in times], f"{memory:.0f}"]
 

@@ -1,4 +1,17 @@
-//! Limit trees.
+//! Limit trees: limits that nest over transfers, each of which waits with some octets and may be guaranteed some.
+//!
+//! A [`Node`] is a leaf, or a branch over kids with a limit or without; [`Tree::new`] accepts those whose numbers are in
+//! range and whose floors fit, and each [`Tree`] is a limit tree in the sense of `specs/Sharing.antt`. [`Flat`] has the nodes
+//! of a tree in arrays, in preorder, for who walks it often.
+//!
+//! ```text
+//! let ann = Node::Leaf { want: 50, floor: 0 };
+//! let bob = Node::Leaf { want: 10, floor: 6 };
+//! let tree = Tree::new(Node::Branch { limit: Some(30), kids: vec![in alloc; ann, bob]? })?;
+//! tree.leaves();              // 2
+//! tree.absorb(0, 12);         // 22: what the root takes in where each leaf has up to 12 octets
+//! tree.is_full(0, &[20, 10]); // true: its leaves have the whole limit
+//! ```
 #![tactic(auto)]
 
 mod absorb;

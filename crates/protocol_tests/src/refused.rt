@@ -59,7 +59,7 @@ fn write_outcome(
     let first = write_command(&heap, command).is_ok();
     drop(hog);
     match write_command(&heap, command) {
-        Ok(line) => same(rt, &line.len(), &1007),
+        Ok(line) => holds(rt, line.len() == 1007),
         Err(_) => panic!(rt; "memory is there again"),
     }
     Some(first)

@@ -67,7 +67,7 @@ fn thousand_lines_behind_a_long_buffer(rt: HostRuntime) -> Result<(), Fail> {
     let count: usize = 1_000_000;
     let mut buffer = vec![in alloc; b'x'; count]?;
     long_reply(alloc, 1000)?.write_to(&mut buffer)?;
-    same(&rt, &buffer.len(), &(1_000_000 + 10 + 4000 + 9));
+    holds(&rt, buffer.len() == 1_000_000 + 10 + 4000 + 9);
     holds(&rt, buffer.as_slice().starts_with(b"xxxx"));
     holds(&rt, buffer.as_slice().ends_with(b" 1\r\n 1\r\n211 End\r\n"));
     Ok(())

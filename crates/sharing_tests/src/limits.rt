@@ -36,8 +36,8 @@ fn refusal(root: Node) -> Option<TreeFault> {
 #[test]
 fn tells_nodes_and_leaves(rt: HostRuntime) -> Result<(), AllocError> {
     let tree = tree(&rt, users(rt.alloc(), 6)?);
-    same(&rt, &tree.leaves(), &4);
-    same(&rt, &tree.nodes(), &8);
+    holds(&rt, tree.leaves() == 4);
+    holds(&rt, tree.nodes() == 8);
     same(&rt, &tree.want(1), &50);
     same(&rt, &tree.want(3), &10);
     same(&rt, &tree.floor(2), &0);
@@ -63,7 +63,7 @@ fn takes_in_up_to_a_level(rt: HostRuntime) -> Result<(), AllocError> {
     let first = Node::Leaf { want: 5, floor: 2 };
     let last = Node::Leaf { want: 9, floor: 1 };
     let tree = tree(&rt, branch(Some(10), vec![in alloc; first, inner, last]?));
-    same(&rt, &tree.nodes(), &6);
+    holds(&rt, tree.nodes() == 6);
     // The floors, then a level that the inner branch cuts, then one that the root cuts.
     holds(
         &rt,
@@ -152,7 +152,7 @@ fn a_flat_tree_tells_what_the_tree_tells(rt: HostRuntime) -> Result<(), AllocErr
     let tree = tree(&rt, users(rt.alloc(), 6)?);
     let flat = Flat::of(rt.alloc(), &tree)?;
     expect_same(&rt, &tree, &flat);
-    same(&rt, &flat.nodes(), &8);
+    holds(&rt, flat.nodes() == 8);
     holds(&rt, flat.absorb(0, 12) == 46 && flat.absorb(1, 20) == 30);
     holds(
         &rt,

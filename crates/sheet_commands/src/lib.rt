@@ -1,5 +1,14 @@
 //! The commands on sheets, over any reader and writer: sharing the limits of a sheet, and checking grants within
 //! them.
+//!
+//! ```text
+//! let mut output = Vec::new(alloc);
+//! run_share(alloc, &mut reader, &mut output)?;  // a line for each want, and the total
+//! match run_check(alloc, &mut sheet, &mut grants, &mut output)? {
+//!     Verdict::Yes => ..,      // and `yes` was written
+//!     Verdict::No(flaw) => .., // and the first flaw was
+//! }
+//! ```
 #![tactic(auto)]
 
 mod check;

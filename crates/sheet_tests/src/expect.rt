@@ -1,10 +1,14 @@
 //! What tests expect. A call costs the prover less than an `assert_eq!` in its place.
 
+ghost use Rattle.std.specs.Prelude.{IsTrue};
+
 use std::fmt::Debug;
 use std::process::Abort;
 
 /// Stops the test where this does not hold.
-pub(crate) fn holds(rt: &impl Abort, fact: bool) {
+pub(crate) fn holds(rt: &impl Abort, fact: bool)
+    ensures so { IsTrue fact }
+{
     assert!(rt; fact);
 }
 

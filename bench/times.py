@@ -8,8 +8,9 @@ Each time is the least of so many runs (3), in milliseconds of the processor (th
 it). What is printed goes to a file of the folder, and an answer other than 0 ends the bench.
 """
 
-import os
 import sys
+
+from clock import least, tell
 
 NAMES = ["empty", "groups", "deep", "large", "nested", "largest"]
 HEAD = ["sheet", "octets", "lines", "nodes", "wants", "whole", "open", "bare", "reading", "sharing", "printing", "check", "yardstick", "MB"]
@@ -19,27 +20,6 @@ NODES = 4_000_000
 TREE_HEAD = ["nodes", "made", "allot", "check", "MB"]
 ALLOTS = 2
 CHECKS = 20
-
-
-def run(words, output):
-    """Returns the milliseconds of the processor, and the most memory in MB."""
-    child = os.fork()
-    if not child:
-        try:
-            to = os.open(output, os.O_WRONLY | os.O_CREAT | os.O_TRUNC, 0o600)
-            os.dup2(to, 1)
-            os.execv(words[0], words)
-        finally:
-            os._exit(127)
-    _, status, used = os.wait4(child, 0)
-    if os.waitstatus_to_exitcode(status):
-        sys.exit(f"bench: {' '.join(words)}: status {os.waitstatus_to_exitcode(status)}")
-    return (used.ru_utime + used.ru_stime) * 1_000, used.ru_maxrss / 1_024
-
-
-def least(words, output, runs):
-    found = [run(words, output) for _ in range(runs)]
-    return min(time for time, _ in found), max(memory for _, memory in found)
 
 
 def write_grants(shared, output):
@@ -86,16 +66,8 @@ def tree_row(folder, large_tree, runs):
     return [f"{NODES}", *[f"{time:.1f}" for time in times], f"{max(memory, most):.0f}"]
 
 
-def tell(head, rows):
-    print("| " + " | ".join(head) + " |")
-    print("|---|" + "---:|" * (len(head) - 1))
-    for row in rows:
-        print("| " + " | ".join(row) + " |", flush=True)
-
-
 def main(folder, ftpd, yardstick, large_tree, runs="3"):
     tell(HEAD, (row_of(name, folder, ftpd, yardstick, int(runs)) for name in NAMES))
-    print()
     tell(TREE_HEAD, [tree_row(folder, large_tree, int(runs))])
 
 

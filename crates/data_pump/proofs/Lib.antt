@@ -1,4 +1,5 @@
 pub mod DownloadLemmas
 pub mod KnownLemmas
+pub mod RunLemmas
 pub mod UploadLemmas
 pub mod WireLemmas

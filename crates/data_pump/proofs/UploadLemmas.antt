@@ -1,10 +1,8 @@
-use Rattle.std.proofs.Common.{◌≡◌, ◌+◌, ◌++◌, ℕ, List, [], ◌∷◌, length, Option, Some, refl, sym, ap, ◌∙◌, subst, append_assoc, append-nil}
-use Rattle.std.specs.Io.KnownBytes.{Appends, Consumes, IsAtEnd}
-use Rattle.ftp_terms.specs.declared.data_type.DataType.{DataType}
+use Rattle.std.proofs.Common.{◌≡◌, ◌++◌, ℕ, List, [], Option, Some, refl, sym, ap, ◌∙◌, subst, append_assoc, append-nil}
 use Rattle.data_pump.specs.declared.pumped.Pumped.{Pumped}
 use Rattle.data_pump.specs.declared.pumped.PumpEnd.TheVariants.{Ended, More}
 use Rattle.data_pump.specs.WireText.{received, ReceivesOctets}
-use Rattle.data_pump.specs.Uploads.{InView, MovesIn, IsReceiving, Gives, IsEnd}
+use Rattle.data_pump.specs.Uploads.{InView, MovesIn, IsReceiving}
 use Rattle.data_pump.proofs.KnownLemmas.{known-appended, known-consumed, known-at_end, no_octets}
 use Rattle.data_pump.proofs.WireLemmas.{receives-append, receives_none}
 use Rattle.virtual_tree.specs.Calls.{Target}

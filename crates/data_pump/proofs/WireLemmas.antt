@@ -1,9 +1,9 @@
-use Rattle.std.proofs.Common.{◌≡◌, ◌≢◌, ◌+◌, ◌-◌, ◌<◌, ◌≤◌, ◌++◌, ◌&&◌, ◌==◌, ℕ, suc, zero, List, [], ◌∷◌, Bool, true, false, not, length, take, drop, get_or, set, refl, sym, ap, ◌∙◌, subst, arith, append_assoc, append-nil}
+use Rattle.std.proofs.Common.{◌≡◌, ◌++◌, ◌==◌, ℕ, List, [], ◌∷◌, Bool, true, false, refl, sym, ap, ◌∙◌, append_assoc, append-nil}
 use Rattle.std.proofs.lemmas.Bool.{eqb-true}
 use Rattle.std.proofs.lemmas.Grind.{flat_map-append}
 use Rattle.ftp_terms.specs.declared.data_type.DataType.{DataType}
 use Rattle.ftp_terms.specs.declared.data_type.DataType.TheVariants.{Ascii, Image}
-use Rattle.data_pump.specs.WireText.{sent, sent_octet, sent_text, received, received_text, received_octet, octet_but_cr, cr_if, ReceivesOctets}
+use Rattle.data_pump.specs.WireText.{sent, sent_octet, sent_text, received, received_text, ReceivesOctets}
 
 pub sent-append : (data_type : DataType) (xs ys : List ℕ) → sent data_type (xs ++ ys) ≡ sent data_type xs ++ sent data_type ys
 sent-append Ascii xs ys = flat_map-append sent_octet xs ys
@@ -45,28 +45,6 @@ pub received-sent : (data_type : DataType) (xs : List ℕ) → received data_typ
 received-sent Ascii xs = received-sent_text xs
 received-sent Image xs = refl
 
--- one octet more, by what it is
-receives_by : (held : Bool) (c : ℕ) (b d : Bool) → (c == 10) ≡ b → (c == 13) ≡ d
-    → ReceivesOctets Ascii (cr_if held) (c ∷ []) (received_octet held c) (cr_if (c == 13))
-receives_by false c b true e f = λ later.
-    let is : 13 ≡ c = sym (eqb-true c 13 f) in
-    subst (λ n. received_text (n ∷ later) ≡ received_octet false n ++ received_text (cr_if (n == 13) ++ later)) is refl
-receives_by false c b false e f = λ later.
-    let told : received_octet false c ++ received_text (cr_if (c == 13) ++ later) ≡ c ∷ received_text later = rw f refl in
-    received-no_cr c later f ∙ sym told
-receives_by true c true d e f = λ later.
-    let is : 10 ≡ c = sym (eqb-true c 10 e) in
-    subst (λ n. received_text (13 ∷ n ∷ later) ≡ received_octet true n ++ received_text (cr_if (n == 13) ++ later)) is (received-no_cr 10 later refl)
-receives_by true c false true e f = λ later.
-    let is : 13 ≡ c = sym (eqb-true c 13 f) in
-    subst (λ n. received_text (13 ∷ n ∷ later) ≡ received_octet true n ++ received_text (cr_if (n == 13) ++ later)) is (received-lone_cr 13 later refl)
-receives_by true c false false e f = λ later.
-    let told : received_octet true c ++ received_text (cr_if (c == 13) ++ later) ≡ 13 ∷ c ∷ received_text later = rw (e, f) refl in
-    received-lone_cr c later e ∙ (ap (λ l. 13 ∷ l) (received-no_cr c later f) ∙ sym told)
-
-pub receives_octet : (held : Bool) (c : ℕ) → ReceivesOctets Ascii (cr_if held) (c ∷ []) (received_octet held c) (cr_if (c == 13))
-receives_octet held c = receives_by held c (c == 10) (c == 13) refl refl
-
 -- nothing more
 pub receives_none : (data_type : DataType) (held : List ℕ) → ReceivesOctets data_type held [] [] held
 receives_none data_type held = λ later. ap (λ l. received data_type (l ++ later)) (append-nil held)
@@ -82,20 +60,3 @@ receives-append data_type held xs text rest ys more last p q = λ later.
     ∙ (p (ys ++ later)
     ∙ (ap (λ l. text ++ received data_type l) (sym (append_assoc rest ys later))
     ∙ (ap (λ l. text ++ l) (q later) ∙ sym (append_assoc text more (received data_type (last ++ later))))))
-
--- how much room an octet takes
-length-by : (held : Bool) (c : ℕ) (b d : Bool) → (c == 10) ≡ b → (c == 13) ≡ d
-    → length (received_octet held c) + length (cr_if (c == 13)) ≤ length (cr_if held) + 1
-length-by false c b true e f = rw f (omega arith)
-length-by false c b false e f = rw f (omega arith)
-length-by true c true true e f = rw (e, f) (omega arith)
-length-by true c true false e f = rw (e, f) (omega arith)
-length-by true c false true e f = rw (e, f) (omega arith)
-length-by true c false false e f = rw (e, f) (omega arith)
-
-pub length-received_octet : (held : Bool) (c : ℕ) → length (received_octet held c) + length (cr_if (c == 13)) ≤ length (cr_if held) + 1
-length-received_octet held c = length-by held c (c == 10) (c == 13) refl refl
-
-pub length-cr_if : (b : Bool) → length (cr_if b) ≤ 1
-length-cr_if true = omega arith
-length-cr_if false = omega arith

@@ -1,5 +1,5 @@
 -- What is seen of wire octets that wait.
-use Rattle.std.specs.Prelude.{◌≡◌, ◌*◌, ◌<◌, ◌≤◌, ℕ, List, [], length, Option}
+use Rattle.std.specs.Prelude.{◌≡◌, ◌*◌, ◌<◌, ◌≤◌, ℕ, List, length, Option}
 use Rattle.std.specs.Io.KnownBytes.{Consumes, IsAtEnd}
 use Rattle.ftp_terms.specs.declared.data_type.DataType.{DataType}
 use Rattle.ftp_terms.specs.declared.data_type.DataType.TheVariants.{Ascii, Image}

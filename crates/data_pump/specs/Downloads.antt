@@ -1,9 +1,9 @@
 -- What is seen of a transfer, and what a pump makes of it.
-use Rattle.std.specs.Prelude.{◌≡◌, ◌≢◌, ◌⊎◌, ◌+◌, ◌<◌, ◌≤◌, ◌++◌, ℕ, min, List, [], length, take, drop, Option, Some, Bool, true, IsTrue}
+use Rattle.std.specs.Prelude.{◌≡◌, ◌⊎◌, ◌<◌, ◌≤◌, ◌++◌, ℕ, min, List, [], length, take, drop, Option, Some, Bool, IsTrue}
 use Rattle.std.specs.Option.{option_map}
 use Rattle.std.specs.Io.KnownBytes.{Appends, Consumes, IsAtEnd}
 use Rattle.ftp_terms.specs.declared.data_type.DataType.{DataType}
-use Rattle.data_pump.specs.WireText.{sent, received, ReceivesOctets}
+use Rattle.data_pump.specs.WireText.{sent}
 use Rattle.data_pump.specs.declared.pumped.PumpEnd.{PumpEnd}
 use Rattle.data_pump.specs.declared.pumped.PumpEnd.TheVariants.{Ended, More, ReadFault, WriteFault, Memory}
 use Rattle.data_pump.specs.declared.pumped.Pumped.{Pumped}

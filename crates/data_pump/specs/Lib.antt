@@ -1,4 +1,5 @@
 pub mod Buffers
 pub mod Downloads
+pub mod Runs
 pub mod Uploads
 pub mod WireText

@@ -1,5 +1,5 @@
 -- Text on a data connection (RFC 959, section 3.1.1): 10 is LF, 13 is CR.
-use Rattle.std.specs.Prelude.{◌≡◌, ◌++◌, ◌&&◌, ◌==◌, ℕ, List, [], ◌∷◌, Bool, true, false, not, if◌then◌else◌}
+use Rattle.std.specs.Prelude.{◌≡◌, ◌++◌, ◌&&◌, ◌==◌, ℕ, List, [], ◌∷◌, Bool, true, false, if◌then◌else◌}
 use Rattle.std.specs.List.{flat_map}
 use Rattle.ftp_terms.specs.declared.data_type.DataType.{DataType}
 use Rattle.ftp_terms.specs.declared.data_type.DataType.TheVariants.{Ascii, Image}
@@ -51,13 +51,6 @@ HoldsNothing Image held = held ≡ []
 abbrev pub ReceivesOctets : DataType → List ℕ → List ℕ → List ℕ → List ℕ → Type 0
 ReceivesOctets data_type held octets text rest =
     (later : List ℕ) → received data_type (held ++ octets ++ later) ≡ text ++ received data_type (rest ++ later)
-
--- what an octet means where a CR is held before it, or none; a CR is held in its turn
-abbrev pub octet_but_cr : ℕ → List ℕ
-octet_but_cr octet = if octet == 13 then [] else octet ∷ []
-
-abbrev pub received_octet : Bool → ℕ → List ℕ
-received_octet held octet = cr_if (held && not (octet == 10)) ++ octet_but_cr octet
 
 abbrev pub IsSentInPieces : Type 0
 IsSentInPieces = (data_type : DataType) (xs ys : List ℕ) → sent data_type (xs ++ ys) ≡ sent data_type xs ++ sent data_type ys

@@ -4,7 +4,7 @@ ghost use Rattle.std.specs.Prelude.{◌≡◌, ◌+◌, ◌*◌, ◌<◌, ◌≤
 ghost use Rattle.std.specs.Io.KnownBytes.{Keeps};
 ghost use Rattle.data_pump.specs.Buffers.{Fills};
 
-use crate::wire::send_text;
+use crate::runs::send_text;
 use ftp_terms::DataType;
 use std::alloc::{AllocError, Allocator};
 use std::marker::Model;

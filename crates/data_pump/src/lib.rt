@@ -17,6 +17,7 @@ mod buffer;
 mod download;
 mod laws;
 mod pumped;
+mod runs;
 mod upload;
 mod wire;
 mod writing;

@@ -1,14 +1,11 @@
 //! Text between a file and the wire, piece by piece.
 
-ghost use Rattle.std.specs.Prelude.{◌≡◌, ◌+◌, ◌*◌, ◌<◌, ◌≤◌, ◌++◌, ℕ, List, [], ◌∷◌, length, take, IfSome, IfNone};
-ghost use Rattle.data_pump.specs.WireText.{sent, sent_octet, sent_text, received, received_octet, octet_but_cr, cr_if, HoldsNothing, ReceivesOctets};
+ghost use Rattle.std.specs.Prelude.{◌≡◌, ◌*◌, ◌<◌, ◌≤◌, [], ◌∷◌, length, take, IfSome, IfNone};
+ghost use Rattle.data_pump.specs.WireText.{sent, HoldsNothing, ReceivesOctets};
 
+use crate::runs::{CR, receive_text, send_text};
 use ftp_terms::DataType;
 use std::marker::Model;
-
-const LF: u8 = 10;
-
-const CR: u8 = 13;
 
 /// Turns the octets of a file into those on the wire, and back (RFC 959, section 3.1.1).
 ///
@@ -99,75 +96,4 @@ impl Wire {
         }
         None
     }
-}
-
-// Each LF becomes CR LF, in one pass. The wire text stands at the front.
-pub(crate) fn send_text(piece: &[u8], wire: &mut [u8]) -> usize
-    requires room { 2 * length piece.now ≤ length wire.old }
-    ensures bound { result ≤ length wire.new }
-    ensures least { length piece.now ≤ result }
-    ensures sent { take result wire.new ≡ sent_text piece.now }
-{
-    let mut count = 0;
-    for octet in piece {
-        count = send_octet(*octet, wire, count);
-    }
-    count
-}
-
-// Puts one octet of a text behind the first `count` octets of the wire text.
-fn send_octet(octet: u8, wire: &mut [u8], count: usize) -> usize
-    requires room { count + 2 ≤ length wire.old }
-    ensures more { count < result }
-    ensures bound { result ≤ count + 2 }
-    ensures sent { take result wire.new ≡ take count wire.old ++ sent_octet octet }
-{
-    if octet == LF {
-        wire[count] = CR;
-        wire[count + 1] = LF;
-        return count + 2;
-    }
-    wire[count] = octet;
-    count + 1
-}
-
-// Each CR LF becomes LF, in one pass. Told is how many octets of text stand at the front, and whether a CR is held back.
-fn receive_text(holds_cr: bool, piece: &[u8], text: &mut [u8]) -> (usize, bool)
-    requires room { length piece.now < length text.old }
-    ensures bound { result.0 ≤ length text.new }
-    ensures received { ReceivesOctets DataType.Ascii (cr_if holds_cr) piece.now (take result.0 text.new) (cr_if result.1) }
-{
-    let mut held = holds_cr;
-    let mut count = 0;
-    for octet in piece {
-        count = receive_octet(*octet, held, text, count);
-        held = *octet == CR;
-    }
-    (count, held)
-}
-
-// Puts what one more octet means behind the first `count` octets of the text.
-fn receive_octet(octet: u8, holds_cr: bool, text: &mut [u8], count: usize) -> usize
-    requires room { count + length (received_octet holds_cr octet) ≤ length text.old }
-    ensures count { result ≡ count + length (received_octet holds_cr octet) }
-    ensures received { take result text.new ≡ take count text.old ++ received_octet holds_cr octet }
-{
-    if holds_cr && octet != LF {
-        text[count] = CR;
-        return put_but_cr(octet, text, count + 1);
-    }
-    put_but_cr(octet, text, count)
-}
-
-// Puts an octet behind the first `count` octets of the text, unless it is a CR.
-fn put_but_cr(octet: u8, text: &mut [u8], count: usize) -> usize
-    requires room { count + length (octet_but_cr octet) ≤ length text.old }
-    ensures count { result ≡ count + length (octet_but_cr octet) }
-    ensures received { take result text.new ≡ take count text.old ++ octet_but_cr octet }
-{
-    if octet == CR {
-        return count;
-    }
-    text[count] = octet;
-    count + 1
 }

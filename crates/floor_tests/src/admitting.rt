@@ -1,6 +1,7 @@
 //! Which sessions are admitted.
 
 use super::rates::{floors, limits, two_users, user};
+use crate::expect::holds;
 use line_rates::{GroupRate, UserRate};
 use std::test::Fail;
 
@@ -8,11 +9,12 @@ use std::test::Fail;
 fn admitted_refused_and_admitted_after_a_release(rt: HostRuntime) -> Result<(), Fail> {
     let limits = two_users(&rt, rt.alloc())?;
     let mut floors = floors(rt.alloc(), &limits)?;
-    assert!(rt; floors.admit(1));
-    assert!(rt; !floors.admit(1));
-    assert!(rt; floors.release(1));
-    assert!(rt; !floors.release(1));
-    assert!(rt; floors.admit(1));
+    holds(&rt, floors.admit(1));
+    holds(&rt, !floors.admit(1));
+    floors.promises_fit();
+    holds(&rt, floors.release(1));
+    holds(&rt, !floors.release(1));
+    holds(&rt, floors.admit(1));
     Ok(())
 }
 
@@ -20,11 +22,11 @@ fn admitted_refused_and_admitted_after_a_release(rt: HostRuntime) -> Result<(), 
 fn users_share_what_the_server_has(rt: HostRuntime) -> Result<(), Fail> {
     let limits = two_users(&rt, rt.alloc())?;
     let mut floors = floors(rt.alloc(), &limits)?;
-    assert!(rt; floors.admit(2));
-    assert!(rt; floors.admit(1));
-    assert!(rt; !floors.admit(2));
-    assert!(rt; floors.release(1));
-    assert!(rt; floors.admit(2));
+    holds(&rt, floors.admit(2));
+    holds(&rt, floors.admit(1));
+    holds(&rt, !floors.admit(2));
+    holds(&rt, floors.release(1));
+    holds(&rt, floors.admit(2));
     Ok(())
 }
 
@@ -32,9 +34,9 @@ fn users_share_what_the_server_has(rt: HostRuntime) -> Result<(), Fail> {
 fn a_user_without_a_row_is_admitted_and_not_counted(rt: HostRuntime) -> Result<(), Fail> {
     let limits = two_users(&rt, rt.alloc())?;
     let mut floors = floors(rt.alloc(), &limits)?;
-    assert!(rt; floors.admit(7));
-    assert!(rt; floors.admit(7));
-    assert!(rt; !floors.release(7));
+    holds(&rt, floors.admit(7));
+    holds(&rt, floors.admit(7));
+    holds(&rt, !floors.release(7));
     Ok(())
 }
 
@@ -52,11 +54,11 @@ fn a_group_has_a_rate_of_its_own(rt: HostRuntime) -> Result<(), Fail> {
     ]?;
     let limits = limits(&rt, 0, vec![in rt.alloc(); group]?, users);
     let mut floors = floors(rt.alloc(), &limits)?;
-    assert!(rt; floors.admit(1));
-    assert!(rt; !floors.admit(1));
-    assert!(rt; floors.admit(2));
-    assert!(rt; floors.admit(3));
-    assert!(rt; !floors.admit(2));
+    holds(&rt, floors.admit(1));
+    holds(&rt, !floors.admit(1));
+    holds(&rt, floors.admit(2));
+    holds(&rt, floors.admit(3));
+    holds(&rt, !floors.admit(2));
     Ok(())
 }
 
@@ -77,9 +79,9 @@ fn a_session_and_a_user_have_rates(rt: HostRuntime) -> Result<(), Fail> {
         vec![in rt.alloc(); small, twice]?,
     );
     let mut floors = floors(rt.alloc(), &limits)?;
-    assert!(rt; !floors.admit(1));
-    assert!(rt; floors.admit(2));
-    assert!(rt; floors.admit(2));
-    assert!(rt; !floors.admit(2));
+    holds(&rt, !floors.admit(1));
+    holds(&rt, floors.admit(2));
+    holds(&rt, floors.admit(2));
+    holds(&rt, !floors.admit(2));
     Ok(())
 }

@@ -4,6 +4,8 @@
 #[cfg(test)]
 mod admitting;
 #[cfg(test)]
+mod expect;
+#[cfg(test)]
 mod rates;
 #[cfg(test)]
 mod shortages;

@@ -2,6 +2,7 @@
 ghost use Rattle.std.specs.Prelude.{◌≤◌};
 
 use super::rates::{limits, user};
+use crate::expect::holds;
 use line_rates::{GroupRate, Limits};
 use linked_list_allocator::LocalHeap;
 use rate_floors::Floors;
@@ -14,8 +15,8 @@ fn answers(rt: &impl Abort, heap: &LocalHeap, limits: &Limits) -> bool {
     match Floors::of(heap, limits) {
         Ok(floors) => {
             let mut floors = floors;
-            assert!(rt; floors.admit(1));
-            assert!(rt; !floors.admit(1));
+            holds(rt, floors.admit(1));
+            holds(rt, !floors.admit(1));
             true
         }
         Err(_) => false,
@@ -32,7 +33,7 @@ fn answers_in(rt: &impl Abort, alloc: Global, room: usize, limits: &Limits) -> R
     let hog = Vec::<u8, &LocalHeap>::with_capacity(&heap, HEAP - room)?;
     let first = answers(rt, &heap, limits);
     drop(hog);
-    assert!(rt; answers(rt, &heap, limits));
+    holds(rt, answers(rt, &heap, limits));
     Ok(first)
 }
 

@@ -1,5 +1,5 @@
 -- What is known of a store over a folder of the machine: not what its files hold, but when it may refuse.
-use Rattle.std.specs.Prelude.{◌≡◌, ◌≢◌, ℕ, Option, Some, Result, IfErr}
+use Rattle.std.specs.Prelude.{◌≡◌, ◌≢◌, ℕ, Option, Some}
 use Rattle.virtual_tree.specs.declared.fault.StoreFault.{StoreFault}
 use Rattle.virtual_tree.specs.declared.fault.StoreFault.TheVariants.{Device, Full}
 use Rattle.virtual_tree.specs.Calls.{Exchange, refusal}
@@ -10,9 +10,6 @@ pub record IsHonest (old new : ℕ) (refused : Option StoreFault) : Type 0 where
   pub device : refused ≡ Some Device → new ≢ old
   pub others : refused ≢ Some Device → new ≡ old
   pub never_full : refused ≢ Some Full
-
-abbrev pub NeverFull : {X : Type 0} → Result X StoreFault → Type 0
-NeverFull answer = IfErr answer (λ fault. fault ≢ Full)
 
 -- a call of such a store, seen as its count of faults
 abbrev pub FolderStep : {R K : Type 0} → FaultCount → Exchange R K → FaultCount → Type 0

@@ -1,4 +1,2 @@
 pub mod Honest
 pub mod Listings
-pub mod Times
-pub mod Told

@@ -1,10 +1,10 @@
 //! Entries of a folder that are made, removed and renamed.
 
-ghost use Rattle.folder_store.specs.Honest.{NeverFull};
+ghost use Rattle.machine_files.specs.Refusals.{NeverFull};
 
 use crate::folder::Folder;
-use crate::look::fault_of;
 use ftp_terms::Kind;
+use machine_files::fault_of;
 use std::fs;
 use std::fs::OpenOptions;
 use std::rt::Files;

@@ -1,10 +1,11 @@
 //! Files of a folder that are opened.
 
-ghost use Rattle.folder_store.specs.Honest.{NeverFull};
+ghost use Rattle.machine_files.specs.Refusals.{NeverFull};
 
 use crate::folder::Folder;
-use crate::look::fault_of;
-use crate::open::{DirSink, DirSource, read_behind, write_at_end, write_behind, write_new};
+use machine_files::{
+    DirSink, DirSource, fault_of, read_behind, write_at_end, write_behind, write_new,
+};
 use std::fs::{Metadata, OpenOptions};
 use std::rt::Files;
 use virtual_path::VPath;
@@ -47,17 +48,17 @@ impl<R: Files + Alloc + Clone + Drop> Folder<R> {
         read_behind(file, &looked, offset)
     }
 
-    /// A new file, where nothing stands, not even a link.
-    fn make_file(&self, path: &VPath<R::A>) -> Result<R::File, StoreFault>
+    /// A new file, where nothing stands, not even a link, made by options that say how it is written.
+    fn make_file(
+        &self,
+        path: &VPath<R::A>,
+        how: &OpenOptions,
+    ) -> Result<DirSink<R::File>, StoreFault>
         ensures full { NeverFull result }
     {
         let place = self.place(path)?;
-        match OpenOptions::new()
-            .write(true)
-            .create_new(true)
-            .open(&self.rt, place.as_str())
-        {
-            Ok(file) => Ok(file),
+        match how.open(&self.rt, place.as_str()) {
+            Ok(file) => Ok(write_new(file)),
             Err(error) => Err(fault_of(&error)),
         }
     }
@@ -105,9 +106,11 @@ impl<R: Files + Alloc + Clone + Drop> Folder<R> {
                 self.write_over(place.as_str(), &looked, kept)
             }
             (Ok((place, looked)), WriteMode::Append) => self.append_to(place.as_str(), &looked),
-            (Err(StoreFault::NotFound), WriteMode::New | WriteMode::Append) => {
-                let file = self.make_file(path)?;
-                Ok(write_new(file))
+            (Err(StoreFault::NotFound), WriteMode::New) => {
+                self.make_file(path, OpenOptions::new().write(true).create_new(true))
+            }
+            (Err(StoreFault::NotFound), WriteMode::Append) => {
+                self.make_file(path, OpenOptions::new().append(true).create_new(true))
             }
             (Err(fault), _) => Err(fault),
         }

@@ -2,10 +2,10 @@
 
 ghost use Rattle.std.specs.Prelude.{◌≡◌, ◌++◌, IfOk, string_bytes};
 ghost use Rattle.virtual_path.specs.Path.{slashed};
-ghost use Rattle.folder_store.specs.Honest.{NeverFull};
+ghost use Rattle.machine_files.specs.Refusals.{NeverFull};
 
-use crate::look::{fault_of, meta_of};
 use ftp_terms::{Kind, Meta};
+use machine_files::{fault_of, meta_of};
 use std::fs;
 use std::fs::Metadata;
 use std::rt::Files;

@@ -33,9 +33,6 @@ mod count;
 mod files;
 mod folder;
 mod listing;
-mod look;
-mod open;
 mod store;
 
-pub use open::{DirSink, DirSource};
 pub use store::DirStore;

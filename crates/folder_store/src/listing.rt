@@ -5,12 +5,12 @@ ghost use Rattle.std.specs.Cmp.Lexicographic.{slice_cmp};
 ghost use Rattle.std.specs.List.Sorted.{IsStrictlySortedBy};
 ghost use Rattle.std.specs.Ordering.{nat_cmp};
 ghost use Rattle.virtual_tree.specs.Calls.{names_of};
-ghost use Rattle.folder_store.specs.Honest.{NeverFull};
+ghost use Rattle.machine_files.specs.Refusals.{NeverFull};
 ghost use Rattle.folder_store.specs.Listings.{ComesLast};
 
 use crate::folder::Folder;
-use crate::look::fault_of;
 use ftp_terms::Kind;
+use machine_files::fault_of;
 use std::alloc::Allocator;
 use std::fs;
 use std::io::ErrorKind;

@@ -2,12 +2,13 @@
 
 ghost use Rattle.std.specs.Prelude.{◌≡◌, ◌⊎◌, IfOk, IfErr};
 ghost use Rattle.std.specs.Result.{result_err};
-ghost use Rattle.folder_store.specs.Honest.{IsHonest, NeverFull};
+ghost use Rattle.folder_store.specs.Honest.{IsHonest};
+ghost use Rattle.machine_files.specs.Refusals.{NeverFull};
 
 use crate::count::FaultCount;
 use crate::folder::Folder;
-use crate::open::{DirSink, DirSource, flushed};
 use ftp_terms::Meta;
+use machine_files::{DirSink, DirSource, flushed};
 use std::fs;
 use std::io::ErrorKind;
 use std::marker::Model;

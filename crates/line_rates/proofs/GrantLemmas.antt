@@ -21,11 +21,11 @@ named_branch : (r : Rates) (tick : ℕ) (asks : List Ask) (n : Name) (o : Option
 named_branch r tick asks n (Some b) h = (b, refl, h)
 named_branch r tick asks n None h = absurd h
 
-sum_front : (n : ℕ) (f : ℕ → ℕ) → sum_below (suc n) f ≡ f 0 + sum_below n (λ i. f (suc i))
+pub sum_front : (n : ℕ) (f : ℕ → ℕ) → sum_below (suc n) f ≡ f 0 + sum_below n (λ i. f (suc i))
 sum_front zero f = omega arith
 sum_front (suc n) f = omega (arith, sum_front n f)
 
-sum_same : (n : ℕ) (f g : ℕ → ℕ) → ((i : ℕ) → f i ≡ g i) → sum_below n f ≡ sum_below n g
+pub sum_same : (n : ℕ) (f g : ℕ → ℕ) → ((i : ℕ) → f i ≡ g i) → sum_below n f ≡ sum_below n g
 sum_same zero f g h = refl
 sum_same (suc n) f g h = omega (arith, sum_same n f g h, h n)
 

@@ -8,3 +8,5 @@ pub mod RowLemmas
 mod TickLemmas
 mod TwiceLemmas
 mod WholeLemmas
+pub mod FloorLemmas
+pub mod PlainLemmas

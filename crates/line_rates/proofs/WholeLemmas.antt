@@ -7,7 +7,8 @@ use Rattle.std.proofs.lemmas.Bool.{le-leb}
 use Rattle.std.proofs.lemmas.List.Sums.{sum_by-cons}
 use Rattle.std.proofs.lemmas.List.Sorted.{list_any-IsPermutation, IsPermutation-map}
 use Rattle.limit_tree.specs.Sharing.{Branch as SharedBranch}
-use Rattle.limit_tree.specs.Outline.{is_leaf_kind, limits, branch_of, deeper, branch_over}
+use Rattle.limit_tree.specs.Outline.{is_leaf_kind, limits, places, branch_of, deeper, branch_over}
+use Rattle.limit_tree.specs.declared.node.Node.{Node}
 use Rattle.limit_tree.specs.declared.place.Kind.{Kind}
 use Rattle.limit_tree.specs.declared.place.Kind.TheVariants.{Branch, Leaf}
 use Rattle.limit_tree.specs.declared.place.Place.{Place}
@@ -19,9 +20,13 @@ use Rattle.line_rates.specs.Rates.{Rates, group_of, rate_of}
 use Rattle.line_rates.specs.Ticks.{rate_limit}
 use Rattle.line_rates.specs.TickTree.{Asker, ask_in, lane_in, IsPlan, is_server, is_name, AreNamed, IsTickTree}
 use Rattle.line_rates.specs.Grown.{same_name, level_of, bears_from, named_from, Mark, place_in, is_option, is_marked, IsMarkBy, IsMark, IsGrown, IsGrownFrom}
-use Rattle.line_rates.specs.Refused.{HasFault}
+use Rattle.line_rates.specs.FloorSums.{FloorsFit}
+use Rattle.line_rates.specs.Refused.{HasFault, IsNotOfFloors}
+use Rattle.line_rates.specs.declared.fault.PlanFault.TheVariants.{Tree}
 use Rattle.limit_tree.specs.Faults.{tree_fault}
 use Rattle.limit_tree.specs.declared.fault.TreeFault.{TreeFault}
+use Rattle.limit_tree.specs.declared.fault.TreeFault.TheVariants.{TooDeep, TooManyLeaves, WantTooLarge, LimitTooLarge, FloorTooLarge, FloorsOverLimit}
+use Rattle.line_rates.proofs.FloorLemmas.{floors_within, fit_in_order, none_over}
 use Rattle.line_rates.proofs.MarkLemmas.{grown_over, grown_named}
 use Rattle.line_rates.proofs.NameLemmas.{same_name-is, same_name-refl}
 
@@ -155,12 +160,23 @@ plan_is r tick kids asks rows order ps outline limit lanes same g limited is tol
   lanes_are = told;
 }
 
-pub fault_is : (r : Rates) (tick kids : ℕ) (asks rows order : List Asker) (ps outline : List Place) (limit : Option ℕ) (fault : TreeFault) → rows ≡ asks → IsGrownFrom r tick 1 rows order ps
-    → limit ≡ rate_limit (rate_of r Server) tick → outline ≡ branch_over limit kids ps ∷ map deeper ps → tree_fault outline ≡ Some fault → HasFault r tick asks fault
-fault_is r tick kids asks rows order ps outline limit fault same g limited is found = record {
+pub fault_is : {A : Type 0} (r : Rates) (tick kids : ℕ) (asks rows order : List Asker) (ps : List Place) (root : Node A) (limit : Option ℕ) (fault : TreeFault) → rows ≡ asks → IsGrownFrom r tick 1 rows order ps
+    → limit ≡ rate_limit (rate_of r Server) tick → places root ≡ branch_over limit kids ps ∷ map deeper ps → tree_fault (places root) ≡ Some fault → HasFault A r tick asks fault
+fault_is r tick kids asks rows order ps root limit fault same g limited is found = record {
   order = order;
-  outline = outline;
+  root = root;
   all = subst (λ (xs : List Asker). IsPermutation xs order) same g.all;
-  tree = server_over r tick kids rows order ps outline limit g limited is;
+  tree = server_over r tick kids rows order ps (places root) limit g limited is;
   is = found;
 }
+
+-- where what is guaranteed fits, the fault is another
+pub fault_of_floors : {A : Type 0} (r : Rates) (tick : ℕ) (asks : List Asker) (fault : TreeFault) → HasFault A r tick asks fault → FloorsFit r tick (map ask_in asks) → IsNotOfFloors (Tree fault)
+fault_of_floors r tick asks (FloorsOverLimit k) has fit =
+    none_over has.root k has.is
+    (floors_within r tick (map ask_in has.order) (limits (places has.root)) has.tree (fit_in_order r tick asks has.order has.all fit))
+fault_of_floors r tick asks TooDeep has fit = tt
+fault_of_floors r tick asks TooManyLeaves has fit = tt
+fault_of_floors r tick asks WantTooLarge has fit = tt
+fault_of_floors r tick asks LimitTooLarge has fit = tt
+fault_of_floors r tick asks FloorTooLarge has fit = tt

@@ -1,7 +1,8 @@
 -- Trees as they are grown: a part of the names, over some of the asks.
-use Rattle.std.specs.Prelude.{◌≡◌, ℕ, ◌+◌, Bool, true, false, ◌&&◌, nat_eq, nat_le, if◌then◌else◌, List, [], ◌∷◌, map, slice_get, count_by, IsPermutation, not, Option, Some, None}
-use Rattle.std.specs.List.{filter_map, AllByRecursion, list_any}
-use Rattle.limit_tree.specs.Outline.{is_leaf_kind, leaf_want, leaf_floor, leaf_range}
+use Rattle.std.specs.Prelude.{◌≡◌, ℕ, ◌+◌, Bool, true, false, ◌&&◌, nat_eq, nat_le, if◌then◌else◌, List, [], ◌∷◌, ◌++◌, length, map, slice_get, count_by, IsPermutation, not, Option, Some, None}
+use Rattle.std.specs.List.{filter, filter_map, AllByRecursion, list_any}
+use Rattle.limit_tree.specs.Outline.{is_leaf_kind, leaf_want, leaf_floor, leaf_range, places, beside, deeper, branch_over}
+use Rattle.limit_tree.specs.declared.node.Node.{Node}
 use Rattle.limit_tree.specs.declared.place.Kind.TheVariants.{Branch}
 use Rattle.limit_tree.specs.declared.place.Place.{Place}
 use Rattle.line_rates.specs.declared.ask.Way.{Way}
@@ -11,7 +12,7 @@ use Rattle.line_rates.specs.declared.ask.Name.TheVariants.{Server, Direction, Gr
 use Rattle.line_rates.specs.Names.{same_way, bears, want_of, floor_of}
 use Rattle.line_rates.specs.Rates.{Rates, group_of, rate_of}
 use Rattle.line_rates.specs.Ticks.{rate_limit}
-use Rattle.line_rates.specs.TickTree.{bears_at, Asker, ask_in}
+use Rattle.line_rates.specs.TickTree.{bears_at, Asker, ask_in, row_bears, row_spares}
 
 abbrev pub same_name : Name → Name → Bool
 same_name Server Server = true
@@ -114,7 +115,19 @@ row_has r level n x = has_key r level n x.1
 abbrev pub row_lacks : Rates → ℕ → Name → Asker → Bool
 row_lacks r level n x = not (has_key r level n x.1)
 
+-- the rows whose asks bear a name, and behind them the others
+abbrev pub gathered : Rates → Name → List Asker → List Asker
+gathered r n rows = filter (row_bears r n) rows ++ filter (row_spares r n) rows
+
+-- the nodes of a branch over trees
+abbrev pub branch_places : {A : Type 0} → Option ℕ → List (Node A) → List Place
+branch_places limit kids =
+    let below = beside (map places kids) in branch_over limit (length kids) below ∷ map deeper below
+
 -- the trees of some rows, whose asks stand in an order
 pub record IsGrownFrom (r : Rates) (tick level : ℕ) (rows order : List Asker) (ps : List Place) : Type 0 where
   pub all : IsPermutation rows order
   pub grown : IsGrown r tick (named_from r level (map ask_in rows)) (map ask_in order) ps
+
+abbrev pub AreGrown : {A : Type 0} → Rates → ℕ → ℕ → List Asker → List Asker → List (Node A) → Type 0
+AreGrown r tick level rows order kids = IsGrownFrom r tick level rows order (beside (map places kids))

@@ -1,6 +1,8 @@
+pub mod FloorSums
 pub mod Granted
 pub mod Grown
 pub mod Names
+pub mod Plain
 pub mod Rates
 pub mod Refused
 pub mod Stated

@@ -1,5 +1,6 @@
 -- Rates as they are stated, in rows, and the first fault of rates that cannot be kept.
 use Rattle.std.specs.Prelude.{ℕ, ◌+◌, ◌<◌, ◌≤◌, Bool, false, ◌||◌, not, nat_eq, nat_lt, if◌then◌else◌, List, map, count_by, length, slice_index_or, Option, Some, None}
+use Rattle.std.specs.Bool.{MatchBool}
 use Rattle.std.specs.FinMap as finite
 use Rattle.std.specs.List.{list_any, All, AllAdjacentBelow}
 use Rattle.std.specs.Ordering.{nat_cmp}
@@ -70,6 +71,10 @@ IsRising number rows = AllAdjacentBelow (λ x y. number x < number y) rows (leng
 -- some row's number is not below that of the next
 abbrev pub HasTie : {X : Type 0} → (X → ℕ) → List X → Type 0
 HasTie {X} number rows = (k : ℕ) × (k + 1 < length rows) × ((d : X) → number (slice_index_or rows (k + 1) d) ≤ number (slice_index_or rows k d))
+
+-- whether each row's number is below that of the next
+abbrev pub TellsRising : {X : Type 0} → (X → ℕ) → List X → Bool → Type 0
+TellsRising number rows rises = MatchBool rises (IsRising number rows) (HasTie number rows)
 
 pub record FitsGroup (row : GroupRate) : Type 0 where
   pub down : row.down ≤ MAX_RATE

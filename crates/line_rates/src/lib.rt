@@ -17,7 +17,10 @@ mod trees;
 
 pub use ask::{Ask, Name, Way};
 pub use fault::{LimitsFault, PlanFault};
-pub use laws::{grants_keep_names, ten_ticks_make_a_second};
+pub use laws::{
+    floors_fit_their_names, grants_keep_names, no_groups_and_floors_is_plain,
+    ten_ticks_make_a_second,
+};
 pub use limits::Limits;
 pub use plan::{Plan, tree_of};
 pub use rate::{MAX_RATE, rate_limit};

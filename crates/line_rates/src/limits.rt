@@ -1,6 +1,7 @@
 //! The rates of a line, of its groups and of its users.
 
-ghost use Rattle.std.specs.Prelude.{◌≡◌, ◌≤◌, MatchResult, IfOk, IfSome, Some, None};
+ghost use Rattle.std.specs.Prelude.{◌≡◌, ◌≤◌, IfOk, IfSome};
+ghost use Rattle.std.specs.Result.{result_err};
 ghost use Rattle.std.specs.FinMap as finite;
 ghost use Rattle.line_rates.specs.Rates.{group_of, rate_of};
 ghost use Rattle.std.specs.List.{All};
@@ -62,7 +63,7 @@ impl<A: Allocator> Limits<A> {
         groups: Vec<GroupRate, A>,
         users: Vec<UserRate, A>,
     ) -> Result<Limits<A>, LimitsFault>
-        ensures fault { MatchResult result (λ _. limits_fault server down up groups.items users.items ≡ None) (λ e. limits_fault server down up groups.items users.items ≡ Some e) }
+        ensures fault { limits_fault server down up groups.items users.items ≡ result_err result }
         ensures limits { IfOk result (λ l. l ≡ stated server down up groups.items users.items) }
     {
         if has_large_rate(server, down, up, &groups, &users) {

@@ -1,9 +1,10 @@
 //! The tree of a tick.
 
 ghost use Rattle.std.specs.Prelude.{◌≡◌, map, IfOk, IfErr};
-ghost use Rattle.limit_tree.specs.Outline.{limits as limits_in};
-ghost use Rattle.line_rates.specs.TickTree.{IsPlan, lane_in};
-ghost use Rattle.line_rates.specs.Refused.{IsFaultOf};
+ghost use Rattle.limit_tree.specs.Outline.{limits as seen};
+ghost use Rattle.line_rates.specs.FloorSums.{FloorsFit};
+ghost use Rattle.line_rates.specs.Refused.{IsFaultOf, IsNotOfFloors};
+ghost use Rattle.line_rates.specs.TickTree.{IsPlan, ask_in, lane_in};
 
 use crate::ask::{Ask, Name};
 use crate::fault::PlanFault;
@@ -39,8 +40,9 @@ fn plan_rows<L: Allocator, A: Allocator + Clone>(
     tick: u64,
     rows: &mut [(u8, Ask)],
 ) -> Result<Plan<A>, PlanFault>
-    ensures plan { IfOk result (λ p. IsPlan limits.now tick rows.old (limits_in p.tree) p.lanes.items) }
-    ensures fault { IfErr result (IsFaultOf limits.now tick rows.old) }
+    ensures plan { IfOk result (λ p. IsPlan limits.now tick rows.old (seen p.tree) p.lanes.items) }
+    ensures fault { IfErr result (IsFaultOf A limits.now tick rows.old) }
+    ensures floors { FloorsFit limits.now tick (map ask_in rows.old) → IfErr result IsNotOfFloors }
 {
     let kids = grow(alloc, limits, tick, 1, rows)?;
     let lanes = lanes_of(alloc.clone()?, rows)?;
@@ -61,8 +63,9 @@ pub fn tree_of<L: Allocator, A: Allocator + Clone>(
     tick: u64,
     asks: &[(u8, Ask)],
 ) -> Result<Plan<A>, PlanFault>
-    ensures plan { IfOk result (λ p. IsPlan limits.now tick asks.now (limits_in p.tree) p.lanes.items) }
-    ensures fault { IfErr result (IsFaultOf limits.now tick asks.now) }
+    ensures plan { IfOk result (λ p. IsPlan limits.now tick asks.now (seen p.tree) p.lanes.items) }
+    ensures fault { IfErr result (IsFaultOf A limits.now tick asks.now) }
+    ensures floors { FloorsFit limits.now tick (map ask_in asks.now) → IfErr result IsNotOfFloors }
 {
     let mut rows = Vec::from_slice(alloc.clone()?, asks)?;
     plan_rows(&alloc, limits, tick, &mut rows)

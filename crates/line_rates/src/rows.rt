@@ -1,11 +1,10 @@
 //! Rows of rates in the order of their numbers.
 
 ghost use Rattle.std.specs.Prelude.{◌≡◌, ◌||◌, IfSome, IsPermutation};
-ghost use Rattle.std.specs.Bool.{MatchBool};
 ghost use Rattle.std.specs.FinMap as finite;
 ghost use Rattle.std.specs.List.{Contains};
 ghost use Rattle.std.specs.List.Sorted.{IsNonDecreasingBy};
-ghost use Rattle.line_rates.specs.Stated.{group_number, user_number, by_number, is_large_group, is_large_user, has_large_group, has_large_user, has_no_row, has_stray_user, IsRising, HasTie};
+ghost use Rattle.line_rates.specs.Stated.{group_number, user_number, by_number, is_large_group, is_large_user, has_large_group, has_large_user, has_no_row, has_stray_user, IsRising, TellsRising};
 
 use crate::rate::MAX_RATE;
 use crate::row::{GroupRate, UserRate};
@@ -70,7 +69,7 @@ pub fn sort_users<A: Allocator>(users: &mut Vec<UserRate, A>)
 
 /// Whether each group's number is above that of the one before it.
 pub fn groups_rise(groups: &[GroupRate]) -> bool
-    ensures rise { MatchBool result (IsRising group_number groups.now) (HasTie group_number groups.now) }
+    ensures rise { TellsRising group_number groups.now result }
 {
     for place in 1..groups.len() {
         if groups[place].group <= groups[place - 1].group {
@@ -82,7 +81,7 @@ pub fn groups_rise(groups: &[GroupRate]) -> bool
 
 /// Whether each user's number is above that of the one before them.
 pub fn users_rise(users: &[UserRate]) -> bool
-    ensures rise { MatchBool result (IsRising user_number users.now) (HasTie user_number users.now) }
+    ensures rise { TellsRising user_number users.now result }
 {
     for place in 1..users.len() {
         if users[place].user <= users[place - 1].user {

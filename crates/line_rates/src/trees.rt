@@ -1,10 +1,10 @@
 //! Trees, grown from rows of asks.
 
-ghost use Rattle.std.specs.Prelude.{◌≡◌, ◌≤◌, ◌∷◌, ◌++◌, [], length, map, IfOk};
+ghost use Rattle.std.specs.Prelude.{◌≡◌, ◌≤◌, ◌∷◌, [], length, IfOk};
 ghost use Rattle.std.specs.List.{filter};
-ghost use Rattle.limit_tree.specs.Outline.{places, beside, deeper, branch_over, leaf_alone};
-ghost use Rattle.line_rates.specs.Grown.{IsGrownFrom};
-ghost use Rattle.line_rates.specs.TickTree.{row_bears, row_spares};
+ghost use Rattle.limit_tree.specs.Outline.{places, leaf_alone};
+ghost use Rattle.line_rates.specs.Grown.{AreGrown, branch_places, gathered};
+ghost use Rattle.line_rates.specs.TickTree.{row_bears};
 
 use crate::ask::{Ask, Name};
 use crate::limits::Limits;
@@ -16,7 +16,7 @@ use std::alloc::{AllocError, Allocator};
 /// Moves the rows whose asks bear a name to the front, and answers how many they are. These keep their order, and the
 /// others keep theirs.
 fn gather<A: Allocator>(limits: &Limits<A>, name: Name, rows: &mut [(u8, Ask)]) -> usize
-    ensures rows { rows.new ≡ filter (row_bears limits.now name) rows.old ++ filter (row_spares limits.now name) rows.old }
+    ensures rows { rows.new ≡ gathered limits.now name rows.old }
     ensures count { result ≡ length (filter (row_bears limits.now name) rows.old) }
 {
     let mut count = 0;
@@ -31,7 +31,7 @@ fn gather<A: Allocator>(limits: &Limits<A>, name: Name, rows: &mut [(u8, Ask)]) 
 
 /// A branch over trees.
 pub fn branch<A: Allocator>(limit: Option<u64>, kids: Vec<Node<A>, A>) -> Node<A>
-    ensures places { let below = beside (map places kids.items) in places result ≡ branch_over limit (length kids.items) below ∷ map deeper below }
+    ensures places { places result ≡ branch_places limit kids.items }
 {
     Node::Branch { limit, kids }
 }
@@ -52,7 +52,7 @@ pub fn grow<L: Allocator, A: Allocator + Clone>(
     rows: &mut [(u8, Ask)],
 ) -> Result<Vec<Node<A>, A>, AllocError>
     requires level { level ≤ 5 }
-    ensures grown { IfOk result (λ kids. IsGrownFrom limits.now tick level rows.old rows.new (beside (map places kids.items))) }
+    ensures grown { IfOk result (λ kids. AreGrown limits.now tick level rows.old rows.new kids.items) }
 {
     let mut kids = Vec::new(alloc.clone()?);
     let mut start = 0;

@@ -2,4 +2,8 @@
 #![tactic(auto)]
 
 #[cfg(test)]
+mod lines;
+#[cfg(test)]
 mod paths;
+#[cfg(test)]
+mod shortages;

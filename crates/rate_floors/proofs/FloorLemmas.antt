@@ -1,28 +1,27 @@
 -- The sums that are kept, beside what the definitions say of one more session.
-use Rattle.std.proofs.Common.{◌≡◌, ℕ, zero, suc, ◌+◌, ◌-◌, ◌*◌, ◌<◌, ◌≤◌, ◌^◌, Bool, true, false, ◌&&◌, ◌||◌, cond, List, [], ◌∷◌, length, map, get_or, set, sum_by, sym, refl, ap, ◌∙◌, subst, arith, Option, Some, None}
+use Rattle.std.proofs.Common.{◌≡◌, ℕ, ◌+◌, ◌-◌, ◌*◌, ◌<◌, ◌≤◌, ◌^◌, Bool, true, false, ◌&&◌, cond, List, [], ◌∷◌, length, map, get_or, set, sym, refl, ap, ◌∙◌, subst, arith, Option, Some, None}
 use Rattle.std.specs.FinMap as finite
 use Rattle.std.specs.List.{All}
 use Rattle.std.specs.Option.{option_map}
-use Rattle.std.specs.Prelude.{nat_eq, nat_le, nat_lt, ⊤}
+use Rattle.std.specs.Prelude.{nat_eq, ⊤}
 use Rattle.std.proofs.lemmas.Bool.{and_parts, leb-true, ltb-true}
 use Rattle.std.proofs.lemmas.List.Sums.{sum_by-cons, sum_by-le-sum_by}
 use Rattle.line_rates.specs.declared.ask.Way.{Way}
 use Rattle.line_rates.specs.declared.ask.Way.TheVariants.{Down, Up}
-use Rattle.line_rates.specs.declared.rate.TheConstants.{MAX_RATE}
 use Rattle.line_rates.specs.declared.row.GroupRate.{GroupRate}
 use Rattle.line_rates.specs.declared.row.UserRate.{UserRate}
 use Rattle.line_rates.specs.Names.{is_number}
 use Rattle.line_rates.specs.Rates.{Rates, group_rate}
-use Rattle.line_rates.specs.Stated.{by_number, stated, group_number, user_number, IsRising, FitsUser, FitsGroup}
+use Rattle.line_rates.specs.Stated.{by_number, stated, group_number, user_number, IsRising, FitsUser}
 use Rattle.line_rates.proofs.RowLemmas.{first_row, get-by_number}
 use Rattle.rate_floors.specs.declared.find.GroupPromise.{GroupPromise}
 use Rattle.rate_floors.specs.declared.find.UserSessions.{UserSessions}
 use Rattle.rate_floors.specs.declared.fits.TheConstants.{MAX_PROMISED}
-use Rattle.rate_floors.specs.Promises.{Promises, changed, admits, fits, HasRoom, HasFloors, added, taken, user_key, group_key, user_row, group_row, floor_in, promised_user, promised, promised_group, with_sessions, with_floors, one_more, one_less, counted, user_of, keeps, is_small, group_fits, no_session, no_promise, IsAt, IsInGroup, HasNone, IsPromised, IsTold}
+use Rattle.rate_floors.specs.Promises.{Promises, changed, admits, fits, HasRoom, HasFloors, added, taken, user_key, group_key, user_row, group_row, floor_in, promised_user, promised, promised_group, with_sessions, with_floors, one_more, one_less, counted, user_of, keeps, is_small, group_fits, no_session, no_promise, IsAt, IsInGroup, HasNone, IsPromised, IsTold, seen}
 use Rattle.rate_floors.proofs.PlaceLemmas.{all_mapped, rising_mapped, map_none, nowhere}
 use Rattle.rate_floors.proofs.SumLemmas.{line_after, group_after, user_within, of_user, entry_with, users-set, promised-less, group-less, told-more, told-less, same_rates}
 
-group_within : (users : List UserSessions) (w : Way) (g : ℕ) → promised_group users w g ≤ promised users w
+pub group_within : (users : List UserSessions) (w : Way) (g : ℕ) → promised_group users w g ≤ promised users w
 group_within users w g = sum_by-le-sum_by (λ entry. cond (is_number entry.row.group g) (promised_user w entry) 0) (promised_user w) users (λ entry. part (is_number entry.row.group g) (promised_user w entry))
   where
     part : (b : Bool) (n : ℕ) → cond b n 0 ≤ n
@@ -114,7 +113,7 @@ module _ (p : Promises) (down up : ℕ) (groups : List GroupPromise) (users : Li
             ∙ ap (λ o. keeps (x.down + entry.row.session_down_floor) (group_rate o Down) && keeps (x.up + entry.row.session_up_floor) (group_rate o Up)) row
 
 -- nothing is promised yet
-none_promised : (w : Way) (rows : List UserRate) → promised (map no_session rows) w ≡ 0
+pub none_promised : (w : Way) (rows : List UserRate) → promised (map no_session rows) w ≡ 0
 none_promised w [] = refl
 none_promised w (row ∷ rows) = omega (arith, sum_by-cons (promised_user w) (no_session row) (map no_session rows), none_promised w rows)
 
@@ -150,10 +149,6 @@ same_limits r groups users gs us =
 
 pub none_counted : (users : List UserRate) → All (λ (entry : UserSessions). entry.sessions ≡ 0) (map no_session users)
 none_counted users = all_mapped (λ row. ⊤) (λ (entry : UserSessions). entry.sessions ≡ 0) no_session users (λ row h. refl) (λ k d lt. tt)
-
--- what a struct with such fields is seen as
-abbrev pub seen : ℕ → ℕ → ℕ → List GroupPromise → List UserSessions → Promises
-seen server down up groups users = record { rates = stated server down up (map group_row groups) (map user_row users); users = users }
 
 pub unchanged : (change : ℕ → ℕ) (p : Promises) (users : List UserSessions) (user : ℕ) → users ≡ p.users → finite.get (by_number user_key users) user ≡ None → changed change p user ≡ p
 unchanged change p users user same none =

@@ -1,5 +1,5 @@
 -- Where a number stands, and one entry changed among rising numbers.
-use Rattle.std.proofs.Common.{◌≡◌, ◌≢◌, ℕ, zero, suc, ◌+◌, ◌<◌, ◌≤◌, Bool, true, false, cond, List, [], ◌∷◌, length, map, get_or, set, sym, refl, ap, ◌∙◌, subst, arith, Some, None, Result, Ok, Err, inl, inr}
+use Rattle.std.proofs.Common.{◌≡◌, ◌≢◌, ℕ, zero, suc, ◌+◌, ◌<◌, Bool, true, false, cond, List, [], ◌∷◌, length, map, get_or, set, sym, refl, ap, ◌∙◌, arith, Some, None, Result, Ok, Err, inl, inr}
 use Rattle.std.specs.List.{All}
 use Rattle.std.specs.FinMap as finite
 use Rattle.std.specs.List.Sorted.{IsSearchInRange, IsBinarySearchResult}
@@ -8,7 +8,7 @@ use Rattle.std.specs.Prelude.{nat_eq}
 use Rattle.std.proofs.lemmas.Bool.{eqb-true, eq-eqb, cases_lt}
 use Rattle.std.proofs.lemmas.List.{length-map}
 use Rattle.line_rates.specs.Stated.{by_number, IsRising}
-use Rattle.line_rates.proofs.RowLemmas.{first_row, get-by_number, found, not_found, at_any, rising_below, first_contains, first_missing}
+use Rattle.line_rates.proofs.RowLemmas.{get-by_number, found, not_found, at_any, rising_below, first_contains, first_missing}
 use Rattle.rate_floors.specs.Promises.{IsAt}
 
 pub at_place : {X : Type 0} (number : X → ℕ) (xs : List X) (q i : ℕ) (r : Result ℕ ℕ) → r ≡ Ok i → IsRising number xs → IsSearchInRange r (length xs) → IsBinarySearchResult (λ x. nat_cmp (number x) q) xs r → IsAt number xs q i

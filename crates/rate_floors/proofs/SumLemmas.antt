@@ -1,22 +1,21 @@
 -- What is promised after one session more or less of a user is counted.
-use Rattle.std.proofs.Common.{◌≡◌, ◌≢◌, ℕ, zero, suc, ◌+◌, ◌-◌, ◌*◌, ◌<◌, ◌≤◌, Bool, true, false, ◌&&◌, cond, List, [], ◌∷◌, length, map, get_or, set, sum_by, sym, refl, ap, ◌∙◌, subst, arith, Option, Some, None}
+use Rattle.std.proofs.Common.{◌≡◌, ℕ, ◌+◌, ◌-◌, ◌*◌, ◌<◌, ◌≤◌, Bool, true, false, cond, List, map, get_or, set, sum_by, sym, refl, ap, ◌∙◌, subst, arith, Option, Some, None}
 use Rattle.std.specs.FinMap as finite
 use Rattle.std.specs.List.{All}
 use Rattle.std.specs.Prelude.{nat_eq}
 use Rattle.std.proofs.lemmas.Bool.{eqb-true, eq-eqb}
 use Rattle.std.proofs.lemmas.List.Elements.{All-set}
-use Rattle.std.proofs.lemmas.List.Sums.{sum_by-set, get_or-le-sum_by, sum_by-le-sum_by}
+use Rattle.std.proofs.lemmas.List.Sums.{sum_by-set, get_or-le-sum_by}
 use Rattle.std.proofs.Math.Seq.{map-set_same}
 use Rattle.line_rates.specs.declared.ask.Way.{Way}
 use Rattle.line_rates.specs.declared.ask.Way.TheVariants.{Down, Up}
 use Rattle.line_rates.specs.declared.row.UserRate.{UserRate}
 use Rattle.line_rates.specs.Names.{is_number}
-use Rattle.line_rates.specs.Rates.{Rates}
 use Rattle.line_rates.specs.Stated.{by_number, stated, IsRising, FitsUser}
 use Rattle.rate_floors.specs.declared.find.GroupPromise.{GroupPromise}
 use Rattle.rate_floors.specs.declared.find.UserSessions.{UserSessions}
 use Rattle.rate_floors.specs.declared.fits.TheConstants.{MAX_PROMISED}
-use Rattle.rate_floors.specs.Promises.{Promises, user_key, group_key, user_row, group_row, floor_in, promised_user, promised, promised_group, with_sessions, with_floors, one_more, one_less, added, taken, IsAt, IsInGroup, HasNone, IsPromised, IsTold}
+use Rattle.rate_floors.specs.Promises.{user_key, group_key, user_row, group_row, floor_in, promised_user, promised, promised_group, with_sessions, with_floors, one_more, one_less, added, taken, IsAt, IsInGroup, HasNone, IsPromised, IsTold}
 use Rattle.rate_floors.proofs.PlaceLemmas.{map_none, map_one, other_number, here, elsewhere, nowhere, stands_at, all_mapped, rising_mapped, kept_mapped}
 
 times_more : (r l : ℕ) → (r + 1) * l ≡ r * l + l

@@ -1,16 +1,15 @@
 -- What counted sessions are promised, and when one more still fits, in octets a second.
-use Rattle.std.specs.Prelude.{◌≡◌, ℕ, ◌+◌, ◌-◌, ◌*◌, ◌^◌, ◌<◌, ◌≤◌, Bool, true, false, ◌&&◌, ◌||◌, nat_eq, nat_le, nat_lt, if◌then◌else◌, List, map, sum_by, length, slice_index_or, Option, Some, None, refl}
+use Rattle.std.specs.Prelude.{◌≡◌, ℕ, ◌+◌, ◌-◌, ◌*◌, ◌^◌, ◌<◌, ◌≤◌, Bool, true, false, ◌&&◌, ◌||◌, nat_eq, nat_le, nat_lt, if◌then◌else◌, List, map, sum_by, length, slice_index_or, Option, Some, None, MatchOption, refl}
 use Rattle.std.specs.Coded.{Coded, code_by, coded×, coded_ℕ, coded_list}
 use Rattle.std.specs.FinMap as finite
 use Rattle.std.specs.List.{All}
-use Rattle.std.specs.Ordering.{nat_cmp}
 use Rattle.line_rates.specs.declared.ask.Way.{Way}
 use Rattle.line_rates.specs.declared.ask.Way.TheVariants.{Down, Up}
 use Rattle.line_rates.specs.declared.row.GroupRate.{GroupRate}
 use Rattle.line_rates.specs.declared.row.UserRate.{UserRate}
 use Rattle.line_rates.specs.Names.{is_number}
 use Rattle.line_rates.specs.Rates.{Rates, way_of, group_rate, user_code, rates_code}
-use Rattle.line_rates.specs.Stated.{by_number, IsRising, FitsGroup, FitsUser}
+use Rattle.line_rates.specs.Stated.{by_number, user_number, stated, IsRising, FitsUser}
 use Rattle.rate_floors.specs.declared.find.GroupPromise.{GroupPromise}
 use Rattle.rate_floors.specs.declared.find.UserSessions.{UserSessions}
 use Rattle.rate_floors.specs.declared.fits.TheConstants.{MAX_PROMISED}
@@ -54,9 +53,14 @@ promised users way = sum_by (promised_user way) users
 abbrev pub promised_group : List UserSessions → Way → ℕ → ℕ
 promised_group users way group = sum_by (λ entry. if is_number entry.row.group group then promised_user way entry else 0) users
 
+-- what a user's counted sessions are promised with one more
+abbrev pub promised_with_more : Way → UserSessions → ℕ
+promised_with_more way entry = (entry.sessions + 1) * floor_in entry.row way
+
 -- another number of counted sessions of a user
 abbrev pub with_sessions : (ℕ → ℕ) → ℕ → UserSessions → UserSessions
-with_sessions change user entry = if nat_eq (user_key entry) user then record { row = entry.row; sessions = change entry.sessions } else entry
+with_sessions change user entry =
+    if nat_eq (user_key entry) user then record { row = entry.row; sessions = change entry.sessions } else entry
 
 abbrev pub changed : (ℕ → ℕ) → Promises → ℕ → Promises
 changed change p user = record { rates = p.rates; users = map (with_sessions change user) p.users }
@@ -110,6 +114,18 @@ fits after (Some entry) = is_small after entry.sessions && (session_fits entry.r
 abbrev pub admits : Promises → ℕ → Bool
 admits p user = fits (counted p user) (user_of p user)
 
+-- what is promised to a user's counted sessions is within the rates of each session and of the user
+abbrev pub entry_fits : UserSessions → Bool
+entry_fits entry = nat_eq entry.sessions 0 || (session_fits entry.row && user_fits entry.row entry.sessions)
+
+-- What is promised to counted sessions is within all rates; each user with a row stands once.
+pub record PromisesFit (p : Promises) : Type 0 where
+  pub rows : p.rates.users ≡ by_number user_number (map user_row p.users)
+  pub rising : IsRising user_key p.users
+  pub users : All (λ (entry : UserSessions). entry_fits entry ≡ true) p.users
+  pub groups : (group : ℕ) → group_fits p (Some group) ≡ true
+  pub line : line_fits p ≡ true
+
 abbrev pub has_session : Option UserSessions → Bool
 has_session None = false
 has_session (Some entry) = nat_lt 0 entry.sessions
@@ -127,6 +143,15 @@ no_promise row = record { row = row; down = 0; up = 0 }
 -- a number stands at a place
 abbrev pub IsAt : {X : Type 0} → (X → ℕ) → List X → ℕ → ℕ → Type 0
 IsAt {X} number rows q i = (i < length rows) × ((d : X) → finite.get (by_number number rows) q ≡ Some (slice_index_or rows i d)) × ((d : X) → number (slice_index_or rows i d) ≡ q)
+
+-- where a number stands, if it does
+abbrev pub FindsPlace : {X : Type 0} → (X → ℕ) → List X → ℕ → Option ℕ → Type 0
+FindsPlace number rows q place = MatchOption place (finite.get (by_number number rows) q ≡ None) (IsAt number rows q)
+
+-- what a group is promised is within its rates with one more session of a user
+abbrev pub keeps_one_more : GroupPromise → UserRate → Bool
+keeps_one_more entry row =
+    keeps (entry.down + row.session_down_floor) entry.row.down && keeps (entry.up + row.session_up_floor) entry.row.up
 
 -- the group of a user gets and loses what one session of theirs is promised
 abbrev pub with_floors : (ℕ → ℕ → ℕ) → UserRate → GroupPromise → GroupPromise
@@ -161,6 +186,11 @@ pub record IsPromised (users : List UserSessions) (entry : GroupPromise) : Type 
   pub down : entry.down ≡ promised_group users Down entry.row.group
   pub up : entry.up ≡ promised_group users Up entry.row.group
 
+-- what rates and rows are seen as
+abbrev pub seen : ℕ → ℕ → ℕ → List GroupPromise → List UserSessions → Promises
+seen server down up groups users =
+    record { rates = stated server down up (map group_row groups) (map user_row users); users = users }
+
 -- how the sums are kept
 pub record IsTold (down up : ℕ) (groups : List GroupPromise) (users : List UserSessions) : Type 0 where
   pub down_told : down ≡ promised users Down
@@ -171,3 +201,19 @@ pub record IsTold (down up : ℕ) (groups : List GroupPromise) (users : List Use
   pub users_fit : All (λ (entry : UserSessions). FitsUser entry.row) users
   pub groups_rise : IsRising group_key groups
   pub groups_told : All (IsPromised users) groups
+
+-- how promises are kept: in sums, and so that they fit
+pub record IsKept (server down up promised_down promised_up : ℕ) (groups : List GroupPromise) (users : List UserSessions) : Type 0 where
+  pub told : IsTold promised_down promised_up groups users
+  pub fit : PromisesFit (seen server down up groups users)
+
+-- no session is counted
+abbrev pub HasNoSessions : Promises → Type 0
+HasNoSessions p = All (λ (entry : UserSessions). entry.sessions ≡ 0) p.users
+
+-- the promises after one more session of a user, where it is admitted, and after one is released, where one is counted
+abbrev pub after_admit : Promises → ℕ → Promises
+after_admit p user = if admits p user then counted p user else p
+
+abbrev pub after_release : Promises → ℕ → Promises
+after_release p user = if has_counted p user then released p user else p

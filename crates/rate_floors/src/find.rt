@@ -1,9 +1,8 @@
 //! The rows of groups and users, with what is counted of each.
 
-ghost use Rattle.std.specs.Prelude.{◌≡◌, ◌≤◌, ℕ, MatchOption, None, map};
-ghost use Rattle.std.specs.FinMap as finite;
-ghost use Rattle.line_rates.specs.Stated.{by_number, IsRising};
-ghost use Rattle.rate_floors.specs.Promises.{group_key, user_key, IsAt, IsInGroup, HasNone, with_floors, added, taken, HasRoom, HasFloors};
+ghost use Rattle.std.specs.Prelude.{◌≡◌, MatchOption, map};
+ghost use Rattle.line_rates.specs.Stated.{IsRising};
+ghost use Rattle.rate_floors.specs.Promises.{group_key, user_key, FindsPlace, IsInGroup, HasNone, with_floors, added, taken, HasRoom, HasFloors};
 
 use line_rates::{GroupRate, UserRate};
 use std::alloc::Allocator;
@@ -31,7 +30,7 @@ pub struct UserSessions {
 /// The place of a user, by binary search.
 pub fn find_user(users: &[UserSessions], user: u32) -> Option<usize>
     requires rising { IsRising user_key users.now }
-    ensures place { MatchOption result (finite.get (by_number user_key users.now) user ≡ None) (IsAt user_key users.now user) }
+    ensures place { FindsPlace user_key users.now user result }
 {
     match users.binary_search_by_key(&user, |entry| entry.row.user) {
         Ok(place) => Some(place),
@@ -41,7 +40,7 @@ pub fn find_user(users: &[UserSessions], user: u32) -> Option<usize>
 
 fn find_number(groups: &[GroupPromise], group: u32) -> Option<usize>
     requires rising { IsRising group_key groups.now }
-    ensures place { MatchOption result (finite.get (by_number group_key groups.now) group ≡ None) (IsAt group_key groups.now group) }
+    ensures place { FindsPlace group_key groups.now group result }
 {
     match groups.binary_search_by_key(&group, |entry| entry.row.group) {
         Ok(place) => Some(place),

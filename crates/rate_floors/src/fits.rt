@@ -1,7 +1,7 @@
 //! Whether sums of guaranteed rates fit.
 
-ghost use Rattle.std.specs.Prelude.{◌≡◌, ◌+◌, ◌*◌, ◌<◌, ◌≤◌, ◌^◌, ◌&&◌};
-ghost use Rattle.rate_floors.specs.Promises.{keeps, session_fits, user_fits};
+ghost use Rattle.std.specs.Prelude.{◌≡◌, ◌+◌, ◌*◌, ◌<◌, ◌≤◌, ◌^◌};
+ghost use Rattle.rate_floors.specs.Promises.{keeps, keeps_one_more, session_fits, user_fits};
 
 use crate::find::GroupPromise;
 use line_rates::UserRate;
@@ -37,7 +37,7 @@ pub fn user_fits(row: UserRate, sessions: u64) -> bool
 pub fn group_keeps(group: GroupPromise, row: UserRate) -> bool
     requires down { group.down + row.session_down_floor < 2 ^ 64 }
     requires up { group.up + row.session_up_floor < 2 ^ 64 }
-    ensures fits { result ≡ (keeps (group.down + row.session_down_floor) group.row.down && keeps (group.up + row.session_up_floor) group.row.up) }
+    ensures fits { result ≡ keeps_one_more group row }
 {
     keeps(group.down + row.session_down_floor, group.row.down)
         && keeps(group.up + row.session_up_floor, group.row.up)

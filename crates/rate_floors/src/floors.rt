@@ -1,9 +1,8 @@
 //! The sessions that are counted, and what they are promised.
 
-ghost use Rattle.std.specs.Prelude.{◌≡◌, ◌+◌, ◌*◌, ◌<◌, ◌≤◌, ◌^◌, IsTrue, IfOk, Some, map, if◌then◌else◌};
-ghost use Rattle.std.specs.List.{All};
+ghost use Rattle.std.specs.Prelude.{◌≡◌, ◌+◌, ◌*◌, ◌<◌, ◌≤◌, ◌^◌, IsTrue, IfOk, Some, map};
 ghost use Rattle.line_rates.specs.declared.ask.Way.TheVariants.{Down, Up};
-ghost use Rattle.rate_floors.specs.Promises.{no_session, no_promise, admits, counted, released, has_counted, user_of, user_key, promised, is_small, group_fits, line_fits};
+ghost use Rattle.rate_floors.specs.Promises.{PromisesFit, HasNoSessions, no_session, no_promise, admits, after_admit, after_release, counted, has_counted, user_of, user_key, promised, promised_with_more, is_small, group_fits, line_fits};
 
 use crate::find::{GroupPromise, UserSessions, add, find_group, find_user, take};
 use crate::fits::{MAX_PROMISED, group_keeps, keeps, session_fits, user_fits};
@@ -25,17 +24,15 @@ pub struct Floors<A: Allocator = Global> {
 }
 
 impl<A: Allocator> Model for Floors<A> {
-    ghost use Rattle.std.specs.Prelude.{map};
-    ghost use Rattle.line_rates.specs.Stated.{stated};
-    ghost use Rattle.rate_floors.specs.Promises.{Promises, promises_code, group_row, user_row, IsTold};
+    ghost use Rattle.rate_floors.specs.Promises.{Promises, promises_code, seen, IsKept};
 
     ghost Value = { Promises };
 
     ghost coded = { promises_code };
 
-    ghost view = { λ f. record { rates = stated f.server f.down f.up (map group_row f.groups.items) (map user_row f.users.items); users = f.users.items } };
+    ghost view = { λ f. seen f.server f.down f.up f.groups.items f.users.items };
 
-    ghost invariant = { λ f. IsTold f.promised_down f.promised_up f.groups.items f.users.items };
+    ghost invariant = { λ f. IsKept f.server f.down f.up f.promised_down f.promised_up f.groups.items f.users.items };
 }
 
 fn no_sessions<A: Allocator>(
@@ -75,7 +72,7 @@ impl<A: Allocator + Clone> Floors<A> {
     /// The guarantees of limits, with no session counted.
     pub fn of<L: Allocator>(alloc: A, limits: &Limits<L>) -> Result<Floors<A>, AllocError>
         ensures rates { IfOk result (λ f. f.rates ≡ limits.now) }
-        ensures none { IfOk result (λ f. All (λ (entry : UserSessions). entry.sessions ≡ 0) f.users) }
+        ensures none { IfOk result (λ f. HasNoSessions f) }
     {
         let users = no_sessions(alloc.clone()?, limits.users())?;
         let groups = no_promises(alloc, limits.groups())?;
@@ -92,14 +89,21 @@ impl<A: Allocator + Clone> Floors<A> {
 }
 
 impl<A: Allocator> Floors<A> {
+    /// Whatever is called, what the counted sessions are promised is within all rates.
+    pub fn promises_fit(&self)
+        ensures fit { PromisesFit self.now }
+    {
+        let _ = &self.users;
+    }
+
     // What all counted sessions are promised with one more of a user.
     fn line_after(&self, entry: UserSessions) -> (u64, u64)
         requires stands { user_of self.now (user_key entry) ≡ Some entry }
         ensures down { result.0 ≡ promised (counted self.now (user_key entry)).users Down }
         ensures up { result.1 ≡ promised (counted self.now (user_key entry)).users Up }
         ensures room { result.0 + result.1 < 2 ^ 64 }
-        ensures user_down { (entry.sessions + 1) * entry.row.session_down_floor ≤ result.0 }
-        ensures user_up { (entry.sessions + 1) * entry.row.session_up_floor ≤ result.1 }
+        ensures user_down { promised_with_more Down entry ≤ result.0 }
+        ensures user_up { promised_with_more Up entry ≤ result.1 }
     {
         let down = self.promised_down + entry.row.session_down_floor;
         let up = self.promised_up + entry.row.session_up_floor;
@@ -110,8 +114,8 @@ impl<A: Allocator> Floors<A> {
     fn is_small(&self, entry: UserSessions) -> bool
         requires stands { user_of self.now (user_key entry) ≡ Some entry }
         ensures small { result ≡ is_small (counted self.now (user_key entry)) entry.sessions }
-        ensures user_down { IsTrue result → (entry.sessions + 1) * entry.row.session_down_floor ≤ MAX_PROMISED }
-        ensures user_up { IsTrue result → (entry.sessions + 1) * entry.row.session_up_floor ≤ MAX_PROMISED }
+        ensures user_down { IsTrue result → promised_with_more Down entry ≤ MAX_PROMISED }
+        ensures user_up { IsTrue result → promised_with_more Up entry ≤ MAX_PROMISED }
         ensures room { IsTrue result → entry.sessions < MAX_PROMISED }
     {
         let (down, up) = self.line_after(entry);
@@ -155,7 +159,7 @@ impl<A: Allocator> Floors<A> {
     /// without a row is always admitted, and not counted.
     pub fn admit(&mut self, user: u32) -> bool
         ensures admits { result ≡ admits self.old user }
-        ensures counted { self.new ≡ (if admits self.old user then counted self.old user else self.old) }
+        ensures counted { self.new ≡ after_admit self.old user }
     {
         let Some(place) = find_user(&self.users, user) else {
             return true;
@@ -177,7 +181,7 @@ impl<A: Allocator> Floors<A> {
     /// Takes a session of a user back, if one is counted, and else answers that none is.
     pub fn release(&mut self, user: u32) -> bool
         ensures has { result ≡ has_counted self.old user }
-        ensures released { self.new ≡ (if has_counted self.old user then released self.old user else self.old) }
+        ensures released { self.new ≡ after_release self.old user }
     {
         let Some(place) = find_user(&self.users, user) else {
             return false;

@@ -8,7 +8,9 @@
 mod find;
 mod fits;
 mod floors;
+mod laws;
 
 pub use find::{GroupPromise, UserSessions};
 pub use fits::MAX_PROMISED;
 pub use floors::Floors;
+pub use laws::{no_groups_and_floors_is_plain, promises_are_kept};

@@ -1,6 +1,7 @@
 //! Which rates are refused, and what those that are not look up.
 
 use super::rates::{group, user};
+use crate::expect::same;
 use line_rates::{GroupRate, Limits, LimitsFault, MAX_RATE, Name, UserRate, Way};
 use std::alloc::Global;
 use std::process::Abort;
@@ -17,7 +18,7 @@ fn fault(server: u64, groups: Vec<GroupRate>, users: Vec<UserRate>) -> Option<Li
 #[test]
 fn the_largest_rate_is_taken(rt: HostRuntime) -> Result<(), Fail> {
     let groups = vec![in rt.alloc(); group(7, MAX_RATE)]?;
-    assert_eq!(rt; fault(MAX_RATE, groups, Vec::new(rt.alloc())), None);
+    same(&rt, &fault(MAX_RATE, groups, Vec::new(rt.alloc())), &None);
     Ok(())
 }
 
@@ -28,9 +29,10 @@ fn a_rate_above_it_is_refused(rt: HostRuntime) -> Result<(), Fail> {
         ..user(3, None)
     };
     let users = vec![in rt.alloc(); large, user(3, Some(9))]?;
-    assert_eq!(rt;
-        fault(0, Vec::new(rt.alloc()), users),
-        Some(LimitsFault::RateTooLarge)
+    same(
+        &rt,
+        &fault(0, Vec::new(rt.alloc()), users),
+        &Some(LimitsFault::RateTooLarge),
     );
     Ok(())
 }
@@ -38,9 +40,10 @@ fn a_rate_above_it_is_refused(rt: HostRuntime) -> Result<(), Fail> {
 #[test]
 fn a_user_has_one_row(rt: HostRuntime) -> Result<(), Fail> {
     let users = vec![in rt.alloc(); user(3, None), user(1, Some(9)), user(3, None)]?;
-    assert_eq!(rt;
-        fault(0, Vec::new(rt.alloc()), users),
-        Some(LimitsFault::Twice)
+    same(
+        &rt,
+        &fault(0, Vec::new(rt.alloc()), users),
+        &Some(LimitsFault::Twice),
     );
     Ok(())
 }
@@ -48,9 +51,10 @@ fn a_user_has_one_row(rt: HostRuntime) -> Result<(), Fail> {
 #[test]
 fn a_group_has_one_row(rt: HostRuntime) -> Result<(), Fail> {
     let groups = vec![in rt.alloc(); group(5, 1), group(4, 2), group(5, 3)]?;
-    assert_eq!(rt;
-        fault(0, groups, Vec::new(rt.alloc())),
-        Some(LimitsFault::Twice)
+    same(
+        &rt,
+        &fault(0, groups, Vec::new(rt.alloc())),
+        &Some(LimitsFault::Twice),
     );
     Ok(())
 }
@@ -59,7 +63,11 @@ fn a_group_has_one_row(rt: HostRuntime) -> Result<(), Fail> {
 fn a_group_of_a_user_has_a_row(rt: HostRuntime) -> Result<(), Fail> {
     let groups = vec![in rt.alloc(); group(4, 1)]?;
     let users = vec![in rt.alloc(); user(1, Some(4)), user(2, Some(5))]?;
-    assert_eq!(rt; fault(0, groups, users), Some(LimitsFault::NoSuchGroup));
+    same(
+        &rt,
+        &fault(0, groups, users),
+        &Some(LimitsFault::NoSuchGroup),
+    );
     Ok(())
 }
 
@@ -78,14 +86,14 @@ fn rows_are_found_by_their_numbers(rt: HostRuntime) -> Result<(), Fail> {
     let Ok(limits) = Limits::of(1, 2, 3, groups, three_users(rt.alloc())?) else {
         panic!(rt; "rates without a fault are refused");
     };
-    assert_eq!(rt; limits.rate(Name::Server), 1);
-    assert_eq!(rt; limits.rate(Name::Direction(Way::Up)), 3);
-    assert_eq!(rt; limits.rate(Name::Group(Way::Down, 2)), 20);
-    assert_eq!(rt; limits.rate(Name::Group(Way::Down, 3)), 0);
-    assert_eq!(rt; limits.rate(Name::User(Way::Down, 40)), 10);
-    assert_eq!(rt; limits.rate(Name::Session(Way::Up, 40, 6)), 3);
-    assert_eq!(rt; limits.group_of(7), Some(1));
-    assert_eq!(rt; limits.group_of(8), None);
-    assert_eq!(rt; limits.user_row(50), Some(user(50, None)));
+    same(&rt, &limits.rate(Name::Server), &1);
+    same(&rt, &limits.rate(Name::Direction(Way::Up)), &3);
+    same(&rt, &limits.rate(Name::Group(Way::Down, 2)), &20);
+    same(&rt, &limits.rate(Name::Group(Way::Down, 3)), &0);
+    same(&rt, &limits.rate(Name::User(Way::Down, 40)), &10);
+    same(&rt, &limits.rate(Name::Session(Way::Up, 40, 6)), &3);
+    same(&rt, &limits.group_of(7), &Some(1));
+    same(&rt, &limits.group_of(8), &None);
+    same(&rt, &limits.user_row(50), &Some(user(50, None)));
     Ok(())
 }

@@ -1,19 +1,21 @@
 //! The tree of a tick, and the order in which its kids stand.
 
-use super::rates::{down, group, limits, two_in_a_group, user};
+use super::rates::{down, group, limits, server, two_in_a_group, user};
+use crate::expect::{holds, same};
 use limit_tree::TreeFault;
-use line_rates::{Ask, Plan, PlanFault, UserRate, Way, tree_of};
+use line_rates::{Ask, Limits, Plan, PlanFault, UserRate, Way, tree_of};
 use round_allocator::allot;
+use std::alloc::{AllocError, Global};
 use std::process::Abort;
 use std::test::Fail;
 
 // The plan has these lanes, leaf by leaf, and its nodes these limits, in preorder.
 fn expect_plan(rt: &impl Abort, plan: &Plan, lanes: &[u8], limits: &[Option<u64>]) {
-    assert!(rt; plan.lanes.as_slice() == lanes);
-    assert_eq!(rt; plan.tree.nodes(), limits.len());
+    holds(rt, plan.lanes.as_slice() == lanes);
+    same(rt, &plan.tree.nodes(), &limits.len());
     for node in 0..plan.tree.nodes() {
         if node < limits.len() {
-            assert_eq!(rt; plan.tree.limit(node), limits[node]);
+            same(rt, &plan.tree.limit(node), &limits[node]);
         }
     }
 }
@@ -35,7 +37,7 @@ fn a_group_and_a_user_without_a_row(rt: HostRuntime) -> Result<(), Fail> {
         panic!(rt; "no plan");
     };
     let (grants, _certificate) = allot(rt.alloc(), &plan.tree)?;
-    assert!(rt; grants.as_slice() == [2, 2, 6].as_slice());
+    holds(&rt, grants.as_slice() == [2, 2, 6].as_slice());
     Ok(())
 }
 
@@ -71,8 +73,8 @@ fn kids_stand_in_the_order_of_first_ask(rt: HostRuntime) -> Result<(), Fail> {
         no,
     ];
     expect_plan(&rt, &plan, &[5, 9, 8, 7, 6], &nodes);
-    assert!(rt; is_under(&plan, 3, 2));
-    assert!(rt; !is_under(&plan, 4, 2));
+    holds(&rt, is_under(&plan, 3, 2));
+    holds(&rt, !is_under(&plan, 4, 2));
     Ok(())
 }
 
@@ -111,7 +113,7 @@ fn users_of_a_group_with_rates_and_floors(rt: HostRuntime) -> Result<(), Fail> {
     let nodes = [no, Some(9), Some(5), Some(3), Some(2), no, Some(2), no];
     expect_plan(&rt, &plan, &[0, 1], &nodes);
     let (grants, _certificate) = allot(rt.alloc(), &plan.tree)?;
-    assert!(rt; grants.as_slice() == [2, 1].as_slice());
+    holds(&rt, grants.as_slice() == [2, 1].as_slice());
     Ok(())
 }
 
@@ -125,24 +127,43 @@ fn no_asks(rt: HostRuntime) -> Result<(), Fail> {
     Ok(())
 }
 
-#[test]
-fn floors_above_a_limit_and_a_want_too_large(rt: HostRuntime) -> Result<(), Fail> {
+// A server's rate of 30, of which each session of user 0 is guaranteed all.
+fn all_for_user_0(rt: &impl Abort, alloc: Global) -> Result<Limits, AllocError> {
     let first = UserRate {
         session_down_floor: 30,
         ..user(0, None)
     };
-    let limits = limits(&rt, 30, Vec::new(rt.alloc()), vec![in rt.alloc(); first]?);
+    Ok(server(rt, 30, Vec::new(alloc), vec![in alloc; first]?))
+}
+
+#[test]
+fn a_floor_takes_all_that_the_server_has(rt: HostRuntime) -> Result<(), Fail> {
+    let limits = all_for_user_0(&rt, rt.alloc())?;
+    let asks = [(0, down(0, 0, 5)), (1, down(1, 0, 5))];
+    let Ok(plan) = tree_of(rt.alloc(), &limits, 0, &asks) else {
+        panic!(rt; "no plan");
+    };
+    let (grants, _certificate) = allot(rt.alloc(), &plan.tree)?;
+    holds(&rt, grants.as_slice() == [3, 0].as_slice());
+    Ok(())
+}
+
+#[test]
+fn floors_above_a_limit_and_a_want_too_large(rt: HostRuntime) -> Result<(), Fail> {
+    let limits = all_for_user_0(&rt, rt.alloc())?;
     let two = [(0, down(0, 0, 5)), (1, down(0, 1, 5))];
-    let over = Err(PlanFault::Tree(TreeFault::FloorsOverLimit(1)));
-    assert_eq!(rt;
-        tree_of(rt.alloc(), &limits, 0, &two).map(|plan| plan.lanes.len()),
-        over
+    let over = Err(PlanFault::Tree(TreeFault::FloorsOverLimit(0)));
+    same(
+        &rt,
+        &tree_of(rt.alloc(), &limits, 0, &two).map(|plan| plan.lanes.len()),
+        &over,
     );
     let large = [(0, down(0, 0, 4_294_967_296))];
     let refused = Err(PlanFault::Tree(TreeFault::WantTooLarge));
-    assert_eq!(rt;
-        tree_of(rt.alloc(), &limits, 0, &large).map(|plan| plan.lanes.len()),
-        refused
+    same(
+        &rt,
+        &tree_of(rt.alloc(), &limits, 0, &large).map(|plan| plan.lanes.len()),
+        &refused,
     );
     Ok(())
 }

@@ -1,6 +1,6 @@
 //! Rates for the tests.
 
-use line_rates::{Ask, GroupRate, Limits, UserRate, Way};
+use line_rates::{Ask, GroupRate, Limits, LimitsFault, UserRate, Way};
 use std::alloc::{AllocError, Global};
 use std::process::Abort;
 
@@ -33,12 +33,21 @@ pub fn down(user: u32, session: u32, want: u64) -> Ask {
     }
 }
 
-/// The limits of a rate down, of groups and of users.
-pub fn limits(rt: &impl Abort, rate: u64, groups: Vec<GroupRate>, users: Vec<UserRate>) -> Limits {
-    match Limits::of(0, rate, 0, groups, users) {
+fn taken(rt: &impl Abort, limits: Result<Limits, LimitsFault>) -> Limits {
+    match limits {
         Ok(limits) => limits,
         Err(fault) => panic!(rt; "rates without a fault are refused: {fault}"),
     }
+}
+
+/// The limits of a rate down, of groups and of users.
+pub fn limits(rt: &impl Abort, rate: u64, groups: Vec<GroupRate>, users: Vec<UserRate>) -> Limits {
+    taken(rt, Limits::of(0, rate, 0, groups, users))
+}
+
+/// The limits of a rate of the server, of groups and of users.
+pub fn server(rt: &impl Abort, rate: u64, groups: Vec<GroupRate>, users: Vec<UserRate>) -> Limits {
+    taken(rt, Limits::of(rate, 0, 0, groups, users))
 }
 
 /// A rate down of 100; group 0 has 40 of it, with users 0 and 1; user 2 is in none and has no row.

@@ -2,6 +2,7 @@
 ghost use Rattle.std.specs.Prelude.{◌≤◌};
 
 use super::rates::{down, two_in_a_group};
+use crate::expect::{holds, same};
 use line_rates::{Limits, PlanFault, tree_of};
 use linked_list_allocator::LocalHeap;
 use std::alloc::Global;
@@ -17,12 +18,12 @@ fn answers(rt: &impl Abort, heap: &LocalHeap, limits: &Limits) -> bool {
     ];
     match tree_of(heap, limits, 0, &asks) {
         Ok(plan) => {
-            assert!(rt; plan.lanes.as_slice() == [4, 6, 5].as_slice());
-            assert_eq!(rt; plan.tree.nodes(), 12);
+            holds(rt, plan.lanes.as_slice() == [4, 6, 5].as_slice());
+            same(rt, &plan.tree.nodes(), &12);
             true
         }
         Err(fault) => {
-            assert_eq!(rt; fault, PlanFault::Memory);
+            same(rt, &fault, &PlanFault::Memory);
             false
         }
     }
@@ -38,7 +39,7 @@ fn answers_in(rt: &impl Abort, alloc: Global, room: usize, limits: &Limits) -> R
     let hog = Vec::<u8, &LocalHeap>::with_capacity(&heap, HEAP - room)?;
     let first = answers(rt, &heap, limits);
     drop(hog);
-    assert!(rt; answers(rt, &heap, limits));
+    holds(rt, answers(rt, &heap, limits));
     Ok(first)
 }
 

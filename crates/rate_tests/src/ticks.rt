@@ -1,5 +1,6 @@
 //! What a rate lets through in a tick.
 
+use crate::expect::same;
 use line_rates::rate_limit;
 
 #[test]
@@ -7,17 +8,17 @@ fn twenty_five_a_second(rt: HostRuntime) {
     let shares = [2, 3, 2, 3, 2, 3, 2, 3, 2, 3, 2, 3];
     for tick in 0..12u64 {
         let share = shares[tick as usize];
-        assert_eq!(rt; rate_limit(25, tick), Some(share));
+        same(&rt, &rate_limit(25, tick), &Some(share));
     }
 }
 
 #[test]
 fn no_rate_is_no_limit(rt: HostRuntime) {
-    assert_eq!(rt; rate_limit(0, 7), None);
+    same(&rt, &rate_limit(0, 7), &None);
 }
 
 #[test]
 fn a_small_rate_lets_nothing_through_in_some_ticks(rt: HostRuntime) {
-    assert_eq!(rt; rate_limit(5, 0), Some(0));
-    assert_eq!(rt; rate_limit(5, 1), Some(1));
+    same(&rt, &rate_limit(5, 0), &Some(0));
+    same(&rt, &rate_limit(5, 1), &Some(1));
 }

@@ -1,38 +1,34 @@
 //! A store that fails once, over a store in memory: each call in turn.
 
-use crate::calls::{holds, path, put};
 use fail_store::FailStore;
-use std::process::Abort;
+use memory_store::MemStore;
 use std::test::Fail;
-use virtual_tree::{MemStore, Store, StoreFault, WriteMode};
+use store_script::first_unmet;
 
-/// Makes six calls of the store, and answers the first refusal.
-fn six<S: Store<std::alloc::Global>>(
-    rt: &(impl Abort + AllocGlobal),
-    store: &mut S,
-) -> Result<(), StoreFault> {
-    let (directory, file) = (path(rt, rt.alloc(), "/d"), path(rt, rt.alloc(), "/d/f"));
-    store.make_dir(&directory)?;
-    put(store, &file, WriteMode::New, b"abc")?;
-    drop(store.stat(&file)?);
-    drop(store.list(&directory)?);
-    store.remove_file(&file)
-}
+/// Six calls of a store.
+const SIX: &str = "make /d
+new /d/f abc
+size /d/f = 3
+names /d = f
+remove-file /d/f";
+
+/// What holds once a call has failed.
+const AFTERWARDS: &str = "faults = 1
+new /g xy
+read /g = xy
+faults = 1";
 
 #[test]
 fn each_call_in_turn(rt: HostRuntime) -> Result<(), Fail> {
     for passes in 0..6 {
         let mut store = FailStore::new(MemStore::new(rt.alloc(), 9)?, passes);
-        assert!(rt; six(&rt, &mut store) == Err(StoreFault::Device), "{passes}");
-        assert_eq!(rt; store.faults(), 1);
-        // From then on each call passes.
-        let file = path(&rt, rt.alloc(), "/g");
-        assert!(rt; put(&mut store, &file, WriteMode::New, b"xy") == Ok(()));
-        assert!(rt; holds(rt.alloc(), &mut store, &file, 0, b"xy"));
-        assert_eq!(rt; store.faults(), 1);
+        let failed = first_unmet(rt.alloc(), rt.alloc(), &mut store, SIX)?;
+        assert!(rt; failed.is_some_and(|line| line.as_str().ends_with("(told device fault)")));
+        let unmet = first_unmet(rt.alloc(), rt.alloc(), &mut store, AFTERWARDS)?;
+        assert!(rt; unmet.is_none(), "{unmet:?}");
     }
     let mut store = FailStore::new(MemStore::new(rt.alloc(), 9)?, 6);
-    assert!(rt; six(&rt, &mut store) == Ok(()));
-    assert_eq!(rt; store.faults(), 0);
+    let unmet = first_unmet(rt.alloc(), rt.alloc(), &mut store, SIX)?;
+    assert!(rt; unmet.is_none(), "{unmet:?}");
     Ok(())
 }

@@ -2,6 +2,10 @@
 #![tactic(auto)]
 
 #[cfg(test)]
-mod refused;
+mod changes;
+#[cfg(test)]
+mod lines;
+#[cfg(test)]
+mod shortages;
 #[cfg(test)]
 mod users;

@@ -1,4 +1,4 @@
-use Rattle.std.proofs.Common.{rules, arith, ◌+◌, length, take, drop, subst, sym, ap}
+use Rattle.std.proofs.Common.{rules, arith, take, drop, subst, sym}
 use Rattle.std.proofs.lemmas.List.{take_rest}
 use Rattle.std.proofs.Math.Seq.{take-add}
 use Rattle.std.specs.Io.KnownBytes.{Appends}

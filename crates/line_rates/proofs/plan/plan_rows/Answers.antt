@@ -1,7 +1,6 @@
 use Rattle.std.proofs.Common.{rules, refl, ◌∙◌, length}
-use Rattle.limit_tree.specs.Outline.{places}
 use Rattle.limit_tree.proofs.Places.{places_of_all}
-use Rattle.line_rates.proofs.WholeLemmas.{plan_is, fault_is}
+use Rattle.line_rates.proofs.WholeLemmas.{plan_is, fault_is, fault_of_floors}
 use Rattle.line_rates.proofs.plan.plan_rows.Goals as goal
 
 pub returns-in-Ok-clause-plan : goal.returns-in-Ok-clause-plan
@@ -11,5 +10,8 @@ returns-in-Ok-clause-plan g c =
 
 pub returns-in-Err-clause-fault : goal.returns-in-Err-clause-fault
 returns-in-Err-clause-fault g c =
-    fault_is c.args.limits.now c.args.tick (length c.in_ok-kids.kids.items) c.args.rows.now c.args.rows.now c.grow.new.rows (places_of_all c.in_ok-kids.kids.items) (places c.branch-root.result) c.rate_limit.result c.in-Err.fault
+    fault_is c.args.limits.now c.args.tick (length c.in_ok-kids.kids.items) c.args.rows.now c.args.rows.now c.grow.new.rows (places_of_all c.in_ok-kids.kids.items) c.branch-root.result c.rate_limit.result c.in-Err.fault
     refl c.in_ok-kids.ensures.grown (search rules) c.branch-root.ensures.places c.in-Err.ensures.new
+
+pub returns-in-Err-clause-floors : goal.returns-in-Err-clause-floors
+returns-in-Err-clause-floors g c = fault_of_floors c.args.limits.now c.args.tick c.args.rows.now c.in-Err.fault (returns-in-Err-clause-fault g c)

@@ -1,10 +1,10 @@
-use Rattle.std.proofs.Common.{rules, arith, ◌≡◌, ◌+◌, ◌*◌, ◌<◌, ◌≤◌, ◌^◌, ◌∙◌, sym, ap, subst, refl, List, ℕ, Some, None, true}
+use Rattle.std.proofs.Common.{◌≡◌, ◌∙◌, sym, ap, subst, List, None}
 use Rattle.std.specs.FinMap as finite
 use Rattle.line_rates.specs.Stated.{by_number}
-use Rattle.rate_floors.specs.declared.find.GroupPromise.{GroupPromise}
 use Rattle.rate_floors.specs.declared.find.UserSessions.{UserSessions}
-use Rattle.rate_floors.specs.Promises.{Promises, IsInGroup, HasNone, IsAt, user_key, admits, has_counted, has_session, one_more, one_less, added, taken, changed}
-use Rattle.rate_floors.proofs.FloorLemmas.{is_after, group_room, group_none, group_some, told_none, same_limits, none_counted, unchanged, cond_same, cond_true, entry_key, entry_stands, changed_value, told_after, told_before, has_room, has_floors, line_floors}
+use Rattle.rate_floors.specs.Promises.{Promises, IsAt, user_key, admits, one_more, added, changed, PromisesFit}
+use Rattle.rate_floors.proofs.FitLemmas.{fit_more}
+use Rattle.rate_floors.proofs.FloorLemmas.{unchanged, cond_same, cond_true, entry_key, changed_value, told_after, has_room}
 use Rattle.rate_floors.proofs.floors.Floors.admit.Goals as goal
 
 pub returns-in_default-clause-counted : goal.returns-in_default-clause-counted
@@ -15,15 +15,22 @@ returns-in_default-clause-counted g c =
 pub add-requires-clause-room : goal.add-requires-clause-room
 add-requires-clause-room g c =
     let at : IsAt user_key c.self.inside.users.items c.args.user c.in-Some.place = subst (λ (us : List UserSessions). IsAt user_key us c.args.user c.in-Some.place) c.deref.ensures.value c.in-Some.ensures.place in
-    has_room c.self.inside.users.items c.args.user c.in-Some.place c.index-entry.result.now at c.index-entry.ensures c.self.inside.promised_down c.self.inside.promised_up c.self.inside.groups.items c.self.inside.groups.items c.self.invariant c.args.self.now (ap (λ (p : Promises). p.users) c.self.view_is)
+    has_room c.self.inside.users.items c.args.user c.in-Some.place c.index-entry.result.now at c.index-entry.ensures c.self.inside.promised_down c.self.inside.promised_up c.self.inside.groups.items c.self.inside.groups.items c.self.invariant.told c.args.self.now (ap (λ (p : Promises). p.users) c.self.view_is)
 
 pub invariant_of-self : goal.invariant_of-self
 invariant_of-self g c =
     let at : IsAt user_key c.self.inside.users.items c.args.user c.in-Some.place = subst (λ (us : List UserSessions). IsAt user_key us c.args.user c.in-Some.place) c.deref.ensures.value c.in-Some.ensures.place in
-    told_after c.self.inside.users.items c.args.user c.in-Some.place c.index-entry.result.now at c.index-entry.ensures c.self.inside.promised_down c.self.inside.promised_up c.self.inside.groups.items c.add.new.groups.items c.self.invariant c.args.self.now (ap (λ (p : Promises). p.users) c.self.view_is) (sym c.if-not-fits.ensures.fits) c.add.ensures.added
+    let key = entry_key c.self.inside.users.items c.args.user c.in-Some.place c.index-entry.result.now at c.index-entry.ensures in
+    let admitted = sym c.if-not-fits.ensures.fits in
+    record {
+      told = told_after c.self.inside.users.items c.args.user c.in-Some.place c.index-entry.result.now at c.index-entry.ensures c.self.inside.promised_down c.self.inside.promised_up c.self.inside.groups.items c.add.new.groups.items c.self.invariant.told c.args.self.now (ap (λ (p : Promises). p.users) c.self.view_is) admitted c.add.ensures.added;
+      fit = subst PromisesFit
+          (sym (changed_value c.self.inside.users.items c.args.user c.in-Some.place c.index-entry.result.now at c.index-entry.ensures c.self.inside.server c.self.inside.down c.self.inside.up c.self.inside.groups.items c.add.new.groups.items one_more added c.args.self.now c.self.invariant.told.users_rise c.self.view_is c.add.ensures.added))
+          (fit_more c.args.self.now c.args.user (subst PromisesFit c.self.view_is c.self.invariant.fit) (sym (ap (admits c.args.self.now) key) ∙ admitted));
+    }
 
 pub returns-clause-counted : goal.returns-clause-counted
 returns-clause-counted g c =
     let at : IsAt user_key c.self.inside.users.items c.args.user c.in-Some.place = subst (λ (us : List UserSessions). IsAt user_key us c.args.user c.in-Some.place) c.deref.ensures.value c.in-Some.ensures.place in
     cond_true (admits c.args.self.now c.args.user) c.args.self.now (changed one_more c.args.self.now c.args.user) _ (sym (c.if-not-fits.ensures.fits ∙ ap (admits c.args.self.now) (entry_key c.self.inside.users.items c.args.user c.in-Some.place c.index-entry.result.now at c.index-entry.ensures)))
-    (changed_value c.self.inside.users.items c.args.user c.in-Some.place c.index-entry.result.now at c.index-entry.ensures c.self.inside.server c.self.inside.down c.self.inside.up c.self.inside.groups.items c.add.new.groups.items one_more added c.args.self.now c.self.invariant.users_rise c.self.view_is c.add.ensures.added)
+    (changed_value c.self.inside.users.items c.args.user c.in-Some.place c.index-entry.result.now at c.index-entry.ensures c.self.inside.server c.self.inside.down c.self.inside.up c.self.inside.groups.items c.add.new.groups.items one_more added c.args.self.now c.self.invariant.told.users_rise c.self.view_is c.add.ensures.added)

@@ -1,4 +1,4 @@
-use Rattle.std.proofs.Common.{rules, arith, ◌≡◌, ◌+◌, ◌*◌, ◌<◌, ◌≤◌, ◌^◌, ◌∙◌, sym, ap, subst, refl, List, ℕ, Some, None, true, map}
+use Rattle.std.proofs.Common.{◌≡◌, ◌∙◌, sym, ap, subst, List, ℕ, map}
 use Rattle.std.specs.List.{All}
 use Rattle.line_rates.specs.declared.row.GroupRate.{GroupRate}
 use Rattle.line_rates.specs.declared.row.UserRate.{UserRate}
@@ -6,8 +6,9 @@ use Rattle.line_rates.specs.Rates.{Rates}
 use Rattle.line_rates.specs.Stated.{by_number, stated, group_number, user_number}
 use Rattle.rate_floors.specs.declared.find.GroupPromise.{GroupPromise}
 use Rattle.rate_floors.specs.declared.find.UserSessions.{UserSessions}
-use Rattle.rate_floors.specs.Promises.{Promises, group_row, user_row, no_session, no_promise, IsTold, IsInGroup, HasNone, IsAt, user_key, admits, has_counted, has_session, one_more, one_less, added, taken, changed}
-use Rattle.rate_floors.proofs.FloorLemmas.{is_after, group_room, group_none, group_some, told_none, same_limits, none_counted, unchanged, cond_same, cond_true, entry_key, entry_stands, changed_value, told_after, told_before, has_room, has_floors, line_floors}
+use Rattle.rate_floors.specs.Promises.{group_row, user_row, no_session, no_promise, IsTold, PromisesFit, seen}
+use Rattle.rate_floors.proofs.FitLemmas.{fit_none}
+use Rattle.rate_floors.proofs.FloorLemmas.{told_none, same_limits, none_counted}
 use Rattle.rate_floors.proofs.floors.Floors.of.Goals as goal
 
 same_of : (r : Rates) (server down up : ℕ) (gs : List GroupPromise) (us : List UserSessions) (groups : List GroupRate) (users : List UserRate) → server ≡ r.server → down ≡ r.down → up ≡ r.up
@@ -21,10 +22,13 @@ same_of r server down up gs us groups users s d u g t a b =
     ∙ same_limits r groups users a b
 
 pub invariant_of-result : goal.invariant_of-result
-invariant_of-result g c =
-    subst (λ (gs : List GroupPromise). IsTold 0 0 gs c.in_ok-users.users.items) (sym c.in_ok-groups.ensures.none)
-    (subst (λ (us : List UserSessions). IsTold 0 0 (map no_promise c.groups.result.now) us) (sym c.in_ok-users.ensures.none)
-    (told_none c.groups.result.now c.users.result.now c.groups.ensures.rising c.users.ensures.rising c.users.ensures.fit))
+invariant_of-result g c = record {
+  told = subst (λ (gs : List GroupPromise). IsTold 0 0 gs c.in_ok-users.users.items) (sym c.in_ok-groups.ensures.none)
+      (subst (λ (us : List UserSessions). IsTold 0 0 (map no_promise c.groups.result.now) us) (sym c.in_ok-users.ensures.none)
+      (told_none c.groups.result.now c.users.result.now c.groups.ensures.rising c.users.ensures.rising c.users.ensures.fit));
+  fit = subst (λ (us : List UserSessions). PromisesFit (seen c.rate.result c.rate-2.result c.rate-3.result c.in_ok-groups.groups.items us)) (sym c.in_ok-users.ensures.none)
+      (fit_none c.rate.result c.rate-2.result c.rate-3.result c.in_ok-groups.groups.items c.users.result.now c.users.ensures.rising);
+}
 
 pub returns-clause-rates : goal.returns-clause-rates
 returns-clause-rates g c =

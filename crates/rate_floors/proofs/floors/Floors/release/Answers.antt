@@ -1,23 +1,28 @@
-use Rattle.std.proofs.Common.{rules, arith, ◌≡◌, ◌+◌, ◌*◌, ◌<◌, ◌≤◌, ◌^◌, ◌∙◌, sym, ap, subst, refl, List, ℕ, Some, None, true}
+use Rattle.std.proofs.Common.{rules, ◌∙◌, sym, ap, subst, List}
 use Rattle.std.proofs.lemmas.Bool.{lt-ltb}
-use Rattle.rate_floors.specs.declared.find.GroupPromise.{GroupPromise}
 use Rattle.rate_floors.specs.declared.find.UserSessions.{UserSessions}
-use Rattle.rate_floors.specs.Promises.{Promises, user_of, IsInGroup, HasNone, IsAt, user_key, admits, has_counted, has_session, one_more, one_less, added, taken, changed}
-use Rattle.rate_floors.proofs.FloorLemmas.{is_after, group_room, group_none, group_some, told_none, same_limits, none_counted, unchanged, cond_same, cond_true, entry_key, entry_stands, changed_value, told_after, told_before, has_room, has_floors, line_floors}
+use Rattle.rate_floors.specs.Promises.{Promises, user_of, IsAt, user_key, has_counted, has_session, one_less, taken, changed, PromisesFit}
+use Rattle.rate_floors.proofs.FitLemmas.{fit_less}
+use Rattle.rate_floors.proofs.FloorLemmas.{cond_true, entry_key, entry_stands, changed_value, told_before, has_floors}
 use Rattle.rate_floors.proofs.floors.Floors.release.Goals as goal
 
 pub take-requires-clause-floors : goal.take-requires-clause-floors
 take-requires-clause-floors g c =
     let at : IsAt user_key c.self.inside.users.items c.args.user c.in-Some.place = subst (λ (us : List UserSessions). IsAt user_key us c.args.user c.in-Some.place) c.deref.ensures.value c.in-Some.ensures.place in
-    has_floors c.self.inside.users.items c.args.user c.in-Some.place c.index-entry.result.now at c.index-entry.ensures c.self.inside.promised_down c.self.inside.promised_up c.self.inside.groups.items c.self.inside.groups.items c.self.invariant (search rules)
+    has_floors c.self.inside.users.items c.args.user c.in-Some.place c.index-entry.result.now at c.index-entry.ensures c.self.inside.promised_down c.self.inside.promised_up c.self.inside.groups.items c.self.inside.groups.items c.self.invariant.told (search rules)
 
 pub invariant_of-self : goal.invariant_of-self
 invariant_of-self g c =
     let at : IsAt user_key c.self.inside.users.items c.args.user c.in-Some.place = subst (λ (us : List UserSessions). IsAt user_key us c.args.user c.in-Some.place) c.deref.ensures.value c.in-Some.ensures.place in
-    told_before c.self.inside.users.items c.args.user c.in-Some.place c.index-entry.result.now at c.index-entry.ensures c.self.inside.promised_down c.self.inside.promised_up c.self.inside.groups.items c.take.new.groups.items c.self.invariant (search rules) c.take.ensures.taken
+    record {
+      told = told_before c.self.inside.users.items c.args.user c.in-Some.place c.index-entry.result.now at c.index-entry.ensures c.self.inside.promised_down c.self.inside.promised_up c.self.inside.groups.items c.take.new.groups.items c.self.invariant.told (search rules) c.take.ensures.taken;
+      fit = subst PromisesFit
+          (sym (changed_value c.self.inside.users.items c.args.user c.in-Some.place c.index-entry.result.now at c.index-entry.ensures c.self.inside.server c.self.inside.down c.self.inside.up c.self.inside.groups.items c.take.new.groups.items one_less taken c.args.self.now c.self.invariant.told.users_rise c.self.view_is c.take.ensures.taken))
+          (fit_less c.args.self.now c.args.user (subst PromisesFit c.self.view_is c.self.invariant.fit));
+    }
 
 pub returns-clause-released : goal.returns-clause-released
 returns-clause-released g c =
     let at : IsAt user_key c.self.inside.users.items c.args.user c.in-Some.place = subst (λ (us : List UserSessions). IsAt user_key us c.args.user c.in-Some.place) c.deref.ensures.value c.in-Some.ensures.place in
     cond_true (has_counted c.args.self.now c.args.user) c.args.self.now (changed one_less c.args.self.now c.args.user) _ (ap has_session (sym (ap (user_of c.args.self.now) (entry_key c.self.inside.users.items c.args.user c.in-Some.place c.index-entry.result.now at c.index-entry.ensures)) ∙ entry_stands c.self.inside.users.items c.args.user c.in-Some.place c.index-entry.result.now at c.index-entry.ensures c.args.self.now (ap (λ (p : Promises). p.users) c.self.view_is)) ∙ lt-ltb 0 c.index-entry.result.now.sessions (search rules))
-    (changed_value c.self.inside.users.items c.args.user c.in-Some.place c.index-entry.result.now at c.index-entry.ensures c.self.inside.server c.self.inside.down c.self.inside.up c.self.inside.groups.items c.take.new.groups.items one_less taken c.args.self.now c.self.invariant.users_rise c.self.view_is c.take.ensures.taken)
+    (changed_value c.self.inside.users.items c.args.user c.in-Some.place c.index-entry.result.now at c.index-entry.ensures c.self.inside.server c.self.inside.down c.self.inside.up c.self.inside.groups.items c.take.new.groups.items one_less taken c.args.self.now c.self.invariant.told.users_rise c.self.view_is c.take.ensures.taken)

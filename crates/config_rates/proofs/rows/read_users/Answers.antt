@@ -1,0 +1,19 @@
+use Rattle.config_tables.specs.declared.stated.UserTable.{UserTable}
+use Rattle.config_rates.specs.Groups.{HasGroup}
+use Rattle.config_rates.specs.Rows.{user_row}
+use Rattle.config_rates.proofs.Numbering.{numbered-next, all-next, all-whole}
+use Rattle.config_rates.proofs.rows.read_users.Goals as goal
+
+pub loop-index-preserved : goal.loop-index-preserved
+loop-index-preserved c = λ groups are.
+    let user = c.index-users-index.result in
+    let before = c.loop-index.invariant groups are in (
+      numbered-next (user_row groups) c.args.users.now c.loop-index.index user c.loop-index.rows.items c.push.new.self.items c.in_ok-row.row
+          c.loop-index-test.true c.index-users-index.is before.0 (c.in_ok-row.ensures.row groups are) c.in_ok-push.ensures.items,
+      all-next (λ (u : UserTable). HasGroup groups u.group) c.args.users.now c.loop-index.index user
+          c.loop-index-test.true c.index-users-index.is before.1 (c.in_ok-row.ensures.has groups are),
+    )
+
+pub returns-clause-grouped : goal.returns-clause-grouped
+returns-clause-grouped c = λ groups are.
+    all-whole (λ (u : UserTable). HasGroup groups u.group) c.args.users.now c.loop-index.index c.loop-index-test.false (c.loop-index.invariant groups are).1

@@ -1,0 +1,63 @@
+//! The numbers of groups, by their names.
+
+ghost use Rattle.std.specs.Prelude.{◌≡◌, cond, IfOk, OnOk, Some, None, ℕ, List, bytes_eq};
+ghost use Rattle.config_rates.specs.Groups.{AreNumbers, AreApart, number_by};
+
+use crate::fault::{GroupProblem, RowsFault};
+use config_tables::{GroupTable, Place, TableName};
+use std::alloc::Global;
+use std::collections::BTreeMap;
+
+/// The numbers of groups, by their names.
+pub type Numbers = BTreeMap<String, u32>;
+
+/// The number of the group of a name.
+pub fn number_of(numbers: &Numbers, name: &str) -> Option<u32>
+    ensures number { result ≡ number_by numbers.now name.now }
+{
+    numbers.get(name).copied()
+}
+
+/// The fault of a group, whose place in the file counts from 0.
+fn fault_of<'a>(index: usize, group: &GroupTable<'a>, problem: GroupProblem) -> RowsFault<'a> {
+    let place = Place {
+        table: TableName::Group,
+        row: index.saturating_add(1),
+        name: Some(group.name),
+    };
+    RowsFault::Group { place, problem }
+}
+
+/// Numbers the group at a place of the file.
+fn number_next<'a>(
+    alloc: Global,
+    numbers: &mut Numbers,
+    index: usize,
+    group: &GroupTable<'a>,
+) -> Result<(), RowsFault<'a>>
+    ensures first { OnOk result (number_by numbers.old group.now.name.now ≡ None) }
+    ensures next { OnOk result ((name : List ℕ)
+        → number_by numbers.new name ≡ cond (bytes_eq group.now.name.now name) (Some index) (number_by numbers.old name)) }
+{
+    if number_of(numbers, group.name).is_some() {
+        return Err(fault_of(index, group, GroupProblem::Twice));
+    }
+    let Ok(number) = u32::try_from(index) else {
+        return Err(fault_of(index, group, GroupProblem::NoNumber));
+    };
+    let name = String::from_str(alloc, group.name)?;
+    numbers.insert(name, number)?;
+    Ok(())
+}
+
+/// Numbers groups in the order of the file, from 0.
+pub fn number_groups<'a>(alloc: Global, groups: &[GroupTable<'a>]) -> Result<Numbers, RowsFault<'a>>
+    ensures numbers { IfOk result (AreNumbers groups.now) }
+    ensures apart { OnOk result (AreApart groups.now) }
+{
+    let mut numbers = BTreeMap::new(alloc);
+    for (index, group) in groups.iter().enumerate() {
+        number_next(alloc, &mut numbers, index, group)?;
+    }
+    Ok(numbers)
+}

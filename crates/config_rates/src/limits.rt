@@ -1,0 +1,29 @@
+//! The limits of a configuration.
+
+ghost use Rattle.std.specs.Prelude.{◌≡◌, List};
+ghost use Rattle.config_tables.specs.declared.stated.GroupTable.{GroupTable};
+ghost use Rattle.config_tables.specs.declared.stated.UserTable.{UserTable};
+ghost use Rattle.config_rates.specs.Rows.{group_rows, user_rows, AreRowsOf};
+ghost use Rattle.line_rates.specs.Stated.{stated};
+
+use crate::rows::RateRows;
+use config_server::ServerTable;
+use line_rates::Limits;
+
+/// The limits that a server's rates and rows that were read set. These cannot be refused: each rate is in its range, each
+/// number stands once, and each user's group has a row.
+pub fn limits_of(server: &ServerTable, rows: RateRows) -> Limits
+    requires rows { (groups : List GroupTable) × (users : List UserTable) × AreRowsOf groups users rows }
+    ensures limits { result ≡ stated server.now.rate server.now.down_rate server.now.up_rate rows.groups.items rows.users.items }
+{
+    match Limits::of(
+        server.rate,
+        server.down_rate,
+        server.up_rate,
+        rows.groups,
+        rows.users,
+    ) {
+        Ok(limits) => limits,
+        Err(_) => unreachable!(),
+    }
+}

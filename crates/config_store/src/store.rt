@@ -1,0 +1,141 @@
+//! A store with the directories and files of a configuration.
+
+ghost use Rattle.std.specs.Prelude.{◌≡◌, ◌≤◌, [], IfOk, OnOk, Ok};
+ghost use Rattle.virtual_path.specs.Path.{resolved};
+ghost use Rattle.config_store.specs.Made.{MakesDir, MakesFile, MakesAll, IsFilled, IsStoreOf};
+
+use crate::fault::{StoreFaultAt, StoreProblem};
+use config_server::ServerTable;
+use config_tables::{DirTable, FileTable, Place, TableName};
+use memory_store::MemStore;
+use std::alloc::Global;
+use virtual_path::{PathFault, VPath};
+use virtual_tree::{Sink, Store, StoreFault, WriteMode};
+
+/// What a server serves.
+#[derive(Drop)]
+pub enum ServedStore {
+    /// Files in memory, which are forgotten at the end.
+    Memory(MemStore),
+    /// A folder of the machine, by its path.
+    Folder(String),
+}
+
+/// The path that a text names from the root.
+fn path_of(alloc: Global, text: &str) -> Result<VPath, StoreProblem>
+    ensures path { IfOk result (λ path. resolved [] text.now ≡ Ok path) }
+{
+    let root = VPath::root(alloc);
+    match root.resolve(alloc, text) {
+        Ok(path) => Ok(path),
+        Err(fault) => Err(StoreProblem::Path(fault)),
+    }
+}
+
+fn make_dir(alloc: Global, store: &mut MemStore, dir: &DirTable) -> Result<(), StoreProblem>
+    ensures made { OnOk result (MakesDir dir.now store.old store.new) }
+{
+    let path = path_of(alloc, dir.path)?;
+    match store.make_dir(&path) {
+        Ok(()) => Ok(()),
+        Err(fault) => Err(StoreProblem::Store(fault)),
+    }
+}
+
+/// Puts a text into a file at a moment, in milliseconds since 1970.
+fn put_text(store: &mut MemStore, path: &VPath, text: &str, moment: u64) -> Result<(), StoreFault>
+    ensures filled { OnOk result (IsFilled path.now text.now moment store.old store.new) }
+{
+    let mut sink = store.open_write(path, WriteMode::New, moment)?;
+    sink.write(text.as_bytes())?;
+    store.finish(sink, moment)
+}
+
+fn make_file(alloc: Global, store: &mut MemStore, file: &FileTable) -> Result<(), StoreProblem>
+    ensures made { OnOk result (MakesFile file.now store.old store.new) }
+{
+    let path = path_of(alloc, file.path)?;
+    match put_text(store, &path, file.text, file.modified * 1000) {
+        Ok(()) => Ok(()),
+        Err(fault) => Err(StoreProblem::Store(fault)),
+    }
+}
+
+/// The refusal of a row, whose place among those of its kind counts from 0.
+fn refused<'a>(table: TableName, index: usize, problem: StoreProblem) -> StoreFaultAt<'a> {
+    match problem {
+        StoreProblem::Path(PathFault::Memory) | StoreProblem::Store(StoreFault::Memory) => {
+            StoreFaultAt::Memory
+        }
+        _ => {
+            let place = Place {
+                table,
+                row: index.saturating_add(1),
+                name: None,
+            };
+            StoreFaultAt::Refused { place, problem }
+        }
+    }
+}
+
+fn make_dirs<'a>(
+    alloc: Global,
+    store: &mut MemStore,
+    dirs: &[DirTable],
+) -> Result<(), StoreFaultAt<'a>>
+    ensures made { OnOk result (MakesAll MakesDir dirs.now store.old store.new) }
+{
+    for (index, dir) in dirs.iter().enumerate() {
+        match make_dir(alloc, store, dir) {
+            Ok(()) => {}
+            Err(problem) => return Err(refused(TableName::Dir, index, problem)),
+        }
+    }
+    Ok(())
+}
+
+fn make_files<'a>(
+    alloc: Global,
+    store: &mut MemStore,
+    files: &[FileTable],
+) -> Result<(), StoreFaultAt<'a>>
+    ensures made { OnOk result (MakesAll MakesFile files.now store.old store.new) }
+{
+    for (index, file) in files.iter().enumerate() {
+        match make_file(alloc, store, file) {
+            Ok(()) => {}
+            Err(problem) => return Err(refused(TableName::File, index, problem)),
+        }
+    }
+    Ok(())
+}
+
+/// The store of a file's tables: where its root is `memory` one in memory, with the directories in their order and then the
+/// files, and else the folder of that name. `Err` is an empty range of ports, or else the first refusal; or memory ran out.
+pub fn make_store<'a>(
+    alloc: Global,
+    server: &ServerTable,
+    dirs: &[DirTable],
+    files: &[FileTable],
+) -> Result<ServedStore, StoreFaultAt<'a>>
+    ensures range { OnOk result (server.now.passive_first ≤ server.now.passive_last) }
+    ensures store { IfOk result (IsStoreOf server.now dirs.now files.now) }
+{
+    if server.passive_last < server.passive_first {
+        let place = Place {
+            table: TableName::Server,
+            row: 0,
+            name: None,
+        };
+        let problem = StoreProblem::EmptyRange;
+        return Err(StoreFaultAt::Refused { place, problem });
+    }
+    if server.root != "memory" {
+        let folder = String::from_str(alloc, server.root)?;
+        return Ok(ServedStore::Folder(folder));
+    }
+    let mut store = MemStore::new(alloc, server.capacity)?;
+    make_dirs(alloc, &mut store, dirs)?;
+    make_files(alloc, &mut store, files)?;
+    Ok(ServedStore::Memory(store))
+}

@@ -1,0 +1,76 @@
+//! Lists of tables.
+
+ghost use Rattle.std.specs.Prelude.{IfOk, map};
+ghost use Rattle.toml.specs.Data.{Members};
+ghost use Rattle.toml.specs.View.{view, table_view, items_view};
+ghost use Rattle.config_tables.specs.Rows.{IsRow, AreRows};
+
+use crate::fault::{Place, TableFault, TableName};
+use config_keys::{KeyFault, only_known, row_at};
+use std::alloc::Global;
+use toml::{Table, Value};
+
+/// A kind of row, which is read by its keys.
+pub trait Row<'a>: Sized + Drop {
+    /// What the keys of a table state.
+    ghost States: { Members → Self → Type 0 };
+
+    /// Reads the keys that a row has, in their order.
+    fn read(table: &'a Table) -> Result<Self, KeyFault<'a>>
+        ensures states { IfOk result (States (table_view table.now)) };
+}
+
+/// A row, which may have these keys.
+fn read_row<'a, R: Row<'a>>(
+    value: &'a Value,
+    key: &'a str,
+    known: &[&str],
+) -> Result<R, KeyFault<'a>>
+    ensures row { IfOk result (IsRow R.States (map (λ s. s.now) known.now) (view value.now)) }
+{
+    let table = row_at(value, key)?;
+    only_known(table, known)?;
+    let row = R::read(table)?;
+    Ok(row)
+}
+
+/// The name that a row states.
+fn name_in(value: &Value) -> Option<&str> {
+    match value.get("name") {
+        Some(name) => name.as_str(),
+        None => None,
+    }
+}
+
+/// The rows of a list, which stands at a key. They may have these keys; those of an owner bear its name.
+pub fn read_rows<'a, R: Row<'a>>(
+    alloc: Global,
+    table: TableName,
+    owner: Option<&'a str>,
+    key: &'a str,
+    known: &[&str],
+    rows: &'a [Value],
+) -> Result<Vec<R>, TableFault<'a>>
+    ensures rows { IfOk result (λ found. AreRows R.States (map (λ s. s.now) known.now) (items_view rows.now) found.items) }
+{
+    let mut found = Vec::new(alloc);
+    for (index, value) in rows.iter().enumerate() {
+        match read_row::<R>(value, key, known) {
+            Ok(row) => {
+                if found.push(row).is_err() {
+                    return Err(TableFault::Memory);
+                }
+            }
+            Err(fault) => {
+                let name = owner.or(name_in(value));
+                let place = Place {
+                    table,
+                    row: index.saturating_add(1),
+                    name,
+                };
+                return Err(TableFault::Key { place, fault });
+            }
+        }
+    }
+    Ok(found)
+}

@@ -1,0 +1,32 @@
+//! The tables `[[dir]]` and `[[file]]`: what a store in memory holds at the start.
+
+use crate::rows::Row;
+use crate::stated::{DirTable, FileTable, LATEST_TIME};
+use config_keys::{KeyFault, line_at, number_at, text_at};
+use toml::Table;
+
+impl<'a> Row<'a> for DirTable<'a> {
+    ghost use Rattle.config_tables.specs.World.{IsDir};
+
+    ghost States = { IsDir };
+
+    fn read(table: &'a Table) -> Result<DirTable<'a>, KeyFault<'a>> {
+        Ok(DirTable {
+            path: line_at(table, "path", None)?,
+        })
+    }
+}
+
+impl<'a> Row<'a> for FileTable<'a> {
+    ghost use Rattle.config_tables.specs.World.{IsFile};
+
+    ghost States = { IsFile };
+
+    fn read(table: &'a Table) -> Result<FileTable<'a>, KeyFault<'a>> {
+        Ok(FileTable {
+            path: line_at(table, "path", None)?,
+            text: text_at(table, "text", None)?,
+            modified: number_at(table, "modified", 0, LATEST_TIME, Some(0))?,
+        })
+    }
+}

@@ -1,0 +1,178 @@
+//! What no clause says of a configuration: that it is read, what its parts are, and that the same comes of it in version 2.
+
+use crate::expect::holds;
+use config_store::ServedStore;
+use line_rates::{Name, Way};
+use memory_store::MemStore;
+use server_config::{Config, migrate};
+use std::alloc::Global;
+use std::process::Abort;
+use std::test::Fail;
+use virtual_path::VPath;
+use virtual_tree::{Source, Store};
+
+const SMALL: &str = "version = 1
+[server]
+root = \"memory\"
+passive_first = 40000
+passive_last = 40001
+[[user]]
+name = \"ann\"
+password = \"secret\"
+home = \"/\"
+perms = \"elradfmw\"
+[[user]]
+name = \"bob\"
+password = \"b\"
+home = \"/\"
+[[user.override]]
+path = \"/in\"
+perms = \"w\"
+recursive = true
+[[dir]]
+path = \"/in\"
+[[file]]
+path = \"/f\"
+text = \"a\\nb\"
+modified = 951827696
+";
+
+const GROUPED: &str = "version = 2
+[server]
+root = \"/srv/ftp\"
+address = \"0.0.0.0\"
+masquerade_address = \"203.0.113.7\"
+passive_first = 1
+passive_last = 1
+rate = 100
+down_rate = 60
+[[group]]
+name = \"sales\"
+down_rate = 40
+[[group]]
+name = \"build\"
+up_rate = 30
+[[user]]
+name = \"ann\"
+password = \"a\"
+home = \"/\"
+group = \"build\"
+down_rate = 20
+session_down_floor = 5
+msg_login = \"Hello\"
+[[user]]
+name = \"anonymous\"
+home = \"/pub\"
+";
+
+/// The time of the file `/f`, and how many octets it holds.
+fn octets_of(
+    rt: &(impl Abort + Alloc<A = Global>),
+    store: &mut MemStore,
+) -> Result<(u64, usize), Fail> {
+    let path = VPath::root(rt.alloc()).resolve(rt.alloc(), "/f")?;
+    let meta = store.stat(&path)?;
+    let mut buffer = [0u8; 8];
+    let mut source = store.open_read(&path, 0)?;
+    let count = source.read(&mut buffer)?;
+    holds(rt, buffer.starts_with(b"a\nb"));
+    Ok((meta.modified, count))
+}
+
+/// The configuration is that of the small file.
+fn is_small(rt: &(impl Abort + Alloc<A = Global>), config: Config) -> Result<(), Fail> {
+    let users = config.users;
+    holds(
+        rt,
+        users.number("ann") == Some(0) && users.number("bob") == Some(1),
+    );
+    holds(
+        rt,
+        users.check_password("ann", "secret") && !users.check_password("bob", "c"),
+    );
+    holds(
+        rt,
+        users.msg_login("bob") == Some("Welcome") && users.group("bob").is_none(),
+    );
+    holds(
+        rt,
+        config.terms.banner.as_str() == "Ready" && config.terms.login_attempts == 3,
+    );
+    holds(
+        rt,
+        config.terms.address == [127, 0, 0, 1] && config.numbers.address == [127, 0, 0, 1],
+    );
+    holds(
+        rt,
+        config.numbers.port == 2121 && config.numbers.lanes == 16,
+    );
+    holds(
+        rt,
+        config.numbers.passive_first == 40000 && config.numbers.passive_last == 40001,
+    );
+    match config.store {
+        ServedStore::Memory(store) => {
+            let mut store = store;
+            let (modified, count) = octets_of(rt, &mut store)?;
+            holds(rt, modified == 951_827_696 && count == 3);
+        }
+        ServedStore::Folder(_) => return Err("a folder".into()),
+    }
+    Ok(())
+}
+
+#[test]
+fn a_small_file_is_read(rt: HostRuntime) -> Result<(), Fail> {
+    let config = Config::read(rt.alloc(), SMALL.as_bytes())?;
+    is_small(&rt, config)
+}
+
+#[test]
+fn in_version_2_it_is_the_same(rt: HostRuntime) -> Result<(), Fail> {
+    let text = migrate(rt.alloc(), SMALL.as_bytes())?;
+    holds(&rt, text.as_str().starts_with("version = 2"));
+    let again = migrate(rt.alloc(), text.as_bytes())?;
+    holds(&rt, again.as_str() == text.as_str());
+    let config = Config::read(rt.alloc(), text.as_bytes())?;
+    is_small(&rt, config)
+}
+
+#[test]
+fn groups_set_limits(rt: HostRuntime) -> Result<(), Fail> {
+    let config = Config::read(rt.alloc(), GROUPED.as_bytes())?;
+    let limits = config.limits;
+    holds(
+        &rt,
+        limits.rate(Name::Server) == 100 && limits.rate(Name::Direction(Way::Down)) == 60,
+    );
+    holds(
+        &rt,
+        limits.rate(Name::Group(Way::Down, 0)) == 40 && limits.rate(Name::Group(Way::Up, 1)) == 30,
+    );
+    holds(
+        &rt,
+        limits.rate(Name::User(Way::Down, 0)) == 20 && limits.rate(Name::User(Way::Down, 1)) == 0,
+    );
+    holds(
+        &rt,
+        limits.group_of(0) == Some(1) && limits.group_of(1).is_none(),
+    );
+    let users = config.users;
+    holds(
+        &rt,
+        users.group("ann") == Some(1) && users.group("anonymous").is_none(),
+    );
+    holds(
+        &rt,
+        users.check_password("anonymous", "whatever") && users.msg_login("ann") == Some("Hello"),
+    );
+    holds(
+        &rt,
+        config.terms.address == [203, 0, 113, 7] && config.numbers.address == [0, 0, 0, 0],
+    );
+    match config.store {
+        ServedStore::Folder(text) => holds(&rt, text.as_str() == "/srv/ftp"),
+        ServedStore::Memory(_) => return Err("in memory".into()),
+    }
+    Ok(())
+}

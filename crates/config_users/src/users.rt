@@ -1,0 +1,104 @@
+//! An authorizer with the users of a file.
+
+ghost use Rattle.std.specs.Prelude.{◌≡◌, IfOk, OnOk, List, length};
+ghost use Rattle.authorizer.specs.Numbers.{no_users};
+ghost use Rattle.config_rates.specs.Rows.{user_rows};
+ghost use Rattle.config_tables.specs.declared.stated.GroupTable.{GroupTable};
+ghost use Rattle.config_users.specs.Added.{AddsRule, AddsRules, AddsAccount, AddsUser, AddsUsers};
+
+use crate::fault::UsersFault;
+use authorizer::{Authorizer, AuthorizerFault};
+use config_tables::{OverrideTable, Place, TableName, UserTable};
+use line_rates::UserRate;
+use std::alloc::Global;
+
+/// The refusal of a row, whose place among those of its kind counts from 0.
+fn refused<'a>(
+    table: TableName,
+    index: usize,
+    name: &'a str,
+    fault: AuthorizerFault,
+) -> UsersFault<'a> {
+    if fault == AuthorizerFault::Memory {
+        return UsersFault::Memory;
+    }
+    let place = Place {
+        table,
+        row: index.saturating_add(1),
+        name: Some(name),
+    };
+    UsersFault::Refused { place, fault }
+}
+
+/// Adds a user with their messages and their group, and no override yet.
+fn add_account(
+    users: &mut Authorizer,
+    user: &UserTable,
+    group: Option<u32>,
+) -> Result<(), AuthorizerFault>
+    ensures account { OnOk result (AddsAccount group user.now users.old users.new) }
+{
+    users.add_user(user.name, user.password, user.home, user.perms)?;
+    users.set_messages(user.name, user.msg_login, user.msg_quit)?;
+    users.set_group(user.name, group)
+}
+
+fn add_rule(users: &mut Authorizer, name: &str, rule: &OverrideTable) -> Result<(), AuthorizerFault>
+    ensures rule { OnOk result (AddsRule name.now rule.now users.old users.new) }
+{
+    users.override_perm(name, rule.path, rule.perms, rule.recursive)
+}
+
+/// Adds the overrides of a user, in their order.
+fn add_rules<'a>(
+    users: &mut Authorizer,
+    name: &'a str,
+    rules: &[OverrideTable<'a>],
+) -> Result<(), UsersFault<'a>>
+    ensures rules { OnOk result (AddsRules name.now rules.now users.old users.new) }
+{
+    for (index, rule) in rules.iter().enumerate() {
+        match add_rule(users, name, rule) {
+            Ok(()) => {}
+            Err(fault) => return Err(refused(TableName::Override, index, name, fault)),
+        }
+    }
+    Ok(())
+}
+
+/// Adds a user, who stands at a place of the file, with all that is theirs.
+fn add_user<'a>(
+    users: &mut Authorizer,
+    index: usize,
+    user: &UserTable<'a>,
+    rules: &[OverrideTable<'a>],
+    group: Option<u32>,
+) -> Result<(), UsersFault<'a>>
+    ensures user { OnOk result (AddsUser group user.now rules.now users.old users.new) }
+{
+    match add_account(users, user, group) {
+        Ok(()) => add_rules(users, user.name, rules),
+        Err(fault) => Err(refused(TableName::User, index, user.name, fault)),
+    }
+}
+
+/// An authorizer with these users, who are added in the order of the file, each with their overrides; their groups stand
+/// in their rows of rates. `Err` is the first refusal, or want of memory.
+pub fn make_users<'a>(
+    alloc: Global,
+    users: &[UserTable<'a>],
+    overrides: &[Vec<OverrideTable<'a>>],
+    rows: &[UserRate],
+) -> Result<Authorizer, UsersFault<'a>>
+    requires overrides { length overrides.now ≡ length users.now }
+    requires rows { length rows.now ≡ length users.now }
+    ensures users { (groups : List GroupTable) → rows.now ≡ user_rows groups users.now
+        → IfOk result (AddsUsers groups users.now overrides.now no_users) }
+{
+    let mut authorizer = Authorizer::new(alloc)?;
+    for (index, user) in users.iter().enumerate() {
+        let rules = overrides[index].as_slice();
+        add_user(&mut authorizer, index, user, rules, rows[index].group)?;
+    }
+    Ok(authorizer)
+}

@@ -1,0 +1,4 @@
+pub mod Listings
+pub mod Moves
+pub mod Places
+pub mod Trees

@@ -1,0 +1,8 @@
+use Rattle.std.proofs.Common.{◌≡◌, ◌++◌, map, filter}
+use Rattle.virtual_tree.specs.Calls.{entries_of}
+use Rattle.file_tree.specs.Tree.{told_of, is_named}
+use Rattle.file_tree.proofs.files.Files.listing.Given as goal
+
+-- what is told so far, and what is left, are all
+abbrev pub invariant-loop-place : goal.invariant-loop-place
+invariant-loop-place g l = entries_of l.listed ++ map told_of (filter is_named l.place-iterator) ≡ map told_of (filter is_named l.initial.place-iterator)

@@ -1,0 +1,16 @@
+-- What the entries of a store in memory are seen as.
+use Rattle.std.specs.Prelude.{ℕ, List, Vec}
+use Rattle.std.specs.Arc.{arc_value}
+use Rattle.std.specs.declared.sync.Arc.{Arc}
+use Rattle.file_tree.specs.declared.entry.Held.{Held}
+use Rattle.file_tree.specs.declared.entry.Held.TheVariants as held
+use Rattle.file_tree.specs.Tree.{Node}
+use Rattle.file_tree.specs.Tree.Node.{Directory, File}
+
+abbrev pub node_of : {A : Type 0} → Held A → Node
+node_of held.Directory = Directory
+node_of (held.File octets moment) = File (arc_value octets).items moment
+
+-- the octets that are shared
+abbrev pub shared : {A B : Type 0} → Arc (Vec ℕ A) B → List ℕ
+shared octets = (arc_value octets).items

@@ -1,0 +1,47 @@
+-- What a handler is told, and what a list of actions leaves of it.
+use Rattle.std.specs.Prelude.{ℕ, ◌≡◌, List, [], ◌∷◌}
+use Rattle.virtual_path.specs.Path.{path_text}
+use Rattle.session_table.specs.declared.actions.Action.{Action}
+use Rattle.session_table.specs.declared.actions.Action.TheVariants as action
+use Rattle.session_table.specs.declared.actions.HookCall.{HookCall}
+use Rattle.session_table.specs.declared.actions.HookCall.TheVariants as hook
+
+-- an event: with the user's name, or with the text of the user's path
+pub data Event : Type 0 where
+  Connected : Event
+  Disconnected : Event
+  LoggedIn : List ℕ → Event
+  LoginFailed : List ℕ → Event
+  LoggedOut : List ℕ → Event
+  FileSent : List ℕ → Event
+  FileReceived : List ℕ → Event
+  FileNotSent : List ℕ → Event
+  FileNotReceived : List ℕ → Event
+
+abbrev pub event_of : {A : Type 0} → HookCall A → Event
+event_of hook.Connect = Connected
+event_of hook.Disconnect = Disconnected
+event_of (hook.Login name) = LoggedIn name
+event_of (hook.LoginFailed name) = LoginFailed name
+event_of (hook.Logout name) = LoggedOut name
+event_of (hook.FileSent path) = FileSent (path_text path)
+event_of (hook.FileReceived path) = FileReceived (path_text path)
+event_of (hook.IncompleteFileSent path) = FileNotSent (path_text path)
+event_of (hook.IncompleteFileReceived path) = FileNotReceived (path_text path)
+
+-- what one action leaves of a handler: a Hook is told, and no other is
+abbrev pub Leaves : {H A R K : Type 0} → (H → Event → H → Type 0) → H → Action A R K → H → Type 0
+Leaves Told old (action.Hook call) new = Told old (event_of call) new
+Leaves Told old (action.Say reply) new = new ≡ old
+Leaves Told old action.OpenPassive new = new ≡ old
+Leaves Told old (action.ConnectTo to) new = new ≡ old
+Leaves Told old action.DropData new = new ≡ old
+Leaves Told old (action.Start job) new = new ≡ old
+Leaves Told old action.Abort new = new ≡ old
+Leaves Told old action.CloseControl new = new ≡ old
+Leaves Told old (action.ReleaseFloor user) new = new ≡ old
+
+-- what a list of actions leaves of it, one after another
+abbrev pub AllLeave : {H A R K : Type 0} → (H → Event → H → Type 0) → H → List (Action A R K) → H → Type 0
+AllLeave Told old [] new = new ≡ old
+AllLeave {H} Told old (first ∷ others) new = (mid : H) × Leaves Told old first mid × AllLeave Told mid others new

@@ -1,0 +1,93 @@
+//! What the machine tells of an entry.
+
+ghost use Rattle.std.specs.Prelude.{◌≡◌, ◌≢◌, ◌≤◌, ◌⊎◌, ◌↔◌, IsTrue, MatchOption};
+ghost use Rattle.std.specs.IoError.{error_kind};
+ghost use Rattle.machine_files.specs.Times.{shown};
+ghost use Rattle.machine_files.specs.Told.{IsTold, IsNeither};
+
+use ftp_terms::{Kind, LATEST, Meta};
+use std::fs::Metadata;
+use std::io;
+use std::io::ErrorKind;
+use std::os::unix::fs::MetadataExt;
+use virtual_tree::StoreFault;
+
+/// Why a call was refused, by the machine's own word for it. A full disk is a fault of the device.
+pub fn fault_of(error: &io::Error) -> StoreFault
+    ensures full { result ≢ StoreFault.Full }
+    ensures none { error_kind error.now ≡ ErrorKind.NotFound → result ≡ StoreFault.NotFound }
+    ensures file { error_kind error.now ≡ ErrorKind.NotADirectory → result ≡ StoreFault.NotDir }
+    ensures directory { error_kind error.now ≡ ErrorKind.IsADirectory → result ≡ StoreFault.IsDir }
+    ensures stands { error_kind error.now ≡ ErrorKind.AlreadyExists → result ≡ StoreFault.Exists }
+    ensures bare { error_kind error.now ≡ ErrorKind.DirectoryNotEmpty → result ≡ StoreFault.NotEmpty }
+    ensures memory { error_kind error.now ≡ ErrorKind.OutOfMemory → result ≡ StoreFault.Memory }
+    ensures denied { error_kind error.now ≡ ErrorKind.PermissionDenied → result ≡ StoreFault.Device }
+    ensures disk { error_kind error.now ≡ ErrorKind.StorageFull → result ≡ StoreFault.Device }
+{
+    match error.kind() {
+        ErrorKind::NotFound => StoreFault::NotFound,
+        ErrorKind::NotADirectory => StoreFault::NotDir,
+        ErrorKind::IsADirectory => StoreFault::IsDir,
+        ErrorKind::AlreadyExists => StoreFault::Exists,
+        ErrorKind::DirectoryNotEmpty => StoreFault::NotEmpty,
+        ErrorKind::OutOfMemory => StoreFault::Memory,
+        _ => StoreFault::Device,
+    }
+}
+
+/// Why an open file could not be read or written.
+pub fn end_fault(error: &io::Error) -> StoreFault
+    ensures either { (result ≡ StoreFault.Device) ⊎ (result ≡ StoreFault.Memory) }
+    ensures memory { error_kind error.now ≡ ErrorKind.OutOfMemory → result ≡ StoreFault.Memory }
+    ensures device { error_kind error.now ≢ ErrorKind.OutOfMemory → result ≡ StoreFault.Device }
+{
+    if error.kind() == ErrorKind::OutOfMemory {
+        return StoreFault::Memory;
+    }
+    StoreFault::Device
+}
+
+/// Whole seconds since 1970; a time outside the years 1970 to 9999 is told as the nearer end.
+pub fn seconds(time: i64) -> u64
+    ensures seconds { result ≡ shown time }
+{
+    match u64::try_from(time) {
+        Ok(seconds) => seconds.min(LATEST),
+        Err(_) => 0,
+    }
+}
+
+/// What is known of a directory or a file; none of anything else, as a link.
+pub fn meta_of(metadata: &Metadata) -> Option<Meta>
+    ensures told { MatchOption result (IsNeither metadata.now) (IsTold metadata.now) }
+{
+    if metadata.is_dir() {
+        return Some(Meta::new(Kind::Directory, 0, seconds(metadata.mtime())));
+    }
+    if metadata.is_file() {
+        return Some(Meta::new(Kind::File, metadata.len(), seconds(metadata.mtime())));
+    }
+    None
+}
+
+/// What the machine knows an entry by: its device, and its number there.
+#[derive(Clone, Copy)]
+pub struct Identity {
+    device: u64,
+    number: u64,
+}
+
+/// What the machine knows an entry by. No contract can say which numbers it gives.
+pub fn identity_of(metadata: &Metadata) -> Identity {
+    Identity {
+        device: metadata.dev(),
+        number: metadata.ino(),
+    }
+}
+
+/// Whether both are one entry.
+pub fn is_same(looked: Identity, opened: Identity) -> bool
+    ensures same { IsTrue result ↔ (looked ≡ opened) }
+{
+    looked.device == opened.device && looked.number == opened.number
+}

@@ -1,0 +1,130 @@
+//! Open files of the machine.
+
+ghost use Rattle.std.specs.Prelude.{None};
+ghost use Rattle.machine_files.specs.Refusals.{NeverFull};
+
+use crate::look::{end_fault, fault_of, identity_of, is_same};
+use std::fs::{Metadata, OpenFile};
+use std::io::{Read, Seek, SeekFrom, Write};
+use virtual_tree::{Sink, Source, StoreFault};
+
+/// A file that is read. What it holds is the machine's to say.
+#[derive(Drop)]
+pub struct DirSource<F: Read + Drop> {
+    file: F,
+}
+
+/// A file that is written: the octets stand in it as they come.
+#[derive(Drop)]
+pub struct DirSink<F: Write + Drop> {
+    file: F,
+}
+
+impl<F: Read + Drop> Source for DirSource<F> {
+    ghost remaining = { λ _. None };
+
+    fn read(&mut self, buffer: &mut [u8]) -> Result<usize, StoreFault> {
+        match self.file.read(buffer) {
+            Ok(count) => Ok(count),
+            Err(error) => Err(end_fault(&error)),
+        }
+    }
+}
+
+impl<F: Write + Drop> Sink for DirSink<F> {
+    ghost collected = { λ _. None };
+
+    ghost target = { λ _. None };
+
+    fn write(&mut self, octets: &[u8]) -> Result<(), StoreFault> {
+        match self.file.write_all(octets) {
+            Ok(()) => Ok(()),
+            Err(error) => Err(end_fault(&error)),
+        }
+    }
+}
+
+/// The length of a file that was just opened. It has to be the one that was looked at before: else
+/// another entry came to its place, and the file that was looked at is not found there.
+fn length_of<F: OpenFile>(file: &F, looked: &Metadata) -> Result<u64, StoreFault>
+    ensures full { NeverFull result }
+{
+    match file.metadata() {
+        Ok(metadata) => {
+            let is_same = is_same(identity_of(looked), identity_of(&metadata));
+            let is_that_file = metadata.is_file() && is_same;
+            if is_that_file {
+                Ok(metadata.len())
+            } else {
+                Err(StoreFault::NotFound)
+            }
+        }
+        Err(error) => Err(fault_of(&error)),
+    }
+}
+
+fn seek_to<F: Seek + Drop>(mut file: F, to: SeekFrom) -> Result<F, StoreFault>
+    ensures full { NeverFull result }
+{
+    match file.seek(to) {
+        Ok(_) => Ok(file),
+        Err(error) => Err(fault_of(&error)),
+    }
+}
+
+/// A file to read from an offset.
+pub fn read_behind<F: Read + Seek + OpenFile + Drop>(
+    file: F,
+    looked: &Metadata,
+    offset: u64,
+) -> Result<DirSource<F>, StoreFault>
+    ensures full { NeverFull result }
+{
+    let length = length_of(&file, looked)?;
+    if length < offset {
+        return Err(StoreFault::PastEnd);
+    }
+    let file = seek_to(file, SeekFrom::Start(offset))?;
+    Ok(DirSource { file })
+}
+
+/// A new file to write.
+pub fn write_new<F: Write + Drop>(file: F) -> DirSink<F> {
+    DirSink { file }
+}
+
+/// A file to write behind its first octets, this many; the others are cut off.
+pub fn write_behind<F: Write + Seek + OpenFile + Drop>(
+    file: F,
+    looked: &Metadata,
+    offset: u64,
+) -> Result<DirSink<F>, StoreFault>
+    ensures full { NeverFull result }
+{
+    let length = length_of(&file, looked)?;
+    if length < offset {
+        return Err(StoreFault::PastEnd);
+    }
+    file.set_len(offset).map_err(|error| fault_of(&error))?;
+    let file = seek_to(file, SeekFrom::Start(offset))?;
+    Ok(DirSink { file })
+}
+
+/// A file that was opened to be appended to.
+pub fn write_at_end<F: Write + OpenFile + Drop>(
+    file: F,
+    looked: &Metadata,
+) -> Result<DirSink<F>, StoreFault>
+    ensures full { NeverFull result }
+{
+    let _length = length_of(&file, looked)?;
+    Ok(DirSink { file })
+}
+
+/// What came is handed to the machine.
+pub fn flushed<F: Write + Drop>(sink: DirSink<F>) -> Result<(), StoreFault>
+    ensures full { NeverFull result }
+{
+    let DirSink { mut file } = sink;
+    file.flush().map_err(|error| fault_of(&error))
+}

@@ -1,0 +1,230 @@
+-- What each call makes of a store in memory.
+use Rattle.std.specs.Prelude.{ℕ, ◌≡◌, ◌≢◌, Bool, true, false, cond, List, [], ◌∷◌, ◌++◌, length, take, drop, Option, Some, None, Result, Ok, Err, nat_lt, nat_eq, option_map, option_and_then, unwrap_or}
+use Rattle.std.specs.FinMap.{get, insert, remove}
+use Rattle.virtual_path.specs.Path.{Path, slashed, parent_of}
+use Rattle.virtual_tree.specs.declared.fault.StoreFault.{StoreFault}
+use Rattle.virtual_tree.specs.declared.fault.StoreFault.TheVariants as fault
+use Rattle.ftp_terms.specs.declared.entries.Meta.{Meta}
+use Rattle.ftp_terms.specs.declared.entries.Kind.{Kind}
+use Rattle.ftp_terms.specs.declared.entries.Kind.TheVariants as kind
+use Rattle.virtual_tree.specs.declared.mode.WriteMode.{WriteMode}
+use Rattle.virtual_tree.specs.declared.mode.WriteMode.TheVariants.{New, At, Append}
+use Rattle.virtual_tree.specs.Calls.{Entry, in_answer, Exchange, Target}
+use Rattle.virtual_tree.specs.Calls.Exchange.{Stat, Listing, OpenRead, OpenWrite, Finish, MakeDir, RemoveDir, RemoveFile, Rename}
+use Rattle.file_tree.specs.Tree.{Node, Place, Tree, place_of, node_at, meta_of, kind_of, octets_of, total, children_in, listing, begins_with, renamed}
+use Rattle.file_tree.specs.Tree.Node.{Directory, File}
+
+-- a store in memory: what it holds, and the most octets that its files may hold
+pub record Memory : Type 0 where
+  pub tree : Tree
+  pub capacity : ℕ
+
+-- octets on their way into a file: its place, how many of its octets stay in front, and what came
+pub record Upload : Type 0 where
+  pub place : Place
+  pub kept : ℕ
+  pub octets : List ℕ
+
+-- where they go
+abbrev pub target_of : Upload → Target
+target_of upload = record { directory = upload.place.0; name = upload.place.1; kept = upload.kept }
+
+-- the answer where something stands, and else that nothing does
+abbrev pub if_found : {X : Type 0} → (Node → Result X StoreFault) → Option Node → Result X StoreFault
+if_found answer None = Err fault.NotFound
+if_found answer (Some node) = answer node
+
+-- ---- calls that change nothing
+
+abbrev pub meta_told : Node → Result Meta StoreFault
+meta_told node = Ok (meta_of node)
+
+-- a file's octets from an offset on; None: a directory
+abbrev pub octets_from : ℕ → Option (List ℕ) → Result (List ℕ) StoreFault
+octets_from offset None = Err fault.IsDir
+octets_from offset (Some octets) = cond (nat_lt (length octets) offset) (Err fault.PastEnd) (Ok (drop offset octets))
+
+-- ---- calls that change the tree: what decides, and then what is left
+
+-- what kind of node stands at a place, or at a path
+abbrev pub kind_in : Tree → Place → Option Kind
+kind_in tree place = option_map kind_of (get tree place)
+
+abbrev pub kind_at : Tree → Path → Option Kind
+kind_at tree path = option_map kind_of (node_at tree path)
+
+abbrev pub listing_told : Tree → Path → Option Kind → Result (List Entry) StoreFault
+listing_told tree path None = Err fault.NotFound
+listing_told tree path (Some kind.File) = Err fault.NotDir
+listing_told tree path (Some kind.Directory) = Ok (listing tree path)
+
+-- whether an entry may be made, by what stands above it and at its place
+abbrev pub vacancy : Place → Option Kind → Option Kind → Result Place StoreFault
+vacancy place None here = Err fault.NotFound
+vacancy place (Some kind.File) here = Err fault.NotDir
+vacancy place (Some kind.Directory) (Some found) = Err fault.Exists
+vacancy place (Some kind.Directory) None = Ok place
+
+abbrev pub vacant : Tree → Path → Place → Result Place StoreFault
+vacant tree path place = vacancy place (kind_at tree (parent_of path)) (kind_in tree place)
+
+-- the place for a new directory
+abbrev pub place_to_make : Tree → Path → Option Place → Result Place StoreFault
+place_to_make tree path None = Err fault.Exists
+place_to_make tree path (Some place) = vacant tree path place
+
+abbrev pub bare_only : Bool → Place → Option Kind → Result Place StoreFault
+bare_only is_bare place None = Err fault.NotFound
+bare_only is_bare place (Some kind.File) = Err fault.NotDir
+bare_only is_bare place (Some kind.Directory) = cond is_bare (Ok place) (Err fault.NotEmpty)
+
+-- whether a directory has no entries
+abbrev pub is_bare : Tree → Path → Bool
+is_bare tree path = nat_eq (length (children_in tree (slashed path))) 0
+
+-- the place of an empty directory
+abbrev pub place_of_bare : Tree → Path → Option Place → Result Place StoreFault
+place_of_bare tree path None = Err fault.NotEmpty
+place_of_bare tree path (Some place) = bare_only (is_bare tree path) place (kind_in tree place)
+
+abbrev pub file_only : Place → Option Kind → Result Place StoreFault
+file_only place None = Err fault.NotFound
+file_only place (Some kind.Directory) = Err fault.IsDir
+file_only place (Some kind.File) = Ok place
+
+-- the place of a file
+abbrev pub place_of_file : Tree → Option Place → Result Place StoreFault
+place_of_file tree None = Err fault.IsDir
+place_of_file tree (Some place) = file_only place (kind_in tree place)
+
+-- what is renamed, and its place before and afterwards
+pub record Move : Type 0 where
+  pub node : Node
+  pub before : Place
+  pub afterwards : Place
+
+abbrev pub outside_itself : Path → Path → Move → Result Place StoreFault → Result Move StoreFault
+outside_itself from to move (Err why) = Err why
+outside_itself from to move (Ok place) = cond (begins_with (slashed from ++ 47 ∷ []) (slashed to)) (Err fault.Inside) (Ok move)
+
+abbrev pub move_to : Tree → Path → Path → Place → Place → Node → Result Move StoreFault
+move_to tree from to before afterwards node =
+    outside_itself from to (record { node = node; before = before; afterwards = afterwards })
+    (vacant tree to afterwards)
+
+abbrev pub move_of : Tree → Path → Path → Option Place → Option Place → Result Move StoreFault
+move_of tree from to None target = Err fault.Inside
+move_of tree from to (Some before) None = Err fault.Inside
+move_of tree from to (Some before) (Some afterwards) = if_found (move_to tree from to before afterwards) (get tree before)
+
+-- what is renamed between two paths, or why nothing is
+abbrev pub move_between : Tree → Path → Path → Result Move StoreFault
+move_between tree from to = move_of tree from to (place_of from) (place_of to)
+
+-- a directory takes along all that stands beneath it
+abbrev pub moved_by_kind : Tree → Path → Path → Move → Kind → Tree
+moved_by_kind tree from to move kind.Directory = renamed tree (slashed from) (slashed to) move.before move.afterwards
+moved_by_kind tree from to move kind.File = remove (insert tree move.afterwards move.node) move.before
+
+abbrev pub moved_tree : Tree → Path → Path → Move → Tree
+moved_tree tree from to move = moved_by_kind tree from to move (kind_of move.node)
+
+-- ---- files that are written
+
+-- a file open for writing: the tree by then, and what is to come
+pub record Opening : Type 0 where
+  pub tree : Tree
+  pub upload : Upload
+
+abbrev pub opening : Tree → Place → ℕ → Opening
+opening tree place kept = record { tree = tree; upload = record { place = place; kept = kept; octets = [] } }
+
+abbrev pub open_new : Tree → ℕ → Result Place StoreFault → Result Opening StoreFault
+open_new tree moment (Err why) = Err why
+open_new tree moment (Ok place) = Ok (opening (insert tree place (File [] moment)) place 0)
+
+-- where nothing stands
+abbrev pub open_absent : Tree → Path → Place → ℕ → WriteMode → Result Opening StoreFault
+open_absent tree path place moment New = open_new tree moment (vacant tree path place)
+open_absent tree path place moment (At offset) = Err fault.NotFound
+open_absent tree path place moment Append = open_new tree moment (vacant tree path place)
+
+-- where a file with these octets stands; None: a directory
+abbrev pub open_octets : Tree → Place → ℕ → WriteMode → Option (List ℕ) → Result Opening StoreFault
+open_octets tree place moment mode None = Err fault.IsDir
+open_octets tree place moment New (Some octets) = Ok (opening (insert tree place (File [] moment)) place 0)
+open_octets tree place moment (At offset) (Some octets) = cond (nat_lt (length octets) offset) (Err fault.PastEnd)
+    (Ok (opening (insert tree place (File (take offset octets) moment)) place offset))
+open_octets tree place moment Append (Some octets) = Ok (opening tree place (length octets))
+
+abbrev pub open_node : Tree → Path → Place → ℕ → WriteMode → Option Node → Result Opening StoreFault
+open_node tree path place moment mode None = open_absent tree path place moment mode
+open_node tree path place moment mode (Some node) = open_octets tree place moment mode (octets_of node)
+
+abbrev pub opened : Tree → Path → WriteMode → ℕ → Option Place → Result Opening StoreFault
+opened tree path mode moment None = Err fault.IsDir
+opened tree path mode moment (Some place) = open_node tree path place moment mode (get tree place)
+
+-- the tree once the file at the upload's place is its first octets, followed by those that came
+abbrev pub filled : Tree → Upload → ℕ → List ℕ → Tree
+filled tree upload moment octets = insert tree upload.place (File (take upload.kept octets ++ upload.octets) moment)
+
+-- by the octets of the file that stands there; None: a directory
+abbrev pub finish_octets : Memory → Upload → ℕ → Option (List ℕ) → Result Tree StoreFault
+finish_octets memory upload moment None = Err fault.IsDir
+finish_octets memory upload moment (Some octets) =
+    cond (nat_lt memory.capacity (total (filled memory.tree upload moment octets))) (Err fault.Full)
+    (cond (nat_lt (length octets) upload.kept) (Err fault.PastEnd) (Ok (filled memory.tree upload moment octets)))
+
+abbrev pub finish_node : Memory → Upload → ℕ → Node → Result Tree StoreFault
+finish_node memory upload moment node = finish_octets memory upload moment (octets_of node)
+
+abbrev pub finished : Memory → Upload → ℕ → Result Tree StoreFault
+finished memory upload moment = if_found (finish_node memory upload moment) (get memory.tree upload.place)
+
+-- ---- the relation
+
+-- this answer, or that memory ran out; and the store is as it was
+abbrev pub Tells : {X : Type 0} → Memory → Result X StoreFault → Memory → Result X StoreFault → Type 0
+Tells old answer new wanted = (answer ≢ Err fault.Memory → answer ≡ wanted) × (new ≡ old)
+
+-- the store by what was decided, where a refusal leaves it as it was
+abbrev pub left_by : {P : Type 0} → Memory → (P → Tree) → Result P StoreFault → Memory
+left_by old tree (Ok decided) = record { tree = tree decided; capacity = old.capacity }
+left_by old tree (Err why) = old
+
+-- this answer, and the store that it leaves; or that memory ran out, and the store is as it was
+abbrev pub Changes : {P X : Type 0} → Memory → Result X StoreFault → Memory → Result P StoreFault → (P → X) → (P → Tree) → Type 0
+Changes old answer new decided told tree =
+    (answer ≢ Err fault.Memory → (answer ≡ in_answer told decided) × (new ≡ left_by old tree decided))
+    × (answer ≡ Err fault.Memory → new ≡ old)
+
+abbrev pub unit_of : {P : Type 0} → P → Unit {0}
+unit_of _ = tt
+
+abbrev pub Opens : Memory → Result Upload StoreFault → Memory → Result Opening StoreFault → Type 0
+Opens old answer new decided = Changes old answer new decided (λ opening. opening.upload) (λ opening. opening.tree)
+
+abbrev pub InMemory : Memory → Exchange (List ℕ) Upload → Memory → Type 0
+InMemory old (Stat path answer) new = Tells old answer new (if_found meta_told (node_at old.tree path))
+InMemory old (Listing path answer) new = Tells old answer new (listing_told old.tree path (kind_at old.tree path))
+InMemory old (OpenRead path offset answer) new = Tells old answer new (if_found (λ node. octets_from offset (octets_of node)) (node_at old.tree path))
+InMemory old (OpenWrite path mode moment answer) new =
+    Opens old answer new (opened old.tree path mode moment (place_of path))
+InMemory old (Finish upload moment answer) new = Changes old answer new (finished old upload moment) unit_of (λ tree. tree)
+InMemory old (MakeDir path answer) new =
+    Changes old answer new (place_to_make old.tree path (place_of path)) unit_of (λ place. insert old.tree place Directory)
+InMemory old (RemoveDir path answer) new =
+    Changes old answer new (place_of_bare old.tree path (place_of path)) unit_of (λ place. remove old.tree place)
+InMemory old (RemoveFile path answer) new =
+    Changes old answer new (place_of_file old.tree (place_of path)) unit_of (λ place. remove old.tree place)
+InMemory old (Rename from to answer) new =
+    Changes old answer new (move_of old.tree from to (place_of from) (place_of to)) unit_of (λ move. moved_tree old.tree from to move)
+
+-- the octets at a place, none where no file stands
+abbrev pub octets_at : Tree → Place → List ℕ
+octets_at tree place = unwrap_or (option_and_then octets_of (get tree place)) []
+
+-- the octets that the files would hold once those of an upload have come
+abbrev pub would_hold : Memory → Upload → ℕ → ℕ
+would_hold memory upload moment = total (filled memory.tree upload moment (octets_at memory.tree upload.place))

@@ -1,0 +1,4 @@
+pub mod Codes
+pub mod InMemory
+pub mod Laws
+pub mod Uploads

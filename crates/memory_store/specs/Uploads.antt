@@ -1,0 +1,34 @@
+-- What an upload leaves, over the calls that it takes.
+use Rattle.std.specs.Prelude.{ℕ, ◌≡◌, List, [], ◌++◌, length, take, Option, Some, Result, Ok}
+use Rattle.std.specs.List.{concat}
+use Rattle.virtual_path.specs.Path.{Path}
+use Rattle.virtual_tree.specs.declared.mode.WriteMode.{WriteMode}
+use Rattle.virtual_tree.specs.declared.mode.WriteMode.TheVariants.{New, At, Append}
+use Rattle.virtual_tree.specs.Calls.{Writes}
+use Rattle.virtual_tree.specs.Calls.Exchange.{OpenWrite, Finish}
+use Rattle.file_tree.specs.Tree.{Node, node_at}
+use Rattle.file_tree.specs.Tree.Node.{Directory, File}
+use Rattle.memory_store.specs.InMemory.{Memory, Upload, InMemory, target_of}
+
+-- the octets of what stands at a path, none where no file stands
+abbrev pub octets_in : Option Node → List ℕ
+octets_in (Some (File octets moment)) = octets
+octets_in _ = []
+
+-- how many octets of a file stay in front of what comes
+abbrev pub kept_by : WriteMode → List ℕ → ℕ
+kept_by New octets = 0
+kept_by (At offset) octets = offset
+kept_by Append octets = length octets
+
+-- A file was opened, in a store that held `first`; these pieces were written through the sink that was given, and maybe
+-- others were refused; and the sink's `finish`, in a store that by then held `before`, was carried out. Then the file is
+-- the first octets that it had right before, as many as the mode said when it was opened, followed by the pieces.
+abbrev pub FinishPutsWhatCame : Type 0
+FinishPutsWhatCame = (first opened before after : Memory) (path : Path) (mode : WriteMode) (moment later : ℕ)
+    (given brought : Upload) (pieces : List (List ℕ))
+    → InMemory first (OpenWrite path mode moment (Ok given)) opened
+    → Writes (λ upload. Some (target_of upload)) (λ upload. Some upload.octets) given pieces brought
+    → InMemory before (Finish brought later (Ok tt)) after
+    → node_at after.tree path ≡ Some (File (take (kept_by mode (octets_in (node_at first.tree path)))
+    (octets_in (node_at before.tree path)) ++ concat pieces) later)

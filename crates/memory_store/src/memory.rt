@@ -1,0 +1,187 @@
+//! A store in memory.
+
+ghost use Rattle.std.specs.Prelude.{◌≡◌, ◌≢◌, IfOk, Ok, Err};
+ghost use Rattle.std.specs.Cmp.Lexicographic.{slice_cmp};
+ghost use Rattle.std.specs.FinMap as map;
+ghost use Rattle.std.specs.List.Sorted.{IsStrictlySortedBy};
+ghost use Rattle.std.specs.Ordering.{nat_cmp};
+ghost use Rattle.virtual_tree.specs.Calls.{in_answer, entries_of, names_of};
+ghost use Rattle.file_tree.specs.Tree.{listing};
+
+use crate::ends::{MemSink, MemSource};
+use crate::writing::open_from;
+use file_tree::{Entry, Files, Place, directory_text};
+use ftp_terms::{Kind, Meta};
+use std::alloc::{AllocError, Allocator, Global};
+use std::marker::Model;
+use virtual_path::VPath;
+use virtual_tree::{Listed, Store, StoreFault, WriteMode};
+
+/// Directories and files in memory.
+///
+/// What was written through a sink stands in the file once `finish` has put it there. A refused
+/// `finish` leaves the file as `open_write` left it.
+#[derive(Drop)]
+pub struct MemStore<A: Allocator = Global> {
+    pub(crate) alloc: A,
+    pub(crate) files: Files<A>,
+    pub(crate) capacity: u64,
+}
+
+impl<A: Allocator> Model for MemStore<A> {
+    ghost use Rattle.memory_store.specs.Codes.{memory_code};
+    ghost use Rattle.memory_store.specs.InMemory.{Memory};
+
+    ghost Value = { Memory };
+
+    ghost coded = { memory_code };
+
+    ghost view = { λ store. record { tree = store.files; capacity = store.capacity } };
+}
+
+impl<A: Allocator + Clone> MemStore<A> {
+    /// An empty store, whose files may hold this many octets.
+    pub fn new(alloc: A, capacity: u64) -> Result<MemStore<A>, AllocError>
+        ensures empty { IfOk result (λ store. store.tree ≡ map.empty) }
+        ensures capacity { IfOk result (λ store. store.capacity ≡ capacity) }
+    {
+        let kept = alloc.clone()?;
+        Ok(MemStore {
+            alloc: kept,
+            files: Files::new(alloc),
+            capacity,
+        })
+    }
+
+    /// The entry at a place once more.
+    pub(crate) fn share(&self, place: &Place<A>) -> Result<Option<Entry<A>>, AllocError>
+        ensures { IfOk result (λ found. found ≡ map.get self.now.tree place.now) }
+    {
+        match self.files.get(place) {
+            None => Ok(None),
+            Some(entry) => {
+                let shared = entry.share()?;
+                Ok(Some(shared))
+            }
+        }
+    }
+
+    /// The entries of a directory.
+    fn listing(&self, path: &VPath<A>) -> Result<Vec<Listed<A>, A>, StoreFault>
+        ensures entries { result ≢ Err StoreFault.Memory → in_answer entries_of result ≡ Ok (listing self.now.tree path.now) }
+        ensures rising { IfOk result (λ listed. IsStrictlySortedBy (slice_cmp nat_cmp) (names_of listed)) }
+    {
+        let listed = self.files.listing(&self.alloc, directory_text(path))?;
+        Ok(listed)
+    }
+}
+
+impl<A: Allocator + Clone> Store<A> for MemStore<A> {
+    ghost use Rattle.std.specs.Prelude.{ℕ, Some};
+    ghost use Rattle.memory_store.specs.InMemory.{InMemory, would_hold};
+
+    type Source = MemSource<A>;
+
+    type Sink = MemSink<A>;
+
+    ghost Step = { InMemory };
+
+    ghost capacity = { λ store. Some store.capacity };
+
+    ghost would_hold = { would_hold };
+
+    ghost fault_count = { λ _. 0 };
+
+    fn faults(&self) -> u64 {
+        0
+    }
+
+    fn stat(&mut self, path: &VPath<A>) -> Result<Meta, StoreFault> {
+        let Some(place) = Place::of(&self.alloc, path)? else {
+            return Ok(Entry::<A>::directory().meta());
+        };
+        match self.files.get(&place) {
+            None => Err(StoreFault::NotFound),
+            Some(entry) => Ok(entry.meta()),
+        }
+    }
+
+    fn list(&mut self, path: &VPath<A>) -> Result<Vec<Listed<A>, A>, StoreFault> {
+        match self.kind_at(path)? {
+            None => Err(StoreFault::NotFound),
+            Some(Kind::File) => Err(StoreFault::NotDir),
+            Some(Kind::Directory) => self.listing(path),
+        }
+    }
+
+    fn open_read(&mut self, path: &VPath<A>, offset: u64) -> Result<MemSource<A>, StoreFault> {
+        let Some(place) = Place::of(&self.alloc, path)? else {
+            return Err(StoreFault::IsDir);
+        };
+        let Some(entry) = self.share(&place)? else {
+            return Err(StoreFault::NotFound);
+        };
+        match entry.into_octets() {
+            None => Err(StoreFault::IsDir),
+            Some(octets) => open_from(octets, offset),
+        }
+    }
+
+    fn open_write(
+        &mut self,
+        path: &VPath<A>,
+        mode: WriteMode,
+        moment: u64,
+    ) -> Result<MemSink<A>, StoreFault> {
+        match Place::of(&self.alloc, path)? {
+            None => Err(StoreFault::IsDir),
+            Some(place) => self.open_at(path, place, mode, moment),
+        }
+    }
+
+    fn finish(&mut self, sink: MemSink<A>, moment: u64) -> Result<(), StoreFault> {
+        let MemSink {
+            place,
+            kept,
+            octets: came,
+        } = sink;
+        let Some(entry) = self.share(&place)? else {
+            return Err(StoreFault::NotFound);
+        };
+        match entry.into_octets() {
+            None => Err(StoreFault::IsDir),
+            Some(octets) => self.fill(place, kept, came, octets.as_slice(), moment),
+        }
+    }
+
+    fn make_dir(&mut self, path: &VPath<A>) -> Result<(), StoreFault> {
+        let place = self.place_to_make(path)?;
+        self.files.put(place, Entry::directory())?;
+        Ok(())
+    }
+
+    fn remove_dir(&mut self, path: &VPath<A>) -> Result<(), StoreFault> {
+        let place = self.place_of_bare(path)?;
+        self.files.take(&place);
+        Ok(())
+    }
+
+    fn remove_file(&mut self, path: &VPath<A>) -> Result<(), StoreFault> {
+        let place = self.place_of_file(path)?;
+        self.files.take(&place);
+        Ok(())
+    }
+
+    fn rename(&mut self, from: &VPath<A>, to: &VPath<A>) -> Result<(), StoreFault> {
+        let moving = self.moving(from, to)?;
+        self.carry_out(from, to, moving)
+    }
+
+    ghost use Rattle.memory_store.specs.Laws.{never_device, full_only_past, count_is_small};
+
+    ghost honest = { never_device };
+
+    ghost fits = { full_only_past };
+
+    ghost counts = { count_is_small };
+}

@@ -1,0 +1,80 @@
+//! Entries of a store in memory that are renamed.
+
+ghost use Rattle.std.specs.Prelude.{◌≡◌, ◌≢◌, IfOk, MatchResult, Ok, Err, Some, None};
+ghost use Rattle.std.specs.FinMap as map;
+ghost use Rattle.memory_store.specs.InMemory.{vacant, move_between, moved_tree, unit_of, Changes};
+
+use crate::memory::MemStore;
+use file_tree::{Entry, Place, directory_text, is_beneath};
+use ftp_terms::Kind;
+use std::alloc::Allocator;
+use virtual_path::VPath;
+use virtual_tree::StoreFault;
+
+/// An entry that is renamed, and its two places.
+#[derive(Drop)]
+pub(crate) struct Moving<A: Allocator> {
+    pub(crate) entry: Entry<A>,
+    pub(crate) before: Place<A>,
+    pub(crate) afterwards: Place<A>,
+}
+
+impl<A: Allocator + Clone> MemStore<A> {
+    /// What is to be renamed, and where it stands before and afterwards.
+    pub(crate) fn moving(&self, from: &VPath<A>, to: &VPath<A>) -> Result<Moving<A>, StoreFault>
+        ensures decided { MatchResult result
+            (λ moving. move_between self.now.tree from.now to.now ≡ Ok (record { node = moving.entry; before = moving.before; afterwards = moving.afterwards }))
+            (λ fault. fault ≢ StoreFault.Memory → move_between self.now.tree from.now to.now ≡ Err fault) }
+        ensures stands { IfOk result (λ moving. map.get self.now.tree moving.before ≡ Some moving.entry) }
+        ensures vacant { IfOk result (λ moving. map.get self.now.tree moving.afterwards ≡ None) }
+    {
+        let Some(before) = Place::of(&self.alloc, from)? else {
+            return Err(StoreFault::Inside);
+        };
+        let Some(afterwards) = Place::of(&self.alloc, to)? else {
+            return Err(StoreFault::Inside);
+        };
+        let Some(entry) = self.share(&before)? else {
+            return Err(StoreFault::NotFound);
+        };
+        let afterwards = self.vacant(to, afterwards)?;
+        if is_beneath(directory_text(from), directory_text(to)) {
+            return Err(StoreFault::Inside);
+        }
+        Ok(Moving {
+            entry,
+            before,
+            afterwards,
+        })
+    }
+
+    pub(crate) fn carry_out(
+        &mut self,
+        from: &VPath<A>,
+        to: &VPath<A>,
+        moving: Moving<A>,
+    ) -> Result<(), StoreFault>
+        requires stands { map.get self.old.tree moving.before ≡ Some moving.entry }
+        requires vacant { map.get self.old.tree moving.afterwards ≡ None }
+        ensures { Changes self.old result self.new (Ok (record { node = moving.entry; before = moving.before; afterwards = moving.afterwards })) unit_of (λ move. moved_tree self.old.tree from.now to.now move) }
+    {
+        let Moving {
+            entry,
+            before,
+            afterwards,
+        } = moving;
+        match entry.kind() {
+            Kind::File => self.files.shift(&before, afterwards, entry)?,
+            Kind::Directory => {
+                self.files = self.files.renamed(
+                    &self.alloc,
+                    directory_text(from),
+                    directory_text(to),
+                    &before,
+                    &afterwards,
+                )?;
+            }
+        }
+        Ok(())
+    }
+}

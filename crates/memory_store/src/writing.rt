@@ -1,0 +1,251 @@
+//! Files of a store in memory that are opened, written and ended.
+
+ghost use Rattle.std.specs.Prelude.{◌≡◌, ◌++◌, ◌≤◌, ◌+◌, ◌-◌, ◌<◌, ◌^◌, [], IfOk, Ok, Some, take, length, false, nat_lt};
+ghost use Rattle.std.specs.FinMap as map;
+ghost use Rattle.file_tree.specs.Held.{shared};
+ghost use Rattle.memory_store.specs.InMemory.{vacant, finish_octets, unit_of, Changes, opening, open_new, open_absent, open_octets, open_node, octets_from, Opens};
+ghost use Rattle.file_tree.specs.Tree.{size_at, total};
+ghost use Rattle.file_tree.specs.Tree.Node.{File};
+
+use crate::ends::{MemSink, MemSource};
+use crate::memory::MemStore;
+use file_tree::{Entry, Place};
+use std::alloc::{AllocError, Allocator};
+use std::sync::Arc;
+use virtual_path::VPath;
+use virtual_tree::{StoreFault, WriteMode};
+
+impl<A: Allocator + Clone> MemStore<A> {
+    /// An empty file, open for writing.
+    pub(crate) fn open_empty(
+        &mut self,
+        place: Place<A>,
+        moment: u64,
+    ) -> Result<MemSink<A>, StoreFault>
+        ensures { Opens self.old result self.new (Ok (opening (map.insert self.old.tree place (File [] moment)) place 0)) }
+    {
+        let sink = self.sink(&place, 0)?;
+        let none = Vec::new(self.alloc.clone()?);
+        let octets = self.shared(none)?;
+        self.files.put(place, Entry::file(octets, moment))?;
+        Ok(sink)
+    }
+
+    /// A sink with no octets yet.
+    pub(crate) fn sink(&self, place: &Place<A>, kept: usize) -> Result<MemSink<A>, AllocError>
+        ensures place { IfOk result (λ sink. sink.place ≡ place.now) }
+        ensures kept { IfOk result (λ sink. sink.kept ≡ kept) }
+        ensures octets { IfOk result (λ sink. sink.octets ≡ []) }
+    {
+        let place = place.copy(&self.alloc)?;
+        let alloc = self.alloc.clone()?;
+        Ok(MemSink {
+            place,
+            kept,
+            octets: Vec::new(alloc),
+        })
+    }
+
+    /// The octets, to be shared with those who read them.
+    pub(crate) fn shared(&self, octets: Vec<u8, A>) -> Result<Arc<Vec<u8, A>, A>, AllocError>
+        ensures { IfOk result (λ kept. shared kept ≡ octets.items) }
+    {
+        let alloc = self.alloc.clone()?;
+        Ok(Arc::new(alloc, octets)?)
+    }
+
+    /// The first octets, this many.
+    pub(crate) fn first(&self, octets: &[u8], kept: usize) -> Result<Arc<Vec<u8, A>, A>, AllocError>
+        requires { kept ≤ length octets.now }
+        ensures { IfOk result (λ first. shared first ≡ take kept octets.now) }
+    {
+        let first = Vec::from_slice(self.alloc.clone()?, &octets[..kept])?;
+        let first = self.shared(first)?;
+        Ok(first)
+    }
+
+    /// The first octets, this many, and then a copy of the others.
+    pub(crate) fn copied(
+        &self,
+        octets: &[u8],
+        kept: usize,
+        others: &[u8],
+    ) -> Result<Arc<Vec<u8, A>, A>, AllocError>
+        requires { kept ≤ length octets.now }
+        ensures { IfOk result (λ joined. shared joined ≡ take kept octets.now ++ others.now) }
+    {
+        let mut joined = Vec::from_slice(self.alloc.clone()?, &octets[..kept])?;
+        joined.extend_from_slice(others)?;
+        let joined = self.shared(joined)?;
+        Ok(joined)
+    }
+
+    /// The first octets, this many, and then the others, which are moved where nothing stays before them.
+    #[tactic(auto, using(crate::proofs::Fills::none_kept))]
+    pub(crate) fn joined(
+        &self,
+        octets: &[u8],
+        kept: usize,
+        others: Vec<u8, A>,
+    ) -> Result<Arc<Vec<u8, A>, A>, AllocError>
+        requires { kept ≤ length octets.now }
+        ensures { IfOk result (λ joined. shared joined ≡ take kept octets.now ++ others.items) }
+    {
+        if kept == 0 {
+            let joined = self.shared(others)?;
+            return Ok(joined);
+        }
+        self.copied(octets, kept, others.as_slice())
+    }
+
+    /// The file's first octets, this many, open to be written behind them.
+    pub(crate) fn open_cut(
+        &mut self,
+        place: Place<A>,
+        octets: &[u8],
+        offset: u64,
+        moment: u64,
+    ) -> Result<MemSink<A>, StoreFault>
+        requires { length octets.now ≤ size_at (map.get self.old.tree place) }
+        ensures { Opens self.old result self.new (open_octets self.old.tree place moment (WriteMode.At offset) (Some octets.now)) }
+    {
+        if (octets.len() as u64) < offset {
+            return Err(StoreFault::PastEnd);
+        }
+        let kept = offset as usize;
+        let sink = self.sink(&place, kept)?;
+        let first = self.first(octets, kept)?;
+        self.files.put(place, Entry::file(first, moment))?;
+        Ok(sink)
+    }
+
+    /// The whole file, open to be written behind its octets.
+    pub(crate) fn open_end(
+        &mut self,
+        place: Place<A>,
+        octets: &[u8],
+        moment: u64,
+    ) -> Result<MemSink<A>, StoreFault>
+        ensures { Opens self.old result self.new (open_octets self.old.tree place moment WriteMode.Append (Some octets.now)) }
+    {
+        let sink = self.sink(&place, octets.len())?;
+        Ok(sink)
+    }
+
+    /// A file with these octets, open for writing.
+    pub(crate) fn open_octets(
+        &mut self,
+        place: Place<A>,
+        octets: &[u8],
+        mode: WriteMode,
+        moment: u64,
+    ) -> Result<MemSink<A>, StoreFault>
+        requires { length octets.now ≤ size_at (map.get self.old.tree place) }
+        ensures { Opens self.old result self.new (open_octets self.old.tree place moment mode (Some octets.now)) }
+    {
+        match mode {
+            WriteMode::New => self.open_empty(place, moment),
+            WriteMode::At(offset) => self.open_cut(place, octets, offset, moment),
+            WriteMode::Append => self.open_end(place, octets, moment),
+        }
+    }
+
+    /// A new file, open for writing.
+    pub(crate) fn open_new(
+        &mut self,
+        path: &VPath<A>,
+        place: Place<A>,
+        moment: u64,
+    ) -> Result<MemSink<A>, StoreFault>
+        ensures { Opens self.old result self.new (open_new self.old.tree moment (vacant self.old.tree path.now place)) }
+    {
+        let place = self.vacant(path, place)?;
+        self.open_empty(place, moment)
+    }
+
+    /// What stands at no place, open for writing.
+    pub(crate) fn open_absent(
+        &mut self,
+        path: &VPath<A>,
+        place: Place<A>,
+        mode: WriteMode,
+        moment: u64,
+    ) -> Result<MemSink<A>, StoreFault>
+        ensures { Opens self.old result self.new (open_absent self.old.tree path.now place moment mode) }
+    {
+        match mode {
+            WriteMode::New | WriteMode::Append => self.open_new(path, place, moment),
+            WriteMode::At(_) => Err(StoreFault::NotFound),
+        }
+    }
+
+    pub(crate) fn open_at(
+        &mut self,
+        path: &VPath<A>,
+        place: Place<A>,
+        mode: WriteMode,
+        moment: u64,
+    ) -> Result<MemSink<A>, StoreFault>
+        ensures { Opens self.old result self.new (open_node self.old.tree path.now place moment mode (map.get self.old.tree place)) }
+    {
+        let Some(entry) = self.share(&place)? else {
+            return self.open_absent(path, place, mode, moment);
+        };
+        match entry.into_octets() {
+            None => Err(StoreFault::IsDir),
+            Some(octets) => self.open_octets(place, octets.as_slice(), mode, moment),
+        }
+    }
+
+    /// Whether the capacity would be passed, once a file that held `before` octets holds `kept` and `came`.
+    pub(crate) fn is_passed(&self, before: usize, kept: usize, came: usize) -> bool
+        requires within { before ≤ total self.now.tree }
+        requires kept { kept ≤ before }
+        ensures passed { result ≡ nat_lt self.now.capacity (total self.now.tree - before + kept + came) }
+        ensures small { result ≡ false → total self.now.tree - before + kept + came < 2 ^ 64 }
+    {
+        let others = self.files.stored() - (before - kept) as u64;
+        others > self.capacity || came as u64 > self.capacity - others
+    }
+
+    /// Puts what came behind the first octets of a file, which holds `octets`.
+    pub(crate) fn fill(
+        &mut self,
+        place: Place<A>,
+        kept: usize,
+        came: Vec<u8, A>,
+        octets: &[u8],
+        moment: u64,
+    ) -> Result<(), StoreFault>
+        requires { size_at (map.get self.old.tree place) ≡ length octets.now }
+        ensures { Changes self.old result self.new (finish_octets self.old (record { place = place; kept = kept; octets = came.items }) moment (Some octets.now)) unit_of (λ tree. tree) }
+    {
+        let first = kept.min(octets.len());
+        let is_passed = self.is_passed(octets.len(), first, came.len());
+        if is_passed {
+            return Err(StoreFault::Full);
+        }
+        if octets.len() < kept {
+            return Err(StoreFault::PastEnd);
+        }
+        let filled = self.joined(octets, kept, came)?;
+        self.files.put(place, Entry::file(filled, moment))?;
+        Ok(())
+    }
+}
+
+/// The octets from an offset on.
+pub(crate) fn open_from<A: Allocator>(
+    octets: Arc<Vec<u8, A>, A>,
+    offset: u64,
+) -> Result<MemSource<A>, StoreFault>
+    ensures { result ≡ octets_from offset (Some (shared octets)) }
+{
+    if (octets.len() as u64) < offset {
+        return Err(StoreFault::PastEnd);
+    }
+    Ok(MemSource {
+        octets,
+        at: offset as usize,
+    })
+}

@@ -1,0 +1,44 @@
+//! Heaps in which memory is refused, for tests.
+//!
+//! ```text
+//! let heap = LocalHeap::new(rt.alloc(), HEAP)?;
+//! let rest = leave_hole(rt, &heap, 48)?;
+//! // Here a call that needs more than 48 octets in one piece is refused.
+//! drop(rest);
+//! ```
+#![tactic(auto)]
+
+use linked_list_allocator::LocalHeap;
+use std::alloc::AllocError;
+
+/// How many octets a heap of the tests has.
+pub const HEAP: usize = 16384;
+
+/// Takes all that a heap has left, in pieces.
+fn take_rest<'h>(
+    rt: &impl AllocGlobal,
+    heap: &'h LocalHeap,
+) -> Result<Vec<Vec<u8, &'h LocalHeap>>, AllocError> {
+    let mut pieces = Vec::new(rt.alloc());
+    for size in [4096, 512, 64, 8] {
+        for _ in 0..64 {
+            match Vec::with_capacity(heap, size) {
+                Ok(piece) => pieces.push(piece)?,
+                Err(_) => break,
+            }
+        }
+    }
+    Ok(pieces)
+}
+
+/// Takes all that a heap has left, but for one hole of some octets.
+pub fn leave_hole<'h>(
+    rt: &impl AllocGlobal,
+    heap: &'h LocalHeap,
+    room: usize,
+) -> Result<Vec<Vec<u8, &'h LocalHeap>>, AllocError> {
+    let hole = Vec::<u8, &'h LocalHeap>::with_capacity(heap, room)?;
+    let rest = take_rest(rt, heap)?;
+    drop(hole);
+    Ok(rest)
+}

@@ -1,0 +1,4 @@
+pub mod Alike
+pub mod Lengths
+pub mod Making
+pub mod Versions

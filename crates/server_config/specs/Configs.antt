@@ -1,0 +1,33 @@
+-- What a configuration is: what its text states, key by key, and what is made of that.
+use Rattle.std.specs.Prelude.{◌≡◌, ◌≤◌, ℕ, List, Some}
+use Rattle.std.specs.List.{AllByRecursion}
+use Rattle.toml.specs.Data.{Members}
+use Rattle.toml.specs.Parse.{parse_document}
+use Rattle.authorizer.specs.Numbers.{no_users}
+use Rattle.config_rates.specs.Groups.{AreApart, HasGroup}
+use Rattle.config_rates.specs.Rows.{rates_of}
+use Rattle.config_store.specs.Made.{IsStoreOf}
+use Rattle.config_tables.specs.Tables.{IsTables}
+use Rattle.config_tables.specs.declared.tables.Tables.{Tables}
+use Rattle.config_users.specs.Added.{AddsUsers}
+use Rattle.server_config.specs.Settings.{AreTerms, AreNumbers}
+use Rattle.server_config.specs.declared.config.Config.{Config}
+
+-- what the tables of a file make
+pub record IsMadeOf (tables : Tables) (config : Config) : Type 0 where
+  pub terms : AreTerms tables.server config.terms
+  pub numbers : AreNumbers tables.server config.numbers
+  pub ports : tables.server.passive_first ≤ tables.server.passive_last
+  pub groups_apart : AreApart tables.groups.items
+  pub users_grouped : AllByRecursion (λ user. HasGroup tables.groups.items user.group) tables.users.items
+  pub users : AddsUsers tables.groups.items tables.users.items tables.overrides.items no_users config.users
+  pub store : IsStoreOf tables.server tables.dirs.items tables.files.items config.store
+  pub limits : config.limits ≡ rates_of tables.server tables.groups.items tables.users.items
+
+-- the document states tables, and the configuration is made of them
+abbrev pub IsConfig : Members → Config → Type 0
+IsConfig document config = (tables : Tables) × IsTables document tables × IsMadeOf tables config
+
+-- the same of the document that a text is
+abbrev pub IsConfigText : List ℕ → Config → Type 0
+IsConfigText octets config = (document : Members) × (parse_document octets ≡ Some document) × IsConfig document config

@@ -1,0 +1,93 @@
+//! A configuration, from its text.
+
+ghost use Rattle.std.specs.Prelude.{◌≡◌, IfOk, Some};
+ghost use Rattle.toml.specs.Data.{Members};
+ghost use Rattle.toml.specs.Parse.{parse_document};
+ghost use Rattle.toml.specs.View.{table_view};
+ghost use Rattle.config_tables.specs.Tables.{IsTables};
+ghost use Rattle.server_config.specs.Configs.{IsMadeOf, IsConfig, IsConfigText};
+
+use crate::fault::{ConfigFault, not_toml, of_rows, of_store, of_table, of_users};
+use crate::settings::{ServerNumbers, SessionTerms, numbers_of, terms_of};
+use authorizer::Authorizer;
+use config_rates::{limits_of, read_rows};
+use config_store::{ServedStore, make_store};
+use config_tables::{Tables, read_tables};
+use config_users::make_users;
+use line_rates::Limits;
+use std::alloc::Global;
+use toml::Table;
+
+/// The configuration of a server.
+#[derive(Drop)]
+pub struct Config {
+    /// What it sets for all of its sessions.
+    pub terms: SessionTerms,
+    /// Its numbers.
+    pub numbers: ServerNumbers,
+    /// Its users.
+    pub users: Authorizer,
+    /// What it serves.
+    pub store: ServedStore,
+    /// The rates of the line, of its groups and of its users, who have the authorizer's numbers.
+    pub limits: Limits,
+}
+
+/// The table that a text is.
+pub fn read_document(alloc: Global, octets: &[u8]) -> Result<Table, ConfigFault>
+    ensures document { IfOk result (λ table. parse_document octets.now ≡ Some (table_view table)) }
+{
+    match toml::table_from_slice(alloc, octets) {
+        Ok(table) => Ok(table),
+        Err(error) => Err(not_toml(octets, error)),
+    }
+}
+
+/// What the tables of a file make.
+fn made_of(alloc: Global, tables: &Tables) -> Result<Config, ConfigFault>
+    requires stated { (document : Members) × IsTables document tables.now }
+    ensures made { IfOk result (IsMadeOf tables.now) }
+{
+    let (groups, users) = (tables.groups.as_slice(), tables.users.as_slice());
+    let rows = match read_rows(alloc, groups, users) {
+        Ok(rows) => rows,
+        Err(fault) => return Err(of_rows(alloc, fault)),
+    };
+    let overrides = tables.overrides.as_slice();
+    let authorizer = match make_users(alloc, users, overrides, rows.users.as_slice()) {
+        Ok(authorizer) => authorizer,
+        Err(fault) => return Err(of_users(alloc, fault)),
+    };
+    let (dirs, files) = (tables.dirs.as_slice(), tables.files.as_slice());
+    let store = match make_store(alloc, &tables.server, dirs, files) {
+        Ok(store) => store,
+        Err(fault) => return Err(of_store(alloc, fault)),
+    };
+    Ok(Config {
+        terms: terms_of(alloc, &tables.server)?,
+        numbers: numbers_of(&tables.server),
+        users: authorizer,
+        store,
+        limits: limits_of(&tables.server, rows),
+    })
+}
+
+/// The configuration that a document states.
+pub fn config_of(alloc: Global, document: &Table) -> Result<Config, ConfigFault>
+    ensures config { IfOk result (IsConfig (table_view document.now)) }
+{
+    match read_tables(alloc, document) {
+        Ok(tables) => made_of(alloc, &tables),
+        Err(fault) => Err(of_table(alloc, fault)),
+    }
+}
+
+impl Config {
+    /// Reads the configuration of a server. `Err` is the file's first fault, or want of memory.
+    pub fn read(alloc: Global, octets: &[u8]) -> Result<Config, ConfigFault>
+        ensures config { IfOk result (IsConfigText octets.now) }
+    {
+        let document = read_document(alloc, octets)?;
+        config_of(alloc, &document)
+    }
+}

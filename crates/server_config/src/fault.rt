@@ -1,0 +1,229 @@
+//! Why a configuration is refused, and where.
+
+ghost use Rattle.std.specs.Prelude.{◌≡◌};
+ghost use Rattle.server_config.specs.Faults.{name_of};
+
+use authorizer::AuthorizerFault;
+use config_keys::Problem;
+use config_rates::{GroupProblem, RowsFault};
+use config_store::{StoreFaultAt, StoreProblem};
+use config_tables::{Place, TableFault, TableName};
+use config_users::UsersFault;
+use std::alloc::{AllocError, Global};
+use std::fmt;
+
+/// The most characters of a name or a key that are shown.
+const LONGEST_SHOWN: usize = 64;
+
+/// A table of a file.
+#[derive(Debug, Drop)]
+pub struct Location {
+    pub table: TableName,
+    /// The number of the row among those of its list, from 1; 0 for a table that is no row.
+    pub row: usize,
+    /// The name that the row states, or, of an override, that its user states.
+    pub name: Option<String>,
+}
+
+/// Why a configuration is refused. It prints as one line, which says where, and what was expected.
+#[derive(Debug, Drop)]
+pub enum ConfigFault {
+    /// The file is no UTF-8 or no TOML: the line, from 1, and what is wrong there.
+    NotToml {
+        line: usize,
+        error: toml::de::Error,
+    },
+    /// A key is unknown, missing, of the wrong kind or out of range.
+    Key {
+        location: Location,
+        key: String,
+        problem: Problem,
+    },
+    /// Two groups have one name, or a user's group is not there.
+    BadGroup {
+        location: Location,
+        problem: GroupProblem,
+    },
+    /// The authorizer refuses a user or an override.
+    BadUser {
+        location: Location,
+        problem: AuthorizerFault,
+    },
+    /// The store refuses a directory or a file, or there is no port for passive connections.
+    BadStore {
+        location: Location,
+        problem: StoreProblem,
+    },
+    /// The file has a date that no TOML text can write, so its table cannot be printed.
+    BadDate,
+    /// Memory ran out.
+    Memory,
+}
+
+impl ConfigFault {
+    /// The name of the fault, which the program's last line tells.
+    pub fn name(&self) -> &'static str
+        ensures name { result.now ≡ name_of self.now }
+    {
+        match self {
+            ConfigFault::NotToml { .. } => "NotToml",
+            ConfigFault::Key { problem, .. } => match problem {
+                Problem::Unknown => "UnknownKey",
+                Problem::Missing(_) => "Missing",
+                Problem::WrongKind(_) => "WrongKind",
+                Problem::OutOfRange(_) => "OutOfRange",
+            },
+            ConfigFault::BadGroup { .. } => "BadGroup",
+            ConfigFault::BadUser { .. } => "BadUser",
+            ConfigFault::BadStore { .. } => "BadStore",
+            ConfigFault::BadDate => "NotToml",
+            ConfigFault::Memory => "Memory",
+        }
+    }
+}
+
+impl From<AllocError> for ConfigFault {
+    ghost use Rattle.std.specs.Prelude.{◌≡◌};
+    ghost use Rattle.server_config.specs.declared.fault.ConfigFault.TheVariants.{Memory};
+
+    ghost from_gives = { λ _ fault. fault ≡ Memory };
+
+    fn from(_error: AllocError) -> ConfigFault {
+        ConfigFault::Memory
+    }
+}
+
+/// Shows a text of the file on one line: its first characters, control characters as `?`.
+fn show<W: fmt::Write>(f: &mut fmt::Formatter<W>, text: &str) -> fmt::Result {
+    for character in text.chars().take(LONGEST_SHOWN) {
+        f.write_char(if character.is_control() {
+            '?'
+        } else {
+            character
+        })?;
+    }
+    Ok(())
+}
+
+impl fmt::Display for Location {
+    fn fmt<W: fmt::Write>(&self, f: &mut fmt::Formatter<W>) -> fmt::Result {
+        write!(f, "{}", self.table)?;
+        if self.row > 0 {
+            write!(f, " {}", self.row)?;
+        }
+        if let Some(name) = &self.name {
+            f.write_str(" ")?;
+            show(f, name.as_str())?;
+        }
+        Ok(())
+    }
+}
+
+impl fmt::Display for ConfigFault {
+    fn fmt<W: fmt::Write>(&self, f: &mut fmt::Formatter<W>) -> fmt::Result {
+        match self {
+            ConfigFault::NotToml { line, error } => write!(f, "line {line}: {}", error.message()),
+            ConfigFault::Key {
+                location,
+                key,
+                problem,
+            } => {
+                write!(f, "{location}: ")?;
+                show(f, key.as_str())?;
+                write!(f, ": {problem}")
+            }
+            ConfigFault::BadGroup { location, problem } => write!(f, "{location}: {problem}"),
+            ConfigFault::BadUser { location, problem } => write!(f, "{location}: {problem}"),
+            ConfigFault::BadStore { location, problem } => write!(f, "{location}: {problem}"),
+            ConfigFault::BadDate => f.write_str("a date cannot be written"),
+            ConfigFault::Memory => f.write_str("out of memory"),
+        }
+    }
+}
+
+fn located(alloc: Global, place: Place) -> Result<Location, AllocError> {
+    let name = match place.name {
+        Some(name) => Some(String::from_str(alloc, name)?),
+        None => None,
+    };
+    Ok(Location {
+        table: place.table,
+        row: place.row,
+        name,
+    })
+}
+
+/// The fault of text that is no TOML.
+pub fn not_toml(octets: &[u8], error: toml::de::Error) -> ConfigFault {
+    let Some(range) = error.span() else {
+        return ConfigFault::Memory;
+    };
+    let before = octets.iter().take(range.start);
+    let line = before.filter(|octet| **octet == b'\n').count();
+    ConfigFault::NotToml {
+        line: line.saturating_add(1),
+        error,
+    }
+}
+
+fn key_fault(
+    alloc: Global,
+    place: Place,
+    key: &str,
+    problem: Problem,
+) -> Result<ConfigFault, AllocError> {
+    Ok(ConfigFault::Key {
+        location: located(alloc, place)?,
+        key: String::from_str(alloc, key)?,
+        problem,
+    })
+}
+
+/// The fault of a table's key.
+pub fn of_table(alloc: Global, fault: TableFault) -> ConfigFault {
+    match fault {
+        TableFault::Key { place, fault } => {
+            match key_fault(alloc, place, fault.key, fault.problem) {
+                Ok(fault) => fault,
+                Err(_) => ConfigFault::Memory,
+            }
+        }
+        TableFault::Memory => ConfigFault::Memory,
+    }
+}
+
+/// The fault of groups.
+pub fn of_rows(alloc: Global, fault: RowsFault) -> ConfigFault {
+    match fault {
+        RowsFault::Group { place, problem } => match located(alloc, place) {
+            Ok(location) => ConfigFault::BadGroup { location, problem },
+            Err(_) => ConfigFault::Memory,
+        },
+        RowsFault::Memory => ConfigFault::Memory,
+    }
+}
+
+/// The fault of users.
+pub fn of_users(alloc: Global, fault: UsersFault) -> ConfigFault {
+    match fault {
+        UsersFault::Refused { place, fault } => match located(alloc, place) {
+            Ok(location) => ConfigFault::BadUser {
+                location,
+                problem: fault,
+            },
+            Err(_) => ConfigFault::Memory,
+        },
+        UsersFault::Memory => ConfigFault::Memory,
+    }
+}
+
+/// The fault of a store.
+pub fn of_store(alloc: Global, fault: StoreFaultAt) -> ConfigFault {
+    match fault {
+        StoreFaultAt::Refused { place, problem } => match located(alloc, place) {
+            Ok(location) => ConfigFault::BadStore { location, problem },
+            Err(_) => ConfigFault::Memory,
+        },
+        StoreFaultAt::Memory => ConfigFault::Memory,
+    }
+}

@@ -1,0 +1,78 @@
+//! What a configuration sets for sessions, and the numbers of its server.
+
+ghost use Rattle.std.specs.Prelude.{◌≡◌, IfOk};
+ghost use Rattle.server_config.specs.Settings.{AreTerms, AreNumbers};
+
+use config_server::ServerTable;
+use ftp_terms::LineText;
+use std::alloc::{AllocError, Global};
+
+/// What a server sets for all of its sessions.
+#[derive(Drop)]
+pub struct SessionTerms {
+    /// What a client is greeted with.
+    pub banner: LineText,
+    /// How many wrong passwords close the control connection, from 1 to 100.
+    pub login_attempts: u32,
+    /// Whether a data connection may go to another host than the client's.
+    pub permits_foreign_addresses: bool,
+    /// Whether a data connection may go to a port below 1024.
+    pub permits_privileged_ports: bool,
+    /// The address that PASV tells: the one that is stated for this, or else the server's.
+    pub address: [u8; 4],
+}
+
+/// The numbers of a server.
+#[derive(Clone, Copy, Debug, PartialEq, Eq)]
+pub struct ServerNumbers {
+    /// Where it listens.
+    pub address: [u8; 4],
+    /// The port of control connections.
+    pub port: u16,
+    /// How many connections there may be at once, from 1 to 512.
+    pub max_cons: u16,
+    /// How many of them from one address; 0 is no limit.
+    pub max_cons_per_address: u16,
+    /// The first port of passive connections.
+    pub passive_first: u16,
+    /// The last one, not below the first.
+    pub passive_last: u16,
+    /// How many transfers run at once, from 1 to 64.
+    pub lanes: u16,
+    /// After how many sessions the server ends; 0 is never.
+    pub sessions: u64,
+}
+
+/// The terms of sessions that a table states.
+pub fn terms_of(alloc: Global, server: &ServerTable) -> Result<SessionTerms, AllocError>
+    ensures terms { IfOk result (AreTerms server.now) }
+{
+    let banner = String::from_str(alloc, server.banner)?;
+    let address = match server.masquerade_address {
+        Some(address) => address.octets(),
+        None => server.address.octets(),
+    };
+    Ok(SessionTerms {
+        banner: LineText::made(banner),
+        login_attempts: u32::from(server.max_login_attempts),
+        permits_foreign_addresses: server.permit_foreign_addresses,
+        permits_privileged_ports: server.permit_privileged_ports,
+        address,
+    })
+}
+
+/// The numbers that a table states.
+pub fn numbers_of(server: &ServerTable) -> ServerNumbers
+    ensures numbers { AreNumbers server.now result }
+{
+    ServerNumbers {
+        address: server.address.octets(),
+        port: server.port,
+        max_cons: server.max_cons,
+        max_cons_per_address: server.max_cons_per_address,
+        passive_first: server.passive_first,
+        passive_last: server.passive_last,
+        lanes: server.lanes,
+        sessions: server.sessions,
+    }
+}

@@ -1,0 +1,145 @@
+//! PASS: the login itself.
+
+ghost use Rattle.std.specs.Prelude.{◌≡◌, [], ◌∷◌, IfOk, OnErr, OnOk};
+ghost use Rattle.ftp_reply.specs.Replies.{OneLine};
+ghost use Rattle.rate_floors.specs.Promises.{admits};
+ghost use Rattle.session_login.specs.Counted.{counted_by, counted_once};
+ghost use Rattle.session_table.specs.Plans.Plan.{Then};
+ghost use Rattle.session_table.specs.StateRows.{enters, login_message, number_of, pass_row, turned_away};
+ghost use Rattle.session_table.specs.declared.actions.Action.TheVariants.{CloseControl, Hook, Say};
+ghost use Rattle.session_table.specs.declared.actions.HookCall.TheVariants.{Login};
+ghost use Rattle.session_table.specs.declared.answers.Answer.TheVariants.{Made};
+
+use authorizer::Authorizer;
+use rate_floors::Floors;
+use session_state::{State, copied, put, with_room};
+use session_table::{Action, Answer, HookCall, Refusal, Stage, Text};
+use std::alloc::{AllocError, Allocator};
+
+/// What a user is told at login; one that was removed has no message.
+fn welcome<A: Allocator + Clone>(
+    alloc: A,
+    users: &Authorizer<A>,
+    name: &str,
+) -> Result<Answer<A>, AllocError>
+    ensures reply { IfOk result (λ reply.
+        reply ≡ Made (OneLine 230 (login_message users.now.users name.now))) }
+{
+    match users.msg_login(name) {
+        Some(message) => copied(alloc, 230, message),
+        None => copied(alloc, 230, ""),
+    }
+}
+
+fn welcomed<A: Allocator + Clone, R: Drop, K: Drop>(
+    alloc: A,
+    users: &Authorizer<A>,
+    name: &str,
+) -> Result<Vec<Action<A, R, K>, A>, AllocError>
+    ensures actions { IfOk result (λ actions. actions.items
+        ≡ Say (Made (OneLine 230 (login_message users.now.users name.now)))
+        ∷ Hook (Login name.now) ∷ []) }
+{
+    let reply = welcome(alloc.clone()?, users, name)?;
+    let name = Text::copy_of(alloc.clone()?, name)?;
+    let mut actions = with_room(alloc, 2)?;
+    put(&mut actions, Action::Say(reply));
+    put(&mut actions, Action::Hook(HookCall::Login(name)));
+    Ok(actions)
+}
+
+/// The guaranteed rate of one more session does not fit.
+fn not_admitted<A: Allocator + Clone, R: Drop, K: Drop>(
+    alloc: A,
+) -> Result<Vec<Action<A, R, K>, A>, AllocError>
+    ensures actions { IfOk result (λ actions. actions.items
+        ≡ Say (Answer.Refusal Refusal.NoGuarantee) ∷ CloseControl ∷ []) }
+{
+    let mut actions = with_room(alloc, 2)?;
+    let refused = Answer::Refusal(Refusal::NoGuarantee);
+    put(&mut actions, Action::Say(refused));
+    put(&mut actions, Action::CloseControl);
+    Ok(actions)
+}
+
+fn number_of<A: Allocator + Clone>(state: &State<A>, users: &Authorizer<A>) -> u32
+    ensures number { result ≡ number_of users.now.users state.now.name }
+{
+    users.number(state.name()).unwrap_or(0)
+}
+
+/// The password was right. One more session is counted, where it fits.
+fn enter<A: Allocator + Clone, F: Allocator + Clone, R: Drop, K: Drop>(
+    state: &mut State<A>,
+    users: &Authorizer<A>,
+    floors: &mut Floors<F>,
+) -> Result<Vec<Action<A, R, K>, A>, AllocError>
+    ensures row { IfOk result (λ actions.
+        Then state.new actions.items
+        ≡ enters users.now.users state.old
+        (admits floors.old (number_of users.now.users state.old.name))) }
+    ensures unchanged { OnErr result (state.new ≡ state.old) }
+    ensures counted { OnOk result (
+        floors.new ≡ counted_once floors.old (number_of users.now.users state.old.name)) }
+    ensures uncounted { OnErr result (floors.new ≡ floors.old) }
+{
+    let number = number_of(state, users);
+    let welcomed = welcomed(state.alloc()?, users, state.name())?;
+    let refused = not_admitted(state.alloc()?)?;
+    if floors.admit(number) {
+        state.go_inside(number);
+        return Ok(welcomed);
+    }
+    state.close();
+    Ok(refused)
+}
+
+/// The password was wrong.
+fn turn_away<A: Allocator + Clone, R: Drop, K: Drop>(
+    state: &mut State<A>,
+) -> Result<Vec<Action<A, R, K>, A>, AllocError>
+    ensures row { IfOk result (λ actions. Then state.new actions.items ≡ turned_away state.old) }
+    ensures unchanged { OnErr result (state.new ≡ state.old) }
+{
+    let name = Text::copy_of(state.alloc()?, state.name())?;
+    let mut actions = with_room(state.alloc()?, 3)?;
+    put(&mut actions, Action::Hook(HookCall::LoginFailed(name)));
+    if state.is_last_attempt() {
+        let refused = Answer::Refusal(Refusal::TooManyLogins);
+        put(&mut actions, Action::Say(refused));
+        put(&mut actions, Action::CloseControl);
+        state.lose_last_attempt();
+        return Ok(actions);
+    }
+    let refused = Answer::Refusal(Refusal::LoginIncorrect);
+    put(&mut actions, Action::Say(refused));
+    state.lose_attempt();
+    Ok(actions)
+}
+
+/// PASS (RFC 959, section 4.1.1). An error leaves the session and the floors as they were.
+pub fn check_password<A: Allocator + Clone, F: Allocator + Clone, R: Drop, K: Drop>(
+    state: &mut State<A>,
+    users: &Authorizer<A>,
+    floors: &mut Floors<F>,
+    password: &str,
+) -> Result<Vec<Action<A, R, K>, A>, AllocError>
+    ensures row { IfOk result (λ actions.
+        Then state.new actions.items
+        ≡ pass_row users.now.users (admits floors.old) state.old password.now) }
+    ensures unchanged { OnErr result (state.new ≡ state.old) }
+    ensures counted { OnOk result (
+        floors.new ≡ counted_by users.now.users state.old password.now floors.old) }
+    ensures uncounted { OnErr result (floors.new ≡ floors.old) }
+{
+    match state.stage() {
+        Stage::Greeted | Stage::Closed => state.refuse(Refusal::NoName),
+        Stage::Inside => state.refuse(Refusal::AlreadyInside),
+        Stage::Named => {
+            if users.check_password(state.name(), password) {
+                return enter(state, users, floors);
+            }
+            turn_away(state)
+        }
+    }
+}

@@ -1,0 +1,205 @@
+//! The changes of what a session knows, one each.
+
+ghost use Rattle.std.specs.Prelude.{◌≡◌, ◌-◌, [], Some, None, MatchOption, false, option_map, true};
+
+use crate::state::State;
+use ftp_terms::{DataType, Facts};
+use session_table::{Control, Errand, Passive, Stage, Text, Work};
+use std::alloc::Allocator;
+use std::mem;
+use virtual_path::VPath;
+
+impl<A: Allocator> State<A> {
+    ghost use Rattle.session_table.specs.Views.{aborted, anew, carried, running};
+    ghost use Rattle.session_table.specs.Views.Begun.{AwaitsPort, Idle, Transfers};
+    ghost use Rattle.session_table.specs.declared.stages.Control.TheVariants.{Closing, Quitting};
+    ghost use Rattle.session_table.specs.declared.stages.Stage.TheVariants.{Closed, Greeted, Inside};
+
+    /// What a new client finds. The user's name before is answered.
+    pub fn begin_anew(&mut self, root: VPath<A>, name: Text<A>, stage: Stage) -> Text<A>
+        requires root { root ≡ [] }
+        ensures anew { self.new ≡ record (anew self.old) { stage = stage; name = name } }
+        ensures name { result ≡ self.old.name }
+    {
+        self.stage = stage;
+        self.cwd = root;
+        self.data_type = DataType::Ascii;
+        self.offset = 0;
+        self.facts = Facts {
+            kind: true,
+            size: true,
+            modify: true,
+            perm: true,
+        };
+        self.only_extended = false;
+        self.prepared = false;
+        mem::replace(&mut self.name, name)
+    }
+
+    /// The user of this number is logged in.
+    pub fn go_inside(&mut self, number: u32)
+        ensures inside { self.new ≡ record self.old { stage = Inside; number = number } }
+    {
+        self.stage = Stage::Inside;
+        self.number = number;
+    }
+
+    /// The control connection is to be closed, and nobody is named. The name before is answered.
+    pub fn go_away(&mut self, empty: Text<A>) -> Text<A>
+        requires empty { empty ≡ [] }
+        ensures away { self.new
+            ≡ record self.old { stage = Greeted; name = []; control = Closing } }
+        ensures name { result ≡ self.old.name }
+    {
+        self.stage = Stage::Greeted;
+        self.control = Control::Closing;
+        mem::replace(&mut self.name, empty)
+    }
+
+    /// QUIT came, and waits for the end of what was begun.
+    pub fn await_quit(&mut self)
+        ensures quitting { self.new ≡ record self.old { control = Quitting } }
+    {
+        self.control = Control::Quitting;
+    }
+
+    /// The control connection is gone. The user's name before is answered.
+    pub fn go_silent(&mut self, empty: Text<A>) -> Text<A>
+        requires empty { empty ≡ [] }
+        ensures closed { self.new ≡ record self.old { stage = Closed; name = [] } }
+        ensures name { result ≡ self.old.name }
+    {
+        self.stage = Stage::Closed;
+        mem::replace(&mut self.name, empty)
+    }
+
+    /// The control connection is to be closed.
+    pub fn close(&mut self)
+        ensures closing { self.new ≡ record self.old { control = Closing } }
+    {
+        self.control = Control::Closing;
+    }
+
+    /// A wrong password was the last.
+    pub fn lose_last_attempt(&mut self)
+        ensures lost { self.new ≡ record self.old { attempts_left = 0; control = Closing } }
+    {
+        self.attempts_left = 0;
+        self.control = Control::Closing;
+    }
+
+    /// A wrong password was not the last.
+    pub fn lose_attempt(&mut self)
+        ensures lost { self.new
+            ≡ record self.old { attempts_left = self.old.attempts_left - 1; stage = Greeted } }
+    {
+        self.attempts_left = self.attempts_left.saturating_sub(1);
+        self.stage = Stage::Greeted;
+    }
+
+    pub fn change_directory(&mut self, path: VPath<A>)
+        ensures cwd { self.new ≡ record self.old { cwd = path } }
+    {
+        self.cwd = path;
+    }
+
+    /// What octets of a file are sent as; the offset is 0 again.
+    pub fn set_data_type(&mut self, data_type: DataType)
+        ensures data_type { self.new ≡ record self.old { data_type = data_type; offset = 0 } }
+    {
+        self.data_type = data_type;
+        self.offset = 0;
+    }
+
+    pub fn set_offset(&mut self, offset: u64)
+        ensures offset { self.new ≡ record self.old { offset = offset } }
+    {
+        self.offset = offset;
+    }
+
+    pub fn set_facts(&mut self, facts: Facts)
+        ensures facts { self.new ≡ record self.old { facts = facts } }
+    {
+        self.facts = facts;
+    }
+
+    /// EPSV ALL is in force.
+    pub fn forbid_plain(&mut self)
+        ensures only_extended { self.new ≡ record self.old { only_extended = true } }
+    {
+        self.only_extended = true;
+    }
+
+    /// A data connection is prepared.
+    pub fn prepare(&mut self)
+        ensures prepared { self.new ≡ record self.old { prepared = true } }
+    {
+        self.prepared = true;
+    }
+
+    /// A passive port is awaited, in the place of what was prepared.
+    pub fn await_port(&mut self, passive: Passive)
+        ensures awaited { self.new
+            ≡ record self.old { prepared = false; begun = AwaitsPort passive } }
+    {
+        self.prepared = false;
+        self.work = Work::AwaitsPort(passive);
+    }
+
+    /// A transfer begins, and uses up what was prepared.
+    pub fn begin(&mut self, errand: Errand<A>)
+        ensures begun { self.new
+            ≡ record self.old { prepared = false; begun = Transfers (carried errand) } }
+    {
+        self.prepared = false;
+        self.work = Work::Transfers(errand);
+    }
+
+    /// A transfer that runs is aborted; its end is still to come.
+    pub fn abort(&mut self)
+        ensures aborted { self.new ≡ record self.old { begun = aborted self.old.begun } }
+    {
+        self.work = match mem::replace(&mut self.work, Work::Idle) {
+            Work::Transfers(errand) => Work::Aborted(errand),
+            other => other,
+        };
+    }
+
+    /// A passive port came, or none was free.
+    pub fn end_waiting(&mut self)
+        ensures ended { self.new ≡ record self.old { begun = Idle } }
+    {
+        self.work = Work::Idle;
+    }
+
+    /// A transfer has ended, aborted or not; what it carried is answered.
+    pub fn end_transfer(&mut self) -> Option<Errand<A>>
+        ensures errand { option_map carried result ≡ running self.old.begun }
+        ensures ended { MatchOption result
+            (self.new ≡ self.old)
+            (λ errand. self.new ≡ record self.old { begun = Idle }) }
+    {
+        match mem::replace(&mut self.work, Work::Idle) {
+            Work::Transfers(errand) | Work::Aborted(errand) => Some(errand),
+            Work::AwaitsPort(passive) => {
+                self.work = Work::AwaitsPort(passive);
+                None
+            }
+            Work::Idle => None,
+        }
+    }
+
+    /// Keeps where a file or directory stands that is to be renamed.
+    pub fn keep_source(&mut self, source: VPath<A>)
+        ensures source { self.new ≡ record self.old { source = Some source } }
+    {
+        self.source = Some(source);
+    }
+
+    /// What RNFR named is forgotten.
+    pub fn forget_source(&mut self)
+        ensures source { self.new ≡ record self.old { source = None } }
+    {
+        self.source = None;
+    }
+}

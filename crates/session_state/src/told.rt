@@ -1,0 +1,50 @@
+//! Actions of one reply.
+
+ghost use Rattle.std.specs.Prelude.{◌≡◌, [], ◌∷◌, IfOk, OnErr};
+
+use crate::room::{put, with_room};
+use crate::state::State;
+use session_table::{Action, Answer, Notice, Refusal};
+use std::alloc::{AllocError, Allocator};
+
+impl<A: Allocator + Clone> State<A> {
+    ghost use Rattle.session_table.specs.Plans.Plan.{Then};
+    ghost use Rattle.session_table.specs.StateRows.{notes, refuses};
+    ghost use Rattle.session_table.specs.declared.actions.Action.TheVariants.{Say};
+
+    /// One reply.
+    pub fn tell<R: Drop, K: Drop>(
+        &self,
+        answer: Answer<A>,
+    ) -> Result<Vec<Action<A, R, K>, A>, AllocError>
+        ensures ok { IfOk result (λ actions. actions.items ≡ Say answer ∷ []) }
+    {
+        let mut actions = with_room(self.alloc()?, 1)?;
+        put(&mut actions, Action::Say(answer));
+        Ok(actions)
+    }
+
+    /// One reply with a fixed text.
+    pub fn note<R: Drop, K: Drop>(
+        &self,
+        notice: Notice,
+    ) -> Result<Vec<Action<A, R, K>, A>, AllocError>
+        ensures ok { IfOk result (λ actions. Then self.now actions.items ≡ notes self.now notice) }
+    {
+        self.tell(Answer::Notice(notice))
+    }
+
+    /// One reply, and what RNFR named is forgotten.
+    pub fn refuse<R: Drop, K: Drop>(
+        &mut self,
+        refusal: Refusal,
+    ) -> Result<Vec<Action<A, R, K>, A>, AllocError>
+        ensures ok { IfOk result (λ actions.
+            Then self.new actions.items ≡ refuses self.old refusal) }
+        ensures err { OnErr result (self.new ≡ self.old) }
+    {
+        let actions = self.tell(Answer::Refusal(refusal))?;
+        self.forget_source();
+        Ok(actions)
+    }
+}

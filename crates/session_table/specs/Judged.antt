@@ -1,0 +1,75 @@
+-- The refusals of a line, in their order: the first that holds is the reply.
+use Rattle.std.specs.Prelude.{ℕ, Bool, not, ◌&&◌, cond, List, [], ◌∷◌, Option, Some, None, Result, Ok, Err, is_none, nat_lt, option_map, unwrap_or}
+use Rattle.std.specs.FinMap as map
+use Rattle.ftp_terms.specs.declared.letters.Letter.{Letter}
+use Rattle.authorizer.specs.Users.{Users, allowed}
+use Rattle.virtual_path.specs.Path.{Path, resolved, joined}
+use Rattle.virtual_path.specs.declared.fault.PathFault.{PathFault}
+use Rattle.session_table.specs.declared.refusals.Refusal.{Refusal}
+use Rattle.session_table.specs.declared.refusals.Refusal.TheVariants as refusal
+use Rattle.session_table.specs.Commands.{Line, asked, is_appe, is_rnto, needs_data, needs_login, needs_plain}
+use Rattle.session_table.specs.Views.{View, is_inside}
+
+-- where a path stands: as the user sees it, and in the store
+pub record Place : Type 0 where
+  pub path : Path
+  pub stored : Path
+
+-- a command without a path stands nowhere
+abbrev pub nowhere : Place
+nowhere = record { path = []; stored = [] }
+
+-- the first refusal whose condition holds
+abbrev pub first_refusal : List (Bool × Refusal) → Option Refusal
+first_refusal [] = None
+first_refusal (row ∷ rows) = cond row.0 (Some row.1) (first_refusal rows)
+
+-- a refusal, or what is left to say
+abbrev pub unless_refused : {X : Type 0} → Option Refusal → Result X Refusal → Result X Refusal
+unless_refused None otherwise = otherwise
+unless_refused (Some why) otherwise = Err why
+
+-- the home of a user; of one that was removed, the root, where no letter is held
+abbrev pub home_of : Users → List ℕ → Path
+home_of users name = unwrap_or (option_map (λ user. user.home) (map.get users name)) []
+
+abbrev pub stored_at : Path → Result Path PathFault → Result Place PathFault
+stored_at path (Ok stored) = Ok (record { path = path; stored = stored })
+stored_at path (Err fault) = Err fault
+
+abbrev pub from_home : Path → Result Path PathFault → Result Place PathFault
+from_home home (Ok path) = stored_at path (joined home path)
+from_home home (Err fault) = Err fault
+
+-- the place that a text names: the user's path from the current directory on, and the home followed by it
+abbrev pub located : Users → View → List ℕ → Result Place PathFault
+located users view text = from_home (home_of users view.name) (resolved view.cwd text)
+
+-- 2 to 4: before the path is looked at
+abbrev pub at_once : View → Line → List (Bool × Refusal)
+at_once view command =
+    (needs_login command && not (is_inside view.stage), refusal.LogInFirst)
+    ∷ (is_rnto command && is_none view.source, refusal.NoSource)
+    ∷ (is_appe command && nat_lt 0 view.offset, refusal.OffsetBeforeAppend)
+    ∷ (needs_plain command && view.only_extended, refusal.OnlyExtended)
+    ∷ []
+
+-- 6 and 7: at the place
+abbrev pub at_place : Users → View → Line → Letter → Path → List (Bool × Refusal)
+at_place users view command letter path =
+    (not (allowed users view.name letter path), refusal.NotPermitted)
+    ∷ (needs_data command && not view.prepared, refusal.NothingPrepared)
+    ∷ []
+
+-- 5 stands between them
+abbrev pub judged_at : Users → View → Line → Letter → Result Place PathFault → Result Place Refusal
+judged_at users view command letter (Err fault) = Err (refusal.Path fault)
+judged_at users view command letter (Ok place) = unless_refused (first_refusal (at_place users view command letter place.path)) (Ok place)
+
+abbrev pub judged_path : Users → View → Line → Option (Letter × List ℕ) → Result Place Refusal
+judged_path users view command None = Ok nowhere
+judged_path users view command (Some wanted) = judged_at users view command wanted.0 (located users view wanted.1)
+
+-- what a command is refused, or the place that it names
+unfoldable pub judged : Users → View → Line → Result Place Refusal
+judged users view command = unless_refused (first_refusal (at_once view command)) (judged_path users view command (asked command))

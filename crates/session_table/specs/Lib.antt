@@ -1,0 +1,12 @@
+pub mod Answers
+pub mod Commands
+pub mod FileRows
+pub mod Judged
+pub mod Notices
+pub mod Plans
+pub mod Refusals
+pub mod StateRows
+pub mod Table
+pub mod Texts
+pub mod TransferRows
+pub mod Views

@@ -1,0 +1,215 @@
+-- Rows of the table that ask nothing of the store: logins, the state of a session, its parameters, data connections.
+use Rattle.std.specs.Prelude.{ℕ, ◌-◌, ◌==◌, ◌&&◌, ◌||◌, Bool, true, false, cond, not, List, [], ◌∷◌, ◌++◌, Option, Some, None, codes, bytes_eq, nat_le, nat_lt, option_map, unwrap_or}
+use Rattle.std.specs.FinMap as map
+use Rattle.std.specs.Fmt.{decimal}
+use Rattle.authorizer.specs.Changes.{is_password}
+use Rattle.authorizer.specs.Users.{Users}
+use Rattle.ftp_reply.specs.Quoting.{quoted}
+use Rattle.ftp_reply.specs.Replies.{OneLine, SeveralLines}
+use Rattle.ftp_terms.specs.declared.data_type.DataType.{DataType}
+use Rattle.ftp_terms.specs.declared.data_type.DataType.TheVariants as data_type
+use Rattle.ftp_wire.specs.declared.commands.ExtendedPassive.{ExtendedPassive}
+use Rattle.ftp_wire.specs.declared.commands.ExtendedPassive.TheVariants as extended
+use Rattle.ftp_wire.specs.declared.commands.ExtendedPort.{ExtendedPort}
+use Rattle.ftp_wire.specs.declared.commands.ExtendedPort.TheVariants as port
+use Rattle.ftp_terms.specs.declared.facts.Facts.{Facts}
+use Rattle.ftp_wire.specs.declared.commands.FeatureOption.{FeatureOption}
+use Rattle.ftp_wire.specs.declared.commands.FeatureOption.TheVariants as option
+use Rattle.ftp_wire.specs.declared.commands.HostPort.{HostPort}
+use Rattle.ftp_wire.specs.Written.{facts_text, has_facts, starred_facts_text}
+use Rattle.virtual_path.specs.Path.{path_text}
+use Rattle.session_table.specs.declared.actions.Action.{Action}
+use Rattle.session_table.specs.declared.actions.Action.TheVariants as action
+use Rattle.session_table.specs.declared.actions.HookCall.TheVariants as hook
+use Rattle.session_table.specs.declared.answers.Answer.{Answer}
+use Rattle.session_table.specs.declared.answers.Answer.TheVariants as answer
+use Rattle.session_table.specs.declared.notices.Notice.{Notice}
+use Rattle.session_table.specs.declared.notices.Notice.TheVariants as notice
+use Rattle.session_table.specs.declared.refusals.Refusal.{Refusal}
+use Rattle.session_table.specs.declared.refusals.Refusal.TheVariants as refusal
+use Rattle.session_table.specs.declared.stages.Control.TheVariants.{Closing}
+use Rattle.session_table.specs.declared.stages.Passive.{Passive}
+use Rattle.session_table.specs.declared.stages.Passive.TheVariants.{Extended}
+use Rattle.session_table.specs.declared.stages.Stage.{Stage}
+use Rattle.session_table.specs.declared.stages.Stage.TheVariants as stage
+use Rattle.session_table.specs.Judged.{first_refusal}
+use Rattle.session_table.specs.Plans.{Plan}
+use Rattle.session_table.specs.Plans.Plan.{Then}
+use Rattle.session_table.specs.Views.{View, aborted, anew, has_transfer, is_inside}
+use Rattle.session_table.specs.Views.Begun.{AwaitsPort}
+
+abbrev pub is_ascii : DataType → Bool
+is_ascii data_type.Ascii = true
+is_ascii data_type.Image = false
+
+-- the features that RFC 2389, section 3.2, has told
+abbrev pub features : Facts → List (List ℕ)
+features facts = codes " EPRT" ∷ codes " EPSV" ∷ codes " MDTM"
+    ∷ (codes " MLST " ++ starred_facts_text facts)
+    ∷ codes " REST STREAM" ∷ codes " SIZE" ∷ codes " UTF8" ∷ []
+
+abbrev pub number_of : Users → List ℕ → ℕ
+number_of users name = unwrap_or (option_map (λ user. user.number) (map.get users name)) 0
+
+abbrev pub login_message : Users → List ℕ → List ℕ
+login_message users name = unwrap_or (option_map (λ user. user.login) (map.get users name)) []
+
+abbrev pub is_foreign : View → HostPort → Bool
+is_foreign view to = not (bytes_eq to.address view.peer) && not view.permits_foreign_addresses
+
+abbrev pub is_privileged : View → HostPort → Bool
+is_privileged view to = (to.port == 0) || (nat_lt to.port 1024 && not view.permits_privileged_ports)
+
+abbrev pub quit_message : Users → List ℕ → Option (List ℕ)
+quit_message users name = option_map (λ user. user.quit) (map.get users name)
+
+-- 8 of PORT and EPRT: where a data connection may not go
+unfoldable pub port_refusal : View → HostPort → Option Refusal
+port_refusal view to = first_refusal ((is_foreign view to, refusal.ForeignAddress) ∷ (is_privileged view to, refusal.PrivilegedPort) ∷ [])
+
+-- RFC 3659, section 5.2: an offset counts octets as they stand in the file
+abbrev pub needs_image : View → ℕ → Bool
+needs_image view offset = nat_lt 0 offset && is_ascii view.data_type
+
+-- this wrong password is the last
+abbrev pub is_last_attempt : View → Bool
+is_last_attempt view = nat_le view.attempts_left 1
+
+module _ {A : Type 0} where
+  abbrev pub facts_answer : Facts → Answer A
+  facts_answer facts = cond (has_facts facts) (answer.Made (OneLine 200 (codes "MLST OPTS " ++ facts_text facts))) (answer.Notice notice.NoFactsInForce)
+
+  -- the reply of QUIT, by the user's message; one that was removed has none
+  abbrev pub farewell_of : Option (List ℕ) → Answer A
+  farewell_of None = answer.Notice notice.Goodbye
+  farewell_of (Some message) = answer.Made (OneLine 221 message)
+
+  abbrev pub farewell : Users → View → Answer A
+  farewell users view = cond (is_inside view.stage) (farewell_of (quit_message users view.name)) (answer.Notice notice.Goodbye)
+
+module _ {A R K : Type 0} where
+  -- one reply
+  abbrev pub tells : View → Answer A → Plan A R K
+  tells view reply = Then view (action.Say reply ∷ [])
+
+  abbrev pub notes : View → Notice → Plan A R K
+  notes view what = tells view (answer.Notice what)
+
+  -- a refused command; what RNFR named is forgotten
+  abbrev pub refuses : View → Refusal → Plan A R K
+  refuses view why = tells (record view { source = None }) (answer.Refusal why)
+
+  -- whoever is logged in leaves
+  abbrev pub leaves : View → List (Action A R K)
+  leaves view = cond (is_inside view.stage) (action.Hook (hook.Logout view.name) ∷ action.ReleaseFloor view.number ∷ []) []
+
+  abbrev pub drops : View → List (Action A R K)
+  drops view = cond view.prepared (action.DropData ∷ []) []
+
+  -- what a new client is told
+  abbrev pub greeting : View → Plan A R K
+  greeting view = Then view (action.Say (answer.Made (OneLine 220 view.banner)) ∷ action.Hook hook.Connect ∷ [])
+
+  -- a new client, as far as the parameters go
+  abbrev pub restarts : View → List ℕ → Stage → Answer A → Plan A R K
+  restarts view name next reply = Then (record (anew view) { stage = next; name = name })
+      (leaves view ++ (action.Say reply ∷ []) ++ drops view)
+
+  abbrev pub user_row : View → List ℕ → Plan A R K
+  user_row view name = restarts view name stage.Named (answer.Notice notice.PasswordRequired)
+
+  abbrev pub rein_row : View → Plan A R K
+  rein_row view = restarts view [] stage.Greeted (answer.Made (OneLine 220 view.banner))
+
+  -- the user is told good-bye and leaves, behind what is done before
+  abbrev pub parts : View → Answer A → List (Action A R K) → Plan A R K
+  parts view reply before = Then (record view { stage = stage.Greeted; name = []; control = Closing })
+      (before ++ (action.Say reply ∷ []) ++ leaves view ++ (action.CloseControl ∷ []))
+
+  abbrev pub quit_after : Users → View → List (Action A R K) → Plan A R K
+  quit_after users view before = parts view (farewell users view) before
+
+  abbrev pub quit_row : Users → View → Plan A R K
+  quit_row users view = quit_after users view []
+
+  -- a right password: the session is counted among those with a guaranteed rate, where it still fits
+  abbrev pub enters : Users → View → Bool → Plan A R K
+  enters users view true = Then (record view { stage = stage.Inside; number = number_of users view.name })
+      (action.Say (answer.Made (OneLine 230 (login_message users view.name))) ∷ action.Hook (hook.Login view.name) ∷ [])
+  enters users view false = Then (record view { control = Closing }) (action.Say (answer.Refusal refusal.NoGuarantee) ∷ action.CloseControl ∷ [])
+
+  -- a wrong password
+  abbrev pub turned_away : View → Plan A R K
+  turned_away view = cond (is_last_attempt view)
+      (Then (record view { attempts_left = 0; control = Closing })
+      (action.Hook (hook.LoginFailed view.name) ∷ action.Say (answer.Refusal refusal.TooManyLogins) ∷ action.CloseControl ∷ []))
+      (Then (record view { attempts_left = view.attempts_left - 1; stage = stage.Greeted })
+      (action.Hook (hook.LoginFailed view.name) ∷ action.Say (answer.Refusal refusal.LoginIncorrect) ∷ []))
+
+  abbrev pub pass_by : Users → (ℕ → Bool) → View → List ℕ → Stage → Plan A R K
+  pass_by users admits view password stage.Greeted = refuses view refusal.NoName
+  pass_by users admits view password stage.Named = cond (is_password users view.name password) (enters users view (admits (number_of users view.name))) (turned_away view)
+  pass_by users admits view password stage.Inside = refuses view refusal.AlreadyInside
+  pass_by users admits view password stage.Closed = refuses view refusal.NoName
+
+  abbrev pub pass_row : Users → (ℕ → Bool) → View → List ℕ → Plan A R K
+  pass_row users admits view password = pass_by users admits view password view.stage
+
+  abbrev pub type_row : View → DataType → Plan A R K
+  type_row view wanted = notes (record view { data_type = wanted; offset = 0 }) (notice.TypeIs wanted)
+
+  abbrev pub rest_row : View → ℕ → Plan A R K
+  rest_row view offset = cond (needs_image view offset) (refuses view refusal.OffsetNeedsImage)
+      (tells (record view { offset = offset }) (answer.Made (OneLine 350 (codes "Restart at " ++ decimal offset))))
+
+  abbrev pub facts_row : View → Facts → Plan A R K
+  facts_row view facts = tells (record view { facts = facts }) (facts_answer facts)
+
+  abbrev pub opts_row : View → FeatureOption → Plan A R K
+  opts_row view option.Utf8On = notes view notice.Utf8IsOn
+  opts_row view (option.Mlst facts) = facts_row view facts
+
+  abbrev pub feat_row : View → Plan A R K
+  feat_row view = tells view (answer.Made (SeveralLines 211 (codes "Features") (features view.facts) (codes "End")))
+
+  abbrev pub pwd_row : View → Plan A R K
+  pwd_row view = tells view (answer.Made (OneLine 257 (quoted (path_text view.cwd))))
+
+  -- STAT without an argument
+  abbrev pub status_row : View → Plan A R K
+  status_row view = notes view (cond (has_transfer view.begun) notice.TransferInProgress notice.NoTransfer)
+
+  abbrev pub abor_row : View → Plan A R K
+  abor_row view = cond (has_transfer view.begun)
+      (Then (record view { begun = aborted view.begun })
+      (action.Say (answer.Refusal refusal.TransferAborted) ∷ action.Abort ∷ action.Say (answer.Notice notice.AbortDone) ∷ []))
+      (notes view notice.NothingToAbort)
+
+  abbrev pub port_by : View → HostPort → Option Refusal → Plan A R K
+  port_by view to (Some why) = refuses view why
+  port_by view to None = Then (record view { prepared = true }) (action.Say (answer.Notice notice.Fine) ∷ action.ConnectTo to ∷ [])
+
+  abbrev pub port_row : View → HostPort → Plan A R K
+  port_row view to = port_by view to (port_refusal view to)
+
+  abbrev pub eprt_row : View → ExtendedPort → Plan A R K
+  eprt_row view (port.Ipv4 to) = port_row view to
+  eprt_row view (port.Unsupported protocol) = refuses view refusal.OtherProtocol
+
+  abbrev pub opens : View → Passive → Plan A R K
+  opens view passive = Then (record view { prepared = false; begun = AwaitsPort passive }) (action.OpenPassive ∷ [])
+
+  abbrev pub epsv_row : View → ExtendedPassive → Plan A R K
+  epsv_row view extended.Same = opens view Extended
+  epsv_row view extended.All = notes (record view { only_extended = true }) notice.OnlyExtended
+  epsv_row view (extended.Protocol protocol) = cond (protocol == 1) (opens view Extended) (refuses view refusal.OtherProtocol)
+
+-- one thing where a right password is given for the user who was named, and else the other
+abbrev pub if_right_at : {F : Type 0} → Stage → Bool → F → F → F
+if_right_at stage.Greeted is_right counted otherwise = otherwise
+if_right_at stage.Named is_right counted otherwise = cond is_right counted otherwise
+if_right_at stage.Inside is_right counted otherwise = otherwise
+if_right_at stage.Closed is_right counted otherwise = otherwise
+
+abbrev pub if_right : {F : Type 0} → Users → View → List ℕ → F → F → F
+if_right users view password counted otherwise = if_right_at view.stage (is_password users view.name password) counted otherwise

@@ -1,0 +1,36 @@
+-- Lines that a reply or a listing is made of, where a calendar's date is looked up: told apart by what they tell.
+use Rattle.std.specs.Prelude.{ℕ, ◌≡◌, List, [], ◌∷◌, ◌++◌}
+use Rattle.std.specs.List.{flat_map}
+use Rattle.ftp_reply.specs.Dates.{IsTimeVal}
+use Rattle.ftp_reply.specs.Listings.{IsListLine, IsMlstEntry}
+use Rattle.ftp_terms.specs.declared.entries.Meta.{Meta}
+use Rattle.ftp_terms.specs.declared.facts.Facts.{Facts}
+use Rattle.ftp_terms.specs.declared.letters.Letters.{Letters}
+
+-- what a line tells
+pub data Told : Type 0 where
+  -- a moment, in seconds since 1970, by fourteen digits
+  Moment : ℕ → Told
+  -- an entry in the style of `ls -l`
+  LongLine : Meta → List ℕ → Told
+  -- an entry's name alone
+  NameLine : List ℕ → Told
+  -- the facts of an entry, and its name or path
+  FactLine : Meta → Facts → Letters → List ℕ → Told
+
+-- the line tells it
+abbrev pub IsTold : Told → List ℕ → Type 0
+IsTold (Moment seconds) line = IsTimeVal seconds line
+IsTold (LongLine meta name) line = IsListLine meta name line
+IsTold (NameLine name) line = line ≡ name
+IsTold (FactLine meta facts letters path) line = IsMlstEntry meta facts letters path line
+
+-- the lines tell these, one each
+abbrev pub AreTold : List Told → List (List ℕ) → Type 0
+AreTold [] lines = lines ≡ []
+AreTold (told ∷ others) lines =
+    (line : List ℕ) × (rest : List (List ℕ)) × IsTold told line × AreTold others rest × (lines ≡ line ∷ rest)
+
+-- the octets of lines, each ended by CR LF
+abbrev pub ended_lines : List (List ℕ) → List ℕ
+ended_lines = flat_map (λ line. line ++ 13 ∷ 10 ∷ [])

@@ -1,0 +1,137 @@
+-- Rows of the table on transfers and listings (RFC 959, sections 4.1.3 and 5.4; RFC 3659, section 7).
+use Rattle.std.specs.Prelude.{ℕ, ◌-◌, false, cond, List, [], ◌∷◌, ◌++◌, Result, Ok, Err, codes, length, map, nat_lt, option_map, slice_index_or, unwrap_or}
+use Rattle.std.specs.FinMap as finite
+use Rattle.authorizer.specs.Users.{Users, letters_at}
+use Rattle.ftp_terms.specs.declared.letters.Letters.{Letters}
+use Rattle.ftp_reply.specs.Replies.{SeveralLines}
+use Rattle.ftp_terms.specs.declared.entries.Kind.{Kind}
+use Rattle.ftp_terms.specs.declared.entries.Kind.TheVariants as kind
+use Rattle.ftp_terms.specs.declared.entries.Meta.{Meta}
+use Rattle.virtual_path.specs.Path.{Path, child_of, path_text}
+use Rattle.virtual_path.specs.declared.fault.PathFault.{PathFault}
+use Rattle.virtual_tree.specs.Calls.{Entry}
+use Rattle.virtual_tree.specs.declared.fault.StoreFault.{StoreFault}
+use Rattle.virtual_tree.specs.declared.mode.WriteMode.{WriteMode}
+use Rattle.virtual_tree.specs.declared.mode.WriteMode.TheVariants as mode
+use Rattle.session_table.specs.declared.actions.Action.TheVariants as action
+use Rattle.session_table.specs.declared.actions.Job.{Job}
+use Rattle.session_table.specs.declared.actions.Job.TheVariants as job
+use Rattle.session_table.specs.declared.answers.Answer.TheVariants as answer
+use Rattle.session_table.specs.declared.notices.Notice.TheVariants as notice
+use Rattle.session_table.specs.declared.refusals.Refusal.TheVariants as refusal
+use Rattle.session_table.specs.FileRows.{store_refuses}
+use Rattle.session_table.specs.Judged.{Place}
+use Rattle.session_table.specs.Plans.{Plan}
+use Rattle.session_table.specs.Plans.Plan.{Then, WithLine, WithLines, AskStat, AskList, AskOpenRead, AskOpenWrite}
+use Rattle.session_table.specs.StateRows.{refuses, tells}
+use Rattle.session_table.specs.Texts.{Told, ended_lines}
+use Rattle.session_table.specs.Texts.Told.{LongLine, NameLine, FactLine}
+use Rattle.session_table.specs.Views.{View, Carried}
+use Rattle.session_table.specs.Views.Carried.{Listing, Sending, Taking}
+use Rattle.session_table.specs.Views.Begun.{Transfers}
+
+-- how a listing tells an entry
+pub data Style : Type 0 where
+  LongLines : Style
+  Names : Style
+  FactLines : Style
+
+abbrev pub no_letters : Letters
+no_letters = record { change_directory = false; listing = false; retrieve = false; append_to = false; delete = false; rename = false; make_directory = false; store = false }
+
+-- all letters that a user holds at a path; one that was removed holds none
+abbrev pub letters_held : Users → List ℕ → Path → Letters
+letters_held users name path = unwrap_or (option_map (λ user. letters_at user path) (finite.get users name)) no_letters
+
+-- the letters at the path of an entry; one whose path would be too long has no path
+abbrev pub letters_by : Users → List ℕ → Result Path PathFault → Letters
+letters_by users name (Ok path) = letters_held users name path
+letters_by users name (Err fault) = no_letters
+
+-- an entry of a directory at this path, in a style
+abbrev pub entry_told : Users → View → Path → Style → Entry → Told
+entry_told users view above LongLines entry = LongLine entry.1 entry.0
+entry_told users view above Names entry = NameLine entry.0
+entry_told users view above FactLines entry = FactLine entry.1 view.facts (letters_by users view.name (child_of above entry.0)) entry.0
+
+abbrev pub last_name : Path → List ℕ
+last_name path = slice_index_or path (length path - 1) []
+
+-- a file is listed by itself
+abbrev pub itself : Path → Meta → List Entry
+itself path meta = (last_name path, meta) ∷ []
+
+-- STOR writes from the offset on
+abbrev pub store_mode : ℕ → WriteMode
+store_mode offset = cond (nat_lt 0 offset) (mode.At offset) mode.New
+
+module _ {A R K : Type 0} where
+  -- a transfer uses up what was prepared
+  abbrev pub starts : View → Carried → Job A R K → Plan A R K
+  starts view errand what = Then (record view { prepared = false; begun = Transfers errand })
+      (action.Say (answer.Notice notice.Opening) ∷ action.Start what ∷ [])
+
+  abbrev pub sends : View → Path → Result R StoreFault → Plan A R K
+  sends view path (Err why) = store_refuses view why
+  sends view path (Ok source) = starts view (Sending path) (job.SendFile source view.data_type)
+
+  abbrev pub retr_row : View → Place → Plan A R K
+  retr_row view place = AskOpenRead place.stored view.offset (sends view place.path)
+
+  abbrev pub takes : View → Path → Result K StoreFault → Plan A R K
+  takes view path (Err why) = store_refuses view why
+  takes view path (Ok sink) = starts view (Taking path) (job.TakeFile sink view.data_type)
+
+  abbrev pub stor_row : View → ℕ → Place → Plan A R K
+  stor_row view moment place = AskOpenWrite place.stored (store_mode view.offset) moment (takes view place.path)
+
+  abbrev pub appe_row : View → ℕ → Place → Plan A R K
+  appe_row view moment place = AskOpenWrite place.stored mode.Append moment (takes view place.path)
+
+  -- the entries of a listing, one line each
+  abbrev pub lists : Users → View → Path → Style → (List (List ℕ) → Plan A R K) → List Entry → Plan A R K
+  lists users view above style next entries = WithLines (map (entry_told users view above style) entries) next
+
+  abbrev pub listed_by : View → (List Entry → Plan A R K) → Result (List Entry) StoreFault → Plan A R K
+  listed_by view next (Err why) = store_refuses view why
+  listed_by view next (Ok entries) = next entries
+
+  -- a directory's entries, or the file itself
+  abbrev pub looked_in : View → Place → (List Entry → Plan A R K) → (Meta → Plan A R K) → Meta → Kind → Plan A R K
+  looked_in view place next of_file meta kind.Directory = AskList place.stored (listed_by view next)
+  looked_in view place next of_file meta kind.File = of_file meta
+
+  abbrev pub looked_by : View → Place → (List Entry → Plan A R K) → (Meta → Plan A R K) → Result Meta StoreFault → Plan A R K
+  looked_by view place next of_file (Err why) = store_refuses view why
+  looked_by view place next of_file (Ok meta) = looked_in view place next of_file meta meta.kind
+
+  abbrev pub sends_lines : View → List (List ℕ) → Plan A R K
+  sends_lines view lines = starts view Listing (job.Text (ended_lines lines))
+
+  -- LIST and NLST
+  abbrev pub list_row : Users → View → Style → Place → Plan A R K
+  list_row users view style place = AskStat place.stored (looked_by view place
+      (lists users view place.path style (sends_lines view))
+      (λ meta. lists users view place.path style (sends_lines view) (itself place.path meta)))
+
+  abbrev pub mlsd_row : Users → View → Place → Plan A R K
+  mlsd_row users view place = AskStat place.stored (looked_by view place
+      (lists users view place.path FactLines (sends_lines view))
+      (λ meta. refuses view refusal.ListsNoFile))
+
+  -- STAT with an argument
+  abbrev pub status_lines : View → List (List ℕ) → Plan A R K
+  status_lines view lines = tells view (answer.Made (SeveralLines 213 (codes "Status") lines (codes "End")))
+
+  abbrev pub stat_row : Users → View → Place → Plan A R K
+  stat_row users view place = AskStat place.stored (looked_by view place
+      (lists users view place.path LongLines (status_lines view))
+      (λ meta. lists users view place.path LongLines (status_lines view) (itself place.path meta)))
+
+  abbrev pub mlst_by : Users → View → Path → Result Meta StoreFault → Plan A R K
+  mlst_by users view path (Err why) = store_refuses view why
+  mlst_by users view path (Ok meta) = WithLine (FactLine meta view.facts (letters_held users view.name path) (path_text path))
+      (λ line. tells view (answer.Made (SeveralLines 250 (codes "Listing") ((codes " " ++ line) ∷ []) (codes "End"))))
+
+  abbrev pub mlst_row : Users → View → Place → Plan A R K
+  mlst_row users view place = AskStat place.stored (mlst_by users view place.path)

@@ -1,0 +1,55 @@
+//! What a client is told.
+
+ghost use Rattle.std.specs.Prelude.{◌≡◌};
+ghost use Rattle.ftp_reply.specs.Replies.{OneLine};
+ghost use Rattle.session_table.specs.Answers.{answer_form};
+ghost use Rattle.session_table.specs.Notices.{notice_code, notice_text};
+ghost use Rattle.session_table.specs.Refusals.{refusal_code, refusal_text};
+
+use crate::notices::Notice;
+use crate::refusals::Refusal;
+use ftp_reply::{Reply, ReplyCode};
+use ftp_terms::LineText;
+use ftp_wire::LineFault;
+use std::alloc::{Allocator, Global};
+
+/// A reply. Those with a fixed text take no memory.
+#[derive(Drop)]
+pub enum Answer<A: Allocator = Global> {
+    Notice(Notice),
+    Refusal(Refusal),
+    /// The line is no command.
+    Fault(LineFault),
+    /// A reply with a text that was made.
+    Made(Reply<A>),
+}
+
+impl Notice {
+    fn reply<A: Allocator>(self) -> Reply<A>
+        ensures form { result ≡ OneLine (notice_code self) (notice_text self) }
+    {
+        Reply::one_line(ReplyCode::new(self.code()), LineText::fixed(self.text()))
+    }
+}
+
+impl Refusal {
+    fn reply<A: Allocator>(self) -> Reply<A>
+        ensures form { result ≡ OneLine (refusal_code self) (refusal_text self) }
+    {
+        Reply::one_line(ReplyCode::new(self.code()), LineText::fixed(self.text()))
+    }
+}
+
+impl<A: Allocator> Answer<A> {
+    /// The reply that is written, without any memory.
+    pub fn into_reply(self) -> Reply<A>
+        ensures form { result ≡ answer_form self }
+    {
+        match self {
+            Answer::Notice(notice) => notice.reply(),
+            Answer::Refusal(refusal) => refusal.reply(),
+            Answer::Fault(fault) => fault.reply(),
+            Answer::Made(reply) => reply,
+        }
+    }
+}

@@ -1,0 +1,196 @@
+//! The octets of each fixed reply, worked by hand from the table.
+
+use crate::expect::same;
+use ftp_terms::DataType;
+use ftp_wire::LineFault;
+use session_table::{Answer, Notice, Refusal};
+use std::alloc::Global;
+use std::process::Abort;
+use std::test::Fail;
+use virtual_path::PathFault;
+use virtual_tree::StoreFault;
+
+static NOTICES: [(Notice, &str); 10] = [
+    (Notice::Opening, "150 Opening data connection\r\n"),
+    (Notice::Fine, "200 OK\r\n"),
+    (Notice::Utf8IsOn, "200 UTF8 is on\r\n"),
+    (Notice::NoFactsInForce, "200 MLST OPTS\r\n"),
+    (Notice::TypeIs(DataType::Ascii), "200 Type is A\r\n"),
+    (Notice::TypeIs(DataType::Image), "200 Type is I\r\n"),
+    (Notice::ModeIsStream, "200 Mode is S\r\n"),
+    (Notice::StructureIsFile, "200 Structure is F\r\n"),
+    (Notice::OnlyExtended, "200 EPSV ALL is in force\r\n"),
+    (Notice::NoAllocation, "202 No storage allocation needed\r\n"),
+];
+
+static STATES: [(Notice, &str); 8] = [
+    (Notice::TransferInProgress, "211 Transfer in progress\r\n"),
+    (Notice::NoTransfer, "211 No transfer\r\n"),
+    (
+        Notice::Standards,
+        "214 See RFC 959, RFC 2428 and RFC 3659\r\n",
+    ),
+    (Notice::System, "215 UNIX Type: L8\r\n"),
+    (Notice::Goodbye, "221 Goodbye\r\n"),
+    (Notice::NothingToAbort, "225 No transfer\r\n"),
+    (Notice::TransferComplete, "226 Transfer complete\r\n"),
+    (Notice::AbortDone, "226 Abort done\r\n"),
+];
+
+static CHANGES: [(Notice, &str); 6] = [
+    (Notice::DirectoryChanged, "250 Directory changed\r\n"),
+    (Notice::DirectoryRemoved, "250 Directory removed\r\n"),
+    (Notice::FileRemoved, "250 File removed\r\n"),
+    (Notice::Renamed, "250 Renamed\r\n"),
+    (Notice::PasswordRequired, "331 Password required\r\n"),
+    (Notice::SendRnto, "350 Send RNTO\r\n"),
+];
+
+static REFUSED_STORES: [(Refusal, &str); 12] = [
+    (
+        Refusal::Store(StoreFault::NotFound),
+        "550 No such file or directory\r\n",
+    ),
+    (
+        Refusal::Store(StoreFault::NotDir),
+        "550 Not a directory\r\n",
+    ),
+    (Refusal::Store(StoreFault::IsDir), "550 Is a directory\r\n"),
+    (Refusal::Store(StoreFault::Exists), "550 Already exists\r\n"),
+    (
+        Refusal::Store(StoreFault::NotEmpty),
+        "550 Directory not empty\r\n",
+    ),
+    (Refusal::Store(StoreFault::Full), "552 Storage is full\r\n"),
+    (Refusal::Store(StoreFault::Device), "451 Local fault\r\n"),
+    (Refusal::Store(StoreFault::Memory), "451 Out of memory\r\n"),
+    (
+        Refusal::Store(StoreFault::PastEnd),
+        "550 Offset past the end\r\n",
+    ),
+    (
+        Refusal::Store(StoreFault::Inside),
+        "550 Not possible inside itself\r\n",
+    ),
+    (Refusal::Path(PathFault::BadName), "553 Bad name\r\n"),
+    (Refusal::Path(PathFault::TooLong), "553 Name too long\r\n"),
+];
+
+static REFUSED_CONNECTIONS: [(Refusal, &str); 8] = [
+    (Refusal::TooManyLogins, "421 Too many login attempts\r\n"),
+    (Refusal::TooManyHeldLines, "421 Too many held lines\r\n"),
+    (
+        Refusal::NoGuarantee,
+        "421 Guaranteed rate not available\r\n",
+    ),
+    (Refusal::NoDataConnection, "425 No data connection\r\n"),
+    (Refusal::NoPassivePort, "425 No passive port is free\r\n"),
+    (
+        Refusal::NothingPrepared,
+        "425 Use PASV, EPSV, PORT or EPRT first\r\n",
+    ),
+    (Refusal::ConnectionLost, "426 Connection lost\r\n"),
+    (Refusal::TransferAborted, "426 Transfer aborted\r\n"),
+];
+
+static REFUSED_COMMANDS: [(Refusal, &str); 9] = [
+    (Refusal::OnlyExtended, "501 EPSV ALL is in force\r\n"),
+    (Refusal::ForeignAddress, "501 Foreign address\r\n"),
+    (Refusal::PrivilegedPort, "501 Privileged port\r\n"),
+    (Refusal::OffsetNeedsImage, "501 Offset needs TYPE I\r\n"),
+    (Refusal::ListsNoFile, "501 Not a directory\r\n"),
+    (Refusal::NoSource, "503 Send RNFR first\r\n"),
+    (Refusal::OffsetBeforeAppend, "503 REST before APPE\r\n"),
+    (Refusal::NoName, "503 Send USER first\r\n"),
+    (Refusal::AlreadyInside, "503 Already logged in\r\n"),
+];
+
+static REFUSED_USERS: [(Refusal, &str); 5] = [
+    (
+        Refusal::OtherProtocol,
+        "522 Network protocol not supported, use (1)\r\n",
+    ),
+    (Refusal::LogInFirst, "530 Log in first\r\n"),
+    (Refusal::LoginIncorrect, "530 Login incorrect\r\n"),
+    (Refusal::NotPermitted, "550 Not permitted\r\n"),
+    (Refusal::SizeNeedsImage, "550 SIZE needs TYPE I\r\n"),
+];
+
+fn tells(rt: &impl Abort, alloc: Global, answer: Answer<Global>, text: &str) -> Result<(), Fail> {
+    let mut octets = Vec::new(alloc);
+    answer.into_reply().write_to(&mut octets)?;
+    same(rt, octets.as_slice(), text.as_bytes());
+    Ok(())
+}
+
+fn notes(rt: &impl Abort, alloc: Global, rows: &[(Notice, &str)]) -> Result<(), Fail> {
+    for (notice, text) in rows {
+        tells(rt, alloc, Answer::Notice(*notice), text)?;
+    }
+    Ok(())
+}
+
+fn refuses(rt: &impl Abort, alloc: Global, rows: &[(Refusal, &str)]) -> Result<(), Fail> {
+    for (refusal, text) in rows {
+        tells(rt, alloc, Answer::Refusal(*refusal), text)?;
+    }
+    Ok(())
+}
+
+#[test]
+fn notices(rt: HostRuntime) -> Result<(), Fail> {
+    notes(&rt, rt.alloc(), &NOTICES)
+}
+
+#[test]
+fn states(rt: HostRuntime) -> Result<(), Fail> {
+    notes(&rt, rt.alloc(), &STATES)
+}
+
+#[test]
+fn changes(rt: HostRuntime) -> Result<(), Fail> {
+    notes(&rt, rt.alloc(), &CHANGES)
+}
+
+#[test]
+fn refused_stores(rt: HostRuntime) -> Result<(), Fail> {
+    refuses(&rt, rt.alloc(), &REFUSED_STORES)
+}
+
+#[test]
+fn refused_connections(rt: HostRuntime) -> Result<(), Fail> {
+    refuses(&rt, rt.alloc(), &REFUSED_CONNECTIONS)
+}
+
+#[test]
+fn refused_commands(rt: HostRuntime) -> Result<(), Fail> {
+    refuses(&rt, rt.alloc(), &REFUSED_COMMANDS)
+}
+
+#[test]
+fn refused_users(rt: HostRuntime) -> Result<(), Fail> {
+    refuses(&rt, rt.alloc(), &REFUSED_USERS)
+}
+
+#[test]
+fn line_faults(rt: HostRuntime) -> Result<(), Fail> {
+    let alloc = rt.alloc();
+    tells(
+        &rt,
+        alloc,
+        Answer::Fault(LineFault::TooLong),
+        "500 Line too long\r\n",
+    )?;
+    tells(
+        &rt,
+        alloc,
+        Answer::Fault(LineFault::NotServed),
+        "502 Command not served\r\n",
+    )?;
+    tells(
+        &rt,
+        alloc,
+        Answer::Fault(LineFault::BadParameter),
+        "504 Parameter not served\r\n",
+    )
+}

@@ -1,0 +1,15 @@
+//! What tests and measurements of transfers stand on: ends in memory that move few octets at a time and fail when they
+//! are told to, sealed decisions, funds of granted octets, and whole transfers by them.
+#![tactic(auto)]
+
+mod ends;
+mod fault;
+mod funds;
+mod sealing;
+mod transfers;
+
+pub use ends::{Collected, Inlet, Octets, Outlet};
+pub use fault::FundsFault;
+pub use funds::Funds;
+pub use sealing::sealed;
+pub use transfers::{Outcome, receive, send, told};

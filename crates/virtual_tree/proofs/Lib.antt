@@ -1,6 +1,0 @@
-pub mod Fills
-pub mod Listings
-pub mod Moves
-pub mod Places
-pub mod Trees
-pub mod UploadLaws

@@ -1,0 +1,146 @@
+-- The words of a command are taken, and what the parser then holds of them.
+use Rattle.std.proofs.Common.{refl, codes, not, true, false, Bool, ◌&&◌, ◌≡◌, ◌==◌, ℕ, List, [], ◌∷◌, Option, None, Some, ◌⊎◌, inl, inr}
+use Rattle.std.specs.Prelude.{option_map, unwrap_or}
+use Rattle.std.proofs.lemmas.Bool.{ne_eqb}
+use Rattle.clap.specs.Words.{Row, Text, first_of, is_simple, is_simple_and_free, subcommand_of, takes}
+use Rattle.clap.proofs.OnLiterals.{clap_on_literals}
+use Rattle.command_line.specs.Commands.{program}
+use Rattle.clap.specs.Words.{IsAmong, Kinds}
+use Rattle.clap.specs.declared.error.kind.ErrorKind.{ErrorKind}
+use Rattle.clap.specs.declared.error.kind.ErrorKind.TheVariants.{OutOfMemory}
+use Rattle.command_line.specs.declared.words.WordsFault.{WordsFault}
+use Rattle.command_line.specs.declared.words.WordsFault.TheVariants.{Memory, Refused}
+use Rattle.command_line.specs.Given.{IsPlainWord, IsRefusal, IsRefusedAs}
+
+-- a plain command has no global argument
+pub no_globals : (a b g d : Bool) → (a && (not b && (not g && d))) ≡ true → g ≡ false
+no_globals a b false d e = refl
+no_globals false b true d e = cc
+no_globals true false true d e = cc
+no_globals true true true d e = cc
+
+pub program_is_simple : is_simple program ≡ true
+unfolding clap_on_literals
+program_is_simple = refl
+
+pub program_is_free : is_simple_and_free program ≡ true
+unfolding clap_on_literals
+program_is_free = refl
+
+abbrev pub rows_in : Option (Text × List Row) → List Row
+rows_in found = unwrap_or (option_map (λ p. p.1) found) []
+
+share_taken : (b : ℕ) (bs : List ℕ) → (b == 45) ≡ false → takes program (codes "share" ∷ (b ∷ bs) ∷ []) ≡ true
+unfolding clap_on_literals
+share_taken b bs ne = simp ne refl
+
+share_entered : (b : ℕ) (bs : List ℕ) → (b == 45) ≡ false
+    → subcommand_of program (codes "share" ∷ (b ∷ bs) ∷ [])
+    ≡ Some (codes "share", rows_in (subcommand_of program (codes "share" ∷ (b ∷ bs) ∷ [])))
+unfolding clap_on_literals
+share_entered b bs ne = simp ne refl
+
+share_first : (b : ℕ) (bs : List ℕ) → (b == 45) ≡ false
+    → first_of (codes "SHEET") (rows_in (subcommand_of program (codes "share" ∷ (b ∷ bs) ∷ []))) ≡ Some (b ∷ bs)
+unfolding clap_on_literals
+share_first b bs ne = simp ne refl
+
+-- what the parser makes of the words of `share`
+pub record Shares (word : List ℕ) : Type 0 where
+  pub rows : List Row
+  pub taken : takes program (codes "share" ∷ word ∷ []) ≡ true
+  pub entered : subcommand_of program (codes "share" ∷ word ∷ []) ≡ Some (codes "share", rows)
+  pub sheet : first_of (codes "SHEET") rows ≡ Some word
+
+pub shares : (word : List ℕ) → IsPlainWord word → Shares word
+shares [] plain = absurd plain
+shares (b ∷ bs) plain =
+    let ne = ne_eqb _ _ plain in
+    record { rows = _; taken = share_taken b bs ne; entered = share_entered b bs ne; sheet = share_first b bs ne }
+
+check_taken : (b d : ℕ) (bs ds : List ℕ) → (b == 45) ≡ false → (d == 45) ≡ false → takes program (codes "check" ∷ (b ∷ bs) ∷ (d ∷ ds) ∷ []) ≡ true
+unfolding clap_on_literals
+check_taken b d bs ds ne nf = simp (ne, nf) refl
+
+check_entered : (b d : ℕ) (bs ds : List ℕ) → (b == 45) ≡ false → (d == 45) ≡ false
+    → subcommand_of program (codes "check" ∷ (b ∷ bs) ∷ (d ∷ ds) ∷ [])
+    ≡ Some (codes "check", rows_in (subcommand_of program (codes "check" ∷ (b ∷ bs) ∷ (d ∷ ds) ∷ [])))
+unfolding clap_on_literals
+check_entered b d bs ds ne nf = simp (ne, nf) refl
+
+check_first : (b d : ℕ) (bs ds : List ℕ) → (b == 45) ≡ false → (d == 45) ≡ false
+    → first_of (codes "SHEET") (rows_in (subcommand_of program (codes "check" ∷ (b ∷ bs) ∷ (d ∷ ds) ∷ []))) ≡ Some (b ∷ bs)
+unfolding clap_on_literals
+check_first b d bs ds ne nf = simp (ne, nf) refl
+
+check_second : (b d : ℕ) (bs ds : List ℕ) → (b == 45) ≡ false → (d == 45) ≡ false
+    → first_of (codes "GRANTS") (rows_in (subcommand_of program (codes "check" ∷ (b ∷ bs) ∷ (d ∷ ds) ∷ []))) ≡ Some (d ∷ ds)
+unfolding clap_on_literals
+check_second b d bs ds ne nf = simp (ne, nf) refl
+
+-- what the parser makes of the words of `check`
+pub record Checks (first second : List ℕ) : Type 0 where
+  pub rows : List Row
+  pub taken : takes program (codes "check" ∷ first ∷ second ∷ []) ≡ true
+  pub entered : subcommand_of program (codes "check" ∷ first ∷ second ∷ []) ≡ Some (codes "check", rows)
+  pub sheet : first_of (codes "SHEET") rows ≡ Some first
+  pub grants : first_of (codes "GRANTS") rows ≡ Some second
+
+pub checks : (first second : List ℕ) → IsPlainWord first → IsPlainWord second → Checks first second
+checks [] second plain also = absurd plain
+checks (b ∷ bs) [] plain also = absurd also
+checks (b ∷ bs) (d ∷ ds) plain also =
+    let ne = ne_eqb _ _ plain in
+    let nf = ne_eqb _ _ also in
+    record { rows = _; taken = check_taken b d bs ds ne nf; entered = check_entered b d bs ds ne nf; sheet = check_first b d bs ds ne nf; grants = check_second b d bs ds ne nf }
+
+migrate_taken : (b : ℕ) (bs : List ℕ) → (b == 45) ≡ false → takes program (codes "migrate" ∷ (b ∷ bs) ∷ []) ≡ true
+unfolding clap_on_literals
+migrate_taken b bs ne = simp ne refl
+
+migrate_entered : (b : ℕ) (bs : List ℕ) → (b == 45) ≡ false
+    → subcommand_of program (codes "migrate" ∷ (b ∷ bs) ∷ [])
+    ≡ Some (codes "migrate", rows_in (subcommand_of program (codes "migrate" ∷ (b ∷ bs) ∷ [])))
+unfolding clap_on_literals
+migrate_entered b bs ne = simp ne refl
+
+migrate_first : (b : ℕ) (bs : List ℕ) → (b == 45) ≡ false
+    → first_of (codes "CONFIG") (rows_in (subcommand_of program (codes "migrate" ∷ (b ∷ bs) ∷ []))) ≡ Some (b ∷ bs)
+unfolding clap_on_literals
+migrate_first b bs ne = simp ne refl
+
+-- what the parser makes of the words of `migrate`
+pub record Migrates (word : List ℕ) : Type 0 where
+  pub rows : List Row
+  pub taken : takes program (codes "migrate" ∷ word ∷ []) ≡ true
+  pub entered : subcommand_of program (codes "migrate" ∷ word ∷ []) ≡ Some (codes "migrate", rows)
+  pub config : first_of (codes "CONFIG") rows ≡ Some word
+
+pub migrates : (word : List ℕ) → IsPlainWord word → Migrates word
+migrates [] plain = absurd plain
+migrates (b ∷ bs) plain =
+    let ne = ne_eqb _ _ plain in
+    record { rows = _; taken = migrate_taken b bs ne; entered = migrate_entered b bs ne; config = migrate_first b bs ne }
+
+-- an error of one of those kinds is told as a refusal of one of them
+pub refusal : (kinds : Kinds) (kind : ErrorKind) (fault : WordsFault) → (kind ≡ OutOfMemory → fault ≡ Memory) → IsRefusedAs kind fault
+    → (kind ≡ OutOfMemory) ⊎ IsAmong kind kinds → IsRefusal kinds fault
+refusal kinds kind Memory memory refused among = tt
+refusal kinds kind (Refused text is_help) memory refused (inl out) = let no = memory out in cc
+refusal kinds kind (Refused text is_help) memory refused (inr among) = (kind, among, refused)
+
+abbrev pub named : {S : Type 0} → (S → Text) → (S → List Row) → S → Text × List Row
+named name rows s = (name s, rows s)
+
+abbrev pub rows_of_named : Text × List Row → List Row
+rows_of_named pair = pair.1
+
+-- the name and the rows of what was found, read one by one
+pub named_rows : {S : Type 0} (name : S → Text) (rows : S → List Row) (found : Option S) (n : Text) (r : List Row)
+    → option_map name found ≡ Some n → option_map rows_of_named (option_map (named name rows) found) ≡ Some r
+    → option_map (named name rows) found ≡ Some (n, r)
+named_rows name rows None n r name_is rows_are = cc
+named_rows name rows (Some s) n r name_is rows_are =
+    let first : name s ≡ n = cc in
+    let second : rows s ≡ r = cc in
+    rw (first, second) refl

@@ -1,0 +1,46 @@
+use Rattle.std.proofs.Common.{ap, refl, sym, rules, [], Some, None, ◌≡◌, ◌∙◌}
+use Rattle.std.specs.Prelude.{unwrap_or}
+use Rattle.clap.specs.Words.{found_of, rows_of}
+use Rattle.clap.proofs.WalkLemmas.{first_value-rows}
+use Rattle.command_line.proofs.Taken.{named_rows}
+use Rattle.command_line.proofs.words.check_given.Goals as goal
+
+pub returns-in_err-sheet : goal.returns-in_err-sheet
+returns-in_err-sheet c = record {
+  check = λ rows first second is one two.
+      let inner = c.in_ok-inner.inner.now in
+      let same : Some rows ≡ Some (rows_of (found_of inner)) = rw is at c.in_ok-inner.ensures.rows in
+      let rows_are : rows ≡ rows_of (found_of inner) = ap (λ o. unwrap_or o []) same in
+      let none : None ≡ Some first = c.in_err-sheet.ensures ∙ first_value-rows (found_of inner) _ ∙ rw (← rows_are) one in
+      cc;
+  found = search rules;
+}
+
+pub returns-in_err-grants : goal.returns-in_err-grants
+returns-in_err-grants c = record {
+  check = λ rows first second is one two.
+      let inner = c.in_ok-inner.inner.now in
+      let same : Some rows ≡ Some (rows_of (found_of inner)) = rw is at c.in_ok-inner.ensures.rows in
+      let rows_are : rows ≡ rows_of (found_of inner) = ap (λ o. unwrap_or o []) same in
+      let none : None ≡ Some second = c.in_err-grants.ensures ∙ first_value-rows (found_of inner) _ ∙ rw (← rows_are) two in
+      cc;
+  found = search rules;
+}
+
+pub returns : goal.returns
+returns c = record {
+  check = λ rows first second is one two.
+      let inner = c.in_ok-inner.inner.now in
+      let same : Some rows ≡ Some (rows_of (found_of inner)) = rw is at c.in_ok-inner.ensures.rows in
+      let rows_are : rows ≡ rows_of (found_of inner) = ap (λ o. unwrap_or o []) same in
+      let sheet : Some c.in_ok-sheet.sheet.now ≡ Some first = c.in_ok-sheet.ensures ∙ first_value-rows (found_of inner) _ ∙ rw (← rows_are) one in
+      let grants : Some c.in_ok-grants.grants.now ≡ Some second = c.in_ok-grants.ensures ∙ first_value-rows (found_of inner) _ ∙ rw (← rows_are) two in
+      (ap (λ o. unwrap_or o []) sheet, ap (λ o. unwrap_or o []) grants);
+  found =
+      let inner = c.in_ok-inner.inner.now in (
+        rows_of (found_of inner),
+        named_rows _ _ _ _ _ (c.in_ok-inner.ensures.found.0 refl) c.in_ok-inner.ensures.rows,
+        sym (c.in_ok-sheet.ensures ∙ first_value-rows (found_of inner) _),
+        sym (c.in_ok-grants.ensures ∙ first_value-rows (found_of inner) _),
+      );
+}

@@ -1,0 +1,59 @@
+-- What words give, and how they are refused.
+use Rattle.std.specs.Prelude.{◌≡◌, ◌≢◌, ◌↔◌, ◌⊎◌, ℕ, List, [], ◌∷◌, IsTrue, MatchResult, Option, Result, Some, codes}
+use Rattle.clap.specs.Words.{IsAmong, Kinds, Row, Text, first_of}
+use Rattle.clap.specs.declared.error.kind.ErrorKind.{ErrorKind}
+use Rattle.clap.specs.declared.error.kind.ErrorKind.TheVariants.{DisplayHelp, DisplayVersion}
+use Rattle.command_line.specs.declared.words.Words.{Words}
+use Rattle.command_line.specs.declared.words.Words.TheVariants.{Share, Check, Migrate}
+use Rattle.command_line.specs.declared.words.WordsFault.{WordsFault}
+use Rattle.command_line.specs.declared.words.WordsFault.TheVariants.{Refused, Memory}
+
+-- a word that is not empty and does not begin with `-`
+abbrev pub IsPlainWord : List ℕ → Type 0
+IsPlainWord [] = ⊥
+IsPlainWord (octet ∷ rest) = octet ≢ 45
+
+-- the command `share` of that sheet
+abbrev pub IsShare : List ℕ → Words → Type 0
+IsShare word (Share sheet) = sheet.now ≡ word
+IsShare word (Check sheet grants) = ⊥
+IsShare word (Migrate config) = ⊥
+
+-- the command `check` of that sheet and those grants
+abbrev pub IsCheck : List ℕ → List ℕ → Words → Type 0
+IsCheck first second (Share sheet) = ⊥
+IsCheck first second (Check sheet grants) = (sheet.now ≡ first) × (grants.now ≡ second)
+IsCheck first second (Migrate config) = ⊥
+
+-- the command `migrate` of that configuration
+abbrev pub IsMigrate : List ℕ → Words → Type 0
+IsMigrate word (Share sheet) = ⊥
+IsMigrate word (Check sheet grants) = ⊥
+IsMigrate word (Migrate config) = config.now ≡ word
+
+-- the parser found the command, and the words after it
+abbrev pub IsFound : Option (Text × List Row) → Words → Type 0
+IsFound found (Share sheet) =
+    (rows : List Row) × (found ≡ Some (codes "share", rows)) × (first_of (codes "SHEET") rows ≡ Some sheet.now)
+IsFound found (Check sheet grants) =
+    (rows : List Row) × (found ≡ Some (codes "check", rows)) × (first_of (codes "SHEET") rows ≡ Some sheet.now) × (first_of (codes "GRANTS") rows ≡ Some grants.now)
+IsFound found (Migrate config) =
+    (rows : List Row) × (found ≡ Some (codes "migrate", rows)) × (first_of (codes "CONFIG") rows ≡ Some config.now)
+
+-- the words are given, or memory ran out
+abbrev pub GivesOrMemory : (Words → Type 0) → Result Words WordsFault → Type 0
+GivesOrMemory P r = MatchResult r P (λ fault. fault ≡ Memory)
+
+-- the words asked for help or the version
+abbrev pub IsHelp : ErrorKind → Type 0
+IsHelp kind = (kind ≡ DisplayHelp) ⊎ (kind ≡ DisplayVersion)
+
+-- memory ran out, or the fault tells a refusal of that kind
+abbrev pub IsRefusedAs : ErrorKind → WordsFault → Type 0
+IsRefusedAs kind (Refused text is_help) = IsTrue is_help ↔ IsHelp kind
+IsRefusedAs kind Memory = Unit {0}
+
+-- memory ran out, or the fault tells a refusal of one of those kinds
+abbrev pub IsRefusal : Kinds → WordsFault → Type 0
+IsRefusal kinds (Refused text is_help) = (kind : ErrorKind) × IsAmong kind kinds × (IsTrue is_help ↔ IsHelp kind)
+IsRefusal kinds Memory = Unit {0}

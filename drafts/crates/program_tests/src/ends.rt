@@ -1,0 +1,75 @@
+//! Ends that fail in mid-stream.
+use std::io;
+use std::io::{ErrorKind, Read, Write};
+
+/// Gives its octets, at most `step` at a time, and fails after them.
+#[derive(Drop)]
+pub struct FailingReader<'a> {
+    pub rest: &'a [u8],
+    pub step: usize,
+}
+
+impl Read for FailingReader<'_> {
+    ghost use Rattle.std.specs.Prelude.{Some};
+
+    ghost remaining = { λ r. Some r.rest.now };
+
+    fn read(&mut self, buffer: &mut [u8]) -> io::Result<usize> {
+        let count = self.rest.len().min(self.step).min(buffer.len());
+        if count == 0 {
+            return Err(io::Error::from(ErrorKind::ConnectionReset));
+        }
+        let (front, rest) = self.rest.split_at(count);
+        buffer[..count].copy_from_slice(front);
+        self.rest = rest;
+        Ok(count)
+    }
+}
+
+/// Gives its octets one at a time, and is interrupted before each.
+#[derive(Drop)]
+pub struct InterruptedReader<'a> {
+    pub rest: &'a [u8],
+    pub is_ready: bool,
+}
+
+impl Read for InterruptedReader<'_> {
+    ghost use Rattle.std.specs.Prelude.{Some};
+
+    ghost remaining = { λ r. Some r.rest.now };
+
+    fn read(&mut self, buffer: &mut [u8]) -> io::Result<usize> {
+        self.is_ready = !self.is_ready;
+        if self.is_ready {
+            return Err(io::Error::from(ErrorKind::Interrupted));
+        }
+        let count = self.rest.len().min(1).min(buffer.len());
+        let (front, rest) = self.rest.split_at(count);
+        buffer[..count].copy_from_slice(front);
+        self.rest = rest;
+        Ok(count)
+    }
+}
+
+/// Takes `left` octets and then fails.
+#[derive(Drop)]
+pub struct FailingWriter<'a> {
+    pub taken: &'a mut Vec<u8>,
+    pub left: usize,
+}
+
+impl Write for FailingWriter<'_> {
+    fn write(&mut self, octets: &[u8]) -> io::Result<usize> {
+        let count = octets.len().min(self.left);
+        if count == 0 {
+            return Err(io::Error::from(ErrorKind::BrokenPipe));
+        }
+        self.taken.extend_from_slice(&octets[..count])?;
+        self.left -= count;
+        Ok(count)
+    }
+
+    fn flush(&mut self) -> io::Result<()> {
+        Ok(())
+    }
+}

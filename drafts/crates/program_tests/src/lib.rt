@@ -1,0 +1,18 @@
+//! Tests of the command line, of the commands on sheets, and of the program that joins them, by their public calls
+//! alone.
+#![tactic(auto)]
+
+#[cfg(test)]
+mod ends;
+#[cfg(test)]
+mod expect;
+#[cfg(test)]
+mod program;
+#[cfg(test)]
+mod rows;
+#[cfg(test)]
+mod shortages;
+#[cfg(test)]
+mod texts;
+#[cfg(test)]
+mod words;

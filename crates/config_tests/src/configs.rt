@@ -81,7 +81,13 @@ fn octets_of(
 
 /// The configuration is that of the small file.
 fn is_small(rt: &(impl Abort + Alloc<A = Global>), config: Config) -> Result<(), Fail> {
-    let users = config.users;
+    let Config {
+        terms,
+        numbers,
+        users,
+        store,
+        limits: _limits,
+    } = config;
     holds(
         rt,
         users.number("ann") == Some(0) && users.number("bob") == Some(1),
@@ -96,27 +102,24 @@ fn is_small(rt: &(impl Abort + Alloc<A = Global>), config: Config) -> Result<(),
     );
     holds(
         rt,
-        config.terms.banner.as_str() == "Ready" && config.terms.login_attempts == 3,
+        terms.banner.as_str() == "Ready" && terms.login_attempts == 3,
     );
     holds(
         rt,
-        config.terms.address == [127, 0, 0, 1] && config.numbers.address == [127, 0, 0, 1],
+        terms.address == [127, 0, 0, 1] && numbers.address == [127, 0, 0, 1],
     );
+    holds(rt, numbers.port == 2121 && numbers.lanes == 16);
     holds(
         rt,
-        config.numbers.port == 2121 && config.numbers.lanes == 16,
+        numbers.passive_first == 40000 && numbers.passive_last == 40001,
     );
-    holds(
-        rt,
-        config.numbers.passive_first == 40000 && config.numbers.passive_last == 40001,
-    );
-    match config.store {
-        ServedStore::Memory(store) => {
-            let mut store = store;
-            let (modified, count) = octets_of(rt, &mut store)?;
+    match store {
+        ServedStore::Memory(files) => {
+            let mut files = files;
+            let (modified, count) = octets_of(rt, &mut files)?;
             holds(rt, modified == 951_827_696 && count == 3);
         }
-        ServedStore::Folder(_) => return Err("a folder".into()),
+        ServedStore::Folder(_folder) => return Err("a folder".into()),
     }
     Ok(())
 }
@@ -140,7 +143,13 @@ fn in_version_2_it_is_the_same(rt: HostRuntime) -> Result<(), Fail> {
 #[test]
 fn groups_set_limits(rt: HostRuntime) -> Result<(), Fail> {
     let config = Config::read(rt.alloc(), GROUPED.as_bytes())?;
-    let limits = config.limits;
+    let Config {
+        terms,
+        numbers,
+        users,
+        store,
+        limits,
+    } = config;
     holds(
         &rt,
         limits.rate(Name::Server) == 100 && limits.rate(Name::Direction(Way::Down)) == 60,
@@ -157,7 +166,6 @@ fn groups_set_limits(rt: HostRuntime) -> Result<(), Fail> {
         &rt,
         limits.group_of(0) == Some(1) && limits.group_of(1).is_none(),
     );
-    let users = config.users;
     holds(
         &rt,
         users.group("ann") == Some(1) && users.group("anonymous").is_none(),
@@ -168,11 +176,11 @@ fn groups_set_limits(rt: HostRuntime) -> Result<(), Fail> {
     );
     holds(
         &rt,
-        config.terms.address == [203, 0, 113, 7] && config.numbers.address == [0, 0, 0, 0],
+        terms.address == [203, 0, 113, 7] && numbers.address == [0, 0, 0, 0],
     );
-    match config.store {
+    match store {
         ServedStore::Folder(text) => holds(&rt, text.as_str() == "/srv/ftp"),
-        ServedStore::Memory(_) => return Err("in memory".into()),
+        ServedStore::Memory(_store) => return Err("in memory".into()),
     }
     Ok(())
 }

@@ -83,7 +83,7 @@ pub fn config_of(alloc: Global, document: &Table) -> Result<Config, ConfigFault>
 }
 
 impl Config {
-    /// Reads the configuration of a server. `Err` is the file's first fault, or want of memory.
+    /// Reads the configuration of a server. `Err` is the file's first fault, or lack of memory.
     pub fn read(alloc: Global, octets: &[u8]) -> Result<Config, ConfigFault>
         ensures config { IfOk result (IsConfigText octets.now) }
     {

@@ -94,6 +94,34 @@ checks (b ∷ bs) (d ∷ ds) plain also =
     let nf = ne_eqb _ _ also in
     record { rows = _; taken = check_taken b d bs ds ne nf; entered = check_entered b d bs ds ne nf; sheet = check_first b d bs ds ne nf; grants = check_second b d bs ds ne nf }
 
+migrate_taken : (b : ℕ) (bs : List ℕ) → (b == 45) ≡ false → takes program (codes "migrate" ∷ (b ∷ bs) ∷ []) ≡ true
+unfolding clap_on_literals
+migrate_taken b bs ne = simp ne refl
+
+migrate_entered : (b : ℕ) (bs : List ℕ) → (b == 45) ≡ false
+    → subcommand_of program (codes "migrate" ∷ (b ∷ bs) ∷ [])
+    ≡ Some (codes "migrate", rows_in (subcommand_of program (codes "migrate" ∷ (b ∷ bs) ∷ [])))
+unfolding clap_on_literals
+migrate_entered b bs ne = simp ne refl
+
+migrate_first : (b : ℕ) (bs : List ℕ) → (b == 45) ≡ false
+    → first_of (codes "CONFIG") (rows_in (subcommand_of program (codes "migrate" ∷ (b ∷ bs) ∷ []))) ≡ Some (b ∷ bs)
+unfolding clap_on_literals
+migrate_first b bs ne = simp ne refl
+
+-- what the parser makes of the words of `migrate`
+pub record Migrates (word : List ℕ) : Type 0 where
+  pub rows : List Row
+  pub taken : takes program (codes "migrate" ∷ word ∷ []) ≡ true
+  pub entered : subcommand_of program (codes "migrate" ∷ word ∷ []) ≡ Some (codes "migrate", rows)
+  pub config : first_of (codes "CONFIG") rows ≡ Some word
+
+pub migrates : (word : List ℕ) → IsPlainWord word → Migrates word
+migrates [] plain = absurd plain
+migrates (b ∷ bs) plain =
+    let ne = ne_eqb _ _ plain in
+    record { rows = _; taken = migrate_taken b bs ne; entered = migrate_entered b bs ne; config = migrate_first b bs ne }
+
 -- an error of one of those kinds is told as a refusal of one of them
 pub refusal : (kinds : Kinds) (kind : ErrorKind) (fault : WordsFault) → (kind ≡ OutOfMemory → fault ≡ Memory) → IsRefusedAs kind fault
     → (kind ≡ OutOfMemory) ⊎ IsAmong kind kinds → IsRefusal kinds fault

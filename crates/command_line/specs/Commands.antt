@@ -19,6 +19,10 @@ share = with_rule (bare (codes "share")) (file_rule (codes "SHEET"))
 abbrev pub check : App
 check = with_rule (with_rule (bare (codes "check")) (file_rule (codes "SHEET"))) (file_rule (codes "GRANTS"))
 
+-- `migrate CONFIG`
+abbrev pub migrate : App
+migrate = with_rule (bare (codes "migrate")) (file_rule (codes "CONFIG"))
+
 -- the program with no command yet; its first word is no program's name
 abbrev pub top : App
 top =
@@ -26,4 +30,4 @@ top =
     record app { top = record app.top { no_binary_name = true; has_version = true; subcommand_required = true } }
 
 abbrev pub program : App
-program = with_subcommand (with_subcommand top share.top) check.top
+program = with_subcommand (with_subcommand (with_subcommand top share.top) check.top) migrate.top

@@ -3,6 +3,7 @@
 //! ```text
 //! ftpd share SHEET
 //! ftpd check SHEET GRANTS
+//! ftpd migrate CONFIG
 //! ```
 #![tactic(auto)]
 

@@ -1,8 +1,8 @@
 //! The words of a command line.
-ghost use Rattle.std.specs.Prelude.{◌≡◌, ◌↔◌, ◌∷◌, [], ℕ, List, Some, IfOk, IfErr, IfSome, IsSomeAnd, IsTrue, false, map, codes};
-ghost use Rattle.clap.specs.Words.{Row, app_of, fault_of, first_of, kind_of, rule_of, subcommand_of, subcommand_rows_of};
-ghost use Rattle.command_line.specs.Commands.{bare, check, file_rule, program, share};
-ghost use Rattle.command_line.specs.Given.{GivesOrMemory, IsCheck, IsFound, IsHelp, IsPlainWord, IsRefusal, IsRefusedAs, IsShare};
+ghost use Rattle.std.specs.Prelude.{◌≡◌, ◌↔◌, ◌∷◌, [], ℕ, List, Some, IfOk, IfErr, IfSome, IsSomeAnd, IsTrue, false, map, codes, option_map};
+ghost use Rattle.clap.specs.Words.{Row, app_of, fault_of, first_of, kind_of, rule_of, subcommand_of, subcommand_rows_of, with_rule};
+ghost use Rattle.command_line.specs.Commands.{bare, check, file_rule, migrate, program, share, top};
+ghost use Rattle.command_line.specs.Given.{GivesOrMemory, IsCheck, IsFound, IsHelp, IsMigrate, IsPlainWord, IsRefusal, IsRefusedAs, IsShare};
 
 use clap::error::ErrorKind;
 use clap::{Arg, ArgAction, ArgMatches, Command, Error};
@@ -15,6 +15,8 @@ pub enum Words<'a> {
     Share { sheet: &'a str },
     /// Check the grants of a file within the limits of a sheet; the paths of both.
     Check { sheet: &'a str, grants: &'a str },
+    /// Print a configuration in its latest version; its path.
+    Migrate { config: &'a str },
 }
 
 /// Why the words give no command.
@@ -45,49 +47,70 @@ fn bare_command<'a>(alloc: Global, name: &'a str, about: &'a str) -> Command<'a>
     Command::new(alloc, name).about(about).after_help(STATUSES)
 }
 
+/// The command with the path of one file more.
+fn with_file<'a>(
+    alloc: Global,
+    command: Command<'a>,
+    id: &'a str,
+    help: &'a str,
+) -> Result<Command<'a>, AllocError>
+    ensures rule { IfOk result (λ c. app_of c ≡ with_rule (app_of command.entry) (file_rule id.entry.now)) }
+{
+    let command = command.arg(file(alloc, id, help))?;
+    Ok(command)
+}
+
 fn share_command<'a>(alloc: Global) -> Result<Command<'a>, AllocError>
     ensures share { IfOk result (λ c. app_of c ≡ share) }
 {
     let about = "Share the limits of a sheet: who gets how much, and which limit holds whom back";
-    let sheet = file(
-        alloc,
-        "SHEET",
-        "File of lines `limit PATH N`, `want PATH N` or `want PATH N FLOOR`, or /dev/stdin",
-    );
-    let command = bare_command(alloc, "share", about).arg(sheet)?;
-    Ok(command)
+    let sheet = "File of lines `limit PATH N`, `want PATH N` or `want PATH N FLOOR`, or /dev/stdin";
+    with_file(alloc, bare_command(alloc, "share", about), "SHEET", sheet)
 }
 
 fn check_command<'a>(alloc: Global) -> Result<Command<'a>, AllocError>
     ensures check { IfOk result (λ c. app_of c ≡ check) }
 {
     let about = "Check grants within the limits of a sheet: yes, or no and the first flaw";
-    let sheet = file(
-        alloc,
-        "SHEET",
-        "File of limits and wants, as for `share`, or /dev/stdin",
-    );
-    let grants = file(
-        alloc,
-        "GRANTS",
-        "File of lines `grant PATH N` or `grant PATH N NODE`, in the order of the wants, or /dev/stdin",
-    );
-    let command = bare_command(alloc, "check", about).arg(sheet)?.arg(grants)?;
-    Ok(command)
+    let sheet = "File of limits and wants, as for `share`, or /dev/stdin";
+    let grants =
+        "File of lines `grant PATH N` or `grant PATH N NODE`, in the order of the wants, or /dev/stdin";
+    let command = with_file(alloc, bare_command(alloc, "check", about), "SHEET", sheet)?;
+    with_file(alloc, command, "GRANTS", grants)
 }
 
-fn program_command<'a>(alloc: Global) -> Result<Command<'a>, AllocError>
-    ensures program { IfOk result (λ c. app_of c ≡ program) }
+fn migrate_command<'a>(alloc: Global) -> Result<Command<'a>, AllocError>
+    ensures migrate { IfOk result (λ c. app_of c ≡ migrate) }
 {
-    let share = share_command(alloc)?;
-    let check = check_command(alloc)?;
+    let about = "Print a configuration in its latest version";
+    let config = "File of a configuration, in TOML, or /dev/stdin";
+    with_file(
+        alloc,
+        bare_command(alloc, "migrate", about),
+        "CONFIG",
+        config,
+    )
+}
+
+fn top_command<'a>(alloc: Global) -> Result<Command<'a>, AllocError>
+    ensures top { IfOk result (λ c. app_of c ≡ top) }
+{
     let about = "Share bandwidth among transfers under nested limits";
     let top = bare_command(alloc, "ftpd", about)
         .no_binary_name(true)
         .version("1")
         .subcommand_required(true)
         .bin_name("ftpd")?;
-    let command = top.subcommand(share)?.subcommand(check)?;
+    Ok(top)
+}
+
+fn program_command<'a>(alloc: Global) -> Result<Command<'a>, AllocError>
+    ensures program { IfOk result (λ c. app_of c ≡ program) }
+{
+    let top = top_command(alloc)?;
+    let with_share = top.subcommand(share_command(alloc)?)?;
+    let with_check = with_share.subcommand(check_command(alloc)?)?;
+    let command = with_check.subcommand(migrate_command(alloc)?)?;
     Ok(command)
 }
 
@@ -114,13 +137,24 @@ fn refused(alloc: Global, error: &Error) -> WordsFault
     }
 }
 
+/// What a command's argument of that name is, where the words have that command.
+fn word_of<'a>(matches: &ArgMatches<'a>, command: &str, id: &str) -> Option<&'a str>
+    ensures given { (rows : List Row) (word : List ℕ) → subcommand_rows_of matches.now ≡ Some (command.now, rows)
+        → first_of id.now rows ≡ Some word → option_map (λ w. w.now) result ≡ Some word }
+    ensures found { IfSome result (λ word. (rows : List Row)
+        × (subcommand_rows_of matches.now ≡ Some (command.now, rows)) × (first_of id.now rows ≡ Some word.now)) }
+{
+    let inner = matches.subcommand_matches(command)?;
+    let word = inner.get_str(id)?;
+    Some(word)
+}
+
 fn share_given<'a>(matches: &ArgMatches<'a>) -> Option<Words<'a>>
     ensures share { (rows : List Row) (word : List ℕ) → subcommand_rows_of matches.now ≡ Some (codes "share", rows)
         → first_of (codes "SHEET") rows ≡ Some word → IsSomeAnd result (IsShare word) }
     ensures found { IfSome result (IsFound (subcommand_rows_of matches.now)) }
 {
-    let inner = matches.subcommand_matches("share")?;
-    let sheet = inner.get_str("SHEET")?;
+    let sheet = word_of(matches, "share", "SHEET")?;
     Some(Words::Share { sheet })
 }
 
@@ -129,10 +163,18 @@ fn check_given<'a>(matches: &ArgMatches<'a>) -> Option<Words<'a>>
         → first_of (codes "SHEET") rows ≡ Some first → first_of (codes "GRANTS") rows ≡ Some second → IsSomeAnd result (IsCheck first second) }
     ensures found { IfSome result (IsFound (subcommand_rows_of matches.now)) }
 {
-    let inner = matches.subcommand_matches("check")?;
-    let sheet = inner.get_str("SHEET")?;
-    let grants = inner.get_str("GRANTS")?;
+    let sheet = word_of(matches, "check", "SHEET")?;
+    let grants = word_of(matches, "check", "GRANTS")?;
     Some(Words::Check { sheet, grants })
+}
+
+fn migrate_given<'a>(matches: &ArgMatches<'a>) -> Option<Words<'a>>
+    ensures migrate { (rows : List Row) (word : List ℕ) → subcommand_rows_of matches.now ≡ Some (codes "migrate", rows)
+        → first_of (codes "CONFIG") rows ≡ Some word → IsSomeAnd result (IsMigrate word) }
+    ensures found { IfSome result (IsFound (subcommand_rows_of matches.now)) }
+{
+    let config = word_of(matches, "migrate", "CONFIG")?;
+    Some(Words::Migrate { config })
 }
 
 fn given<'a>(matches: &ArgMatches<'a>) -> Option<Words<'a>>
@@ -140,11 +182,16 @@ fn given<'a>(matches: &ArgMatches<'a>) -> Option<Words<'a>>
         → first_of (codes "SHEET") rows ≡ Some word → IsSomeAnd result (IsShare word) }
     ensures check { (rows : List Row) (first second : List ℕ) → subcommand_rows_of matches.now ≡ Some (codes "check", rows)
         → first_of (codes "SHEET") rows ≡ Some first → first_of (codes "GRANTS") rows ≡ Some second → IsSomeAnd result (IsCheck first second) }
+    ensures migrate { (rows : List Row) (word : List ℕ) → subcommand_rows_of matches.now ≡ Some (codes "migrate", rows)
+        → first_of (codes "CONFIG") rows ≡ Some word → IsSomeAnd result (IsMigrate word) }
     ensures found { IfSome result (IsFound (subcommand_rows_of matches.now)) }
 {
-    match share_given(matches) {
+    if let Some(words) = share_given(matches) {
+        return Some(words);
+    }
+    match check_given(matches) {
         Some(words) => Some(words),
-        None => check_given(matches),
+        None => migrate_given(matches),
     }
 }
 
@@ -157,6 +204,8 @@ pub fn read_words<'a>(alloc: Global, words: &'a [&'a str]) -> Result<Words<'a>, 
         → GivesOrMemory (IsShare word) result }
     ensures check { (first second : List ℕ) → IsPlainWord first → IsPlainWord second → map (λ s. s.now) words.now ≡ codes "check" ∷ first ∷ second ∷ []
         → GivesOrMemory (IsCheck first second) result }
+    ensures migrate { (word : List ℕ) → IsPlainWord word → map (λ s. s.now) words.now ≡ codes "migrate" ∷ word ∷ []
+        → GivesOrMemory (IsMigrate word) result }
     ensures refused { IfErr result (IsRefusal (fault_of program (map (λ s. s.now) words.now))) }
     ensures given { IfOk result (λ _. fault_of program (map (λ s. s.now) words.now) ≡ []) }
     ensures found { IfOk result (IsFound (subcommand_of program (map (λ s. s.now) words.now))) }

@@ -2,8 +2,7 @@
 
 use crate::expect::holds;
 use config_store::ServedStore;
-use line_rates::{Name, Way};
-use memory_store::MemStore;
+use line_rates::{Limits, Name, Way};
 use server_config::{Config, migrate};
 use std::alloc::Global;
 use std::process::Abort;
@@ -65,28 +64,27 @@ name = \"anonymous\"
 home = \"/pub\"
 ";
 
-/// The time of the file `/f`, and how many octets it holds.
-fn octets_of(
+/// The store holds the file `/f` as it is stated.
+fn expect_file<S: Store<Global>>(
     rt: &(impl Abort + Alloc<A = Global>),
-    store: &mut MemStore,
-) -> Result<(u64, usize), Fail> {
+    store: &mut S,
+) -> Result<(), Fail> {
     let path = VPath::root(rt.alloc()).resolve(rt.alloc(), "/f")?;
-    let meta = store.stat(&path)?;
+    holds(rt, store.stat(&path)?.modified == 951_827_696);
     let mut buffer = [0u8; 8];
-    let mut source = store.open_read(&path, 0)?;
-    let count = source.read(&mut buffer)?;
-    holds(rt, buffer.starts_with(b"a\nb"));
-    Ok((meta.modified, count))
+    let count = store.open_read(&path, 0)?.read(&mut buffer)?;
+    holds(rt, count == 3 && buffer.starts_with(b"a\nb"));
+    Ok(())
 }
 
-/// The configuration is that of the small file.
-fn is_small(rt: &(impl Abort + Alloc<A = Global>), config: Config) -> Result<(), Fail> {
+/// The configuration is that of the small file, but for its store.
+fn expect_small(rt: &impl Abort, config: &Config) {
     let Config {
         terms,
         numbers,
         users,
-        store,
-        limits: _limits,
+        store: _,
+        limits: _,
     } = config;
     holds(
         rt,
@@ -113,21 +111,21 @@ fn is_small(rt: &(impl Abort + Alloc<A = Global>), config: Config) -> Result<(),
         rt,
         numbers.passive_first == 40000 && numbers.passive_last == 40001,
     );
-    match store {
-        ServedStore::Memory(files) => {
-            let mut files = files;
-            let (modified, count) = octets_of(rt, &mut files)?;
-            holds(rt, modified == 951_827_696 && count == 3);
-        }
-        ServedStore::Folder(_folder) => return Err("a folder".into()),
+}
+
+/// The text is a configuration, and just what the small file is.
+fn is_small(rt: &(impl Abort + Alloc<A = Global>), text: &str) -> Result<(), Fail> {
+    let mut config = Config::read(rt.alloc(), text.as_bytes())?;
+    expect_small(rt, &config);
+    match &mut config.store {
+        ServedStore::Memory(files) => expect_file(rt, files),
+        ServedStore::Folder(_) => Err("a folder".into()),
     }
-    Ok(())
 }
 
 #[test]
 fn a_small_file_is_read(rt: HostRuntime) -> Result<(), Fail> {
-    let config = Config::read(rt.alloc(), SMALL.as_bytes())?;
-    is_small(&rt, config)
+    is_small(&rt, SMALL)
 }
 
 #[test]
@@ -136,13 +134,27 @@ fn in_version_2_it_is_the_same(rt: HostRuntime) -> Result<(), Fail> {
     holds(&rt, text.as_str().starts_with("version = 2"));
     let again = migrate(rt.alloc(), text.as_bytes())?;
     holds(&rt, again.as_str() == text.as_str());
-    let config = Config::read(rt.alloc(), text.as_bytes())?;
-    is_small(&rt, config)
+    is_small(&rt, text.as_str())
 }
 
-#[test]
-fn groups_set_limits(rt: HostRuntime) -> Result<(), Fail> {
-    let config = Config::read(rt.alloc(), GROUPED.as_bytes())?;
+fn expect_limits(rt: &impl Abort, limits: &Limits) {
+    for (name, rate) in [
+        (Name::Server, 100),
+        (Name::Direction(Way::Down), 60),
+        (Name::Group(Way::Down, 0), 40),
+        (Name::Group(Way::Up, 1), 30),
+        (Name::User(Way::Down, 0), 20),
+        (Name::User(Way::Down, 1), 0),
+    ] {
+        holds(rt, limits.rate(name) == rate);
+    }
+    holds(
+        rt,
+        limits.group_of(0) == Some(1) && limits.group_of(1).is_none(),
+    );
+}
+
+fn expect_grouped(rt: &impl Abort, config: &Config) {
     let Config {
         terms,
         numbers,
@@ -150,37 +162,28 @@ fn groups_set_limits(rt: HostRuntime) -> Result<(), Fail> {
         store,
         limits,
     } = config;
+    expect_limits(rt, limits);
     holds(
-        &rt,
-        limits.rate(Name::Server) == 100 && limits.rate(Name::Direction(Way::Down)) == 60,
-    );
-    holds(
-        &rt,
-        limits.rate(Name::Group(Way::Down, 0)) == 40 && limits.rate(Name::Group(Way::Up, 1)) == 30,
-    );
-    holds(
-        &rt,
-        limits.rate(Name::User(Way::Down, 0)) == 20 && limits.rate(Name::User(Way::Down, 1)) == 0,
-    );
-    holds(
-        &rt,
-        limits.group_of(0) == Some(1) && limits.group_of(1).is_none(),
-    );
-    holds(
-        &rt,
+        rt,
         users.group("ann") == Some(1) && users.group("anonymous").is_none(),
     );
     holds(
-        &rt,
+        rt,
         users.check_password("anonymous", "whatever") && users.msg_login("ann") == Some("Hello"),
     );
     holds(
-        &rt,
+        rt,
         terms.address == [203, 0, 113, 7] && numbers.address == [0, 0, 0, 0],
     );
-    match store {
-        ServedStore::Folder(text) => holds(&rt, text.as_str() == "/srv/ftp"),
-        ServedStore::Memory(_store) => return Err("in memory".into()),
-    }
+    holds(
+        rt,
+        matches!(store, ServedStore::Folder(text) if text.as_str() == "/srv/ftp"),
+    );
+}
+
+#[test]
+fn groups_set_limits(rt: HostRuntime) -> Result<(), Fail> {
+    let config = Config::read(rt.alloc(), GROUPED.as_bytes())?;
+    expect_grouped(&rt, &config);
     Ok(())
 }

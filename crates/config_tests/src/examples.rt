@@ -1,10 +1,13 @@
 //! The examples of the repository, without their comments: they are read, and say what they are to say.
 
 use crate::expect::holds;
+use authorizer::Authorizer;
 use config_store::ServedStore;
 use ftp_terms::Letter;
 use line_rates::{Name, Way};
 use server_config::{Config, migrate};
+use std::alloc::Global;
+use std::process::Abort;
 use std::test::Fail;
 use virtual_path::VPath;
 
@@ -91,52 +94,75 @@ session_down_rate = 5000000
 msg_login = \"You may read everything.\"
 ";
 
-#[test]
-fn an_office(rt: HostRuntime) -> Result<(), Fail> {
-    let config = Config::read(rt.alloc(), OFFICE.as_bytes())?;
-    holds(
-        &rt,
-        config.limits.rate(Name::Group(Way::Down, 1)) == 8_000_000,
-    );
-    holds(
-        &rt,
-        config.limits.rate(Name::Session(Way::Up, 0, 7)) == 2_000_000,
-    );
-    holds(&rt, config.numbers.max_cons_per_address == 8);
-    let users = config.users;
+/// Who may store in `/in/a/b`, and who at the root.
+fn expect_letters(rt: &(impl Abort + Alloc<A = Global>), users: &Authorizer) -> Result<(), Fail> {
     let root = VPath::root(rt.alloc());
     let deep = root.resolve(rt.alloc(), "/in/a/b")?;
     holds(
-        &rt,
+        rt,
         users.has_perm("bob", Letter::Store, &deep) && !users.has_perm("bob", Letter::Store, &root),
     );
+    Ok(())
+}
+
+fn expect_office(rt: &impl Abort, config: &Config) {
+    let Config {
+        terms: _,
+        numbers,
+        users,
+        store: _,
+        limits,
+    } = config;
     holds(
-        &rt,
+        rt,
+        limits.rate(Name::Group(Way::Down, 1)) == 8_000_000
+            && limits.rate(Name::Session(Way::Up, 0, 7)) == 2_000_000,
+    );
+    holds(rt, numbers.max_cons_per_address == 8);
+    holds(
+        rt,
         users.group("ann") == Some(0) && users.group("bob") == Some(1),
     );
+}
+
+fn is_office(rt: &(impl Abort + Alloc<A = Global>), text: &str) -> Result<(), Fail> {
+    let config = Config::read(rt.alloc(), text.as_bytes())?;
+    expect_office(rt, &config);
+    expect_letters(rt, &config.users)
+}
+
+#[test]
+fn an_office(rt: HostRuntime) -> Result<(), Fail> {
+    is_office(&rt, OFFICE)
+}
+
+#[test]
+fn an_office_in_the_latest_version(rt: HostRuntime) -> Result<(), Fail> {
     let text = migrate(rt.alloc(), OFFICE.as_bytes())?;
-    let again = Config::read(rt.alloc(), text.as_bytes())?;
+    is_office(&rt, text.as_str())
+}
+
+fn expect_public(rt: &(impl Abort + Alloc<A = Global>), config: &Config) {
+    let Config {
+        terms,
+        numbers,
+        users,
+        store,
+        limits: _,
+    } = config;
+    let root = VPath::root(rt.alloc());
     holds(
-        &rt,
-        again.limits.rate(Name::Group(Way::Down, 1)) == 8_000_000,
+        rt,
+        users.check_password("anonymous", "x")
+            && !users.has_perm("anonymous", Letter::Store, &root),
     );
-    Ok(())
+    holds(rt, terms.address == [203, 0, 113, 7] && numbers.lanes == 64);
+    holds(rt, matches!(store, ServedStore::Folder(_)));
 }
 
 #[test]
 fn a_public_server(rt: HostRuntime) -> Result<(), Fail> {
     let config = Config::read(rt.alloc(), PUBLIC.as_bytes())?;
-    let root = VPath::root(rt.alloc());
-    let users = config.users;
-    holds(
-        &rt,
-        users.check_password("anonymous", "x")
-            && !users.has_perm("anonymous", Letter::Store, &root),
-    );
-    holds(
-        &rt,
-        config.terms.address == [203, 0, 113, 7] && config.numbers.lanes == 64,
-    );
-    holds(&rt, matches!(config.store, ServedStore::Folder(_)));
+    expect_public(&rt, &config);
     Ok(())
 }

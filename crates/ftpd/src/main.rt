@@ -8,7 +8,7 @@ mod tests;
 
 use opened::Machine;
 use sheet_commands::{Outside, ProgramFault};
-use sheet_program::{Ending, run_words};
+use program::{Ending, run_words};
 use std::alloc::{AllocError, Global};
 use std::io::ErrorKind;
 use std::process::ExitCode;

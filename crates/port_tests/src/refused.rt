@@ -3,6 +3,7 @@
 use crate::expect::{holds, same};
 use linked_list_allocator::LocalHeap;
 use passive_ports::{AdmitFault, PoolFault, PortPool, Registry};
+use std::alloc::Allocator;
 use std::process::Abort;
 use std::test::Fail;
 
@@ -65,17 +66,21 @@ fn an_empty_range_takes_no_memory(rt: HostRuntime) -> Result<(), Fail> {
     Ok(())
 }
 
+fn expect_leases<A: Allocator>(rt: &impl Abort, pool: &mut PortPool<A>) {
+    for port in 1..=100u16 {
+        same(rt, &pool.lease(), &Some(port));
+    }
+    same(rt, &pool.lease(), &None);
+    holds(rt, pool.give_back(64));
+    same(rt, &pool.lease(), &Some(64));
+}
+
 #[test]
 fn leases_take_no_memory(rt: HostRuntime) -> Result<(), Fail> {
     let heap = LocalHeap::new(rt.alloc(), 4096)?;
     let mut pool = PortPool::new(&heap, 1, 100)?;
     let _rest = take_rest(&rt, &heap)?;
-    for port in 1..=100u16 {
-        same(&rt, &pool.lease(), &Some(port));
-    }
-    same(&rt, &pool.lease(), &None);
-    holds(&rt, pool.give_back(64));
-    same(&rt, &pool.lease(), &Some(64));
+    expect_leases(&rt, &mut pool);
     Ok(())
 }
 
@@ -88,25 +93,35 @@ fn filled(heap: &LocalHeap, count: u8) -> Result<Registry<&LocalHeap>, Fail> {
     Ok(registry)
 }
 
-/// Admits one more in a heap that has only so much room, and answers whether memory was refused.
-fn is_refused(rt: &(impl Abort + AllocGlobal), count: u8, room: usize) -> Result<bool, Fail> {
-    let heap = LocalHeap::new(rt.alloc(), 32768)?;
-    let mut registry = filled(&heap, count)?;
-    let hole = Vec::<u8, &LocalHeap>::with_capacity(&heap, room)?;
-    let rest = take_rest(rt, &heap)?;
-    drop(hole);
-    let answer = registry.admit([10, 0, 1, 0]);
-    drop(rest);
-    if answer.is_ok() {
-        holds(rt, registry.count_of_address([10, 0, 1, 0]) == 1);
-        return Ok(false);
-    }
-    holds(rt, answer == Err(AdmitFault::Memory));
+/// The registry, which has so many connections, is as before, and admits one more.
+fn expect_as_before<A: Allocator + Clone>(rt: &impl Abort, registry: &mut Registry<A>, count: u8) {
     holds(rt, registry.count() == count as usize);
     holds(rt, registry.count_of_address([10, 0, 1, 0]) == 0);
     holds(rt, registry.admit([10, 0, 1, 0]).is_ok());
     holds(rt, registry.count_of_address([10, 0, 1, 0]) == 1);
-    Ok(true)
+}
+
+/// Admits one more in a heap that has only so much room, and answers whether memory was refused.
+fn is_refused(rt: &(impl Abort + AllocGlobal), count: u8, room: usize) -> Result<bool, Fail> {
+    let heap = LocalHeap::new(rt.alloc(), 32768)?;
+    let mut registry = filled(&heap, count)?;
+    let answer = {
+        let hole = Vec::<u8, &LocalHeap>::with_capacity(&heap, room)?;
+        let _rest = take_rest(rt, &heap)?;
+        drop(hole);
+        registry.admit([10, 0, 1, 0])
+    };
+    match answer {
+        Ok(_) => {
+            holds(rt, registry.count_of_address([10, 0, 1, 0]) == 1);
+            Ok(false)
+        }
+        Err(fault) => {
+            holds(rt, fault == AdmitFault::Memory);
+            expect_as_before(rt, &mut registry, count);
+            Ok(true)
+        }
+    }
 }
 
 /// How many growths of an admission are refused before it passes.
@@ -130,14 +145,18 @@ fn each_growth_of_an_admission(rt: HostRuntime) -> Result<(), Fail> {
     Ok(())
 }
 
+fn expect_empty_again<A: Allocator + Clone>(rt: &impl Abort, registry: &mut Registry<A>) {
+    for key in 0..40usize {
+        holds(rt, registry.leave(key) && !registry.leave(key));
+    }
+    same(rt, &registry.count(), &0);
+}
+
 #[test]
 fn leaving_takes_no_memory(rt: HostRuntime) -> Result<(), Fail> {
     let heap = LocalHeap::new(rt.alloc(), 32768)?;
     let mut registry = filled(&heap, 40)?;
     let _rest = take_rest(&rt, &heap)?;
-    for key in 0..40usize {
-        holds(&rt, registry.leave(key) && !registry.leave(key));
-    }
-    same(&rt, &registry.count(), &0);
+    expect_empty_again(&rt, &mut registry);
     Ok(())
 }

@@ -13,6 +13,11 @@ fn words_of_a_command(rt: HostRuntime) -> Result<(), Fail> {
             read_words(rt.alloc(), &["share", sheet])? == Words::Share { sheet },
         );
     }
+    let config = "office.toml";
+    holds(
+        &rt,
+        read_words(rt.alloc(), &["migrate", config])? == Words::Migrate { config },
+    );
     let (sheet, grants) = ("office.sheet", "office.grants");
     holds(
         &rt,
@@ -34,8 +39,9 @@ fn words_that_ask_for_help(rt: HostRuntime) {
     let cases = [
         (["--version", ""], "ftpd 1\n"),
         (["--help", ""], "Usage: ftpd <COMMAND>"),
-        (["--help", ""], "  share  Share the limits of a sheet"),
-        (["--help", ""], "  check  Check grants"),
+        (["--help", ""], "  share    Share the limits of a sheet"),
+        (["--help", ""], "  check    Check grants"),
+        (["--help", ""], "  migrate  Print a configuration"),
         (
             ["share", "--help"],
             "Status: 0 done, or yes; 1 a fault; 2 refused words; 3 no",

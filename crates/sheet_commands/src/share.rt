@@ -3,7 +3,7 @@ ghost use Rattle.std.specs.Prelude.{◌≡◌, ◌≢◌, ◌<◌, ◌^◌, [], 
 ghost use Rattle.std.specs.Io.KnownBytes.{Appends};
 ghost use Rattle.limit_tree.specs.Outline.{limits};
 ghost use Rattle.round_allocator.specs.Rounds.{IsNamed};
-ghost use Rattle.share_text.specs.Views.{written};
+ghost use Rattle.share_text.specs.Views.{IsSheetOf, written};
 ghost use Rattle.sheet_commands.specs.Lines.{share_line, share_lines, total};
 ghost use Rattle.share_text.specs.declared.fault.SheetFault.{SheetFault};
 ghost use Rattle.sheet_commands.specs.Faults.{IsReadingFault, IsSheetJudgement, IsTextOf};
@@ -78,6 +78,23 @@ fn shares_of<'s, A: Allocator, B: Allocator>(
     Ok(shares)
 }
 
+/// The lines of the sharing of a sheet that was read.
+fn sharing_lines<A: Allocator + Clone>(alloc: A, sheet: &Sheet<A>) -> Result<String<A>, AllocError>
+    ensures shared { IfOk result (λ lines. (text : List ℕ) → IsSheetOf text sheet.now → IsSharingOf text (string_bytes lines)) }
+{
+    let (grants, certificate) = allot(alloc.clone()?, sheet.tree())?;
+    let leaves = Leaves::of(sheet.tree());
+    let shares = shares_of(
+        alloc.clone()?,
+        sheet,
+        leaves.wants(),
+        &grants,
+        certificate.entries(),
+    )?;
+    let lines = lines_of(alloc, &shares)?;
+    Ok(lines)
+}
+
 /// The lines of the sharing of a sheet: one for each want, in the order of the sheet, and last the total. The grants
 /// are best, and each branch that a line names as full backs its leaf.
 pub fn sharing_of<A: Allocator + Clone>(alloc: A, text: &[u8]) -> Result<String<A>, ProgramFault>
@@ -86,16 +103,7 @@ pub fn sharing_of<A: Allocator + Clone>(alloc: A, text: &[u8]) -> Result<String<
     ensures faults { IfErr result IsSheetJudgement }
 {
     let sheet = read_sheet(alloc.clone()?, text)?;
-    let (grants, certificate) = allot(alloc.clone()?, sheet.tree())?;
-    let leaves = Leaves::of(sheet.tree());
-    let shares = shares_of(
-        alloc.clone()?,
-        &sheet,
-        leaves.wants(),
-        &grants,
-        certificate.entries(),
-    )?;
-    let lines = lines_of(alloc, &shares)?;
+    let lines = sharing_lines(alloc, &sheet)?;
     Ok(lines)
 }
 

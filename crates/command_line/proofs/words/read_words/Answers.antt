@@ -4,12 +4,16 @@ use Rattle.clap.specs.Kinds.{HasKind}
 use Rattle.command_line.specs.Commands.{program}
 use Rattle.command_line.specs.Given.{IsFound}
 use Rattle.clap.specs.Words.{App, Row, Text, app_of, kind_of, fault_of, is_simple, is_simple_and_free, subcommand_of, takes}
-use Rattle.command_line.proofs.Taken.{program_is_free, program_is_simple, refusal, shares, checks}
+use Rattle.command_line.proofs.Taken.{program_is_free, program_is_simple, refusal, shares, checks, migrates}
 use Rattle.command_line.proofs.words.read_words.Goals as goal
 
 pub returns-in-Err-clause-share : goal.returns-in-Err-clause-share
 returns-in-Err-clause-share c = λ word plain are.
     c.refused.ensures.memory (c.in-Err.ensures.passes (ap₂ takes c.in-Ok.ensures.program are ∙ (shares word plain).taken))
+
+pub returns-in-Err-clause-migrate : goal.returns-in-Err-clause-migrate
+returns-in-Err-clause-migrate c = λ word plain are.
+    c.refused.ensures.memory (c.in-Err.ensures.passes (ap₂ takes c.in-Ok.ensures.program are ∙ (migrates word plain).taken))
 
 pub returns-in-Err-clause-check : goal.returns-in-Err-clause-check
 returns-in-Err-clause-check c = λ first second plain also are.
@@ -29,6 +33,13 @@ returns-in-Some-clause-share c = λ word plain are.
     let simple : is_simple (app_of c.in-Ok.command) ≡ true = ap is_simple c.in-Ok.ensures.program ∙ program_is_simple in
     let entered = (c.in-Ok-try_get_matches_from.ensures.matches simple).1 ∙ ap₂ subcommand_of c.in-Ok.ensures.program are ∙ held.entered in
     c.in-Some.ensures.share held.rows word entered held.sheet
+
+pub returns-in-Some-clause-migrate : goal.returns-in-Some-clause-migrate
+returns-in-Some-clause-migrate c = λ word plain are.
+    let held = migrates word plain in
+    let simple : is_simple (app_of c.in-Ok.command) ≡ true = ap is_simple c.in-Ok.ensures.program ∙ program_is_simple in
+    let entered = (c.in-Ok-try_get_matches_from.ensures.matches simple).1 ∙ ap₂ subcommand_of c.in-Ok.ensures.program are ∙ held.entered in
+    c.in-Some.ensures.migrate held.rows word entered held.config
 
 pub returns-in-Some-clause-check : goal.returns-in-Some-clause-check
 returns-in-Some-clause-check c = λ first second plain also are.

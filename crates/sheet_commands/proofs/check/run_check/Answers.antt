@@ -1,13 +1,13 @@
-use Rattle.std.proofs.Common.{◌≡◌, ◌≤◌, ◌∙◌, List, ℕ, Option, Some, None, Err, inr, length, sym, ap, subst, refl, arith}
+use Rattle.std.proofs.Common.{◌≡◌, ◌∙◌, List, ℕ, Some, None, Err, inr, length, sym, ap, subst, arith}
 use Rattle.share_text.specs.Views.{IsSheetOf}
 use Rattle.share_text.specs.Whole.{sheet_fault}
 use Rattle.share_text.specs.declared.fault.SheetFault.TheVariants.{Memory}
-use Rattle.sheet_commands.specs.declared.fault.ProgramFault.TheVariants.{Sheet, Grants, WriteFault, TooLong}
+use Rattle.sheet_commands.specs.declared.fault.ProgramFault.TheVariants.{Sheet, Grants, TooLong}
 use Rattle.sheet_commands.specs.declared.whole.TheConstants.{MAX_TEXT}
-use Rattle.sheet_commands.specs.Faults.{of_sheet, IsReadingFault, IsTextOf}
+use Rattle.sheet_commands.specs.Faults.{of_sheet, IsReadingFault}
 use Rattle.sheet_commands.specs.Checking.{IsCheckOf, IsGrantsFaultOf}
 use Rattle.sheet_commands.proofs.Reading.{read_whole_text, read_text_of, read_text_is, read_whole_few}
-use Rattle.sheet_commands.proofs.Told.{sheet_told, told_as, if_err_of, sound_is_memory, err_and}
+use Rattle.sheet_commands.proofs.Told.{sheet_told, told_as, sound_is_memory, err_and}
 use Rattle.sheet_commands.proofs.check.run_check.Goals as goal
 
 pub returns-in_err-sheet-clause-sheet : goal.returns-in_err-sheet-clause-sheet

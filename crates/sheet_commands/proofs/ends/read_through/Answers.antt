@@ -1,5 +1,4 @@
-use Rattle.std.proofs.KnownBytes.{Keeps-refl, Keeps-trans}
-use Rattle.sheet_commands.proofs.Reading.{read_kept}
+use Rattle.std.proofs.KnownBytes.{Keeps-refl}
 use Rattle.sheet_commands.proofs.ends.read_through.Goals as goal
 
 pub reads-init : goal.reads-init

@@ -1,7 +1,6 @@
-use Rattle.std.proofs.Common.{◌≡◌, ◌≤◌, ◌∙◌, List, ℕ, Option, Some, Result, Ok, Err, OnOk, length, sym, ap, subst, arith}
+use Rattle.std.proofs.Common.{◌∙◌, List, ℕ, Err, length, sym, ap, subst, arith}
 use Rattle.sheet_commands.specs.declared.fault.ProgramFault.TheVariants.{WriteFault, Sheet}
 use Rattle.sheet_commands.specs.declared.whole.TheConstants.{MAX_TEXT}
-use Rattle.sheet_commands.specs.Faults.{IsSheetJudgement, IsTextOf}
 use Rattle.sheet_commands.specs.Sharing.{IsSharingOf, IsSheetFaultOf}
 use Rattle.sheet_commands.proofs.Behind.{on_ok}
 use Rattle.sheet_commands.proofs.Reading.{read_whole_text, read_text_of, read_whole_few}

@@ -1,14 +1,7 @@
-use Rattle.std.proofs.Common.{◌≡◌, ◌∙◌, List, ℕ, Option, Some, sum, sym, ap, subst, arith, refl}
-use Rattle.limit_tree.specs.declared.place.Place.{Place}
-use Rattle.limit_tree.specs.Sharing.{IsWithin, IsBackedBy, IsBest}
-use Rattle.limit_tree.specs.Outline.{limits}
-use Rattle.round_allocator.specs.Rounds.{IsExhausted, IsNamed}
-use Rattle.limit_tree.proofs.Sums.{sum-wanted}
+use Rattle.std.proofs.Common.{◌≡◌, ◌∙◌, Some, ap}
 use Rattle.share_text.specs.declared.fault.SheetFault.TheVariants.{Memory}
 use Rattle.sheet_commands.specs.declared.fault.ProgramFault.TheVariants.{Sheet}
 use Rattle.sheet_commands.specs.Faults.{of_sheet}
-use Rattle.sheet_commands.specs.Lines.{share_lines}
-use Rattle.sheet_commands.specs.Sharing.{sharing_text}
 use Rattle.sheet_commands.proofs.Told.{sheet_told, told_as}
 use Rattle.sheet_commands.proofs.share.sharing_of.Goals as goal
 
@@ -16,36 +9,3 @@ pub returns-in_err-sheet-clause-sheet : goal.returns-in_err-sheet-clause-sheet
 returns-in_err-sheet-clause-sheet g c fault is =
     let told = sheet_told c.in_err-sheet.field-0.0 fault (told_as c.from_residual-in_err-sheet.result (of_sheet c.in_err-sheet.field-0.0) (Sheet fault) c.from_residual-in_err-sheet.ensures.1 is) in
     (λ (no : fault ≡ Memory). told.1 (told.0 ∙ no), c.in_err-sheet.ensures.read told.1 ∙ ap Some told.0)
-
-pub shares_of-requires-clause-few : goal.shares_of-requires-clause-few
-shares_of-requires-clause-few g c =
-    let trees : c.tree-2.result.now ≡ c.tree.result.now = c.tree-2.ensures.tree ∙ sym c.tree.ensures.tree in
-    omega (
-      arith,
-      ap sum c.deref.ensures.value,
-      sum-wanted (limits c.tree.result.now) c.in_ok-grants.grants.items c.in_ok-grants.ensures.within.wanted,
-      ap (λ (o : List Place). sum (limits o).wants) trees,
-      c.of-leaves.ensures.octets,
-    )
-
-pub returns-clause-shared : goal.returns-clause-shared
-returns-clause-shared g c =
-    let sheet = c.in_ok-sheet.sheet in
-    let grants = c.in_ok-grants.grants.items in
-    let entries = c.in_ok-grants.certificate in
-    let same : c.tree.result.now ≡ sheet.outline = c.tree.ensures.tree in
-    let lines : share_lines c.deref-2.result.now ≡ sharing_text sheet grants entries =
-    ap share_lines c.deref-2.ensures.value ∙ c.in_ok-shares.ensures.lines ∙ ap (λ (gs : List ℕ). sharing_text sheet gs c.entries.result.now) c.deref.ensures.value
-    ∙ ap (λ (es : List (Option ℕ)). sharing_text sheet grants es) c.entries.ensures.entries in
-    record {
-      sheet = sheet;
-      grants = grants;
-      entries = entries;
-      is_sheet = c.in_ok-sheet.ensures.read;
-      within = subst (λ (o : List Place). IsWithin (limits o) grants) same c.in_ok-grants.ensures.within;
-      exhausted = subst (λ (o : List Place). IsExhausted (limits o) grants) same c.in_ok-grants.ensures.exhausted;
-      named = subst (λ (o : List Place). IsNamed (limits o) grants entries) same c.in_ok-grants.ensures.named;
-      backed = subst (λ (o : List Place). IsBackedBy (limits o) grants entries) same c.in_ok-grants.ensures.backed;
-      best = subst (λ (o : List Place). IsBest (limits o) grants) same c.in_ok-grants.ensures.best;
-      prints = c.in_ok-lines.ensures.lines ∙ lines;
-    }

@@ -1,8 +1,9 @@
 //! Running the command of a line's words.
 ghost use Rattle.std.specs.Prelude.{◌≡◌, ◌≢◌, IfErr, IfOk};
-ghost use Rattle.sheet_program.specs.Endings.{IsUnwritten};
+ghost use Rattle.program.specs.Endings.{IsUnwritten};
 
 use super::ending::Ending;
+use super::migrating::run_migrate;
 use command_line::{Words, WordsFault, read_words};
 use grant_certificate::Verdict;
 use sheet_commands::{ProgramFault, TextReader, TextWriter, run_check, run_share, write_whole};
@@ -64,6 +65,24 @@ fn check<O: Openings, W: TextWriter>(
     }
 }
 
+fn migrate<O: Openings, W: TextWriter>(
+    alloc: Global,
+    config: &str,
+    files: &mut O,
+    output: &mut W,
+) -> Result<Ending, ProgramFault>
+    ensures fault { IfErr result (λ fault. fault ≢ ProgramFault.WriteFault → output.new ≡ output.old) }
+    ensures ending { IfOk result (λ ending. IsUnwritten ending → output.new ≡ output.old) }
+{
+    let Some(mut config) = files.open(config) else {
+        return Err(ProgramFault::ReadFault);
+    };
+    match run_migrate(alloc, &mut config, output)? {
+        None => Ok(Ending::Done),
+        Some(fault) => Ok(Ending::Config(fault)),
+    }
+}
+
 /// What the parser says of the words: an answer goes to the output, a refusal is told.
 fn tell<W: TextWriter>(text: String, is_help: bool, output: &mut W) -> Result<Ending, ProgramFault>
     ensures fault { IfErr result (λ fault. fault ≢ ProgramFault.WriteFault → output.new ≡ output.old) }
@@ -88,6 +107,7 @@ fn run<O: Openings, W: TextWriter>(
     match read_words(alloc, words) {
         Ok(Words::Share { sheet }) => share(alloc, sheet, files, output),
         Ok(Words::Check { sheet, grants }) => check(alloc, sheet, grants, files, output),
+        Ok(Words::Migrate { config }) => migrate(alloc, config, files, output),
         Err(WordsFault::Refused { text, is_help }) => tell(text, is_help, output),
         Err(WordsFault::Memory) => Err(ProgramFault::Memory),
     }

@@ -3,31 +3,30 @@ use Rattle.std.specs.Prelude.{unwrap_or}
 use Rattle.clap.specs.Words.{found_of, rows_of}
 use Rattle.clap.proofs.WalkLemmas.{first_value-rows}
 use Rattle.command_line.proofs.Taken.{named_rows}
-use Rattle.command_line.proofs.words.share_given.Goals as goal
+use Rattle.command_line.proofs.words.word_of.Goals as goal
 
-pub returns-in_err-sheet : goal.returns-in_err-sheet
-returns-in_err-sheet c = record {
-  share = λ rows word is first.
+pub returns-in_err-word : goal.returns-in_err-word
+returns-in_err-word c = record {
+  given = λ rows word is first.
       let inner = c.in_ok-inner.inner.now in
       let same : Some rows ≡ Some (rows_of (found_of inner)) = rw is at c.in_ok-inner.ensures.rows in
       let rows_are : rows ≡ rows_of (found_of inner) = ap (λ o. unwrap_or o []) same in
-      let none : None ≡ Some word = c.in_err-sheet.ensures ∙ first_value-rows (found_of inner) _ ∙ rw (← rows_are) first in
+      let none : None ≡ Some word = c.in_err-word.ensures ∙ first_value-rows (found_of inner) _ ∙ rw (← rows_are) first in
       cc;
   found = search rules;
 }
 
 pub returns : goal.returns
 returns c = record {
-  share = λ rows word is first.
+  given = λ rows word is first.
       let inner = c.in_ok-inner.inner.now in
       let same : Some rows ≡ Some (rows_of (found_of inner)) = rw is at c.in_ok-inner.ensures.rows in
       let rows_are : rows ≡ rows_of (found_of inner) = ap (λ o. unwrap_or o []) same in
-      let some : Some c.in_ok-sheet.sheet.now ≡ Some word = c.in_ok-sheet.ensures ∙ first_value-rows (found_of inner) _ ∙ rw (← rows_are) first in
-      ap (λ o. unwrap_or o []) some;
+      c.in_ok-word.ensures ∙ first_value-rows (found_of inner) _ ∙ rw (← rows_are) first;
   found =
       let inner = c.in_ok-inner.inner.now in (
         rows_of (found_of inner),
         named_rows _ _ _ _ _ (c.in_ok-inner.ensures.found.0 refl) c.in_ok-inner.ensures.rows,
-        sym (c.in_ok-sheet.ensures ∙ first_value-rows (found_of inner) _),
+        sym (c.in_ok-word.ensures ∙ first_value-rows (found_of inner) _),
       );
 }

@@ -13,7 +13,9 @@
 #![tactic(auto)]
 
 mod ending;
+mod migrating;
 mod run;
 
 pub use ending::Ending;
+pub use migrating::run_migrate;
 pub use run::{Openings, STANDARD_INPUT, run_words};

@@ -1,7 +1,8 @@
 //! How the program ends.
 ghost use Rattle.std.specs.Prelude.{◌≡◌};
-ghost use Rattle.sheet_program.specs.Endings.{status_of};
+ghost use Rattle.program.specs.Endings.{status_of};
 
+use server_config::ConfigFault;
 use sheet_commands::ProgramFault;
 use std::fmt;
 
@@ -16,6 +17,8 @@ pub enum Ending {
     Refused(String),
     /// A file, the output or memory was at fault.
     Fault(ProgramFault),
+    /// The configuration is refused.
+    Config(ConfigFault),
 }
 
 impl Ending {
@@ -25,7 +28,7 @@ impl Ending {
     {
         match self {
             Ending::Done => 0,
-            Ending::Fault(_) => 1,
+            Ending::Fault(_) | Ending::Config(_) => 1,
             Ending::Refused(_) => 2,
             Ending::Flawed => 3,
         }
@@ -39,6 +42,10 @@ impl fmt::Display for Ending {
             Ending::Flawed => Ok(()),
             Ending::Refused(text) => write!(f, "{text}"),
             Ending::Fault(fault) => writeln!(f, "ftpd: {fault}"),
+            Ending::Config(fault) => {
+                writeln!(f, "{fault}")?;
+                writeln!(f, "ftpd: {}", fault.name())
+            }
         }
     }
 }

@@ -1,8 +1,0 @@
-use Rattle.std.proofs.Common.{ap₂, ◌∙◌}
-use Rattle.clap.specs.Words.{with_rule}
-use Rattle.command_line.proofs.words.share_command.Goals as goal
-
-pub returns : goal.returns
-returns c = record {
-  share = c.in_ok-command.ensures.shape c.file-sheet.ensures.local ∙ ap₂ with_rule c.bare_command.ensures.bare c.file-sheet.ensures.rule;
-}

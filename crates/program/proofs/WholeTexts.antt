@@ -1,0 +1,16 @@
+-- A configuration that was read whole.
+use Rattle.std.proofs.Common.{◌≡◌, ◌∙◌, ℕ, List, ◌++◌, Option, Some, None, append-nil, sym, ap, subst}
+use Rattle.std.specs.Io.KnownBytes.{Appends, Consumes, IsAtEnd}
+use Rattle.server_config.specs.Migrated.{IsMigrated}
+use Rattle.program.specs.Migrating.{AppendsMigrated}
+
+whole : (text rest items : List ℕ) → Consumes (Some text) (Some rest) items → IsAtEnd (Some rest) → items ≡ text
+whole text rest items taken end = sym (append-nil items) ∙ ap (λ (r : List ℕ). items ++ r) (sym end) ∙ sym taken
+
+-- what holds of the octets that were read holds of the text
+pub told : (old new : Option (List ℕ)) (items read printed : List ℕ) (before after : Option (List ℕ)) → Consumes old new items → IsAtEnd new → read ≡ items → IsMigrated read printed
+    → Appends before after printed → AppendsMigrated old before after
+told None new items read printed before after taken end same migrated appended = tt
+told (Some text) None items read printed before after taken end same migrated appended = absurd taken
+told (Some text) (Some rest) items read printed before after taken end same migrated appended =
+    (printed, subst (λ (t : List ℕ). IsMigrated t printed) (same ∙ whole text rest items taken end) migrated, appended)

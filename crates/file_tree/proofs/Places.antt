@@ -1,118 +1,148 @@
--- The two parts of a path's text: its directory's, and its name.
-use Rattle.std.proofs.Common.{◌≡◌, ◌≢◌, ℕ, zero, suc, ◌+◌, ◌-◌, ◌<◌, ◌≤◌, Bool, true, false, List, [], ◌∷◌, ◌++◌, length, take, drop, get_or, refl, sym, ap, subst, ◌∙◌, arith, append_assoc, length-append, Some, None, nat_eq}
-use Rattle.std.proofs.Common.{lit<}
-use Rattle.std.proofs.lemmas.List.{append-nil, take-append-drop}
-use Rattle.std.proofs.lemmas.Str.Pattern.{NoCharPasses-char, drop_at_char}
-use Rattle.std.specs.Str.{NoCharPasses}
-use Rattle.std.specs.Str.Pattern.{RFindsChar, SplitsAroundMatch}
+-- A path as it is kept: the text of its directory, and its last name.
+use Rattle.std.proofs.Common.{◌≡◌, ◌≢◌, ℕ, suc, ◌+◌, ◌-◌, ◌≤◌, ◌<◌, Bool, false, List, [], ◌∷◌, ◌++◌, length, take, drop, refl, sym, ap, subst, ◌∙◌, arith, length-append, Option, Some, None}
+use Rattle.std.proofs.Math.Seq.{take-append_seam}
 use Rattle.std.specs.List.{AllByRecursion}
-use Rattle.virtual_path.specs.Path.{Path, path_text, is_slash, slashed, parent_of, HasNoSlash, IsName, AllNames}
-use Rattle.file_tree.specs.Tree.{Place, last_of, place_of}
+use Rattle.std.specs.Cmp.{tied_itself}
+use Rattle.std.specs.Cmp.Lexicographic.{slice_cmp, nat_list_cmp_total}
+use Rattle.std.specs.declared.cmp.Ordering.{Ordering}
+use Rattle.std.specs.declared.cmp.Ordering.TheVariants.{Less, Equal, Greater}
+use Rattle.std.specs.Ordering.{nat_cmp, ordering_then}
+use Rattle.virtual_path.specs.Path.{Path, path_text, slashed, names_of, names_in, parent_of, is_slash, HasNoSlash, AllNames}
+use Rattle.virtual_path.proofs.Elements.{each-append, each-take, each-drop}
+use Rattle.virtual_path.proofs.Parts.{IsCut, cut_plain}
+use Rattle.virtual_path.proofs.Splits.{names_of-slashed}
+use Rattle.virtual_path.proofs.Texts.{path_text-slashed, slashed-append, slashed-push}
+use Rattle.virtual_path.proofs.Walks.{no_slash_in_names, no_slash_in_path}
+use Rattle.file_tree.specs.Held.{IsPlaceText}
+use Rattle.file_tree.specs.Tree.{Place, names_cmp, path_cmp, place_of, last_of}
+use Rattle.file_tree.proofs.Trees.{exact_names}
 
-pub path_text-below : (name : List ℕ) (names : Path) → path_text (name ∷ names) ≡ slashed (name ∷ names)
-path_text-below name [] = sym (append-nil (47 ∷ name))
-path_text-below name (next ∷ names) = ap (λ rest. (47 ∷ name) ++ rest) (path_text-below next names)
+-- no name of it has a slash
+abbrev pub IsPlain : Path → Type 0
+IsPlain path = AllByRecursion HasNoSlash path
 
-pub parent_of-cons : (name next : List ℕ) (names : Path) → parent_of (name ∷ next ∷ names) ≡ name ∷ parent_of (next ∷ names)
+-- the names of a path's text are the path's
+pub names_back : (path : Path) → IsPlain path → names_in (slashed path) ≡ path
+names_back path plain = ap (drop 1) (names_of-slashed path plain)
+
+pub names_of_text : (path : Path) (text : List ℕ) → IsPlain path → text ≡ slashed path → names_in text ≡ path
+names_of_text path text plain e = ap names_in e ∙ names_back path plain
+
+pub text_kept : (path : Path) (text : List ℕ) → IsPlain path → text ≡ slashed path → slashed (names_in text) ≡ text
+text_kept path text plain e = ap slashed (names_of_text path text plain e) ∙ sym e
+
+pub plain_names : (text : List ℕ) → IsPlain (names_in text)
+plain_names text = each-drop HasNoSlash 1 (names_of text) (no_slash_in_names text)
+
+-- before the names of such a text stands an empty one
+pub names_after : (text : List ℕ) → slashed (names_in text) ≡ text → names_of text ≡ [] ∷ names_in text
+names_after text is = ap names_of (sym is) ∙ names_of-slashed (names_in text) (plain_names text)
+
+pub parent_plain : (path : Path) → IsPlain path → IsPlain (parent_of path)
+parent_plain path plain = each-take HasNoSlash (length path - 1) path plain
+
+-- ---- a path and its last name
+
+minus_one : (n : ℕ) → (n + 1) - 1 ≡ n
+minus_one n = omega arith
+
+pub parent_of-push : (path : Path) (name : List ℕ) → parent_of (path ++ name ∷ []) ≡ path
+parent_of-push path name =
+    ap (λ n. take (n - 1) (path ++ name ∷ [])) (length-append path (name ∷ []))
+    ∙ ap (λ n. take n (path ++ name ∷ [])) (minus_one (length path))
+    ∙ take-append_seam path (name ∷ [])
+
+pub last_of-push : (path : Path) (name : List ℕ) → last_of (path ++ name ∷ []) ≡ name
+last_of-push [] name = refl
+last_of-push (first ∷ []) name = refl
+last_of-push (first ∷ next ∷ path) name = last_of-push (next ∷ path) name
+
+parent_of-cons : (name next : List ℕ) (names : Path) → parent_of (name ∷ next ∷ names) ≡ name ∷ parent_of (next ∷ names)
 parent_of-cons name next names =
     let outer : suc (suc (length names)) - 1 ≡ suc (length names) = omega arith in
     let inner : length names ≡ suc (length names) - 1 = omega arith in
     ap (λ k. take k (name ∷ next ∷ names)) outer ∙ ap (λ k. name ∷ take k (next ∷ names)) inner
 
--- no octet of it is a slash
-abbrev pub LacksSlash : List ℕ → Type 0
-LacksSlash text = (i : ℕ) → i < length text → get_or text i 0 ≢ 47
+pub ends_in_last : (name : List ℕ) (names : Path) → name ∷ names ≡ parent_of (name ∷ names) ++ last_of (name ∷ names) ∷ []
+ends_in_last name [] = refl
+ends_in_last name (next ∷ names) =
+    ap (λ (rest : Path). name ∷ rest) (ends_in_last next names)
+    ∙ ap (λ (front : Path). front ++ last_of (next ∷ names) ∷ []) (sym (parent_of-cons name next names))
 
-pub lacks_slash : (name : List ℕ) → HasNoSlash name → LacksSlash name
-lacks_slash [] h i less e = absurd (omega arith)
-lacks_slash (octet ∷ name) h zero less e = let is = h.0 in cc (ap is_slash e)
-lacks_slash (octet ∷ name) h (suc i) less e = lacks_slash name h.1 i (omega arith) e
+-- ---- the order of paths, by their directories and last names
 
-pub ends_in_name : (name : List ℕ) (names : Path) → slashed (name ∷ names) ≡ slashed (parent_of (name ∷ names)) ++ 47 ∷ last_of (name ∷ names)
-ends_in_name name [] = append-nil (47 ∷ name)
-ends_in_name name (next ∷ names) =
-    ap (λ end. (47 ∷ name) ++ end) (ends_in_name next names)
-    ∙ sym (append_assoc (47 ∷ name) (slashed (parent_of (next ∷ names))) (47 ∷ last_of (next ∷ names)))
-    ∙ ap (λ path. slashed path ++ 47 ∷ last_of (next ∷ names)) (sym (parent_of-cons name next names))
+then_equal : (order : Ordering) → ordering_then order Equal ≡ order
+then_equal Less = refl
+then_equal Equal = refl
+then_equal Greater = refl
 
-pub last_lacks_slash : (name : List ℕ) (names : Path) → AllNames (name ∷ names) → LacksSlash (last_of (name ∷ names))
-last_lacks_slash name [] h = lacks_slash name h.0.no_slash
-last_lacks_slash name (next ∷ names) h = last_lacks_slash next names h.1
+-- in one directory paths are in the order of their names
+same_directory : (path : Path) (name other : List ℕ) → names_cmp (path ++ name ∷ []) (path ++ other ∷ []) ≡ slice_cmp nat_cmp name other
+same_directory [] name other = then_equal (slice_cmp nat_cmp name other)
+same_directory (first ∷ path) name other =
+    ap (λ order. ordering_then order (names_cmp (path ++ name ∷ []) (path ++ other ∷ []))) (tied_itself nat_list_cmp_total first)
+    ∙ same_directory path name other
 
-slash_between : (front name : List ℕ) → get_or (front ++ 47 ∷ name) (length front) 0 ≡ 47
-slash_between [] name = refl
-slash_between (octet ∷ front) name = slash_between front name
+by_parts : (path front : Path) (name other : List ℕ) → ordering_then (names_cmp path front) (names_cmp (path ++ name ∷ []) (front ++ other ∷ [])) ≡ ordering_then (names_cmp path front) (slice_cmp nat_cmp name other)
+by_parts path front name other = elim (names_cmp path front) as (λ order. names_cmp path front ≡ order → ordering_then order (names_cmp (path ++ name ∷ []) (front ++ other ∷ [])) ≡ ordering_then order (slice_cmp nat_cmp name other)) [
+  | Less ↦ λ _. refl
+  | Equal ↦ λ tie. ap (λ (f : Path). names_cmp (path ++ name ∷ []) (f ++ other ∷ [])) (sym (exact_names path front tie)) ∙ same_directory path name other
+  | Greater ↦ λ _. refl
+] refl
 
-front_within : (front name : List ℕ) → length front < length (front ++ 47 ∷ name)
-front_within front name = omega (arith, length-append front (47 ∷ name))
+pub path_cmp-push : (path front : Path) (name other : List ℕ) → path_cmp (path ++ name ∷ []) (front ++ other ∷ []) ≡ ordering_then (names_cmp path front) (slice_cmp nat_cmp name other)
+path_cmp-push path front name other =
+    ap (λ (p : Path). ordering_then (names_cmp p (parent_of (front ++ other ∷ []))) (names_cmp (path ++ name ∷ []) (front ++ other ∷ []))) (parent_of-push path name)
+    ∙ ap (λ (p : Path). ordering_then (names_cmp path p) (names_cmp (path ++ name ∷ []) (front ++ other ∷ []))) (parent_of-push front other)
+    ∙ by_parts path front name other
 
-none_in : (name front back : List ℕ) → LacksSlash name → name ≡ front ++ 47 ∷ back → ⊥
-none_in name front back h e =
-    h (length front) (subst (λ (t : List ℕ). length front < length t) (sym e) (front_within front back))
-    (ap (λ (t : List ℕ). get_or t (length front) 0) e ∙ slash_between front back)
-
-pub same_split : (front other name last : List ℕ) → LacksSlash name → LacksSlash last → front ++ 47 ∷ name ≡ other ++ 47 ∷ last → (front ≡ other) × (name ≡ last)
-same_split [] [] name last h k e = (refl, ap (drop 1) e)
-same_split [] (octet ∷ other) name last h k e = absurd (none_in name other last h (ap (drop 1) e))
-same_split (octet ∷ front) [] name last h k e = absurd (none_in last front name k (sym (ap (drop 1) e)))
-same_split (octet ∷ front) (next ∷ other) name last h k e =
-    let rest = same_split front other name last h k (ap (drop 1) e) in
-    let first : octet ≡ next = ap (λ (t : List ℕ). get_or t 0 0) e in
-    (ap (λ o. o ∷ front) first ∙ ap (λ t. next ∷ t) rest.0, rest.1)
-
--- the root's text has no slash, and no other path's text lacks one
-pub root_only : (path : Path) (text : List ℕ) → text ≡ slashed path → LacksSlash text → path ≡ []
-root_only [] text e h = refl
-root_only (name ∷ names) text e h = absurd (h 0 (subst (λ (t : List ℕ). 0 < length t) (sym e) (omega arith)) (ap (λ (t : List ℕ). get_or t 0 0) e))
-
-pub each-take : (n : ℕ) (path : Path) → AllNames path → AllNames (take n path)
-each-take zero path h = tt
-each-take (suc n) [] h = tt
-each-take (suc n) (name ∷ path) h = (h.0, each-take n path h.1)
+-- as their texts are compared
+pub compared : (directory text name other : List ℕ) → slashed (names_in directory) ≡ directory → slashed (names_in text) ≡ text
+    → ordering_then (names_cmp (names_of directory) (names_of text)) (slice_cmp nat_cmp name other) ≡ path_cmp (names_in directory ++ name ∷ []) (names_in text ++ other ∷ [])
+compared directory text name other is are =
+    ap (λ (p : Path). ordering_then (names_cmp p (names_of text)) (slice_cmp nat_cmp name other)) (names_after directory is)
+    ∙ ap (λ (p : Path). ordering_then (names_cmp ([] ∷ names_in directory) p) (slice_cmp nat_cmp name other)) (names_after text are)
+    ∙ sym (path_cmp-push (names_in directory) (names_in text) name other)
 
 -- ---- the two parts that a cut at the last slash gives
 
-pub record IsCut (text front back : List ℕ) : Type 0 where
-  pub whole : text ≡ front ++ 47 ∷ back
-  pub lacks : LacksSlash back
-
-pub cut_from_match : (text front back : List ℕ) → SplitsAroundMatch (RFindsChar 47) text front back → IsCut text front back
-cut_from_match text front back is =
-    let at : drop is.0 text ≡ 47 ∷ drop is.1 text = drop_at_char 47 text is.0 is.1 is.2.1 (lit< tt) in
-    let whole : text ≡ take is.0 text ++ 47 ∷ drop is.1 text = sym (take-append-drop is.0 text) ∙ ap (λ end. take is.0 text ++ end) at in
-    record {
-      whole = whole ∙ ap (λ (f : List ℕ). f ++ 47 ∷ drop is.1 text) (sym is.3) ∙ ap (λ (b : List ℕ). front ++ 47 ∷ b) (sym is.4);
-      lacks = subst LacksSlash (sym is.4) (λ i less. NoCharPasses-char 47 (drop is.1 text) i is.2.0 (lit< tt) less);
-    }
-
-pub lacks_from_none : (text : List ℕ) → NoCharPasses (λ octet. nat_eq octet 47) text → LacksSlash text
-lacks_from_none text none i less = NoCharPasses-char 47 text i none (lit< tt) less
-
-pub place_from_none : (path : Path) (text : List ℕ) → text ≡ slashed path → LacksSlash text → None ≡ place_of path
-place_from_none path text e h = ap place_of (sym (root_only path text e h))
-
-pub place_from_cut : (path : Path) (text front back : List ℕ) → AllNames path → text ≡ slashed path → IsCut text front back → Some (front, back) ≡ place_of path
-place_from_cut [] text front back names e cut = absurd (none_in text front back (λ i less. absurd (nothing i (subst (λ (t : List ℕ). i < length t) e less))) cut.whole)
+pub root_if_plain : (path : Path) (text : List ℕ) → text ≡ slashed path → HasNoSlash text → path ≡ []
+root_if_plain [] text e plain = refl
+root_if_plain (name ∷ names) text e plain = let first = subst HasNoSlash e plain in absurd (never first.0)
   where
-    nothing : (i : ℕ) → i < 0 → ⊥
-    nothing i less = omega arith
-place_from_cut (name ∷ names) text front back all e cut =
-    let same = same_split front (slashed (parent_of (name ∷ names))) back (last_of (name ∷ names)) cut.lacks (last_lacks_slash name names all) (sym cut.whole ∙ e ∙ ends_in_name name names) in
-    ap (λ (f : List ℕ). let place : Place = (f, back) in Some place) same.0 ∙ ap (λ (b : List ℕ). let place : Place = (slashed (parent_of (name ∷ names)), b) in Some place) same.1
+    never : is_slash 47 ≡ false → ⊥
+    never e = cc
 
--- the text of the directory above
-pub front_is_parent : (path : Path) (front back : List ℕ) → AllNames path → IsCut (path_text path) front back → front ≡ slashed (parent_of path)
-front_is_parent [] front back names cut = (same_split front [] back [] cut.lacks (λ i less. absurd (omega arith)) (sym cut.whole)).0
-front_is_parent (name ∷ names) front back all cut =
-    (same_split front (slashed (parent_of (name ∷ names))) back (last_of (name ∷ names)) cut.lacks (last_lacks_slash name names all) (sym cut.whole ∙ path_text-below name names ∙ ends_in_name name names)).0
+pub no_place : (text : List ℕ) → slashed (names_in text) ≡ text → HasNoSlash text → None ≡ place_of (names_in text)
+no_place text is plain = ap place_of (sym (root_if_plain (names_in text) text (sym is) plain))
 
-pub never_whole : (path : Path) → LacksSlash (path_text path) → ⊥
-never_whole path h = h 0 (omega arith) refl
+pub text_cut : (text front back : List ℕ) → slashed (names_in text) ≡ text → text ≡ front ++ 47 ∷ back → HasNoSlash back → IsCut (names_in text) front back
+text_cut text front back is whole plain = cut_plain text (names_in text) front back (plain_names text) (sym is) whole plain
 
--- the root's text is one octet long, and no other is
-pub root_if_short : (path : Path) → AllNames path → length (path_text path) ≤ 1 → None ≡ place_of path
-root_if_short [] names short = refl
-root_if_short (name ∷ names) all short = absurd (longer name names all.0.not_empty (subst (λ (t : List ℕ). length t ≤ 1) (path_text-below name names) short))
+pub path_cut : (path : Path) (text front back : List ℕ) → IsPlain path → text ≡ slashed path → text ≡ front ++ 47 ∷ back → HasNoSlash back → IsCut path front back
+path_cut path text front back plain is whole back_plain = cut_plain text path front back plain is whole back_plain
+
+some_place : (path : Path) → path ≢ [] → Some path ≡ place_of path
+some_place [] full = absurd (full refl)
+some_place (name ∷ names) full = refl
+
+pub front_names : (path : Path) (front back : List ℕ) → IsPlain path → IsCut path front back → names_in front ≡ parent_of path
+front_names path front back plain cut = names_of_text (parent_of path) front (parent_plain path plain) cut.front_is
+
+pub front_kept : (path : Path) (front back : List ℕ) → IsPlain path → IsCut path front back → slashed (names_in front) ≡ front
+front_kept path front back plain cut = text_kept (parent_of path) front (parent_plain path plain) cut.front_is
+
+pub place_from_cut : (path : Path) (front back : List ℕ) → IsPlain path → IsCut path front back → Some (names_in front ++ back ∷ []) ≡ place_of path
+place_from_cut path front back plain cut =
+    ap (λ (p : Path). Some (p ++ back ∷ [])) (front_names path front back plain cut)
+    ∙ ap (λ (p : Path). Some p) (sym cut.names)
+    ∙ some_place path cut.full
+
+-- ---- a directory's text
+
+pub root_text : (path : Path) → AllNames path → length (path_text path) ≤ 1 → [] ≡ slashed path
+root_text [] names short = refl
+root_text (name ∷ names) all short = absurd (longer name names all.0.not_empty (subst (λ (t : List ℕ). length t ≤ 1) (path_text-slashed name names) short))
   where
     longer : (name : List ℕ) (names : Path) → name ≢ [] → length (slashed (name ∷ names)) ≤ 1 → ⊥
     longer [] names some short = some refl
@@ -120,14 +150,31 @@ root_if_short (name ∷ names) all short = absurd (longer name names all.0.not_e
 
 pub slashed_if_long : (path : Path) → 1 < length (path_text path) → path_text path ≡ slashed path
 slashed_if_long [] long = absurd (omega arith)
-slashed_if_long (name ∷ names) long = path_text-below name names
+slashed_if_long (name ∷ names) long = path_text-slashed name names
 
-pub parent_names : (path : Path) → AllNames path → AllNames (parent_of path)
-parent_names path all = each-take (length path - 1) path all
+-- with a slash behind it
+pub names_past : (path : Path) (text : List ℕ) → IsPlain path → text ≡ slashed path ++ 47 ∷ [] → names_in text ≡ path ++ [] ∷ []
+names_past path text plain e = names_of_text (path ++ [] ∷ []) text (each-append HasNoSlash path ([] ∷ []) plain (tt, tt)) (e ∙ sym (slashed-push path []))
 
-pub root_text : (path : Path) → AllNames path → length (path_text path) ≤ 1 → [] ≡ slashed path
-root_text [] names short = refl
-root_text (name ∷ names) all short = absurd (never_none (root_if_short (name ∷ names) all short))
-  where
-    never_none : {place : Place} → None ≡ Some place → ⊥
-    never_none e = cc
+pub past_kept : (path : Path) (text : List ℕ) → IsPlain path → text ≡ slashed path ++ 47 ∷ [] → slashed (names_in text) ≡ text
+past_kept path text plain e = text_kept (path ++ [] ∷ []) text (each-append HasNoSlash path ([] ∷ []) plain (tt, tt)) (e ∙ sym (slashed-push path []))
+
+-- ---- the text of a directory in another one
+
+pub joined_text : (front rest text : List ℕ) → slashed (names_in front) ≡ front → slashed (names_in rest) ≡ rest → text ≡ front ++ rest → text ≡ slashed (names_in front ++ names_in rest)
+joined_text front rest text is are e =
+    e ∙ ap (λ t. t ++ rest) (sym is) ∙ ap (λ t. slashed (names_in front) ++ t) (sym are) ∙ sym (slashed-append (names_in front) (names_in rest))
+
+pub joined_plain : (front rest : List ℕ) → IsPlain (names_in front ++ names_in rest)
+joined_plain front rest = each-append HasNoSlash (names_in front) (names_in rest) (plain_names front) (plain_names rest)
+
+-- ---- what is kept of a place
+
+pub place_text : (directory name : List ℕ) (kept_directory kept_name : List ℕ) → slashed (names_in directory) ≡ directory → HasNoSlash name → kept_directory ≡ directory → kept_name ≡ name → IsPlaceText kept_directory kept_name
+place_text directory name kept_directory kept_name is plain same_directory same_name = record {
+  slashes = subst (λ t. slashed (names_in t) ≡ t) (sym same_directory) is;
+  no_slash = subst HasNoSlash (sym same_name) plain;
+}
+
+pub place_text_from_cut : (path : Path) (front back kept_front kept_back : List ℕ) → IsPlain path → IsCut path front back → HasNoSlash back → kept_front ≡ front → kept_back ≡ back → IsPlaceText kept_front kept_back
+place_text_from_cut path front back kept_front kept_back plain cut name_plain = place_text front back kept_front kept_back (front_kept path front back plain cut) name_plain

@@ -1,8 +1,8 @@
 -- Finite maps from places, and the octets that they hold.
 use Rattle.std.proofs.Common.{◌≡◌, ◌≢◌, ℕ, zero, suc, ◌+◌, ◌-◌, ◌<◌, ◌≤◌, Bool, true, false, cond, T, List, [], ◌∷◌, ◌++◌, length, map, refl, sym, ap, subst, ◌∙◌, arith, Option, Some, None, sum_by, ◌&&◌, add-zero}
 use Rattle.std.proofs.lemmas.List.Sums.{sum_by-cons}
-use Rattle.std.specs.Cmp.{IsTotalOrder, nat_cmp_total, on_total, then_total, eq_by_cmp_equiv}
-use Rattle.std.specs.Cmp.Lexicographic.{slice_cmp, nat_list_cmp_total}
+use Rattle.std.specs.Cmp.{eq_by_cmp_equiv}
+use Rattle.std.specs.Cmp.Lexicographic.{slice_cmp}
 use Rattle.std.specs.declared.cmp.Ordering.{Ordering}
 use Rattle.std.specs.declared.cmp.Ordering.TheVariants.{Less, Equal, Greater}
 use Rattle.std.specs.Ordering.{nat_cmp, is_eq, is_lt, eq_by_cmp, ordering_then}
@@ -10,44 +10,43 @@ use Rattle.std.specs.BTreeMap.{is_at}
 use Rattle.std.specs.Map.{lookup}
 use Rattle.std.specs.FinMap.{FinMap, get, insert, remove, empty, entries, values, from_entries, get-from_entries, get-insert, get-remove, get-empty, same_map, entries-insert, get-entries, len-entries, len-empty, entries_sorted, IsAntisymmetric, slice_cmp-IsAntisymmetric, nat_cmp-IsAntisymmetric}
 use Rattle.std.specs.FinMap.Entries.{find, put, is_sorted, by_order, below_all}
-use Rattle.file_tree.specs.Tree.{Node, Place, Tree, place_cmp, size_of, size_at, total}
-
-pub places_total : IsTotalOrder place_cmp
-places_total = then_total (on_total (λ (place : Place). place.0) nat_list_cmp_total) (on_total (λ (place : Place). place.1) nat_list_cmp_total)
+use Rattle.virtual_path.specs.Path.{parent_of}
+use Rattle.file_tree.specs.Orders.{paths_total}
+use Rattle.file_tree.specs.Tree.{Node, Place, Tree, names_cmp, path_cmp, size_of, size_at, total}
 
 pub exact_texts : IsAntisymmetric (slice_cmp nat_cmp)
 exact_texts = slice_cmp-IsAntisymmetric nat_cmp-IsAntisymmetric
 
-both_tie : (r s : Ordering) → ordering_then r s ≡ Equal → (r ≡ Equal) × (s ≡ Equal)
-both_tie Less s e = cc
-both_tie Equal s e = (refl, e)
-both_tie Greater s e = cc
+pub exact_names : IsAntisymmetric names_cmp
+exact_names = slice_cmp-IsAntisymmetric exact_texts
 
--- places that compare alike are one
-pub exact_places : IsAntisymmetric place_cmp
-exact_places a b e =
-    let both = both_tie (slice_cmp nat_cmp a.0 b.0) (slice_cmp nat_cmp a.1 b.1) e in
-    ap (λ (directory : List ℕ). let place : Place = (directory, a.1) in place) (exact_texts a.0 b.0 both.0)
-    ∙ ap (λ (name : List ℕ). let place : Place = (b.0, name) in place) (exact_texts a.1 b.1 both.1)
+second_ties : (r s : Ordering) → ordering_then r s ≡ Equal → s ≡ Equal
+second_ties Less s e = cc
+second_ties Equal s e = e
+second_ties Greater s e = cc
 
-find_place : (es : List (Place × Node)) (q : Place) → find place_cmp q es ≡ lookup (is_at (place_cmp q)) es
+-- paths that compare alike are one
+pub exact_paths : IsAntisymmetric path_cmp
+exact_paths a b e = exact_names a b (second_ties (names_cmp (parent_of a) (parent_of b)) (names_cmp a b) e)
+
+find_place : (es : List (Place × Node)) (q : Place) → find path_cmp q es ≡ lookup (is_at (path_cmp q)) es
 find_place [] q = refl
-find_place (e ∷ es) q = ap (cond (is_at (place_cmp q) e.0) (Some e.1)) (find_place es q)
+find_place (e ∷ es) q = ap (cond (is_at (path_cmp q) e.0) (Some e.1)) (find_place es q)
 
 -- what the tree of these entries has at a place
-pub get_place : (es : List (Place × Node)) (q : Place) → get (from_entries {R = place_cmp} es) q ≡ lookup (is_at (place_cmp q)) es
-get_place es q = get-from_entries places_total es q ∙ find_place es q
+pub get_place : (es : List (Place × Node)) (q : Place) → get (from_entries {R = path_cmp} es) q ≡ lookup (is_at (path_cmp q)) es
+get_place es q = get-from_entries paths_total es q ∙ find_place es q
 
 -- entries that differ at one place make trees that differ there
-pub one_put : (es fs : List (Place × Node)) (p : Place) (node : Node) → ((q : Place) → lookup (is_at (place_cmp q)) fs ≡ cond (is_at (place_cmp p) q) (Some node) (lookup (is_at (place_cmp q)) es)) → from_entries {R = place_cmp} fs ≡ insert (from_entries es) p node
-one_put es fs p node h = same_map places_total exact_places _ _ (λ q.
-    get_place fs q ∙ h q ∙ ap (λ b. cond b (Some node) (lookup (is_at (place_cmp q)) es)) ((eq_by_cmp_equiv places_total).symm p q)
-    ∙ sym (get-insert places_total (from_entries es) p node q ∙ ap (cond (is_at (place_cmp q) p) (Some node)) (get_place es q)))
+pub one_put : (es fs : List (Place × Node)) (p : Place) (node : Node) → ((q : Place) → lookup (is_at (path_cmp q)) fs ≡ cond (is_at (path_cmp p) q) (Some node) (lookup (is_at (path_cmp q)) es)) → from_entries {R = path_cmp} fs ≡ insert (from_entries es) p node
+one_put es fs p node h = same_map paths_total exact_paths _ _ (λ q.
+    get_place fs q ∙ h q ∙ ap (λ b. cond b (Some node) (lookup (is_at (path_cmp q)) es)) ((eq_by_cmp_equiv paths_total).symm p q)
+    ∙ sym (get-insert paths_total (from_entries es) p node q ∙ ap (cond (is_at (path_cmp q) p) (Some node)) (get_place es q)))
 
-pub one_taken : (es fs : List (Place × Node)) (p : Place) → ((q : Place) → lookup (is_at (place_cmp q)) fs ≡ cond (is_at (place_cmp p) q) None (lookup (is_at (place_cmp q)) es)) → from_entries {R = place_cmp} fs ≡ remove (from_entries es) p
-one_taken es fs p h = same_map places_total exact_places _ _ (λ q.
-    get_place fs q ∙ h q ∙ ap (λ b. cond b None (lookup (is_at (place_cmp q)) es)) ((eq_by_cmp_equiv places_total).symm p q)
-    ∙ sym (get-remove places_total (from_entries es) p q ∙ ap (cond (is_at (place_cmp q) p) None) (get_place es q)))
+pub one_taken : (es fs : List (Place × Node)) (p : Place) → ((q : Place) → lookup (is_at (path_cmp q)) fs ≡ cond (is_at (path_cmp p) q) None (lookup (is_at (path_cmp q)) es)) → from_entries {R = path_cmp} fs ≡ remove (from_entries es) p
+one_taken es fs p h = same_map paths_total exact_paths _ _ (λ q.
+    get_place fs q ∙ h q ∙ ap (λ b. cond b None (lookup (is_at (path_cmp q)) es)) ((eq_by_cmp_equiv paths_total).symm p q)
+    ∙ sym (get-remove paths_total (from_entries es) p q ∙ ap (cond (is_at (path_cmp q) p) None) (get_place es q)))
 
 -- ---- sums
 
@@ -62,11 +61,11 @@ sizes_are (e ∷ es) = sum_by-cons size_of e.1 (map (λ e. e.1) es) ∙ ap (λ n
 pub total_sizes : (tree : Tree) → total tree ≡ sizes (entries tree)
 total_sizes tree = sizes_are (entries tree)
 
-none_below : (p x : Place) (es : List (Place × Node)) → place_cmp p x ≡ Less → T (below_all place_cmp x es) → find place_cmp p es ≡ None
+none_below : (p x : Place) (es : List (Place × Node)) → path_cmp p x ≡ Less → T (below_all path_cmp x es) → find path_cmp p es ≡ None
 none_below p x [] less below = refl
 none_below p x (e ∷ es) less below =
-    elim (place_cmp x e.0) as (λ r. place_cmp x e.0 ≡ r → T (is_lt r && below_all place_cmp x es) → find place_cmp p (e ∷ es) ≡ None) [
-      | Less ↦ λ next rest. ap (λ r. cond (is_eq r) (Some e.1) (find place_cmp p es)) (places_total.trans p x e.0 less next) ∙ none_below p x es less rest
+    elim (path_cmp x e.0) as (λ r. path_cmp x e.0 ≡ r → T (is_lt r && below_all path_cmp x es) → find path_cmp p (e ∷ es) ≡ None) [
+      | Less ↦ λ next rest. ap (λ r. cond (is_eq r) (Some e.1) (find path_cmp p es)) (paths_total.trans p x e.0 less next) ∙ none_below p x es less rest
       | Equal ↦ λ next rest. absurd rest
       | Greater ↦ λ next rest. absurd rest
     ] refl below
@@ -84,11 +83,11 @@ in_place_of a b c = omega arith
 behind : (a s f t n : ℕ) → s + f ≡ t + n → a + s + f ≡ a + t + n
 behind a s f t n rest = omega arith
 
-sum-put : (p : Place) (node : Node) (es : List (Place × Node)) → T (is_sorted place_cmp es) → sizes (put place_cmp p node es) + size_at (find place_cmp p es) ≡ sizes es + size_of node
+sum-put : (p : Place) (node : Node) (es : List (Place × Node)) → T (is_sorted path_cmp es) → sizes (put path_cmp p node es) + size_at (find path_cmp p es) ≡ sizes es + size_of node
 sum-put p node [] sorted = omega arith
 sum-put p node (e ∷ es) sorted =
-    let parts = sorted_parts (below_all place_cmp e.0 es) (is_sorted place_cmp es) sorted in
-    elim (place_cmp p e.0) as (λ r. place_cmp p e.0 ≡ r → sizes (by_order r ((p, node) ∷ e ∷ es) ((e.0, node) ∷ es) (e ∷ put place_cmp p node es)) + size_at (cond (is_eq r) (Some e.1) (find place_cmp p es)) ≡ size_of e.1 + sizes es + size_of node) [
+    let parts = sorted_parts (below_all path_cmp e.0 es) (is_sorted path_cmp es) sorted in
+    elim (path_cmp p e.0) as (λ r. path_cmp p e.0 ≡ r → sizes (by_order r ((p, node) ∷ e ∷ es) ((e.0, node) ∷ es) (e ∷ put path_cmp p node es)) + size_at (cond (is_eq r) (Some e.1) (find path_cmp p es)) ≡ size_of e.1 + sizes es + size_of node) [
       | Less ↦ λ less. in_front (size_of node) (size_of e.1) (sizes es) _ (ap size_at (none_below p e.0 es less parts.0))
       | Equal ↦ λ same. in_place_of (size_of node) (size_of e.1) (sizes es)
       | Greater ↦ λ more. behind (size_of e.1) _ _ _ _ (sum-put p node es parts.1)
@@ -97,35 +96,35 @@ sum-put p node (e ∷ es) sorted =
 pub total-insert : (tree : Tree) (p : Place) (node : Node) → total (insert tree p node) + size_at (get tree p) ≡ total tree + size_of node
 total-insert tree p node =
     ap (λ n. n + size_at (get tree p)) (total_sizes (insert tree p node))
-    ∙ ap (λ es. sizes es + size_at (get tree p)) (entries-insert places_total tree p node)
-    ∙ ap (λ found. sizes (put place_cmp p node (entries tree)) + size_at found) (get-entries tree p)
+    ∙ ap (λ es. sizes es + size_at (get tree p)) (entries-insert paths_total tree p node)
+    ∙ ap (λ found. sizes (put path_cmp p node (entries tree)) + size_at found) (get-entries tree p)
     ∙ sum-put p node (entries tree) (entries_sorted tree)
     ∙ ap (λ n. n + size_of node) (sym (total_sizes tree))
 
 -- to put back what was taken is to take nothing
 put_back : (tree : Tree) (p : Place) (node : Node) → get tree p ≡ Some node → insert (remove tree p) p node ≡ tree
-put_back tree p node is = same_map places_total exact_places _ _ (λ q.
-    get-insert places_total (remove tree p) p node q ∙ ap (cond (eq_by_cmp place_cmp q p) (Some node)) (get-remove places_total tree p q) ∙ back q)
+put_back tree p node is = same_map paths_total exact_paths _ _ (λ q.
+    get-insert paths_total (remove tree p) p node q ∙ ap (cond (eq_by_cmp path_cmp q p) (Some node)) (get-remove paths_total tree p q) ∙ back q)
   where
-    back : (q : Place) → cond (eq_by_cmp place_cmp q p) (Some node) (cond (eq_by_cmp place_cmp q p) None (get tree q)) ≡ get tree q
-    back q = elim (place_cmp q p) as (λ r. place_cmp q p ≡ r → cond (is_eq r) (Some node) (cond (is_eq r) None (get tree q)) ≡ get tree q) [
+    back : (q : Place) → cond (eq_by_cmp path_cmp q p) (Some node) (cond (eq_by_cmp path_cmp q p) None (get tree q)) ≡ get tree q
+    back q = elim (path_cmp q p) as (λ r. path_cmp q p ≡ r → cond (is_eq r) (Some node) (cond (is_eq r) None (get tree q)) ≡ get tree q) [
       | Less ↦ λ _. refl
-      | Equal ↦ λ same. sym is ∙ ap (get tree) (sym (exact_places q p same))
+      | Equal ↦ λ same. sym is ∙ ap (get tree) (sym (exact_paths q p same))
       | Greater ↦ λ _. refl
     ] refl
 
 taken_none : (tree : Tree) (p : Place) → get tree p ≡ None → remove tree p ≡ tree
-taken_none tree p none = same_map places_total exact_places _ _ (λ q. get-remove places_total tree p q ∙ stays q)
+taken_none tree p none = same_map paths_total exact_paths _ _ (λ q. get-remove paths_total tree p q ∙ stays q)
   where
-    stays : (q : Place) → cond (eq_by_cmp place_cmp q p) None (get tree q) ≡ get tree q
-    stays q = elim (place_cmp q p) as (λ r. place_cmp q p ≡ r → cond (is_eq r) None (get tree q) ≡ get tree q) [
+    stays : (q : Place) → cond (eq_by_cmp path_cmp q p) None (get tree q) ≡ get tree q
+    stays q = elim (path_cmp q p) as (λ r. path_cmp q p ≡ r → cond (is_eq r) None (get tree q) ≡ get tree q) [
       | Less ↦ λ _. refl
-      | Equal ↦ λ same. sym none ∙ ap (get tree) (sym (exact_places q p same))
+      | Equal ↦ λ same. sym none ∙ ap (get tree) (sym (exact_paths q p same))
       | Greater ↦ λ _. refl
     ] refl
 
 gone : (tree : Tree) (p : Place) → get (remove tree p) p ≡ None
-gone tree p = get-remove places_total tree p p ∙ ap (λ b. cond b None (get tree p)) ((eq_by_cmp_equiv places_total).refl p)
+gone tree p = get-remove paths_total tree p p ∙ ap (λ b. cond b None (get tree p)) ((eq_by_cmp_equiv paths_total).refl p)
 
 pub total-remove : (tree : Tree) (p : Place) → total (remove tree p) + size_at (get tree p) ≡ total tree
 total-remove tree p = elim (get tree p) as (λ found. get tree p ≡ found → total (remove tree p) + size_at found ≡ total tree) [
@@ -142,13 +141,13 @@ nothing_in [] none = refl
 nothing_in (e ∷ es) none = absurd (omega arith)
 
 pub total-empty : total empty ≡ 0
-total-empty = total_sizes empty ∙ nothing_in (entries empty) (sym (len-entries empty) ∙ len-empty place_cmp Node)
+total-empty = total_sizes empty ∙ nothing_in (entries empty) (sym (len-entries empty) ∙ len-empty path_cmp Node)
 
 no_more : (a f r s z : ℕ) → a + f ≡ r + z → r ≤ s → a ≤ z + s
 no_more a f r s z sum rest = omega arith
 
 -- the tree of some entries holds no more than they do
-pub total-from_entries : (es : List (Place × Node)) → total (from_entries {R = place_cmp} es) ≤ sizes es
+pub total-from_entries : (es : List (Place × Node)) → total (from_entries {R = path_cmp} es) ≤ sizes es
 total-from_entries [] = subst (λ n. n ≤ 0) (sym total-empty) (omega arith)
 total-from_entries (e ∷ es) =
     no_more _ (size_at (get (from_entries es) e.0)) (total (from_entries es)) (sizes es) (size_of e.1) (total-insert (from_entries es) e.0 e.1) (total-from_entries es)
@@ -173,7 +172,7 @@ put_count tree p node stored freed more is at size =
 -- ---- an entry at another place
 
 still_there : (tree : Tree) (from to : Place) (node : Node) → get tree from ≡ Some node → get (insert tree to node) from ≡ Some node
-still_there tree from to node is = get-insert places_total tree to node from ∙ either (eq_by_cmp place_cmp from to)
+still_there tree from to node is = get-insert paths_total tree to node from ∙ either (eq_by_cmp path_cmp from to)
   where
     either : (b : Bool) → cond b (Some node) (get tree from) ≡ Some node
     either true = refl

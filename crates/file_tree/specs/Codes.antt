@@ -21,7 +21,7 @@ abbrev pub node_code : Coded Node
 node_code = code_by (Option (List ℕ × ℕ)) (coded_option (coded× (coded_list coded_ℕ) coded_ℕ)) parts_of from_parts parts_back
 
 abbrev pub place_code : Coded Place
-place_code = coded× (coded_list coded_ℕ) (coded_list coded_ℕ)
+place_code = coded_list (coded_list coded_ℕ)
 
 abbrev pub tree_code : Coded Tree
 tree_code = map.code place_code node_code

@@ -1,7 +1,8 @@
 -- What the entries of a store in memory are seen as.
-use Rattle.std.specs.Prelude.{ℕ, List, Vec}
+use Rattle.std.specs.Prelude.{◌≡◌, ℕ, List, Vec}
 use Rattle.std.specs.Arc.{arc_value}
 use Rattle.std.specs.declared.sync.Arc.{Arc}
+use Rattle.virtual_path.specs.Path.{slashed, names_in, HasNoSlash}
 use Rattle.file_tree.specs.declared.entry.Held.{Held}
 use Rattle.file_tree.specs.declared.entry.Held.TheVariants as held
 use Rattle.file_tree.specs.Tree.{Node}
@@ -14,3 +15,8 @@ node_of (held.File octets moment) = File (arc_value octets).items moment
 -- the octets that are shared
 abbrev pub shared : {A B : Type 0} → Arc (Vec ℕ A) B → List ℕ
 shared octets = (arc_value octets).items
+
+-- what is kept of an entry's path: the text of its directory, `/` before each name, and its own name
+pub record IsPlaceText (directory name : List ℕ) : Type 0 where
+  pub slashes : slashed (names_in directory) ≡ directory
+  pub no_slash : HasNoSlash name

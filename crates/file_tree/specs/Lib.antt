@@ -1,3 +1,4 @@
 pub mod Codes
 pub mod Held
+pub mod Orders
 pub mod Tree

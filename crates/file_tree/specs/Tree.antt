@@ -1,6 +1,6 @@
 -- What a store in memory holds: a finite map from places to directories and files.
-use Rattle.std.specs.Prelude.{ℕ, ◌/◌, Bool, true, false, cond, List, [], ◌∷◌, ◌++◌, map, length, take, drop, Option, Some, None, bytes_eq, filter, sum_by}
-use Rattle.std.specs.Ordering.{nat_cmp, then_cmp, on, is_eq}
+use Rattle.std.specs.Prelude.{ℕ, ◌/◌, Bool, false, cond, List, [], ◌∷◌, ◌++◌, map, length, take, drop, Option, Some, None, filter, sum_by}
+use Rattle.std.specs.Ordering.{nat_cmp, then_cmp, on, eq_by_cmp}
 use Rattle.std.specs.Cmp.Lexicographic.{slice_cmp}
 use Rattle.std.specs.declared.cmp.Ordering.{Ordering}
 use Rattle.std.specs.FinMap.{FinMap, get, entries, values, from_entries}
@@ -8,34 +8,32 @@ use Rattle.ftp_terms.specs.Entries as terms
 use Rattle.ftp_terms.specs.declared.entries.Meta.{Meta}
 use Rattle.ftp_terms.specs.declared.entries.Kind.{Kind}
 use Rattle.ftp_terms.specs.declared.entries.Kind.TheVariants as kind
-use Rattle.virtual_path.specs.Path.{Path, slashed, parent_of, is_name}
+use Rattle.virtual_path.specs.Path.{Path, parent_of, is_name}
 
 -- a directory, or a file: its octets, and the moment when it was modified, in milliseconds since 1970
 pub data Node : Type 0 where
   Directory : Node
   File : List ℕ → ℕ → Node
 
--- where an entry stands: the text of its directory, `/` before each name, and its own name
-abbrev pub Place : Type 0
-Place = List ℕ × List ℕ
+-- paths by their names, each by its octets
+abbrev pub names_cmp : Path → Path → Ordering
+names_cmp = slice_cmp (slice_cmp nat_cmp)
 
--- by directory and then by name, so that a directory's entries are next to each other
-abbrev pub place_cmp : Place → Place → Ordering
-place_cmp = then_cmp (on (λ (place : Place). place.0) (slice_cmp nat_cmp)) (on (λ (place : Place). place.1) (slice_cmp nat_cmp))
+-- by directory first, so that a directory's entries are next to each other, in the order of their names
+abbrev pub path_cmp : Path → Path → Ordering
+path_cmp = then_cmp (on parent_of names_cmp) names_cmp
 
--- what stands at each place; the root is always a directory, and is no entry of another
+-- what stands at each path; the root is always a directory, and is no entry of another
 abbrev pub Tree : Type 0
-Tree = FinMap place_cmp Node
+Tree = FinMap path_cmp Node
 
-abbrev pub last_of : Path → List ℕ
-last_of [] = []
-last_of (name ∷ []) = name
-last_of (name ∷ next ∷ names) = last_of (next ∷ names)
+-- where an entry stands: any path but the root
+abbrev pub Place : Type 0
+Place = Path
 
--- the place of a path, unless it is the root
 abbrev pub place_of : Path → Option Place
 place_of [] = None
-place_of (name ∷ names) = Some (slashed (parent_of (name ∷ names)), last_of (name ∷ names))
+place_of (name ∷ names) = Some (name ∷ names)
 
 abbrev pub node_in : Tree → Option Place → Option Node
 node_in tree None = Some Directory
@@ -73,44 +71,44 @@ size_at (Some node) = size_of node
 abbrev pub total : Tree → ℕ
 total tree = sum_by size_of (values tree)
 
--- the entries of the directory with this text
-abbrev pub is_in : List ℕ → Place → Bool
-is_in directory place = bytes_eq directory place.0
+abbrev pub is_same : Path → Path → Bool
+is_same = eq_by_cmp names_cmp
 
-abbrev pub children_in : Tree → List ℕ → List (Place × Node)
+-- whether a path is that of an entry of this directory
+abbrev pub is_in : Path → Path → Bool
+is_in directory [] = false
+is_in directory (name ∷ names) = is_same directory (parent_of (name ∷ names))
+
+abbrev pub children_in : Tree → Path → List (Place × Node)
 children_in tree directory = filter (λ entry. is_in directory entry.0) (entries tree)
 
--- what is told of them, in the order of the names' octets
+abbrev pub last_of : Path → List ℕ
+last_of [] = []
+last_of (name ∷ []) = name
+last_of (name ∷ next ∷ names) = last_of (next ∷ names)
+
+-- what is told of an entry of a directory, by its name there
 abbrev pub told_of : Place × Node → List ℕ × Meta
-told_of entry = (entry.0.1, meta_of entry.1)
+told_of entry = (last_of entry.0, meta_of entry.1)
 
 -- a listing shows what a path can name
 abbrev pub is_named : Place × Node → Bool
-is_named entry = is_name entry.0.1
+is_named entry = is_name (last_of entry.0)
 
-abbrev pub listing_in : Tree → List ℕ → List (List ℕ × Meta)
-listing_in tree directory = map told_of (filter is_named (children_in tree directory))
-
+-- a directory's entries, in the order of the names' octets
 abbrev pub listing : Tree → Path → List (List ℕ × Meta)
-listing tree path = listing_in tree (slashed path)
+listing tree directory = map told_of (filter is_named (children_in tree directory))
 
--- whether a text begins with another
-abbrev pub begins_with : List ℕ → List ℕ → Bool
-begins_with front text = bytes_eq (take (length front) text) front
+-- whether a path is this one or beneath it
+abbrev pub begins_with : Path → Path → Bool
+begins_with front path = is_same (take (length front) path) front
 
--- whether a directory's text is this one, or that of a directory beneath it
-abbrev pub is_at_or_under : List ℕ → List ℕ → Bool
-is_at_or_under directory text = begins_with (directory ++ 47 ∷ []) (text ++ 47 ∷ [])
+-- where an entry stands after a rename: what was renamed at its new path, and what stood beneath it beneath that
+abbrev pub moved : Path → Path → Place → Place
+moved from to path = cond (begins_with from path) (to ++ drop (length from) path) path
 
--- where an entry stands after a rename: what was renamed at its new place, and what stood beneath it
--- beneath that; from and to are the two texts
-abbrev pub moved : List ℕ → List ℕ → Place → Place → Place → Place
-moved from to old new place = cond (is_eq (place_cmp old place)) new
-    (cond (is_at_or_under from place.0) (to ++ drop (length from) place.0, place.1) place)
+abbrev pub moved_entry : Path → Path → Place × Node → Place × Node
+moved_entry from to entry = (moved from to entry.0, entry.1)
 
-abbrev pub moved_entry : List ℕ → List ℕ → Place → Place → Place × Node → Place × Node
-moved_entry from to old new entry = (moved from to old new entry.0, entry.1)
-
--- the tree, where from and to are the texts of two places, old and new
-abbrev pub renamed : Tree → List ℕ → List ℕ → Place → Place → Tree
-renamed tree from to old new = from_entries (map (moved_entry from to old new) (entries tree))
+abbrev pub renamed : Tree → Path → Path → Tree
+renamed tree from to = from_entries (map (moved_entry from to) (entries tree))

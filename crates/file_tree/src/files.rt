@@ -1,4 +1,4 @@
-//! The entries of a store in memory, by their places.
+//! The entries of a store in memory, by their paths.
 
 ghost use Rattle.std.specs.Prelude.{◌≡◌, ◌<◌, ◌^◌, IfOk, OnOk, OnErr, option_copied, Some, None, length, nat_eq};
 ghost use Rattle.std.specs.Cmp.Lexicographic.{slice_cmp};
@@ -6,7 +6,7 @@ ghost use Rattle.std.specs.FinMap as map;
 ghost use Rattle.std.specs.List.Sorted.{IsStrictlySortedBy};
 ghost use Rattle.std.specs.Ordering.{nat_cmp};
 ghost use Rattle.virtual_tree.specs.Calls.{entries_of, names_of};
-ghost use Rattle.file_tree.specs.Tree.{total, size_of, size_at, children_in, listing_in, renamed};
+ghost use Rattle.file_tree.specs.Tree.{total, size_of, size_at, children_in, listing, renamed};
 
 use crate::entry::Entry;
 use crate::place::Place;
@@ -14,6 +14,7 @@ use std::alloc::{AllocError, Allocator};
 use std::collections::BTreeMap;
 use std::marker::Model;
 use std::ops::Bound;
+use virtual_path::VPath;
 use virtual_tree::Listed;
 
 /// The entries below the root, and how many octets their files hold.
@@ -26,16 +27,16 @@ pub struct Files<A: Allocator> {
 impl<A: Allocator> Model for Files<A> {
     ghost use Rattle.std.specs.Prelude.{◌≡◌};
     ghost use Rattle.std.specs.FinMap.{from_entries};
-    ghost use Rattle.file_tree.specs.Tree.{Tree, place_cmp, total};
+    ghost use Rattle.file_tree.specs.Tree.{Tree, path_cmp, total};
     ghost use Rattle.file_tree.specs.Codes.{tree_code};
 
     ghost Value = { Tree };
 
     ghost coded = { tree_code };
 
-    ghost view = { λ files. from_entries {R = place_cmp} files.nodes.entries };
+    ghost view = { λ files. from_entries {R = path_cmp} files.nodes.entries };
 
-    ghost invariant = { λ files. files.stored ≡ total (from_entries {R = place_cmp} files.nodes.entries) };
+    ghost invariant = { λ files. files.stored ≡ total (from_entries {R = path_cmp} files.nodes.entries) };
 }
 
 impl<A: Allocator + Clone> Files<A> {
@@ -95,13 +96,17 @@ impl<A: Allocator + Clone> Files<A> {
         }
     }
 
-    /// The entries of the directory with this text that a path can name, in the order of their names.
-    pub fn listing(&self, alloc: &A, directory: &str) -> Result<Vec<Listed<A>, A>, AllocError>
-        ensures entries { IfOk result (λ listed. entries_of listed ≡ listing_in self.now directory.now) }
+    /// The entries of a directory that a path can name, in the order of their names.
+    pub fn listing<B: Allocator>(
+        &self,
+        alloc: &A,
+        path: &VPath<B>,
+    ) -> Result<Vec<Listed<A>, A>, AllocError>
+        ensures entries { IfOk result (λ listed. entries_of listed ≡ listing self.now path.now) }
         ensures rising { IfOk result (λ listed. IsStrictlySortedBy (slice_cmp nat_cmp) (names_of listed)) }
     {
-        let first = Place::first_in(alloc, directory)?;
-        let end = Place::past(alloc, directory)?;
+        let first = Place::first_in(alloc, path)?;
+        let end = Place::past(alloc, path)?;
         let mut listed = Vec::new(alloc.clone()?);
         for (place, entry) in self
             .nodes
@@ -114,12 +119,12 @@ impl<A: Allocator + Clone> Files<A> {
         Ok(listed)
     }
 
-    /// Whether the directory with this text has no entries.
-    pub fn is_bare(&self, alloc: &A, directory: &str) -> Result<bool, AllocError>
-        ensures bare { IfOk result (λ bare. bare ≡ nat_eq (length (children_in self.now directory.now)) 0) }
+    /// Whether a directory has no entries.
+    pub fn is_bare<B: Allocator>(&self, alloc: &A, path: &VPath<B>) -> Result<bool, AllocError>
+        ensures bare { IfOk result (λ bare. bare ≡ nat_eq (length (children_in self.now path.now)) 0) }
     {
-        let first = Place::first_in(alloc, directory)?;
-        let end = Place::past(alloc, directory)?;
+        let first = Place::first_in(alloc, path)?;
+        let end = Place::past(alloc, path)?;
         let mut entries = self
             .nodes
             .range((Bound::Included(&first), Bound::Excluded(&end)));
@@ -143,16 +148,18 @@ impl<A: Allocator + Clone> Files<A> {
         Ok(())
     }
 
-    /// All entries, each where it stands after a rename from one place and text to another.
-    pub fn renamed(
+    /// All entries, each where it stands after a rename from one path to another, whose places these are.
+    pub fn renamed<B: Allocator>(
         &self,
         alloc: &A,
-        from: &str,
-        to: &str,
+        from: &VPath<B>,
+        to: &VPath<B>,
         before: &Place<A>,
         afterwards: &Place<A>,
     ) -> Result<Files<A>, AllocError>
-        ensures { IfOk result (λ files. files ≡ renamed self.now from.now to.now before.now afterwards.now) }
+        requires before { before.now ≡ from.now }
+        requires afterwards { afterwards.now ≡ to.now }
+        ensures { IfOk result (λ files. files ≡ renamed self.now from.now to.now) }
     {
         // What is stored here bounds what is put anew.
         let _most = self.stored();

@@ -1,14 +1,14 @@
-//! The tree that a store in memory keeps: directories and files, each at its place.
+//! The tree that a store in memory keeps: directories and files, each at its path.
 //!
-//! [`Files`] is a finite map from places to entries. A [`Place`] is the text of a directory and a name in it, so
-//! that a directory's entries are next to each other, in the order of their names.
+//! [`Files`] is a finite map from paths to entries. A [`Place`] is a path but the root, in an order in which a
+//! directory's entries are next to each other, in the order of their names.
 //!
 //! ```text
 //! let mut files = Files::new(alloc.clone()?);
 //! if let Some(place) = Place::of(&alloc, &path)? {
 //!     files.put(place, Entry::directory())?;
 //! }
-//! let listed = files.listing(&alloc, directory_text(&above))?;
+//! let listed = files.listing(&alloc, &above)?;
 //! ```
 #![tactic(auto)]
 
@@ -18,4 +18,4 @@ mod place;
 
 pub use entry::Entry;
 pub use files::Files;
-pub use place::{Place, directory_text, is_beneath};
+pub use place::Place;

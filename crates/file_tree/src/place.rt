@@ -1,8 +1,9 @@
 //! Where an entry stands.
 
-ghost use Rattle.std.specs.Prelude.{◌≡◌, ◌++◌, ◌∷◌, [], true, false, drop, length, MatchOption, IfOk};
-ghost use Rattle.virtual_path.specs.Path.{Path, slashed, parent_of, AllNames, is_name};
-ghost use Rattle.file_tree.specs.Tree.{place_cmp, place_of, begins_with, is_at_or_under};
+ghost use Rattle.std.specs.Prelude.{◌≡◌, ◌++◌, ◌∷◌, ◌||◌, [], true, false, drop, length, nat_eq, slice_index, MatchOption, IfOk};
+ghost use Rattle.std.specs.List.{AllByRecursion};
+ghost use Rattle.virtual_path.specs.Path.{Path, slashed, names_of, names_in, parent_of, is_name, HasNoSlash};
+ghost use Rattle.file_tree.specs.Tree.{names_cmp, path_cmp, place_of, begins_with};
 
 use crate::entry::Entry;
 use std::alloc::{AllocError, Allocator};
@@ -11,9 +12,9 @@ use std::marker::Model;
 use virtual_path::{VPath, is_name};
 use virtual_tree::Listed;
 
-/// The text of a directory, `/` before each name, and the name of an entry in it.
+/// A path but the root: the text of its directory, `/` before each name, and its last name.
 ///
-/// In this order a directory's entries are next to each other, in the order of their names.
+/// In their order a directory's entries are next to each other, in the order of their names.
 #[derive(Drop)]
 pub struct Place<A: Allocator> {
     directory: String<A>,
@@ -21,22 +22,27 @@ pub struct Place<A: Allocator> {
 }
 
 impl<A: Allocator> Model for Place<A> {
-    ghost use Rattle.std.specs.Prelude.{List, ℕ, string_bytes};
+    ghost use Rattle.std.specs.Prelude.{◌++◌, ◌∷◌, [], List, ℕ, string_bytes};
+    ghost use Rattle.virtual_path.specs.Path.{names_in};
+    ghost use Rattle.file_tree.specs.Held.{IsPlaceText};
 
-    ghost Value = { List ℕ × List ℕ };
+    ghost Value = { List (List ℕ) };
 
-    ghost view = { λ place. (string_bytes place.directory, string_bytes place.name) };
+    ghost view = { λ place. names_in (string_bytes place.directory) ++ string_bytes place.name ∷ [] };
+
+    ghost invariant = { λ place. IsPlaceText (string_bytes place.directory) (string_bytes place.name) };
 }
 
 impl<A: Allocator> PartialEq for Place<A> {
     ghost use Rattle.std.proofs.Common.{rules};
     ghost use Rattle.std.specs.Cmp.Rules.{comparing};
+    ghost use Rattle.file_tree.specs.Orders.{paths_total};
     ghost use Rattle.std.specs.Ordering.{eq_by_cmp};
-    ghost use Rattle.file_tree.specs.Tree.{place_cmp};
+    ghost use Rattle.file_tree.specs.Tree.{path_cmp};
 
-    ghost eq = { eq_by_cmp place_cmp };
+    ghost eq = { eq_by_cmp path_cmp };
 
-    ghost laws = { Prim.search (comparing, rules) };
+    ghost laws = { Prim.search (comparing, rules, paths_total) };
 
     fn eq(&self, other: &Place<A>) -> bool {
         self.cmp(other).is_eq()
@@ -46,27 +52,28 @@ impl<A: Allocator> PartialEq for Place<A> {
 impl<A: Allocator> Eq for Place<A> {
     ghost use Rattle.std.proofs.Common.{rules};
     ghost use Rattle.std.specs.Cmp.Rules.{comparing};
+    ghost use Rattle.file_tree.specs.Orders.{paths_total};
 
-    ghost laws = { Prim.search (comparing, rules) };
+    ghost laws = { Prim.search (comparing, rules, paths_total) };
 }
 
 impl<A: Allocator> Ord for Place<A> {
     ghost use Rattle.std.proofs.Common.{rules};
     ghost use Rattle.std.specs.Cmp.Rules.{comparing};
-    ghost use Rattle.file_tree.specs.Tree.{place_cmp};
+    ghost use Rattle.file_tree.specs.Orders.{paths_total};
+    ghost use Rattle.file_tree.specs.Tree.{path_cmp};
 
-    ghost cmp = { place_cmp };
+    ghost cmp = { path_cmp };
 
-    ghost total = { Prim.search (comparing, rules) };
+    ghost total = { Prim.search (comparing, rules, paths_total) };
 
     ghost matches_partial_cmp = { Prim.search (comparing, rules) };
 
     ghost matches_eq = { Prim.search (comparing, rules) };
 
     fn cmp(&self, other: &Place<A>) -> Ordering {
-        self.directory
-            .cmp(&other.directory)
-            .then(self.name.cmp(&other.name))
+        let order = compare_names(self.directory.as_str(), other.directory.as_str());
+        order.then(self.name.cmp(&other.name))
     }
 }
 
@@ -74,12 +81,13 @@ impl<A: Allocator> PartialOrd for Place<A> {
     ghost use Rattle.std.proofs.Common.{rules};
     ghost use Rattle.std.specs.Cmp.{partial_order_from_own_ties};
     ghost use Rattle.std.specs.Cmp.Rules.{comparing};
+    ghost use Rattle.file_tree.specs.Orders.{paths_total};
     ghost use Rattle.std.specs.Ordering.{as_partial_cmp};
-    ghost use Rattle.file_tree.specs.Tree.{place_cmp};
+    ghost use Rattle.file_tree.specs.Tree.{path_cmp};
 
-    ghost partial_cmp = { as_partial_cmp place_cmp };
+    ghost partial_cmp = { as_partial_cmp path_cmp };
 
-    ghost laws = { partial_order_from_own_ties (Prim.search (comparing, rules)) (Prim.search (comparing, rules)) };
+    ghost laws = { partial_order_from_own_ties (Prim.search (comparing, rules, paths_total)) (Prim.search (comparing, rules, paths_total)) };
 
     fn partial_cmp(&self, other: &Place<A>) -> Option<Ordering> {
         Some(self.cmp(other))
@@ -88,15 +96,16 @@ impl<A: Allocator> PartialOrd for Place<A> {
 
 impl<A: Allocator + Clone> Place<A> {
     ghost use Rattle.std.specs.Prelude.{◌≡◌, ◌++◌, ◌∷◌, [], IfOk};
-    ghost use Rattle.virtual_path.specs.Path.{Path, slashed, parent_of, AllNames};
+    ghost use Rattle.virtual_path.specs.Path.{Path, slashed, names_in, parent_of};
     ghost use Rattle.virtual_tree.specs.Calls.{entry_of};
-    ghost use Rattle.file_tree.specs.Tree.{place_of, told_of, moved};
+    ghost use Rattle.file_tree.specs.Tree.{last_of, place_of, told_of, moved};
 
     /// The place that a text names, `/` before each name; none where it is empty, the root's.
     fn split(alloc: &A, text: &str) -> Result<Option<Place<A>>, AllocError>
-        ensures { (path : Path) → AllNames path → text.now ≡ slashed path → IfOk result (λ found. found ≡ place_of path) }
+        requires { slashed (names_in text.now) ≡ text.now }
+        ensures { IfOk result (λ found. found ≡ place_of (names_in text.now)) }
     {
-        match text.rsplit_once('/') {
+        match split_last(text) {
             None => Ok(None),
             Some((directory, name)) => Ok(Some(Place {
                 directory: String::from_str(alloc.clone()?, directory)?,
@@ -109,18 +118,14 @@ impl<A: Allocator + Clone> Place<A> {
     pub fn of<B: Allocator>(alloc: &A, path: &VPath<B>) -> Result<Option<Place<A>>, AllocError>
         ensures { IfOk result (λ found. found ≡ place_of path.now) }
     {
-        let text = path.text();
-        if text.len() <= 1 {
-            return Ok(None);
-        }
-        Place::split(alloc, text)
+        Place::split(alloc, directory_text(path))
     }
 
     /// The place of the directory above a path; none for the root, which is above itself.
     pub fn above<B: Allocator>(alloc: &A, path: &VPath<B>) -> Result<Option<Place<A>>, AllocError>
         ensures { IfOk result (λ found. found ≡ place_of (parent_of path.now)) }
     {
-        match path.text().rsplit_once('/') {
+        match split_last(directory_text(path)) {
             None => Ok(None),
             Some((directory, _)) => Place::split(alloc, directory),
         }
@@ -137,29 +142,32 @@ impl<A: Allocator + Clone> Place<A> {
     }
 
     /// Before all entries of a directory.
-    pub fn first_in(alloc: &A, directory: &str) -> Result<Place<A>, AllocError>
-        ensures { IfOk result (λ place. place ≡ (directory.now, [])) }
+    pub fn first_in<B: Allocator>(alloc: &A, path: &VPath<B>) -> Result<Place<A>, AllocError>
+        ensures { IfOk result (λ place. place ≡ path.now ++ [] ∷ []) }
     {
         Ok(Place {
-            directory: String::from_str(alloc.clone()?, directory)?,
+            directory: String::from_str(alloc.clone()?, directory_text(path))?,
             name: String::new(alloc.clone()?),
         })
     }
 
-    /// Past all entries of a directory: no text stands between its own and this one.
-    pub fn past(alloc: &A, directory: &str) -> Result<Place<A>, AllocError>
-        ensures { IfOk result (λ place. place ≡ (directory.now ++ 0 ∷ [], [])) }
+    /// Past all entries of a directory: no directory stands between it and the one of an empty name in it.
+    pub fn past<B: Allocator>(alloc: &A, path: &VPath<B>) -> Result<Place<A>, AllocError>
+        ensures { IfOk result (λ place. place ≡ (path.now ++ [] ∷ []) ++ [] ∷ []) }
     {
-        let mut place = Place::first_in(alloc, directory)?;
-        place.directory.push_str("\0")?;
-        Ok(place)
+        let mut directory = String::from_str(alloc.clone()?, directory_text(path))?;
+        directory.push_str("/")?;
+        Ok(Place {
+            directory,
+            name: String::new(alloc.clone()?),
+        })
     }
 
     /// What is told of an entry here; none where no path can name it.
     pub fn listed(&self, alloc: &A, entry: &Entry<A>) -> Result<Option<Listed<A>>, AllocError>
         ensures { IfOk result (λ found. MatchOption found
-            (is_name self.now.1 ≡ false)
-            (λ listed. (is_name self.now.1 ≡ true) × (entry_of listed ≡ told_of (self.now, entry.now)))) }
+            (is_name (last_of self.now) ≡ false)
+            (λ listed. (is_name (last_of self.now) ≡ true) × (entry_of listed ≡ told_of (self.now, entry.now)))) }
     {
         if !is_name(self.name.as_str()) {
             return Ok(None);
@@ -170,29 +178,33 @@ impl<A: Allocator + Clone> Place<A> {
         }))
     }
 
-    /// Where an entry here stands after a rename, from one place and text to another.
-    pub fn moved(
+    /// Where an entry here stands after a rename from one path to another, whose places these are.
+    pub fn moved<B: Allocator>(
         &self,
         alloc: &A,
-        from: &str,
-        to: &str,
+        from: &VPath<B>,
+        to: &VPath<B>,
         before: &Place<A>,
         afterwards: &Place<A>,
     ) -> Result<Place<A>, AllocError>
-        ensures { IfOk result (λ place. place ≡ moved from.now to.now before.now afterwards.now self.now) }
+        requires before { before.now ≡ from.now }
+        requires afterwards { afterwards.now ≡ to.now }
+        ensures { IfOk result (λ place. place ≡ moved from.now to.now self.now) }
     {
         if before == self {
             return afterwards.copy(alloc);
         }
-        match rest_under(from, self.directory.as_str()) {
+        match rest_under(directory_text(from), self.directory.as_str()) {
             None => self.copy(alloc),
-            Some(rest) => self.moved_under(alloc, to, rest),
+            Some(rest) => self.moved_under(alloc, directory_text(to), rest),
         }
     }
 
     /// The same name in another directory.
     fn moved_under(&self, alloc: &A, to: &str, rest: &str) -> Result<Place<A>, AllocError>
-        ensures { IfOk result (λ place. place ≡ (to.now ++ rest.now, self.now.1)) }
+        requires to { slashed (names_in to.now) ≡ to.now }
+        requires rest { slashed (names_in rest.now) ≡ rest.now }
+        ensures { IfOk result (λ place. place ≡ (names_in to.now ++ names_in rest.now) ++ last_of self.now ∷ []) }
     {
         let mut directory = String::from_str(alloc.clone()?, to)?;
         directory.push_str(rest)?;
@@ -203,29 +215,35 @@ impl<A: Allocator + Clone> Place<A> {
     }
 }
 
-/// Whether a text begins with a slash.
-fn begins_with_slash(text: &str) -> bool
-    ensures { result ≡ begins_with (47 ∷ []) text.now }
+/// The order of two directories by their names, which stand between the slashes of their texts.
+fn compare_names<'x>(text: &'x str, other: &'x str) -> Ordering
+    ensures { result ≡ names_cmp (names_of text.now) (names_of other.now) }
 {
-    match text.as_bytes() {
-        [b'/', ..] => true,
-        _ => false,
-    }
+    text.split('/').cmp(other.split('/'))
+}
+
+/// What stands before and after the last `/`.
+fn split_last(text: &str) -> Option<(&str, &str)>
+    ensures parts { MatchOption result
+        (HasNoSlash text.now)
+        (λ parts. (text.now ≡ parts.0.now ++ 47 ∷ parts.1.now) × HasNoSlash parts.1.now) }
+{
+    text.rsplit_once('/')
 }
 
 /// Whether a name has ended where a text begins: it is empty, or begins with a slash.
 fn ends_name(text: &str) -> bool
-    ensures { result ≡ begins_with (47 ∷ []) (text.now ++ 47 ∷ []) }
+    ensures { result ≡ (nat_eq (length text.now) 0 || nat_eq (slice_index text.now 0) 47) }
 {
-    match text.as_bytes() {
-        [] | [b'/', ..] => true,
-        _ => false,
-    }
+    text.is_empty() || text.starts_with('/')
 }
 
 /// What follows a directory's text, where the text is that one or that of a directory beneath it.
 fn rest_under<'a>(directory: &str, text: &'a str) -> Option<&'a str>
-    ensures { MatchOption result (is_at_or_under directory.now text.now ≡ false) (λ rest. (is_at_or_under directory.now text.now ≡ true) × (rest.now ≡ drop (length directory.now) text.now)) }
+    ensures { (front path : Path) → AllByRecursion HasNoSlash front → AllByRecursion HasNoSlash path
+        → directory.now ≡ slashed front → text.now ≡ slashed path → MatchOption result
+        (begins_with front path ≡ false)
+        (λ rest. (begins_with front path ≡ true) × (rest.now ≡ slashed (drop (length front) path))) }
 {
     match text.strip_prefix(directory) {
         None => None,
@@ -236,19 +254,10 @@ fn rest_under<'a>(directory: &str, text: &'a str) -> Option<&'a str>
     }
 }
 
-/// Whether a text is that of something beneath a directory.
-pub fn is_beneath(directory: &str, text: &str) -> bool
-    ensures { result ≡ begins_with (directory.now ++ 47 ∷ []) text.now }
-{
-    match text.strip_prefix(directory) {
-        None => false,
-        Some(rest) => begins_with_slash(rest),
-    }
-}
-
 /// The text of a directory, `/` before each name; the root's is empty.
-pub fn directory_text<A: Allocator>(path: &VPath<A>) -> &str
-    ensures { result.now ≡ slashed path.now }
+fn directory_text<A: Allocator>(path: &VPath<A>) -> &str
+    ensures text { result.now ≡ slashed path.now }
+    ensures names { AllByRecursion HasNoSlash path.now }
 {
     let text = path.text();
     if text.len() <= 1 { "" } else { text }

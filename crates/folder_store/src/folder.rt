@@ -34,14 +34,22 @@ impl<R: Files + Alloc + Clone + Drop> Folder<R> {
             if is_file {
                 return Err(StoreFault::NotFound);
             }
-            place.push('/')?;
-            place.push_str(name)?;
-            is_file = self.look(place.as_str())?.kind == Kind::File;
+            is_file = self.step(&mut place, name)?;
         }
         if is_file {
             return Err(StoreFault::NotDir);
         }
         Ok(())
+    }
+
+    /// Goes one name further, and answers whether a file stands there.
+    fn step(&self, place: &mut String<R::A>, name: &str) -> Result<bool, StoreFault>
+        ensures full { NeverFull result }
+    {
+        place.push('/')?;
+        place.push_str(name)?;
+        let meta = self.look(place.as_str())?;
+        Ok(meta.kind == Kind::File)
     }
 
     /// The machine's path of an entry, where each name above it is that of a directory.

@@ -12,9 +12,10 @@ use crate::folder::Folder;
 use ftp_terms::Kind;
 use machine_files::fault_of;
 use std::alloc::Allocator;
-use std::fs;
+use std::fs::DirEntry;
 use std::io::ErrorKind;
 use std::rt::Files;
+use std::{fs, io};
 use virtual_path::{VPath, is_name};
 use virtual_tree::{Listed, StoreFault};
 
@@ -62,23 +63,30 @@ impl<R: Files + Alloc + Clone + Drop> Folder<R> {
         };
         let mut names = Vec::new(self.rt.alloc());
         for entry in entries {
-            match entry {
-                Ok(entry) => {
-                    let name = String::from_str(self.rt.alloc(), entry.file_name())?;
-                    if names.push(name).is_err() {
-                        return Err(StoreFault::Memory);
-                    }
-                }
-                // A name that is no UTF-8.
-                Err(error) => {
-                    if error.kind() != ErrorKind::InvalidFilename {
-                        return Err(fault_of(&error));
-                    }
+            if let Some(name) = self.name_of(entry)? {
+                if names.push(name).is_err() {
+                    return Err(StoreFault::Memory);
                 }
             }
         }
         names.sort()?;
         Ok(names)
+    }
+
+    /// The name of an entry that the machine tells; none where it is no UTF-8.
+    fn name_of(
+        &self,
+        entry: io::Result<DirEntry<R, R::A>>,
+    ) -> Result<Option<String<R::A>>, StoreFault>
+        ensures full { NeverFull result }
+    {
+        match entry {
+            Ok(entry) => Ok(Some(String::from_str(self.rt.alloc(), entry.file_name())?)),
+            Err(error) => match error.kind() {
+                ErrorKind::InvalidFilename => Ok(None),
+                _ => Err(fault_of(&error)),
+            },
+        }
     }
 
     /// An entry of a folder of the machine. There is none to tell where no path can name it, where it is

@@ -2,13 +2,13 @@
 use Rattle.std.proofs.Common.{◌≡◌, ℕ, zero, suc, get_or, [], ◌∷◌, List, refl, sym, ap, ◌∙◌, subst, Option, Some, None}
 use Rattle.std.specs.Prelude.{slice_get, slice_index, IsTrue, IsFalse}
 use Rattle.std.specs.Option.{option_and_then}
-use Rattle.limit_tree.specs.Sharing.{Branch as SharedBranch, LimitTree, IsBranch, IsFull}
+use Rattle.limit_tree.specs.Sharing.{Branch as SharedBranch, IsBranch, IsFull}
 use Rattle.limit_tree.specs.Outline.{branch_of, leaf_range, limits, IsFullPlace}
 use Rattle.limit_tree.specs.declared.place.Kind.{Kind}
 use Rattle.limit_tree.specs.declared.place.Kind.TheVariants.{Branch}
 use Rattle.limit_tree.specs.declared.place.Place.{Place}
-use Rattle.grant_certificate.specs.Flaws.{IsBackedAt, IsLeafFlaw}
-use Rattle.grant_certificate.specs.Ranges.{IsNear, IsHeld, IsFirstGreater, IsNoneGreater}
+use Rattle.grant_certificate.specs.Flaws.{IsLeafFlaw}
+use Rattle.grant_certificate.specs.Ranges.{IsHeld, IsFirstGreater, IsNoneGreater}
 use Rattle.grant_certificate.specs.declared.flaw.Flaw.TheVariants.{NotAbove, NotFull, TooGreat}
 
 -- the entry of a leaf
@@ -16,6 +16,11 @@ pub named_at : (c : List (Option ℕ)) (i n : ℕ) → get_or c i None ≡ Some 
 named_at [] i n e = absurd (cc)
 named_at (x ∷ xs) zero n e = ap (λ (o : Option ℕ). Some o) e
 named_at (x ∷ xs) (suc i) n e = named_at xs i n e
+
+pub named_back : (c : List (Option ℕ)) (i n : ℕ) → slice_get c i ≡ Some (Some n) → get_or c i None ≡ Some n
+named_back [] i n e = absurd (cc)
+named_back (x ∷ xs) zero n e = cc
+named_back (x ∷ xs) (suc i) n e = named_back xs i n e
 
 -- the branch of a place
 abbrev branch_here : Option ℕ → Place → SharedBranch
@@ -54,27 +59,14 @@ too_great-here outline g floors c i n other p limit same got at kind holds full 
       here,
     )
 
-pub backed-here : (outline : List Place) (g floors : List ℕ) (c : List (Option ℕ)) (i n : ℕ) (p : Place) (limit : Option ℕ) → floors ≡ (limits outline).floors → slice_get c i ≡ Some (Some n) → slice_get outline n ≡ Some p → p.kind ≡ Branch limit → IsTrue (leaf_range p.first p.leaves i) → IsFullPlace p g → IsNoneGreater p.first p.leaves g floors (slice_index g i) → IsBackedAt (limits outline) g c i
-backed-here outline g floors c i n p limit same got at kind holds full none = λ unmet. (
-  n,
-  branch_here limit p,
-  (got, is_here outline n p limit at kind),
-  record {
-    full = full_here p limit g kind full;
-    holds = holds;
-    greatest = subst (λ (fs : List ℕ). IsNoneGreater p.first p.leaves g fs (slice_index g i)) same none;
-  },
-)
-
--- a leaf that is held is backed
-pub held-backed : (t : LimitTree) (g floors : List ℕ) (c : List (Option ℕ)) (i : ℕ) → floors ≡ t.floors → IsHeld t g floors c i → IsBackedAt t g c i
-held-backed t g floors c i same h = λ unmet. (
-  h.node,
-  h.branch,
-  (h.named, h.is),
-  record {
-    full = h.full;
-    holds = h.holds;
-    greatest = subst (λ (fs : List ℕ). (j : ℕ) → IsTrue (h.branch.holds j) → IsNear g fs (slice_index g i) j) same h.greatest;
-  },
-)
+-- a leaf in whose full branch no other is too great is held
+pub held-here : (outline : List Place) (g floors : List ℕ) (c : List (Option ℕ)) (i n : ℕ) (p : Place) (limit : Option ℕ) → slice_get c i ≡ Some (Some n) → slice_get outline n ≡ Some p → p.kind ≡ Branch limit → IsTrue (leaf_range p.first p.leaves i) → IsFullPlace p g → IsNoneGreater p.first p.leaves g floors (slice_index g i) → IsHeld (limits outline) g floors c i
+held-here outline g floors c i n p limit got at kind holds full none = record {
+  node = n;
+  branch = branch_here limit p;
+  named = got;
+  is = is_here outline n p limit at kind;
+  full = full_here p limit g kind full;
+  holds = holds;
+  greatest = none;
+}

@@ -5,3 +5,4 @@ pub mod Verdicts
 pub mod Places
 pub mod Seen
 pub mod Entries
+pub mod Marks

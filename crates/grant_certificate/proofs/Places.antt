@@ -1,10 +1,10 @@
 -- A branch by its place.
-use Rattle.std.proofs.Common.{◌≡◌, ℕ, ◌<◌, refl, sym, ap, ◌∙◌, subst, List, Option, Some, None}
+use Rattle.std.proofs.Common.{◌≡◌, ℕ, ◌<◌, refl, sym, ap, ◌∙◌, subst, List, Option, Some}
 use Rattle.std.specs.Option.{option_and_then, option_map}
 use Rattle.limit_tree.specs.Sharing.{Branch as SharedBranch, sum_over}
 use Rattle.limit_tree.specs.Outline.{branch_of, leaf_range}
 use Rattle.limit_tree.specs.declared.place.Kind.{Kind}
-use Rattle.limit_tree.specs.declared.place.Kind.TheVariants.{Branch, Leaf}
+use Rattle.limit_tree.specs.declared.place.Kind.TheVariants.{Branch}
 use Rattle.limit_tree.specs.declared.place.Place.{Place}
 use Rattle.grant_certificate.specs.Ranges.{IsOverPlace}
 
@@ -29,18 +29,3 @@ over-place-less p limit sum g kind is over =
         let same : limit ≡ most = some_nat limit most (ap (λ (o : Option SharedBranch). option_and_then (λ (b : SharedBranch). b.limit) o) e ∙ l) in
         let sums : sum_over (leaf_range p.first p.leaves) g ≡ sum_over b.holds g = some_nat _ _ (ap (λ (o : Option SharedBranch). option_map (λ (b : SharedBranch). sum_over b.holds g) o) e) in
         subst (λ (n : ℕ). n < sum) (sym same) (subst (λ (n : ℕ). most < n) (sym (is ∙ sums)) less)
-
-pub not_over-leaf : (p : Place) (want floor : ℕ) (g : List ℕ) → p.kind ≡ Leaf want floor → IsOverPlace p g → ⊥
-not_over-leaf p want floor g kind over = go (sym (ap (λ (k : Kind). branch_of k p.first p.leaves) kind) ∙ over.2)
-  where
-    go : None ≡ Some over.0 → ⊥
-    go e = cc
-
-pub not_over-open : (p : Place) (g : List ℕ) → p.kind ≡ Branch None → IsOverPlace p g → ⊥
-not_over-open p g kind over = go over.0 over.1 (sym (ap (λ (k : Kind). branch_of k p.first p.leaves) kind) ∙ over.2) over.3
-  where
-    go : (b : SharedBranch) (most : ℕ) → branch_of (Branch None) p.first p.leaves ≡ Some b → b.limit ≡ Some most → ⊥
-    go b most e l = none_some (ap (λ (o : Option SharedBranch). option_and_then (λ (b : SharedBranch). b.limit) o) e ∙ l)
-      where
-        none_some : None ≡ Some most → ⊥
-        none_some p = cc

@@ -1,15 +1,14 @@
 -- One node more for a look.
-use Rattle.std.proofs.Common.{◌≡◌, ℕ, ◌+◌, ◌<◌, ◌≤◌, false, List, [], ◌∷◌, ◌++◌, length, take, refl, sym, ap, ◌∙◌, subst, arith, ◌⊎◌, inl, inr, Option, Some, None, length-append, set, replicate}
-use Rattle.std.proofs.lemmas.List.{take_more_set, get_or-replicate, get_or_past, length-replicate}
+use Rattle.std.proofs.Common.{◌≡◌, ℕ, ◌<◌, false, List, [], ◌∷◌, ◌++◌, length, refl, sym, ap, ◌∙◌, subst, arith, ◌⊎◌, inl, inr, Option, Some, None, replicate}
+use Rattle.std.specs.Prelude.{slice_get}
+use Rattle.std.proofs.lemmas.List.{get_or-replicate, get_or_past, length-replicate}
 use Rattle.std.specs.Option.{option_and_then}
 use Rattle.std.proofs.lemmas.Bool.{cases_lt, false≢true}
 use Rattle.limit_tree.specs.Sharing.{Branch as SharedBranch, IsBranch}
 use Rattle.limit_tree.specs.Outline.{branch_of, limits, IsFullPlace}
 use Rattle.limit_tree.specs.declared.place.Place.{Place}
 use Rattle.limit_tree.proofs.Looks.{slice_get-last, holds-range, branch_number, branch_either, branch_seen}
-use Rattle.limit_tree.specs.declared.bounds.TheConstants.{MAX_LEAVES}
 use Rattle.grant_certificate.specs.Flaws.{IsOver, IsFirstOver}
-use Rattle.grant_certificate.specs.Looks.{IsTable}
 use Rattle.grant_certificate.specs.Ranges.{IsOverPlace, IsMarked, IsHeld, IsHeldWithin}
 
 -- the node seen last is that branch
@@ -79,21 +78,31 @@ held-last seen p n g floors c i count full h = record {
   greatest = λ j holds. h.greatest j (sym (holds-range p full.0 j full.1) ∙ holds);
 }
 
--- the numbers of the leaves that were seen, with one more
-pub table-more : (table numbers more : List ℕ) (n first : ℕ) → more ≡ numbers ++ n ∷ [] → length numbers ≡ first → length table ≡ MAX_LEAVES → first < MAX_LEAVES → IsTable table numbers → IsTable (set table first n) more
-table-more table numbers more n first e count full l was = λ few.
-    let longer : length more ≡ first + 1 = ap length e ∙ (length-append numbers (n ∷ []) ∙ ap (λ (k : ℕ). k + 1) count) in
-    ap (λ (k : ℕ). take k (set table first n)) longer ∙ (
-    take_more_set table first n (omega arith) ∙ (
-    ap (λ (xs : List ℕ). xs ++ n ∷ []) (ap (λ (k : ℕ). take k table) (sym count) ∙ was (omega arith)) ∙ sym e))
+-- a leaf that is held by a branch of the nodes seen and one more is held by one of those seen, or by that one
+pub held-either : (seen : List Place) (p : Place) (n : ℕ) (g floors : List ℕ) (c : List (Option ℕ)) (i : ℕ) → length seen ≡ n → IsHeld (limits (seen ++ p ∷ [])) g floors c i → IsHeld (limits seen) g floors c i ⊎ (IsFullPlace p g × IsHeldWithin n p.first p.leaves g floors c i)
+held-either seen p n g floors c i count h = elim (branch_either seen p h.node h.branch h.is) [
+  | inl was ↦ inl (record {
+    node = h.node;
+    branch = h.branch;
+    named = h.named;
+    is = was;
+    full = h.full;
+    holds = h.holds;
+    greatest = h.greatest;
+  })
+  | inr here ↦ inr (
+    (h.branch, here.1, h.full),
+    record {
+      named = subst (λ (k : ℕ). slice_get c i ≡ Some (Some k)) (here.0 ∙ count) h.named;
+      holds = sym (holds-range p h.branch i here.1) ∙ h.holds;
+      greatest = λ j within. h.greatest j (holds-range p h.branch j here.1 ∙ within);
+    },
+  )
+]
 
-pub table-past : (table numbers more : List ℕ) (n first : ℕ) → more ≡ numbers ++ n ∷ [] → length numbers ≡ first → MAX_LEAVES ≤ first → IsTable table more
-table-past table numbers more n first e count past = λ few.
-    let longer : length more ≡ first + 1 = ap length e ∙ (length-append numbers (n ∷ []) ∙ ap (λ (k : ℕ). k + 1) count) in
-    absurd (omega arith)
-
-pub table-same : (table numbers more : List ℕ) → more ≡ numbers → IsTable table numbers → IsTable table more
-table-same table numbers more e was = subst (λ (xs : List ℕ). IsTable table xs) (sym e) was
+-- no leaf is held where no node was seen
+pub held-nothing : (g floors : List ℕ) (c : List (Option ℕ)) (i : ℕ) → IsHeld (limits []) g floors c i → ⊥
+held-nothing g floors c i h = let l : h.node < 0 = branch_number [] h.node h.branch h.is in absurd (omega arith)
 
 -- none of so many marks is set
 pub none_marked : (n i : ℕ) → IsMarked (replicate n false) i → ⊥

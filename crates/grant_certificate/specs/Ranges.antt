@@ -1,5 +1,5 @@
 -- What is asked of a range of leaves.
-use Rattle.std.specs.Prelude.{◌≡◌, ℕ, ◌+◌, ◌<◌, ◌≤◌, ◌⊎◌, List, Bool, true, false, Option, Some, IsTrue, slice_get, slice_index}
+use Rattle.std.specs.Prelude.{◌≡◌, ℕ, ◌+◌, ◌<◌, ◌≤◌, ◌⊎◌, ◌↔◌, List, Bool, true, false, Option, Some, IsTrue, slice_get, slice_index}
 use Rattle.std.proofs.Common.{get_or}
 use Rattle.limit_tree.specs.Sharing.{Branch, LimitTree, IsBranch, IsFull, sum_over}
 use Rattle.limit_tree.specs.Outline.{leaf_range, branch_of}
@@ -21,6 +21,7 @@ IsNear g floors grant j = (slice_index g j < grant + 2) ⊎ (slice_index g j ≡
 abbrev pub IsGreater : List ℕ → List ℕ → ℕ → ℕ → Type 0
 IsGreater g floors grant j = (grant + 2 ≤ slice_index g j) × (slice_index g j ≡ slice_index floors j → ⊥)
 
+-- no grant of a range is
 abbrev pub IsNoneGreater : ℕ → ℕ → List ℕ → List ℕ → ℕ → Type 0
 IsNoneGreater first leaves g floors grant = (j : ℕ) → IsTrue (leaf_range first leaves j) → IsNear g floors grant j
 
@@ -29,6 +30,11 @@ abbrev pub IsFirstGreater : ℕ → ℕ → List ℕ → List ℕ → ℕ → �
 IsFirstGreater first leaves g floors grant leaf =
     IsTrue (leaf_range first leaves leaf) × IsGreater g floors grant leaf ×
     ((j : ℕ) → j < leaf → IsTrue (leaf_range first leaves j) → IsNear g floors grant j)
+
+-- The greatest grant of a range that is not its leaf's floor, or 0 where there is none.
+pub record IsGreatest (first leaves : ℕ) (g floors : List ℕ) (most : ℕ) : Type 0 where
+  pub above : (j : ℕ) → IsTrue (leaf_range first leaves j) → IsAtMostOrFloor g floors most j
+  pub one : (most ≡ 0) ⊎ ((j : ℕ) × IsTrue (leaf_range first leaves j) × (slice_index g j ≡ most) × (slice_index g j ≡ slice_index floors j → ⊥))
 
 -- the mark of leaf i is set
 abbrev pub IsMarked : List Bool → ℕ → Type 0
@@ -49,3 +55,7 @@ pub record IsHeld (t : LimitTree) (g floors : List ℕ) (c : List (Option ℕ)) 
   pub full : IsFull branch g
   pub holds : IsTrue (branch.holds i)
   pub greatest : (j : ℕ) → IsTrue (branch.holds j) → IsNear g floors (slice_index g i) j
+
+-- the leaves whose entries name bottlenecks are marked, and no others
+abbrev pub AreHeld : LimitTree → List ℕ → List ℕ → List (Option ℕ) → List Bool → Type 0
+AreHeld t g floors c marks = (i : ℕ) → IsMarked marks i ↔ IsHeld t g floors c i

@@ -1,12 +1,12 @@
 //! The leaves that the branches they name hold back.
 ghost use Rattle.limit_tree.specs.declared.bounds.TheConstants.{MAX_LEAVES};
-ghost use Rattle.std.specs.Prelude.{◌≡◌, ◌+◌, ◌<◌, ◌≤◌, ◌^◌, ◌⊎◌, ◌↔◌, ℕ, Some, IsTrue, length, slice_index, sum};
+ghost use Rattle.std.specs.Prelude.{◌≡◌, ◌+◌, ◌<◌, ◌≤◌, ◌^◌, ◌⊎◌, ◌↔◌, ℕ, Some, IsTrue, length, sum};
 ghost use Rattle.grant_certificate.specs.Ranges.{IsMarked, IsHeldWithin};
 
 use super::range::greatest;
 use limit_tree::{MAX_LEAVES, Place, Visitor};
 
-/// Marks each leaf that names a bottleneck of its own.
+/// Marks the leaves that name a bottleneck of their own, and no others.
 #[derive(Drop)]
 pub struct BackingLook<'a> {
     pub grants: &'a [u64],
@@ -65,8 +65,8 @@ impl<'a> Visitor for BackingLook<'a> {
     }
 }
 
-/// Marks the leaves of a place that name its number and beside whose grants none in it is too great. Takes
-/// O(leaves of the place) time.
+/// Marks the leaves of a place that name its number and beside whose grants none in it is too great, and no
+/// others. Takes O(leaves of the place) time.
 fn mark_held(
     number: usize,
     place: Place,
@@ -79,11 +79,11 @@ fn mark_held(
     requires floors { length floors.now ≡ length grants.now }
     requires entries { length entries.now ≡ length grants.now }
     requires marks { length grants.now ≤ length marks.old }
-    ensures marked { (i : ℕ) → IsMarked marks.new i → IsMarked marks.old i ⊎ IsHeldWithin number place.first place.leaves grants.now floors.now entries.now i }
+    ensures marked { (i : ℕ) → IsMarked marks.new i ↔ (IsMarked marks.old i ⊎ IsHeldWithin number place.first place.leaves grants.now floors.now entries.now i) }
 {
     let most = greatest(grants, floors, place.first, place.leaves);
     for leaf in place.first..place.first + place.leaves {
-        if names(entries[leaf], number) && (most < 2 || most - 2 < grants[leaf]) {
+        if names(entries[leaf], number) && is_near(most, grants[leaf]) {
             marks[leaf] = true;
         }
     }
@@ -97,6 +97,13 @@ fn names(entry: Option<u32>, number: usize) -> bool
         Some(named) => named as usize == number,
         None => false,
     }
+}
+
+/// Whether a grant exceeds another by less than two.
+fn is_near(most: u64, grant: u64) -> bool
+    ensures near { IsTrue result ↔ (most < grant + 2) }
+{
+    most < 2 || most - 2 < grant
 }
 
 fn no_marks() -> [bool; MAX_LEAVES]

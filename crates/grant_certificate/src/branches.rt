@@ -1,16 +1,16 @@
 //! What one walk finds of the branches.
 ghost use Rattle.limit_tree.specs.declared.bounds.TheConstants.{MAX_LEAVES};
-ghost use Rattle.std.specs.Prelude.{◌≡◌, ◌<◌, ◌≤◌, ◌^◌, ℕ, length, sum};
+ghost use Rattle.std.specs.Prelude.{◌≡◌, ◌<◌, ◌≤◌, ◌^◌, length, sum};
 ghost use Rattle.limit_tree.specs.Outline.{limits};
 ghost use Rattle.grant_certificate.specs.Flaws.{IsFirstOver};
-ghost use Rattle.grant_certificate.specs.Ranges.{IsMarked, IsHeld};
+ghost use Rattle.grant_certificate.specs.Ranges.{AreHeld};
 
 use super::backing::BackingLook;
 use super::over::OverLook;
 use limit_tree::{MAX_LEAVES, Place, Tree, Visitor};
 use std::alloc::Allocator;
 
-/// Looks for the first branch over its limit, and marks each leaf that names a bottleneck of its own.
+/// Looks for the first branch over its limit, and marks the leaves that name a bottleneck of their own.
 #[derive(Drop)]
 struct BranchLook<'a> {
     over: OverLook<'a>,
@@ -37,7 +37,7 @@ impl<'a> Visitor for BranchLook<'a> {
 pub struct Branches {
     /// The first whose leaves have more than its limit.
     pub over: Option<usize>,
-    /// Which leaves are marked: each of them names a bottleneck.
+    /// Which leaves are marked: those that name a bottleneck of their own.
     pub backed: [bool; MAX_LEAVES],
 }
 
@@ -54,7 +54,7 @@ pub fn look_at_branches<A: Allocator>(
     requires floors { length floors.now ≡ length grants.now }
     requires entries { length entries.now ≡ length grants.now }
     ensures over { IsFirstOver (limits tree.now) grants.now result.over }
-    ensures held { (i : ℕ) → IsMarked result.backed i → IsHeld (limits tree.now) grants.now floors.now entries.now i }
+    ensures held { AreHeld (limits tree.now) grants.now floors.now entries.now result.backed }
 {
     let mut look = BranchLook {
         over: OverLook::new(grants),

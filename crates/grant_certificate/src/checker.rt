@@ -1,61 +1,65 @@
 //! The checker.
 ghost use Rattle.limit_tree.specs.declared.bounds.TheConstants.{MAX_LEAVES};
+ghost use Rattle.grant_certificate.specs.declared.checker.TheConstants.{FEW_LEAVES};
 ghost use Rattle.std.specs.Prelude.{◌≡◌, ◌<◌, ◌≤◌, ◌^◌, ◌↔◌, ℕ, MatchOption, length, sum};
 ghost use Rattle.limit_tree.specs.Sharing.{HasNestedBranches, IsWithin, IsBackedBy, IsBest};
 ghost use Rattle.limit_tree.specs.Outline.{limits};
-ghost use Rattle.grant_certificate.specs.Ranges.{IsMarked, IsHeld};
+ghost use Rattle.grant_certificate.specs.Ranges.{IsHeld, AreHeld};
 ghost use Rattle.grant_certificate.specs.Flaws.{HasLengths, IsBackedAt, IsLeafFlaw, IsFirstUnbacked, IsFirstFlaw, IsVerdict};
 
 use super::branches::look_at_branches;
 use super::certificate::Certificate;
 use super::flaw::{Flaw, Verdict};
-use super::leaves::Leaves;
 use super::over::first_above;
 use super::range::first_greater;
-use limit_tree::{Kind, Tree};
+use limit_tree::{Kind, MAX_LEAVES, Tree};
 use std::alloc::Allocator;
 
-/// The flaw of the entry of an unmet leaf, if it names no bottleneck. Takes one walk.
+/// How many leaves need no large tables: as many as a server has lanes, and more.
+const FEW_LEAVES: usize = 128;
+
+/// The flaw of the entry of an unmet leaf that names no bottleneck. Takes one walk.
 fn entry_flaw<A: Allocator>(
     tree: &Tree<A>,
     grants: &[u64],
     floors: &[u64],
     entries: &[Option<u32>],
     leaf: usize,
-) -> Option<Flaw>
+) -> Flaw
     requires lengths { length (limits tree.now).wants ≡ length grants.now }
     requires fits { sum grants.now < 2 ^ 64 }
     requires floors { floors.now ≡ (limits tree.now).floors }
     requires floored { length floors.now ≡ length grants.now }
     requires entries { length entries.now ≡ length grants.now }
     requires leaf { leaf < length grants.now }
-    ensures flaw { MatchOption result (IsBackedAt (limits tree.now) grants.now entries.now leaf) (λ flaw. IsLeafFlaw (limits tree.now) grants.now entries.now leaf flaw) }
+    requires unheld { IsHeld (limits tree.now) grants.now floors.now entries.now leaf → ⊥ }
+    ensures flaw { IsLeafFlaw (limits tree.now) grants.now entries.now leaf result }
 {
     let Some(named) = entries[leaf] else {
-        return Some(Flaw::NoNode { leaf });
+        return Flaw::NoNode { leaf };
     };
     let node = named as usize;
     if node >= tree.nodes() {
-        return Some(Flaw::NoNode { leaf });
+        return Flaw::NoNode { leaf };
     }
     let place = tree.place(node);
     let Kind::Branch { .. } = place.kind else {
-        return Some(Flaw::NoNode { leaf });
+        return Flaw::NoNode { leaf };
     };
     if !place.holds(leaf) {
-        return Some(Flaw::NotAbove { leaf, node });
+        return Flaw::NotAbove { leaf, node };
     }
     if !place.is_full(grants) {
-        return Some(Flaw::NotFull { leaf, node });
+        return Flaw::NotFull { leaf, node };
     }
     match first_greater(grants, floors, place.first, place.leaves, grants[leaf]) {
-        Some(other) => Some(Flaw::TooGreat { leaf, other }),
-        None => None,
+        Some(other) => Flaw::TooGreat { leaf, other },
+        None => unreachable!(),
     }
 }
 
-/// The flaw of the first unmet leaf that is not backed. A leaf that a walk found backed is passed over; the
-/// entry of the first other one is looked up.
+/// The flaw of the first unmet leaf that is not backed: that of the first without a mark, since the marks are those
+/// of the leaves that name a bottleneck.
 fn backing_flaw<A: Allocator>(
     tree: &Tree<A>,
     grants: &[u64],
@@ -72,27 +76,31 @@ fn backing_flaw<A: Allocator>(
     requires floored { length floors.now ≡ length grants.now }
     requires entries { length entries.now ≡ length grants.now }
     requires marks { length grants.now ≤ length backed.now }
-    requires held { (i : ℕ) → IsMarked backed.now i → IsHeld (limits tree.now) grants.now floors.now entries.now i }
+    requires held { AreHeld (limits tree.now) grants.now floors.now entries.now backed.now }
     ensures flaw { MatchOption result ((i : ℕ) → i < length grants.now → IsBackedAt (limits tree.now) grants.now entries.now i) (λ flaw. IsFirstUnbacked (limits tree.now) grants.now entries.now flaw) }
 {
     for leaf in 0..grants.len() {
         if grants[leaf] < wants[leaf] && !backed[leaf] {
-            if let Some(flaw) = entry_flaw(tree, grants, floors, entries, leaf) {
-                return Some(flaw);
-            }
+            return Some(entry_flaw(tree, grants, floors, entries, leaf));
         }
     }
     None
 }
 
-/// The first flaw of lists of the right length.
-fn first_flaw<A: Allocator>(tree: &Tree<A>, grants: &[u64], entries: &[Option<u32>]) -> Option<Flaw>
+/// The first flaw of lists of the right length, beside the wants and the floors of the leaves.
+fn flaw_beside<A: Allocator>(
+    tree: &Tree<A>,
+    grants: &[u64],
+    entries: &[Option<u32>],
+    wants: &[u64],
+    floors: &[u64],
+) -> Option<Flaw>
     requires lengths { HasLengths (limits tree.now) grants.now entries.now }
+    requires wants { wants.now ≡ (limits tree.now).wants }
+    requires floors { floors.now ≡ (limits tree.now).floors }
     ensures flaw { MatchOption result (IsWithin (limits tree.now) grants.now × IsBackedBy (limits tree.now) grants.now entries.now) (λ flaw. IsFirstFlaw (limits tree.now) grants.now entries.now flaw) }
 {
-    let leaves = Leaves::of(tree);
-    let wants = leaves.wants();
-    let floors = leaves.floors();
+    let _bounded = tree.leaves();
     if let Some(leaf) = first_above(grants, wants) {
         return Some(Flaw::OverWant { leaf });
     }
@@ -106,6 +114,54 @@ fn first_flaw<A: Allocator>(tree: &Tree<A>, grants: &[u64], entries: &[Option<u3
     backing_flaw(tree, grants, wants, floors, entries, &branches.backed)
 }
 
+/// The first flaw of lists of the right length. Reads the wants and the floors into tables that have room for them.
+fn flaw_by<A: Allocator>(
+    tree: &Tree<A>,
+    grants: &[u64],
+    entries: &[Option<u32>],
+    wants: &mut [u64],
+    floors: &mut [u64],
+) -> Option<Flaw>
+    requires lengths { HasLengths (limits tree.now) grants.now entries.now }
+    requires room { length grants.now ≤ length wants.old }
+    requires tables { length floors.old ≡ length wants.old }
+    ensures flaw { MatchOption result (IsWithin (limits tree.now) grants.now × IsBackedBy (limits tree.now) grants.now entries.now) (λ flaw. IsFirstFlaw (limits tree.now) grants.now entries.now flaw) }
+{
+    tree.leaves_into(wants, floors);
+    let leaves = grants.len();
+    flaw_beside(tree, grants, entries, &wants[..leaves], &floors[..leaves])
+}
+
+/// `flaw_by` with tables for `FEW_LEAVES`, which are quickly made.
+fn flaw_of_few<A: Allocator>(
+    tree: &Tree<A>,
+    grants: &[u64],
+    entries: &[Option<u32>],
+) -> Option<Flaw>
+    requires lengths { HasLengths (limits tree.now) grants.now entries.now }
+    requires few { length grants.now ≤ FEW_LEAVES }
+    ensures flaw { MatchOption result (IsWithin (limits tree.now) grants.now × IsBackedBy (limits tree.now) grants.now entries.now) (λ flaw. IsFirstFlaw (limits tree.now) grants.now entries.now flaw) }
+{
+    let mut wants = [0; FEW_LEAVES];
+    let mut floors = [0; FEW_LEAVES];
+    flaw_by(tree, grants, entries, &mut wants, &mut floors)
+}
+
+/// `flaw_by` with tables for as many leaves as a tree may have.
+fn flaw_of_many<A: Allocator>(
+    tree: &Tree<A>,
+    grants: &[u64],
+    entries: &[Option<u32>],
+) -> Option<Flaw>
+    requires lengths { HasLengths (limits tree.now) grants.now entries.now }
+    requires few { length grants.now ≤ MAX_LEAVES }
+    ensures flaw { MatchOption result (IsWithin (limits tree.now) grants.now × IsBackedBy (limits tree.now) grants.now entries.now) (λ flaw. IsFirstFlaw (limits tree.now) grants.now entries.now flaw) }
+{
+    let mut wants = [0; MAX_LEAVES];
+    let mut floors = [0; MAX_LEAVES];
+    flaw_by(tree, grants, entries, &mut wants, &mut floors)
+}
+
 /// Whether grants, in octets by leaf, are within the limits of the tree and backed by their certificate, or else
 /// the first flaw. The lengths are looked at first; then come the first leaf with more than it wants, the first
 /// with less than its floor, and the first branch in preorder whose leaves have more than its limit. Then the
@@ -113,9 +169,13 @@ fn first_flaw<A: Allocator>(tree: &Tree<A>, grants: &[u64], entries: &[Option<u3
 /// leaf of that branch may have at least two octets more and more than its own floor. The entry of a leaf that
 /// has what it wants is not looked at.
 ///
-/// Takes no memory, and O(nodes * depth) time: two walks over the tree, in one of which each branch sums the
-/// grants of its leaves, and one walk more where there is a flaw.
-pub fn check<A: Allocator>(tree: &Tree<A>, grants: &[u64], certificate: &Certificate<A>) -> Verdict
+/// Takes no memory, and O(nodes * depth) time: a look at each node, a walk over the tree in which each branch sums the
+/// grants of its leaves, and one walk more where an entry has a flaw.
+pub fn check<A: Allocator, B: Allocator>(
+    tree: &Tree<A>,
+    grants: &[u64],
+    certificate: &Certificate<B>,
+) -> Verdict
     ensures verdict { IsVerdict (limits tree.now) grants.now certificate.now result }
     ensures yes { (result ≡ Verdict.Yes) ↔ (IsWithin (limits tree.now) grants.now × IsBackedBy (limits tree.now) grants.now certificate.now) }
     ensures best { result ≡ Verdict.Yes → IsBest (limits tree.now) grants.now }
@@ -130,7 +190,12 @@ fn judge<A: Allocator>(tree: &Tree<A>, grants: &[u64], entries: &[Option<u32>]) 
     if grants.len() != tree.leaves() || entries.len() != tree.leaves() {
         return Verdict::No(Flaw::WrongLength);
     }
-    match first_flaw(tree, grants, entries) {
+    let found = if grants.len() <= FEW_LEAVES {
+        flaw_of_few(tree, grants, entries)
+    } else {
+        flaw_of_many(tree, grants, entries)
+    };
+    match found {
         Some(flaw) => Verdict::No(flaw),
         None => Verdict::Yes,
     }

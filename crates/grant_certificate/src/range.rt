@@ -1,7 +1,6 @@
 //! Facts of a range of leaves, by the grants of all leaves.
-ghost use Rattle.std.specs.Prelude.{◌≡◌, ◌+◌, ◌<◌, ◌≤◌, ◌^◌, ◌↔◌, ℕ, IsTrue, MatchOption, length, slice_index, sum};
-ghost use Rattle.limit_tree.specs.Outline.{leaf_range};
-ghost use Rattle.grant_certificate.specs.Ranges.{IsAtMostOrFloor, IsFirstGreater, IsNoneGreater, IsOverPlace};
+ghost use Rattle.std.specs.Prelude.{◌≡◌, ◌+◌, ◌<◌, ◌≤◌, ◌^◌, ◌↔◌, IsTrue, MatchOption, length, sum};
+ghost use Rattle.grant_certificate.specs.Ranges.{IsGreatest, IsFirstGreater, IsNoneGreater, IsOverPlace};
 
 use limit_tree::{Kind, Place};
 
@@ -20,11 +19,11 @@ pub fn is_over_place(place: Place, grants: &[u64]) -> bool
     }
 }
 
-/// A number that no grant of the range exceeds, but one that is its leaf's floor: the greatest such grant.
+/// The greatest grant of the range that is not its leaf's floor, or else 0.
 pub fn greatest(grants: &[u64], floors: &[u64], first: usize, leaves: usize) -> u64
     requires inside { first + leaves ≤ length grants.now }
     requires floors { length floors.now ≡ length grants.now }
-    ensures most { (j : ℕ) → IsTrue (leaf_range first leaves j) → IsAtMostOrFloor grants.now floors.now result j }
+    ensures greatest { IsGreatest first leaves grants.now floors.now result }
 {
     let mut most = 0;
     for leaf in first..first + leaves {

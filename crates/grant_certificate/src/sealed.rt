@@ -11,15 +11,16 @@ use limit_tree::Tree;
 use std::alloc::{Allocator, Global};
 use std::marker::Model;
 
-/// Grants that are within the limits of their tree and backed by their certificate, and so best.
+/// Grants that are within the limits of their tree and backed by their certificate, and so best. The tree may lie in
+/// another heap than the answer.
 #[derive(Drop)]
-pub struct Sealed<A: Allocator = Global> {
+pub struct Sealed<A: Allocator = Global, B: Allocator = A> {
     tree: Tree<A>,
-    grants: Vec<u64, A>,
-    certificate: Certificate<A>,
+    grants: Vec<u64, B>,
+    certificate: Certificate<B>,
 }
 
-impl<A: Allocator> Model for Sealed<A> {
+impl<A: Allocator, B: Allocator> Model for Sealed<A, B> {
     ghost use Rattle.grant_certificate.specs.Sealing.{Sealing, IsSealed};
 
     ghost Value = { Sealing };
@@ -31,20 +32,20 @@ impl<A: Allocator> Model for Sealed<A> {
 
 /// A tree, grants and a certificate that were refused, with their first flaw.
 #[derive(Drop)]
-pub struct Refused<A: Allocator = Global> {
+pub struct Refused<A: Allocator = Global, B: Allocator = A> {
     pub tree: Tree<A>,
-    pub grants: Vec<u64, A>,
-    pub certificate: Certificate<A>,
+    pub grants: Vec<u64, B>,
+    pub certificate: Certificate<B>,
     pub flaw: Flaw,
 }
 
 /// Seals grants that are within the limits of the tree and backed by the certificate, in octets by leaf. Takes
 /// no memory; what is refused comes back with the first flaw, as `check` finds it.
-pub fn seal<A: Allocator>(
+pub fn seal<A: Allocator, B: Allocator>(
     tree: Tree<A>,
-    grants: Vec<u64, A>,
-    certificate: Certificate<A>,
-) -> Result<Sealed<A>, Refused<A>>
+    grants: Vec<u64, B>,
+    certificate: Certificate<B>,
+) -> Result<Sealed<A, B>, Refused<A, B>>
     ensures seals { IsOk result ↔ (IsWithin (limits tree) grants.items × IsBackedBy (limits tree) grants.items certificate) }
     ensures sealed { IfOk result (λ s. (s.tree ≡ tree) × (s.grants ≡ grants.items) × (s.certificate ≡ certificate)) }
     ensures refused { IfErr result (λ r. (r.tree ≡ tree) × (r.grants ≡ grants) × (r.certificate ≡ certificate) × IsFirstFlaw (limits tree) grants.items certificate r.flaw) }
@@ -64,7 +65,7 @@ pub fn seal<A: Allocator>(
     }
 }
 
-impl<A: Allocator> Sealed<A> {
+impl<A: Allocator, B: Allocator> Sealed<A, B> {
     /// The tree.
     pub fn tree(&self) -> &Tree<A>
         ensures tree { result.now ≡ self.now.tree }
@@ -82,7 +83,7 @@ impl<A: Allocator> Sealed<A> {
     }
 
     /// The certificate.
-    pub fn certificate(&self) -> &Certificate<A>
+    pub fn certificate(&self) -> &Certificate<B>
         ensures certificate { result.now ≡ self.now.certificate }
         ensures backed { IsBackedBy (limits self.now.tree) self.now.grants self.now.certificate }
         ensures best { IsBest (limits self.now.tree) self.now.grants }

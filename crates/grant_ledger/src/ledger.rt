@@ -134,9 +134,9 @@ impl Book {
     ///
     /// It refuses with `NotYet` where the tick is not above that of the last entry, else with `BookFull` where more
     /// than `MAX_ISSUED` octets would be issued. The book is unchanged then.
-    pub fn enter<A: Allocator>(
+    pub fn enter<A: Allocator, B: Allocator>(
         &mut self,
-        sealed: &Sealed<A>,
+        sealed: &Sealed<A, B>,
         lanes: &[u8],
         tick: u64,
     ) -> Result<(), BookFault>
@@ -156,9 +156,9 @@ impl Book {
     }
 
     /// Issues the grants of a decision into a purse, with the refusals of `enter`.
-    pub fn enter_out<A: Allocator>(
+    pub fn enter_out<A: Allocator, B: Allocator>(
         &mut self,
-        sealed: &Sealed<A>,
+        sealed: &Sealed<A, B>,
         tick: u64,
     ) -> Result<Purse, BookFault>
         ensures purse { IfOk result (λ p. p ≡ record { left = sum sealed.now.grants; tick = tick }) }

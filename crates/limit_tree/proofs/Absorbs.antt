@@ -1,13 +1,12 @@
 -- What trees take in up to a level: a stack of one element for each tree, as large as their wants at most.
 use Rattle.std.proofs.Common.{◌≡◌, ℕ, zero, suc, ◌+◌, ◌<◌, ◌≤◌, List, [], ◌∷◌, ◌++◌, map, length, get_or, take, drop, min, max, sum, sum_by, refl, sym, ap, ◌∙◌, subst, arith, length-append, length-drop, Option, Some, None}
-use Rattle.std.specs.Prelude.{slice_index}
 use Rattle.std.specs.List.{cons_option}
 use Rattle.std.proofs.Math.Nat.{min-le_left}
 use Rattle.std.proofs.Math.Seq.{take-length, drop-length, drop-append-add}
 use Rattle.std.proofs.lemmas.List.{length-map, drop-map, take-append-le, drop-append-le, drop_all}
 use Rattle.std.proofs.lemmas.List.Elements.{filter_map-append}
 use Rattle.std.proofs.lemmas.List.Sums.{sum-map, sum_by-cons, sum_by-append, sum_by-take-drop, sum_by-drop_more}
-use Rattle.limit_tree.specs.Outline.{deeper, behind, places, layer_kind, layer_kids, kind_of, kids_of, leaf_count, leaf_want, leaf_floor, limits, cut, absorb_step, absorb_stack, absorbed, first_or_zero, own_floor, floor_sum}
+use Rattle.limit_tree.specs.Outline.{deeper, behind, places, layer_kind, layer_kids, kind_of, kids_of, leaf_count, leaf_want, cut, absorb_step, absorb_stack, absorbed, first_or_zero}
 use Rattle.limit_tree.specs.declared.place.Kind.{Kind}
 use Rattle.limit_tree.specs.declared.place.Kind.TheVariants.{Branch, Leaf}
 use Rattle.limit_tree.specs.declared.place.Place.{Place}
@@ -16,9 +15,8 @@ use Rattle.limit_tree.specs.declared.node.Node.TheOpen.{Node-F}
 use Rattle.limit_tree.specs.declared.node.Node.TheOpen.Node-F.{Branch as BranchOf, Leaf as LeafOf}
 use Rattle.limit_tree.specs.declared.node.Node.TheViews.{out-Node, roll-Node, roll-out-Node}
 use Rattle.limit_tree.specs.declared.node.Node.TheFolds.{ind-Node, map-Node}
-use Rattle.limit_tree.specs.Plain.{HasNoFloors}
-use Rattle.limit_tree.proofs.Leaves.{wants_in, floors_in}
-use Rattle.limit_tree.proofs.Places.{places_of_all, places_of_all-drop, layer_root, places_roll, places_out, floor_sum-cons}
+use Rattle.limit_tree.proofs.Leaves.{wants_in}
+use Rattle.limit_tree.proofs.Places.{places_of_all, places_of_all-drop, layer_root, places_roll, places_out}
 
 -- only the kinds of nodes and their kids decide
 pub stack-behind : (level n : ℕ) (q : List Place) → absorb_stack level (map (behind n) q) ≡ absorb_stack level q
@@ -144,13 +142,6 @@ trees_whole : {A : Type 0} (level : ℕ) (kids : List (Node A)) → AreWhole lev
 trees_whole level [] = none_whole level
 trees_whole level (kid ∷ kids) = one_more level kid kids (whole_tree level kid) (trees_whole level kids)
 
--- the stack of a tree, and of trees side by side
-pub stack_tree : {A : Type 0} (level : ℕ) (n : Node A) → absorb_stack level (places n) ≡ absorb_of level n ∷ []
-stack_tree level n = (whole_tree level n).one
-
-pub stack_all : {A : Type 0} (level : ℕ) (kids : List (Node A)) → absorb_stack level (places_of_all kids) ≡ map (absorb_of level) kids
-stack_all level kids = (trees_whole level kids).each
-
 -- what a tree takes in, from what the trees below its root do
 pub absorb_out : {A : Type 0} (level : ℕ) (n : Node A) → absorb_of level n ≡ absorb_layer level (kind_of n) (sum_by (absorb_of level) (kids_of n))
 absorb_out {A} level n =
@@ -262,103 +253,7 @@ pub stack-wants : (level : ℕ) (ps : List Place) → sum (absorb_stack level ps
 stack-wants level [] = omega arith
 stack-wants level (x ∷ ps) = step-wants level x.kids x.kind (absorb_stack level ps) (wants_in ps) (stack-wants level ps)
 
-first-sum : (s : List ℕ) → first_or_zero s ≤ sum s
-first-sum [] = omega arith
-first-sum (x ∷ s) = omega (arith, sum_by-cons (λ x. x) x s)
-
 pub sum_wants-drop : (m : ℕ) (ps : List Place) → sum (wants_in (drop m ps)) ≤ sum (wants_in ps)
 sum_wants-drop zero ps = omega arith
 sum_wants-drop (suc m) [] = omega arith
 sum_wants-drop (suc m) (x ∷ ps) = omega (arith, sum_wants-drop m ps, sum_wants-cons x ps)
-
-pub absorbed-wants : (level : ℕ) (outline : List Place) (number : ℕ) → absorbed level outline number ≤ sum (wants_in outline)
-absorbed-wants level outline number =
-    omega (arith, first-sum (absorb_stack level (drop number outline)), stack-wants level (drop number outline), sum_wants-drop number outline)
-
--- at level 0 no tree takes in more than its floors
-step-floors : (kids : ℕ) (k : Kind) (s : List ℕ) (floors : ℕ) → sum s ≤ floors → sum (absorb_step 0 kids k s) ≤ own_floor k + floors
-step-floors kids (Leaf want floor) s floors most = omega (arith, most, sum_by-cons (λ x. x) (min want (max floor 0)) s)
-step-floors kids (Branch None) s floors most = omega (arith, most, sum_by-take-drop (λ x. x) s kids, sum_by-cons (λ x. x) (sum (take kids s)) (drop kids s))
-step-floors kids (Branch (Some limit)) s floors most =
-    omega (arith, most, sum_by-take-drop (λ x. x) s kids, sum_by-cons (λ x. x) (min (sum (take kids s)) limit) (drop kids s))
-
-pub stack-floors : (ps : List Place) → sum (absorb_stack 0 ps) ≤ floor_sum ps
-stack-floors [] = omega arith
-stack-floors (x ∷ ps) = omega (arith, step-floors x.kids x.kind (absorb_stack 0 ps) (floor_sum ps) (stack-floors ps), floor_sum-cons x ps)
-
-pub absorb_zero-floors : {A : Type 0} (n : Node A) → absorb_of 0 n ≤ floor_sum (places n)
-absorb_zero-floors n = omega (arith, first-sum (absorb_stack 0 (places n)), stack-floors (places n))
-
--- at a higher level each tree takes in as much or more
-abbrev pub AreAtMost : List ℕ → List ℕ → Type 0
-AreAtMost [] t = Unit {0}
-AreAtMost (x ∷ s) [] = ⊥
-AreAtMost (x ∷ s) (y ∷ t) = (x ≤ y) × AreAtMost s t
-
-pub sum_take-most : (k : ℕ) (s t : List ℕ) → AreAtMost s t → sum (take k s) ≤ sum (take k t)
-sum_take-most zero s t most = omega arith
-sum_take-most (suc k) [] t most = omega arith
-sum_take-most (suc k) (x ∷ s) [] most = absurd most
-sum_take-most (suc k) (x ∷ s) (y ∷ t) most =
-    omega (arith, most.0, sum_take-most k s t most.1, sum_by-cons (λ x. x) x (take k s), sum_by-cons (λ x. x) y (take k t))
-
-drop-most : (k : ℕ) (s t : List ℕ) → AreAtMost s t → AreAtMost (drop k s) (drop k t)
-drop-most zero s t most = most
-drop-most (suc k) [] t most = tt
-drop-most (suc k) (x ∷ s) [] most = absurd most
-drop-most (suc k) (x ∷ s) (y ∷ t) most = drop-most k s t most.1
-
-cut-most : (limit : Option ℕ) (x y : ℕ) → x ≤ y → cut limit x ≤ cut limit y
-cut-most None x y most = most
-cut-most (Some limit) x y most = omega arith
-
-step-most : (level higher kids : ℕ) (k : Kind) (s t : List ℕ) → level ≤ higher → AreAtMost s t → AreAtMost (absorb_step level kids k s) (absorb_step higher kids k t)
-step-most level higher kids (Leaf want floor) s t up most = (omega arith, most)
-step-most level higher kids (Branch limit) s t up most = (cut-most limit (sum (take kids s)) (sum (take kids t)) (sum_take-most kids s t most), drop-most kids s t most)
-
-pub stack-most : (level higher : ℕ) (ps : List Place) → level ≤ higher → AreAtMost (absorb_stack level ps) (absorb_stack higher ps)
-stack-most level higher [] up = tt
-stack-most level higher (x ∷ ps) up = step-most level higher x.kids x.kind (absorb_stack level ps) (absorb_stack higher ps) up (stack-most level higher ps up)
-
-first-most : (s t : List ℕ) → AreAtMost s t → first_or_zero s ≤ first_or_zero t
-first-most [] t most = omega arith
-first-most (x ∷ s) [] most = absurd most
-first-most (x ∷ s) (y ∷ t) most = most.0
-
-pub absorbed-monotone : (level higher : ℕ) (outline : List Place) (number : ℕ) → level ≤ higher → absorbed level outline number ≤ absorbed higher outline number
-absorbed-monotone level higher outline number up =
-    first-most (absorb_stack level (drop number outline)) (absorb_stack higher (drop number outline)) (stack-most level higher (drop number outline) up)
-
--- Without floors a leaf takes in its want or the level, whichever is less.
-abbrev pub plain_step : ℕ → ℕ → Kind → List ℕ → List ℕ
-plain_step level kids (Leaf want floor) stack = min want level ∷ stack
-plain_step level kids (Branch limit) stack = cut limit (sum (take kids stack)) ∷ drop kids stack
-
-abbrev pub plain_stack : ℕ → List Place → List ℕ
-plain_stack level [] = []
-plain_stack level (p ∷ ps) = plain_step level p.kids p.kind (plain_stack level ps)
-
-step-plain : (level kids : ℕ) (k : Kind) (s : List ℕ) (fs : List ℕ) → ((i : ℕ) → slice_index (cons_option (leaf_floor k) fs) i ≡ 0) → absorb_step level kids k s ≡ plain_step level kids k s
-step-plain level kids (Leaf want floor) s fs none =
-    let zero_floor : floor ≡ 0 = none 0 in
-    let same : min want (max floor level) ≡ min want level = omega arith in
-    ap (λ (x : ℕ). x ∷ s) same
-step-plain level kids (Branch limit) s fs none = refl
-
-no_floors-rest : (k : Kind) (fs : List ℕ) → ((i : ℕ) → slice_index (cons_option (leaf_floor k) fs) i ≡ 0) → (i : ℕ) → slice_index fs i ≡ 0
-no_floors-rest (Leaf want floor) fs none i = none (suc i)
-no_floors-rest (Branch limit) fs none i = none i
-
-pub stack-plain : (level : ℕ) (ps : List Place) → HasNoFloors (limits ps) → absorb_stack level ps ≡ plain_stack level ps
-stack-plain level [] none = refl
-stack-plain level (x ∷ ps) none =
-    step-plain level x.kids x.kind (absorb_stack level ps) (floors_in ps) none ∙
-    ap (plain_step level x.kids x.kind) (stack-plain level ps (no_floors-rest x.kind (floors_in ps) none))
-
-no_floors-drop : (m : ℕ) (ps : List Place) → HasNoFloors (limits ps) → HasNoFloors (limits (drop m ps))
-no_floors-drop zero ps none = none
-no_floors-drop (suc m) [] none = none
-no_floors-drop (suc m) (x ∷ ps) none = no_floors-drop m ps (no_floors-rest x.kind (floors_in ps) none)
-
-pub absorbed-plain : (level : ℕ) (outline : List Place) (number : ℕ) → HasNoFloors (limits outline) → absorbed level outline number ≡ first_or_zero (plain_stack level (drop number outline))
-absorbed-plain level outline number none = ap first_or_zero (stack-plain level (drop number outline) (no_floors-drop number outline none))

@@ -10,7 +10,7 @@ use Rattle.limit_tree.specs.declared.place.Kind.{Kind}
 use Rattle.limit_tree.specs.declared.place.Kind.TheVariants.{Branch, Leaf}
 use Rattle.limit_tree.specs.declared.place.Place.{Place}
 use Rattle.limit_tree.proofs.Looks.{some_within}
-use Rattle.limit_tree.proofs.Absorbs.{sum_take-most, stack-most, stack-wants, sum_wants-drop}
+use Rattle.limit_tree.proofs.Absorbs.{stack-wants, sum_wants-drop}
 
 -- from a node on it is the first
 pub drop-at : (ps : List Place) (k : ℕ) (p : Place) → slice_get ps k ≡ Some p → drop k ps ≡ p ∷ drop (k + 1) ps
@@ -88,9 +88,6 @@ taken_below-is level ps node p got = ap (λ (o : Option Place). taken_in level p
 
 pub taken-wants : (level : ℕ) (ps : List Place) (at n : ℕ) → taken_in level ps at n ≤ sum (limits ps).wants
 taken-wants level ps at n = omega (arith, sum_by-take-drop (λ x. x) (absorb_stack level (drop at ps)) n, stack-wants level (drop at ps), sum_wants-drop at ps)
-
-pub taken-monotone : (level higher : ℕ) (ps : List Place) (at n : ℕ) → level ≤ higher → taken_in level ps at n ≤ taken_in higher ps at n
-taken-monotone level higher ps at n up = sum_take-most n (absorb_stack level (drop at ps)) (absorb_stack higher (drop at ps)) (stack-most level higher (drop at ps) up)
 
 -- the first tree of a row, and the rest of it
 pub row-next : (ps : List Place) (at n m : ℕ) (p : Place) → IsShaped ps → HasRow ps at n → n ≡ suc m → slice_get ps at ≡ Some p → HasRow ps (at + p.nodes) m

@@ -13,3 +13,7 @@ pub mod Absorbs
 pub mod Shapes
 pub mod Hops
 pub mod Rows
+pub mod Told
+pub mod Shown
+pub mod Deeper
+pub mod Taken

@@ -84,21 +84,6 @@ full-place-sum p limit sum g kind is full =
     go : (b : SharedBranch) → branch_of (Branch (Some limit)) p.first p.leaves ≡ Some b → IsFull b g → sum ≡ limit
     go b e h = is ∙ sym (some_nat limit (sum_over (leaf_range p.first p.leaves) g) (ap (λ (o : Option SharedBranch). limit_in o) e ∙ (h ∙ ap (λ (o : Option SharedBranch). sum_in_branch o) (sym e))))
 
-pub not_full-leaf : (p : Place) (want floor : ℕ) (g : List ℕ) → p.kind ≡ Leaf want floor → IsFullPlace p g → ⊥
-not_full-leaf p want floor g kind full = go (sym (ap (λ (k : Kind). branch_of k p.first p.leaves) kind) ∙ full.1)
-  where
-    go : None ≡ Some full.0 → ⊥
-    go e = cc
-
-pub not_full-open : (p : Place) (g : List ℕ) → p.kind ≡ Branch None → IsFullPlace p g → ⊥
-not_full-open p g kind full = go full.0 (sym (ap (λ (k : Kind). branch_of k p.first p.leaves) kind) ∙ full.1) full.2
-  where
-    go : (b : SharedBranch) → branch_of (Branch None) p.first p.leaves ≡ Some b → IsFull b g → ⊥
-    go b e h = none_some (ap (λ (o : Option SharedBranch). option_and_then (λ (b : SharedBranch). b.limit) o) e ∙ h)
-      where
-        none_some : None ≡ Some (sum_over b.holds g) → ⊥
-        none_some p = cc
-
 -- a branch holds the leaves of its range
 pub holds-range : (p : Place) (b : SharedBranch) (i : ℕ) → branch_of p.kind p.first p.leaves ≡ Some b → b.holds i ≡ leaf_range p.first p.leaves i
 holds-range p b i is = (range_of p.kind p.first p.leaves b is).0 i

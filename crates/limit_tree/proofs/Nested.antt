@@ -237,7 +237,7 @@ branch_place outline k b is = go (slice_get outline k) refl is
     go None got e = absurd (cc)
     go (Some p) got e = let range = range_of p.kind p.first p.leaves b e in record { place = p; found = got; kind = range.1; holds = range.0 }
 
-in_range : (first leaves i : ℕ) → leaf_range first leaves i ≡ true → (first ≤ i) × (i < first + leaves)
+pub in_range : (first leaves i : ℕ) → leaf_range first leaves i ≡ true → (first ≤ i) × (i < first + leaves)
 in_range first leaves i h = let both = and_parts _ _ h in (leb-true first i both.0, ltb-true i (first + leaves) both.1)
 
 to_range : (first leaves i : ℕ) → first ≤ i → i < first + leaves → leaf_range first leaves i ≡ true

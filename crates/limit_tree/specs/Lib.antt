@@ -7,3 +7,5 @@ pub mod Looks
 pub mod Flat
 pub mod Copies
 pub mod Sizes
+pub mod Depths
+pub mod Absorbing

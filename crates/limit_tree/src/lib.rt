@@ -23,13 +23,14 @@ mod look;
 mod node;
 mod place;
 mod size;
+mod tables;
 mod tree;
 mod walk;
 
 pub use bounds::{MAX_DEPTH, MAX_LEAVES, MAX_LIMIT, MAX_NODES, MAX_WANT};
 pub use fault::TreeFault;
 pub use flat::Flat;
-pub use laws::no_floors_is_plain;
+pub use laws::{absorbed_is_taken_in, no_floors_is_plain};
 pub use node::Node;
 pub use place::{Kind, Place};
 pub use tree::Tree;

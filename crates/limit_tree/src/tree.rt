@@ -1,9 +1,10 @@
 //! A tree whose numbers were checked.
-ghost use Rattle.std.specs.Prelude.{◌≡◌, ◌+◌, ◌*◌, ◌<◌, ◌≤◌, ◌^◌, ◌↔◌, [], length, slice_get, slice_index, sum, IsTrue, IsSome, Some, None, MatchResult, IfSome, ℕ};
+ghost use Rattle.std.specs.Prelude.{◌≡◌, ◌+◌, ◌*◌, ◌<◌, ◌≤◌, ◌^◌, ◌↔◌, [], length, slice_get, slice_index, sum, take, IsTrue, IsSome, Some, None, MatchResult, IfSome, ℕ};
 ghost use Rattle.std.specs.Option.{option_and_then};
 ghost use Rattle.limit_tree.specs.Sharing.{sum_over, IsWanted, IsLimitTree, Branch, IsBranch, IsFull, IsDeepestFull};
 ghost use Rattle.limit_tree.specs.Outline.{places, limits, leaves_under, absorbed};
 ghost use Rattle.limit_tree.specs.Laws.{LaterIsInside};
+ghost use Rattle.limit_tree.specs.Depths.{LaterIsDeeper};
 ghost use Rattle.limit_tree.specs.Faults.{tree_fault};
 ghost use Rattle.limit_tree.specs.Flat.{IsFlat};
 
@@ -14,6 +15,7 @@ use super::look::{FullLook, LeafLook, NodeLook};
 use super::node::Node;
 use super::place::{Kind, Place};
 use super::size::size_of_tree;
+use super::tables::leaves_into;
 use super::walk::{Passed, Visitor, walk_tree};
 use std::alloc::{Allocator, Global};
 use std::marker::Model;
@@ -81,9 +83,11 @@ impl<A: Allocator> Tree<A> {
         self.nodes
     }
 
-    /// The nodes of a tree have the shape of a tree, and their numbers no fault.
+    /// The nodes of a tree have the shape of a tree, and their numbers no fault. Of two with a common leaf the later one
+    /// stands deeper.
     pub fn nodes_are_a_tree(&self)
         ensures flat { IsFlat self.now }
+        ensures deeper { LaterIsDeeper self.now }
     {
         let _ = &self.leaves;
     }
@@ -97,6 +101,18 @@ impl<A: Allocator> Tree<A> {
     {
         let size = size_of_tree(&self.root);
         let _passed = walk_tree(&self.root, size, 0, NOTHING, visitor);
+    }
+
+    /// Puts the wants and the floors of the leaves into tables, in octets, each from its start on. Takes O(nodes) time.
+    pub fn leaves_into(&self, wants: &mut [u64], floors: &mut [u64])
+        requires room { length (limits self.now).wants ≤ length wants.old }
+        requires tables { length floors.old ≡ length wants.old }
+        ensures wants { take (length (limits self.now).wants) wants.new ≡ (limits self.now).wants }
+        ensures floors { take (length (limits self.now).wants) floors.new ≡ (limits self.now).floors }
+        ensures size { length wants.new ≡ length wants.old }
+        ensures floors_size { length floors.new ≡ length floors.old }
+    {
+        let _last = leaves_into(&self.root, 0, wants, floors);
     }
 
     /// The node of a number.

@@ -14,11 +14,11 @@ use Rattle.virtual_tree.specs.declared.mode.WriteMode.{WriteMode}
 use Rattle.virtual_tree.specs.declared.mode.WriteMode.TheVariants.{New, At, Append}
 use Rattle.virtual_tree.specs.Calls.{in_answer, Target, Writes}
 use Rattle.virtual_tree.specs.Calls.Exchange.{OpenWrite, Finish}
-use Rattle.file_tree.specs.Tree.{Node, Place, Tree, place_cmp, place_of, node_in, node_at, total}
+use Rattle.file_tree.specs.Tree.{Node, Place, Tree, place_of, node_in, node_at, total}
 use Rattle.file_tree.specs.Tree.Node.{Directory, File}
 use Rattle.memory_store.specs.InMemory.{Memory, Upload, Opening, InMemory, target_of, kind_in, kind_at, vacancy, vacant, opened, open_new, open_absent, open_node, filled, finished, finish_node, if_found, unit_of, left_by}
 use Rattle.memory_store.specs.Uploads.{octets_in, kept_by, FinishPutsWhatCame}
-use Rattle.file_tree.proofs.Trees.{places_total}
+use Rattle.file_tree.specs.Orders.{paths_total}
 
 no_answer : {X : Type 0} (why : StoreFault) (x : X) → (let refused : Result X StoreFault = Err why in refused) ≡ Ok x → ⊥
 no_answer why x e = cc
@@ -85,7 +85,7 @@ some_target : (a b : Target) → Some a ≡ Some b → a ≡ b
 some_target a b e = cc
 
 abbrev place_of_target : Target → Place
-place_of_target target = (target.directory, target.name)
+place_of_target target = target.path
 
 abbrev kept_of_target : Target → ℕ
 kept_of_target target = target.kept
@@ -119,7 +119,7 @@ file_of before upload moment (Some (File octets modified)) tree is e =
     same whole tree e = cc
 
 at_its_place : (tree : Tree) (place : Place) (node : Node) → get (insert tree place node) place ≡ Some node
-at_its_place tree place node = get-insert places_total tree place node place ∙ ap (λ order. cond (is_eq order) (Some node) (get tree place)) (tied_itself places_total place)
+at_its_place tree place node = get-insert paths_total tree place node place ∙ ap (λ order. cond (is_eq order) (Some node) (get tree place)) (tied_itself paths_total place)
 
 pub finish_puts_what_came : FinishPutsWhatCame
 finish_puts_what_came first opened before after path mode moment later given brought pieces opens writes finish =

@@ -1,7 +1,7 @@
 -- What each call makes of a store in memory.
 use Rattle.std.specs.Prelude.{ℕ, ◌≡◌, ◌≢◌, Bool, true, false, cond, List, [], ◌∷◌, ◌++◌, length, take, drop, Option, Some, None, Result, Ok, Err, nat_lt, nat_eq, option_map, option_and_then, unwrap_or}
 use Rattle.std.specs.FinMap.{get, insert, remove}
-use Rattle.virtual_path.specs.Path.{Path, slashed, parent_of}
+use Rattle.virtual_path.specs.Path.{Path, parent_of}
 use Rattle.virtual_tree.specs.declared.fault.StoreFault.{StoreFault}
 use Rattle.virtual_tree.specs.declared.fault.StoreFault.TheVariants as fault
 use Rattle.ftp_terms.specs.declared.entries.Meta.{Meta}
@@ -27,7 +27,7 @@ pub record Upload : Type 0 where
 
 -- where they go
 abbrev pub target_of : Upload → Target
-target_of upload = record { directory = upload.place.0; name = upload.place.1; kept = upload.kept }
+target_of upload = record { path = upload.place; kept = upload.kept }
 
 -- the answer where something stands, and else that nothing does
 abbrev pub if_found : {X : Type 0} → (Node → Result X StoreFault) → Option Node → Result X StoreFault
@@ -80,7 +80,7 @@ bare_only is_bare place (Some kind.Directory) = cond is_bare (Ok place) (Err fau
 
 -- whether a directory has no entries
 abbrev pub is_bare : Tree → Path → Bool
-is_bare tree path = nat_eq (length (children_in tree (slashed path))) 0
+is_bare tree path = nat_eq (length (children_in tree path)) 0
 
 -- the place of an empty directory
 abbrev pub place_of_bare : Tree → Path → Option Place → Result Place StoreFault
@@ -105,7 +105,7 @@ pub record Move : Type 0 where
 
 abbrev pub outside_itself : Path → Path → Move → Result Place StoreFault → Result Move StoreFault
 outside_itself from to move (Err why) = Err why
-outside_itself from to move (Ok place) = cond (begins_with (slashed from ++ 47 ∷ []) (slashed to)) (Err fault.Inside) (Ok move)
+outside_itself from to move (Ok place) = cond (begins_with from to) (Err fault.Inside) (Ok move)
 
 abbrev pub move_to : Tree → Path → Path → Place → Place → Node → Result Move StoreFault
 move_to tree from to before afterwards node =
@@ -122,12 +122,12 @@ abbrev pub move_between : Tree → Path → Path → Result Move StoreFault
 move_between tree from to = move_of tree from to (place_of from) (place_of to)
 
 -- a directory takes along all that stands beneath it
-abbrev pub moved_by_kind : Tree → Path → Path → Move → Kind → Tree
-moved_by_kind tree from to move kind.Directory = renamed tree (slashed from) (slashed to) move.before move.afterwards
-moved_by_kind tree from to move kind.File = remove (insert tree move.afterwards move.node) move.before
+abbrev pub moved_by_kind : Tree → Move → Kind → Tree
+moved_by_kind tree move kind.Directory = renamed tree move.before move.afterwards
+moved_by_kind tree move kind.File = remove (insert tree move.afterwards move.node) move.before
 
-abbrev pub moved_tree : Tree → Path → Path → Move → Tree
-moved_tree tree from to move = moved_by_kind tree from to move (kind_of move.node)
+abbrev pub moved_tree : Tree → Move → Tree
+moved_tree tree move = moved_by_kind tree move (kind_of move.node)
 
 -- ---- files that are written
 
@@ -219,7 +219,7 @@ InMemory old (RemoveDir path answer) new =
 InMemory old (RemoveFile path answer) new =
     Changes old answer new (place_of_file old.tree (place_of path)) unit_of (λ place. remove old.tree place)
 InMemory old (Rename from to answer) new =
-    Changes old answer new (move_of old.tree from to (place_of from) (place_of to)) unit_of (λ move. moved_tree old.tree from to move)
+    Changes old answer new (move_of old.tree from to (place_of from) (place_of to)) unit_of (moved_tree old.tree)
 
 -- the octets at a place, none where no file stands
 abbrev pub octets_at : Tree → Place → List ℕ

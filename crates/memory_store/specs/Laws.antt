@@ -4,7 +4,7 @@ use Rattle.std.proofs.Common.{◌≡◌, ◌≢◌, ℕ, eqb, eq-eqb, ◌<◌, B
 use borrow.Author.Tests.{ltb-true}
 use Rattle.std.specs.Result.{result_err}
 use Rattle.std.specs.FinMap.{get, insert}
-use Rattle.virtual_path.specs.Path.{Path, slashed}
+use Rattle.virtual_path.specs.Path.{Path}
 use Rattle.virtual_tree.specs.declared.fault.StoreFault.{StoreFault}
 use Rattle.virtual_tree.specs.declared.fault.StoreFault.TheVariants as fault
 use Rattle.ftp_terms.specs.declared.entries.Kind.{Kind}
@@ -96,7 +96,7 @@ plain-place_of_file tree (Some place) = plain-file_only place _
 
 plain-outside : (from to : Path) (move : Move) (found : Result Place StoreFault) → Plain found → Plain (outside_itself from to move found)
 plain-outside from to move (Err why) p = p
-plain-outside from to move (Ok place) p = plain-cond (begins_with (slashed from ++ 47 ∷ []) (slashed to)) (Err fault.Inside) (Ok move) tt tt
+plain-outside from to move (Ok place) p = plain-cond (begins_with from to) (Err fault.Inside) (Ok move) tt tt
 
 plain-move_of : (tree : Tree) (from to : Path) (before afterwards : Option Place) → Plain (move_of tree from to before afterwards)
 plain-move_of tree from to None afterwards = tt

@@ -10,7 +10,7 @@ ghost use Rattle.file_tree.specs.Tree.{listing};
 
 use crate::ends::{MemSink, MemSource};
 use crate::writing::open_from;
-use file_tree::{Entry, Files, Place, directory_text};
+use file_tree::{Entry, Files, Place};
 use ftp_terms::{Kind, Meta};
 use std::alloc::{AllocError, Allocator, Global};
 use std::marker::Model;
@@ -71,7 +71,7 @@ impl<A: Allocator + Clone> MemStore<A> {
         ensures entries { result ≢ Err StoreFault.Memory → in_answer entries_of result ≡ Ok (listing self.now.tree path.now) }
         ensures rising { IfOk result (λ listed. IsStrictlySortedBy (slice_cmp nat_cmp) (names_of listed)) }
     {
-        let listed = self.files.listing(&self.alloc, directory_text(path))?;
+        let listed = self.files.listing(&self.alloc, path)?;
         Ok(listed)
     }
 }

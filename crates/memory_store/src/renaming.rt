@@ -2,10 +2,11 @@
 
 ghost use Rattle.std.specs.Prelude.{◌≡◌, ◌≢◌, IfOk, MatchResult, Ok, Err, Some, None};
 ghost use Rattle.std.specs.FinMap as map;
+ghost use Rattle.file_tree.specs.Tree.{begins_with};
 ghost use Rattle.memory_store.specs.InMemory.{vacant, move_between, moved_tree, unit_of, Changes};
 
 use crate::memory::MemStore;
-use file_tree::{Entry, Place, directory_text, is_beneath};
+use file_tree::{Entry, Place};
 use ftp_terms::Kind;
 use std::alloc::Allocator;
 use virtual_path::VPath;
@@ -25,6 +26,8 @@ impl<A: Allocator + Clone> MemStore<A> {
         ensures decided { MatchResult result
             (λ moving. move_between self.now.tree from.now to.now ≡ Ok (record { node = moving.entry; before = moving.before; afterwards = moving.afterwards }))
             (λ fault. fault ≢ StoreFault.Memory → move_between self.now.tree from.now to.now ≡ Err fault) }
+        ensures before { IfOk result (λ moving. moving.before ≡ from.now) }
+        ensures afterwards { IfOk result (λ moving. moving.afterwards ≡ to.now) }
         ensures stands { IfOk result (λ moving. map.get self.now.tree moving.before ≡ Some moving.entry) }
         ensures vacant { IfOk result (λ moving. map.get self.now.tree moving.afterwards ≡ None) }
     {
@@ -38,7 +41,7 @@ impl<A: Allocator + Clone> MemStore<A> {
             return Err(StoreFault::NotFound);
         };
         let afterwards = self.vacant(to, afterwards)?;
-        if is_beneath(directory_text(from), directory_text(to)) {
+        if begins_with(to, from) {
             return Err(StoreFault::Inside);
         }
         Ok(Moving {
@@ -54,9 +57,11 @@ impl<A: Allocator + Clone> MemStore<A> {
         to: &VPath<A>,
         moving: Moving<A>,
     ) -> Result<(), StoreFault>
+        requires before { moving.before ≡ from.now }
+        requires afterwards { moving.afterwards ≡ to.now }
         requires stands { map.get self.old.tree moving.before ≡ Some moving.entry }
         requires vacant { map.get self.old.tree moving.afterwards ≡ None }
-        ensures { Changes self.old result self.new (Ok (record { node = moving.entry; before = moving.before; afterwards = moving.afterwards })) unit_of (λ move. moved_tree self.old.tree from.now to.now move) }
+        ensures { Changes self.old result self.new (Ok (record { node = moving.entry; before = moving.before; afterwards = moving.afterwards })) unit_of (moved_tree self.old.tree) }
     {
         let Moving {
             entry,
@@ -66,15 +71,18 @@ impl<A: Allocator + Clone> MemStore<A> {
         match entry.kind() {
             Kind::File => self.files.shift(&before, afterwards, entry)?,
             Kind::Directory => {
-                self.files = self.files.renamed(
-                    &self.alloc,
-                    directory_text(from),
-                    directory_text(to),
-                    &before,
-                    &afterwards,
-                )?;
+                self.files = self
+                    .files
+                    .renamed(&self.alloc, from, to, &before, &afterwards)?;
             }
         }
         Ok(())
     }
+}
+
+/// Whether a path is `front` or beneath it.
+fn begins_with<A: Allocator>(path: &VPath<A>, front: &VPath<A>) -> bool
+    ensures { result ≡ begins_with front.now path.now }
+{
+    path.starts_with(front)
 }

@@ -6,7 +6,7 @@ ghost use Rattle.memory_store.specs.InMemory.{kind_in, kind_at, vacant, place_to
 ghost use Rattle.file_tree.specs.Tree.{place_of};
 
 use crate::memory::MemStore;
-use file_tree::{Place, directory_text};
+use file_tree::Place;
 use ftp_terms::Kind;
 use std::alloc::{AllocError, Allocator};
 use virtual_path::VPath;
@@ -84,7 +84,7 @@ impl<A: Allocator + Clone> MemStore<A> {
         let Some(place) = Place::of(&self.alloc, path)? else {
             return Err(StoreFault::NotEmpty);
         };
-        let is_bare = self.files.is_bare(&self.alloc, directory_text(path))?;
+        let is_bare = self.files.is_bare(&self.alloc, path)?;
         match self.kind_in(&place) {
             None => Err(StoreFault::NotFound),
             Some(Kind::File) => Err(StoreFault::NotDir),

@@ -25,10 +25,18 @@ impl<A: Allocator + Clone> MemStore<A> {
         ensures { Opens self.old result self.new (Ok (opening (map.insert self.old.tree place (File [] moment)) place 0)) }
     {
         let sink = self.sink(&place, 0)?;
+        let entry = self.empty(moment)?;
+        self.files.put(place, entry)?;
+        Ok(sink)
+    }
+
+    /// A file with no octets.
+    fn empty(&self, moment: u64) -> Result<Entry<A>, AllocError>
+        ensures { IfOk result (λ entry. entry ≡ File [] moment) }
+    {
         let none = Vec::new(self.alloc.clone()?);
         let octets = self.shared(none)?;
-        self.files.put(place, Entry::file(octets, moment))?;
-        Ok(sink)
+        Ok(Entry::file(octets, moment))
     }
 
     /// A sink with no octets yet.

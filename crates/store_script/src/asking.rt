@@ -1,5 +1,9 @@
 //! A call on a store, carried out.
 
+ghost use Rattle.std.specs.Prelude.{IfSome};
+ghost use Rattle.virtual_tree.specs.Calls.{in_answer};
+ghost use Rattle.store_script.specs.Changes.{change_of, done};
+
 use crate::calls::{Asked, Call};
 use std::alloc::{Allocator, Global};
 use virtual_path::VPath;
@@ -66,7 +70,9 @@ fn tell<A: Allocator, S: Store<A>>(
 }
 
 /// Carries out a call that changes a store.
-fn change<A: Allocator, S: Store<A>>(store: &mut S, asked: &Asked<A>) -> Result<(), StoreFault> {
+fn change<A: Allocator, S: Store<A>>(store: &mut S, asked: &Asked<A>) -> Result<(), StoreFault>
+    ensures step { IfSome (change_of asked.now.call asked.now.path asked.now.to result) (λ exchange. S.Step store.old exchange store.new) }
+{
     match asked.call {
         Call::MakeDirectory => store.make_dir(&asked.path),
         Call::RemoveDirectory => store.remove_dir(&asked.path),
@@ -86,7 +92,9 @@ pub fn ask<A: Allocator, S: Store<A>>(
     global: Global,
     store: &mut S,
     asked: &Asked<A>,
-) -> Result<String, StoreFault> {
+) -> Result<String, StoreFault>
+    ensures step { IfSome (change_of asked.now.call asked.now.path asked.now.to (in_answer done result)) (λ exchange. S.Step store.old exchange store.new) }
+{
     match asked.call {
         Call::Read(_) | Call::Names | Call::Size | Call::Modified | Call::Faults => {
             tell(global, store, asked)

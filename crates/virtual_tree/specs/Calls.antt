@@ -66,11 +66,9 @@ names_of listed = map (λ entry. string_bytes entry.name) listed.items
 
 -- ---- the two ends of a file
 
--- the file that a sink writes into: the text of its directory, its name there, and how many of its first octets stay
--- in front of what comes
+-- the file that a sink writes into: its path, and how many of its first octets stay in front of what comes
 pub record Target : Type 0 where
-  pub directory : List ℕ
-  pub name : List ℕ
+  pub path : Path
   pub kept : ℕ
 
 -- why an end refuses: where its octets are known, the device has no part in it

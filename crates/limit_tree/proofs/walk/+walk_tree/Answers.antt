@@ -6,9 +6,11 @@ use Rattle.limit_tree.specs.declared.place.Kind.TheVariants.{Branch}
 use Rattle.limit_tree.specs.declared.node.Node.TheViews.{the_lemmas}
 use Rattle.limit_tree.proofs.Places.{places_of_all, own_leaves, leaf_count-append, leaf_count-cons, length_places_out, leaf_count_out, floor_sum_out, length_places_of_all-drop, leaf_count_of_all-drop, floor_sum_of_all-drop}
 use Rattle.limit_tree.proofs.Moves.{leaf_count-moved, moved_out, moved_of_all-drop}
+use Rattle.limit_tree.proofs.Shown.{HasShown, shown-all}
 use Rattle.limit_tree.proofs.walk.+walk_tree.Goals as goal
 
 pub loop-kid-init : goal.loop-kid-init
+unfolding HasShown
 loop-kid-init g t c =
     let below : places_of_all (kids_of c.args.node.now) ≡ places_of_all c.deref-kid-items.result.now = search (rules, the_lemmas) in
     let kind : kind_of c.args.node.now ≡ Branch c.in-Branch.limit = search (rules, the_lemmas) in
@@ -39,6 +41,7 @@ loop-kid-init g t c =
     }
 
 pub loop-kid-preserved : goal.loop-kid-preserved
+unfolding HasShown
 loop-kid-preserved g t c =
     let kids = c.deref-kid-items.result.now in
     let kid = c.kid-item.result in
@@ -88,3 +91,9 @@ overflow_sub-rest-in-loop-kid g t c = omega (arith, length_places_of_all-drop c.
 
 pub overflow_sub-rest-in-loop-kid-3 : goal.overflow_sub-rest-in-loop-kid-3
 overflow_sub-rest-in-loop-kid-3 g t c = omega (arith, floor_sum_of_all-drop c.deref-kid-items.result.now c.loop-kid.kid-index c.kid-item.result c.loop-kid-test.true c.kid-item.is, c.loop-kid.invariant.rest.floors, c.size_of_next-own.ensures.size.floors)
+
+pub returns-after-loop-kid-clause-saw : goal.returns-after-loop-kid-clause-saw
+returns-after-loop-kid-clause-saw g t c =
+    let kids = c.deref-kid-items.result.now in
+    let rest = moved (c.args.depth + 1) c.loop-kid.next.leaves in
+    shown-all g.V.Visitor.Saw _ _ _ _ _ _ _ _ (at_drop_all (λ ks. map rest (places_of_all ks)) kids c.loop-kid.kid-index c.loop-kid-test.false) c.loop-kid.invariant.saw

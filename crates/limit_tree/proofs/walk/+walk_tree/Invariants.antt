@@ -1,8 +1,8 @@
-use Rattle.std.proofs.Common.{◌≡◌, ◌+◌, ◌≤◌, ◌<◌, ◌++◌, List, drop, length, map}
-use Rattle.limit_tree.specs.declared.place.Place.{Place}
+use Rattle.std.proofs.Common.{◌≡◌, ◌+◌, ◌≤◌, ◌<◌, drop, length, map}
 use Rattle.limit_tree.specs.Outline.{places, leaf_count, floor_sum, moved}
 use Rattle.limit_tree.specs.Sizes.{IsSizeOf}
 use Rattle.limit_tree.proofs.Places.{places_of_all}
+use Rattle.limit_tree.proofs.Shown.{HasShown}
 use Rattle.limit_tree.proofs.walk.+walk_tree.Given as goal
 
 abbrev pub invariant-loop-kid : goal.invariant-loop-kid
@@ -14,5 +14,5 @@ invariant-loop-kid g l = record {
   left : l.left + l.kid-index ≡ length l.kid-items;
   rest : IsSizeOf l.rest (places_of_all (drop l.kid-index l.kid-items));
   same : g.V.Visitor.leaves l.visitor ≡ g.V.Visitor.leaves l.fn.visitor;
-  saw : (start : _) (seen : List Place) → length seen ≡ l.fn.passed.nodes → leaf_count seen ≡ l.fn.passed.leaves → g.V.Visitor.Saw start seen l.fn.visitor → (done : List Place) × (length (seen ++ done) ≡ l.next.nodes) × (leaf_count (seen ++ done) ≡ l.next.leaves) × g.V.Visitor.Saw start (seen ++ done) l.visitor × (map (moved l.depth l.fn.passed.leaves) (places l.node) ≡ done ++ map (moved (l.depth + 1) l.next.leaves) (places_of_all (drop l.kid-index l.kid-items)));
+  saw : HasShown g.V.Visitor.Saw l.fn.passed.nodes l.fn.passed.leaves l.fn.visitor l.next.nodes l.next.leaves l.visitor (map (moved l.depth l.fn.passed.leaves) (places l.node)) (map (moved (l.depth + 1) l.next.leaves) (places_of_all (drop l.kid-index l.kid-items)));
 }

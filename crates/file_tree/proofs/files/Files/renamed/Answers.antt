@@ -2,7 +2,7 @@ use Rattle.std.proofs.Common.{◌≡◌, ℕ, ◌<◌, ◌^◌, sym, ap, ◌∙�
 use Rattle.std.proofs.lemmas.List.{append-nil}
 use Rattle.std.specs.FinMap.{insert, from_entries, entries}
 use Rattle.std.specs.Map.Iter.{deref_pair}
-use Rattle.file_tree.specs.Tree.{Place, Node, Tree, place_cmp, moved, moved_entry, total}
+use Rattle.file_tree.specs.Tree.{Place, Node, Tree, path_cmp, moved, moved_entry, total}
 use Rattle.file_tree.proofs.Listings.{same_entries}
 use Rattle.file_tree.proofs.Trees.{sizes}
 use Rattle.file_tree.proofs.Moves.{put_fits, parts_of_all, none_left, whole_sizes}
@@ -15,8 +15,8 @@ pub put-requires : goal.put-requires
 put-requires g c = λ grows.
     let done = c.loop-place.invariant in
     let entry : Place × Node = (c.in-Some.place.now, c.in-Some.entry.now) in
-    let fits : total (insert c.loop-place.renamed (moved c.args.from.now c.args.to.now c.args.before.now c.args.afterwards.now c.in-Some.place.now) c.in-Some.entry.now) < 2 ^ 64 =
-    put_fits c.args.from.now c.args.to.now c.args.before.now c.args.afterwards.now c.next_back.new.self done.0 c.iter-rest.result entry c.loop-place.renamed c.self.inside.stored
+    let fits : total (insert c.loop-place.renamed (moved c.args.from.now c.args.to.now c.in-Some.place.now) c.in-Some.entry.now) < 2 ^ 64 =
+    put_fits c.args.from.now c.args.to.now c.next_back.new.self done.0 c.iter-rest.result entry c.loop-place.renamed c.self.inside.stored
     (parts_of_all deref_pair c.iter-rest.result c.loop-place.rest c.next_back.new.self done.0 c.next_back.result _ done.1 c.in-Some.is c.next_back.ensures.steps)
     done.2
     (ap sizes c.iter-rest.ensures.rest ∙ whole_sizes c.args.self.now c.self.inside.nodes.entries c.self.inside.stored c.iter-rest.ensures.ordered c.self.view_is c.self.invariant)
@@ -28,7 +28,7 @@ pub returns : goal.returns
 returns g c =
     let done = c.loop-place.invariant in
     done.2
-    ∙ ap (λ (es : List (Place × Node)). from_entries {R = place_cmp} (map (moved_entry c.args.from.now c.args.to.now c.args.before.now c.args.afterwards.now) es))
+    ∙ ap (λ (es : List (Place × Node)). from_entries {R = path_cmp} (map (moved_entry c.args.from.now c.args.to.now) es))
     (none_left deref_pair c.iter-rest.result c.loop-place.rest c.next_back.new.self done.0 c.next_back.result done.1 c.in_default.is c.next_back.ensures.steps
     ∙ c.iter-rest.ensures.rest
     ∙ sym (same_entries c.self.inside.nodes.entries c.iter-rest.ensures.ordered)

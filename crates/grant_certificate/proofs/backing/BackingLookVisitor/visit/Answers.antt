@@ -1,30 +1,51 @@
-use Rattle.std.proofs.Common.{ℕ, List, Option, subst, inl, inr}
+use Rattle.std.proofs.Common.{ℕ, List, Option, sym, subst, inl, inr}
+use Rattle.std.proofs.lemmas.Bool.{iff_false}
 use Rattle.limit_tree.specs.Outline.{IsFullPlace}
 use Rattle.grant_certificate.specs.Ranges.{IsHeldWithin}
-use Rattle.grant_certificate.proofs.Seen.{held-seen, held-last}
+use Rattle.grant_certificate.proofs.Seen.{held-seen, held-last, held-either}
 use Rattle.grant_certificate.proofs.backing.BackingLookVisitor.visit.Goals as goal
 
 pub returns-then-is_full-clause-saw : goal.returns-then-is_full-clause-saw
 returns-then-is_full-clause-saw c = λ start seen count leaves was.
     let place = c.args.place in
+    let now = c.args.self.now in
+    let number = c.args.number in
     let full = subst (λ (g : List ℕ). IsFullPlace place g) was.grants (c.is_full.ensures.full.0 c.if-is_full.true) in
     record {
       grants = was.grants;
       floors = was.floors;
       entries = was.entries;
-      marked = λ i marked. elim (c.mark_held.ensures.marked i marked) [
-        | inl before ↦ held-seen seen place start.grants.now start.floors.now start.entries.now i (was.marked i before)
-        | inr here ↦ held-last seen place c.args.number start.grants.now start.floors.now start.entries.now i count full
-            (subst (λ (g : List ℕ). IsHeldWithin c.args.number place.first place.leaves g start.floors.now start.entries.now i) was.grants
-            (subst (λ (f : List ℕ). IsHeldWithin c.args.number place.first place.leaves c.args.self.now.grants.now f start.entries.now i) was.floors
-            (subst (λ (e : List (Option ℕ)). IsHeldWithin c.args.number place.first place.leaves c.args.self.now.grants.now c.args.self.now.floors.now e i) was.entries here)))
-      ];
+      marked = λ i. (
+        λ marked. elim ((c.mark_held.ensures.marked i).0 marked) [
+          | inl before ↦ held-seen seen place start.grants.now start.floors.now start.entries.now i ((was.marked i).0 before)
+          | inr here ↦ held-last seen place number start.grants.now start.floors.now start.entries.now i count full
+              (subst (λ (g : List ℕ). IsHeldWithin number place.first place.leaves g start.floors.now start.entries.now i) was.grants
+              (subst (λ (f : List ℕ). IsHeldWithin number place.first place.leaves now.grants.now f start.entries.now i) was.floors
+              (subst (λ (e : List (Option ℕ)). IsHeldWithin number place.first place.leaves now.grants.now now.floors.now e i) was.entries here)))
+        ],
+        λ held. (c.mark_held.ensures.marked i).1 (elim (held-either seen place number start.grants.now start.floors.now start.entries.now i count held) [
+          | inl before ↦ inl ((was.marked i).1 before)
+          | inr here ↦ inr
+              (subst (λ (g : List ℕ). IsHeldWithin number place.first place.leaves g now.floors.now now.entries.now i) (sym was.grants)
+              (subst (λ (f : List ℕ). IsHeldWithin number place.first place.leaves start.grants.now f now.entries.now i) (sym was.floors)
+              (subst (λ (e : List (Option ℕ)). IsHeldWithin number place.first place.leaves start.grants.now start.floors.now e i) (sym was.entries) here.1)))
+        ]),
+      );
     }
 
 pub returns-else-is_full-clause-saw : goal.returns-else-is_full-clause-saw
-returns-else-is_full-clause-saw c = λ start seen count leaves was. record {
-  grants = was.grants;
-  floors = was.floors;
-  entries = was.entries;
-  marked = λ i marked. held-seen seen c.args.place start.grants.now start.floors.now start.entries.now i (was.marked i marked);
-}
+returns-else-is_full-clause-saw c = λ start seen count leaves was.
+    let place = c.args.place in
+    let not = iff_false c.is_full.ensures.full c.if-is_full.false in
+    record {
+      grants = was.grants;
+      floors = was.floors;
+      entries = was.entries;
+      marked = λ i. (
+        λ marked. held-seen seen place start.grants.now start.floors.now start.entries.now i ((was.marked i).0 marked),
+        λ held. elim (held-either seen place c.args.number start.grants.now start.floors.now start.entries.now i count held) [
+          | inl before ↦ (was.marked i).1 before
+          | inr here ↦ absurd (not (subst (λ (g : List ℕ). IsFullPlace place g) (sym was.grants) here.0))
+        ],
+      );
+    }

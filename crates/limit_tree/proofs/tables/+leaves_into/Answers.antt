@@ -1,0 +1,55 @@
+use Rattle.std.proofs.Common.{rules, arith, ◌≡◌, ◌+◌, ◌<◌, ◌∙◌, ◌++◌, ◌∷◌, [], ℕ, List, length, take, sym, ap}
+use Rattle.std.specs.List.{cons_option}
+use Rattle.std.proofs.lemmas.List.{take_more_set}
+use Rattle.limit_tree.specs.Outline.{leaf_count, kids_of, kind_of, leaf_want, leaf_floor}
+use Rattle.limit_tree.specs.declared.place.Kind.{Kind}
+use Rattle.limit_tree.specs.declared.place.Kind.TheVariants.{Branch, Leaf}
+use Rattle.limit_tree.specs.declared.place.Place.{Place}
+use Rattle.limit_tree.specs.declared.node.Node.TheViews.{the_lemmas}
+use Rattle.limit_tree.proofs.Places.{places_of_all, own_leaves, leaf_count_out, leaf_count_of_all-drop}
+use Rattle.limit_tree.proofs.Told.{told, told-out, table-more}
+use Rattle.limit_tree.proofs.tables.+leaves_into.Goals as goal
+
+pub loop-kid-init : goal.loop-kid-init
+loop-kid-init g t c =
+    let node = c.args.node.now in
+    let below : places_of_all (kids_of node) ≡ places_of_all c.deref-kid-items.result.now = search (rules, the_lemmas) in
+    let kind : kind_of node ≡ Branch c.in-Branch.limit = search (rules, the_lemmas) in
+    record {
+      next = omega (arith, leaf_count_out node, ap own_leaves kind, ap leaf_count below);
+      size = omega arith;
+      floors_size = omega arith;
+      wants = ap (λ (ws : List ℕ). take c.args.first c.args.wants.now ++ ws) (sym (told-out leaf_want node ∙ (ap (λ (k : Kind). cons_option (leaf_want k) (told leaf_want (places_of_all (kids_of node)))) kind ∙ ap (told leaf_want) below)));
+      floors = ap (λ (fs : List ℕ). take c.args.first c.args.floors.now ++ fs) (sym (told-out leaf_floor node ∙ (ap (λ (k : Kind). cons_option (leaf_floor k) (told leaf_floor (places_of_all (kids_of node)))) kind ∙ ap (told leaf_floor) below)));
+    }
+
+pub loop-kid-preserved : goal.loop-kid-preserved
+loop-kid-preserved g t c =
+    let kids = c.deref-kid-items.result.now in
+    let kid = c.kid-item.result in
+    let i = c.loop-kid.kid-index in
+    record {
+      next = omega (arith, leaf_count_of_all-drop kids i kid c.loop-kid-test.true c.kid-item.is, c.leaves_into-next.ensures.next, c.loop-kid.invariant.next);
+      size = omega (arith, c.leaves_into-next.ensures.size, c.loop-kid.invariant.size);
+      floors_size = omega (arith, c.leaves_into-next.ensures.floors_size, c.loop-kid.invariant.floors_size);
+      wants = table-more leaf_want kids i kid _ _ _ c.loop-kid-test.true c.kid-item.is c.leaves_into-next.ensures.wants c.loop-kid.invariant.wants;
+      floors = table-more leaf_floor kids i kid _ _ _ c.loop-kid-test.true c.kid-item.is c.leaves_into-next.ensures.floors c.loop-kid.invariant.floors;
+    }
+
+pub returns-in-Leaf-clause-wants : goal.returns-in-Leaf-clause-wants
+returns-in-Leaf-clause-wants g t c =
+    let node = c.args.node.now in
+    let kind : kind_of node ≡ Leaf c.in-Leaf.want c.in-Leaf.floor = search (rules, the_lemmas) in
+    let none : places_of_all (kids_of node) ≡ [] = search (rules, the_lemmas) in
+    let inside : c.args.first < length c.args.wants.now = omega (arith, c.requires.room, leaf_count_out node, ap own_leaves kind) in
+    take_more_set c.args.wants.now c.args.first c.in-Leaf.want inside ∙
+    ap (λ (ws : List ℕ). take c.args.first c.args.wants.now ++ ws) (sym (told-out leaf_want node ∙ (ap (λ (k : Kind). cons_option (leaf_want k) (told leaf_want (places_of_all (kids_of node)))) kind ∙ ap (λ (ps : List Place). c.in-Leaf.want ∷ told leaf_want ps) none)))
+
+pub returns-in-Leaf-clause-floors : goal.returns-in-Leaf-clause-floors
+returns-in-Leaf-clause-floors g t c =
+    let node = c.args.node.now in
+    let kind : kind_of node ≡ Leaf c.in-Leaf.want c.in-Leaf.floor = search (rules, the_lemmas) in
+    let none : places_of_all (kids_of node) ≡ [] = search (rules, the_lemmas) in
+    let inside : c.args.first < length c.args.floors.now = omega (arith, c.requires.room, c.requires.tables, leaf_count_out node, ap own_leaves kind) in
+    take_more_set c.args.floors.now c.args.first c.in-Leaf.floor inside ∙
+    ap (λ (fs : List ℕ). take c.args.first c.args.floors.now ++ fs) (sym (told-out leaf_floor node ∙ (ap (λ (k : Kind). cons_option (leaf_floor k) (told leaf_floor (places_of_all (kids_of node)))) kind ∙ ap (λ (ps : List Place). c.in-Leaf.floor ∷ told leaf_floor ps) none)))

@@ -1,0 +1,3 @@
+pub mod Always
+pub mod Laws
+pub mod Steps

@@ -1,0 +1,45 @@
+-- What is told of entries, and where.
+use Rattle.std.specs.Prelude.{ℕ, ◌≡◌, List, map}
+use Rattle.authorizer.specs.Users.{Users}
+use Rattle.virtual_path.specs.Path.{Path}
+use Rattle.virtual_tree.specs.Calls.{Entry}
+use Rattle.session_listings.specs.declared.style.Style as declared
+use Rattle.session_listings.specs.declared.style.Style.TheVariants as asked
+use Rattle.session_listings.specs.declared.style.Way.{Way}
+use Rattle.session_listings.specs.declared.style.Way.TheVariants.{InReply, OverData}
+use Rattle.session_table.specs.declared.actions.Action.{Action}
+use Rattle.session_table.specs.Judged.{Place}
+use Rattle.session_table.specs.Plans.{Plan}
+use Rattle.session_table.specs.Plans.Plan.{Then, AskList, AskStat}
+use Rattle.session_table.specs.Texts.{AreTold}
+use Rattle.session_table.specs.TransferRows.{Style, entry_told, itself, listed_by, lists, looked_by, sends_lines, status_lines}
+use Rattle.session_table.specs.TransferRows.Style.{LongLines, Names, FactLines}
+use Rattle.session_table.specs.Views.{View}
+
+abbrev pub style_of : declared.Style → Style
+style_of asked.LongLines = LongLines
+style_of asked.Names = Names
+style_of asked.FactLines = FactLines
+
+module _ {A R K : Type 0} where
+  -- lines go over a data connection, or stand in the reply
+  abbrev pub told_by : Way → View → List (List ℕ) → Plan A R K
+  told_by OverData view lines = sends_lines view lines
+  told_by InReply view lines = status_lines view lines
+
+  -- the entries of a directory
+  abbrev pub directory_row : Users → View → Style → Way → Place → Plan A R K
+  directory_row users view style way place =
+      AskList place.stored (listed_by view (lists users view place.path style (told_by way view)))
+
+  -- the entries of a directory, or the file itself: LIST, NLST, and STAT with an argument
+  abbrev pub listing_row : Users → View → Style → Way → Place → Plan A R K
+  listing_row users view style way place = AskStat place.stored (looked_by view place
+      (lists users view place.path style (told_by way view))
+      (λ meta. lists users view place.path style (told_by way view) (itself place.path meta)))
+
+  -- some lines tell the entries, one each and in their order, and go that way
+  abbrev pub IsListed : Users → View → Style → Way → Path → List Entry → View → List (Action A R K) → Type 0
+  IsListed users view style way above entries view' actions =
+      (lines : List (List ℕ)) × AreTold (map (entry_told users view above style) entries) lines
+      × (Then view' actions ≡ told_by way view lines)

@@ -1,0 +1,132 @@
+//! Listings over a data connection, and STAT of a path (RFC 959, section 4.1.3; RFC 3659, section 7).
+//!
+//! Want of memory leaves the session as it was, and the store as the looks left it.
+
+ghost use Rattle.std.specs.Prelude.{◌≡◌, IfOk, OnErr};
+ghost use Rattle.session_listings.specs.Listed.{directory_row, listing_row, style_of};
+ghost use Rattle.session_table.specs.Plans.{Ran, Stops};
+ghost use Rattle.session_table.specs.TransferRows.{list_row, mlsd_row, stat_row};
+ghost use Rattle.session_table.specs.TransferRows.Style.{FactLines};
+ghost use Rattle.session_listings.specs.declared.style.Way.TheVariants.{OverData};
+
+use crate::style::{Style, Way};
+use crate::told::{tell_entries, tell_file};
+use authorizer::Authorizer;
+use ftp_terms::Kind;
+use session_judge::Place;
+use session_state::State;
+use session_table::{Action, Refusal};
+use std::alloc::{AllocError, Allocator};
+use virtual_tree::Store;
+
+/// The entries of a directory.
+fn list_directory<A: Allocator + Clone, S: Store<A>>(
+    state: &mut State<A>,
+    users: &Authorizer<A>,
+    store: &mut S,
+    place: &Place<A>,
+    style: Style,
+    way: Way,
+) -> Result<Vec<Action<A, S::Source, S::Sink>, A>, AllocError>
+    ensures row { IfOk result (λ actions. Ran S.Step
+        (directory_row users.now.users state.old (style_of style) way place.now)
+        store.old store.new state.new actions.items) }
+    ensures unchanged { OnErr result (state.new ≡ state.old) }
+    ensures stops { OnErr result (Stops {A = A} {R = S.Source} {K = S.Sink} S.Step
+        (directory_row users.now.users state.old (style_of style) way place.now)
+        store.old store.new) }
+{
+    match store.list(place.stored()) {
+        Err(fault) => state.refuse(Refusal::Store(fault)),
+        Ok(entries) => tell_entries(state, users, place.path(), style, way, entries.as_slice()),
+    }
+}
+
+/// The entries of a directory, or the file itself.
+fn list_place<A: Allocator + Clone, S: Store<A>>(
+    state: &mut State<A>,
+    users: &Authorizer<A>,
+    store: &mut S,
+    place: &Place<A>,
+    style: Style,
+    way: Way,
+) -> Result<Vec<Action<A, S::Source, S::Sink>, A>, AllocError>
+    ensures row { IfOk result (λ actions. Ran S.Step
+        (listing_row users.now.users state.old (style_of style) way place.now)
+        store.old store.new state.new actions.items) }
+    ensures unchanged { OnErr result (state.new ≡ state.old) }
+    ensures stops { OnErr result (Stops {A = A} {R = S.Source} {K = S.Sink} S.Step
+        (listing_row users.now.users state.old (style_of style) way place.now)
+        store.old store.new) }
+{
+    match store.stat(place.stored()) {
+        Err(fault) => state.refuse(Refusal::Store(fault)),
+        Ok(meta) => match meta.kind {
+            Kind::File => tell_file(state, users, place.path(), style, way, &meta),
+            Kind::Directory => list_directory(state, users, store, place, style, way),
+        },
+    }
+}
+
+/// LIST and NLST.
+pub fn list<A: Allocator + Clone, S: Store<A>>(
+    state: &mut State<A>,
+    users: &Authorizer<A>,
+    store: &mut S,
+    place: &Place<A>,
+    style: Style,
+) -> Result<Vec<Action<A, S::Source, S::Sink>, A>, AllocError>
+    ensures row { IfOk result (λ actions. Ran S.Step
+        (list_row users.now.users state.old (style_of style) place.now)
+        store.old store.new state.new actions.items) }
+    ensures unchanged { OnErr result (state.new ≡ state.old) }
+    ensures stops { OnErr result (Stops {A = A} {R = S.Source} {K = S.Sink} S.Step
+        (list_row users.now.users state.old (style_of style) place.now) store.old store.new) }
+{
+    list_place(state, users, store, place, style, Way::OverData)
+}
+
+/// MLSD.
+pub fn list_facts<A: Allocator + Clone, S: Store<A>>(
+    state: &mut State<A>,
+    users: &Authorizer<A>,
+    store: &mut S,
+    place: &Place<A>,
+) -> Result<Vec<Action<A, S::Source, S::Sink>, A>, AllocError>
+    ensures row { IfOk result (λ actions. Ran S.Step (mlsd_row users.now.users state.old place.now)
+        store.old store.new state.new actions.items) }
+    ensures unchanged { OnErr result (state.new ≡ state.old) }
+    ensures stops { OnErr result (Stops {A = A} {R = S.Source} {K = S.Sink} S.Step
+        (mlsd_row users.now.users state.old place.now) store.old store.new) }
+{
+    match store.stat(place.stored()) {
+        Err(fault) => state.refuse(Refusal::Store(fault)),
+        Ok(meta) => match meta.kind {
+            Kind::File => state.refuse(Refusal::ListsNoFile),
+            Kind::Directory => list_directory(
+                state,
+                users,
+                store,
+                place,
+                Style::FactLines,
+                Way::OverData,
+            ),
+        },
+    }
+}
+
+/// STAT with an argument.
+pub fn tell_listing<A: Allocator + Clone, S: Store<A>>(
+    state: &mut State<A>,
+    users: &Authorizer<A>,
+    store: &mut S,
+    place: &Place<A>,
+) -> Result<Vec<Action<A, S::Source, S::Sink>, A>, AllocError>
+    ensures row { IfOk result (λ actions. Ran S.Step (stat_row users.now.users state.old place.now)
+        store.old store.new state.new actions.items) }
+    ensures unchanged { OnErr result (state.new ≡ state.old) }
+    ensures stops { OnErr result (Stops {A = A} {R = S.Source} {K = S.Sink} S.Step
+        (stat_row users.now.users state.old place.now) store.old store.new) }
+{
+    list_place(state, users, store, place, Style::LongLines, Way::InReply)
+}

@@ -1,0 +1,87 @@
+//! Transfers of files: RETR, STOR, APPE (RFC 959, section 4.1.3; RFC 3659, section 5).
+
+ghost use Rattle.std.specs.Prelude.{◌≡◌, IfOk, OnErr};
+ghost use Rattle.session_table.specs.Plans.{Ran, Stops};
+ghost use Rattle.session_table.specs.TransferRows.{appe_row, retr_row, stor_row, store_mode};
+
+use crate::opened::{put_sending, put_taking};
+use session_judge::Place;
+use session_state::{State, with_room};
+use session_table::Action;
+use std::alloc::{AllocError, Allocator};
+use virtual_tree::{Store, WriteMode};
+
+/// RETR: a file from the offset on. An error leaves session and store as they were.
+pub fn retrieve<A: Allocator + Clone, S: Store<A>>(
+    state: &mut State<A>,
+    store: &mut S,
+    place: Place<A>,
+) -> Result<Vec<Action<A, S::Source, S::Sink>, A>, AllocError>
+    ensures row { IfOk result (λ actions.
+        Ran S.Step (retr_row state.old place) store.old store.new state.new actions.items) }
+    ensures unchanged { OnErr result (state.new ≡ state.old) }
+    ensures stops { OnErr result (
+        Stops {A = A} {R = S.Source} {K = S.Sink} S.Step
+        (retr_row state.old place) store.old store.new) }
+    ensures untouched { OnErr result (store.new ≡ store.old) }
+{
+    let mut actions = with_room(state.alloc()?, 2)?;
+    let opened = store.open_read(place.stored(), state.offset());
+    put_sending(state, place.into_path(), opened, &mut actions);
+    Ok(actions)
+}
+
+/// STOR writes from the offset on.
+fn store_mode(offset: u64) -> WriteMode
+    ensures mode { result ≡ store_mode offset }
+{
+    if offset > 0 {
+        WriteMode::At(offset)
+    } else {
+        WriteMode::New
+    }
+}
+
+/// STOR: a file from the offset on. The moment is in milliseconds since 1970. An error leaves
+/// session and store as they were.
+pub fn store_file<A: Allocator + Clone, S: Store<A>>(
+    state: &mut State<A>,
+    store: &mut S,
+    place: Place<A>,
+    moment: u64,
+) -> Result<Vec<Action<A, S::Source, S::Sink>, A>, AllocError>
+    ensures row { IfOk result (λ actions.
+        Ran S.Step (stor_row state.old moment place) store.old store.new state.new actions.items) }
+    ensures unchanged { OnErr result (state.new ≡ state.old) }
+    ensures stops { OnErr result (
+        Stops {A = A} {R = S.Source} {K = S.Sink} S.Step
+        (stor_row state.old moment place) store.old store.new) }
+    ensures untouched { OnErr result (store.new ≡ store.old) }
+{
+    let mut actions = with_room(state.alloc()?, 2)?;
+    let opened = store.open_write(place.stored(), store_mode(state.offset()), moment);
+    put_taking(state, place.into_path(), opened, &mut actions);
+    Ok(actions)
+}
+
+/// APPE: behind all octets of a file. The moment is in milliseconds since 1970. An error leaves
+/// session and store as they were.
+pub fn append<A: Allocator + Clone, S: Store<A>>(
+    state: &mut State<A>,
+    store: &mut S,
+    place: Place<A>,
+    moment: u64,
+) -> Result<Vec<Action<A, S::Source, S::Sink>, A>, AllocError>
+    ensures row { IfOk result (λ actions.
+        Ran S.Step (appe_row state.old moment place) store.old store.new state.new actions.items) }
+    ensures unchanged { OnErr result (state.new ≡ state.old) }
+    ensures stops { OnErr result (
+        Stops {A = A} {R = S.Source} {K = S.Sink} S.Step
+        (appe_row state.old moment place) store.old store.new) }
+    ensures untouched { OnErr result (store.new ≡ store.old) }
+{
+    let mut actions = with_room(state.alloc()?, 2)?;
+    let opened = store.open_write(place.stored(), WriteMode::Append, moment);
+    put_taking(state, place.into_path(), opened, &mut actions);
+    Ok(actions)
+}

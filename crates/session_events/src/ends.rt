@@ -1,0 +1,181 @@
+//! The end of a transfer (RFC 959, sections 4.2 and 5.4).
+
+ghost use Rattle.std.specs.Prelude.{◌≡◌, ◌≤◌, ◌<◌, ◌+◌, ◌++◌, [], IfOk, OnErr, vec_len, vec_capacity};
+ghost use Rattle.session_table.specs.Plans.{Ran};
+ghost use Rattle.session_table.specs.Plans.Plan.{Then};
+ghost use Rattle.session_table.specs.StateRows.{farewell};
+ghost use Rattle.session_table.specs.Table.{and_quits, end_hook, end_reply, end_row, end_told, ended_row};
+ghost use Rattle.session_table.specs.Views.{carried};
+ghost use Rattle.session_table.specs.Views.Begun.{Idle};
+
+use authorizer::Authorizer;
+use session_login::{Farewell, part};
+use session_state::{State, put, with_room};
+use session_table::{Action, Answer, Control, End, Errand, HookCall, Notice, Refusal, Stage};
+use std::alloc::{AllocError, Allocator};
+use virtual_tree::{Store, StoreFault};
+
+/// The reply to the end of a transfer, with what `finish` answered.
+fn end_told<A: Allocator>(end: End, finished: Result<(), StoreFault>) -> Answer<A>
+    ensures reply { result ≡ end_told end finished }
+{
+    match end {
+        End::Done => match finished {
+            Ok(()) => Answer::Notice(Notice::TransferComplete),
+            Err(fault) => Answer::Refusal(Refusal::Store(fault)),
+        },
+        End::Lost => Answer::Refusal(Refusal::ConnectionLost),
+        End::Local => Answer::Refusal(Refusal::Store(StoreFault::Device)),
+        End::Full => Answer::Refusal(Refusal::Store(StoreFault::Full)),
+        End::NoConnection => Answer::Refusal(Refusal::NoDataConnection),
+        End::NoMemory => Answer::Refusal(Refusal::Store(StoreFault::Memory)),
+        End::Aborted => Answer::Refusal(Refusal::TransferAborted),
+    }
+}
+
+/// The end of an aborted transfer is not told, nor one behind the end of the control connection.
+fn put_reply<A: Allocator, R: Drop, K: Drop>(
+    actions: &mut Vec<Action<A, R, K>, A>,
+    control: Control,
+    was_aborted: bool,
+    reply: Answer<A>,
+)
+    requires room { vec_len actions.old < vec_capacity actions.old }
+    ensures items { actions.new.items ≡ actions.old.items ++ end_reply control was_aborted reply }
+    ensures len { vec_len actions.new ≤ vec_len actions.old + 1 }
+    ensures kept { vec_capacity actions.old ≤ vec_capacity actions.new }
+{
+    match control {
+        Control::Closing => {}
+        Control::Open | Control::Quitting => {
+            if !was_aborted {
+                put(actions, Action::Say(reply));
+            }
+        }
+    }
+}
+
+/// A handler is told of files alone.
+fn put_hook<A: Allocator, R: Drop, K: Drop>(
+    actions: &mut Vec<Action<A, R, K>, A>,
+    errand: Errand<A>,
+    end: End,
+)
+    requires room { vec_len actions.old < vec_capacity actions.old }
+    ensures items { actions.new.items ≡ actions.old.items ++ end_hook (carried errand) end }
+    ensures len { vec_len actions.new ≤ vec_len actions.old + 1 }
+    ensures kept { vec_capacity actions.old ≤ vec_capacity actions.new }
+{
+    match errand {
+        Errand::Listing => {}
+        Errand::Sending(path) => match end {
+            End::Done => put(actions, Action::Hook(HookCall::FileSent(path))),
+            _ => put(actions, Action::Hook(HookCall::IncompleteFileSent(path))),
+        },
+        Errand::Taking(path) => match end {
+            End::Done => put(actions, Action::Hook(HookCall::FileReceived(path))),
+            _ => put(
+                actions,
+                Action::Hook(HookCall::IncompleteFileReceived(path)),
+            ),
+        },
+    }
+}
+
+/// A QUIT that waited is served behind what is done before.
+pub fn quit_if_waiting<A: Allocator + Clone, R: Drop, K: Drop>(
+    state: &mut State<A>,
+    users: &Authorizer<A>,
+    parting: Farewell<A>,
+    actions: &mut Vec<Action<A, R, K>, A>,
+)
+    requires farewell { parting ≡ farewell users.now.users state.old }
+    requires room { vec_len actions.old + 4 ≤ vec_capacity actions.old }
+    ensures row { Then state.new actions.new.items
+        ≡ and_quits users.now.users state.old actions.old.items state.old.control }
+{
+    match state.control() {
+        Control::Open | Control::Closing => {}
+        Control::Quitting => part(state, parting, actions),
+    }
+}
+
+/// What is told of the end of a transfer that is over.
+fn tell_end<A: Allocator + Clone, R: Drop, K: Drop>(
+    state: &mut State<A>,
+    users: &Authorizer<A>,
+    parting: Farewell<A>,
+    errand: Errand<A>,
+    was_aborted: bool,
+    end: End,
+    finished: Result<(), StoreFault>,
+    actions: &mut Vec<Action<A, R, K>, A>,
+)
+    requires idle { state.old.begun ≡ Idle }
+    requires farewell { parting ≡ farewell users.now.users state.old }
+    requires empty { actions.old.items ≡ [] }
+    requires room { vec_len actions.old + 6 ≤ vec_capacity actions.old }
+    ensures row { Then state.new actions.new.items
+        ≡ end_row users.now.users state.old (carried errand) was_aborted end finished }
+{
+    if state.stage() == Stage::Closed {
+        return;
+    }
+    let reply = end_told(end, finished);
+    put_reply(actions, state.control(), was_aborted, reply);
+    put_hook(actions, errand, end);
+    quit_if_waiting(state, users, parting, actions);
+}
+
+/// The end of a transfer. A sink that came back is finished in every case. The moment is in
+/// milliseconds since 1970.
+pub fn end_transfer<A: Allocator + Clone, S: Store<A>>(
+    state: &mut State<A>,
+    users: &Authorizer<A>,
+    store: &mut S,
+    end: End,
+    sink: Option<S::Sink>,
+    moment: u64,
+) -> Result<Vec<Action<A, S::Source, S::Sink>, A>, AllocError>
+    ensures row { IfOk result (λ actions.
+        Ran S.Step (ended_row users.now.users state.old moment end sink)
+        store.old store.new state.new actions.items) }
+    ensures unchanged { OnErr result (state.new ≡ state.old) }
+    ensures untouched { OnErr result (store.new ≡ store.old) }
+{
+    let parting = Farewell::new(state, users)?;
+    let mut actions = with_room(state.alloc()?, 6)?;
+    let was_aborted = state.is_aborted();
+    let Some(errand) = state.end_transfer() else {
+        return Ok(actions);
+    };
+    match sink {
+        Some(sink) => {
+            let finished = store.finish(sink, moment);
+            tell_end(
+                state,
+                users,
+                parting,
+                errand,
+                was_aborted,
+                end,
+                finished,
+                &mut actions,
+            );
+            Ok(actions)
+        }
+        None => {
+            tell_end(
+                state,
+                users,
+                parting,
+                errand,
+                was_aborted,
+                end,
+                Ok(()),
+                &mut actions,
+            );
+            Ok(actions)
+        }
+    }
+}

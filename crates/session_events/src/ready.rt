@@ -1,0 +1,105 @@
+//! A passive port came, or none was free (RFC 959, section 4.1.2; RFC 2428, section 3).
+
+ghost use Rattle.std.specs.Prelude.{◌≡◌, IfOk, None, OnErr, Some};
+ghost use Rattle.session_table.specs.Plans.Plan.{Then};
+ghost use Rattle.session_table.specs.Table.{port_told, ready_as, ready_row};
+
+use crate::ends::quit_if_waiting;
+use authorizer::Authorizer;
+use ftp_terms::LineText;
+use ftp_wire::{HostPort, port_text};
+use session_login::Farewell;
+use session_state::{State, made, put, with_room};
+use session_table::{Action, Answer, Passive, Refusal};
+use std::alloc::{AllocError, Allocator};
+
+/// The reply that tells the port.
+fn port_told<A: Allocator + Clone>(
+    state: &State<A>,
+    passive: Passive,
+    port: u16,
+) -> Result<Answer<A>, AllocError>
+    ensures reply { IfOk result (λ reply. reply ≡ port_told state.now passive port) }
+{
+    match passive {
+        Passive::Plain => {
+            let address = state.address();
+            let place = port_text(state.alloc()?, &HostPort { address, port })?;
+            let text = LineText::joined(
+                state.alloc()?,
+                "Entering Passive Mode (",
+                place.as_str(),
+                ")",
+            )?;
+            Ok(made(227, text))
+        }
+        Passive::Extended => {
+            let text = LineText::with_number(
+                state.alloc()?,
+                "Entering Extended Passive Mode (|||",
+                u64::from(port),
+                "|)",
+            )?;
+            Ok(made(229, text))
+        }
+    }
+}
+
+/// A port is open.
+fn tell_port<A: Allocator + Clone, R: Drop, K: Drop>(
+    state: &mut State<A>,
+    users: &Authorizer<A>,
+    passive: Passive,
+    port: u16,
+) -> Result<Vec<Action<A, R, K>, A>, AllocError>
+    ensures row { IfOk result (λ actions.
+        Then state.new actions.items ≡ ready_as users.now.users state.old passive (Some port)) }
+    ensures unchanged { OnErr result (state.new ≡ state.old) }
+{
+    let parting = Farewell::new(state, users)?;
+    let told = port_told(state, passive, port)?;
+    let mut actions = with_room(state.alloc()?, 5)?;
+    put(&mut actions, Action::Say(told));
+    state.end_waiting();
+    state.prepare();
+    quit_if_waiting(state, users, parting, &mut actions);
+    Ok(actions)
+}
+
+/// No port is free.
+fn tell_none<A: Allocator + Clone, R: Drop, K: Drop>(
+    state: &mut State<A>,
+    users: &Authorizer<A>,
+    passive: Passive,
+) -> Result<Vec<Action<A, R, K>, A>, AllocError>
+    ensures row { IfOk result (λ actions.
+        Then state.new actions.items ≡ ready_as users.now.users state.old passive None) }
+    ensures unchanged { OnErr result (state.new ≡ state.old) }
+{
+    let parting = Farewell::new(state, users)?;
+    let mut actions = with_room(state.alloc()?, 5)?;
+    let none = Answer::Refusal(Refusal::NoPassivePort);
+    put(&mut actions, Action::Say(none));
+    state.end_waiting();
+    quit_if_waiting(state, users, parting, &mut actions);
+    Ok(actions)
+}
+
+/// A passive port came, or none was free.
+pub fn take_port<A: Allocator + Clone, R: Drop, K: Drop>(
+    state: &mut State<A>,
+    users: &Authorizer<A>,
+    port: Option<u16>,
+) -> Result<Vec<Action<A, R, K>, A>, AllocError>
+    ensures row { IfOk result (λ actions.
+        Then state.new actions.items ≡ ready_row users.now.users state.old port) }
+    ensures unchanged { OnErr result (state.new ≡ state.old) }
+{
+    match state.awaited() {
+        None => with_room(state.alloc()?, 0),
+        Some(passive) => match port {
+            Some(port) => tell_port(state, users, passive, port),
+            None => tell_none(state, users, passive),
+        },
+    }
+}

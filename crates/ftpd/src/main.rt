@@ -7,8 +7,8 @@ mod opened;
 mod tests;
 
 use opened::Machine;
-use sheet_commands::{Outside, ProgramFault};
 use program::{Ending, run_words};
+use sheet_commands::{Outside, ProgramFault};
 use std::alloc::{AllocError, Global};
 use std::io::ErrorKind;
 use std::process::ExitCode;

@@ -1,7 +1,7 @@
 //! The files that the words of a command name.
 
-use sheet_commands::Outside;
 use program::{Openings, STANDARD_INPUT};
+use sheet_commands::Outside;
 use std::io::Read;
 use std::rt::Files;
 use std::{fs, io};

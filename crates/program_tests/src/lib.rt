@@ -3,11 +3,11 @@
 #![tactic(auto)]
 
 #[cfg(test)]
+mod command_lines;
+#[cfg(test)]
 mod ends;
 #[cfg(test)]
 mod expect;
-#[cfg(test)]
-mod program;
 #[cfg(test)]
 mod rows;
 #[cfg(test)]

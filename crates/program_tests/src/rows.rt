@@ -1,5 +1,5 @@
 //! Worked sheets and grants files, through the program: its status, its output, and what it tells.
-use super::program::{Files, expect};
+use super::command_lines::{Files, expect};
 use std::alloc::Global;
 use std::process::Abort;
 

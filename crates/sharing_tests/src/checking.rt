@@ -6,6 +6,8 @@ use grant_certificate::{
     each_has_ascending, plain_backed_is_best, plain_backed_is_largest_at_each_level, seal,
 };
 use limit_tree::Tree;
+use linked_list_allocator::LocalHeap;
+use round_allocator::allot;
 use std::alloc::Global;
 use std::test::Fail;
 
@@ -122,6 +124,17 @@ fn hands_back(rt: HostRuntime) -> Result<(), Fail> {
             holds(&rt, refused.certificate.into_entries().len() == 4);
         }
     }
+    Ok(())
+}
+
+#[test]
+fn seals_what_lies_in_another_heap(rt: HostRuntime) -> Result<(), Fail> {
+    let tree = tree(&rt, users(rt.alloc(), 0)?);
+    let heap = LocalHeap::new(rt.alloc(), 4096)?;
+    let (grants, certificate) = allot(&heap, &tree)?;
+    holds(&rt, check(&tree, &grants, &certificate) == Verdict::Yes);
+    let sealed = seal(tree, grants, certificate);
+    holds(&rt, sealed.is_ok_and(|sealed| sealed.total() == 75));
     Ok(())
 }
 

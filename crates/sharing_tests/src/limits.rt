@@ -6,7 +6,8 @@ ghost use Rattle.limit_tree.specs.Outline.{limits};
 use super::trees::{branch, leaf, tree, users};
 use crate::expect::{holds, same};
 use limit_tree::{
-    Flat, Kind, MAX_LIMIT, MAX_WANT, Node, Place, Tree, TreeFault, no_floors_is_plain,
+    Flat, Kind, MAX_LIMIT, MAX_WANT, Node, Place, Tree, TreeFault, absorbed_is_taken_in,
+    no_floors_is_plain,
 };
 use std::alloc::AllocError;
 use std::process::Abort;
@@ -49,6 +50,20 @@ fn tells_nodes_and_leaves(rt: HostRuntime) -> Result<(), AllocError> {
     holds(
         &rt,
         tree.under(1, 1) && !tree.under(1, 2) && tree.under(0, 2),
+    );
+    Ok(())
+}
+
+#[test]
+fn puts_leaves_into_tables(rt: HostRuntime) -> Result<(), AllocError> {
+    let tree = tree(&rt, users(rt.alloc(), 6)?);
+    holds(&rt, tree.leaves() == 4);
+    let mut wants = [7; 5];
+    let mut floors = [7; 5];
+    tree.leaves_into(&mut wants, &mut floors);
+    holds(
+        &rt,
+        wants == [50, 50, 50, 10, 7] && floors == [0, 0, 0, 6, 7],
     );
     Ok(())
 }
@@ -202,4 +217,5 @@ fn the_first_fault_in_preorder_decides(rt: HostRuntime) -> Result<(), AllocError
 #[test]
 fn laws_stand(_rt: HostRuntime) {
     no_floors_is_plain();
+    absorbed_is_taken_in();
 }

@@ -1,6 +1,6 @@
 -- What each input does, and never does.
-use Rattle.std.proofs.Common.{◌≡◌, ◌⊎◌, ℕ, ◌+◌, ◌<◌, ◌≤◌, Bool, true, false, cond, not, ◌&&◌, List, [], ◌∷◌, ◌++◌, length, length-append, Option, Some, None, Result, Ok, Err, refl, sym, ap, ◌∙◌, subst, inl, inr, arith, nat_lt}
-use Rattle.std.proofs.lemmas.Bool.{false≢true, ltb-true, true≢false}
+use Rattle.std.proofs.Common.{◌≡◌, ℕ, ◌+◌, ◌≤◌, Bool, true, false, cond, not, ◌&&◌, List, [], ◌∷◌, ◌++◌, length, length-append, Option, Some, None, Result, Ok, refl, sym, ◌∙◌, inl, inr, arith, nat_lt}
+use Rattle.std.proofs.lemmas.Bool.{false≢true, ltb-true}
 use Rattle.authorizer.specs.Users.{Users}
 use Rattle.ftp_wire.specs.Items.{Item}
 use Rattle.ftp_wire.specs.Reading.{item_of}
@@ -12,7 +12,7 @@ use Rattle.virtual_tree.specs.declared.fault.StoreFault.{StoreFault}
 use Rattle.session_laws.specs.Always.{Always}
 use Rattle.session_laws.specs.Laws.{CallsAreRightful, FewLinesAreHeld, FloorsAreReleasedOnce, NoCallsOutside, NoTransferUnprepared, OneThingIsAsked, IsAllowedCall, IsReturned, IsRightful, Releases, admitted_by, asking, logged_in, most_asked, releases, starting}
 use Rattle.session_laws.proofs.Keeping.{always_cond, always_taken, always_to}
-use Rattle.session_laws.proofs.Rows.{CallFor, EndFor, Fine, Quiet, parting, quiet_then, served_fine, stays}
+use Rattle.session_laws.proofs.Rows.{CallFor, Fine, Quiet, parting, quiet_then, served_fine, stays}
 use Rattle.session_table.specs.declared.actions.Action.{Action}
 use Rattle.session_table.specs.declared.actions.Action.TheVariants as action
 use Rattle.session_table.specs.declared.actions.HookCall.TheVariants as hook
@@ -28,9 +28,8 @@ use Rattle.session_table.specs.declared.stages.Control.TheVariants.{Open, Quitti
 use Rattle.session_table.specs.declared.stages.Passive.{Passive}
 use Rattle.session_table.specs.Plans.{Plan}
 use Rattle.session_table.specs.Plans.Plan.{Then}
-use Rattle.session_table.specs.StateRows.{farewell, leaves}
 use Rattle.session_laws.specs.Steps.{in_its_turn, is_open, serves_lines}
-use Rattle.session_table.specs.Table.{Taken, aborts, after_closed, and_quits, beside, closed_row, controlled, end_hook, end_reply, end_row, end_told, ended_by, ended_row, ended_with, held_row, holds, idle, in_turn, line_row, meanwhile, most_held, open_row, port_told, ready_as, ready_by, ready_row, served, table}
+use Rattle.session_table.specs.Table.{Taken, aborts, after_closed, and_quits, beside, closed_row, controlled, end_hook, end_reply, end_row, end_told, ended_by, ended_row, ended_with, held_row, holds, idle, in_turn, meanwhile, most_held, ready_as, ready_by, ready_row, table}
 use Rattle.session_table.specs.Commands.{Line}
 use Rattle.session_table.specs.Views.{View, Begun, Carried, awaited, is_aborted, is_busy, is_closed, is_inside, running, runs}
 use Rattle.session_table.specs.Views.Begun.{Idle}

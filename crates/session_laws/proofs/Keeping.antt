@@ -1,5 +1,5 @@
 -- What holds of plans, carried over.
-use Rattle.std.proofs.Common.{◌≡◌, ℕ, Bool, true, false, cond, List, [], ◌∷◌, ◌++◌, length, refl, sym, ap, ◌∙◌, subst, arith, append_assoc}
+use Rattle.std.proofs.Common.{Bool, true, false, cond, List}
 use Rattle.virtual_tree.specs.Calls.{Exchange}
 use Rattle.session_laws.specs.Always.{Always}
 use Rattle.session_table.specs.declared.actions.Action.{Action}

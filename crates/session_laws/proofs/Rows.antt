@@ -1,5 +1,5 @@
 -- What each row of the table does, and never does.
-use Rattle.std.proofs.Common.{◌==◌, ◌≡◌, ◌⊎◌, ℕ, ◌+◌, ◌<◌, ◌≤◌, Bool, true, false, cond, not, ◌&&◌, List, [], ◌∷◌, ◌++◌, length, Option, Some, None, Result, Ok, Err, unwrap_or, is_some, is_none, refl, sym, ap, ◌∙◌, subst, inl, inr, arith, nat_lt, append_assoc}
+use Rattle.std.proofs.Common.{◌==◌, ◌≡◌, ℕ, ◌+◌, ◌≤◌, Bool, true, false, cond, not, ◌&&◌, List, [], ◌∷◌, ◌++◌, Option, Some, None, Result, Ok, Err, unwrap_or, is_some, is_none, refl, sym, ap, ◌∙◌, subst, inl, inr, arith, nat_lt, append_assoc}
 use Rattle.std.proofs.lemmas.Bool.{false≢true, not-false, true≢false}
 use Rattle.authorizer.specs.Users.{Users, allowed}
 use Rattle.authorizer.specs.Changes.{is_password}
@@ -19,11 +19,10 @@ use Rattle.ftp_wire.specs.declared.commands.HostPort.{HostPort}
 use Rattle.virtual_path.specs.Path.{Path, joined, resolved}
 use Rattle.virtual_path.specs.declared.fault.PathFault.{PathFault}
 use Rattle.virtual_tree.specs.Calls.{Entry, Exchange}
-use Rattle.virtual_tree.specs.Calls.Exchange.{Finish}
 use Rattle.virtual_tree.specs.declared.fault.StoreFault.{StoreFault}
 use Rattle.session_laws.specs.Always.{Always}
 use Rattle.session_laws.specs.Laws.{IsAllowedAt, IsAllowedCall, Releases, admitted_by, asking, logged_in, release_by, releases, starting}
-use Rattle.session_laws.proofs.Keeping.{always_cond, always_left, always_taken, always_to}
+use Rattle.session_laws.proofs.Keeping.{always_cond, always_left, always_to}
 use Rattle.session_table.specs.declared.actions.Action.{Action}
 use Rattle.session_table.specs.declared.actions.Action.TheVariants as action
 use Rattle.session_table.specs.declared.actions.HookCall.TheVariants as hook
@@ -39,11 +38,11 @@ use Rattle.session_table.specs.declared.stages.Stage.{Stage}
 use Rattle.session_table.specs.declared.stages.Stage.TheVariants as stage
 use Rattle.session_table.specs.Commands.{Line, asked, is_appe, is_rnto, needs_data, needs_login, needs_plain}
 use Rattle.session_table.specs.FileRows.{cwd_by, cwd_row, dele_row, goes_to, is_root, mdtm_by, mdtm_row, mkd_row, moment_of, rmd_row, rnfr_by, rnfr_row, rnto_from, size_by, size_of, size_row}
-use Rattle.session_table.specs.Judged.{Place, at_once, at_place, first_refusal, from_home, home_of, judged, judged_at, judged_path, located, stored_at, unless_refused}
+use Rattle.session_table.specs.Judged.{Place, at_place, first_refusal, from_home, home_of, judged, judged_at, judged_path, located, stored_at, unless_refused}
 use Rattle.session_table.specs.Plans.{Plan}
-use Rattle.session_table.specs.Plans.Plan.{Then, AskStat}
+use Rattle.session_table.specs.Plans.Plan.{AskStat}
 use Rattle.session_table.specs.StateRows.{abor_row, enters, eprt_row, epsv_row, farewell, if_right_at, is_ascii, is_last_attempt, leaves, needs_image, number_of, opens, opts_row, pass_by, port_by, port_refusal, quit_row, refuses, rest_row, turned_away}
-use Rattle.session_table.specs.Table.{judged_row, left, row, served, then_left}
+use Rattle.session_table.specs.Table.{judged_row, left, row, served}
 use Rattle.session_table.specs.TransferRows.{Style, appe_row, list_row, listed_by, looked_by, looked_in, mlsd_row, mlst_by, mlst_row, retr_row, sends, starts, stat_row, stor_row, takes}
 use Rattle.session_table.specs.TransferRows.Style.{LongLines, Names}
 use Rattle.session_table.specs.Views.{View, Carried, anew, has_transfer, is_inside}

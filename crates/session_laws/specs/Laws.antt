@@ -1,5 +1,5 @@
 -- Laws of the session table.
-use Rattle.std.specs.Prelude.{ℕ, ◌≡◌, ◌+◌, ◌≤◌, ◌⊎◌, Bool, true, false, cond, List, [], ◌∷◌, ◌++◌, length, Option, Some, None, Result, Ok, Err, unwrap_or}
+use Rattle.std.specs.Prelude.{ℕ, ◌≡◌, ◌+◌, ◌≤◌, ◌⊎◌, Bool, true, false, cond, List, [], ◌∷◌, ◌++◌, length, Option, Some, None, Ok, unwrap_or}
 use Rattle.authorizer.specs.Users.{Users, allowed}
 use Rattle.ftp_terms.specs.declared.letters.Letter.{Letter}
 use Rattle.ftp_wire.specs.Items.{Item}
@@ -13,7 +13,6 @@ use Rattle.session_table.specs.declared.actions.Action.{Action}
 use Rattle.session_table.specs.declared.actions.Action.TheVariants as action
 use Rattle.session_table.specs.declared.inputs.Input.{Input}
 use Rattle.session_table.specs.declared.inputs.Input.TheVariants as input
-use Rattle.session_table.specs.declared.stages.Stage.{Stage}
 use Rattle.session_table.specs.Commands.{Line, asked}
 use Rattle.session_table.specs.Judged.{home_of}
 use Rattle.session_table.specs.StateRows.{if_right, number_of}

@@ -26,8 +26,8 @@ pub fn few_lines_are_held<A: Allocator, R, K>()
     ensures few { FewLinesAreHeld A R K }
 {}
 
-/// What a user is guaranteed is released as the user leaves, under the number of the login, and at no
-/// other moment: so it is released once at most for each login.
+/// What a user is guaranteed is released in the step in which the user leaves, under the number of the
+/// login, and in no other.
 pub fn floors_are_released_once<A: Allocator, R, K>()
     ensures once { FloorsAreReleasedOnce A R K }
 {}

@@ -9,6 +9,7 @@
 //! is read borrows its texts from the document.
 #![tactic(auto)]
 
+mod parts;
 mod server;
 mod stated;
 

@@ -1,1 +1,3 @@
+pub mod NoRows
+pub mod NoTables
 pub mod Pushes

@@ -12,3 +12,11 @@ abbrev pub AreRows : {R : Type 0} → (Members → R → Type 0) → List (List 
 AreRows States known no_items [] = Unit {0}
 AreRows States known (item row rows) (read ∷ more) = IsRow States known row read × AreRows States known rows more
 AreRows States known _ _ = ⊥
+
+-- the members of a table state no row of that kind
+unfoldable pub IsNone : {R : Type 0} → (Members → R → Type 0) → Members → Type 0
+IsNone {R} States members = (read : R) → States members read → ⊥
+
+-- these are no rows of that kind
+unfoldable pub AreNone : {R : Type 0} → (Members → R → Type 0) → List (List ℕ) → Items → Type 0
+AreNone {R} States known rows = (read : List R) → AreRows States known rows read → ⊥

@@ -58,3 +58,11 @@ pub record IsTables (document : Members) (tables : Tables) : Type 0 where
   pub overrides : AreOverrides tables.users.items tables.overrides.items
   pub dirs : AreRowsAt IsDir dir_keys (codes "dir") document tables.dirs.items
   pub files : AreRowsAt IsFile file_keys (codes "file") document tables.files.items
+
+-- some of the users state overrides that are none
+unfoldable pub AreNoOverrides : List UserTable → Type 0
+AreNoOverrides users = (read : List (Vec OverrideTable Global)) → AreOverrides users read → ⊥
+
+-- the document states no tables
+unfoldable pub AreNoTables : Members → Type 0
+AreNoTables document = (tables : Tables) → IsTables document tables → ⊥

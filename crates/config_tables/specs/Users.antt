@@ -8,6 +8,8 @@ use Rattle.config_server.specs.declared.stated.TheConstants.{MAX_RATE}
 use Rattle.config_tables.specs.declared.stated.GroupTable.{GroupTable}
 use Rattle.config_tables.specs.declared.stated.UserTable.{UserTable}
 use Rattle.config_tables.specs.declared.stated.OverrideTable.{OverrideTable}
+use Rattle.config_tables.specs.declared.parts.Person.{Person}
+use Rattle.config_tables.specs.declared.parts.UserRates.{UserRates}
 
 -- a rate, in octets a second; 0 is no limit
 abbrev pub rate : List ℕ → Members → Judged ℕ
@@ -62,3 +64,19 @@ pub record IsOverride (members : Members) (rule : OverrideTable) : Type 0 where
   pub path : line (codes "path") None members ≡ Ok rule.path.now
   pub perms : line (codes "perms") None members ≡ Ok rule.perms.now
   pub recursive : flag (codes "recursive") (Some false) members ≡ Ok rule.recursive
+
+-- ---- the table of a user in parts, as it is read
+
+pub record IsPerson (members : Members) (person : Person) : Type 0 where
+  pub name : line (codes "name") None members ≡ Ok person.name.now
+  pub password : password_of person.name.now members ≡ Ok person.password.now
+  pub home : line (codes "home") None members ≡ Ok person.home.now
+  pub perms : line (codes "perms") (Some (codes "elr")) members ≡ Ok person.perms.now
+
+pub record AreUserRates (members : Members) (rates : UserRates) : Type 0 where
+  pub down_rate : rate (codes "down_rate") members ≡ Ok rates.down_rate
+  pub up_rate : rate (codes "up_rate") members ≡ Ok rates.up_rate
+  pub session_down_rate : rate (codes "session_down_rate") members ≡ Ok rates.session_down_rate
+  pub session_up_rate : rate (codes "session_up_rate") members ≡ Ok rates.session_up_rate
+  pub session_down_floor : rate (codes "session_down_floor") members ≡ Ok rates.session_down_floor
+  pub session_up_floor : rate (codes "session_up_floor") members ≡ Ok rates.session_up_floor

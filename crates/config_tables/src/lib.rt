@@ -18,6 +18,7 @@
 #![tactic(auto)]
 
 mod fault;
+mod parts;
 mod rows;
 mod stated;
 mod tables;

@@ -1,9 +1,10 @@
 //! Lists of tables.
 
-ghost use Rattle.std.specs.Prelude.{IfOk, map};
+ghost use Rattle.std.specs.Prelude.{◌≢◌, IfOk, IfErr, OnErr, map};
 ghost use Rattle.toml.specs.Data.{Members};
 ghost use Rattle.toml.specs.View.{view, table_view, items_view};
-ghost use Rattle.config_tables.specs.Rows.{IsRow, AreRows};
+ghost use Rattle.config_tables.specs.Rows.{IsRow, IsNone, AreRows, AreNone};
+ghost use Rattle.config_tables.specs.declared.fault.TableFault.TheVariants as TableFault;
 
 use crate::fault::{Place, TableFault, TableName};
 use config_keys::{KeyFault, only_known, row_at};
@@ -17,16 +18,19 @@ pub trait Row<'a>: Sized + Drop {
 
     /// Reads the keys that a row has, in their order.
     fn read(table: &'a Table) -> Result<Self, KeyFault<'a>>
-        ensures states { IfOk result (States (table_view table.now)) };
+        ensures states { IfOk result (States (table_view table.now)) }
+        ensures refused { OnErr result (IsNone States (table_view table.now)) };
 }
 
 /// A row, which may have these keys.
+#[tactic(auto, unfolding(crate::specs::Rows::IsNone))]
 fn read_row<'a, R: Row<'a>>(
     value: &'a Value,
     key: &'a str,
     known: &[&str],
 ) -> Result<R, KeyFault<'a>>
     ensures row { IfOk result (IsRow R.States (map (λ s. s.now) known.now) (view value.now)) }
+    ensures refused { OnErr result ((read : R) → IsRow R.States (map (λ s. s.now) known.now) (view value.now) read → ⊥) }
 {
     let table = row_at(value, key)?;
     only_known(table, known)?;
@@ -52,6 +56,7 @@ pub fn read_rows<'a, R: Row<'a>>(
     rows: &'a [Value],
 ) -> Result<Vec<R>, TableFault<'a>>
     ensures rows { IfOk result (λ found. AreRows R.States (map (λ s. s.now) known.now) (items_view rows.now) found.items) }
+    ensures refused { IfErr result (λ fault. fault ≢ TableFault.Memory → AreNone R.States (map (λ s. s.now) known.now) (items_view rows.now)) }
 {
     let mut found = Vec::new(alloc);
     for (index, value) in rows.iter().enumerate() {

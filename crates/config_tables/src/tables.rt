@@ -1,9 +1,10 @@
 //! All tables of a file.
 
-ghost use Rattle.std.specs.Prelude.{◌≡◌, IfOk, map};
+ghost use Rattle.std.specs.Prelude.{◌≡◌, ◌≢◌, IfOk, IfErr, OnErr, map};
 ghost use Rattle.toml.specs.View.{table_view};
 ghost use Rattle.config_tables.specs.Users.{user_keys};
-ghost use Rattle.config_tables.specs.Tables.{is_grouped, top_keys, IsTop, IsTables, AreOverrides};
+ghost use Rattle.config_tables.specs.Tables.{is_grouped, top_keys, IsTop, IsTables, AreNoTables, AreNoOverrides, AreOverrides};
+ghost use Rattle.config_tables.specs.declared.fault.TableFault.TheVariants as TableFault;
 
 use crate::fault::{Place, TableFault, TableName};
 use crate::rows::read_rows;
@@ -97,8 +98,11 @@ fn known_of_user(grouped: bool) -> &'static [&'static str]
     ]
 }
 
+#[tactic(auto, unfolding(crate::specs::Tables::AreNoTables))]
 fn read_top<'a>(document: &'a Table, grouped: bool) -> Result<Top<'a>, KeyFault<'a>>
+    requires grouped { grouped ≡ is_grouped (table_view document.now) }
     ensures top { IfOk result (IsTop grouped (table_view document.now)) }
+    ensures refused { OnErr result (AreNoTables (table_view document.now)) }
 {
     only_known(document, known_of_top(grouped))?;
     Ok(Top {
@@ -126,6 +130,7 @@ fn read_overrides<'a>(
     users: &[UserTable<'a>],
 ) -> Result<Vec<Vec<OverrideTable<'a>>>, TableFault<'a>>
     ensures overrides { IfOk result (λ found. AreOverrides users.now found.items) }
+    ensures refused { IfErr result (λ fault. fault ≢ TableFault.Memory → AreNoOverrides users.now) }
 {
     let mut found = Vec::new(alloc);
     for user in users {
@@ -144,9 +149,11 @@ fn read_overrides<'a>(
     Ok(found)
 }
 
-/// Reads the tables of a document. `Err` is the first fault of the file, or want of memory.
+/// Reads the tables of a document. `Err` is the first fault of the file, which then states no tables, or lack of memory.
+#[tactic(auto, using(crate::proofs::NoTables::no_server, crate::proofs::NoTables::no_users, crate::proofs::NoTables::no_overrides,))]
 pub fn read_tables<'a>(alloc: Global, document: &'a Table) -> Result<Tables<'a>, TableFault<'a>>
     ensures tables { IfOk result (IsTables (table_view document.now)) }
+    ensures refused { IfErr result (λ fault. fault ≢ TableFault.Memory → AreNoTables (table_view document.now)) }
 {
     let grouped = is_grouped(document);
     let top = match read_top(document, grouped) {

@@ -10,6 +10,7 @@ impl<'a> Row<'a> for DirTable<'a> {
 
     ghost States = { IsDir };
 
+    #[tactic(auto, unfolding(crate::specs::Rows::IsNone))]
     fn read(table: &'a Table) -> Result<DirTable<'a>, KeyFault<'a>> {
         Ok(DirTable {
             path: line_at(table, "path", None)?,
@@ -22,6 +23,7 @@ impl<'a> Row<'a> for FileTable<'a> {
 
     ghost States = { IsFile };
 
+    #[tactic(auto, unfolding(crate::specs::Rows::IsNone))]
     fn read(table: &'a Table) -> Result<FileTable<'a>, KeyFault<'a>> {
         Ok(FileTable {
             path: line_at(table, "path", None)?,

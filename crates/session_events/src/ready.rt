@@ -24,11 +24,11 @@ fn port_told<A: Allocator + Clone>(
     match passive {
         Passive::Plain => {
             let address = state.address();
-            let place = port_text(state.alloc()?, &HostPort { address, port })?;
+            let words = port_text(state.alloc()?, &HostPort { address, port })?;
             let text = LineText::joined(
                 state.alloc()?,
                 "Entering Passive Mode (",
-                place.as_str(),
+                words.as_str(),
                 ")",
             )?;
             Ok(made(227, text))

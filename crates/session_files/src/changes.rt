@@ -4,7 +4,7 @@ ghost use Rattle.std.specs.Prelude.{◌≡◌, IfOk, OnErr};
 ghost use Rattle.session_table.specs.FileRows.{dele_row, is_root, mkd_row, rmd_row, rnfr_row, rnto_row, told_or};
 ghost use Rattle.session_table.specs.Plans.{Ran, Stops};
 
-use session_judge::Place;
+use session_judge::Location;
 use session_state::{State, path_answer, put, with_room};
 use session_table::{Action, Answer, Notice, Refusal};
 use std::alloc::{AllocError, Allocator};
@@ -31,17 +31,17 @@ fn is_root<A: Allocator>(path: &VPath<A>) -> bool
 pub fn make_directory<A: Allocator + Clone, S: Store<A>>(
     state: &State<A>,
     store: &mut S,
-    place: &Place<A>,
+    location: &Location<A>,
 ) -> Result<Vec<Action<A, S::Source, S::Sink>, A>, AllocError>
     ensures row { IfOk result (λ actions.
-        Ran S.Step (mkd_row state.now place.now) store.old store.new state.now actions.items) }
+        Ran S.Step (mkd_row state.now location.now) store.old store.new state.now actions.items) }
     ensures stops { OnErr result (
         Stops {A = A} {R = S.Source} {K = S.Sink} S.Step
-        (mkd_row state.now place.now) store.old store.new) }
+        (mkd_row state.now location.now) store.old store.new) }
 {
-    let reply = path_answer(state.alloc()?, place.path().text())?;
+    let reply = path_answer(state.alloc()?, location.path().text())?;
     let mut actions = with_room(state.alloc()?, 1)?;
-    let changed = store.make_dir(place.stored());
+    let changed = store.make_dir(location.stored());
     put(&mut actions, Action::Say(told_or(reply, changed)));
     Ok(actions)
 }
@@ -50,16 +50,16 @@ pub fn make_directory<A: Allocator + Clone, S: Store<A>>(
 pub fn remove_file<A: Allocator + Clone, S: Store<A>>(
     state: &State<A>,
     store: &mut S,
-    place: &Place<A>,
+    location: &Location<A>,
 ) -> Result<Vec<Action<A, S::Source, S::Sink>, A>, AllocError>
     ensures row { IfOk result (λ actions.
-        Ran S.Step (dele_row state.now place.now) store.old store.new state.now actions.items) }
+        Ran S.Step (dele_row state.now location.now) store.old store.new state.now actions.items) }
     ensures stops { OnErr result (
         Stops {A = A} {R = S.Source} {K = S.Sink} S.Step
-        (dele_row state.now place.now) store.old store.new) }
+        (dele_row state.now location.now) store.old store.new) }
 {
     let mut actions = with_room(state.alloc()?, 1)?;
-    let changed = store.remove_file(place.stored());
+    let changed = store.remove_file(location.stored());
     let reply = told_or(Answer::Notice(Notice::FileRemoved), changed);
     put(&mut actions, Action::Say(reply));
     Ok(actions)
@@ -69,20 +69,20 @@ pub fn remove_file<A: Allocator + Clone, S: Store<A>>(
 pub fn remove_directory<A: Allocator + Clone, S: Store<A>>(
     state: &mut State<A>,
     store: &mut S,
-    place: &Place<A>,
+    location: &Location<A>,
 ) -> Result<Vec<Action<A, S::Source, S::Sink>, A>, AllocError>
     ensures row { IfOk result (λ actions.
-        Ran S.Step (rmd_row state.old place.now) store.old store.new state.new actions.items) }
+        Ran S.Step (rmd_row state.old location.now) store.old store.new state.new actions.items) }
     ensures unchanged { OnErr result (state.new ≡ state.old) }
     ensures stops { OnErr result (
         Stops {A = A} {R = S.Source} {K = S.Sink} S.Step
-        (rmd_row state.old place.now) store.old store.new) }
+        (rmd_row state.old location.now) store.old store.new) }
 {
-    if is_root(place.path()) {
+    if is_root(location.path()) {
         return state.refuse(Refusal::NotPermitted);
     }
     let mut actions = with_room(state.alloc()?, 1)?;
-    let changed = store.remove_dir(place.stored());
+    let changed = store.remove_dir(location.stored());
     let reply = told_or(Answer::Notice(Notice::DirectoryRemoved), changed);
     put(&mut actions, Action::Say(reply));
     Ok(actions)
@@ -92,23 +92,23 @@ pub fn remove_directory<A: Allocator + Clone, S: Store<A>>(
 pub fn rename_from<A: Allocator + Clone, S: Store<A>>(
     state: &mut State<A>,
     store: &mut S,
-    place: Place<A>,
+    location: Location<A>,
 ) -> Result<Vec<Action<A, S::Source, S::Sink>, A>, AllocError>
     ensures row { IfOk result (λ actions.
-        Ran S.Step (rnfr_row state.old place) store.old store.new state.new actions.items) }
+        Ran S.Step (rnfr_row state.old location) store.old store.new state.new actions.items) }
     ensures unchanged { OnErr result (state.new ≡ state.old) }
     ensures stops { OnErr result (
         Stops {A = A} {R = S.Source} {K = S.Sink} S.Step
-        (rnfr_row state.old place) store.old store.new) }
+        (rnfr_row state.old location) store.old store.new) }
 {
-    if is_root(place.path()) {
+    if is_root(location.path()) {
         return state.refuse(Refusal::NotPermitted);
     }
-    match store.stat(place.stored()) {
+    match store.stat(location.stored()) {
         Err(fault) => state.refuse(Refusal::Store(fault)),
         Ok(_) => {
             let actions = state.note(Notice::SendRnto)?;
-            state.keep_source(place.into_stored());
+            state.keep_source(location.into_stored());
             Ok(actions)
         }
     }
@@ -118,20 +118,20 @@ pub fn rename_from<A: Allocator + Clone, S: Store<A>>(
 pub fn rename_to<A: Allocator + Clone, S: Store<A>>(
     state: &mut State<A>,
     store: &mut S,
-    place: &Place<A>,
+    location: &Location<A>,
 ) -> Result<Vec<Action<A, S::Source, S::Sink>, A>, AllocError>
     ensures row { IfOk result (λ actions.
-        Ran S.Step (rnto_row state.old place.now) store.old store.new state.new actions.items) }
+        Ran S.Step (rnto_row state.old location.now) store.old store.new state.new actions.items) }
     ensures unchanged { OnErr result (state.new ≡ state.old) }
     ensures stops { OnErr result (
         Stops {A = A} {R = S.Source} {K = S.Sink} S.Step
-        (rnto_row state.old place.now) store.old store.new) }
+        (rnto_row state.old location.now) store.old store.new) }
 {
     let mut actions = with_room(state.alloc()?, 1)?;
     match state.source() {
         None => state.refuse(Refusal::NoSource),
         Some(source) => {
-            let changed = store.rename(source, place.stored());
+            let changed = store.rename(source, location.stored());
             let reply = told_or(Answer::Notice(Notice::Renamed), changed);
             put(&mut actions, Action::Say(reply));
             Ok(actions)

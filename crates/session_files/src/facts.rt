@@ -10,7 +10,7 @@ ghost use Rattle.session_table.specs.declared.answers.Answer.TheVariants.{Made};
 
 use ftp_reply::mdtm_line;
 use ftp_terms::{DataType, Kind, LineText};
-use session_judge::Place;
+use session_judge::Location;
 use session_state::{State, made};
 use session_table::{Action, Answer, Refusal};
 use std::alloc::{AllocError, Allocator};
@@ -33,19 +33,19 @@ fn is_ascii(data_type: DataType) -> bool
 pub fn tell_size<A: Allocator + Clone, S: Store<A>>(
     state: &mut State<A>,
     store: &mut S,
-    place: &Place<A>,
+    location: &Location<A>,
 ) -> Result<Vec<Action<A, S::Source, S::Sink>, A>, AllocError>
     ensures row { IfOk result (λ actions.
-        Ran S.Step (size_row state.old place.now) store.old store.new state.new actions.items) }
+        Ran S.Step (size_row state.old location.now) store.old store.new state.new actions.items) }
     ensures unchanged { OnErr result (state.new ≡ state.old) }
     ensures stops { OnErr result (
         Stops {A = A} {R = S.Source} {K = S.Sink} S.Step
-        (size_row state.old place.now) store.old store.new) }
+        (size_row state.old location.now) store.old store.new) }
 {
     if is_ascii(state.data_type()) {
         return state.refuse(Refusal::SizeNeedsImage);
     }
-    match store.stat(place.stored()) {
+    match store.stat(location.stored()) {
         Err(fault) => state.refuse(Refusal::Store(fault)),
         Ok(meta) => match meta.kind {
             Kind::Directory => state.refuse(Refusal::Store(StoreFault::IsDir)),
@@ -61,16 +61,16 @@ pub fn tell_size<A: Allocator + Clone, S: Store<A>>(
 pub fn tell_moment<A: Allocator + Clone, S: Store<A>>(
     state: &mut State<A>,
     store: &mut S,
-    place: &Place<A>,
+    location: &Location<A>,
 ) -> Result<Vec<Action<A, S::Source, S::Sink>, A>, AllocError>
     ensures row { IfOk result (λ actions.
-        Ran S.Step (mdtm_row state.old place.now) store.old store.new state.new actions.items) }
+        Ran S.Step (mdtm_row state.old location.now) store.old store.new state.new actions.items) }
     ensures unchanged { OnErr result (state.new ≡ state.old) }
     ensures stops { OnErr result (
         Stops {A = A} {R = S.Source} {K = S.Sink} S.Step
-        (mdtm_row state.old place.now) store.old store.new) }
+        (mdtm_row state.old location.now) store.old store.new) }
 {
-    match store.stat(place.stored()) {
+    match store.stat(location.stored()) {
         Err(fault) => state.refuse(Refusal::Store(fault)),
         Ok(meta) => match meta.kind {
             Kind::Directory => state.refuse(Refusal::Store(StoreFault::IsDir)),

@@ -1,17 +1,17 @@
-//! The refusals of a line, in their order, and the place that a command names.
+//! The refusals of a line, in their order, and the location that a command names.
 //!
 //! ```text
 //! match judge(&state, &users, &command)? {
-//!     Ok(place) => .., // the row of the command, at that place
+//!     Ok(location) => .., // the row of the command, at that location
 //!     Err(refusal) => state.refuse(refusal)?, // one reply
 //! }
 //! ```
 #![tactic(auto)]
 
 mod commands;
+mod location;
 mod order;
-mod place;
 
 pub use commands::{is_rnfr, needs_data};
+pub use location::Location;
 pub use order::judge;
-pub use place::Place;

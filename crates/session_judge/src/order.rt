@@ -4,11 +4,11 @@ ghost use Rattle.std.specs.Prelude.{◌≡◌, IfOk};
 ghost use Rattle.std.specs.String.{string_bytes};
 ghost use Rattle.ftp_wire.specs.Commands.{with_texts};
 ghost use Rattle.authorizer.specs.Users.{allowed};
-ghost use Rattle.session_table.specs.Judged.{at_once, at_place, first_refusal, home_of, judged, judged_at, located, stored_at};
+ghost use Rattle.session_table.specs.Judged.{at_once, at_location, first_refusal, home_of, judged, judged_at, located, stored_at};
 ghost use Rattle.virtual_path.specs.Path.{joined, resolved};
 
 use crate::commands::{asked, is_appe, is_rnto, needs_data, needs_login, needs_plain};
-use crate::place::Place;
+use crate::location::Location;
 use authorizer::Authorizer;
 use ftp_terms::Letter;
 use ftp_wire::Command;
@@ -17,29 +17,29 @@ use session_table::Refusal;
 use std::alloc::{AllocError, Allocator};
 use virtual_path::{PathFault, VPath};
 
-/// The place of a user's path, from the user's home on.
+/// The location of a user's path, from the user's home on.
 fn stored_at<A: Allocator + Clone>(
     alloc: A,
     home: &VPath<A>,
     path: VPath<A>,
-) -> Result<Result<Place<A>, PathFault>, AllocError>
-    ensures place { IfOk result (λ found. found ≡ stored_at path (joined home.now path)) }
+) -> Result<Result<Location<A>, PathFault>, AllocError>
+    ensures location { IfOk result (λ found. found ≡ stored_at path (joined home.now path)) }
 {
     match home.joined(alloc, &path) {
-        Ok(stored) => Ok(Ok(Place::new(path, stored))),
+        Ok(stored) => Ok(Ok(Location::new(path, stored))),
         Err(PathFault::Memory) => Err(AllocError),
         Err(fault) => Ok(Err(fault)),
     }
 }
 
-/// The place of a user's path; the home of a user that was removed counts as the root.
+/// The location of a user's path; the home of a user that was removed counts as the root.
 fn in_home<A: Allocator + Clone>(
     alloc: A,
     users: &Authorizer<A>,
     name: &str,
     path: VPath<A>,
-) -> Result<Result<Place<A>, PathFault>, AllocError>
-    ensures place { IfOk result (λ found.
+) -> Result<Result<Location<A>, PathFault>, AllocError>
+    ensures location { IfOk result (λ found.
         found ≡ stored_at path (joined (home_of users.now.users name.now) path)) }
 {
     match users.home(name) {
@@ -65,13 +65,13 @@ fn resolved<A: Allocator + Clone>(
     }
 }
 
-/// The place that a text names, from the current directory on.
+/// The location that a text names, from the current directory on.
 fn located<A: Allocator + Clone>(
     state: &State<A>,
     users: &Authorizer<A>,
     text: &str,
-) -> Result<Result<Place<A>, PathFault>, AllocError>
-    ensures place { IfOk result (λ found. found ≡ located users.now.users state.now text.now) }
+) -> Result<Result<Location<A>, PathFault>, AllocError>
+    ensures location { IfOk result (λ found. found ≡ located users.now.users state.now text.now) }
 {
     match resolved(state.alloc()?, state.cwd(), text)? {
         Ok(path) => in_home(state.alloc()?, users, state.name(), path),
@@ -102,8 +102,8 @@ fn refused_at_once<A: Allocator + Clone>(
     None
 }
 
-/// What is refused at the place.
-fn refused_at_place<A: Allocator + Clone>(
+/// What is refused at the location.
+fn refused_at_location<A: Allocator + Clone>(
     state: &State<A>,
     users: &Authorizer<A>,
     command: &Command<String<A>>,
@@ -112,7 +112,7 @@ fn refused_at_place<A: Allocator + Clone>(
 ) -> Option<Refusal>
     ensures refusal { result
         ≡ first_refusal
-        (at_place users.now.users state.now (with_texts string_bytes command.now)
+        (at_location users.now.users state.now (with_texts string_bytes command.now)
         letter path.now) }
 {
     if !users.has_perm(state.name(), letter, path) {
@@ -130,7 +130,7 @@ fn judge_path<A: Allocator + Clone>(
     command: &Command<String<A>>,
     letter: Letter,
     text: &str,
-) -> Result<Result<Place<A>, Refusal>, AllocError>
+) -> Result<Result<Location<A>, Refusal>, AllocError>
     ensures judged { IfOk result (λ found.
         found
         ≡ judged_at users.now.users state.now (with_texts string_bytes command.now)
@@ -138,20 +138,20 @@ fn judge_path<A: Allocator + Clone>(
 {
     match located(state, users, text)? {
         Err(fault) => Ok(Err(Refusal::Path(fault))),
-        Ok(place) => match refused_at_place(state, users, command, letter, place.path()) {
+        Ok(location) => match refused_at_location(state, users, command, letter, location.path()) {
             Some(refusal) => Ok(Err(refusal)),
-            None => Ok(Ok(place)),
+            None => Ok(Ok(location)),
         },
     }
 }
 
-/// The first refusal that holds, or the place that the command names.
+/// The first refusal that holds, or the location that the command names.
 #[tactic(auto, unfolding(session_table::specs::Judged::judged))]
 pub fn judge<A: Allocator + Clone>(
     state: &State<A>,
     users: &Authorizer<A>,
     command: &Command<String<A>>,
-) -> Result<Result<Place<A>, Refusal>, AllocError>
+) -> Result<Result<Location<A>, Refusal>, AllocError>
     ensures judged { IfOk result (λ found.
         found ≡ judged users.now.users state.now (with_texts string_bytes command.now)) }
 {
@@ -163,7 +163,7 @@ pub fn judge<A: Allocator + Clone>(
         None => {
             let root = VPath::root(state.alloc()?);
             let stored = VPath::root(state.alloc()?);
-            Ok(Ok(Place::new(root, stored)))
+            Ok(Ok(Location::new(root, stored)))
         }
     }
 }

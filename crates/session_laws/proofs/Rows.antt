@@ -38,7 +38,7 @@ use Rattle.session_table.specs.declared.stages.Stage.{Stage}
 use Rattle.session_table.specs.declared.stages.Stage.TheVariants as stage
 use Rattle.session_table.specs.Commands.{Line, asked, is_appe, is_rnto, needs_data, needs_login, needs_plain}
 use Rattle.session_table.specs.FileRows.{cwd_by, cwd_row, dele_row, goes_to, is_root, mdtm_by, mdtm_row, mkd_row, moment_of, rmd_row, rnfr_by, rnfr_row, rnto_from, size_by, size_of, size_row}
-use Rattle.session_table.specs.Judged.{Place, at_place, first_refusal, from_home, home_of, judged, judged_at, judged_path, located, stored_at, unless_refused}
+use Rattle.session_table.specs.Judged.{Location, at_location, first_refusal, from_home, home_of, judged, judged_at, judged_path, located, stored_at, unless_refused}
 use Rattle.session_table.specs.Plans.{Plan}
 use Rattle.session_table.specs.Plans.Plan.{AskStat}
 use Rattle.session_table.specs.StateRows.{abor_row, enters, eprt_row, epsv_row, farewell, if_right_at, is_ascii, is_last_attempt, leaves, needs_image, number_of, opens, opts_row, pass_by, port_by, port_refusal, quit_row, refuses, rest_row, turned_away}
@@ -47,7 +47,7 @@ use Rattle.session_table.specs.TransferRows.{Style, appe_row, list_row, listed_b
 use Rattle.session_table.specs.TransferRows.Style.{LongLines, Names}
 use Rattle.session_table.specs.Views.{View, Carried, anew, has_transfer, is_inside}
 
--- what is known of a command that is not refused, at the place that it names
+-- what is known of a command that is not refused, at the location that it names
 pub record IsJudged (users : Users) (view : View) (line : Line) (stored : Path) : Type 0 where
   pub at : (wanted : Letter × List ℕ) → asked line ≡ Some wanted → IsAllowedAt users view line stored
   pub prepared : needs_data line ≡ true → view.prepared ≡ true
@@ -220,7 +220,7 @@ module _ (A R K : Type 0) where
 
   -- ---- rows that ask the store
 
-  module _ (users : Users) (view : View) (line : Line) (place : Place) (allowed : IsAllowedAt users view line place.stored) where
+  module _ (users : Users) (view : View) (line : Line) (location : Location) (allowed : IsAllowedAt users view line location.stored) where
     abbrev Calls : Exchange R K → Type 0
     Calls = IsAllowedCall users view line
 
@@ -230,38 +230,38 @@ module _ (A R K : Type 0) where
     refused : (why : Refusal) → Always Calls Ends (refuses view why)
     refused why = told _ _ _ _ refl
 
-    cwd_fine : Always Calls Ends (cwd_row view place)
+    cwd_fine : Always Calls Ends (cwd_row view location)
     cwd_fine = λ answer. (allowed, by answer)
       where
-        goes : (kind : Kind) → Always Calls Ends (goes_to view place.path kind)
+        goes : (kind : Kind) → Always Calls Ends (goes_to view location.path kind)
         goes kind.Directory = told _ _ _ _ refl
         goes kind.File = told _ _ _ _ refl
 
-        by : (answer : Result Meta StoreFault) → Always Calls Ends (cwd_by view place.path answer)
+        by : (answer : Result Meta StoreFault) → Always Calls Ends (cwd_by view location.path answer)
         by (Err why) = told _ _ _ _ refl
         by (Ok meta) = goes meta.kind
 
-    mkd_fine : Always Calls Ends (mkd_row view place)
+    mkd_fine : Always Calls Ends (mkd_row view location)
     mkd_fine = λ answer. (allowed, told _ _ _ _ refl)
 
-    rmd_fine : Always Calls Ends (rmd_row view place)
-    rmd_fine = always_cond Calls Ends (is_root place.path) _ _ (told _ _ _ _ refl) (λ answer. (allowed, told _ _ _ _ refl))
+    rmd_fine : Always Calls Ends (rmd_row view location)
+    rmd_fine = always_cond Calls Ends (is_root location.path) _ _ (told _ _ _ _ refl) (λ answer. (allowed, told _ _ _ _ refl))
 
-    dele_fine : Always Calls Ends (dele_row view place)
+    dele_fine : Always Calls Ends (dele_row view location)
     dele_fine = λ answer. (allowed, told _ _ _ _ refl)
 
-    rnfr_fine : Always Calls Ends (rnfr_row view place)
-    rnfr_fine = always_cond Calls Ends (is_root place.path) _ _ (told _ _ _ _ refl) (λ answer. (allowed, by answer))
+    rnfr_fine : Always Calls Ends (rnfr_row view location)
+    rnfr_fine = always_cond Calls Ends (is_root location.path) _ _ (told _ _ _ _ refl) (λ answer. (allowed, by answer))
       where
-        by : (answer : Result Meta StoreFault) → Always Calls Ends (rnfr_by view place.stored answer)
+        by : (answer : Result Meta StoreFault) → Always Calls Ends (rnfr_by view location.stored answer)
         by (Err why) = told _ _ _ _ refl
         by (Ok meta) = told _ _ _ _ refl
 
-    rnto_fine : (source : Option Path) → view.source ≡ source → Always Calls Ends (rnto_from view place.stored source)
+    rnto_fine : (source : Option Path) → view.source ≡ source → Always Calls Ends (rnto_from view location.stored source)
     rnto_fine None is = told _ _ _ _ refl
     rnto_fine (Some source) is = λ answer. ((is, allowed), told _ _ _ _ refl)
 
-    size_fine : Always Calls Ends (size_row view place)
+    size_fine : Always Calls Ends (size_row view location)
     size_fine = always_cond Calls Ends (is_ascii view.data_type) _ _ (told _ _ _ _ refl) (λ answer. (allowed, by answer))
       where
         of_kind : (size : ℕ) (kind : Kind) → Always Calls Ends (size_of view size kind)
@@ -272,7 +272,7 @@ module _ (A R K : Type 0) where
         by (Err why) = told _ _ _ _ refl
         by (Ok meta) = of_kind meta.size meta.kind
 
-    mdtm_fine : Always Calls Ends (mdtm_row view place)
+    mdtm_fine : Always Calls Ends (mdtm_row view location)
     mdtm_fine = λ answer. (allowed, by answer)
       where
         of_kind : (modified : ℕ) (kind : Kind) → Always Calls Ends (moment_of view modified kind)
@@ -283,32 +283,32 @@ module _ (A R K : Type 0) where
         by (Err why) = told _ _ _ _ refl
         by (Ok meta) = of_kind meta.modified meta.kind
 
-    mlst_fine : Always Calls Ends (mlst_row users view place)
+    mlst_fine : Always Calls Ends (mlst_row users view location)
     mlst_fine = λ answer. (allowed, by answer)
       where
-        by : (answer : Result Meta StoreFault) → Always Calls Ends (mlst_by users view place.path answer)
+        by : (answer : Result Meta StoreFault) → Always Calls Ends (mlst_by users view location.path answer)
         by (Err why) = told _ _ _ _ refl
         by (Ok meta) = λ line. told _ _ _ _ refl
 
     -- a look at what stands there, and at a directory's entries
     looking : (next : List Entry → Plan A R K) (of_file : Meta → Plan A R K)
         → ((entries : List Entry) → Always Calls Ends (next entries)) → ((meta : Meta) → Always Calls Ends (of_file meta))
-        → Always Calls Ends (AskStat place.stored (looked_by view place next of_file))
+        → Always Calls Ends (AskStat location.stored (looked_by view location next of_file))
     looking next of_file nexts files = λ answer. (allowed, by answer)
       where
         listed : (answer : Result (List Entry) StoreFault) → Always Calls Ends (listed_by view next answer)
         listed (Err why) = told _ _ _ _ refl
         listed (Ok entries) = nexts entries
 
-        of_kind : (meta : Meta) (kind : Kind) → Always Calls Ends (looked_in view place next of_file meta kind)
+        of_kind : (meta : Meta) (kind : Kind) → Always Calls Ends (looked_in view location next of_file meta kind)
         of_kind meta kind.Directory = λ answer. (allowed, listed answer)
         of_kind meta kind.File = files meta
 
-        by : (answer : Result Meta StoreFault) → Always Calls Ends (looked_by view place next of_file answer)
+        by : (answer : Result Meta StoreFault) → Always Calls Ends (looked_by view location next of_file answer)
         by (Err why) = told _ _ _ _ refl
         by (Ok meta) = of_kind meta meta.kind
 
-    stat_fine : Always Calls Ends (stat_row users view place)
+    stat_fine : Always Calls Ends (stat_row users view location)
     stat_fine = looking _ _ (λ entries lines. told _ _ _ _ refl) (λ meta lines. told _ _ _ _ refl)
 
     -- ---- transfers
@@ -317,34 +317,34 @@ module _ (A R K : Type 0) where
       starting_fine : (errand : Carried) (what : Job A R K) → Always Calls Ends (starts view errand what)
       starting_fine errand what = record { unprepared = λ not. absurd (true≢false (sym prepared ∙ not)); asks = omega arith; floors = inl (refl, refl) }
 
-      list_fine : (style : Style) → Always Calls Ends (list_row users view style place)
+      list_fine : (style : Style) → Always Calls Ends (list_row users view style location)
       list_fine style = looking _ _ (λ entries lines. starting_fine _ _) (λ meta lines. starting_fine _ _)
 
-      mlsd_fine : Always Calls Ends (mlsd_row users view place)
+      mlsd_fine : Always Calls Ends (mlsd_row users view location)
       mlsd_fine = looking _ _ (λ entries lines. starting_fine _ _) (λ meta. told _ _ _ _ refl)
 
-      retr_fine : Always Calls Ends (retr_row view place)
+      retr_fine : Always Calls Ends (retr_row view location)
       retr_fine = λ answer. (allowed, by answer)
         where
-          by : (answer : Result R StoreFault) → Always Calls Ends (sends view place.path answer)
+          by : (answer : Result R StoreFault) → Always Calls Ends (sends view location.path answer)
           by (Err why) = told _ _ _ _ refl
           by (Ok source) = starting_fine _ _
 
-      taking : (answer : Result K StoreFault) → Always Calls Ends (takes view place.path answer)
+      taking : (answer : Result K StoreFault) → Always Calls Ends (takes view location.path answer)
       taking (Err why) = told _ _ _ _ refl
       taking (Ok sink) = starting_fine _ _
 
-      stor_fine : (moment : ℕ) → Always Calls Ends (stor_row view moment place)
+      stor_fine : (moment : ℕ) → Always Calls Ends (stor_row view moment location)
       stor_fine moment = λ answer. (allowed, taking answer)
 
-      appe_fine : (moment : ℕ) → Always Calls Ends (appe_row view moment place)
+      appe_fine : (moment : ℕ) → Always Calls Ends (appe_row view moment location)
       appe_fine moment = λ answer. (allowed, taking answer)
 
   -- ---- all rows
 
-  module _ (users : Users) (admits : ℕ → Bool) (view : View) (moment : ℕ) (place : Place) where
-    row_fine : (line : Line) → IsJudged users view line place.stored
-        → Always (IsAllowedCall users view line) (Fine view (admitted_by users admits view (Some (Ok line))) 1) (row {A = A} {R = R} {K = K} users admits view moment place line)
+  module _ (users : Users) (admits : ℕ → Bool) (view : View) (moment : ℕ) (location : Location) where
+    row_fine : (line : Line) → IsJudged users view line location.stored
+        → Always (IsAllowedCall users view line) (Fine view (admitted_by users admits view (Some (Ok line))) 1) (row {A = A} {R = R} {K = K} users admits view moment location line)
     row_fine (command.User name) is = restarting view name stage.Named _ refl
     row_fine (command.Pass text) is = pass_fine (IsAllowedCall users view (command.Pass text)) view users admits (unwrap_or text []) view.stage refl
     row_fine command.Quit is = quit_fine (IsAllowedCall users view command.Quit) view users
@@ -364,24 +364,24 @@ module _ (A R K : Type 0) where
     row_fine command.Pasv is = opens_fine (IsAllowedCall users view command.Pasv) view Plain
     row_fine (command.Epsv wanted) is = epsv_fine (IsAllowedCall users view (command.Epsv wanted)) view wanted
     row_fine command.Pwd is = told _ _ _ _ refl
-    row_fine (command.Cwd text) is = cwd_fine users view _ place (is.at _ refl)
-    row_fine command.Cdup is = cwd_fine users view _ place (is.at _ refl)
-    row_fine (command.Mkd text) is = mkd_fine users view _ place (is.at _ refl)
-    row_fine (command.Rmd text) is = rmd_fine users view _ place (is.at _ refl)
-    row_fine (command.Dele text) is = dele_fine users view _ place (is.at _ refl)
-    row_fine (command.Rnfr text) is = rnfr_fine users view _ place (is.at _ refl)
-    row_fine (command.Rnto text) is = rnto_fine users view _ place (is.at _ refl) view.source refl
-    row_fine (command.Size text) is = size_fine users view _ place (is.at _ refl)
-    row_fine (command.Mdtm text) is = mdtm_fine users view _ place (is.at _ refl)
+    row_fine (command.Cwd text) is = cwd_fine users view _ location (is.at _ refl)
+    row_fine command.Cdup is = cwd_fine users view _ location (is.at _ refl)
+    row_fine (command.Mkd text) is = mkd_fine users view _ location (is.at _ refl)
+    row_fine (command.Rmd text) is = rmd_fine users view _ location (is.at _ refl)
+    row_fine (command.Dele text) is = dele_fine users view _ location (is.at _ refl)
+    row_fine (command.Rnfr text) is = rnfr_fine users view _ location (is.at _ refl)
+    row_fine (command.Rnto text) is = rnto_fine users view _ location (is.at _ refl) view.source refl
+    row_fine (command.Size text) is = size_fine users view _ location (is.at _ refl)
+    row_fine (command.Mdtm text) is = mdtm_fine users view _ location (is.at _ refl)
     row_fine (command.Stat None) is = told _ _ _ _ refl
-    row_fine (command.Stat (Some text)) is = stat_fine users view _ place (is.at _ refl)
-    row_fine (command.Mlst text) is = mlst_fine users view _ place (is.at _ refl)
-    row_fine (command.List text) is = list_fine users view _ place (is.at _ refl) (is.prepared refl) LongLines
-    row_fine (command.Nlst text) is = list_fine users view _ place (is.at _ refl) (is.prepared refl) Names
-    row_fine (command.Mlsd text) is = mlsd_fine users view _ place (is.at _ refl) (is.prepared refl)
-    row_fine (command.Retr text) is = retr_fine users view _ place (is.at _ refl) (is.prepared refl)
-    row_fine (command.Stor text) is = stor_fine users view _ place (is.at _ refl) (is.prepared refl) moment
-    row_fine (command.Appe text) is = appe_fine users view _ place (is.at _ refl) (is.prepared refl) moment
+    row_fine (command.Stat (Some text)) is = stat_fine users view _ location (is.at _ refl)
+    row_fine (command.Mlst text) is = mlst_fine users view _ location (is.at _ refl)
+    row_fine (command.List text) is = list_fine users view _ location (is.at _ refl) (is.prepared refl) LongLines
+    row_fine (command.Nlst text) is = list_fine users view _ location (is.at _ refl) (is.prepared refl) Names
+    row_fine (command.Mlsd text) is = mlsd_fine users view _ location (is.at _ refl) (is.prepared refl)
+    row_fine (command.Retr text) is = retr_fine users view _ location (is.at _ refl) (is.prepared refl)
+    row_fine (command.Stor text) is = stor_fine users view _ location (is.at _ refl) (is.prepared refl) moment
+    row_fine (command.Appe text) is = appe_fine users view _ location (is.at _ refl) (is.prepared refl) moment
     row_fine command.Abor is = abor_fine (IsAllowedCall users view command.Abor) view
 
 -- ---- refusals
@@ -401,47 +401,47 @@ passed true why others otherwise x e = absurd (false≢true (ap is_good e))
 passed false why others otherwise x e = (refl, e)
 
 -- where the text leads, as far as it is known
-record Leads (users : Users) (view : View) (text : List ℕ) (place : Place) : Type 0 where
-  names : resolved view.cwd text ≡ Ok place.path
-  stands : joined (home_of users view.name) place.path ≡ Ok place.stored
+record Leads (users : Users) (view : View) (text : List ℕ) (location : Location) : Type 0 where
+  names : resolved view.cwd text ≡ Ok location.path
+  stands : joined (home_of users view.name) location.path ≡ Ok location.stored
 
-leads : (users : Users) (view : View) (text : List ℕ) (place : Place) → located users view text ≡ Ok place → Leads users view text place
-leads users view text place e = by (resolved view.cwd text) refl e
+leads : (users : Users) (view : View) (text : List ℕ) (location : Location) → located users view text ≡ Ok location → Leads users view text location
+leads users view text location e = by (resolved view.cwd text) refl e
   where
-    stood : (path : Path) → resolved view.cwd text ≡ Ok path → (stored : Result Path PathFault) → joined (home_of users view.name) path ≡ stored → stored_at path stored ≡ Ok place → Leads users view text place
+    stood : (path : Path) → resolved view.cwd text ≡ Ok path → (stored : Result Path PathFault) → joined (home_of users view.name) path ≡ stored → stored_at path stored ≡ Ok location → Leads users view text location
     stood path is (Err fault) where_stored e = absurd (false≢true (ap is_good e))
     stood path is (Ok stored) where_stored e =
-        subst (λ (at : Place). Leads users view text at) (ap (ok_of (record { path = path; stored = stored })) e) (record { names = is; stands = where_stored })
+        subst (λ (at : Location). Leads users view text at) (ap (ok_of (record { path = path; stored = stored })) e) (record { names = is; stands = where_stored })
 
-    by : (found : Result Path PathFault) → resolved view.cwd text ≡ found → from_home (home_of users view.name) found ≡ Ok place → Leads users view text place
+    by : (found : Result Path PathFault) → resolved view.cwd text ≡ found → from_home (home_of users view.name) found ≡ Ok location → Leads users view text location
     by (Err fault) is e = absurd (false≢true (ap is_good e))
     by (Ok path) is e = stood path is (joined (home_of users view.name) path) refl e
 
 -- what is known of a command that asks for a letter
-record Allowed (users : Users) (view : View) (line : Line) (letter : Letter) (text : List ℕ) (place : Place) : Type 0 where
-  leads : Leads users view text place
-  holds : allowed users view.name letter place.path ≡ true
+record Allowed (users : Users) (view : View) (line : Line) (letter : Letter) (text : List ℕ) (location : Location) : Type 0 where
+  leads : Leads users view text location
+  holds : allowed users view.name letter location.path ≡ true
   prepared : (needs_data line && not view.prepared) ≡ false
 
-allowed_by : (users : Users) (view : View) (line : Line) (letter : Letter) (text : List ℕ) (place : Place)
-    → judged_at users view line letter (located users view text) ≡ Ok place → Allowed users view line letter text place
-allowed_by users view line letter text place e = by (located users view text) refl e
+allowed_by : (users : Users) (view : View) (line : Line) (letter : Letter) (text : List ℕ) (location : Location)
+    → judged_at users view line letter (located users view text) ≡ Ok location → Allowed users view line letter text location
+allowed_by users view line letter text location e = by (located users view text) refl e
   where
-    at : (found : Place) → located users view text ≡ Ok found → unless_refused (first_refusal (at_place users view line letter found.path)) (Ok found) ≡ Ok place → Allowed users view line letter text place
+    at : (found : Location) → located users view text ≡ Ok found → unless_refused (first_refusal (at_location users view line letter found.path)) (Ok found) ≡ Ok location → Allowed users view line letter text location
     at found is e =
-        let first = passed (not (allowed users view.name letter found.path)) refusal.NotPermitted _ (Ok found) place e in
-        let second = passed (needs_data line && not view.prepared) refusal.NothingPrepared None (Ok found) place first.1 in
-        subst (λ (here : Place). Allowed users view line letter text here) (ap (ok_of found) second.1)
+        let first = passed (not (allowed users view.name letter found.path)) refusal.NotPermitted _ (Ok found) location e in
+        let second = passed (needs_data line && not view.prepared) refusal.NothingPrepared None (Ok found) location first.1 in
+        subst (λ (here : Location). Allowed users view line letter text here) (ap (ok_of found) second.1)
         (record { leads = leads users view text found is; holds = not-false (allowed users view.name letter found.path) first.0; prepared = second.0 })
 
-    by : (found : Result Place PathFault) → located users view text ≡ found → judged_at users view line letter found ≡ Ok place → Allowed users view line letter text place
+    by : (found : Result Location PathFault) → located users view text ≡ found → judged_at users view line letter found ≡ Ok location → Allowed users view line letter text location
     by (Err fault) is e = absurd (false≢true (ap is_good e))
     by (Ok found) is e = at found is e
 
 -- a command that is not refused
-record Passed (users : Users) (view : View) (line : Line) (place : Place) : Type 0 where
+record Passed (users : Users) (view : View) (line : Line) (location : Location) : Type 0 where
   inside : (needs_login line && not (is_inside view.stage)) ≡ false
-  found : judged_path users view line (asked line) ≡ Ok place
+  found : judged_path users view line (asked line) ≡ Ok location
 
 abbrev fourth : View → Line → Option Refusal
 fourth view line = cond (needs_plain line && view.only_extended) (Some refusal.OnlyExtended) None
@@ -452,13 +452,13 @@ third view line = cond (is_appe line && nat_lt 0 view.offset) (Some refusal.Offs
 abbrev second : View → Line → Option Refusal
 second view line = cond (is_rnto line && is_none view.source) (Some refusal.NoSource) (third view line)
 
-passed_all : (users : Users) (view : View) (line : Line) (place : Place) → judged users view line ≡ Ok place → Passed users view line place
+passed_all : (users : Users) (view : View) (line : Line) (location : Location) → judged users view line ≡ Ok location → Passed users view line location
 unfolding judged
-passed_all users view line place e =
-    let login = passed (needs_login line && not (is_inside view.stage)) refusal.LogInFirst (second view line) (judged_path users view line (asked line)) place e in
-    let source = passed (is_rnto line && is_none view.source) refusal.NoSource (third view line) (judged_path users view line (asked line)) place login.1 in
-    let offset = passed (is_appe line && nat_lt 0 view.offset) refusal.OffsetBeforeAppend (fourth view line) (judged_path users view line (asked line)) place source.1 in
-    let plain = passed (needs_plain line && view.only_extended) refusal.OnlyExtended None (judged_path users view line (asked line)) place offset.1 in
+passed_all users view line location e =
+    let login = passed (needs_login line && not (is_inside view.stage)) refusal.LogInFirst (second view line) (judged_path users view line (asked line)) location e in
+    let source = passed (is_rnto line && is_none view.source) refusal.NoSource (third view line) (judged_path users view line (asked line)) location login.1 in
+    let offset = passed (is_appe line && nat_lt 0 view.offset) refusal.OffsetBeforeAppend (fourth view line) (judged_path users view line (asked line)) location source.1 in
+    let plain = passed (needs_plain line && view.only_extended) refusal.OnlyExtended None (judged_path users view line (asked line)) location offset.1 in
     record { inside = login.0; found = plain.1 }
 
 from_and : (a b : Bool) → (a && not b) ≡ false → a ≡ true → b ≡ true
@@ -487,20 +487,20 @@ data_asks (command.Nlst text) moves = (_, refl)
 data_asks (command.Mlsd text) moves = (_, refl)
 data_asks _ moves = absurd (false≢true moves)
 
-pub is_judged : (users : Users) (view : View) (line : Line) (place : Place) → judged users view line ≡ Ok place → IsJudged users view line place.stored
-is_judged users view line place e = record { at = at; prepared = prepared }
+pub is_judged : (users : Users) (view : View) (line : Line) (location : Location) → judged users view line ≡ Ok location → IsJudged users view line location.stored
+is_judged users view line location e = record { at = at; prepared = prepared }
   where
-    are : Passed users view line place
-    are = passed_all users view line place e
+    are : Passed users view line location
+    are = passed_all users view line location e
 
-    of : (wanted : Letter × List ℕ) → asked line ≡ Some wanted → Allowed users view line wanted.0 wanted.1 place
-    of wanted is = allowed_by users view line wanted.0 wanted.1 place (ap (judged_path users view line) (sym is) ∙ are.found)
+    of : (wanted : Letter × List ℕ) → asked line ≡ Some wanted → Allowed users view line wanted.0 wanted.1 location
+    of wanted is = allowed_by users view line wanted.0 wanted.1 location (ap (judged_path users view line) (sym is) ∙ are.found)
 
-    at : (wanted : Letter × List ℕ) → asked line ≡ Some wanted → IsAllowedAt users view line place.stored
+    at : (wanted : Letter × List ℕ) → asked line ≡ Some wanted → IsAllowedAt users view line location.stored
     at wanted is = record {
       letter = wanted.0;
       text = wanted.1;
-      path = place.path;
+      path = location.path;
       inside = from_and (needs_login line) (is_inside view.stage) are.inside (asks_inside line wanted is);
       asks = is;
       names = (of wanted is).leads.names;
@@ -524,15 +524,15 @@ module _ (A R K : Type 0) (users : Users) (admits : ℕ → Bool) (view : View) 
   again : (item : Item) (line : Line) (after : View) (actions : List (Action A R K)) → EndFor item after actions → EndFor item (left line after) actions
   again item line after actions is = record { unprepared = is.unprepared; asks = is.asks; floors = is.floors }
 
-  judged_fine : (line : Line) (found : Result Place Refusal) → judged users view line ≡ found
+  judged_fine : (line : Line) (found : Result Location Refusal) → judged users view line ≡ found
       → Always (CallFor (Ok line)) (EndFor (Ok line)) (judged_row {A = A} {R = R} {K = K} users admits view moment line found)
   judged_fine line (Err why) is = refusing line
     where
       refusing : (line : Line) → Always (CallFor (Ok line)) (EndFor (Ok line)) (refuses view why)
       refusing line = record { unprepared = λ _. refl; asks = omega arith; floors = inl (refl, refl) }
-  judged_fine line (Ok place) is =
+  judged_fine line (Ok location) is =
       always_to (IsAllowedCall users view line) (CallFor (Ok line)) (EndFor (Ok line)) (EndFor (Ok line)) (λ exchange call. (line, refl, call)) (λ after actions end. end) _
-      (row_fine A R K users admits view moment place line (is_judged users view line place is))
+      (row_fine A R K users admits view moment location line (is_judged users view line location is))
 
   pub served_fine : (item : Item) → Always (CallFor item) (EndFor item) (served {A = A} {R = R} {K = K} users admits view moment item)
   served_fine (Err why) = record { unprepared = λ _. refl; asks = omega arith; floors = inl (refl, refl) }

@@ -7,21 +7,21 @@ use Rattle.virtual_tree.specs.Calls.Exchange.{Listing}
 use Rattle.session_listings.specs.declared.style.Way.{Way}
 use Rattle.session_listings.specs.Listed.{IsListed, directory_row}
 use Rattle.session_table.specs.declared.actions.Action.{Action}
-use Rattle.session_table.specs.Judged.{Place}
+use Rattle.session_table.specs.Judged.{Location}
 use Rattle.session_table.specs.Plans.{Ran}
 use Rattle.session_table.specs.TransferRows.{Style}
 use Rattle.session_table.specs.Views.{View}
 
 -- the entries of a directory were asked for, and told
-pub directory_runs : {S A R K : Type 0} (Step : S → Exchange R K → S → Type 0) (users : Users) (view : View) (style : Style) (way : Way) (place : Place) (stored above : Path) (entries others : List Entry) (old new : S) (view' : View) (actions : List (Action A R K))
-    → stored ≡ place.stored → above ≡ place.path → others ≡ entries
+pub directory_runs : {S A R K : Type 0} (Step : S → Exchange R K → S → Type 0) (users : Users) (view : View) (style : Style) (way : Way) (location : Location) (stored above : Path) (entries others : List Entry) (old new : S) (view' : View) (actions : List (Action A R K))
+    → stored ≡ location.stored → above ≡ location.path → others ≡ entries
     → Step old (Listing stored (Ok entries)) new
     → IsListed users view style way above others view' actions
-    → Ran Step (directory_row users view style way place) old new view' actions
-directory_runs Step users view style way place stored above entries others old new view' actions stored_is above_is others_is step listed =
-    let there : Step old (Listing place.stored (Ok entries)) new =
+    → Ran Step (directory_row users view style way location) old new view' actions
+directory_runs Step users view style way location stored above entries others old new view' actions stored_is above_is others_is step listed =
+    let there : Step old (Listing location.stored (Ok entries)) new =
     subst (λ path. Step old (Listing path (Ok entries)) new) stored_is step in
-    let shown : IsListed users view style way place.path entries view' actions =
+    let shown : IsListed users view style way location.path entries view' actions =
     subst (λ path. IsListed users view style way path entries view' actions) above_is
     (subst (λ found. IsListed users view style way above found view' actions) others_is listed) in
     (Ok entries, new, there, (shown.0, shown.1, subst (λ plan. Ran Step plan new new view' actions) shown.2 (refl, refl, refl)))

@@ -8,7 +8,7 @@ use Rattle.session_listings.specs.declared.style.Style.TheVariants as asked
 use Rattle.session_listings.specs.declared.style.Way.{Way}
 use Rattle.session_listings.specs.declared.style.Way.TheVariants.{InReply, OverData}
 use Rattle.session_table.specs.declared.actions.Action.{Action}
-use Rattle.session_table.specs.Judged.{Place}
+use Rattle.session_table.specs.Judged.{Location}
 use Rattle.session_table.specs.Plans.{Plan}
 use Rattle.session_table.specs.Plans.Plan.{Then, AskList, AskStat}
 use Rattle.session_table.specs.Texts.{AreTold}
@@ -28,15 +28,15 @@ module _ {A R K : Type 0} where
   told_by InReply view lines = status_lines view lines
 
   -- the entries of a directory
-  abbrev pub directory_row : Users → View → Style → Way → Place → Plan A R K
-  directory_row users view style way place =
-      AskList place.stored (listed_by view (lists users view place.path style (told_by way view)))
+  abbrev pub directory_row : Users → View → Style → Way → Location → Plan A R K
+  directory_row users view style way location =
+      AskList location.stored (listed_by view (lists users view location.path style (told_by way view)))
 
   -- the entries of a directory, or the file itself: LIST, NLST, and STAT with an argument
-  abbrev pub listing_row : Users → View → Style → Way → Place → Plan A R K
-  listing_row users view style way place = AskStat place.stored (looked_by view place
-      (lists users view place.path style (told_by way view))
-      (λ meta. lists users view place.path style (told_by way view) (itself place.path meta)))
+  abbrev pub listing_row : Users → View → Style → Way → Location → Plan A R K
+  listing_row users view style way location = AskStat location.stored (looked_by view location
+      (lists users view location.path style (told_by way view))
+      (λ meta. lists users view location.path style (told_by way view) (itself location.path meta)))
 
   -- some lines tell the entries, one each and in their order, and go that way
   abbrev pub IsListed : Users → View → Style → Way → Path → List Entry → View → List (Action A R K) → Type 0

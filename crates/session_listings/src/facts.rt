@@ -13,7 +13,7 @@ use crate::lines::letters_held;
 use authorizer::Authorizer;
 use ftp_reply::{Reply, ReplyCode, mlst_entry};
 use ftp_terms::{LineText, Meta};
-use session_judge::Place;
+use session_judge::Location;
 use session_state::{State, put, with_room};
 use session_table::{Action, Answer, Refusal};
 use std::alloc::{AllocError, Allocator};
@@ -48,18 +48,18 @@ pub fn tell_entry<A: Allocator + Clone, S: Store<A>>(
     state: &mut State<A>,
     users: &Authorizer<A>,
     store: &mut S,
-    place: &Place<A>,
+    location: &Location<A>,
 ) -> Result<Vec<Action<A, S::Source, S::Sink>, A>, AllocError>
-    ensures row { IfOk result (λ actions. Ran S.Step (mlst_row users.now.users state.old place.now)
+    ensures row { IfOk result (λ actions. Ran S.Step (mlst_row users.now.users state.old location.now)
         store.old store.new state.new actions.items) }
     ensures unchanged { OnErr result (state.new ≡ state.old) }
     ensures stops { OnErr result (Stops {A = A} {R = S.Source} {K = S.Sink} S.Step
-        (mlst_row users.now.users state.old place.now) store.old store.new) }
+        (mlst_row users.now.users state.old location.now) store.old store.new) }
 {
-    match store.stat(place.stored()) {
+    match store.stat(location.stored()) {
         Err(fault) => state.refuse(Refusal::Store(fault)),
         Ok(meta) => {
-            let answer = entry_answer(state, users, place.path(), &meta)?;
+            let answer = entry_answer(state, users, location.path(), &meta)?;
             state.tell(answer)
         }
     }

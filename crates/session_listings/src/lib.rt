@@ -1,7 +1,7 @@
 //! The rows of the session table on listings: LIST, NLST, MLSD, MLST, and STAT with an argument.
 //!
 //! ```text
-//! let actions = list(&mut state, &users, &mut store, &place, Style::Names)?; // 150, and a job
+//! let actions = list(&mut state, &users, &mut store, &location, Style::Names)?; // 150, and a job
 //! ```
 #![tactic(auto)]
 

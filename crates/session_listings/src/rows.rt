@@ -13,7 +13,7 @@ use crate::style::{Style, Way};
 use crate::told::{tell_entries, tell_file};
 use authorizer::Authorizer;
 use ftp_terms::Kind;
-use session_judge::Place;
+use session_judge::Location;
 use session_state::State;
 use session_table::{Action, Refusal};
 use std::alloc::{AllocError, Allocator};
@@ -24,46 +24,46 @@ fn list_directory<A: Allocator + Clone, S: Store<A>>(
     state: &mut State<A>,
     users: &Authorizer<A>,
     store: &mut S,
-    place: &Place<A>,
+    location: &Location<A>,
     style: Style,
     way: Way,
 ) -> Result<Vec<Action<A, S::Source, S::Sink>, A>, AllocError>
     ensures row { IfOk result (λ actions. Ran S.Step
-        (directory_row users.now.users state.old (style_of style) way place.now)
+        (directory_row users.now.users state.old (style_of style) way location.now)
         store.old store.new state.new actions.items) }
     ensures unchanged { OnErr result (state.new ≡ state.old) }
     ensures stops { OnErr result (Stops {A = A} {R = S.Source} {K = S.Sink} S.Step
-        (directory_row users.now.users state.old (style_of style) way place.now)
+        (directory_row users.now.users state.old (style_of style) way location.now)
         store.old store.new) }
 {
-    match store.list(place.stored()) {
+    match store.list(location.stored()) {
         Err(fault) => state.refuse(Refusal::Store(fault)),
-        Ok(entries) => tell_entries(state, users, place.path(), style, way, entries.as_slice()),
+        Ok(entries) => tell_entries(state, users, location.path(), style, way, entries.as_slice()),
     }
 }
 
 /// The entries of a directory, or the file itself.
-fn list_place<A: Allocator + Clone, S: Store<A>>(
+fn list_location<A: Allocator + Clone, S: Store<A>>(
     state: &mut State<A>,
     users: &Authorizer<A>,
     store: &mut S,
-    place: &Place<A>,
+    location: &Location<A>,
     style: Style,
     way: Way,
 ) -> Result<Vec<Action<A, S::Source, S::Sink>, A>, AllocError>
     ensures row { IfOk result (λ actions. Ran S.Step
-        (listing_row users.now.users state.old (style_of style) way place.now)
+        (listing_row users.now.users state.old (style_of style) way location.now)
         store.old store.new state.new actions.items) }
     ensures unchanged { OnErr result (state.new ≡ state.old) }
     ensures stops { OnErr result (Stops {A = A} {R = S.Source} {K = S.Sink} S.Step
-        (listing_row users.now.users state.old (style_of style) way place.now)
+        (listing_row users.now.users state.old (style_of style) way location.now)
         store.old store.new) }
 {
-    match store.stat(place.stored()) {
+    match store.stat(location.stored()) {
         Err(fault) => state.refuse(Refusal::Store(fault)),
         Ok(meta) => match meta.kind {
-            Kind::File => tell_file(state, users, place.path(), style, way, &meta),
-            Kind::Directory => list_directory(state, users, store, place, style, way),
+            Kind::File => tell_file(state, users, location.path(), style, way, &meta),
+            Kind::Directory => list_directory(state, users, store, location, style, way),
         },
     }
 }
@@ -73,17 +73,17 @@ pub fn list<A: Allocator + Clone, S: Store<A>>(
     state: &mut State<A>,
     users: &Authorizer<A>,
     store: &mut S,
-    place: &Place<A>,
+    location: &Location<A>,
     style: Style,
 ) -> Result<Vec<Action<A, S::Source, S::Sink>, A>, AllocError>
     ensures row { IfOk result (λ actions. Ran S.Step
-        (list_row users.now.users state.old (style_of style) place.now)
+        (list_row users.now.users state.old (style_of style) location.now)
         store.old store.new state.new actions.items) }
     ensures unchanged { OnErr result (state.new ≡ state.old) }
     ensures stops { OnErr result (Stops {A = A} {R = S.Source} {K = S.Sink} S.Step
-        (list_row users.now.users state.old (style_of style) place.now) store.old store.new) }
+        (list_row users.now.users state.old (style_of style) location.now) store.old store.new) }
 {
-    list_place(state, users, store, place, style, Way::OverData)
+    list_location(state, users, store, location, style, Way::OverData)
 }
 
 /// MLSD.
@@ -91,15 +91,15 @@ pub fn list_facts<A: Allocator + Clone, S: Store<A>>(
     state: &mut State<A>,
     users: &Authorizer<A>,
     store: &mut S,
-    place: &Place<A>,
+    location: &Location<A>,
 ) -> Result<Vec<Action<A, S::Source, S::Sink>, A>, AllocError>
-    ensures row { IfOk result (λ actions. Ran S.Step (mlsd_row users.now.users state.old place.now)
+    ensures row { IfOk result (λ actions. Ran S.Step (mlsd_row users.now.users state.old location.now)
         store.old store.new state.new actions.items) }
     ensures unchanged { OnErr result (state.new ≡ state.old) }
     ensures stops { OnErr result (Stops {A = A} {R = S.Source} {K = S.Sink} S.Step
-        (mlsd_row users.now.users state.old place.now) store.old store.new) }
+        (mlsd_row users.now.users state.old location.now) store.old store.new) }
 {
-    match store.stat(place.stored()) {
+    match store.stat(location.stored()) {
         Err(fault) => state.refuse(Refusal::Store(fault)),
         Ok(meta) => match meta.kind {
             Kind::File => state.refuse(Refusal::ListsNoFile),
@@ -107,7 +107,7 @@ pub fn list_facts<A: Allocator + Clone, S: Store<A>>(
                 state,
                 users,
                 store,
-                place,
+                location,
                 Style::FactLines,
                 Way::OverData,
             ),
@@ -120,13 +120,13 @@ pub fn tell_listing<A: Allocator + Clone, S: Store<A>>(
     state: &mut State<A>,
     users: &Authorizer<A>,
     store: &mut S,
-    place: &Place<A>,
+    location: &Location<A>,
 ) -> Result<Vec<Action<A, S::Source, S::Sink>, A>, AllocError>
-    ensures row { IfOk result (λ actions. Ran S.Step (stat_row users.now.users state.old place.now)
+    ensures row { IfOk result (λ actions. Ran S.Step (stat_row users.now.users state.old location.now)
         store.old store.new state.new actions.items) }
     ensures unchanged { OnErr result (state.new ≡ state.old) }
     ensures stops { OnErr result (Stops {A = A} {R = S.Source} {K = S.Sink} S.Step
-        (stat_row users.now.users state.old place.now) store.old store.new) }
+        (stat_row users.now.users state.old location.now) store.old store.new) }
 {
-    list_place(state, users, store, place, Style::LongLines, Way::InReply)
+    list_location(state, users, store, location, Style::LongLines, Way::InReply)
 }

@@ -137,7 +137,7 @@ impl<A: Allocator> State<A> {
         self.prepared = true;
     }
 
-    /// A passive port is awaited, in the place of what was prepared.
+    /// A passive port is awaited, instead of what was prepared.
     pub fn await_port(&mut self, passive: Passive)
         ensures awaited { self.new
             ≡ record self.old { prepared = false; begun = AwaitsPort passive } }

@@ -13,7 +13,7 @@ use Rattle.session_table.specs.declared.answers.Answer.{Answer}
 use Rattle.session_table.specs.declared.answers.Answer.TheVariants as answer
 use Rattle.session_table.specs.declared.notices.Notice.TheVariants as notice
 use Rattle.session_table.specs.declared.refusals.Refusal.TheVariants as refusal
-use Rattle.session_table.specs.Judged.{Place}
+use Rattle.session_table.specs.Judged.{Location}
 use Rattle.session_table.specs.Plans.{Plan}
 use Rattle.session_table.specs.Plans.Plan.{WithLine, AskStat, AskMakeDir, AskRemoveDir, AskRemoveFile, AskRename}
 use Rattle.session_table.specs.StateRows.{is_ascii, notes, refuses, tells}
@@ -41,37 +41,37 @@ module _ {A R K : Type 0} where
   cwd_by view path (Err why) = store_refuses view why
   cwd_by view path (Ok meta) = goes_to view path meta.kind
 
-  abbrev pub cwd_row : View → Place → Plan A R K
-  cwd_row view place = AskStat place.stored (cwd_by view place.path)
+  abbrev pub cwd_row : View → Location → Plan A R K
+  cwd_row view location = AskStat location.stored (cwd_by view location.path)
 
   -- a change of the store that was made tells this, and one that was refused the refusal
   abbrev pub changed : View → Answer A → Result (Unit {0}) StoreFault → Plan A R K
   changed view reply answer = tells view (told_or reply answer)
 
-  abbrev pub mkd_row : View → Place → Plan A R K
-  mkd_row view place = AskMakeDir place.stored (changed view (answer.Made (OneLine 257 (quoted (path_text place.path)))))
+  abbrev pub mkd_row : View → Location → Plan A R K
+  mkd_row view location = AskMakeDir location.stored (changed view (answer.Made (OneLine 257 (quoted (path_text location.path)))))
 
-  abbrev pub rmd_row : View → Place → Plan A R K
-  rmd_row view place = cond (is_root place.path) (refuses view refusal.NotPermitted)
-      (AskRemoveDir place.stored (changed view (answer.Notice notice.DirectoryRemoved)))
+  abbrev pub rmd_row : View → Location → Plan A R K
+  rmd_row view location = cond (is_root location.path) (refuses view refusal.NotPermitted)
+      (AskRemoveDir location.stored (changed view (answer.Notice notice.DirectoryRemoved)))
 
-  abbrev pub dele_row : View → Place → Plan A R K
-  dele_row view place = AskRemoveFile place.stored (changed view (answer.Notice notice.FileRemoved))
+  abbrev pub dele_row : View → Location → Plan A R K
+  dele_row view location = AskRemoveFile location.stored (changed view (answer.Notice notice.FileRemoved))
 
   abbrev pub rnfr_by : View → Path → Result Meta StoreFault → Plan A R K
   rnfr_by view stored (Err why) = store_refuses view why
   rnfr_by view stored (Ok meta) = notes (record view { source = Some stored }) notice.SendRnto
 
-  abbrev pub rnfr_row : View → Place → Plan A R K
-  rnfr_row view place = cond (is_root place.path) (refuses view refusal.NotPermitted)
-      (AskStat place.stored (rnfr_by view place.stored))
+  abbrev pub rnfr_row : View → Location → Plan A R K
+  rnfr_row view location = cond (is_root location.path) (refuses view refusal.NotPermitted)
+      (AskStat location.stored (rnfr_by view location.stored))
 
   abbrev pub rnto_from : View → Path → Option Path → Plan A R K
   rnto_from view stored None = refuses view refusal.NoSource
   rnto_from view stored (Some source) = AskRename source stored (changed view (answer.Notice notice.Renamed))
 
-  abbrev pub rnto_row : View → Place → Plan A R K
-  rnto_row view place = rnto_from view place.stored view.source
+  abbrev pub rnto_row : View → Location → Plan A R K
+  rnto_row view location = rnto_from view location.stored view.source
 
   abbrev pub size_of : View → ℕ → Kind → Plan A R K
   size_of view size kind.Directory = store_refuses view fault.IsDir
@@ -81,8 +81,8 @@ module _ {A R K : Type 0} where
   size_by view (Err why) = store_refuses view why
   size_by view (Ok meta) = size_of view meta.size meta.kind
 
-  abbrev pub size_row : View → Place → Plan A R K
-  size_row view place = cond (is_ascii view.data_type) (refuses view refusal.SizeNeedsImage) (AskStat place.stored (size_by view))
+  abbrev pub size_row : View → Location → Plan A R K
+  size_row view location = cond (is_ascii view.data_type) (refuses view refusal.SizeNeedsImage) (AskStat location.stored (size_by view))
 
   abbrev pub moment_of : View → ℕ → Kind → Plan A R K
   moment_of view modified kind.Directory = store_refuses view fault.IsDir
@@ -92,5 +92,5 @@ module _ {A R K : Type 0} where
   mdtm_by view (Err why) = store_refuses view why
   mdtm_by view (Ok meta) = moment_of view meta.modified meta.kind
 
-  abbrev pub mdtm_row : View → Place → Plan A R K
-  mdtm_row view place = AskStat place.stored (mdtm_by view)
+  abbrev pub mdtm_row : View → Location → Plan A R K
+  mdtm_row view location = AskStat location.stored (mdtm_by view)

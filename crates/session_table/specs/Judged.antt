@@ -11,12 +11,12 @@ use Rattle.session_table.specs.Commands.{Line, asked, is_appe, is_rnto, needs_da
 use Rattle.session_table.specs.Views.{View, is_inside}
 
 -- where a path stands: as the user sees it, and in the store
-pub record Place : Type 0 where
+pub record Location : Type 0 where
   pub path : Path
   pub stored : Path
 
 -- a command without a path stands nowhere
-abbrev pub nowhere : Place
+abbrev pub nowhere : Location
 nowhere = record { path = []; stored = [] }
 
 -- the first refusal whose condition holds
@@ -33,16 +33,16 @@ unless_refused (Some why) otherwise = Err why
 abbrev pub home_of : Users → List ℕ → Path
 home_of users name = unwrap_or (option_map (λ user. user.home) (map.get users name)) []
 
-abbrev pub stored_at : Path → Result Path PathFault → Result Place PathFault
+abbrev pub stored_at : Path → Result Path PathFault → Result Location PathFault
 stored_at path (Ok stored) = Ok (record { path = path; stored = stored })
 stored_at path (Err fault) = Err fault
 
-abbrev pub from_home : Path → Result Path PathFault → Result Place PathFault
+abbrev pub from_home : Path → Result Path PathFault → Result Location PathFault
 from_home home (Ok path) = stored_at path (joined home path)
 from_home home (Err fault) = Err fault
 
--- the place that a text names: the user's path from the current directory on, and the home followed by it
-abbrev pub located : Users → View → List ℕ → Result Place PathFault
+-- the location that a text names: the user's path from the current directory on, and the home followed by it
+abbrev pub located : Users → View → List ℕ → Result Location PathFault
 located users view text = from_home (home_of users view.name) (resolved view.cwd text)
 
 -- 2 to 4: before the path is looked at
@@ -54,22 +54,22 @@ at_once view command =
     ∷ (needs_plain command && view.only_extended, refusal.OnlyExtended)
     ∷ []
 
--- 6 and 7: at the place
-abbrev pub at_place : Users → View → Line → Letter → Path → List (Bool × Refusal)
-at_place users view command letter path =
+-- 6 and 7: at the location
+abbrev pub at_location : Users → View → Line → Letter → Path → List (Bool × Refusal)
+at_location users view command letter path =
     (not (allowed users view.name letter path), refusal.NotPermitted)
     ∷ (needs_data command && not view.prepared, refusal.NothingPrepared)
     ∷ []
 
 -- 5 stands between them
-abbrev pub judged_at : Users → View → Line → Letter → Result Place PathFault → Result Place Refusal
+abbrev pub judged_at : Users → View → Line → Letter → Result Location PathFault → Result Location Refusal
 judged_at users view command letter (Err fault) = Err (refusal.Path fault)
-judged_at users view command letter (Ok place) = unless_refused (first_refusal (at_place users view command letter place.path)) (Ok place)
+judged_at users view command letter (Ok location) = unless_refused (first_refusal (at_location users view command letter location.path)) (Ok location)
 
-abbrev pub judged_path : Users → View → Line → Option (Letter × List ℕ) → Result Place Refusal
+abbrev pub judged_path : Users → View → Line → Option (Letter × List ℕ) → Result Location Refusal
 judged_path users view command None = Ok nowhere
 judged_path users view command (Some wanted) = judged_at users view command wanted.0 (located users view wanted.1)
 
--- what a command is refused, or the place that it names
-unfoldable pub judged : Users → View → Line → Result Place Refusal
+-- what a command is refused, or the location that it names
+unfoldable pub judged : Users → View → Line → Result Location Refusal
 judged users view command = unless_refused (first_refusal (at_once view command)) (judged_path users view command (asked command))

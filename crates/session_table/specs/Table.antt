@@ -29,7 +29,7 @@ use Rattle.session_table.specs.declared.stages.Passive.TheVariants.{Plain, Exten
 use Rattle.session_table.specs.declared.stages.Stage.TheVariants as stage
 use Rattle.session_table.specs.Commands.{Line, is_rnfr, needs_data}
 use Rattle.session_table.specs.FileRows.{cwd_row, dele_row, mdtm_row, mkd_row, rmd_row, rnfr_row, rnto_row, size_row}
-use Rattle.session_table.specs.Judged.{Place, judged}
+use Rattle.session_table.specs.Judged.{Location, judged}
 use Rattle.session_table.specs.Plans.{Plan, Ran}
 use Rattle.session_table.specs.Plans.Plan.{Then, WithLine, WithLines, AskStat, AskList, AskOpenRead, AskOpenWrite, AskFinish, AskMakeDir, AskRemoveDir, AskRemoveFile, AskRename}
 use Rattle.session_table.specs.StateRows.{abor_row, eprt_row, epsv_row, feat_row, leaves, notes, opens, opts_row, pass_row, port_row, pwd_row, quit_after, quit_row, refuses, rein_row, rest_row, status_row, type_row, user_row}
@@ -92,50 +92,50 @@ module _ {A R K : Type 0} where
   then_left change (AskRemoveFile path next) = AskRemoveFile path (λ answer. then_left change (next answer))
   then_left change (AskRename from to next) = AskRename from to (λ answer. then_left change (next answer))
 
-  -- the row of a command that is not refused, at the place that it names; a moment is in milliseconds since 1970
-  abbrev pub row : Users → (ℕ → Bool) → View → ℕ → Place → Line → Plan A R K
-  row users admits view moment place (command.User name) = user_row view name
-  row users admits view moment place (command.Pass text) = pass_row users admits view (unwrap_or text [])
-  row users admits view moment place command.Quit = quit_row users view
-  row users admits view moment place command.Rein = rein_row view
-  row users admits view moment place command.Noop = notes view notice.Fine
-  row users admits view moment place command.Syst = notes view notice.System
-  row users admits view moment place (command.Help text) = notes view notice.Standards
-  row users admits view moment place command.Feat = feat_row view
-  row users admits view moment place (command.Opts wanted) = opts_row view wanted
-  row users admits view moment place (command.Allo text) = notes view notice.NoAllocation
-  row users admits view moment place (command.SetType wanted) = type_row view wanted
-  row users admits view moment place command.Mode = notes view notice.ModeIsStream
-  row users admits view moment place command.Stru = notes view notice.StructureIsFile
-  row users admits view moment place (command.Rest offset) = rest_row view offset
-  row users admits view moment place (command.Port to) = port_row view to
-  row users admits view moment place (command.Eprt to) = eprt_row view to
-  row users admits view moment place command.Pasv = opens view Plain
-  row users admits view moment place (command.Epsv wanted) = epsv_row view wanted
-  row users admits view moment place command.Pwd = pwd_row view
-  row users admits view moment place (command.Cwd text) = cwd_row view place
-  row users admits view moment place command.Cdup = cwd_row view place
-  row users admits view moment place (command.Mkd text) = mkd_row view place
-  row users admits view moment place (command.Rmd text) = rmd_row view place
-  row users admits view moment place (command.Dele text) = dele_row view place
-  row users admits view moment place (command.Rnfr text) = rnfr_row view place
-  row users admits view moment place (command.Rnto text) = rnto_row view place
-  row users admits view moment place (command.Size text) = size_row view place
-  row users admits view moment place (command.Mdtm text) = mdtm_row view place
-  row users admits view moment place (command.Stat None) = status_row view
-  row users admits view moment place (command.Stat (Some text)) = stat_row users view place
-  row users admits view moment place (command.Mlst text) = mlst_row users view place
-  row users admits view moment place (command.List text) = list_row users view LongLines place
-  row users admits view moment place (command.Nlst text) = list_row users view Names place
-  row users admits view moment place (command.Mlsd text) = mlsd_row users view place
-  row users admits view moment place (command.Retr text) = retr_row view place
-  row users admits view moment place (command.Stor text) = stor_row view moment place
-  row users admits view moment place (command.Appe text) = appe_row view moment place
-  row users admits view moment place command.Abor = abor_row view
+  -- the row of a command that is not refused, at the location that it names; a moment is in milliseconds since 1970
+  abbrev pub row : Users → (ℕ → Bool) → View → ℕ → Location → Line → Plan A R K
+  row users admits view moment location (command.User name) = user_row view name
+  row users admits view moment location (command.Pass text) = pass_row users admits view (unwrap_or text [])
+  row users admits view moment location command.Quit = quit_row users view
+  row users admits view moment location command.Rein = rein_row view
+  row users admits view moment location command.Noop = notes view notice.Fine
+  row users admits view moment location command.Syst = notes view notice.System
+  row users admits view moment location (command.Help text) = notes view notice.Standards
+  row users admits view moment location command.Feat = feat_row view
+  row users admits view moment location (command.Opts wanted) = opts_row view wanted
+  row users admits view moment location (command.Allo text) = notes view notice.NoAllocation
+  row users admits view moment location (command.SetType wanted) = type_row view wanted
+  row users admits view moment location command.Mode = notes view notice.ModeIsStream
+  row users admits view moment location command.Stru = notes view notice.StructureIsFile
+  row users admits view moment location (command.Rest offset) = rest_row view offset
+  row users admits view moment location (command.Port to) = port_row view to
+  row users admits view moment location (command.Eprt to) = eprt_row view to
+  row users admits view moment location command.Pasv = opens view Plain
+  row users admits view moment location (command.Epsv wanted) = epsv_row view wanted
+  row users admits view moment location command.Pwd = pwd_row view
+  row users admits view moment location (command.Cwd text) = cwd_row view location
+  row users admits view moment location command.Cdup = cwd_row view location
+  row users admits view moment location (command.Mkd text) = mkd_row view location
+  row users admits view moment location (command.Rmd text) = rmd_row view location
+  row users admits view moment location (command.Dele text) = dele_row view location
+  row users admits view moment location (command.Rnfr text) = rnfr_row view location
+  row users admits view moment location (command.Rnto text) = rnto_row view location
+  row users admits view moment location (command.Size text) = size_row view location
+  row users admits view moment location (command.Mdtm text) = mdtm_row view location
+  row users admits view moment location (command.Stat None) = status_row view
+  row users admits view moment location (command.Stat (Some text)) = stat_row users view location
+  row users admits view moment location (command.Mlst text) = mlst_row users view location
+  row users admits view moment location (command.List text) = list_row users view LongLines location
+  row users admits view moment location (command.Nlst text) = list_row users view Names location
+  row users admits view moment location (command.Mlsd text) = mlsd_row users view location
+  row users admits view moment location (command.Retr text) = retr_row view location
+  row users admits view moment location (command.Stor text) = stor_row view moment location
+  row users admits view moment location (command.Appe text) = appe_row view moment location
+  row users admits view moment location command.Abor = abor_row view
 
-  abbrev pub judged_row : Users → (ℕ → Bool) → View → ℕ → Line → Result Place Refusal → Plan A R K
+  abbrev pub judged_row : Users → (ℕ → Bool) → View → ℕ → Line → Result Location Refusal → Plan A R K
   judged_row users admits view moment command (Err why) = refuses view why
-  judged_row users admits view moment command (Ok place) = row users admits view moment place command
+  judged_row users admits view moment command (Ok location) = row users admits view moment location command
 
   -- a line that is served: the first refusal that holds, else the command's row
   abbrev pub served : Users → (ℕ → Bool) → View → ℕ → Item → Plan A R K

@@ -20,7 +20,7 @@ use Rattle.session_table.specs.declared.answers.Answer.TheVariants as answer
 use Rattle.session_table.specs.declared.notices.Notice.TheVariants as notice
 use Rattle.session_table.specs.declared.refusals.Refusal.TheVariants as refusal
 use Rattle.session_table.specs.FileRows.{store_refuses}
-use Rattle.session_table.specs.Judged.{Place}
+use Rattle.session_table.specs.Judged.{Location}
 use Rattle.session_table.specs.Plans.{Plan}
 use Rattle.session_table.specs.Plans.Plan.{Then, WithLine, WithLines, AskStat, AskList, AskOpenRead, AskOpenWrite}
 use Rattle.session_table.specs.StateRows.{refuses, tells}
@@ -75,18 +75,18 @@ module _ {A R K : Type 0} where
   sends view path (Err why) = store_refuses view why
   sends view path (Ok source) = starts view (Sending path) (job.SendFile source view.data_type)
 
-  abbrev pub retr_row : View → Place → Plan A R K
-  retr_row view place = AskOpenRead place.stored view.offset (sends view place.path)
+  abbrev pub retr_row : View → Location → Plan A R K
+  retr_row view location = AskOpenRead location.stored view.offset (sends view location.path)
 
   abbrev pub takes : View → Path → Result K StoreFault → Plan A R K
   takes view path (Err why) = store_refuses view why
   takes view path (Ok sink) = starts view (Taking path) (job.TakeFile sink view.data_type)
 
-  abbrev pub stor_row : View → ℕ → Place → Plan A R K
-  stor_row view moment place = AskOpenWrite place.stored (store_mode view.offset) moment (takes view place.path)
+  abbrev pub stor_row : View → ℕ → Location → Plan A R K
+  stor_row view moment location = AskOpenWrite location.stored (store_mode view.offset) moment (takes view location.path)
 
-  abbrev pub appe_row : View → ℕ → Place → Plan A R K
-  appe_row view moment place = AskOpenWrite place.stored mode.Append moment (takes view place.path)
+  abbrev pub appe_row : View → ℕ → Location → Plan A R K
+  appe_row view moment location = AskOpenWrite location.stored mode.Append moment (takes view location.path)
 
   -- the entries of a listing, one line each
   abbrev pub lists : Users → View → Path → Style → (List (List ℕ) → Plan A R K) → List Entry → Plan A R K
@@ -97,41 +97,41 @@ module _ {A R K : Type 0} where
   listed_by view next (Ok entries) = next entries
 
   -- a directory's entries, or the file itself
-  abbrev pub looked_in : View → Place → (List Entry → Plan A R K) → (Meta → Plan A R K) → Meta → Kind → Plan A R K
-  looked_in view place next of_file meta kind.Directory = AskList place.stored (listed_by view next)
-  looked_in view place next of_file meta kind.File = of_file meta
+  abbrev pub looked_in : View → Location → (List Entry → Plan A R K) → (Meta → Plan A R K) → Meta → Kind → Plan A R K
+  looked_in view location next of_file meta kind.Directory = AskList location.stored (listed_by view next)
+  looked_in view location next of_file meta kind.File = of_file meta
 
-  abbrev pub looked_by : View → Place → (List Entry → Plan A R K) → (Meta → Plan A R K) → Result Meta StoreFault → Plan A R K
-  looked_by view place next of_file (Err why) = store_refuses view why
-  looked_by view place next of_file (Ok meta) = looked_in view place next of_file meta meta.kind
+  abbrev pub looked_by : View → Location → (List Entry → Plan A R K) → (Meta → Plan A R K) → Result Meta StoreFault → Plan A R K
+  looked_by view location next of_file (Err why) = store_refuses view why
+  looked_by view location next of_file (Ok meta) = looked_in view location next of_file meta meta.kind
 
   abbrev pub sends_lines : View → List (List ℕ) → Plan A R K
   sends_lines view lines = starts view Listing (job.Text (ended_lines lines))
 
   -- LIST and NLST
-  abbrev pub list_row : Users → View → Style → Place → Plan A R K
-  list_row users view style place = AskStat place.stored (looked_by view place
-      (lists users view place.path style (sends_lines view))
-      (λ meta. lists users view place.path style (sends_lines view) (itself place.path meta)))
+  abbrev pub list_row : Users → View → Style → Location → Plan A R K
+  list_row users view style location = AskStat location.stored (looked_by view location
+      (lists users view location.path style (sends_lines view))
+      (λ meta. lists users view location.path style (sends_lines view) (itself location.path meta)))
 
-  abbrev pub mlsd_row : Users → View → Place → Plan A R K
-  mlsd_row users view place = AskStat place.stored (looked_by view place
-      (lists users view place.path FactLines (sends_lines view))
+  abbrev pub mlsd_row : Users → View → Location → Plan A R K
+  mlsd_row users view location = AskStat location.stored (looked_by view location
+      (lists users view location.path FactLines (sends_lines view))
       (λ meta. refuses view refusal.ListsNoFile))
 
   -- STAT with an argument
   abbrev pub status_lines : View → List (List ℕ) → Plan A R K
   status_lines view lines = tells view (answer.Made (SeveralLines 213 (codes "Status") lines (codes "End")))
 
-  abbrev pub stat_row : Users → View → Place → Plan A R K
-  stat_row users view place = AskStat place.stored (looked_by view place
-      (lists users view place.path LongLines (status_lines view))
-      (λ meta. lists users view place.path LongLines (status_lines view) (itself place.path meta)))
+  abbrev pub stat_row : Users → View → Location → Plan A R K
+  stat_row users view location = AskStat location.stored (looked_by view location
+      (lists users view location.path LongLines (status_lines view))
+      (λ meta. lists users view location.path LongLines (status_lines view) (itself location.path meta)))
 
   abbrev pub mlst_by : Users → View → Path → Result Meta StoreFault → Plan A R K
   mlst_by users view path (Err why) = store_refuses view why
   mlst_by users view path (Ok meta) = WithLine (FactLine meta view.facts (letters_held users view.name path) (path_text path))
       (λ line. tells view (answer.Made (SeveralLines 250 (codes "Listing") ((codes " " ++ line) ∷ []) (codes "End"))))
 
-  abbrev pub mlst_row : Users → View → Place → Plan A R K
-  mlst_row users view place = AskStat place.stored (mlst_by users view place.path)
+  abbrev pub mlst_row : Users → View → Location → Plan A R K
+  mlst_row users view location = AskStat location.stored (mlst_by users view location.path)

@@ -5,7 +5,7 @@ ghost use Rattle.session_table.specs.Plans.{Ran, Stops};
 ghost use Rattle.session_table.specs.TransferRows.{appe_row, retr_row, stor_row, store_mode};
 
 use crate::opened::{put_sending, put_taking};
-use session_judge::Place;
+use session_judge::Location;
 use session_state::{State, with_room};
 use session_table::Action;
 use std::alloc::{AllocError, Allocator};
@@ -15,19 +15,19 @@ use virtual_tree::{Store, WriteMode};
 pub fn retrieve<A: Allocator + Clone, S: Store<A>>(
     state: &mut State<A>,
     store: &mut S,
-    place: Place<A>,
+    location: Location<A>,
 ) -> Result<Vec<Action<A, S::Source, S::Sink>, A>, AllocError>
     ensures row { IfOk result (λ actions.
-        Ran S.Step (retr_row state.old place) store.old store.new state.new actions.items) }
+        Ran S.Step (retr_row state.old location) store.old store.new state.new actions.items) }
     ensures unchanged { OnErr result (state.new ≡ state.old) }
     ensures stops { OnErr result (
         Stops {A = A} {R = S.Source} {K = S.Sink} S.Step
-        (retr_row state.old place) store.old store.new) }
+        (retr_row state.old location) store.old store.new) }
     ensures untouched { OnErr result (store.new ≡ store.old) }
 {
     let mut actions = with_room(state.alloc()?, 2)?;
-    let opened = store.open_read(place.stored(), state.offset());
-    put_sending(state, place.into_path(), opened, &mut actions);
+    let opened = store.open_read(location.stored(), state.offset());
+    put_sending(state, location.into_path(), opened, &mut actions);
     Ok(actions)
 }
 
@@ -47,20 +47,20 @@ fn store_mode(offset: u64) -> WriteMode
 pub fn store_file<A: Allocator + Clone, S: Store<A>>(
     state: &mut State<A>,
     store: &mut S,
-    place: Place<A>,
+    location: Location<A>,
     moment: u64,
 ) -> Result<Vec<Action<A, S::Source, S::Sink>, A>, AllocError>
     ensures row { IfOk result (λ actions.
-        Ran S.Step (stor_row state.old moment place) store.old store.new state.new actions.items) }
+        Ran S.Step (stor_row state.old moment location) store.old store.new state.new actions.items) }
     ensures unchanged { OnErr result (state.new ≡ state.old) }
     ensures stops { OnErr result (
         Stops {A = A} {R = S.Source} {K = S.Sink} S.Step
-        (stor_row state.old moment place) store.old store.new) }
+        (stor_row state.old moment location) store.old store.new) }
     ensures untouched { OnErr result (store.new ≡ store.old) }
 {
     let mut actions = with_room(state.alloc()?, 2)?;
-    let opened = store.open_write(place.stored(), store_mode(state.offset()), moment);
-    put_taking(state, place.into_path(), opened, &mut actions);
+    let opened = store.open_write(location.stored(), store_mode(state.offset()), moment);
+    put_taking(state, location.into_path(), opened, &mut actions);
     Ok(actions)
 }
 
@@ -69,19 +69,19 @@ pub fn store_file<A: Allocator + Clone, S: Store<A>>(
 pub fn append<A: Allocator + Clone, S: Store<A>>(
     state: &mut State<A>,
     store: &mut S,
-    place: Place<A>,
+    location: Location<A>,
     moment: u64,
 ) -> Result<Vec<Action<A, S::Source, S::Sink>, A>, AllocError>
     ensures row { IfOk result (λ actions.
-        Ran S.Step (appe_row state.old moment place) store.old store.new state.new actions.items) }
+        Ran S.Step (appe_row state.old moment location) store.old store.new state.new actions.items) }
     ensures unchanged { OnErr result (state.new ≡ state.old) }
     ensures stops { OnErr result (
         Stops {A = A} {R = S.Source} {K = S.Sink} S.Step
-        (appe_row state.old moment place) store.old store.new) }
+        (appe_row state.old moment location) store.old store.new) }
     ensures untouched { OnErr result (store.new ≡ store.old) }
 {
     let mut actions = with_room(state.alloc()?, 2)?;
-    let opened = store.open_write(place.stored(), WriteMode::Append, moment);
-    put_taking(state, place.into_path(), opened, &mut actions);
+    let opened = store.open_write(location.stored(), WriteMode::Append, moment);
+    put_taking(state, location.into_path(), opened, &mut actions);
     Ok(actions)
 }

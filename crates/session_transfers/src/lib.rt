@@ -1,7 +1,7 @@
 //! The rows of the session table on transfers of files.
 //!
 //! ```text
-//! let actions = retrieve(&mut state, &mut store, place)?; // 150, and a job that sends the file
+//! let actions = retrieve(&mut state, &mut store, location)?; // 150, and a job that sends the file
 //! ```
 #![tactic(auto)]
 

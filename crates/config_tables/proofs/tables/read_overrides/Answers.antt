@@ -1,4 +1,6 @@
 use Rattle.std.proofs.Common.{◌∙◌, ap, not}
+use Rattle.std.proofs.lemmas.Result.{err_from_is_err_and}
+use Rattle.config_tables.proofs.NoTables.{no_rules}
 use Rattle.config_tables.proofs.Pushes.{are_overrides-more}
 use Rattle.config_tables.proofs.tables.read_overrides.Goals as goal
 
@@ -8,3 +10,9 @@ loop-user-preserved c =
     let grown = rw worked at c.push.ensures.items in
     are_overrides-more c.args.users.now c.loop-user.user-index c.user-item.result c.loop-user.found.items c.push.new.self.items c.in_ok-rules.rules
     c.loop-user-test.true c.user-item.is c.loop-user.invariant c.in_ok-rules.ensures.rows grown
+
+pub returns-in_err-rules-clause-refused : goal.returns-in_err-rules-clause-refused
+returns-in_err-rules-clause-refused c =
+    let failed = err_from_is_err_and c.from_residual.result c.from_residual.ensures.1 in
+    rw failed.1 (λ told. no_rules c.args.users.now c.loop-user.user-index c.user-item.result c.loop-user-test.true c.user-item.is
+    (c.in_err-rules.ensures.refused (λ memory. told (failed.2 ∙ memory))))

@@ -8,24 +8,24 @@ use virtual_path::VPath;
 
 /// Where a path stands: as the user sees it, and in the store.
 #[derive(Drop)]
-pub struct Place<A: Allocator = Global> {
+pub struct Location<A: Allocator = Global> {
     path: VPath<A>,
     stored: VPath<A>,
 }
 
-impl<A: Allocator> Model for Place<A> {
-    ghost use Rattle.session_table.specs.Judged.{Place};
+impl<A: Allocator> Model for Location<A> {
+    ghost use Rattle.session_table.specs.Judged.{Location};
 
-    ghost Value = { Place };
+    ghost Value = { Location };
 
-    ghost view = { λ place. record { path = place.path; stored = place.stored } };
+    ghost view = { λ location. record { path = location.path; stored = location.stored } };
 }
 
-impl<A: Allocator> Place<A> {
-    pub fn new(path: VPath<A>, stored: VPath<A>) -> Place<A>
-        ensures place { result ≡ record { path = path; stored = stored } }
+impl<A: Allocator> Location<A> {
+    pub fn new(path: VPath<A>, stored: VPath<A>) -> Location<A>
+        ensures location { result ≡ record { path = path; stored = stored } }
     {
-        Place { path, stored }
+        Location { path, stored }
     }
 
     /// The user's path.

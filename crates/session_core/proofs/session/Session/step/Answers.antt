@@ -1,0 +1,54 @@
+use Rattle.std.proofs.Common.{refl, sym, subst}
+use Rattle.std.proofs.lemmas.Result.{IfOk-weaker}
+use Rattle.ftp_wire.specs.Reading.{items_of}
+use Rattle.rate_floors.specs.Promises.{admits}
+use Rattle.session_core.specs.Turns.{closed_at, ready_at}
+use Rattle.session_laws.specs.Steps.{SessionStops, Standing}
+use Rattle.session_table.specs.declared.inputs.Input.{Input}
+use Rattle.session_table.specs.declared.inputs.Input.TheVariants as input
+use Rattle.session_table.specs.Table.{SessionStep, beside, ended_row}
+use Rattle.session_core.proofs.Plans.{on_err, on_err_from, ran_then, step_by, step_stops_here}
+use Rattle.session_core.proofs.Tables.{at_closed, at_end, at_ready}
+use Rattle.session_core.proofs.session.Session.step.Goals as goal
+
+pub returns-in-TransferEnded-clause-row : goal.returns-in-TransferEnded-clause-row
+returns-in-TransferEnded-clause-row g c =
+    let held = items_of c.self.inside.held.items in
+    IfOk-weaker c.end_transfer.result _ _ (λ actions ran.
+    subst (λ (i : Input g.row.A.Denot g.row.S-Sink.Denot). SessionStep {A = g.row.A.Denot} {R = g.row.S-Source.Denot} {K = g.row.S-Sink.Denot} g.S.Store.Step c.args.users.now.users (admits c.args.floors.now) c.args.self.now.view c.args.self.now.held c.args.moment i c.args.store.now c.end_transfer.new.store c.end_transfer.new.state held actions.items) (sym c.in-TransferEnded.is)
+    (subst (λ (s : Standing). SessionStep {A = g.row.A.Denot} {R = g.row.S-Source.Denot} {K = g.row.S-Sink.Denot} g.S.Store.Step c.args.users.now.users (admits c.args.floors.now) s.view s.held c.args.moment (input.TransferEnded c.in-TransferEnded.end c.in-TransferEnded.sink) c.args.store.now c.end_transfer.new.store c.end_transfer.new.state held actions.items) c.self.view_is
+    (step_by g.S.Store.Step c.args.users.now.users (admits c.args.floors.now) c.self.inside.state held c.args.moment (input.TransferEnded c.in-TransferEnded.end c.in-TransferEnded.sink)
+    (beside held (ended_row c.args.users.now.users c.self.inside.state c.args.moment c.in-TransferEnded.end c.in-TransferEnded.sink)) c.args.store.now c.end_transfer.new.store c.end_transfer.new.state held actions.items
+    (at_end c.args.users.now.users (admits c.args.floors.now) c.self.inside.state held c.args.moment c.in-TransferEnded.end c.in-TransferEnded.sink) ran refl))) c.end_transfer.ensures.row
+
+pub returns-in-TransferEnded-clause-stops : goal.returns-in-TransferEnded-clause-stops
+returns-in-TransferEnded-clause-stops g c =
+    on_err_from c.end_transfer.result (λ same.
+    subst (λ s. SessionStops {A = g.row.A.Denot} {R = g.row.S-Source.Denot} {K = g.row.S-Sink.Denot} g.S.Store.Step c.args.users.now.users (admits c.args.floors.now) c.args.self.now.view c.args.self.now.held c.args.moment c.args.input c.args.store.now s) (sym same)
+    (step_stops_here g.S.Store.Step c.args.users.now.users (admits c.args.floors.now) c.args.self.now.view c.args.self.now.held c.args.moment c.args.input c.args.store.now)) c.end_transfer.ensures.untouched
+
+pub returns-in-DataReady-clause-row : goal.returns-in-DataReady-clause-row
+returns-in-DataReady-clause-row g c =
+    IfOk-weaker c.take_port.result _ _ (λ actions told.
+    subst (λ (i : Input g.row.A.Denot g.row.S-Sink.Denot). SessionStep {A = g.row.A.Denot} {R = g.row.S-Source.Denot} {K = g.row.S-Sink.Denot} g.S.Store.Step c.args.users.now.users (admits c.args.floors.now) c.args.self.now.view c.args.self.now.held c.args.moment i c.args.store.now c.args.store.now c.take_port.new.self.view c.take_port.new.self.held actions.items) (sym c.in-DataReady.is)
+    (step_by g.S.Store.Step c.args.users.now.users (admits c.args.floors.now) c.args.self.now.view c.args.self.now.held c.args.moment (input.DataReady c.in-DataReady.port)
+    (beside c.args.self.now.held (ready_at c.args.users.now.users c.args.self.now.view c.in-DataReady.port)) c.args.store.now c.args.store.now c.take_port.new.self.view c.take_port.new.self.held actions.items
+    (at_ready c.args.users.now.users (admits c.args.floors.now) c.args.self.now.view c.args.self.now.held c.args.moment c.in-DataReady.port)
+    (ran_then g.S.Store.Step _ c.take_port.new.self.view actions.items c.args.store.now told) c.take_port.ensures.held)) c.take_port.ensures.row
+
+pub returns-in-DataReady-clause-stops : goal.returns-in-DataReady-clause-stops
+returns-in-DataReady-clause-stops g c =
+    on_err c.take_port.result (step_stops_here g.S.Store.Step c.args.users.now.users (admits c.args.floors.now) c.args.self.now.view c.args.self.now.held c.args.moment c.args.input c.args.store.now)
+
+pub returns-in-Closed-clause-row : goal.returns-in-Closed-clause-row
+returns-in-Closed-clause-row g c =
+    IfOk-weaker c.close.result _ _ (λ actions told.
+    subst (λ (i : Input g.row.A.Denot g.row.S-Sink.Denot). SessionStep {A = g.row.A.Denot} {R = g.row.S-Source.Denot} {K = g.row.S-Sink.Denot} g.S.Store.Step c.args.users.now.users (admits c.args.floors.now) c.args.self.now.view c.args.self.now.held c.args.moment i c.args.store.now c.args.store.now c.close.new.self.view c.close.new.self.held actions.items) (sym c.in-Closed.is)
+    (step_by g.S.Store.Step c.args.users.now.users (admits c.args.floors.now) c.args.self.now.view c.args.self.now.held c.args.moment input.Closed
+    (beside c.args.self.now.held (closed_at c.args.self.now.view)) c.args.store.now c.args.store.now c.close.new.self.view c.close.new.self.held actions.items
+    (at_closed c.args.users.now.users (admits c.args.floors.now) c.args.self.now.view c.args.self.now.held c.args.moment)
+    (ran_then g.S.Store.Step _ c.close.new.self.view actions.items c.args.store.now told) c.close.ensures.held)) c.close.ensures.row
+
+pub returns-in-Closed-clause-stops : goal.returns-in-Closed-clause-stops
+returns-in-Closed-clause-stops g c =
+    on_err c.close.result (step_stops_here g.S.Store.Step c.args.users.now.users (admits c.args.floors.now) c.args.self.now.view c.args.self.now.held c.args.moment c.args.input c.args.store.now)

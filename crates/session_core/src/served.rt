@@ -1,0 +1,138 @@
+//! One line that is served: the first refusal that holds, or else the row of its command.
+
+ghost use Rattle.std.specs.Prelude.{◌≡◌, IfOk, OnErr, OnOk};
+ghost use Rattle.std.specs.String.{string_bytes};
+ghost use Rattle.ftp_wire.specs.Commands.{with_texts};
+ghost use Rattle.ftp_wire.specs.Reading.{item_of};
+ghost use Rattle.rate_floors.specs.Promises.{admits};
+ghost use Rattle.session_core.specs.Counted.{counted_by_command, counted_by_item};
+ghost use Rattle.session_table.specs.Judged.{judged};
+ghost use Rattle.session_table.specs.Plans.{Ran, Stops};
+ghost use Rattle.session_table.specs.Table.{judged_row, left, row, served};
+
+use crate::asking::ask;
+use crate::settled::settle;
+use crate::turns::asks_store;
+use authorizer::Authorizer;
+use ftp_wire::{Command, LineItem};
+use rate_floors::Floors;
+use session_judge::{Location, is_rnfr, judge, needs_data};
+use session_state::State;
+use session_table::{Action, Answer};
+use std::alloc::{AllocError, Allocator};
+use virtual_tree::Store;
+
+/// The row of a command that is not refused, at the location that it names.
+fn row<A: Allocator + Clone, F: Allocator + Clone, S: Store<A>>(
+    state: &mut State<A>,
+    users: &Authorizer<A>,
+    floors: &mut Floors<F>,
+    store: &mut S,
+    command: &Command<String<A>>,
+    location: Location<A>,
+    moment: u64,
+) -> Result<Vec<Action<A, S::Source, S::Sink>, A>, AllocError>
+    ensures row { IfOk result (λ actions.
+        Ran S.Step
+        (row users.now.users (admits floors.old) state.old moment location
+        (with_texts string_bytes command.now))
+        store.old store.new state.new actions.items) }
+    ensures unchanged { OnErr result (state.new ≡ state.old) }
+    ensures stops { OnErr result (
+        Stops {A = A} {R = S.Source} {K = S.Sink} S.Step
+        (row users.now.users (admits floors.old) state.old moment location
+        (with_texts string_bytes command.now))
+        store.old store.new) }
+    ensures counted { OnOk result (
+        floors.new
+        ≡ counted_by_command users.now.users state.old
+        (with_texts string_bytes command.now) floors.old) }
+    ensures uncounted { OnErr result (floors.new ≡ floors.old) }
+{
+    if asks_store(command) {
+        return ask(state, users, store, command, location, moment);
+    }
+    settle(state, users, floors, command)
+}
+
+/// The first refusal of a command that holds, or else its row.
+fn serve_judged<A: Allocator + Clone, F: Allocator + Clone, S: Store<A>>(
+    state: &mut State<A>,
+    users: &Authorizer<A>,
+    floors: &mut Floors<F>,
+    store: &mut S,
+    command: &Command<String<A>>,
+    moment: u64,
+) -> Result<Vec<Action<A, S::Source, S::Sink>, A>, AllocError>
+    ensures row { IfOk result (λ actions.
+        Ran S.Step
+        (judged_row users.now.users (admits floors.old) state.old moment
+        (with_texts string_bytes command.now)
+        (judged users.now.users state.old (with_texts string_bytes command.now)))
+        store.old store.new state.new actions.items) }
+    ensures unchanged { OnErr result (state.new ≡ state.old) }
+    ensures stops { OnErr result (
+        Stops {A = A} {R = S.Source} {K = S.Sink} S.Step
+        (judged_row users.now.users (admits floors.old) state.old moment
+        (with_texts string_bytes command.now)
+        (judged users.now.users state.old (with_texts string_bytes command.now)))
+        store.old store.new) }
+    ensures counted { OnOk result (
+        floors.new
+        ≡ counted_by_command users.now.users state.old
+        (with_texts string_bytes command.now) floors.old) }
+    ensures uncounted { OnErr result (floors.new ≡ floors.old) }
+{
+    match judge(state, users, command)? {
+        Err(refusal) => state.refuse(refusal),
+        Ok(location) => row(state, users, floors, store, command, location, moment),
+    }
+}
+
+/// What RNFR named is forgotten by any next line, and a command that moves data leaves no offset.
+fn leave<A: Allocator + Clone>(state: &mut State<A>, command: &Command<String<A>>)
+    ensures left { state.new ≡ left (with_texts string_bytes command.now) state.old }
+{
+    if !is_rnfr(command) {
+        state.forget_source();
+    }
+    if needs_data(command) && state.is_inside() {
+        state.set_offset(0);
+    }
+}
+
+/// A line that is served.
+pub(crate) fn serve<A: Allocator + Clone, F: Allocator + Clone, S: Store<A>>(
+    state: &mut State<A>,
+    users: &Authorizer<A>,
+    floors: &mut Floors<F>,
+    store: &mut S,
+    item: &LineItem<A>,
+    moment: u64,
+) -> Result<Vec<Action<A, S::Source, S::Sink>, A>, AllocError>
+    ensures row { IfOk result (λ actions.
+        Ran S.Step
+        (served users.now.users (admits floors.old) state.old moment (item_of item.now))
+        store.old store.new state.new actions.items) }
+    ensures unchanged { OnErr result (state.new ≡ state.old) }
+    ensures stops { OnErr result (
+        Stops {A = A} {R = S.Source} {K = S.Sink} S.Step
+        (served users.now.users (admits floors.old) state.old moment (item_of item.now))
+        store.old store.new) }
+    ensures counted { OnOk result (
+        floors.new ≡ counted_by_item users.now.users state.old (item_of item.now) floors.old) }
+    ensures uncounted { OnErr result (floors.new ≡ floors.old) }
+{
+    match item {
+        LineItem::Fault(fault) => {
+            let actions = state.tell(Answer::Fault(*fault))?;
+            state.forget_source();
+            Ok(actions)
+        }
+        LineItem::Command(command) => {
+            let actions = serve_judged(state, users, floors, store, command, moment)?;
+            leave(state, command);
+            Ok(actions)
+        }
+    }
+}

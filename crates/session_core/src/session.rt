@@ -1,0 +1,310 @@
+//! A session, and the lines that it holds.
+
+ghost use Rattle.std.specs.Prelude.{◌≡◌, ◌<◌, ◌≤◌, ◌+◌, [], ◌∷◌, ◌++◌, cond, IfOk, OnErr, OnOk, vec_len, vec_capacity};
+ghost use Rattle.rate_floors.specs.Promises.{admits};
+ghost use Rattle.session_core.specs.Counted.{counted_by_step};
+ghost use Rattle.session_core.specs.Turns.{IsTaken, closed_at, gives_up, ready_at};
+ghost use Rattle.session_table.specs.declared.actions.Action.TheVariants.{Abort};
+ghost use Rattle.session_table.specs.declared.inputs.Input.TheVariants.{Held, Line};
+
+use crate::served::serve;
+use crate::turns::{Turn, turn_of};
+use authorizer::Authorizer;
+use ftp_wire::LineItem;
+use rate_floors::Floors;
+use session_events::{close, end_transfer, take_port};
+use session_login::greet;
+use session_state::{State, put, with_room};
+use session_table::{Action, Answer, Control, Input, Refusal, Settings, Stage};
+use std::alloc::{AllocError, Allocator, Global};
+use std::marker::Model;
+use virtual_tree::Store;
+
+/// The most lines that are held.
+pub const MOST_HELD: usize = 16;
+
+/// A control connection, from its greeting to its end.
+#[derive(Drop)]
+pub struct Session<A: Allocator = Global> {
+    state: State<A>,
+    held: Vec<LineItem<A>, A>,
+}
+
+impl<A: Allocator> Model for Session<A> {
+    ghost use Rattle.ftp_wire.specs.Reading.{items_of};
+    ghost use Rattle.session_laws.specs.Steps.{Standing};
+
+    ghost Value = { Standing };
+
+    ghost view = { λ session. record { view = session.state; held = items_of session.held.items } };
+}
+
+/// A transfer that runs is aborted.
+fn put_abort<A: Allocator, R: Drop, K: Drop>(actions: &mut Vec<Action<A, R, K>, A>, runs: bool)
+    requires room { vec_len actions.old < vec_capacity actions.old }
+    ensures items { actions.new.items ≡ actions.old.items ++ cond runs (Abort ∷ []) [] }
+    ensures len { vec_len actions.new ≤ vec_len actions.old + 1 }
+    ensures kept { vec_capacity actions.old ≤ vec_capacity actions.new }
+{
+    if runs {
+        put(actions, Action::Abort);
+    }
+}
+
+impl<A: Allocator + Clone> Session<A> {
+    ghost use Rattle.ftp_wire.specs.Reading.{item_of};
+    ghost use Rattle.session_table.specs.Plans.{Stops};
+    ghost use Rattle.session_table.specs.Plans.Plan.{Then};
+    ghost use Rattle.session_table.specs.StateRows.{greeting};
+    ghost use Rattle.session_laws.specs.Steps.{SessionStops, Took, counts_lines, is_due};
+    ghost use Rattle.session_table.specs.Table.{SessionStep, holds, meanwhile};
+    ghost use Rattle.session_table.specs.Views.{fresh, is_closed};
+
+    /// A session as it begins, of a client at this address.
+    pub fn new(alloc: A, settings: Settings<A>, peer: [u8; 4]) -> Result<Session<A>, AllocError>
+        ensures fresh { IfOk result (λ session.
+            session ≡ record { view = fresh settings peer; held = [] }) }
+    {
+        let held = Vec::new(alloc.clone()?);
+        let state = State::new(alloc, settings, peer)?;
+        Ok(Session { state, held })
+    }
+
+    /// What a new client is told, before any line comes.
+    pub fn greet<R: Drop, K: Drop>(&self) -> Result<Vec<Action<A, R, K>, A>, AllocError>
+        ensures row { IfOk result (λ actions.
+            Then self.now.view actions.items ≡ greeting self.now.view) }
+    {
+        greet(&self.state)
+    }
+
+    fn is_closed(&self) -> bool
+        ensures closed { result ≡ is_closed self.now.view.stage }
+    {
+        self.state.stage() == Stage::Closed
+    }
+
+    /// Whether lines count.
+    fn is_open(&self) -> bool
+        ensures open { result ≡ counts_lines self.now.view }
+    {
+        !self.is_closed() && self.state.control() == Control::Open
+    }
+
+    /// Whether the input `Held` takes a line.
+    pub fn held_due(&self) -> bool
+        ensures due { result ≡ is_due self.now.view self.now.held }
+    {
+        self.is_open() && !self.state.is_busy() && !self.held.is_empty()
+    }
+
+    fn nothing<R: Drop, K: Drop>(&self) -> Result<Vec<Action<A, R, K>, A>, AllocError>
+        ensures idle { IfOk result (λ actions. actions.items ≡ []) }
+    {
+        with_room(self.state.alloc()?, 0)
+    }
+
+    /// A line too many: the control connection is to be closed.
+    fn give_up<R: Drop, K: Drop>(&mut self) -> Result<Vec<Action<A, R, K>, A>, AllocError>
+        ensures row { IfOk result (λ actions.
+            Then self.new.view actions.items ≡ gives_up self.old.view) }
+        ensures held { self.new.held ≡ self.old.held }
+        ensures unchanged { OnErr result (self.new ≡ self.old) }
+    {
+        let mut actions = with_room(self.state.alloc()?, 3)?;
+        let refused = Answer::Refusal(Refusal::TooManyHeldLines);
+        put(&mut actions, Action::Say(refused));
+        put_abort(&mut actions, self.state.runs());
+        put(&mut actions, Action::CloseControl);
+        self.state.close();
+        Ok(actions)
+    }
+
+    /// A line that must wait, behind those that do; the 17th ends the control connection.
+    fn hold<R: Drop, K: Drop>(
+        &mut self,
+        item: LineItem<A>,
+    ) -> Result<Vec<Action<A, R, K>, A>, AllocError>
+        ensures row { IfOk result (λ actions.
+            IsTaken (holds self.old.view self.old.held (item_of item)) self.new actions.items) }
+        ensures unchanged { OnErr result (self.new ≡ self.old) }
+    {
+        if self.held.len() >= MOST_HELD {
+            return self.give_up();
+        }
+        let actions = self.nothing()?;
+        self.held.push(item)?;
+        Ok(actions)
+    }
+
+    /// A line while something has begun.
+    fn take_meanwhile<F: Allocator + Clone, S: Store<A>>(
+        &mut self,
+        users: &Authorizer<A>,
+        floors: &mut Floors<F>,
+        store: &mut S,
+        item: LineItem<A>,
+        moment: u64,
+    ) -> Result<Vec<Action<A, S::Source, S::Sink>, A>, AllocError>
+        ensures row { IfOk result (λ actions.
+            Took S.Step
+            (meanwhile users.now.users (admits floors.old) self.old.view self.old.held moment
+            (item_of item)) store.old store.new self.new actions.items) }
+        ensures unchanged { OnErr result (self.new ≡ self.old) }
+        ensures stops { OnErr result (
+            Stops {A = A} {R = S.Source} {K = S.Sink} S.Step
+            (meanwhile users.now.users (admits floors.old) self.old.view self.old.held moment
+            (item_of item)).plan store.old store.new) }
+        ensures uncounted { floors.new ≡ floors.old }
+    {
+        match turn_of(&item) {
+            Turn::AtOnce => {
+                let answer = serve(&mut self.state, users, floors, store, &item, moment);
+                drop(item);
+                answer
+            }
+            Turn::AtTheEnd => {
+                drop(item);
+                let actions = self.nothing()?;
+                self.state.await_quit();
+                Ok(actions)
+            }
+            Turn::Held => self.hold(item),
+        }
+    }
+
+    /// A line as it comes.
+    fn take_line<F: Allocator + Clone, S: Store<A>>(
+        &mut self,
+        users: &Authorizer<A>,
+        floors: &mut Floors<F>,
+        store: &mut S,
+        item: LineItem<A>,
+        moment: u64,
+    ) -> Result<Vec<Action<A, S::Source, S::Sink>, A>, AllocError>
+        ensures row { IfOk result (λ actions.
+            SessionStep S.Step users.now.users (admits floors.old) self.old.view self.old.held
+            moment (Line item) store.old store.new self.new.view self.new.held actions.items) }
+        ensures unchanged { OnErr result (self.new ≡ self.old) }
+        ensures stops { OnErr result (
+            SessionStops {A = A} {R = S.Source} {K = S.Sink} S.Step users.now.users
+            (admits floors.old) self.old.view self.old.held moment (Line item)
+            store.old store.new) }
+        ensures counted { OnOk result (
+            floors.new
+            ≡ counted_by_step {A = A} {K = S.Sink} users.now.users self.old.view self.old.held
+            (Line item) floors.old) }
+        ensures uncounted { OnErr result (floors.new ≡ floors.old) }
+    {
+        if !self.is_open() {
+            drop(item);
+            return self.nothing();
+        }
+        if self.state.is_busy() {
+            return self.take_meanwhile(users, floors, store, item, moment);
+        }
+        if !self.held.is_empty() {
+            return self.hold(item);
+        }
+        let answer = serve(&mut self.state, users, floors, store, &item, moment);
+        drop(item);
+        answer
+    }
+
+    /// The first of the lines that wait.
+    fn take_held<F: Allocator + Clone, S: Store<A>>(
+        &mut self,
+        users: &Authorizer<A>,
+        floors: &mut Floors<F>,
+        store: &mut S,
+        moment: u64,
+    ) -> Result<Vec<Action<A, S::Source, S::Sink>, A>, AllocError>
+        ensures row { IfOk result (λ actions.
+            SessionStep S.Step users.now.users (admits floors.old) self.old.view self.old.held
+            moment Held store.old store.new self.new.view self.new.held actions.items) }
+        ensures unchanged { OnErr result (self.new ≡ self.old) }
+        ensures stops { OnErr result (
+            SessionStops {A = A} {R = S.Source} {K = S.Sink} S.Step users.now.users
+            (admits floors.old) self.old.view self.old.held moment Held store.old store.new) }
+        ensures counted { OnOk result (
+            floors.new
+            ≡ counted_by_step {A = A} {K = S.Sink} users.now.users self.old.view self.old.held
+            Held floors.old) }
+        ensures uncounted { OnErr result (floors.new ≡ floors.old) }
+    {
+        if !self.held_due() {
+            return self.nothing();
+        }
+        let actions = serve(&mut self.state, users, floors, store, &self.held[0], moment)?;
+        drop(self.held.remove(0));
+        Ok(actions)
+    }
+
+    /// A passive port came, or none was free; behind CloseControl and Closed it counts no more.
+    fn take_port<R: Drop, K: Drop>(
+        &mut self,
+        users: &Authorizer<A>,
+        port: Option<u16>,
+    ) -> Result<Vec<Action<A, R, K>, A>, AllocError>
+        ensures row { IfOk result (λ actions.
+            Then self.new.view actions.items
+            ≡ ready_at users.now.users self.old.view port) }
+        ensures held { self.new.held ≡ self.old.held }
+        ensures unchanged { OnErr result (self.new ≡ self.old) }
+    {
+        if self.is_closed() || self.state.control() == Control::Closing {
+            return self.nothing();
+        }
+        take_port(&mut self.state, users, port)
+    }
+
+    /// The control connection is gone.
+    fn close<R: Drop, K: Drop>(&mut self) -> Result<Vec<Action<A, R, K>, A>, AllocError>
+        ensures row { IfOk result (λ actions.
+            Then self.new.view actions.items ≡ closed_at self.old.view) }
+        ensures held { self.new.held ≡ self.old.held }
+        ensures unchanged { OnErr result (self.new ≡ self.old) }
+    {
+        if self.is_closed() {
+            return self.nothing();
+        }
+        close(&mut self.state)
+    }
+
+    /// What an input makes of the session, and what is to be done: the row of the session table. The
+    /// moment is in milliseconds since 1970.
+    ///
+    /// `Err` is want of memory: the session and the floors are then as they were, and the store is as
+    /// looks at it, if any, leave it.
+    pub fn step<F: Allocator + Clone, S: Store<A>>(
+        &mut self,
+        users: &Authorizer<A>,
+        floors: &mut Floors<F>,
+        store: &mut S,
+        input: Input<A, S::Sink>,
+        moment: u64,
+    ) -> Result<Vec<Action<A, S::Source, S::Sink>, A>, AllocError>
+        ensures row { IfOk result (λ actions.
+            SessionStep S.Step users.now.users (admits floors.old) self.old.view self.old.held
+            moment input store.old store.new self.new.view self.new.held actions.items) }
+        ensures unchanged { OnErr result (self.new ≡ self.old) }
+        ensures stops { OnErr result (
+            SessionStops {A = A} {R = S.Source} {K = S.Sink} S.Step users.now.users
+            (admits floors.old) self.old.view self.old.held moment input store.old store.new) }
+        ensures counted { OnOk result (
+            floors.new
+            ≡ counted_by_step {A = A} {K = S.Sink} users.now.users self.old.view self.old.held
+            input floors.old) }
+        ensures uncounted { OnErr result (floors.new ≡ floors.old) }
+    {
+        match input {
+            Input::Line(item) => self.take_line(users, floors, store, item, moment),
+            Input::Held => self.take_held(users, floors, store, moment),
+            Input::TransferEnded { end, sink } => {
+                end_transfer(&mut self.state, users, store, end, sink, moment)
+            }
+            Input::DataReady(port) => self.take_port(users, port),
+            Input::Closed => self.close(),
+        }
+    }
+}

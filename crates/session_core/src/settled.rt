@@ -1,0 +1,77 @@
+//! The rows on the session alone: no store is asked.
+
+ghost use Rattle.std.specs.Prelude.{◌≡◌, ℕ, IfOk, OnErr, OnOk, [], false, option_map, unwrap_or};
+ghost use Rattle.std.specs.String.{string_bytes};
+ghost use Rattle.ftp_wire.specs.Commands.{with_texts};
+ghost use Rattle.rate_floors.specs.Promises.{admits};
+ghost use Rattle.session_core.specs.Counted.{counted_by_command};
+ghost use Rattle.session_core.specs.Turns.{asks_store};
+ghost use Rattle.session_table.specs.Judged.{Location};
+ghost use Rattle.session_table.specs.Plans.Plan.{Then};
+ghost use Rattle.session_table.specs.Table.{row};
+
+use authorizer::Authorizer;
+use ftp_wire::Command;
+use rate_floors::Floors;
+use session_login::{check_password, name_user, quit, reinitialize};
+use session_parameters::{
+    abort, connect_to, connect_to_extended, open_extended, open_passive, set_offset, set_option,
+    set_type, tell_directory, tell_features, tell_status,
+};
+use session_state::State;
+use session_table::{Action, Notice, Passive};
+use std::alloc::{AllocError, Allocator};
+
+fn text_or_none<A: Allocator>(text: &Option<String<A>>) -> &str
+    ensures text { result.now ≡ unwrap_or (option_map string_bytes text.now) [] }
+{
+    match text {
+        Some(text) => text.as_str(),
+        None => "",
+    }
+}
+
+/// The row of a command that asks no store.
+pub(crate) fn settle<A: Allocator + Clone, F: Allocator + Clone, R: Drop, K: Drop>(
+    state: &mut State<A>,
+    users: &Authorizer<A>,
+    floors: &mut Floors<F>,
+    command: &Command<String<A>>,
+) -> Result<Vec<Action<A, R, K>, A>, AllocError>
+    requires settled { asks_store (with_texts string_bytes command.now) ≡ false }
+    ensures row { IfOk result (λ actions. (moment : ℕ) (location : Location)
+        → Then state.new actions.items
+        ≡ row users.now.users (admits floors.old) state.old moment location
+        (with_texts string_bytes command.now)) }
+    ensures unchanged { OnErr result (state.new ≡ state.old) }
+    ensures counted { OnOk result (
+        floors.new
+        ≡ counted_by_command users.now.users state.old
+        (with_texts string_bytes command.now) floors.old) }
+    ensures uncounted { OnErr result (floors.new ≡ floors.old) }
+{
+    match command {
+        Command::User(name) => name_user(state, name.as_str()),
+        Command::Pass(text) => check_password(state, users, floors, text_or_none(text)),
+        Command::Quit => quit(state, users),
+        Command::Rein => reinitialize(state),
+        Command::Noop => state.note(Notice::Fine),
+        Command::Syst => state.note(Notice::System),
+        Command::Help(_) => state.note(Notice::Standards),
+        Command::Feat => tell_features(state),
+        Command::Opts(wanted) => set_option(state, *wanted),
+        Command::Allo(_) => state.note(Notice::NoAllocation),
+        Command::SetType(data_type) => set_type(state, *data_type),
+        Command::Mode => state.note(Notice::ModeIsStream),
+        Command::Stru => state.note(Notice::StructureIsFile),
+        Command::Rest(offset) => set_offset(state, *offset),
+        Command::Port(to) => connect_to(state, *to),
+        Command::Eprt(to) => connect_to_extended(state, *to),
+        Command::Pasv => open_passive(state, Passive::Plain),
+        Command::Epsv(wanted) => open_extended(state, *wanted),
+        Command::Pwd => tell_directory(state),
+        Command::Stat(None) => tell_status(state),
+        Command::Abor => abort(state),
+        _ => unreachable!(),
+    }
+}

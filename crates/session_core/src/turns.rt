@@ -1,0 +1,59 @@
+//! What becomes of a line, by its code alone.
+
+ghost use Rattle.std.specs.Prelude.{◌≡◌};
+ghost use Rattle.std.specs.String.{string_bytes};
+ghost use Rattle.ftp_wire.specs.Commands.{with_texts};
+ghost use Rattle.ftp_wire.specs.Reading.{item_of};
+ghost use Rattle.session_core.specs.Turns.{asks_store, turn_of};
+
+use ftp_wire::{Command, LineItem};
+use std::alloc::Allocator;
+
+/// Whether the row of a command asks the store.
+pub(crate) fn asks_store<A: Allocator>(command: &Command<String<A>>) -> bool
+    ensures asks { result ≡ asks_store (with_texts string_bytes command.now) }
+{
+    match command {
+        Command::Cwd(_)
+        | Command::Cdup
+        | Command::Mkd(_)
+        | Command::Rmd(_)
+        | Command::Dele(_)
+        | Command::Rnfr(_)
+        | Command::Rnto(_)
+        | Command::Size(_)
+        | Command::Mdtm(_)
+        | Command::Stat(Some(_))
+        | Command::Mlst(_)
+        | Command::List(_)
+        | Command::Nlst(_)
+        | Command::Mlsd(_)
+        | Command::Retr(_)
+        | Command::Stor(_)
+        | Command::Appe(_) => true,
+        _ => false,
+    }
+}
+
+/// What becomes of a line while something has begun.
+#[derive(Clone, Copy, Debug, PartialEq, Eq)]
+pub(crate) enum Turn {
+    /// ABOR, NOOP, and STAT without an argument are served at once.
+    AtOnce,
+    /// QUIT waits for the end, and behind it no line counts.
+    AtTheEnd,
+    /// All others are held.
+    Held,
+}
+
+pub(crate) fn turn_of<A: Allocator>(item: &LineItem<A>) -> Turn
+    ensures turn { result ≡ turn_of (item_of item.now) }
+{
+    match item {
+        LineItem::Command(Command::Abor)
+        | LineItem::Command(Command::Noop)
+        | LineItem::Command(Command::Stat(None)) => Turn::AtOnce,
+        LineItem::Command(Command::Quit) => Turn::AtTheEnd,
+        LineItem::Command(_) | LineItem::Fault(_) => Turn::Held,
+    }
+}

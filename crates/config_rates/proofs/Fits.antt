@@ -1,17 +1,15 @@
 -- Rows that tables state have no fault: their rates are in range, no number stands twice, and each group has a row.
-use Rattle.std.proofs.Common.{◌≡◌, ◌≢◌, ℕ, zero, suc, ◌+◌, ◌<◌, ◌≤◌, Bool, true, false, not, cond, ◌||◌, List, [], ◌∷◌, length, map, Option, Some, None, option_map, refl, sym, ap, subst, ◌∙◌, arith}
+use Rattle.std.proofs.Common.{◌≡◌, ◌≢◌, ℕ, ◌+◌, ◌<◌, ◌≤◌, Bool, true, false, not, cond, ◌||◌, List, [], ◌∷◌, length, map, Option, Some, None, option_map, refl, ap, ◌∙◌, arith}
 use Rattle.std.specs.Borrow.{Bor}
 use Rattle.std.specs.Option.{is_some}
 use Rattle.std.specs.Prelude.{nat_eq, nat_lt, count_by, bytes_eq}
 use Rattle.std.specs.FinMap as finite
 use Rattle.std.specs.List.{list_any}
-use Rattle.std.proofs.lemmas.Bool.{eqb-true, eq-eqb, ltb-true, le-ltb, false_from_ne_true}
+use Rattle.std.proofs.lemmas.Bool.{eqb-true, eq-eqb, le-ltb, false_from_ne_true}
 use Rattle.std.proofs.lemmas.List.Sums.{sum_by-cons}
 use Rattle.line_rates.specs.Stated as stated
 use Rattle.line_rates.specs.Stated.{is_too_large, has_large_group, has_large_user, has_twice, has_no_row, has_stray_user, by_number, limits_fault}
 use Rattle.line_rates.specs.declared.rate.TheConstants.{MAX_RATE}
-use Rattle.line_rates.specs.declared.row.GroupRate.{GroupRate}
-use Rattle.line_rates.specs.declared.row.UserRate.{UserRate}
 use Rattle.line_rates.proofs.RowLemmas.{first_row, get-by_number}
 use Rattle.config_server.specs.declared.stated.ServerTable.{ServerTable}
 use Rattle.config_tables.specs.declared.stated.GroupTable.{GroupTable}

@@ -1,9 +1,15 @@
 -- The numbers of groups: a group's number is its place in the file, from 0.
-use Rattle.std.specs.Prelude.{◌≡◌, ℕ, ◌+◌, ◌<◌, List, [], ◌∷◌, cond, length, bytes_eq, get_or, Option, Some, None, option_map, String}
+use Rattle.std.specs.Prelude.{◌≡◌, ◌≢◌, ◌≤◌, ◌<◌, ◌^◌, ◌⊎◌, ℕ, ◌+◌, List, [], ◌∷◌, cond, length, bytes_eq, get_or, Option, Some, None, option_map, String}
 use Rattle.std.specs.Borrow.{Bor}
+use Rattle.std.specs.List.{AllByRecursion}
 use Rattle.std.specs.BTreeMap.{BTreeMap, get_by_text}
 use Rattle.std.specs.declared.alloc.Global.{Global}
 use Rattle.config_tables.specs.declared.stated.GroupTable.{GroupTable}
+use Rattle.config_tables.specs.declared.stated.UserTable.{UserTable}
+use Rattle.config_rates.specs.declared.fault.GroupProblem.{GroupProblem}
+use Rattle.config_rates.specs.declared.fault.GroupProblem.TheVariants.{Twice, NoSuchGroup, NoNumber}
+use Rattle.config_rates.specs.declared.fault.RowsFault.{RowsFault}
+use Rattle.config_rates.specs.declared.fault.RowsFault.TheVariants.{Group, Memory}
 
 -- the number of the first group of a name
 abbrev pub number_named : List GroupTable → List ℕ → Option ℕ
@@ -30,3 +36,37 @@ number_by numbers name = get_by_text numbers name
 
 abbrev pub AreNumbers : List GroupTable → BTreeMap (String Global) ℕ → Type 0
 AreNumbers groups numbers = (name : List ℕ) → number_by numbers name ≡ number_named groups name
+
+-- ---- refusals
+
+abbrev pub AreGrouped : List GroupTable → List UserTable → Type 0
+AreGrouped groups users = AllByRecursion (λ user. HasGroup groups user.group) users
+
+-- what is wrong: two groups have one name, a user's group is none of them, or there are more than numbers
+abbrev pub IsProblem : List GroupTable → List UserTable → GroupProblem → Type 0
+IsProblem groups users Twice = AreApart groups → ⊥
+IsProblem groups users NoSuchGroup = AreGrouped groups users → ⊥
+IsProblem groups users NoNumber = (2 ^ 32 < length groups) ⊎ (2 ^ 32 < length users)
+
+abbrev pub IsFault : List GroupTable → List UserTable → RowsFault → Type 0
+IsFault groups users (Group place problem) = IsProblem groups users problem
+IsFault groups users Memory = Unit {0}
+
+-- the same of the group at a place, by the numbers of those before it
+abbrev pub IsFaultOfNext : BTreeMap (String Global) ℕ → ℕ → List ℕ → RowsFault → Type 0
+IsFaultOfNext numbers index name (Group place Twice) = number_by numbers name ≢ None
+IsFaultOfNext numbers index name (Group place NoNumber) = 2 ^ 32 ≤ index
+IsFaultOfNext numbers index name (Group place NoSuchGroup) = ⊥
+IsFaultOfNext numbers index name Memory = Unit {0}
+
+-- the same of the user at a place
+abbrev pub IsFaultOfUser : List GroupTable → ℕ → Option (Bor (List ℕ)) → RowsFault → Type 0
+IsFaultOfUser groups index name (Group place NoSuchGroup) = HasGroup groups name → ⊥
+IsFaultOfUser groups index name (Group place NoNumber) = 2 ^ 32 ≤ index
+IsFaultOfUser groups index name (Group place Twice) = ⊥
+IsFaultOfUser groups index name Memory = Unit {0}
+
+-- no number is left at a place
+abbrev pub IsNoNumber : ℕ → RowsFault → Type 0
+IsNoNumber index (Group place NoNumber) = 2 ^ 32 ≤ index
+IsNoNumber index _ = ⊥

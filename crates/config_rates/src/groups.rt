@@ -1,7 +1,10 @@
 //! The numbers of groups, by their names.
 
-ghost use Rattle.std.specs.Prelude.{◌≡◌, cond, IfOk, OnOk, Some, None, ℕ, List, bytes_eq};
-ghost use Rattle.config_rates.specs.Groups.{AreNumbers, AreApart, number_by};
+ghost use Rattle.std.specs.Prelude.{◌≡◌, cond, IfErr, IfOk, OnOk, Some, None, ℕ, List, bytes_eq};
+ghost use Rattle.config_rates.specs.declared.fault.RowsFault.TheVariants as RowsFault;
+ghost use Rattle.config_tables.specs.declared.fault.Place.{Place};
+ghost use Rattle.config_rates.specs.Groups.{AreNumbers, AreApart, IsFault, IsFaultOfNext, number_by};
+ghost use Rattle.config_tables.specs.declared.stated.UserTable.{UserTable};
 
 use crate::fault::{GroupProblem, RowsFault};
 use config_tables::{GroupTable, Place, TableName};
@@ -19,7 +22,9 @@ pub fn number_of(numbers: &Numbers, name: &str) -> Option<u32>
 }
 
 /// The fault of a group, whose place in the file counts from 0.
-fn fault_of<'a>(index: usize, group: &GroupTable<'a>, problem: GroupProblem) -> RowsFault<'a> {
+fn fault_of<'a>(index: usize, group: &GroupTable<'a>, problem: GroupProblem) -> RowsFault<'a>
+    ensures problem { (place : Place) × (result ≡ RowsFault.Group place problem) }
+{
     let place = Place {
         table: TableName::Group,
         row: index.saturating_add(1),
@@ -35,6 +40,7 @@ fn number_next<'a>(
     index: usize,
     group: &GroupTable<'a>,
 ) -> Result<(), RowsFault<'a>>
+    ensures refused { IfErr result (IsFaultOfNext numbers.old index group.now.name.now) }
     ensures first { OnOk result (number_by numbers.old group.now.name.now ≡ None) }
     ensures next { OnOk result ((name : List ℕ)
         → number_by numbers.new name ≡ cond (bytes_eq group.now.name.now name) (Some index) (number_by numbers.old name)) }
@@ -54,6 +60,7 @@ fn number_next<'a>(
 pub fn number_groups<'a>(alloc: Global, groups: &[GroupTable<'a>]) -> Result<Numbers, RowsFault<'a>>
     ensures numbers { IfOk result (AreNumbers groups.now) }
     ensures apart { OnOk result (AreApart groups.now) }
+    ensures refused { (users : List UserTable) → IfErr result (IsFault groups.now users) }
 {
     let mut numbers = BTreeMap::new(alloc);
     for (index, group) in groups.iter().enumerate() {

@@ -1,9 +1,11 @@
 //! A row of rates for each group and for each user.
 
-ghost use Rattle.std.specs.Prelude.{◌≡◌, IfOk, OnOk, List};
-ghost use Rattle.std.specs.List.{AllByRecursion};
+ghost use Rattle.std.specs.Prelude.{◌≡◌, IfErr, IfOk, OnOk, List};
 ghost use Rattle.config_tables.specs.declared.stated.GroupTable.{GroupTable};
-ghost use Rattle.config_rates.specs.Groups.{AreNumbers, AreApart, HasGroup, group_in};
+ghost use Rattle.config_rates.specs.Groups.{AreGrouped, AreNumbers, AreApart, HasGroup, IsFault, IsFaultOfUser, IsNoNumber, group_in};
+ghost use Rattle.config_rates.specs.declared.fault.RowsFault.TheVariants as RowsFault;
+ghost use Rattle.config_tables.specs.declared.fault.Place.{Place};
+ghost use Rattle.config_tables.specs.declared.stated.UserTable.{UserTable};
 ghost use Rattle.config_rates.specs.Rows.{group_row, user_row, group_rows, user_rows};
 
 use crate::fault::{GroupProblem, RowsFault};
@@ -25,7 +27,9 @@ fn fault_of<'a>(
     index: usize,
     name: &'a str,
     problem: GroupProblem,
-) -> RowsFault<'a> {
+) -> RowsFault<'a>
+    ensures problem { (place : Place) × (result ≡ RowsFault.Group place problem) }
+{
     let place = Place {
         table,
         row: index.saturating_add(1),
@@ -37,6 +41,7 @@ fn fault_of<'a>(
 /// The number of the row at a place of the file.
 fn row_number<'a>(table: TableName, index: usize, name: &'a str) -> Result<u32, RowsFault<'a>>
     ensures number { IfOk result (λ number. number ≡ index) }
+    ensures refused { IfErr result (IsNoNumber index) }
 {
     match u32::try_from(index) {
         Ok(number) => Ok(number),
@@ -49,6 +54,7 @@ fn read_groups<'a>(
     groups: &[GroupTable<'a>],
 ) -> Result<Vec<GroupRate>, RowsFault<'a>>
     ensures rows { IfOk result (λ rows. rows.items ≡ group_rows groups.now) }
+    ensures refused { (users : List UserTable) → IfErr result (IsFault groups.now users) }
 {
     let mut rows = Vec::new(alloc);
     for (index, group) in groups.iter().enumerate() {
@@ -68,7 +74,10 @@ fn group_of<'a>(
     user: &UserTable<'a>,
 ) -> Result<Option<u32>, RowsFault<'a>>
     ensures group { (groups : List GroupTable) → AreNumbers groups numbers.now → IfOk result (λ group. group ≡ group_in groups user.now.group) }
-    ensures has { (groups : List GroupTable) → AreNumbers groups numbers.now → OnOk result (HasGroup groups user.now.group) }
+    ensures has { (groups : List GroupTable) → AreNumbers groups numbers.now
+        → OnOk result (HasGroup groups user.now.group) }
+    ensures refused { (groups : List GroupTable) → AreNumbers groups numbers.now
+        → IfErr result (IsFaultOfUser groups index user.now.group) }
 {
     let Some(name) = user.group else {
         return Ok(None);
@@ -86,7 +95,10 @@ fn read_user<'a>(
     user: &UserTable<'a>,
 ) -> Result<UserRate, RowsFault<'a>>
     ensures row { (groups : List GroupTable) → AreNumbers groups numbers.now → IfOk result (λ row. row ≡ user_row groups index user.now) }
-    ensures has { (groups : List GroupTable) → AreNumbers groups numbers.now → OnOk result (HasGroup groups user.now.group) }
+    ensures has { (groups : List GroupTable) → AreNumbers groups numbers.now
+        → OnOk result (HasGroup groups user.now.group) }
+    ensures refused { (groups : List GroupTable) → AreNumbers groups numbers.now
+        → IfErr result (IsFaultOfUser groups index user.now.group) }
 {
     let group = group_of(numbers, index, user)?;
     let number = row_number(TableName::User, index, user.name)?;
@@ -109,7 +121,9 @@ fn read_users<'a>(
 ) -> Result<Vec<UserRate>, RowsFault<'a>>
     ensures rows { (groups : List GroupTable) → AreNumbers groups numbers.now → IfOk result (λ rows. rows.items ≡ user_rows groups users.now) }
     ensures grouped { (groups : List GroupTable) → AreNumbers groups numbers.now
-        → OnOk result (AllByRecursion (λ user. HasGroup groups user.group) users.now) }
+        → OnOk result (AreGrouped groups users.now) }
+    ensures refused { (groups : List GroupTable) → AreNumbers groups numbers.now
+        → IfErr result (IsFault groups users.now) }
 {
     let mut rows = Vec::new(alloc);
     for (index, user) in users.iter().enumerate() {
@@ -129,7 +143,8 @@ pub fn read_rows<'a>(
     ensures groups { IfOk result (λ rows. rows.groups.items ≡ group_rows groups.now) }
     ensures users { IfOk result (λ rows. rows.users.items ≡ user_rows groups.now users.now) }
     ensures apart { OnOk result (AreApart groups.now) }
-    ensures grouped { OnOk result (AllByRecursion (λ user. HasGroup groups.now user.group) users.now) }
+    ensures grouped { OnOk result (AreGrouped groups.now users.now) }
+    ensures refused { IfErr result (IsFault groups.now users.now) }
 {
     let numbers = number_groups(alloc, groups)?;
     let rows = read_groups(alloc, groups)?;

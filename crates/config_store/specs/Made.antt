@@ -1,9 +1,10 @@
 -- What is served: a folder, or what the calls of a store in memory leave that make the directories and files of a file's
 -- tables, one after another.
-use Rattle.std.specs.Prelude.{◌≡◌, ◌≢◌, ℕ, ◌*◌, List, [], ◌∷◌, Some, Ok, codes}
+use Rattle.std.specs.Prelude.{◌≡◌, ◌≢◌, ◌<◌, ◌≤◌, ◌⊎◌, ℕ, ◌*◌, List, [], ◌∷◌, take, slice_get, Some, Ok, Err, codes}
 use Rattle.std.specs.FinMap as map
 use Rattle.std.specs.String.{string_bytes}
 use Rattle.virtual_path.specs.Path.{Path, resolved}
+use Rattle.virtual_path.specs.declared.fault.PathFault.TheVariants as PathFault
 use Rattle.virtual_tree.specs.Calls.{Writes}
 use Rattle.virtual_tree.specs.Calls.Exchange.{OpenWrite, Finish, MakeDir}
 use Rattle.memory_store.specs.InMemory.{Memory, Upload, InMemory, target_of}
@@ -11,6 +12,11 @@ use Rattle.virtual_tree.specs.declared.mode.WriteMode.TheVariants.{New}
 use Rattle.config_server.specs.declared.stated.ServerTable.{ServerTable}
 use Rattle.config_tables.specs.declared.stated.DirTable.{DirTable}
 use Rattle.config_tables.specs.declared.stated.FileTable.{FileTable}
+use Rattle.virtual_tree.specs.declared.fault.StoreFault.{StoreFault}
+use Rattle.config_store.specs.declared.fault.StoreFaultAt.{StoreFaultAt}
+use Rattle.config_store.specs.declared.fault.StoreFaultAt.TheVariants as fault
+use Rattle.config_store.specs.declared.fault.StoreProblem.{StoreProblem}
+use Rattle.config_store.specs.declared.fault.StoreProblem.TheVariants as problem
 use Rattle.config_store.specs.declared.store.ServedStore.{ServedStore}
 use Rattle.config_store.specs.declared.store.ServedStore.TheVariants as served
 
@@ -44,3 +50,58 @@ abbrev pub IsStoreOf : ServerTable → List DirTable → List FileTable → Serv
 IsStoreOf server dirs files (served.Memory store) = (server.root.now ≡ codes "memory")
     × ((made : Memory) × MakesAll MakesDir dirs (empty_store server.capacity) made × MakesAll MakesFile files made store)
 IsStoreOf server dirs files (served.Folder text) = (server.root.now ≢ codes "memory") × (string_bytes text ≡ server.root.now)
+
+-- ---- refusals
+
+-- the text names no path
+abbrev pub IsPathProblem : List ℕ → StoreProblem → Type 0
+IsPathProblem text (problem.Path fault) = fault ≢ PathFault.Memory → resolved [] text ≡ Err fault
+IsPathProblem text _ = ⊥
+
+-- the text names no path, or the store refuses to make the directory
+abbrev pub IsDirProblem : DirTable → Memory → StoreProblem → Type 0
+IsDirProblem dir old problem.EmptyRange = ⊥
+IsDirProblem dir old (problem.Path fault) = fault ≢ PathFault.Memory → resolved [] dir.path.now ≡ Err fault
+IsDirProblem dir old (problem.Store fault) = fault ≢ StoreFault.Memory
+    → (path : Path) × (after : Memory) × (resolved [] dir.path.now ≡ Ok path) × InMemory old (MakeDir path (Err fault)) after
+
+-- the file is not opened; or it is, and it is not finished
+abbrev pub IsNotFilled : Path → List ℕ → ℕ → Memory → StoreFault → Type 0
+IsNotFilled path text moment old fault =
+    ((after : Memory) × InMemory old (OpenWrite path New moment (Err fault)) after)
+    ⊎ ((opened after : Memory) × (given brought : Upload) × InMemory old (OpenWrite path New moment (Ok given)) opened
+    × Writes (λ upload. Some (target_of upload)) (λ upload. Some upload.octets) given (text ∷ []) brought
+    × InMemory opened (Finish brought moment (Err fault)) after)
+
+-- the text names no path, or the store refuses to make the file
+abbrev pub IsFileProblem : FileTable → Memory → StoreProblem → Type 0
+IsFileProblem file old problem.EmptyRange = ⊥
+IsFileProblem file old (problem.Path fault) = fault ≢ PathFault.Memory → resolved [] file.path.now ≡ Err fault
+IsFileProblem file old (problem.Store fault) = fault ≢ StoreFault.Memory
+    → (path : Path) × (resolved [] file.path.now ≡ Ok path) × IsNotFilled path file.text.now (file.modified * 1000) old fault
+
+-- the rows before one are made, and that one is refused
+pub record IsRefusedRow {R : Type 0} (Makes : R → Memory → Memory → Type 0) (Refuses : R → Memory → StoreProblem → Type 0) (rows : List R) (old : Memory) (problem : StoreProblem) : Type 0 where
+  pub place : ℕ
+  pub row : R
+  pub mid : Memory
+  pub stands : slice_get rows place ≡ Some row
+  pub before : MakesAll Makes (take place rows) old mid
+  pub refused : Refuses row mid problem
+
+-- a directory is refused, or else a file is
+abbrev pub IsNotMade : ServerTable → List DirTable → List FileTable → StoreProblem → Type 0
+IsNotMade server dirs files told =
+    IsRefusedRow MakesDir IsDirProblem dirs (empty_store server.capacity) told
+    ⊎ ((made : Memory) × MakesAll MakesDir dirs (empty_store server.capacity) made × IsRefusedRow MakesFile IsFileProblem files made told)
+
+-- the range of ports is empty; or else it is not, and a store in memory is not made
+abbrev pub IsStoreProblem : ServerTable → List DirTable → List FileTable → StoreProblem → Type 0
+IsStoreProblem server dirs files told =
+    ((told ≡ problem.EmptyRange) × (server.passive_last < server.passive_first))
+    ⊎ ((server.passive_first ≤ server.passive_last) × (server.root.now ≡ codes "memory") × IsNotMade server dirs files told)
+
+-- the problem is told, unless memory ran out
+abbrev pub Tells : (StoreProblem → Type 0) → StoreFaultAt → Type 0
+Tells Refuses (fault.Refused place told) = Refuses told
+Tells Refuses fault.Memory = Unit {0}

@@ -1,8 +1,10 @@
 //! A store with the directories and files of a configuration.
 
-ghost use Rattle.std.specs.Prelude.{◌≡◌, ◌≤◌, [], IfOk, OnOk, Ok};
+ghost use Rattle.std.specs.Prelude.{◌≡◌, ◌≢◌, ◌≤◌, [], Err, IfErr, IfOk, OnOk, Ok};
 ghost use Rattle.virtual_path.specs.Path.{resolved};
 ghost use Rattle.config_store.specs.Made.{MakesDir, MakesFile, MakesAll, IsFilled, IsStoreOf};
+ghost use Rattle.config_store.specs.Made.{IsDirProblem, IsFileProblem, IsNotFilled, IsRefusedRow, IsStoreProblem, Tells, IsPathProblem};
+ghost use Rattle.virtual_tree.specs.declared.fault.StoreFault.TheVariants as StoreFault;
 
 use crate::fault::{StoreFaultAt, StoreProblem};
 use config_server::ServerTable;
@@ -24,6 +26,7 @@ pub enum ServedStore {
 /// The path that a text names from the root.
 fn path_of(alloc: Global, text: &str) -> Result<VPath, StoreProblem>
     ensures path { IfOk result (λ path. resolved [] text.now ≡ Ok path) }
+    ensures refused { IfErr result (IsPathProblem text.now) }
 {
     let root = VPath::root(alloc);
     match root.resolve(alloc, text) {
@@ -34,6 +37,7 @@ fn path_of(alloc: Global, text: &str) -> Result<VPath, StoreProblem>
 
 fn make_dir(alloc: Global, store: &mut MemStore, dir: &DirTable) -> Result<(), StoreProblem>
     ensures made { OnOk result (MakesDir dir.now store.old store.new) }
+    ensures refused { IfErr result (IsDirProblem dir.now store.old) }
 {
     let path = path_of(alloc, dir.path)?;
     match store.make_dir(&path) {
@@ -45,6 +49,8 @@ fn make_dir(alloc: Global, store: &mut MemStore, dir: &DirTable) -> Result<(), S
 /// Puts a text into a file at a moment, in milliseconds since 1970.
 fn put_text(store: &mut MemStore, path: &VPath, text: &str, moment: u64) -> Result<(), StoreFault>
     ensures filled { OnOk result (IsFilled path.now text.now moment store.old store.new) }
+    ensures refused { IfErr result (λ fault. fault ≢ StoreFault.Memory
+        → IsNotFilled path.now text.now moment store.old fault) }
 {
     let mut sink = store.open_write(path, WriteMode::New, moment)?;
     sink.write(text.as_bytes())?;
@@ -53,6 +59,7 @@ fn put_text(store: &mut MemStore, path: &VPath, text: &str, moment: u64) -> Resu
 
 fn make_file(alloc: Global, store: &mut MemStore, file: &FileTable) -> Result<(), StoreProblem>
     ensures made { OnOk result (MakesFile file.now store.old store.new) }
+    ensures refused { IfErr result (IsFileProblem file.now store.old) }
 {
     let path = path_of(alloc, file.path)?;
     match put_text(store, &path, file.text, file.modified * 1000) {
@@ -62,7 +69,9 @@ fn make_file(alloc: Global, store: &mut MemStore, file: &FileTable) -> Result<()
 }
 
 /// The refusal of a row, whose place among those of its kind counts from 0.
-fn refused<'a>(table: TableName, index: usize, problem: StoreProblem) -> StoreFaultAt<'a> {
+fn refused<'a>(table: TableName, index: usize, problem: StoreProblem) -> StoreFaultAt<'a>
+    ensures told { Tells (λ told. told ≡ problem) result }
+{
     match problem {
         StoreProblem::Path(PathFault::Memory) | StoreProblem::Store(StoreFault::Memory) => {
             StoreFaultAt::Memory
@@ -84,6 +93,8 @@ fn make_dirs<'a>(
     dirs: &[DirTable],
 ) -> Result<(), StoreFaultAt<'a>>
     ensures made { OnOk result (MakesAll MakesDir dirs.now store.old store.new) }
+    ensures refused { IfErr result (Tells
+        (IsRefusedRow MakesDir IsDirProblem dirs.now store.old)) }
 {
     for (index, dir) in dirs.iter().enumerate() {
         match make_dir(alloc, store, dir) {
@@ -100,6 +111,8 @@ fn make_files<'a>(
     files: &[FileTable],
 ) -> Result<(), StoreFaultAt<'a>>
     ensures made { OnOk result (MakesAll MakesFile files.now store.old store.new) }
+    ensures refused { IfErr result (Tells
+        (IsRefusedRow MakesFile IsFileProblem files.now store.old)) }
 {
     for (index, file) in files.iter().enumerate() {
         match make_file(alloc, store, file) {
@@ -120,6 +133,7 @@ pub fn make_store<'a>(
 ) -> Result<ServedStore, StoreFaultAt<'a>>
     ensures range { OnOk result (server.now.passive_first ≤ server.now.passive_last) }
     ensures store { IfOk result (IsStoreOf server.now dirs.now files.now) }
+    ensures refused { IfErr result (Tells (IsStoreProblem server.now dirs.now files.now)) }
 {
     if server.passive_last < server.passive_first {
         let place = Place {

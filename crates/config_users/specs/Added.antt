@@ -1,12 +1,16 @@
 -- How the users of a file are added: in its order, each by the changes of users that the authorizer's calls stand for.
-use Rattle.std.specs.Prelude.{◌≡◌, ℕ, List, [], ◌∷◌, Option, Ok, Vec}
+use Rattle.std.specs.Prelude.{◌≡◌, ◌⊎◌, ℕ, List, [], ◌∷◌, take, slice_get, Option, Some, Ok, Err, Vec}
 use Rattle.std.specs.declared.alloc.Global.{Global}
+use Rattle.authorizer.specs.Numbers.{no_users}
 use Rattle.authorizer.specs.Users.{Accounts}
+use Rattle.authorizer.specs.declared.fault.AuthorizerFault.{AuthorizerFault}
 use Rattle.authorizer.specs.Changes.{added, overridden, with_messages, with_group}
 use Rattle.config_rates.specs.Groups.{group_in}
 use Rattle.config_tables.specs.declared.stated.GroupTable.{GroupTable}
 use Rattle.config_tables.specs.declared.stated.UserTable.{UserTable}
 use Rattle.config_tables.specs.declared.stated.OverrideTable.{OverrideTable}
+use Rattle.config_users.specs.declared.fault.UsersFault.{UsersFault}
+use Rattle.config_users.specs.declared.fault.UsersFault.TheVariants.{Refused, Memory}
 
 -- an override of a user
 abbrev pub AddsRule : List ℕ → OverrideTable → Accounts → Accounts → Type 0
@@ -35,3 +39,44 @@ AddsUsers groups [] [] old new = new ≡ old
 AddsUsers groups (user ∷ users) (rules ∷ more) old new =
     (next : Accounts) × AddsUser (group_in groups user.group) user rules.items old next × AddsUsers groups users more next new
 AddsUsers groups _ _ old new = ⊥
+
+-- ---- refusals
+
+-- the overrides before one are made, and that one is refused
+pub record IsRefusedRule (name : List ℕ) (rules : List OverrideTable) (old : Accounts) (fault : AuthorizerFault) : Type 0 where
+  pub place : ℕ
+  pub rule : OverrideTable
+  pub mid : Accounts
+  pub stands : slice_get rules place ≡ Some rule
+  pub before : AddsRules name (take place rules) old mid
+  pub refused : overridden mid name rule.path.now rule.perms.now rule.recursive ≡ Err fault
+
+-- a user is refused; or else the messages are; or else the group is
+abbrev pub IsRefusedAccount : Option ℕ → UserTable → Accounts → AuthorizerFault → Type 0
+IsRefusedAccount group user old fault =
+    (added old user.name.now user.password.now user.home.now user.perms.now ≡ Err fault)
+    ⊎ ((named : Accounts) × (added old user.name.now user.password.now user.home.now user.perms.now ≡ Ok named)
+    × ((with_messages named user.name.now user.msg_login.now user.msg_quit.now ≡ Err fault)
+    ⊎ ((greeted : Accounts) × (with_messages named user.name.now user.msg_login.now user.msg_quit.now ≡ Ok greeted)
+    × (with_group greeted user.name.now group ≡ Err fault))))
+
+-- the user is refused, or else an override is
+abbrev pub IsRefusedUser : Option ℕ → UserTable → List OverrideTable → Accounts → AuthorizerFault → Type 0
+IsRefusedUser group user rules old fault =
+    IsRefusedAccount group user old fault ⊎ ((next : Accounts) × AddsAccount group user old next × IsRefusedRule user.name.now rules next fault)
+
+-- the users before one are added, and that one is refused
+pub record IsFirstRefusal (groups : List GroupTable) (users : List UserTable) (overrides : List (Vec OverrideTable Global)) (fault : AuthorizerFault) : Type 0 where
+  pub place : ℕ
+  pub user : UserTable
+  pub rules : Vec OverrideTable Global
+  pub mid : Accounts
+  pub stands : slice_get users place ≡ Some user
+  pub has : slice_get overrides place ≡ Some rules
+  pub before : AddsUsers groups (take place users) (take place overrides) no_users mid
+  pub refused : IsRefusedUser (group_in groups user.group) user rules.items mid fault
+
+-- the refusal of the authorizer is told, unless memory ran out
+abbrev pub Tells : (AuthorizerFault → Type 0) → UsersFault → Type 0
+Tells Refuses (Refused place fault) = Refuses fault
+Tells Refuses Memory = Unit {0}

@@ -1,10 +1,13 @@
 //! An authorizer with the users of a file.
 
-ghost use Rattle.std.specs.Prelude.{◌≡◌, IfOk, OnOk, List, length};
+ghost use Rattle.std.specs.Prelude.{◌≡◌, ◌≢◌, Err, IfErr, IfOk, OnOk, List, length};
 ghost use Rattle.authorizer.specs.Numbers.{no_users};
 ghost use Rattle.config_rates.specs.Rows.{user_rows};
 ghost use Rattle.config_tables.specs.declared.stated.GroupTable.{GroupTable};
 ghost use Rattle.config_users.specs.Added.{AddsRule, AddsRules, AddsAccount, AddsUser, AddsUsers};
+ghost use Rattle.authorizer.specs.declared.fault.AuthorizerFault.TheVariants as AuthorizerFault;
+ghost use Rattle.config_users.specs.Added.{IsRefusedRule, IsRefusedAccount, IsRefusedUser, IsFirstRefusal, Tells};
+ghost use Rattle.authorizer.specs.Changes.{overridden};
 
 use crate::fault::UsersFault;
 use authorizer::{Authorizer, AuthorizerFault};
@@ -18,7 +21,9 @@ fn refused<'a>(
     index: usize,
     name: &'a str,
     fault: AuthorizerFault,
-) -> UsersFault<'a> {
+) -> UsersFault<'a>
+    ensures told { Tells (λ told. (told ≡ fault) × (fault ≢ AuthorizerFault.Memory)) result }
+{
     if fault == AuthorizerFault::Memory {
         return UsersFault::Memory;
     }
@@ -37,6 +42,8 @@ fn add_account(
     group: Option<u32>,
 ) -> Result<(), AuthorizerFault>
     ensures account { OnOk result (AddsAccount group user.now users.old users.new) }
+    ensures refused { IfErr result (λ fault. fault ≢ AuthorizerFault.Memory
+        → IsRefusedAccount group user.now users.old fault) }
 {
     users.add_user(user.name, user.password, user.home, user.perms)?;
     users.set_messages(user.name, user.msg_login, user.msg_quit)?;
@@ -45,6 +52,9 @@ fn add_account(
 
 fn add_rule(users: &mut Authorizer, name: &str, rule: &OverrideTable) -> Result<(), AuthorizerFault>
     ensures rule { OnOk result (AddsRule name.now rule.now users.old users.new) }
+    ensures refused { IfErr result (λ fault. fault ≢ AuthorizerFault.Memory
+        → overridden users.old name.now rule.now.path.now rule.now.perms.now rule.now.recursive
+        ≡ Err fault) }
 {
     users.override_perm(name, rule.path, rule.perms, rule.recursive)
 }
@@ -56,6 +66,7 @@ fn add_rules<'a>(
     rules: &[OverrideTable<'a>],
 ) -> Result<(), UsersFault<'a>>
     ensures rules { OnOk result (AddsRules name.now rules.now users.old users.new) }
+    ensures refused { IfErr result (Tells (IsRefusedRule name.now rules.now users.old)) }
 {
     for (index, rule) in rules.iter().enumerate() {
         match add_rule(users, name, rule) {
@@ -75,6 +86,7 @@ fn add_user<'a>(
     group: Option<u32>,
 ) -> Result<(), UsersFault<'a>>
     ensures user { OnOk result (AddsUser group user.now rules.now users.old users.new) }
+    ensures refused { IfErr result (Tells (IsRefusedUser group user.now rules.now users.old)) }
 {
     match add_account(users, user, group) {
         Ok(()) => add_rules(users, user.name, rules),
@@ -94,6 +106,8 @@ pub fn make_users<'a>(
     requires rows { length rows.now ≡ length users.now }
     ensures users { (groups : List GroupTable) → rows.now ≡ user_rows groups users.now
         → IfOk result (AddsUsers groups users.now overrides.now no_users) }
+    ensures refused { (groups : List GroupTable) → rows.now ≡ user_rows groups users.now
+        → IfErr result (Tells (IsFirstRefusal groups users.now overrides.now)) }
 {
     let mut authorizer = Authorizer::new(alloc)?;
     for (index, user) in users.iter().enumerate() {

@@ -7,11 +7,15 @@ use ftp_terms::Kind;
 use machine_files::fault_of;
 use std::fs;
 use std::fs::OpenOptions;
+use std::os::fd::AsRawFd;
 use std::rt::Files;
 use virtual_path::VPath;
 use virtual_tree::StoreFault;
 
-impl<R: Files + Alloc + Clone + Drop> Folder<R> {
+impl<R: Files + Alloc + Clone + Drop> Folder<R>
+where
+    R::File: AsRawFd,
+{
     /// Makes an empty directory.
     pub fn make_directory(&self, path: &VPath<R::A>) -> Result<(), StoreFault>
         ensures full { NeverFull result }
@@ -20,7 +24,7 @@ impl<R: Files + Alloc + Clone + Drop> Folder<R> {
             return Err(StoreFault::Exists);
         }
         let place = self.place(path)?;
-        fs::create_dir(&self.rt, place.as_str()).map_err(|error| fault_of(&error))
+        fs::create_dir(&self.rt, place.text()).map_err(|error| fault_of(&error))
     }
 
     /// Removes an empty directory.
@@ -31,19 +35,20 @@ impl<R: Files + Alloc + Clone + Drop> Folder<R> {
             return Err(StoreFault::NotEmpty);
         }
         let place = self.found(path)?;
-        let meta = self.look(place.as_str())?;
+        let meta = self.look(place.text())?;
         if meta.kind == Kind::File {
             return Err(StoreFault::NotDir);
         }
-        fs::remove_dir(&self.rt, place.as_str()).map_err(|error| fault_of(&error))
+        fs::remove_dir(&self.rt, place.text()).map_err(|error| fault_of(&error))
     }
 
     /// Removes a file.
     pub fn remove_file(&self, path: &VPath<R::A>) -> Result<(), StoreFault>
         ensures full { NeverFull result }
     {
-        let (place, _looked) = self.file_at(path)?;
-        fs::remove_file(&self.rt, place.as_str()).map_err(|error| fault_of(&error))
+        let place = self.found_file(path)?;
+        let _looked = self.look_file(place.text())?;
+        fs::remove_file(&self.rt, place.text()).map_err(|error| fault_of(&error))
     }
 
     /// Gives an entry another place, where nothing stands.
@@ -54,14 +59,14 @@ impl<R: Files + Alloc + Clone + Drop> Folder<R> {
             return Err(StoreFault::Inside);
         }
         let old = self.found(from)?;
-        let meta = self.look(old.as_str())?;
+        let meta = self.look(old.text())?;
         let new = self.place(to)?;
-        self.nothing_at(new.as_str())?;
+        self.nothing_at(new.text())?;
         if to.starts_with(from) {
             return Err(StoreFault::Inside);
         }
-        self.reserve(meta.kind, new.as_str())?;
-        self.replace(meta.kind, old.as_str(), new.as_str())
+        self.reserve(meta.kind, new.text())?;
+        self.replace(meta.kind, old.text(), new.text())
     }
 
     /// Makes an empty entry, where nothing stands, so that the machine's rename replaces just this one.

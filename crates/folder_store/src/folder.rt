@@ -1,14 +1,16 @@
 //! Where entries stand in a folder of the machine, and what is found there.
 
-ghost use Rattle.std.specs.Prelude.{◌≡◌, ◌++◌, IfOk, string_bytes};
-ghost use Rattle.virtual_path.specs.Path.{slashed};
+ghost use Rattle.std.specs.Prelude.{◌≡◌, ◌⊎◌, ◌++◌, ◌∷◌, [], map, IfOk, OnOk, string_bytes};
+ghost use Rattle.machine_files.specs.Places.{IsOpenText};
 ghost use Rattle.machine_files.specs.Refusals.{NeverFull};
+ghost use Rattle.folder_store.specs.Places.{LeadsTo};
 
 use ftp_terms::{Kind, Meta};
-use machine_files::{fault_of, meta_of};
-use std::fs;
+use machine_files::{Place, enter, fault_of, meta_of};
 use std::fs::Metadata;
+use std::os::fd::AsRawFd;
 use std::rt::Files;
+use std::{fs, io};
 use virtual_path::VPath;
 use virtual_tree::StoreFault;
 
@@ -19,18 +21,77 @@ pub struct Folder<R: Files + Alloc + Clone + Drop> {
     pub path: String<R::A>,
 }
 
-impl<R: Files + Alloc + Clone + Drop> Folder<R> {
-    /// Looks at each name above a path: it has to be that of a directory, and no link.
-    ///
-    /// Where the entry right above is a file the fault is `NotDir`; where nothing can stand, `NotFound`.
-    fn look_above(&self, path: &VPath<R::A>) -> Result<(), StoreFault>
+/// What the machine tells of an entry, or why it tells nothing.
+fn told(answer: io::Result<Metadata>) -> Result<Metadata, StoreFault>
+    ensures full { NeverFull result }
+{
+    answer.map_err(|error| fault_of(&error))
+}
+
+/// What is known of a directory or a file; anything else is not found.
+fn known(metadata: &Metadata) -> Result<Meta, StoreFault>
+    ensures full { NeverFull result }
+{
+    meta_of(metadata).ok_or(StoreFault::NotFound)
+}
+
+impl<R: Files + Alloc + Clone + Drop> Folder<R>
+where
+    R::File: AsRawFd,
+{
+    /// What the machine tells of the folder itself, which may be reached through a link.
+    fn itself(&self) -> Result<Metadata, StoreFault>
         ensures full { NeverFull result }
     {
-        let mut names = path.names(self.rt.alloc())?;
-        let _last = names.pop();
-        let mut place = String::from_str(self.rt.alloc(), self.path.as_str())?;
+        told(fs::metadata(&self.rt, self.path.as_str()))
+    }
+
+    /// What the machine tells of an entry, which is followed no further where it is a link.
+    fn tells(&self, place: &str) -> Result<Metadata, StoreFault>
+        ensures full { NeverFull result }
+    {
+        told(fs::symlink_metadata(&self.rt, place))
+    }
+
+    /// The folder, entered.
+    fn top(&self) -> Result<Place<R::File, R::A>, StoreFault>
+        ensures full { NeverFull result }
+        ensures place { IfOk result (LeadsTo (string_bytes self.now.path) []) }
+    {
+        let looked = self.itself()?;
+        let mut place = Place::named(self.rt.alloc(), self.path.as_str())?;
+        enter(&self.rt, &mut place, &looked)?;
+        Ok(place)
+    }
+
+    /// Goes one name further, and enters the directory that stands there. Answers whether a file
+    /// stands there.
+    fn step(&self, place: &mut Place<R::File, R::A>, name: &str) -> Result<bool, StoreFault>
+        ensures full { NeverFull result }
+        ensures place { OnOk result (IsOpenText place.new ⊎ (place.new ≡ place.old ++ 47 ∷ name.now)) }
+    {
+        place.push(name)?;
+        let looked = self.tells(place.text())?;
+        let meta = known(&looked)?;
+        if meta.kind == Kind::File {
+            return Ok(true);
+        }
+        enter(&self.rt, place, &looked)?;
+        Ok(false)
+    }
+
+    /// The directory to which these names lead, each of which has to be that of a directory, and no
+    /// link.
+    ///
+    /// Where the last is that of a file the fault is `NotDir`; where nothing can stand, `NotFound`.
+    pub fn directory(&self, names: &[&str]) -> Result<Place<R::File, R::A>, StoreFault>
+        ensures full { NeverFull result }
+        ensures place { IfOk result
+            (LeadsTo (string_bytes self.now.path) (map (λ name. name.now) names.now)) }
+    {
+        let mut place = self.top()?;
         let mut is_file = false;
-        for name in &names {
+        for name in names {
             if is_file {
                 return Err(StoreFault::NotFound);
             }
@@ -39,37 +100,36 @@ impl<R: Files + Alloc + Clone + Drop> Folder<R> {
         if is_file {
             return Err(StoreFault::NotDir);
         }
-        Ok(())
-    }
-
-    /// Goes one name further, and answers whether a file stands there.
-    fn step(&self, place: &mut String<R::A>, name: &str) -> Result<bool, StoreFault>
-        ensures full { NeverFull result }
-    {
-        place.push('/')?;
-        place.push_str(name)?;
-        let meta = self.look(place.as_str())?;
-        Ok(meta.kind == Kind::File)
-    }
-
-    /// The machine's path of an entry, where each name above it is that of a directory.
-    pub fn place(&self, path: &VPath<R::A>) -> Result<String<R::A>, StoreFault>
-        ensures full { NeverFull result }
-        ensures place { IfOk result (λ place. string_bytes place ≡ string_bytes self.now.path ++ slashed path.now) }
-    {
-        self.look_above(path)?;
-        let mut place = String::from_str(self.rt.alloc(), self.path.as_str())?;
-        if path.is_root() {
-            return Ok(place);
-        }
-        place.push_str(path.text())?;
         Ok(place)
     }
 
-    /// The machine's path of what is to be found, not made: nothing stands beneath a file.
-    pub fn found(&self, path: &VPath<R::A>) -> Result<String<R::A>, StoreFault>
+    /// Where an entry of this name stands or can stand, in the directory to which names lead.
+    fn below(&self, above: &[&str], last: &str) -> Result<Place<R::File, R::A>, StoreFault>
         ensures full { NeverFull result }
-        ensures place { IfOk result (λ place. string_bytes place ≡ string_bytes self.now.path ++ slashed path.now) }
+        ensures place { IfOk result
+            (LeadsTo (string_bytes self.now.path) (map (λ name. name.now) above.now ++ last.now ∷ [])) }
+    {
+        let mut place = self.directory(above)?;
+        place.push(last)?;
+        Ok(place)
+    }
+
+    /// Where an entry stands or can stand: below the directories above it, which are there.
+    pub fn place(&self, path: &VPath<R::A>) -> Result<Place<R::File, R::A>, StoreFault>
+        ensures full { NeverFull result }
+        ensures place { IfOk result (LeadsTo (string_bytes self.now.path) path.now) }
+    {
+        let mut names = path.names(self.rt.alloc())?;
+        match names.pop() {
+            None => self.top(),
+            Some(last) => self.below(&names, last),
+        }
+    }
+
+    /// Where an entry stands that is to be found, not made: nothing stands beneath a file.
+    pub fn found(&self, path: &VPath<R::A>) -> Result<Place<R::File, R::A>, StoreFault>
+        ensures full { NeverFull result }
+        ensures place { IfOk result (LeadsTo (string_bytes self.now.path) path.now) }
     {
         match self.place(path) {
             Err(StoreFault::NotDir) => Err(StoreFault::NotFound),
@@ -77,49 +137,45 @@ impl<R: Files + Alloc + Clone + Drop> Folder<R> {
         }
     }
 
-    /// What stands at a machine's path, which is followed no further where it is a link.
+    /// What is known of what stands at a machine's path.
     pub fn look(&self, place: &str) -> Result<Meta, StoreFault>
         ensures full { NeverFull result }
     {
-        match fs::symlink_metadata(&self.rt, place) {
-            Ok(metadata) => meta_of(&metadata).ok_or(StoreFault::NotFound),
-            Err(error) => Err(fault_of(&error)),
-        }
+        let metadata = self.tells(place)?;
+        known(&metadata)
     }
 
-    /// What stands at a path. The folder itself may be reached through a link.
+    /// What stands at a path.
     pub fn look_at(&self, path: &VPath<R::A>) -> Result<Meta, StoreFault>
         ensures full { NeverFull result }
     {
-        if !path.is_root() {
-            let place = self.found(path)?;
-            return self.look(place.as_str());
+        if path.is_root() {
+            let metadata = self.itself()?;
+            return known(&metadata);
         }
-        match fs::metadata(&self.rt, self.path.as_str()) {
-            Ok(metadata) => meta_of(&metadata).ok_or(StoreFault::NotFound),
-            Err(error) => Err(fault_of(&error)),
-        }
+        let place = self.found(path)?;
+        self.look(place.text())
     }
 
-    /// The machine's path of a file below the root, and what the machine knows of the file.
-    pub fn file_at(&self, path: &VPath<R::A>) -> Result<(String<R::A>, Metadata), StoreFault>
+    /// Where a file stands that is to be found. None stands at the root.
+    pub fn found_file(&self, path: &VPath<R::A>) -> Result<Place<R::File, R::A>, StoreFault>
         ensures full { NeverFull result }
+        ensures place { IfOk result (LeadsTo (string_bytes self.now.path) path.now) }
     {
         if path.is_root() {
             return Err(StoreFault::IsDir);
         }
-        let place = self.found(path)?;
-        match fs::symlink_metadata(&self.rt, place.as_str()) {
-            Ok(metadata) => {
-                if metadata.is_dir() {
-                    return Err(StoreFault::IsDir);
-                }
-                if metadata.is_file() {
-                    return Ok((place, metadata));
-                }
-                Err(StoreFault::NotFound)
-            }
-            Err(error) => Err(fault_of(&error)),
+        self.found(path)
+    }
+
+    /// What the machine tells of a file that stands at a machine's path.
+    pub fn look_file(&self, place: &str) -> Result<Metadata, StoreFault>
+        ensures full { NeverFull result }
+    {
+        let looked = self.tells(place)?;
+        match known(&looked)?.kind {
+            Kind::Directory => Err(StoreFault::IsDir),
+            Kind::File => Ok(looked),
         }
     }
 
@@ -127,12 +183,10 @@ impl<R: Files + Alloc + Clone + Drop> Folder<R> {
     pub fn nothing_at(&self, place: &str) -> Result<(), StoreFault>
         ensures full { NeverFull result }
     {
-        match fs::symlink_metadata(&self.rt, place) {
+        match self.tells(place) {
             Ok(_) => Err(StoreFault::Exists),
-            Err(error) => match fault_of(&error) {
-                StoreFault::NotFound => Ok(()),
-                fault => Err(fault),
-            },
+            Err(StoreFault::NotFound) => Ok(()),
+            Err(fault) => Err(fault),
         }
     }
 }

@@ -1,9 +1,10 @@
 //! A store over a folder of the machine.
 //!
-//! [`DirStore`] serves a folder and all beneath it, and leaves it nowhere: each name of a path is looked
-//! at before the next is followed. Symbolic links below the folder are not followed and not listed, nor
-//! are sockets, pipes and devices. An entry that is not listed still stands: nothing is made in its
-//! place, and its directory is not empty.
+//! [`DirStore`] serves a folder and all beneath it, and leaves it nowhere: a call goes down name by
+//! name, and each directory on its way is looked at, opened, and held open while what stands in it is
+//! called by name. Symbolic links below the folder are not followed and not listed, nor are sockets,
+//! pipes and devices. An entry that is not listed still stands: nothing is made in its place, and its
+//! directory is not empty.
 //!
 //! ```text
 //! let mut store = DirStore::new(rt, "/srv/ftp")?;
@@ -17,12 +18,12 @@
 //! cutting it off, and is read or cut only if it is the very one that was looked at. A rename replaces just
 //! the empty entry that it made at the new name itself, where nothing stood.
 //!
-//! What another process of the machine could still do: between the look at a directory and the call that
-//! goes through it, it can put a symbolic link in the directory's place, and the call then follows that
-//! link, which may lead out of the folder. What it writes into the empty entry of a rename is lost. A pipe
-//! that it puts in a file's place holds the call, where this process may only read or only write that
-//! pipe. So no other process may write below the folder that is not trusted with all that this one may
-//! reach.
+//! What another process of the machine could still do: where a directory may be entered and not read,
+//! or the machine has no `/proc`, it can put a symbolic link in the directory's place between the look
+//! at it and the call that goes through it, and the call then follows that link, which may lead out of
+//! the folder. What it writes into the empty entry of a rename is lost. A pipe that it puts in a file's
+//! place holds the call, where this process may only read or only write that pipe. So no other process
+//! may write below the folder that is not trusted with all that this one may reach.
 //!
 //! What a call that is refused for the device leaves is the machine's to say; a rename leaves the entry at
 //! one of its two places.

@@ -9,28 +9,28 @@ ghost use Rattle.machine_files.specs.Refusals.{NeverFull};
 ghost use Rattle.folder_store.specs.Listings.{ComesLast};
 
 use crate::folder::Folder;
-use ftp_terms::Kind;
 use machine_files::fault_of;
 use std::alloc::Allocator;
 use std::fs::DirEntry;
 use std::io::ErrorKind;
+use std::os::fd::AsRawFd;
 use std::rt::Files;
 use std::{fs, io};
 use virtual_path::{VPath, is_name};
 use virtual_tree::{Listed, StoreFault};
 
-impl<R: Files + Alloc + Clone + Drop> Folder<R> {
+impl<R: Files + Alloc + Clone + Drop> Folder<R>
+where
+    R::File: AsRawFd,
+{
     /// The entries of a directory, in the order of their names' octets.
     pub fn list(&self, path: &VPath<R::A>) -> Result<Vec<Listed<R::A>, R::A>, StoreFault>
         ensures full { NeverFull result }
         ensures rising { IfOk result (λ listed. IsStrictlySortedBy (slice_cmp nat_cmp) (names_of listed)) }
     {
-        let meta = self.look_at(path)?;
-        if meta.kind == Kind::File {
-            return Err(StoreFault::NotDir);
-        }
-        let place = self.found(path)?;
-        self.entries(place.as_str())
+        let names = path.names(self.rt.alloc())?;
+        let place = self.directory(&names)?;
+        self.entries(place.text())
     }
 
     /// The entries in a folder of the machine that a path can name, each name once.

@@ -12,6 +12,7 @@ use machine_files::{DirSink, DirSource, flushed};
 use std::fs;
 use std::io::ErrorKind;
 use std::marker::Model;
+use std::os::fd::AsRawFd;
 use std::rt::Files;
 use virtual_path::VPath;
 use virtual_tree::{Listed, Store, StoreFault, WriteMode};
@@ -31,7 +32,10 @@ impl<R: Files + Alloc + Clone + Drop> Model for DirStore<R> {
     ghost view = { λ store. store.faults };
 }
 
-impl<R: Files + Alloc + Clone + Drop> DirStore<R> {
+impl<R: Files + Alloc + Clone + Drop> DirStore<R>
+where
+    R::File: AsRawFd,
+{
     /// The folder at a path of the machine, which has to be there. A link at its end is followed.
     pub fn new(rt: R, folder: &str) -> Result<DirStore<R>, StoreFault>
         ensures new { IfOk result (λ store. store.count ≡ 0) }
@@ -79,7 +83,10 @@ impl<R: Files + Alloc + Clone + Drop> DirStore<R> {
     }
 }
 
-impl<R: Files + Alloc + Clone + Drop> Store<R::A> for DirStore<R> {
+impl<R: Files + Alloc + Clone + Drop> Store<R::A> for DirStore<R>
+where
+    R::File: AsRawFd,
+{
     ghost use Rattle.std.specs.Prelude.{None};
     ghost use Rattle.folder_store.specs.Honest.{FolderStep};
 

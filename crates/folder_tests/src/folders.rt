@@ -1,10 +1,11 @@
 //! Calls one after another on folders of the machine.
 
+use crate::expect::{comes_out, holds};
 use folder_store::DirStore;
 use std::fs;
 use std::rt::Files;
 use std::test::Fail;
-use store_script::{DIRECTORIES, FILES, RENAMES, first_unmet, fresh, inside};
+use store_script::{DIRECTORIES, FILES, RENAMES, fresh, inside};
 use virtual_tree::StoreFault;
 
 /// What is asked of a folder that has a link to the folder above, `out`, and one to the file `kept`
@@ -25,17 +26,33 @@ make /out/x = not found
 names / =
 faults = 0";
 
-/// Whether a script comes out in a fresh folder.
+/// Carries out a script in a folder.
+fn run(rt: &HostRuntime, folder: &str, script: &str) -> Result<(), Fail> {
+    let mut store = DirStore::new(*rt, folder)?;
+    comes_out(rt.alloc(), &mut store, script)
+}
+
 #[test]
 fn in_a_folder(rt: HostRuntime) -> Result<(), Fail> {
     for script in [FILES, DIRECTORIES, RENAMES] {
         let folder = fresh(&rt, "scripts")?;
-        let mut store = DirStore::new(rt, folder.as_str())?;
-        let unmet = first_unmet(rt.alloc(), rt.alloc(), &mut store, script)?;
-        assert!(rt; unmet.is_none(), "{unmet:?}");
+        run(&rt, folder.as_str(), script)?;
         fs::remove_dir_all(&rt, folder.as_str())?;
     }
     Ok(())
+}
+
+/// Puts the two links into a folder.
+fn link(rt: &HostRuntime, folder: &str) -> Result<(), Fail> {
+    rt.symlink("..", inside(rt, folder, "out")?.as_str())?;
+    Ok(rt.symlink("../kept", inside(rt, folder, "k")?.as_str())?)
+}
+
+/// Carries out what is asked of links in a new folder, where the file `kept` stands above it.
+fn ask_of_links(rt: &HostRuntime, folder: &str) -> Result<(), Fail> {
+    fs::create_dir(rt, folder)?;
+    link(rt, folder)?;
+    run(rt, folder, LINKS)
 }
 
 #[test]
@@ -43,15 +60,17 @@ fn links(rt: HostRuntime) -> Result<(), Fail> {
     let above = fresh(&rt, "links")?;
     let kept = inside(&rt, above.as_str(), "kept")?;
     fs::write(&rt, kept.as_str(), "kept")?;
-    let folder = inside(&rt, above.as_str(), "served")?;
-    fs::create_dir(&rt, folder.as_str())?;
-    rt.symlink("..", inside(&rt, folder.as_str(), "out")?.as_str())?;
-    rt.symlink("../kept", inside(&rt, folder.as_str(), "k")?.as_str())?;
-    let mut store = DirStore::new(rt, folder.as_str())?;
-    let unmet = first_unmet(rt.alloc(), rt.alloc(), &mut store, LINKS)?;
-    assert!(rt; unmet.is_none(), "{unmet:?}");
-    assert_eq!(rt; fs::read_to_string(&rt, kept.as_str())?.as_str(), "kept");
+    ask_of_links(&rt, inside(&rt, above.as_str(), "served")?.as_str())?;
+    holds(
+        &rt,
+        fs::read_to_string(&rt, kept.as_str())?.as_str() == "kept",
+    );
     Ok(fs::remove_dir_all(&rt, above.as_str())?)
+}
+
+/// Why there is no store over what stands at a place.
+fn refused(rt: &HostRuntime, place: &str) -> Option<StoreFault> {
+    DirStore::new(*rt, place).err()
 }
 
 #[test]
@@ -59,8 +78,11 @@ fn what_is_no_folder(rt: HostRuntime) -> Result<(), Fail> {
     let folder = fresh(&rt, "none")?;
     let file = inside(&rt, folder.as_str(), "f")?;
     fs::write(&rt, file.as_str(), "abc")?;
-    assert!(rt; DirStore::new(rt, file.as_str()).err() == Some(StoreFault::NotDir));
-    let none = inside(&rt, folder.as_str(), "n")?;
-    assert!(rt; DirStore::new(rt, none.as_str()).err() == Some(StoreFault::NotFound));
+    holds(&rt, refused(&rt, file.as_str()) == Some(StoreFault::NotDir));
+    fs::remove_file(&rt, file.as_str())?;
+    holds(
+        &rt,
+        refused(&rt, file.as_str()) == Some(StoreFault::NotFound),
+    );
     Ok(fs::remove_dir_all(&rt, folder.as_str())?)
 }

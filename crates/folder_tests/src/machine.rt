@@ -1,29 +1,34 @@
 //! What the machine says of a folder: times, permissions, and files that are open twice.
 
+use crate::expect::comes_out;
 use folder_store::DirStore;
+use std::alloc::Global;
 use std::fs;
 use std::fs::Permissions;
 use std::os::unix::fs::PermissionsExt;
 use std::test::Fail;
 use std::time::{Duration, UNIX_EPOCH};
-use store_script::{first_unmet, fresh, inside};
+use store_script::{fresh, inside};
 use virtual_path::VPath;
-use virtual_tree::{Sink, Store, WriteMode};
+use virtual_tree::{Sink, Store, StoreFault, WriteMode};
+
+/// Makes a file that was modified at a moment.
+fn make_modified(rt: &HostRuntime, place: &str, second: u64) -> Result<(), Fail> {
+    let file = fs::create(rt, place)?;
+    let time = UNIX_EPOCH.checked_add(Duration::from_secs(second));
+    Ok(file.set_modified(time.ok_or("no such time")?)?)
+}
 
 #[test]
 fn times(rt: HostRuntime) -> Result<(), Fail> {
     let folder = fresh(&rt, "times")?;
-    let file = fs::create(&rt, inside(&rt, folder.as_str(), "f")?.as_str())?;
-    let time = UNIX_EPOCH.checked_add(Duration::from_secs(951_827_696));
-    file.set_modified(time.ok_or("no such time")?)?;
-    let mut store = DirStore::new(rt, folder.as_str())?;
-    let unmet = first_unmet(
-        rt.alloc(),
-        rt.alloc(),
-        &mut store,
-        "modified /f = 951827696",
+    make_modified(
+        &rt,
+        inside(&rt, folder.as_str(), "f")?.as_str(),
+        951_827_696,
     )?;
-    assert!(rt; unmet.is_none(), "{unmet:?}");
+    let mut store = DirStore::new(rt, folder.as_str())?;
+    comes_out(rt.alloc(), &mut store, "modified /f = 951827696")?;
     Ok(fs::remove_dir_all(&rt, folder.as_str())?)
 }
 
@@ -33,21 +38,40 @@ faults = 1
 size /d/f = device fault
 faults = 2";
 
+/// Asks of the directory `d`, which may not be entered. One who may do everything is refused
+/// nothing.
+fn ask_of_locked<S: Store<Global>>(
+    rt: &HostRuntime,
+    store: &mut S,
+    locked: &str,
+) -> Result<(), Fail> {
+    if fs::read_dir(rt, locked).is_ok() {
+        return Ok(());
+    }
+    comes_out(rt.alloc(), store, LOCKED)
+}
+
 #[test]
 fn refused_by_permissions(rt: HostRuntime) -> Result<(), Fail> {
     let folder = fresh(&rt, "locked")?;
     let locked = inside(&rt, folder.as_str(), "d")?;
     let mut store = DirStore::new(rt, folder.as_str())?;
-    let made = first_unmet(rt.alloc(), rt.alloc(), &mut store, "make /d\nnew /d/f abc")?;
-    assert!(rt; made.is_none());
+    comes_out(rt.alloc(), &mut store, "make /d\nnew /d/f abc")?;
     fs::set_permissions(&rt, locked.as_str(), Permissions::from_mode(0))?;
-    // One who may do everything is refused nothing.
-    if fs::read_dir(&rt, locked.as_str()).is_err() {
-        let unmet = first_unmet(rt.alloc(), rt.alloc(), &mut store, LOCKED)?;
-        assert!(rt; unmet.is_none(), "{unmet:?}");
-    }
+    ask_of_locked(&rt, &mut store, locked.as_str())?;
     fs::set_permissions(&rt, locked.as_str(), Permissions::from_mode(0o755))?;
     Ok(fs::remove_dir_all(&rt, folder.as_str())?)
+}
+
+/// Appends to one file by two sinks, in turn.
+fn append_twice<S: Store<Global>>(store: &mut S, file: &VPath) -> Result<(), StoreFault> {
+    let mut first = store.open_write(file, WriteMode::Append, 5_000)?;
+    let mut second = store.open_write(file, WriteMode::Append, 5_000)?;
+    first.write(b"abc")?;
+    second.write(b"de")?;
+    first.write(b"f")?;
+    store.finish(first, 6_000)?;
+    store.finish(second, 6_000)
 }
 
 #[test]
@@ -55,14 +79,7 @@ fn two_appends_at_once(rt: HostRuntime) -> Result<(), Fail> {
     let folder = fresh(&rt, "appends")?;
     let mut store = DirStore::new(rt, folder.as_str())?;
     let file = VPath::root(rt.alloc()).resolve(rt.alloc(), "/f")?;
-    let mut first = store.open_write(&file, WriteMode::Append, 5_000)?;
-    let mut second = store.open_write(&file, WriteMode::Append, 5_000)?;
-    first.write(b"abc")?;
-    second.write(b"de")?;
-    first.write(b"f")?;
-    store.finish(first, 6_000)?;
-    store.finish(second, 6_000)?;
-    let unmet = first_unmet(rt.alloc(), rt.alloc(), &mut store, "read /f = abcdef")?;
-    assert!(rt; unmet.is_none(), "{unmet:?}");
+    append_twice(&mut store, &file)?;
+    comes_out(rt.alloc(), &mut store, "read /f = abcdef")?;
     Ok(fs::remove_dir_all(&rt, folder.as_str())?)
 }

@@ -57,14 +57,46 @@ fn tells<S: Store<Global>>(
     }
 }
 
-/// Whether both stores tell the same.
-fn is_alike<S: Store<Global>, T: Store<Global>>(
+/// Asks both stores for a line. Where they do not tell the same, that line is a failure.
+fn ask_both<S: Store<Global>, T: Store<Global>>(
     global: Global,
     one: &mut S,
     other: &mut T,
-    line: &str,
-) -> Result<bool, StoreFault> {
-    Ok(tells(global, one, line)? == tells(global, other, line)?)
+    line: String,
+) -> Result<(), Fail> {
+    if tells(global, one, line.as_str())? == tells(global, other, line.as_str())? {
+        Ok(())
+    } else {
+        Err(Fail::from(line))
+    }
+}
+
+/// Asks both stores for each of the paths, what stands there.
+fn ask_for_all<S: Store<Global>, T: Store<Global>>(
+    global: Global,
+    one: &mut S,
+    other: &mut T,
+    call: &str,
+) -> Result<(), Fail> {
+    for path in PATHS.split(' ') {
+        ask_both(global, one, other, format!(in global; "{call} {path}")?)?;
+    }
+    Ok(())
+}
+
+/// Asks both stores for 4,000 random calls, and then for all that they hold.
+fn side_by_side<S: Store<Global>, T: Store<Global>>(
+    global: Global,
+    one: &mut S,
+    other: &mut T,
+    numbers: &mut Numbers,
+) -> Result<(), Fail> {
+    for _ in 0..4000u32 {
+        ask_both(global, one, other, random_line(global, numbers)?)?;
+    }
+    ask_for_all(global, one, other, "names")?;
+    ask_for_all(global, one, other, "read")?;
+    ask_for_all(global, one, other, "faults")
 }
 
 #[test]
@@ -75,21 +107,6 @@ fn of_both_stores(rt: HostRuntime) -> Result<(), Fail> {
     let mut numbers = Numbers {
         state: 88_172_645_463_325_252,
     };
-    for _ in 0..4000u32 {
-        let line = random_line(rt.alloc(), &mut numbers)?;
-        assert!(rt;
-            is_alike(rt.alloc(), &mut memory, &mut machine, line.as_str())?,
-            "{line}"
-        );
-    }
-    for path in PATHS.split(' ') {
-        for call in ["names", "read", "faults"] {
-            let line = format!(in rt.alloc(); "{call} {path}")?;
-            assert!(rt;
-                is_alike(rt.alloc(), &mut memory, &mut machine, line.as_str())?,
-                "{line}"
-            );
-        }
-    }
+    side_by_side(rt.alloc(), &mut memory, &mut machine, &mut numbers)?;
     Ok(fs::remove_dir_all(&rt, folder.as_str())?)
 }

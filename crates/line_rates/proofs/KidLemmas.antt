@@ -1,14 +1,12 @@
 -- The trees of rows that are taken group by group.
-use Rattle.std.proofs.Common.{◌≡◌, ℕ, suc, ◌+◌, ◌-◌, ◌<◌, ◌≤◌, Bool, true, false, ◌||◌, not, cond, List, [], ◌∷◌, ◌++◌, length, map, sym, refl, ap, ◌∙◌, subst, arith, append_assoc, Option, Some, None, ◌⊎◌, inl, inr, get_or, take, drop}
+use Rattle.std.proofs.Common.{◌≡◌, ℕ, suc, ◌+◌, Bool, true, false, ◌||◌, List, [], ◌∷◌, ◌++◌, length, map, sym, refl, ap, ◌∙◌, subst, arith, append_assoc, Option, Some, None, ◌⊎◌, inl, inr}
 use Rattle.std.specs.Prelude.{nat_le, ◌&&◌, IsPermutation}
-use Rattle.std.specs.List.{AllByRecursion, list_any, filter}
+use Rattle.std.specs.List.{AllByRecursion, list_any}
 use Rattle.std.proofs.lemmas.Bool.{and_parts, or_parts, leb-true}
-use Rattle.std.proofs.Math.Seq.{drop-cons}
-use Rattle.std.proofs.lemmas.List.{map-append, append-nil, take_all, take_more, length-drop}
-use Rattle.std.proofs.lemmas.List.Filters.{length-filter_both}
+use Rattle.std.proofs.lemmas.List.{map-append, append-nil}
 use Rattle.std.proofs.lemmas.List.Elements.{recursion_from_All, All-from_recursion}
 use Rattle.std.proofs.lemmas.List.Folds.{list_any-append}
-use Rattle.std.proofs.lemmas.List.Sorted.{list_any-IsPermutation, IsPermutation-map, IsPermutation-trans, IsPermutation-append_left, IsPermutation-append_right, IsPermutation-refl, IsPermutation-filter_both, All-permutation, length_permutation}
+use Rattle.std.proofs.lemmas.List.Sorted.{list_any-IsPermutation, IsPermutation-map, IsPermutation-trans, IsPermutation-append_left, IsPermutation-append_right, IsPermutation-refl, All-permutation}
 use Rattle.limit_tree.specs.Outline.{leaf_count, behind, deeper, places, branch_over, leaf_alone}
 use Rattle.limit_tree.specs.declared.place.Place.{Place}
 use Rattle.limit_tree.specs.declared.node.Node.{Node}
@@ -18,11 +16,9 @@ use Rattle.line_rates.specs.declared.ask.Name.{Name}
 use Rattle.line_rates.specs.Names.{bears, floor_of}
 use Rattle.line_rates.specs.Rates.{Rates, group_of, rate_of}
 use Rattle.line_rates.specs.Ticks.{rate_limit}
-use Rattle.line_rates.specs.TickTree.{Asker, ask_in, row_bears, row_spares}
-use Rattle.line_rates.specs.Grown.{same_name, key, is_option, level_of, bears_from, named_from, has_key, IsApart, row_has, row_lacks, IsGrown, IsGrownFrom}
+use Rattle.line_rates.specs.TickTree.{Asker, ask_in}
+use Rattle.line_rates.specs.Grown.{same_name, key, is_option, level_of, bears_from, named_from, has_key, IsApart, IsGrown, IsGrownFrom}
 use Rattle.line_rates.proofs.MarkLemmas.{bool_same, second_true, grown_pair, grown_over, grown_leaf, grown_nothing, grown_named}
-use borrow.Rule.Slice.PartMut.{put_mid, mid_of}
-use Rattle.line_rates.proofs.GatherLemmas.{placed-part, placed-before, placed-after, placed-length}
 use Rattle.line_rates.proofs.NameLemmas.{same_name-is, same_name-refl, key_same, key_level, from_next, not_below, none_from, some_from}
 
 found : (p : Ask → Bool) (xs : List Ask) → list_any p xs ≡ true → (x : Ask) × (p x ≡ true) × ((q : Ask → Bool) → q x ≡ true → list_any q xs ≡ true)
@@ -140,27 +136,6 @@ next_leaf r tick l x rest e = record {
   apart = λ n h. let no : list_any (has_key r l n) (x.1 ∷ []) ≡ false = ap (λ o. is_option n o || false) e in absurd (cc);
 }
 
--- the rows of one name
-with_name : (r : Rates) (l : ℕ) (n : Name) (rows : List Asker) → AllByRecursion (λ a. key r l a ≡ Some n) (map ask_in (filter (row_has r l n) rows))
-with_name r l n [] = tt
-with_name r l n (x ∷ rows) = go (with_name r l n rows) (row_has r l n x) refl
-  where
-    named : (o : Option Name) → key r l x.1 ≡ o → is_option n o ≡ true → key r l x.1 ≡ Some n
-    named None e h = absurd (cc)
-    named (Some m) e h = e ∙ ap (λ k. Some k) (sym (same_name-is n m h))
-
-    go : AllByRecursion (λ a. key r l a ≡ Some n) (map ask_in (filter (row_has r l n) rows)) → (b : Bool) → row_has r l n x ≡ b → AllByRecursion (λ a. key r l a ≡ Some n) (map ask_in (cond b (x ∷ filter (row_has r l n) rows) (filter (row_has r l n) rows)))
-    go more true e = (named (key r l x.1) refl e, more)
-    go more false e = more
-
-without_name : (r : Rates) (l : ℕ) (n : Name) (rows : List Asker) → list_any (has_key r l n) (map ask_in (filter (row_lacks r l n) rows)) ≡ false
-without_name r l n [] = refl
-without_name r l n (x ∷ rows) = go (without_name r l n rows) (has_key r l n x.1) refl
-  where
-    go : list_any (has_key r l n) (map ask_in (filter (row_lacks r l n) rows)) ≡ false → (b : Bool) → has_key r l n x.1 ≡ b → list_any (has_key r l n) (map ask_in (cond (not b) (x ∷ filter (row_lacks r l n) rows) (filter (row_lacks r l n) rows))) ≡ false
-    go more true e = more
-    go more false e = ap (λ (b : Bool). b || list_any (has_key r l n) (map ask_in (filter (row_lacks r l n) rows))) e ∙ more
-
 or_more : (s a b : Bool) → ((s || a) || (s || b)) ≡ (s || (a || b))
 or_more true a b = refl
 or_more false a b = refl
@@ -193,16 +168,6 @@ only_name r l top n xs h some = let x = found (has_key r l n) xs some in same_na
       | inr s ↦ go ys k.1 s
     ]
 
-any_has : (r : Rates) (l : ℕ) (n : Name) (rows : List Asker) → list_any (has_key r l n) (map ask_in rows) ≡ true → list_any (has_key r l n) (map ask_in (filter (row_has r l n) rows)) ≡ true
-any_has r l n rows h =
-    let both = any_over (has_key r l n) rows (filter (row_has r l n) rows ++ filter (row_lacks r l n) rows) (IsPermutation-filter_both (row_has r l n) (row_lacks r l n) (λ x. refl) rows) in
-    either_first (list_any (has_key r l n) (map ask_in (filter (row_has r l n) rows))) (list_any (has_key r l n) (map ask_in (filter (row_lacks r l n) rows)))
-    (sym (any_pair (has_key r l n) (filter (row_has r l n) rows) (filter (row_lacks r l n) rows)) ∙ sym both ∙ h) (without_name r l n rows)
-  where
-    either_first : (x y : Bool) → (x || y) ≡ true → y ≡ false → x ≡ true
-    either_first true y e f = refl
-    either_first false y e f = absurd (cc)
-
 over_all : (r : Rates) (l : ℕ) (top : Name) (xs : List Ask) → AllByRecursion (λ a. key r l a ≡ Some top) xs → AllByRecursion (λ a. bears r top a ≡ true) xs
 over_all r l top [] h = tt
 over_all r l top (x ∷ xs) h = ((key_level r l top x h.0).0, over_all r l top xs h.1)
@@ -213,54 +178,36 @@ HasIt r top a = bears r top a ≡ true
 all_moved : (r : Rates) (top : Name) (xs ys : List Ask) → IsPermutation xs ys → AllByRecursion (HasIt r top) xs → AllByRecursion (HasIt r top) ys
 all_moved r top xs ys p h = recursion_from_All (HasIt r top) ys (All-permutation (HasIt r top) xs ys p (All-from_recursion (HasIt r top) xs h))
 
+-- the rows of a name stand at the front, and the others behind them
+pub record IsFront (r : Rates) (l : ℕ) (top : Name) (rows same rest : List Asker) : Type 0 where
+  pub split : rows ≡ same ++ rest
+  pub some : list_any (has_key r l top) (map ask_in same) ≡ true
+  pub keys : AllByRecursion (λ a. key r l a ≡ Some top) (map ask_in same)
+  pub none : list_any (has_key r l top) (map ask_in rest) ≡ false
+
 -- a branch over the rows of a name comes next
-pub next_branch : (r : Rates) (tick l m kids : ℕ) (top : Name) (rows order : List Asker) (ps : List Place) → m ≡ suc l → list_any (has_key r l top) (map ask_in rows) ≡ true
-    → IsGrownFrom r tick m (filter (row_has r l top) rows) order ps
-    → IsNext r tick l rows order (filter (row_lacks r l top) rows) (branch_over (rate_limit (rate_of r top) tick) kids ps ∷ map deeper ps)
-next_branch r tick l m kids top rows order ps e some g = record {
-  split = IsPermutation-trans rows (same ++ rest) (order ++ rest) (IsPermutation-filter_both (row_has r l top) (row_lacks r l top) (λ x. refl) rows) (IsPermutation-append_left rest same order g.all);
+next_branch : (r : Rates) (tick l m kids : ℕ) (top : Name) (rows same rest order : List Asker) (ps : List Place) → m ≡ suc l → IsFront r l top rows same rest → IsGrownFrom r tick m same order ps
+    → IsNext r tick l rows order rest (branch_over (rate_limit (rate_of r top) tick) kids ps ∷ map deeper ps)
+next_branch r tick l m kids top rows same rest order ps e front g = record {
+  split = subst (λ us. IsPermutation us (order ++ rest)) (sym front.split) (IsPermutation-append_left rest same order g.all);
   grown = grown_named r tick (λ n. same_name n top || named_from r (suc l) (map ask_in same) n) (named_from r l (map ask_in order)) (map ask_in order) (branch_over (rate_limit (rate_of r top) tick) kids ps ∷ map deeper ps)
-      (λ n. sym (some_from_next r l top n (map ask_in same) (any_has r l top rows some) keys) ∙ any_over (bears_from r l n) same order g.all)
+      (λ n. sym (some_from_next r l top n (map ask_in same) front.some front.keys) ∙ any_over (bears_from r l n) same order g.all)
       (grown_over r tick (named_from r (suc l) (map ask_in same)) (map ask_in order) ps top kids
       (subst (λ (k : ℕ). IsGrown r tick (named_from r k (map ask_in same)) (map ask_in order) ps) e g.grown)
-      (all_moved r top (map ask_in same) (map ask_in order) (IsPermutation-map ask_in same order g.all) (over_all r l top (map ask_in same) keys))
-      (none_below r l top (map ask_in same) keys) (λ n. same_name-is n top) (same_name-refl top));
-  apart = λ n h. ap (λ k. list_any (has_key r l k) (map ask_in rest)) (only_name r l top n (map ask_in same) keys (any_over (has_key r l n) same order g.all ∙ h)) ∙ without_name r l top rows;
+      (all_moved r top (map ask_in same) (map ask_in order) (IsPermutation-map ask_in same order g.all) (over_all r l top (map ask_in same) front.keys))
+      (none_below r l top (map ask_in same) front.keys) (λ n. same_name-is n top) (same_name-refl top));
+  apart = λ n h. ap (λ k. list_any (has_key r l k) (map ask_in rest)) (only_name r l top n (map ask_in same) front.keys (any_over (has_key r l n) same order g.all ∙ h)) ∙ front.none;
 }
-  where
-    same : List Asker
-    same = filter (row_has r l top) rows
 
-    rest : List Asker
-    rest = filter (row_lacks r l top) rows
-
-    keys : AllByRecursion (λ a. key r l a ≡ Some top) (map ask_in (filter (row_has r l top) rows))
-    keys = with_name r l top rows
-
--- where a row has the name at the level, just those that bear it have it there
-has-bears : (r : Rates) (l : ℕ) (top : Name) (x a : Ask) → key r l x ≡ Some top → bears r top a ≡ has_key r l top a
-has-bears r l top x a e = bool_same (bears r top a) (has_key r l top a)
-    (λ h. let k = key_level r l top x e in
-    let le : l ≤ level_of (group_of r x.user) top = (let same : level_of (group_of r x.user) top ≡ l = k.1 in omega arith) in
-    ap (is_option top) (sym (key_same r l top x a k.0 h le) ∙ e) ∙ same_name-refl top)
-    (λ h. (key_level r l top a (is_key (key r l a) refl h)).0)
-  where
-    is_key : (o : Option Name) → key r l a ≡ o → is_option top o ≡ true → key r l a ≡ Some top
-    is_key None e h = absurd (cc)
-    is_key (Some m) e h = e ∙ ap (λ k. Some k) (sym (same_name-is top m h))
-
-filter_alike : (p q : Asker → Bool) → ((x : Asker) → p x ≡ q x) → (rows : List Asker) → filter p rows ≡ filter q rows
-filter_alike p q h [] = refl
-filter_alike p q h (x ∷ rows) = ap (λ (b : Bool). cond b (x ∷ filter p rows) (filter p rows)) (h x) ∙ ap (λ (o : List Asker). cond (q x) (x ∷ o) o) (filter_alike p q h rows)
-
-pub same-has : (r : Rates) (l : ℕ) (top : Name) (x : Ask) (rows : List Asker) → key r l x ≡ Some top → filter (row_bears r top) rows ≡ filter (row_has r l top) rows
-same-has r l top x rows e = filter_alike (row_bears r top) (row_has r l top) (λ a. has-bears r l top x a.1 e) rows
-
-pub rest-lacks : (r : Rates) (l : ℕ) (top : Name) (x : Ask) (rows : List Asker) → key r l x ≡ Some top → filter (row_spares r top) rows ≡ filter (row_lacks r l top) rows
-rest-lacks r l top x rows e = filter_alike (row_spares r top) (row_lacks r l top) (λ a. ap not (has-bears r l top x a.1 e)) rows
+-- trees of rows that stand in another order
+pub grown_before : (r : Rates) (tick m : ℕ) (rows same order : List Asker) (ps : List Place) → IsPermutation rows same → IsGrownFrom r tick m same order ps → IsGrownFrom r tick m rows order ps
+grown_before r tick m rows same order ps moved g = record {
+  all = IsPermutation-trans rows same order moved g.all;
+  grown = grown_named r tick (named_from r m (map ask_in same)) (named_from r m (map ask_in rows)) (map ask_in order) ps (λ n. sym (any_over (bears_from r m n) rows same moved)) g.grown;
+}
 
 -- the steps of the loop over rows
-leaf_step : {A : Type 0} (r : Rates) (tick l : ℕ) (all order rows new_order new_rows : List Asker) (x : Asker) (kids new_kids : List (Node A)) (kid : Node A) → SoFar r tick l all order rows (places_of_all kids)
+pub leaf_step : {A : Type 0} (r : Rates) (tick l : ℕ) (all order rows new_order new_rows : List Asker) (x : Asker) (kids new_kids : List (Node A)) (kid : Node A) → SoFar r tick l all order rows (places_of_all kids)
     → rows ≡ x ∷ new_rows → key r l x.1 ≡ None → places kid ≡ leaf_alone x.1.want (floor_of r x.1) ∷ [] → new_order ≡ order ++ x ∷ [] → new_kids ≡ kids ++ kid ∷ []
     → SoFar r tick l all new_order new_rows (places_of_all new_kids)
 leaf_step r tick l all order rows new_order new_rows x kids new_kids kid s is none leaf orders nodes =
@@ -268,21 +215,18 @@ leaf_step r tick l all order rows new_order new_rows x kids new_kids kid s is no
     (subst (SoFar r tick l all (order ++ x ∷ []) new_rows) (sym (ap places_of_all nodes ∙ kid_more kids kid ∙ ap (λ (ps : List Place). places_of_all kids ++ map (behind (leaf_count (places_of_all kids))) ps) leaf))
     (next_so_far r tick l all order (x ∷ new_rows) (x ∷ []) new_rows (places_of_all kids) (leaf_alone x.1.want (floor_of r x.1) ∷ []) (subst (λ (o : List Asker). SoFar r tick l all order o (places_of_all kids)) is s) (next_leaf r tick l x new_rows none)))
 
-first_has : (r : Rates) (l : ℕ) (top : Name) (rows rest : List Asker) (x : Asker) → rows ≡ x ∷ rest → key r l x.1 ≡ Some top → list_any (has_key r l top) (map ask_in rows) ≡ true
-first_has r l top rows rest x is has = ap (λ (o : List Asker). list_any (has_key r l top) (map ask_in o)) is ∙ ap (λ (b : Bool). b || list_any (has_key r l top) (map ask_in rest)) (ap (is_option top) has ∙ same_name-refl top)
-
-branch_step : {A : Type 0} (r : Rates) (tick l m : ℕ) (all order rows new_order new_rows tail same more : List Asker) (x : Asker) (top : Name) (limit : Option ℕ) (kids new_kids below : List (Node A)) (kid : Node A)
-    → SoFar r tick l all order rows (places_of_all kids) → rows ≡ x ∷ tail → key r l x.1 ≡ Some top → m ≡ suc l → same ≡ filter (row_has r l top) rows → new_rows ≡ filter (row_lacks r l top) rows
+pub branch_step : {A : Type 0} (r : Rates) (tick l m : ℕ) (all order rows same rest new_order new_rows more : List Asker) (top : Name) (limit : Option ℕ) (kids new_kids below : List (Node A)) (kid : Node A)
+    → SoFar r tick l all order rows (places_of_all kids) → IsFront r l top rows same rest → m ≡ suc l → new_rows ≡ rest
     → IsGrownFrom r tick m same more (places_of_all below) → limit ≡ rate_limit (rate_of r top) tick → places kid ≡ branch_over limit (length below) (places_of_all below) ∷ map deeper (places_of_all below)
     → new_order ≡ order ++ more → new_kids ≡ kids ++ kid ∷ [] → SoFar r tick l all new_order new_rows (places_of_all new_kids)
-branch_step r tick l m all order rows new_order new_rows tail same more x top limit kids new_kids below kid s is has next sames rests grown limited branch orders nodes =
+branch_step r tick l m all order rows same rest new_order new_rows more top limit kids new_kids below kid s front next rests grown limited branch orders nodes =
     subst (λ (o : List Asker). SoFar r tick l all o new_rows (places_of_all new_kids)) (sym orders)
     (subst (λ (o : List Asker). SoFar r tick l all (order ++ more) o (places_of_all new_kids)) (sym rests)
-    (subst (SoFar r tick l all (order ++ more) (filter (row_lacks r l top) rows)) (sym (ap places_of_all nodes ∙ kid_more kids kid ∙ ap (λ (ps : List Place). places_of_all kids ++ map (behind (leaf_count (places_of_all kids))) ps) (branch ∙ ap (λ o. branch_over o (length below) (places_of_all below) ∷ map deeper (places_of_all below)) limited)))
-    (next_so_far r tick l all order rows more (filter (row_lacks r l top) rows) (places_of_all kids) (branch_over (rate_limit (rate_of r top) tick) (length below) (places_of_all below) ∷ map deeper (places_of_all below)) s
-    (next_branch r tick l m (length below) top rows more (places_of_all below) next (first_has r l top rows tail x is has) (subst (λ (o : List Asker). IsGrownFrom r tick m o more (places_of_all below)) sames grown)))))
+    (subst (SoFar r tick l all (order ++ more) rest) (sym (ap places_of_all nodes ∙ kid_more kids kid ∙ ap (λ (ps : List Place). places_of_all kids ++ map (behind (leaf_count (places_of_all kids))) ps) (branch ∙ ap (λ o. branch_over o (length below) (places_of_all below) ∷ map deeper (places_of_all below)) limited)))
+    (next_so_far r tick l all order rows more rest (places_of_all kids) (branch_over (rate_limit (rate_of r top) tick) (length below) (places_of_all below) ∷ map deeper (places_of_all below)) s
+    (next_branch r tick l m (length below) top rows same rest more (places_of_all below) next front grown))))
 
-all_grown : (r : Rates) (tick l : ℕ) (all order rows : List Asker) (ps : List Place) → SoFar r tick l all order rows ps → length rows ≡ 0 → IsGrownFrom r tick l all order ps
+pub all_grown : (r : Rates) (tick l : ℕ) (all order rows : List Asker) (ps : List Place) → SoFar r tick l all order rows ps → length rows ≡ 0 → IsGrownFrom r tick l all order ps
 all_grown r tick l all order (x ∷ rows) ps s e = absurd (omega arith)
 all_grown r tick l all order [] ps s e =
     let same : IsPermutation all order = subst (IsPermutation all) (append-nil order) s.rows in
@@ -291,57 +235,3 @@ all_grown r tick l all order [] ps s e =
 pub nothing_yet : {A : Type 0} (r : Rates) (tick l : ℕ) (all : List Asker) (kids : List (Node A)) → kids ≡ [] → SoFar r tick l all [] all (places_of_all kids)
 nothing_yet r tick l all kids none =
     subst (SoFar r tick l all [] all) (sym (ap places_of_all none)) (record { rows = IsPermutation-refl all; grown = grown_nothing r tick; apart = λ n h. absurd (cc) })
-
-head_at : (rows : List Asker) (i : ℕ) (d : Asker) → i < length rows → drop i rows ≡ get_or rows i d ∷ drop (i + 1) rows
-head_at rows i d lt = let e : suc i ≡ i + 1 = omega arith in drop-cons rows i d lt ∙ ap (λ (m : ℕ). get_or rows i d ∷ drop m rows) e
-
--- the steps of the loop over a slice, of which so many rows have their places
-pub leaf_next : {A : Type 0} (r : Rates) (tick l start floor : ℕ) (all rows : List Asker) (d : Asker) (kids new_kids : List (Node A)) (kid : Node A) → SoFar r tick l all (take start rows) (drop start rows) (places_of_all kids)
-    → start < length rows → key r l (get_or rows start d).1 ≡ None → places kid ≡ leaf_alone (get_or rows start d).1.want floor ∷ [] → floor ≡ floor_of r (get_or rows start d).1 → new_kids ≡ kids ++ kid ∷ []
-    → SoFar r tick l all (take (start + 1) rows) (drop (start + 1) rows) (places_of_all new_kids)
-leaf_next r tick l start floor all rows d kids new_kids kid s lt none leaf is_floor nodes =
-    leaf_step r tick l all (take start rows) (drop start rows) (take (start + 1) rows) (drop (start + 1) rows) (get_or rows start d) kids new_kids kid s
-    (head_at rows start d lt) none (leaf ∙ ap (λ (f : ℕ). leaf_alone (get_or rows start d).1.want f ∷ []) is_floor) (take_more rows start d lt) nodes
-
-pub record IsNextStart (r : Rates) (tick l start next : ℕ) (all old new : List Asker) (ps : List Place) : Type 0 where
-  pub so_far : SoFar r tick l all (take next new) (drop next new) ps
-  pub within : next ≤ length new
-  pub smaller : length new - next < length old - start
-
-first_counts : (p : Asker → Bool) (x : Asker) (xs : List Asker) → p x ≡ true → 1 ≤ length (filter p (x ∷ xs))
-first_counts p x xs e = let n : length (filter p (x ∷ xs)) ≡ length (x ∷ filter p xs) = ap (λ (b : Bool). length (cond b (x ∷ filter p xs) (filter p xs))) e in omega arith
-
-pub branch_next : {A : Type 0} (r : Rates) (tick l start k n count : ℕ) (all old gathered more : List Asker) (d : Asker) (top : Name) (limit : Option ℕ) (kids new_kids below : List (Node A)) (kid : Node A)
-    → SoFar r tick l all (take start old) (drop start old) (places_of_all kids) → start < length old → key r l (get_or old start d).1 ≡ Some top
-    → k ≡ length old - start → gathered ≡ filter (row_bears r top) (mid_of start k old) ++ filter (row_spares r top) (mid_of start k old) → count ≡ length (filter (row_bears r top) (mid_of start k old)) → n ≡ count
-    → IsGrownFrom r tick (l + 1) (mid_of start n (put_mid start k old gathered)) more (places_of_all below)
-    → limit ≡ rate_limit (rate_of r top) tick → places kid ≡ branch_over limit (length below) (places_of_all below) ∷ map deeper (places_of_all below) → new_kids ≡ kids ++ kid ∷ []
-    → IsNextStart r tick l start (start + count) all old (put_mid start n (put_mid start k old gathered) more) (places_of_all new_kids)
-branch_next r tick l start k n count all old gathered more d top limit kids new_kids below kid s lt has is_k is_gathered is_count is_n grown limited branch nodes =
-    let rest : mid_of start k old ≡ drop start old = take_all k (drop start old) (omega (arith, length-drop start old)) in
-    let first : drop start old ≡ get_or old start d ∷ drop (start + 1) old = head_at old start d lt in
-    let front : List Asker = filter (row_bears r top) (drop start old) in
-    let back : List Asker = filter (row_spares r top) (drop start old) in
-    let parts : gathered ≡ front ++ back = is_gathered ∙ ap (λ (o : List Asker). filter (row_bears r top) o ++ filter (row_spares r top) o) rest in
-    let counted : count ≡ length front = is_count ∙ ap (λ (o : List Asker). length (filter (row_bears r top) o)) rest in
-    let between : List Asker = put_mid start k old gathered in
-    let part : mid_of start n (put_mid start k old gathered) ≡ front = ap (λ (m : ℕ). mid_of start m between) is_n ∙ placed-part old between front back start count k (omega arith) is_k (ap (put_mid start k old) parts) counted in
-    let many : length more ≡ count = length_permutation (mid_of start n between) more grown.all ∙ ap length part ∙ sym counted in
-    let new : List Asker = put_mid start n between more in
-    let is_new : new ≡ put_mid start count between more = ap (λ (m : ℕ). put_mid start m between more) is_n in
-    let before : take (start + count) new ≡ take start old ++ more = placed-before old between front back start count k (omega arith) is_k (ap (put_mid start k old) parts) counted new more is_new many in
-    let after : drop (start + count) new ≡ back = placed-after old between front back start count k (omega arith) is_k (ap (put_mid start k old) parts) counted new more is_new many in
-    let sizes : length new ≡ start + count + length back = placed-length old between front back start count k (omega arith) is_k (ap (put_mid start k old) parts) counted new more is_new many in
-    let some : 1 ≤ length front = subst (λ (o : List Asker). 1 ≤ length (filter (row_bears r top) o)) (sym first) (first_counts (row_bears r top) (get_or old start d) (drop (start + 1) old) (key_level r l top (get_or old start d).1 has).0) in
-    let both : length front + length back ≡ length (drop start old) = length-filter_both (row_bears r top) (row_spares r top) (λ x. refl) (drop start old) in
-    record {
-      so_far = branch_step r tick l (l + 1) all (take start old) (drop start old) (take (start + count) new) (drop (start + count) new) (drop (start + 1) old) (filter (row_has r l top) (drop start old)) more (get_or old start d) top limit
-          kids new_kids below kid s first has (let e : l + 1 ≡ suc l = omega arith in e) refl (after ∙ rest-lacks r l top (get_or old start d).1 (drop start old) has)
-          (subst (λ (o : List Asker). IsGrownFrom r tick (l + 1) o more (places_of_all below)) (part ∙ same-has r l top (get_or old start d).1 (drop start old) has) grown) limited branch before nodes;
-      within = omega (arith, sizes);
-      smaller = omega (arith, sizes, some, counted, both, length-drop start old);
-    }
-
-pub whole_grown : (r : Rates) (tick l start : ℕ) (all rows : List Asker) (ps : List Place) → SoFar r tick l all (take start rows) (drop start rows) ps → length rows ≤ start → IsGrownFrom r tick l all rows ps
-whole_grown r tick l start all rows ps s le =
-    subst (λ (o : List Asker). IsGrownFrom r tick l all o ps) (take_all start rows le) (all_grown r tick l all (take start rows) (drop start rows) ps s (omega (arith, length-drop start rows)))

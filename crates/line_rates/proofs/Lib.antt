@@ -1,10 +1,13 @@
-mod GatherLemmas
 mod GrantLemmas
 mod KidLemmas
 mod LimitsLemmas
 mod MarkLemmas
 mod NameLemmas
+mod PartLemmas
 pub mod RowLemmas
+mod SameName
+mod QueueLemmas
+mod QueueSteps
 mod TickLemmas
 mod TwiceLemmas
 mod WholeLemmas

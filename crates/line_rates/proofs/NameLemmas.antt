@@ -135,6 +135,17 @@ at_most group (Group w g) = omega arith
 at_most group (User w u) = omega arith
 at_most group (Session w u s) = omega arith
 
+pub key_low : (r : Rates) (l : ℕ) (n : Name) (a : Ask) → key r l a ≡ Some n → l ≤ 4
+key_low r l n a e =
+    let here : level_of (group_of r a.user) n ≡ l = (key_level r l n a e).1 in
+    let most = at_most (group_of r a.user) n in
+    let one = at_most_one (group_of r a.user) in
+    omega arith
+  where
+    at_most_one : (group : Option ℕ) → is_some group ≤ 1
+    at_most_one None = omega arith
+    at_most_one (Some g) = omega arith
+
 key_none : (r : Rates) (l : ℕ) (n : Name) (a : Ask) → key r l a ≡ None → level_of (group_of r a.user) n < l
 key_none r l n a e =
     let h : AtLevel a.way (group_of r a.user) a.user a.session l None = subst (AtLevel a.way (group_of r a.user) a.user a.session l) e (at_level a.way (group_of r a.user) a.user a.session l) in

@@ -1,6 +1,6 @@
 -- Trees as they are grown: a part of the names, over some of the asks.
-use Rattle.std.specs.Prelude.{◌≡◌, ℕ, ◌+◌, Bool, true, false, ◌&&◌, nat_eq, nat_le, if◌then◌else◌, List, [], ◌∷◌, ◌++◌, length, map, slice_get, count_by, IsPermutation, not, Option, Some, None}
-use Rattle.std.specs.List.{filter, filter_map, AllByRecursion, list_any}
+use Rattle.std.specs.Prelude.{◌≡◌, ℕ, ◌+◌, Bool, true, false, ◌&&◌, nat_eq, nat_le, if◌then◌else◌, List, [], ◌∷◌, length, map, slice_get, count_by, IsPermutation, Option, Some, None}
+use Rattle.std.specs.List.{filter_map, AllByRecursion, list_any}
 use Rattle.limit_tree.specs.Outline.{is_leaf_kind, leaf_want, leaf_floor, leaf_range, places, beside, deeper, branch_over}
 use Rattle.limit_tree.specs.declared.node.Node.{Node}
 use Rattle.limit_tree.specs.declared.place.Kind.TheVariants.{Branch}
@@ -12,7 +12,7 @@ use Rattle.line_rates.specs.declared.ask.Name.TheVariants.{Server, Direction, Gr
 use Rattle.line_rates.specs.Names.{same_way, bears, want_of, floor_of}
 use Rattle.line_rates.specs.Rates.{Rates, group_of, rate_of}
 use Rattle.line_rates.specs.Ticks.{rate_limit}
-use Rattle.line_rates.specs.TickTree.{bears_at, Asker, ask_in, row_bears, row_spares}
+use Rattle.line_rates.specs.TickTree.{bears_at, Asker, ask_in}
 
 abbrev pub same_name : Name → Name → Bool
 same_name Server Server = true
@@ -107,17 +107,6 @@ has_key r level n a = is_option n (key r level a)
 -- no name at the level is one of an ask of each
 abbrev pub IsApart : Rates → ℕ → List Ask → List Ask → Type 0
 IsApart r level xs ys = (n : Name) → list_any (has_key r level n) xs ≡ true → list_any (has_key r level n) ys ≡ false
-
--- the ask in a row has the name at the level
-abbrev pub row_has : Rates → ℕ → Name → Asker → Bool
-row_has r level n x = has_key r level n x.1
-
-abbrev pub row_lacks : Rates → ℕ → Name → Asker → Bool
-row_lacks r level n x = not (has_key r level n x.1)
-
--- the rows whose asks bear a name, and behind them the others
-abbrev pub gathered : Rates → Name → List Asker → List Asker
-gathered r n rows = filter (row_bears r n) rows ++ filter (row_spares r n) rows
 
 -- the nodes of a branch over trees
 abbrev pub branch_places : {A : Type 0} → Option ℕ → List (Node A) → List Place

@@ -3,6 +3,7 @@ pub mod Granted
 pub mod Grown
 pub mod Names
 pub mod Plain
+pub mod Queue
 pub mod Rates
 pub mod Refused
 pub mod Stated

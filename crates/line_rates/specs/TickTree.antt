@@ -1,5 +1,5 @@
 -- The tree of a tick: sets of asks by the names that they bear.
-use Rattle.std.specs.Prelude.{◌≡◌, ℕ, Bool, true, false, ◌||◌, List, map, slice_get, Option, Some, None, IsTrue, IsPermutation, not, ⊤}
+use Rattle.std.specs.Prelude.{◌≡◌, ℕ, Bool, true, false, ◌||◌, List, map, slice_get, Option, Some, None, IsTrue, IsPermutation, ⊤}
 use Rattle.std.specs.List.{list_any}
 use Rattle.limit_tree.specs.Sharing.{Branch, LimitTree}
 use Rattle.line_rates.specs.declared.ask.Ask.{Ask}
@@ -57,12 +57,6 @@ ask_in x = x.1
 
 abbrev pub lane_in : Asker → ℕ
 lane_in x = x.0
-
-abbrev pub row_bears : Rates → Name → Asker → Bool
-row_bears rates n x = bears rates n x.1
-
-abbrev pub row_spares : Rates → Name → Asker → Bool
-row_spares rates n x = not (bears rates n x.1)
 
 -- A plan: the asks in some order, whose lanes it tells, are the leaves of its tree.
 pub record IsPlan (rates : Rates) (tick : ℕ) (asks : List Asker) (t : LimitTree) (lanes : List ℕ) : Type 0 where

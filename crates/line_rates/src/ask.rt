@@ -1,7 +1,7 @@
 //! What a transfer asks for, and the names that an ask bears.
 
 /// Which way a transfer goes.
-#[derive(Clone, Copy, Debug, PartialEq, Eq)]
+#[derive(Clone, Copy, Debug, PartialEq, Eq, PartialOrd, Ord)]
 pub enum Way {
     /// To the client, as a download.
     Down,
@@ -24,7 +24,7 @@ pub struct Ask {
 
 /// A name under which octets are counted and limited. An ask bears those of the server, of its way, of its user's
 /// group, of its user and of its session.
-#[derive(Clone, Copy, Debug, PartialEq, Eq)]
+#[derive(Clone, Copy, Debug, PartialEq, Eq, PartialOrd, Ord)]
 pub enum Name {
     /// All octets.
     Server,

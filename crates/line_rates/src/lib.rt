@@ -10,6 +10,7 @@ mod laws;
 mod limits;
 mod names;
 mod plan;
+mod queue;
 mod rate;
 mod row;
 mod rows;

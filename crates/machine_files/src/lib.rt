@@ -1,11 +1,15 @@
-//! Files of the machine, as a store sees them: what the machine tells of an entry, and files that are open.
+//! Files of the machine, as a store sees them: what the machine tells of an entry, and files that are
+//! open.
 //!
-//! A file is read and written only if it is the very one that was looked at before it was opened. What it holds
-//! is the machine's to say.
+//! A file is read and written only if it is the very one that was looked at before it was opened. What
+//! it holds is the machine's to say. A directory that a path leads through is held open, where the
+//! machine lets it.
 #![tactic(auto)]
 
 mod look;
 mod open;
+mod place;
 
 pub use look::{fault_of, meta_of};
 pub use open::{DirSink, DirSource, flushed, read_behind, write_at_end, write_behind, write_new};
+pub use place::{Place, enter};

@@ -1,4 +1,4 @@
-//! A machine on which another process acts just before a file is opened, or which refuses.
+//! A machine on which another process acts between two calls, or which refuses.
 
 use std::alloc::Allocator;
 use std::fs::{Metadata, OpenOptions};
@@ -6,25 +6,86 @@ use std::io;
 use std::io::Read;
 use std::rt::Files;
 
-/// What the other process does just before a file is opened, or how the machine refuses.
+/// What the other process does, or how the machine refuses.
 #[derive(Clone, Copy)]
 pub enum Act {
     Nothing,
-    /// It takes the file away.
+    /// It takes a file away just before it is opened.
     Remove,
     /// It puts a link to the file `kept`, beside the folder, in its place.
     Link,
+    /// It swaps the directory for a link to `elsewhere`, beside the folder, just before the directory
+    /// is opened.
+    SwapAtOnce,
+    /// It swaps the directory so just before a call by the name of what stands in it.
+    SwapLate,
     /// The machine refuses each rename.
     KeepNames,
     /// The machine tells nothing of what is called `a`.
     HideFirst,
+    /// The machine opens no directory.
+    KeepDirectories,
+    /// The machine has no `/proc`.
+    HideProc,
 }
 
 /// A machine, but for what the other process does, and for what is told of each directory.
 #[derive(Clone, Copy)]
-pub struct Racing<R> {
+pub struct Racing<'a, R> {
     pub rt: R,
     pub act: Act,
+    /// The directory `d`, and where it is moved to.
+    pub swapped: (&'a str, &'a str),
+}
+
+/// A machine on which no directory is swapped.
+pub fn acting<R>(rt: R, act: Act) -> Racing<'static, R> {
+    Racing {
+        rt,
+        act,
+        swapped: ("", ""),
+    }
+}
+
+impl<R: Files> Racing<'_, R> {
+    /// Swaps the directory for the link, once.
+    fn swap(&self) -> io::Result<()> {
+        let (directory, aside) = self.swapped;
+        if self.rt.symlink_metadata(directory)?.is_dir() {
+            self.rt.rename(directory, aside)?;
+            self.rt.symlink("../elsewhere", directory)?;
+        }
+        Ok(())
+    }
+
+    /// What happens before a call by the path of what stands in the directory `d`, or of its names.
+    fn before(&self, path: &str) -> io::Result<()> {
+        if matches!(&self.act, Act::SwapLate) && !path.ends_with("/d") {
+            return self.swap();
+        }
+        Ok(())
+    }
+
+    /// What happens before a file is opened.
+    fn before_file(&self, path: &str) -> io::Result<()> {
+        match self.act {
+            Act::Remove => self.rt.remove_file(path),
+            Act::Link => {
+                self.rt.remove_file(path)?;
+                self.rt.symlink("../kept", path)
+            }
+            _ => Ok(()),
+        }
+    }
+
+    /// What happens before a directory is opened.
+    fn before_directory(&self, path: &str) -> io::Result<()> {
+        match self.act {
+            Act::KeepDirectories => Err(io::Error::from(io::ErrorKind::PermissionDenied)),
+            Act::SwapAtOnce if path.ends_with("/d/") => self.swap(),
+            _ => Ok(()),
+        }
+    }
 }
 
 /// What is told of each directory: names, each ended by a NUL.
@@ -47,7 +108,7 @@ impl Read for Told {
     }
 }
 
-impl<R: Alloc> Alloc for Racing<R> {
+impl<R: Alloc> Alloc for Racing<'_, R> {
     type A = R::A;
 
     fn alloc(&self) -> R::A {
@@ -55,28 +116,29 @@ impl<R: Alloc> Alloc for Racing<R> {
     }
 }
 
-impl<R: Files> Files for Racing<R> {
+impl<R: Files> Files for Racing<'_, R> {
     type File = R::File;
 
     type Dir = Told;
 
     fn open_file(&self, how: &OpenOptions, path: &str) -> io::Result<R::File> {
-        match self.act {
-            Act::Nothing | Act::KeepNames | Act::HideFirst => {}
-            Act::Remove => self.rt.remove_file(path)?,
-            Act::Link => {
-                self.rt.remove_file(path)?;
-                self.rt.symlink("../kept", path)?;
-            }
+        if path.ends_with('/') {
+            self.before_directory(path)?;
+        } else {
+            self.before_file(path)?;
         }
         self.rt.open_file(how, path)
     }
 
-    fn open_dir(&self, _path: &str) -> io::Result<Told> {
+    fn open_dir(&self, path: &str) -> io::Result<Told> {
+        self.before(path)?;
         Ok(Told { is_read: false })
     }
 
     fn metadata(&self, path: &str) -> io::Result<Metadata> {
+        if matches!(&self.act, Act::HideProc) && path.starts_with("/proc/") {
+            return Err(io::Error::from(io::ErrorKind::NotFound));
+        }
         self.rt.metadata(path)
     }
 
@@ -84,6 +146,7 @@ impl<R: Files> Files for Racing<R> {
         if matches!(&self.act, Act::HideFirst) && path.ends_with("/a") {
             return Err(io::Error::from(io::ErrorKind::StaleNetworkFileHandle));
         }
+        self.before(path)?;
         self.rt.symlink_metadata(path)
     }
 
@@ -103,6 +166,7 @@ impl<R: Files> Files for Racing<R> {
     }
 
     fn create_dir(&self, path: &str) -> io::Result<()> {
+        self.before(path)?;
         self.rt.create_dir(path)
     }
 

@@ -3,6 +3,14 @@
 //! `Floors::of` starts from the limits that an administrator states, with no session counted. `admit` counts one more
 //! session of a user where what is then guaranteed fits within all rates above it, and else refuses it; `release` takes one
 //! back. Neither takes memory, and each costs two binary searches and a few sums.
+//!
+//! ```text
+//! let mut floors = Floors::of(alloc, &limits)?;
+//! if floors.admit(user) {
+//!     // a session of the user, whose guarantee is counted until ..
+//!     floors.release(user);
+//! }
+//! ```
 #![tactic(auto)]
 
 mod find;

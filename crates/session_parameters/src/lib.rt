@@ -1,4 +1,9 @@
 //! The rows of the session table on parameters and data connections, which ask nothing of the store.
+//!
+//! ```text
+//! let actions = set_offset(&mut state, 1_000)?; // 350
+//! let actions = open_passive(&mut state, Passive::Plain)?; // asks for a port; the reply comes with it
+//! ```
 #![tactic(auto)]
 
 mod connections;

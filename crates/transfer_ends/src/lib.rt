@@ -1,5 +1,10 @@
 //! What tests and measurements of transfers stand on: ends in memory that move few octets at a time and fail when they
 //! are told to, sealed decisions, funds of granted octets, and whole transfers by them.
+//!
+//! ```text
+//! let mut funds = Funds::new(alloc, &[100])?; // one round that granted one transfer 100 octets
+//! let grant = funds.grant(60); // at most what is left
+//! ```
 #![tactic(auto)]
 
 mod ends;

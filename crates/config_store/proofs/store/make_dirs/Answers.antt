@@ -1,9 +1,15 @@
 use Rattle.std.proofs.Common.{refl}
-use Rattle.config_store.specs.Made.{MakesDir}
+use Rattle.config_store.specs.Made.{MakesDir, IsDirProblem}
 use Rattle.config_store.proofs.Making.{all-next}
+use Rattle.config_store.proofs.Refusing.{row_refused}
 use Rattle.config_store.proofs.store.make_dirs.Goals as goal
 
 pub loop-index-preserved : goal.loop-index-preserved
 loop-index-preserved c =
     all-next MakesDir c.args.dirs.now c.loop-index.index _ _ c.args.store.now c.loop-index.store c.make_dir.new.store
     c.loop-index-test.true refl c.loop-index.invariant c.in-Ok.ensures.made
+
+pub returns-in-Err-clause-refused : goal.returns-in-Err-clause-refused
+returns-in-Err-clause-refused c =
+    row_refused MakesDir IsDirProblem c.args.dirs.now c.loop-index.index _ _ c.args.store.now c.loop-index.store c.in-Err.problem c.refused.result
+    c.loop-index-test.true refl c.loop-index.invariant c.in-Err.ensures.refused c.refused.ensures.told

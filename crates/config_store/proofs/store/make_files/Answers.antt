@@ -1,8 +1,14 @@
-use Rattle.config_store.specs.Made.{MakesFile}
+use Rattle.config_store.specs.Made.{MakesFile, IsFileProblem}
 use Rattle.config_store.proofs.Making.{all-next}
+use Rattle.config_store.proofs.Refusing.{row_refused}
 use Rattle.config_store.proofs.store.make_files.Goals as goal
 
 pub loop-index-preserved : goal.loop-index-preserved
 loop-index-preserved c =
     all-next MakesFile c.args.files.now c.loop-index.index c.index-files-index.result c.index-files-index.result c.args.store.now c.loop-index.store c.make_file.new.store
     c.loop-index-test.true c.index-files-index.is c.loop-index.invariant c.in-Ok.ensures.made
+
+pub returns-in-Err-clause-refused : goal.returns-in-Err-clause-refused
+returns-in-Err-clause-refused c =
+    row_refused MakesFile IsFileProblem c.args.files.now c.loop-index.index c.index-files-index.result c.index-files-index.result c.args.store.now c.loop-index.store c.in-Err.problem c.refused.result
+    c.loop-index-test.true c.index-files-index.is c.loop-index.invariant c.in-Err.ensures.refused c.refused.ensures.told

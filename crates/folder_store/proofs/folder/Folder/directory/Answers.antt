@@ -1,0 +1,13 @@
+use Rattle.std.proofs.Common.{string_bytes}
+use Rattle.folder_store.proofs.Places.{leads_next, leads_by_all}
+use Rattle.folder_store.proofs.folder.Folder.directory.Goals as goal
+
+pub loop-name-init : goal.loop-name-init
+loop-name-init g c = c.in_ok-place.ensures.place
+
+pub loop-name-preserved : goal.loop-name-preserved
+loop-name-preserved g c =
+    leads_next (λ name. name.now) c.args.names.now c.loop-name.name-index _ (string_bytes c.args.self.now.path) _ _ c.loop-name-test.true c.loop-name.invariant c.in_ok-is_file.ensures.place
+
+pub returns-clause-place : goal.returns-clause-place
+returns-clause-place g c = leads_by_all (λ name. name.now) c.args.names.now c.loop-name.name-index (string_bytes c.args.self.now.path) _ c.loop-name-test.false c.loop-name.invariant

@@ -1,0 +1,15 @@
+use Rattle.std.proofs.Common.{◌≡◌, arith, refl, ◌∙◌, subst, take_all}
+use Rattle.std.proofs.Math.Seq.{map-set_same}
+use Rattle.line_rates.specs.Grown.{key}
+use Rattle.line_rates.specs.Queue.{asker_of, AreNamedAt}
+use Rattle.line_rates.proofs.QueueLemmas.{all_put}
+use Rattle.line_rates.proofs.queue.give_names.Goals as goal
+
+pub loop-place-preserved : goal.loop-place-preserved
+loop-place-preserved g c = record {
+  same = map-set_same asker_of c.loop-place.queue c.loop-place.place _ _ refl ∙ c.loop-place.invariant.same;
+  named = all_put (λ x. x.name ≡ key c.args.limits.now c.args.level x.asker.1) c.loop-place.queue c.loop-place.place _ (omega arith) c.loop-place.invariant.named c.name_at-name.ensures.key;
+}
+
+pub returns-clause-named : goal.returns-clause-named
+returns-clause-named g c = subst (AreNamedAt c.args.limits.now c.args.level) (take_all c.loop-place.place c.loop-place.queue (omega arith)) c.loop-place.invariant.named

@@ -1,0 +1,161 @@
+//! Each growth of each step refused in turn: the session, the floors and the store are as before, or
+//! the client is told so, and the line passes once there is memory.
+
+use crate::expect::{holds, same};
+use crate::room::{Room, make_room, settings};
+use crate::rows::{ABORTED, HELD, PATHS, UPLOADS};
+use linked_list_allocator::LocalHeap;
+use memory_store::{MemSink, MemSource};
+use scarce_memory::{HEAP, leave_hole};
+use session_core::Session;
+use session_table::Action;
+use std::alloc::AllocError;
+use std::process::Abort;
+use std::test::Fail;
+
+fn follow<'h>(
+    rt: &(impl Abort + AllocGlobal),
+    heap: &'h LocalHeap,
+    room: &mut Room<'h>,
+    rows: &[(&str, &str)],
+) -> Result<(), Fail> {
+    for (line, reply) in rows {
+        let octets = room.give(rt.alloc(), heap, line)?;
+        same(rt, octets.as_slice(), reply.as_bytes());
+    }
+    Ok(())
+}
+
+/// What the store says where it had no memory, and what it says at the end of a file.
+fn is_refusal(told: &[u8]) -> bool {
+    told == b"451 Out of memory\r\n".as_slice()
+}
+
+fn is_lost_end(told: &[u8]) -> bool {
+    told == b"451 Out of memory\r\n[received]".as_slice()
+}
+
+/// Whether a row was refused: the rows from it on pass then, or at the end of a file the next ones.
+fn was_refused<'h>(
+    rt: &(impl Abort + AllocGlobal),
+    heap: &'h LocalHeap,
+    room: &mut Room<'h>,
+    told: Option<Vec<u8>>,
+    rows: &[(&str, &str)],
+) -> Result<bool, Fail> {
+    let Some(told) = told else {
+        follow(rt, heap, room, rows)?;
+        return Ok(true);
+    };
+    if is_refusal(told.as_slice()) {
+        follow(rt, heap, room, rows)?;
+        return Ok(true);
+    }
+    let Some(((_, reply), others)) = rows.split_first() else {
+        return Ok(false);
+    };
+    follow(rt, heap, room, others)?;
+    if is_lost_end(told.as_slice()) {
+        return Ok(true);
+    }
+    same(rt, told.as_slice(), reply.as_bytes());
+    Ok(false)
+}
+
+/// A row in a heap that has only one hole of some octets, behind those before it.
+fn try_row(
+    rt: &(impl Abort + AllocGlobal),
+    before: &[(&str, &str)],
+    rows: &[(&str, &str)],
+    line: &str,
+    hole: usize,
+) -> Result<bool, Fail> {
+    let heap = LocalHeap::new(rt.alloc(), HEAP)?;
+    let mut room = make_room(rt.alloc(), &heap)?;
+    follow(rt, &heap, &mut room, before)?;
+    let told = room.give_short(rt, &heap, line, hole)?;
+    was_refused(rt, &heap, &mut room, told, rows)
+}
+
+/// How many growths of a row are refused before it passes.
+fn count_refused(
+    rt: &(impl Abort + AllocGlobal),
+    before: &[(&str, &str)],
+    rows: &[(&str, &str)],
+    line: &str,
+) -> Result<usize, Fail> {
+    for step in 0..512usize {
+        if !try_row(rt, before, rows, line, 16 * step)? {
+            return Ok(step);
+        }
+    }
+    Err(Fail::from("never enough memory"))
+}
+
+/// Each row of a script in turn. Answers how many rows were refused at least once.
+fn check_rows(rt: &(impl Abort + AllocGlobal), rows: &[(&str, &str)]) -> Result<u32, Fail> {
+    let mut refused = 0u32;
+    for (index, (line, _)) in rows.iter().enumerate() {
+        let (before, others) = rows.split_at(index);
+        if 0 < count_refused(rt, before, others, line)? {
+            refused = refused.saturating_add(1);
+        }
+    }
+    Ok(refused)
+}
+
+#[test]
+fn paths(rt: HostRuntime) -> Result<(), Fail> {
+    let refused = check_rows(&rt, &PATHS)?;
+    holds(&rt, refused == 6);
+    Ok(())
+}
+
+#[test]
+fn uploads(rt: HostRuntime) -> Result<(), Fail> {
+    let refused = check_rows(&rt, &UPLOADS)?;
+    holds(&rt, refused == 9);
+    Ok(())
+}
+
+#[test]
+fn aborted_downloads(rt: HostRuntime) -> Result<(), Fail> {
+    let refused = check_rows(&rt, &ABORTED)?;
+    holds(&rt, refused == 10);
+    Ok(())
+}
+
+/// A list that has room for a line more takes no memory.
+#[test]
+fn held_lines(rt: HostRuntime) -> Result<(), Fail> {
+    let refused = check_rows(&rt, &HELD)?;
+    holds(&rt, refused >= 9);
+    Ok(())
+}
+
+type Greeting<'h> = Vec<
+    Action<&'h LocalHeap, MemSource<&'h LocalHeap>, MemSink<&'h LocalHeap>>,
+    &'h LocalHeap,
+>;
+
+/// A session's beginning in a heap that has only one hole of some octets.
+fn begin<'h>(heap: &'h LocalHeap) -> Result<usize, AllocError> {
+    let session = Session::new(heap, settings(), [127, 0, 0, 1])?;
+    let greeting: Greeting<'h> = session.greet()?;
+    Ok(greeting.len())
+}
+
+fn begin_short(rt: &impl AllocGlobal, hole: usize) -> Result<Option<usize>, Fail> {
+    let heap = LocalHeap::new(rt.alloc(), HEAP)?;
+    let rest = leave_hole(rt, &heap, hole)?;
+    let greeted = begin(&heap).ok();
+    drop(rest);
+    Ok(greeted)
+}
+
+#[test]
+fn beginnings(rt: HostRuntime) -> Result<(), Fail> {
+    holds(&rt, begin_short(&rt, 0)?.is_none());
+    holds(&rt, begin_short(&rt, 2048)? == Some(2));
+    Ok(())
+}

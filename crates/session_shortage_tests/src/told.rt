@@ -1,0 +1,66 @@
+//! What is to be done, in words: replies end with CR LF, other actions stand in brackets.
+
+use linked_list_allocator::LocalHeap;
+use memory_store::{MemSink, MemSource};
+use session_table::{Action, HookCall, Job};
+use std::alloc::Allocator;
+use std::test::Fail;
+
+pub(crate) type Sink<'h> = MemSink<&'h LocalHeap>;
+
+pub(crate) type Doing<'h> = Action<&'h LocalHeap, MemSource<&'h LocalHeap>, Sink<'h>>;
+
+pub(crate) type Doings<'h> = Vec<Doing<'h>, &'h LocalHeap>;
+
+fn put(octets: &mut Vec<u8>, text: &str) -> Result<(), Fail> {
+    octets.extend_from_slice(text.as_bytes())?;
+    Ok(())
+}
+
+fn hook_word<A: Allocator>(call: &HookCall<A>) -> &'static str {
+    match call {
+        HookCall::Connect => "[connected]",
+        HookCall::Disconnect => "[disconnected]",
+        HookCall::Login(_) => "[login]",
+        HookCall::LoginFailed(_) => "[failed]",
+        HookCall::Logout(_) => "[logout]",
+        HookCall::FileSent(_) => "[sent]",
+        HookCall::FileReceived(_) => "[received]",
+        HookCall::IncompleteFileSent(_) => "[not sent]",
+        HookCall::IncompleteFileReceived(_) => "[not received]",
+    }
+}
+
+/// A transfer that starts; what is written through is kept.
+fn put_job<'h>(
+    octets: &mut Vec<u8>,
+    kept: &mut Option<Sink<'h>>,
+    job: Job<&'h LocalHeap, MemSource<&'h LocalHeap>, Sink<'h>>,
+) -> Result<(), Fail> {
+    match job {
+        Job::TakeFile(sink, _) => {
+            *kept = Some(sink);
+            put(octets, "[take]")
+        }
+        Job::SendFile(_, _) => put(octets, "[send]"),
+        Job::Text(_) => put(octets, "[text]"),
+    }
+}
+
+pub(crate) fn put_doing<'h>(
+    octets: &mut Vec<u8>,
+    kept: &mut Option<Sink<'h>>,
+    action: Doing<'h>,
+) -> Result<(), Fail> {
+    match action {
+        Action::Say(answer) => Ok(answer.into_reply().write_to(octets)?),
+        Action::Start(job) => put_job(octets, kept, job),
+        Action::OpenPassive => put(octets, "[passive]"),
+        Action::ConnectTo(_) => put(octets, "[connect]"),
+        Action::DropData => put(octets, "[drop]"),
+        Action::Abort => put(octets, "[abort]"),
+        Action::CloseControl => put(octets, "[close]"),
+        Action::ReleaseFloor(_) => put(octets, "[release]"),
+        Action::Hook(call) => put(octets, hook_word(&call)),
+    }
+}

@@ -1,5 +1,5 @@
 -- The entries of one directory among all.
-use Rattle.std.proofs.Common.{◌≡◌, ℕ, zero, suc, ◌+◌, ◌<◌, Bool, true, false, cond, not, ◌&&◌, T, List, [], ◌∷◌, ◌++◌, length, map, filter, refl, sym, ap, subst, ◌∙◌, arith, Option, Some, None, nat_eq, is_some, append_assoc, Vec}
+use Rattle.std.proofs.Common.{◌≡◌, ℕ, ◌<◌, Bool, true, false, cond, not, ◌&&◌, T, List, [], ◌∷◌, ◌++◌, length, map, filter, refl, sym, ap, subst, ◌∙◌, arith, Option, Some, None, nat_eq, is_some, append_assoc, Vec, Result, Ok, Err, IfOk}
 use Rattle.std.proofs.lemmas.List.{append-nil}
 use Rattle.std.proofs.lemmas.Map.Iter.{rest_more, rest_all}
 use Rattle.std.specs.Map.Iter.{TakesFirst}
@@ -7,8 +7,7 @@ use Rattle.std.specs.String.{string_bytes}
 use borrow.Author.Tests.{eqb-true}
 use Rattle.std.specs.declared.cmp.Ordering.{Ordering}
 use Rattle.std.specs.declared.cmp.Ordering.TheVariants.{Less, Equal, Greater}
-use Rattle.std.specs.declared.ops.Bound.{Bound}
-use Rattle.std.specs.declared.ops.Bound.TheVariants.{Included, Excluded, Unbounded}
+use Rattle.std.specs.declared.ops.Bound.TheVariants.{Included, Excluded}
 use Rattle.std.specs.Cmp.Lexicographic.{slice_cmp, nat_list_cmp_total}
 use Rattle.std.specs.Ordering.{nat_cmp, is_eq, is_lt, is_le, is_gt, ordering_then}
 use Rattle.std.specs.BTreeMap.Range.{range_contains, entries_between, IsLeBy}
@@ -268,6 +267,11 @@ names_rise directory (e ∷ es) sorted =
 pub listing_rises : {A B : Type 0} (listed : Vec (Listed A) B) (tree : Tree) (directory : Path) → entries_of listed ≡ listing tree directory → IsStrictlySortedBy text_cmp (names_of listed)
 listing_rises listed tree directory is =
     subst (IsStrictlySortedBy text_cmp) (sym (names_told listed.items ∙ ap (map (λ (e : Entry). e.0)) is)) (names_rise directory (entries tree) (entries_sorted tree))
+
+pub listing_rises_where : {A B E : Type 0} (answer : Result (Vec (Listed A) B) E) (tree : Tree) (directory : Path) → IfOk answer (λ listed. entries_of listed ≡ listing tree directory)
+    → IfOk answer (λ listed. IsStrictlySortedBy text_cmp (names_of listed))
+listing_rises_where (Ok listed) tree directory is = listing_rises listed tree directory is
+listing_rises_where (Err error) tree directory is = tt
 
 pub entries_push : {A : Type 0} (listed more : List (Listed A)) (entry : Listed A) (rest : List Entry) → more ≡ listed ++ entry ∷ [] → map entry_of more ++ rest ≡ (map entry_of listed ++ entry_of entry ∷ []) ++ rest
 entries_push listed more entry rest is = ap (λ entries. map entry_of entries ++ rest) is ∙ ap (λ entries. entries ++ rest) (pushed listed entry)

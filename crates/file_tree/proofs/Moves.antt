@@ -1,5 +1,5 @@
 -- Where entries stand after a rename.
-use Rattle.std.proofs.Common.{◌≡◌, ◌≢◌, ◌↔◌, ℕ, suc, ◌+◌, ◌-◌, ◌<◌, ◌≤◌, Bool, true, false, cond, ◌||◌, List, [], ◌∷◌, ◌++◌, length, map, take, drop, refl, sym, ap, subst, ◌∙◌, arith, Option, Some, None, nat_eq, slice_index, append_assoc, length-append, zero-add, add-zero, add_assoc, ◌^◌}
+use Rattle.std.proofs.Common.{◌≡◌, ◌≢◌, ◌↔◌, ℕ, ◌+◌, ◌<◌, ◌≤◌, Bool, true, false, cond, ◌||◌, List, [], ◌∷◌, ◌++◌, length, map, take, drop, refl, sym, ap, subst, ◌∙◌, arith, Option, Some, None, nat_eq, slice_index, append_assoc, length-append, zero-add, add-zero, add_assoc, ◌^◌}
 use Rattle.std.proofs.lemmas.List.{append-nil, append_cancel_left, take-append-drop}
 use Rattle.std.proofs.Math.Seq.{take-append_seam, drop-append_seam}
 use Rattle.std.specs.Cmp.{tied_itself}
@@ -11,7 +11,7 @@ use Rattle.std.specs.Str.Pattern.{StripsPrefix, FindsTextPrefix}
 use Rattle.std.specs.Map.Iter.{TakesLast}
 use Rattle.std.specs.Map.{keys_of}
 use Rattle.std.specs.List.Sorted.{IsStrictlySortedBy}
-use Rattle.std.specs.FinMap.{FinMap, get, insert, entries, from_entries}
+use Rattle.std.specs.FinMap.{get, insert, from_entries}
 use Rattle.virtual_path.specs.Path.{Path, slashed, IsBeneath}
 use Rattle.virtual_path.proofs.Beneath.{rest_beneath, beneath_rest}
 use Rattle.virtual_path.proofs.Texts.{slashed-append}

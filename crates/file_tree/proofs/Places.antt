@@ -1,5 +1,5 @@
 -- A path as it is kept: the text of its directory, and its last name.
-use Rattle.std.proofs.Common.{◌≡◌, ◌≢◌, ℕ, suc, ◌+◌, ◌-◌, ◌≤◌, ◌<◌, Bool, false, List, [], ◌∷◌, ◌++◌, length, take, drop, refl, sym, ap, subst, ◌∙◌, arith, length-append, Option, Some, None}
+use Rattle.std.proofs.Common.{◌≡◌, ◌≢◌, ℕ, suc, ◌+◌, ◌-◌, ◌≤◌, ◌<◌, false, List, [], ◌∷◌, ◌++◌, length, take, drop, refl, sym, ap, subst, ◌∙◌, arith, length-append, Some, None}
 use Rattle.std.proofs.Math.Seq.{take-append_seam}
 use Rattle.std.specs.List.{AllByRecursion}
 use Rattle.std.specs.Cmp.{tied_itself}
@@ -12,9 +12,9 @@ use Rattle.virtual_path.proofs.Elements.{each-append, each-take, each-drop}
 use Rattle.virtual_path.proofs.Parts.{IsCut, cut_plain}
 use Rattle.virtual_path.proofs.Splits.{names_of-slashed}
 use Rattle.virtual_path.proofs.Texts.{path_text-slashed, slashed-append, slashed-push}
-use Rattle.virtual_path.proofs.Walks.{no_slash_in_names, no_slash_in_path}
+use Rattle.virtual_path.proofs.Walks.{no_slash_in_names}
 use Rattle.file_tree.specs.Held.{IsPlaceText}
-use Rattle.file_tree.specs.Tree.{Place, names_cmp, path_cmp, place_of, last_of}
+use Rattle.file_tree.specs.Tree.{names_cmp, path_cmp, place_of, last_of}
 use Rattle.file_tree.proofs.Trees.{exact_names}
 
 -- no name of it has a slash

@@ -1,12 +1,13 @@
 //! The entries of a store in memory, by their paths.
 
-ghost use Rattle.std.specs.Prelude.{◌≡◌, ◌<◌, ◌^◌, IfOk, OnOk, OnErr, option_copied, Some, None, length, nat_eq};
+ghost use Rattle.std.specs.Prelude.{◌≡◌, ◌<◌, ◌^◌, ◌++◌, ◌∷◌, [], false, IfOk, OnOk, OnErr, option_copied, Some, None, length, nat_eq};
 ghost use Rattle.std.specs.Cmp.Lexicographic.{slice_cmp};
 ghost use Rattle.std.specs.FinMap as map;
 ghost use Rattle.std.specs.List.Sorted.{IsStrictlySortedBy};
-ghost use Rattle.std.specs.Ordering.{nat_cmp};
+ghost use Rattle.std.specs.Ordering.{nat_cmp, is_gt};
+ghost use Rattle.virtual_path.specs.Path.{Path};
 ghost use Rattle.virtual_tree.specs.Calls.{entries_of, names_of};
-ghost use Rattle.file_tree.specs.Tree.{total, size_of, size_at, children_in, listing, renamed};
+ghost use Rattle.file_tree.specs.Tree.{total, size_of, size_at, children_in, listing, path_cmp, renamed};
 
 use crate::entry::Entry;
 use crate::place::Place;
@@ -107,10 +108,24 @@ impl<A: Allocator + Clone> Files<A> {
     {
         let first = Place::first_in(alloc, path)?;
         let end = Place::past(alloc, path)?;
+        self.listed_between(alloc, &first, &end)
+    }
+
+    /// The same, between the places before and past all entries of the directory.
+    fn listed_between(
+        &self,
+        alloc: &A,
+        first: &Place<A>,
+        end: &Place<A>,
+    ) -> Result<Vec<Listed<A>, A>, AllocError>
+        requires forward { is_gt (path_cmp first.now end.now) ≡ false }
+        ensures entries { (directory : Path) → first.now ≡ directory ++ [] ∷ [] → end.now ≡ (directory ++ [] ∷ []) ++ [] ∷ []
+            → IfOk result (λ listed. entries_of listed ≡ listing self.now directory) }
+    {
         let mut listed = Vec::new(alloc.clone()?);
         for (place, entry) in self
             .nodes
-            .range((Bound::Included(&first), Bound::Excluded(&end)))
+            .range((Bound::Included(first), Bound::Excluded(end)))
         {
             if let Some(found) = place.listed(alloc, entry)? {
                 listed.push(found)?;

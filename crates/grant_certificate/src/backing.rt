@@ -4,7 +4,7 @@ ghost use Rattle.std.specs.Prelude.{◌≡◌, ◌+◌, ◌<◌, ◌≤◌, ◌^
 ghost use Rattle.grant_certificate.specs.Ranges.{IsMarked, IsHeldWithin};
 
 use super::range::greatest;
-use limit_tree::{MAX_LEAVES, Place, Visitor};
+use limit_tree::{MAX_LEAVES, Place};
 
 /// Marks the leaves that name a bottleneck of their own, and no others.
 #[derive(Drop)]
@@ -20,8 +20,8 @@ pub struct BackingLook<'a> {
 }
 
 impl<'a> BackingLook<'a> {
-    ghost use Rattle.std.specs.Prelude.{◌≡◌, ◌<◌, ◌≤◌, ◌^◌, [], length, sum};
-    ghost use Rattle.grant_certificate.specs.Looks.{SoughtBacking};
+    ghost use Rattle.std.specs.Prelude.{◌≡◌, ◌+◌, ◌<◌, ◌≤◌, ◌^◌, [], length, sum};
+    ghost use Rattle.grant_certificate.specs.Looks.{SoughtBacking, SeesBacking};
 
     /// Nothing is marked yet.
     pub fn new(grants: &'a [u64], floors: &'a [u64], entries: &'a [Option<u32>]) -> BackingLook<'a>
@@ -41,18 +41,14 @@ impl<'a> BackingLook<'a> {
             marks: no_marks(),
         }
     }
-}
 
-impl<'a> Visitor for BackingLook<'a> {
-    ghost use Rattle.std.specs.Prelude.{length};
-    ghost use Rattle.grant_certificate.specs.Looks.{SoughtBacking};
-
-    ghost leaves = { λ s. length s.grants.now };
-
-    ghost Saw = { SoughtBacking };
-
-    fn visit(&mut self, number: usize, place: Place) {
-        if place.is_full(self.grants) {
+    /// Takes one node more: its number and its place, and whether it is a full branch.
+    pub fn see(&mut self, number: usize, place: Place, full: bool)
+        requires inside { place.first + place.leaves ≤ length self.old.grants.now }
+        ensures grants { self.new.grants.now ≡ self.old.grants.now }
+        ensures saw { SeesBacking self.old number place full self.new }
+    {
+        if full {
             mark_held(
                 number,
                 place,

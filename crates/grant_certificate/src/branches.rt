@@ -15,7 +15,7 @@ use std::alloc::Allocator;
 struct BranchLook<'a> {
     over: OverLook<'a>,
     backing: BackingLook<'a>,
-    ghost same: { length over.grants.now ≡ length backing.grants.now },
+    ghost same: { over.grants.now ≡ backing.grants.now },
 }
 
 impl<'a> Visitor for BranchLook<'a> {
@@ -27,8 +27,9 @@ impl<'a> Visitor for BranchLook<'a> {
     ghost Saw = { SoughtBranches };
 
     fn visit(&mut self, number: usize, place: Place) {
-        self.over.visit(number, place);
-        self.backing.visit(number, place);
+        let load = self.over.load(place);
+        self.over.see(number, load.over);
+        self.backing.see(number, place, load.full);
     }
 }
 

@@ -1,8 +1,8 @@
 //! Grants that pass their bounds.
 ghost use Rattle.std.specs.Prelude.{◌≡◌, ◌<◌, ◌≤◌, ◌^◌, ℕ, MatchOption, length, slice_index, sum};
 
-use super::range::is_over_place;
-use limit_tree::{Place, Visitor};
+use super::range::{Load, load_of};
+use limit_tree::Place;
 
 /// The first number that is larger than its bound.
 pub fn first_above(numbers: &[u64], bounds: &[u64]) -> Option<usize>
@@ -27,8 +27,10 @@ pub struct OverLook<'a> {
 }
 
 impl<'a> OverLook<'a> {
-    ghost use Rattle.std.specs.Prelude.{◌≡◌, ◌<◌, ◌^◌, [], sum};
-    ghost use Rattle.grant_certificate.specs.Looks.{SoughtOver};
+    ghost use Rattle.std.specs.Prelude.{◌≡◌, ◌+◌, ◌<◌, ◌≤◌, ◌^◌, ◌↔◌, [], IsTrue, length, sum};
+    ghost use Rattle.limit_tree.specs.Outline.{IsFullPlace};
+    ghost use Rattle.grant_certificate.specs.Looks.{SoughtOver, SeesOver};
+    ghost use Rattle.grant_certificate.specs.Ranges.{IsOverPlace};
 
     /// Nothing is found yet.
     pub fn new(grants: &'a [u64]) -> OverLook<'a>
@@ -41,21 +43,25 @@ impl<'a> OverLook<'a> {
             found: None,
         }
     }
-}
 
-impl<'a> Visitor for OverLook<'a> {
-    ghost use Rattle.std.specs.Prelude.{length};
-    ghost use Rattle.grant_certificate.specs.Looks.{SoughtOver};
+    /// What the leaves of a place have of its limit.
+    pub fn load(&self, place: Place) -> Load
+        requires inside { place.first + place.leaves ≤ length self.now.grants.now }
+        ensures over { IsTrue result.over ↔ IsOverPlace place self.now.grants.now }
+        ensures full { IsTrue result.full ↔ IsFullPlace place self.now.grants.now }
+    {
+        load_of(place, self.grants)
+    }
 
-    ghost leaves = { λ s. length s.grants.now };
-
-    ghost Saw = { SoughtOver };
-
-    fn visit(&mut self, number: usize, place: Place) {
+    /// Takes one node more: its number, and whether its leaves have more than its limit.
+    pub fn see(&mut self, number: usize, over: bool)
+        ensures grants { self.new.grants.now ≡ self.old.grants.now }
+        ensures saw { SeesOver self.old number over self.new }
+    {
         match self.found {
             Some(_) => {}
             None => {
-                if is_over_place(place, self.grants) {
+                if over {
                     self.found = Some(number);
                 }
             }

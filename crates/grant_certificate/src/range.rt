@@ -1,21 +1,42 @@
 //! Facts of a range of leaves, by the grants of all leaves.
 ghost use Rattle.std.specs.Prelude.{◌≡◌, ◌+◌, ◌<◌, ◌≤◌, ◌^◌, ◌↔◌, IsTrue, MatchOption, length, sum};
+ghost use Rattle.limit_tree.specs.Outline.{IsFullPlace};
 ghost use Rattle.grant_certificate.specs.Ranges.{IsGreatest, IsFirstGreater, IsNoneGreater, IsOverPlace};
 
 use limit_tree::{Kind, Place};
 
-/// Whether the place is that of a branch whose leaves have more than its limit.
-pub fn is_over_place(place: Place, grants: &[u64]) -> bool
+/// What the leaves of a node have of its limit.
+#[derive(Clone, Copy)]
+pub struct Load {
+    /// More than the limit.
+    pub over: bool,
+    /// Just the limit.
+    pub full: bool,
+}
+
+/// What the leaves of a place have of its limit. Sums their grants once.
+pub fn load_of(place: Place, grants: &[u64]) -> Load
     requires inside { place.first + place.leaves ≤ length grants.now }
     requires fits { sum grants.now < 2 ^ 64 }
-    ensures over { IsTrue result ↔ IsOverPlace place grants.now }
+    ensures over { IsTrue result.over ↔ IsOverPlace place grants.now }
+    ensures full { IsTrue result.full ↔ IsFullPlace place grants.now }
 {
+    let none = Load {
+        over: false,
+        full: false,
+    };
     match place.kind {
         Kind::Branch { limit } => match limit {
-            Some(most) => most < place.sum(grants),
-            None => false,
+            Some(most) => {
+                let taken = place.sum(grants);
+                Load {
+                    over: most < taken,
+                    full: taken == most,
+                }
+            }
+            None => none,
         },
-        Kind::Leaf { .. } => false,
+        Kind::Leaf { .. } => none,
     }
 }
 

@@ -1,8 +1,8 @@
 -- Branches among the first nodes.
-use Rattle.std.proofs.Common.{◌≡◌, ℕ, zero, suc, ◌+◌, ◌-◌, ◌^◌, ◌<◌, ◌≤◌, cond, not, List, [], ◌∷◌, ◌++◌, length, take, ap, ◌∙◌, arith, Option, Some}
+use Rattle.std.proofs.Common.{◌≡◌, ℕ, zero, suc, ◌+◌, ◌-◌, ◌^◌, ◌<◌, cond, not, List, [], ◌∷◌, ◌++◌, take, ap, ◌∙◌, arith, Option, Some}
 use Rattle.std.specs.Prelude.{slice_get}
 use Rattle.std.proofs.Math.Nat.{two-pow-succ}
-use Rattle.std.proofs.lemmas.List.Sums.{sum_by-append, sum_by-cons, sum_by-take-le, count_by-le-length}
+use Rattle.std.proofs.lemmas.List.Sums.{sum_by-append, sum_by-cons}
 use Rattle.limit_tree.specs.Outline.{is_leaf_kind}
 use Rattle.limit_tree.specs.declared.place.Kind.{Kind}
 use Rattle.limit_tree.specs.declared.place.Kind.TheVariants.{Branch, Leaf}
@@ -32,9 +32,6 @@ branches-branch ps k p limit got is = branches-more ps k p (Branch limit) got is
 
 pub branches-leaf : (ps : List Place) (k : ℕ) (p : Place) (want floor : ℕ) → slice_get ps k ≡ Some p → p.kind ≡ Leaf want floor → branch_count (take (k + 1) ps) ≡ branch_count (take k ps)
 branches-leaf ps k p want floor got is = omega (arith, branches-more ps k p (Leaf want floor) got is)
-
-pub branches-few : (ps : List Place) (k : ℕ) → branch_count (take k ps) ≤ length ps
-branches-few ps k = omega (arith, sum_by-take-le branch_of_place ps k, count_by-le-length (λ (p : Place). not (is_leaf_kind p.kind)) ps)
 
 -- after one step fewer
 pub halve : (step : ℕ) → step < 32 → 2 ^ (32 - step) ≡ 2 ^ (32 - (step + 1)) + 2 ^ (32 - (step + 1))

@@ -5,3 +5,4 @@ pub mod Counts
 pub mod Ends
 pub mod Searches
 pub mod Marks
+pub mod Floors

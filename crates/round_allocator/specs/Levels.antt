@@ -26,11 +26,10 @@ pub record IsLevel (outline : List Place) (node most : ℕ) (share : Share) : Ty
 pub record IsNarrower (outline : List Place) (node most : ℕ) (window next : Window) : Type 0 where
   pub order : next.low < next.high
   pub top : next.high ≤ window.high
-  pub below : 0 < next.low → (next.taken ≡ taken_below next.low outline node) × (next.taken ≤ most)
+  pub below : next.taken ≡ taken_below next.low outline node
+  pub fits : next.taken ≤ most
   pub above : most < taken_below next.high outline node
   pub width : next.high + next.high ≤ next.low + next.low + (window.high + 1 - window.low)
-  pub half : next.low ≡ 0 → (next.high ≤ 1) ⊎ (next.high + next.high ≤ window.high)
-  pub start : next.low ≡ 0 → window.low ≡ 0
 
 -- the branch has no limit: all goes to its kids
 pub record IsOpen (limit : Option ℕ) (share : Share) (plan : Plan) : Type 0 where

@@ -32,7 +32,7 @@ pub struct Grant {
 pub struct Window {
     pub low: u64,
     pub high: u64,
-    /// What they take in at the lower level, where that was probed: where it is not 0.
+    /// What they take in at the lower level.
     pub taken: u64,
 }
 
@@ -47,11 +47,11 @@ fn narrow<A: Allocator>(
     requires node { node < length tree.now }
     requires room { probes.old < 2 ^ 63 }
     requires order { window.low < window.high }
-    requires below { 0 < window.low → (window.taken ≡ taken_below window.low tree.now node) × (window.taken ≤ most) }
+    requires below { window.taken ≡ taken_below window.low tree.now node }
+    requires fits { window.taken ≤ most }
     requires above { most < taken_below window.high tree.now node }
     ensures narrower { IsNarrower tree.now node most window result }
     ensures counted { probes.new ≤ probes.old + 1 }
-    ensures neighbours { window.high ≤ window.low + 1 → probes.new ≡ probes.old }
 {
     if window.high - window.low <= 1 {
         return window;
@@ -73,7 +73,8 @@ fn narrow<A: Allocator>(
     }
 }
 
-// The greatest level below one that is too high, and what the limit leaves there: at most 32 probes.
+// The greatest level below one that is too high, and what the limit leaves there: at most 32 probes, since at level 0 the
+// kids of the branch take in their floors.
 fn search<A: Allocator>(
     tree: &ProbedTree<'_, A>,
     node: usize,
@@ -93,13 +94,10 @@ fn search<A: Allocator>(
     let mut window = Window {
         low: 0,
         high: level,
-        taken: 0,
+        taken: tree.floors(node),
     };
     for _step in 0..32u32 {
         window = narrow(tree, node, most, window, probes);
-    }
-    if window.low == 0 {
-        window.taken = tree.probe(node, 0, probes);
     }
     Share {
         level: window.low,

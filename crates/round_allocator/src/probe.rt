@@ -1,8 +1,9 @@
 //! Counted looks at what the kids of a branch take in.
-ghost use Rattle.std.specs.Prelude.{◌≡◌, ◌+◌, ◌*◌, ◌<◌, ◌≤◌, ◌^◌, length, slice_get, sum, Some};
+ghost use Rattle.std.specs.Prelude.{◌≡◌, ℕ, ◌+◌, ◌*◌, ◌<◌, ◌≤◌, ◌^◌, length, slice_get, sum, Option, Some};
 ghost use Rattle.limit_tree.specs.Sharing.{IsLimitTree};
 ghost use Rattle.limit_tree.specs.Outline.{limits};
 ghost use Rattle.limit_tree.specs.Flat.{IsFlat, taken_below};
+ghost use Rattle.round_allocator.specs.Levels.{IsBranchAt, upto};
 
 use limit_tree::{Flat, MAX_NODES, MAX_WANT, Place};
 use std::alloc::Allocator;
@@ -85,4 +86,29 @@ impl<'t, A: Allocator> ProbedTree<'t, A> {
         probes.count += 1;
         self.flat.absorb_below(node, level)
     }
+
+    /// The floors of the leaves of a node, together, in octets: what the kids of a branch take in up to level 0. It is no
+    /// probe, and takes O(leaves below) time.
+    pub fn floors(&self, node: usize) -> u64
+        requires node { node < length self.now }
+        ensures taken { (limit : Option ℕ) → IsBranchAt self.now node limit → result ≡ taken_below 0 self.now node }
+    {
+        let _nodes = self.flat.nodes();
+        let place = self.flat.place(node);
+        floor_sum(self.flat, place.first, place.leaves)
+    }
+}
+
+// The floors of so many leaves from a first one on, together.
+fn floor_sum<A: Allocator>(flat: &Flat<A>, first: usize, leaves: usize) -> u64
+    requires inside { first + leaves ≤ length (limits flat.now).wants }
+    ensures sum { result + upto (limits flat.now).floors first ≡ upto (limits flat.now).floors (first + leaves) }
+{
+    let _nodes = flat.nodes();
+    let _leaves = flat.leaves();
+    let mut total = 0;
+    for leaf in first..first + leaves {
+        total += flat.floor(leaf);
+    }
+    total
 }

@@ -82,7 +82,7 @@ fn large_wants_take_few_probes(rt: HostRuntime) -> Result<(), AllocError> {
         alloc,
         branch(Some(0), vec![in alloc; leaf(5)]?),
         &[0],
-        33,
+        32,
     )
 }
 

@@ -1,16 +1,10 @@
-//! Tests of limit trees, certificates and the allocator, by their public calls alone.
+//! Tests of the allocator, and of the certificates of its grants, by public calls alone.
 #![tactic(auto)]
 
 #[cfg(test)]
 mod allotting;
 #[cfg(test)]
-mod bounds;
-#[cfg(test)]
-mod checking;
-#[cfg(test)]
 mod expect;
-#[cfg(test)]
-mod limits;
 #[cfg(test)]
 mod shortages;
 #[cfg(test)]

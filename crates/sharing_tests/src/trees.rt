@@ -36,34 +36,6 @@ pub fn users(alloc: Global, floor: u64) -> Result<Node, AllocError> {
     Ok(branch(Some(75), vec![in alloc; ann, bob, cy]?))
 }
 
-/// A branch over so many leaves that want one octet each.
-pub fn row(alloc: Global, leaves: usize) -> Result<Node, AllocError> {
-    let mut kids = Vec::new(alloc);
-    for _ in 0..leaves {
-        kids.push(leaf(1))?;
-    }
-    Ok(branch(None, kids))
-}
-
-/// A node below so many branches.
-pub fn below(alloc: Global, branches: u32, node: Node) -> Result<Node, AllocError> {
-    let mut node = node;
-    for _ in 0..branches {
-        node = branch(None, vec![in alloc; node]?);
-    }
-    Ok(node)
-}
-
-/// A leaf below a branch with a limit of one octet, and beside that so many branches without kids.
-pub fn wide(alloc: Global, branches: usize) -> Result<Node, AllocError> {
-    let mut kids = Vec::new(alloc);
-    kids.push(branch(Some(1), vec![in alloc; leaf(2)]?))?;
-    for _ in 0..branches {
-        kids.push(branch(None, Vec::new(alloc)))?;
-    }
-    Ok(branch(None, kids))
-}
-
 /// A sequence of numbers that looks random (D. Knuth's multiplier for 64 bits).
 #[derive(Drop)]
 pub struct Numbers {

@@ -1,4 +1,4 @@
-use Rattle.std.proofs.Common.{◌≡◌, ◌∙◌, subst, ℕ, List, length, ◌≤◌, ◌<◌}
+use Rattle.std.proofs.Common.{◌∙◌, subst, ℕ, List, length, ◌≤◌, ◌<◌}
 use Rattle.virtual_path.specs.Path.{path_text}
 use Rattle.virtual_path.proofs.Walks.{no_slash_in_path}
 use Rattle.file_tree.proofs.Places.{root_text, slashed_if_long}

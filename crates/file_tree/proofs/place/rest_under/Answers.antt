@@ -1,4 +1,4 @@
-use Rattle.std.proofs.Common.{◌≡◌, sym, ◌∙◌}
+use Rattle.std.proofs.Common.{sym, ◌∙◌}
 use Rattle.file_tree.proofs.Moves.{not_under, under, goes_on, stripped}
 use Rattle.file_tree.proofs.place.rest_under.Goals as goal
 

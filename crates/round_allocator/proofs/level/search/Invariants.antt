@@ -1,4 +1,4 @@
-use Rattle.std.proofs.Common.{◌≡◌, ◌+◌, ◌-◌, ◌^◌, ◌<◌, ◌≤◌, ◌⊎◌}
+use Rattle.std.proofs.Common.{◌≡◌, ◌+◌, ◌-◌, ◌^◌, ◌<◌, ◌≤◌}
 use Rattle.limit_tree.specs.Flat.{taken_below}
 use Rattle.round_allocator.proofs.level.search.Given as goal
 
@@ -6,10 +6,9 @@ abbrev pub invariant-loop-step : goal.invariant-loop-step
 invariant-loop-step g l = record {
   order : l.window.low < l.window.high;
   top : l.window.high ≤ l.level;
-  below : 0 < l.window.low → (l.window.taken ≡ taken_below l.window.low l.tree l.node) × (l.window.taken ≤ l.most);
+  below : l.window.taken ≡ taken_below l.window.low l.tree l.node;
+  fits : l.window.taken ≤ l.most;
   above : l.most < taken_below l.window.high l.tree l.node;
   width : l.window.high ≤ l.window.low + 2 ^ (32 - l._step);
-  start : l.window.low ≡ 0 → (l.window.high ≤ 1) ⊎ (l.window.high < 2 ^ (32 - l._step));
   counted : l.probes ≤ l.fn.probes + l._step;
-  last : l.window.low ≡ 0 → l.probes ≤ l.fn.probes + 31;
 }

@@ -1,4 +1,4 @@
-use Rattle.std.proofs.Common.{◌≡◌, sym, ap, ◌∙◌, List, length, nat_eq}
+use Rattle.std.proofs.Common.{ap, ◌∙◌, List, length, nat_eq}
 use Rattle.std.specs.Map.Iter.{deref_pair}
 use Rattle.file_tree.specs.Tree.{Place, Node}
 use Rattle.file_tree.proofs.Listings.{range_forward, range_has_children, bare_answer}

@@ -1,6 +1,6 @@
-use Rattle.std.proofs.Common.{◌≡◌, ℕ, ◌+◌, ◌-◌, ◌<◌, ◌≤◌, ◌^◌, sym, ap, ◌∙◌, arith, Some}
+use Rattle.std.proofs.Common.{◌≡◌, ℕ, ◌+◌, ◌-◌, ◌<◌, ◌≤◌, ◌^◌, sym, ap, ◌∙◌, arith}
 use Rattle.std.specs.FinMap as map
-use Rattle.file_tree.specs.Tree.{Place, Node, Tree, path_cmp, size_of, size_at, total}
+use Rattle.file_tree.specs.Tree.{total}
 use Rattle.file_tree.proofs.Trees.{one_put, put_count, size_within}
 use Rattle.file_tree.proofs.files.Files.put.Goals as goal
 

@@ -1,8 +1,8 @@
-use Rattle.std.proofs.Common.{◌≡◌, ℕ, ◌<◌, ◌^◌, sym, ap, ◌∙◌, subst, List, [], ◌++◌, map}
+use Rattle.std.proofs.Common.{◌<◌, ◌^◌, sym, ap, ◌∙◌, subst, List, [], map}
 use Rattle.std.proofs.lemmas.List.{append-nil}
 use Rattle.std.specs.FinMap.{insert, from_entries, entries}
 use Rattle.std.specs.Map.Iter.{deref_pair}
-use Rattle.file_tree.specs.Tree.{Place, Node, Tree, path_cmp, moved, moved_entry, total}
+use Rattle.file_tree.specs.Tree.{Place, Node, path_cmp, moved, moved_entry, total}
 use Rattle.file_tree.proofs.Listings.{same_entries}
 use Rattle.file_tree.proofs.Trees.{sizes}
 use Rattle.file_tree.proofs.Moves.{put_fits, parts_of_all, none_left, whole_sizes}

@@ -1,4 +1,4 @@
-use Rattle.std.proofs.Common.{◌≡◌, sym, ap, ◌∙◌}
+use Rattle.std.proofs.Common.{sym, ap, ◌∙◌}
 use Rattle.std.specs.FinMap as map
 use Rattle.file_tree.specs.Tree.{Tree, total}
 use Rattle.file_tree.proofs.Trees.{one_put, one_taken, shift_total}

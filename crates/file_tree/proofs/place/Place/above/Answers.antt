@@ -1,4 +1,4 @@
-use Rattle.std.proofs.Common.{◌≡◌, ◌∙◌, sym, ap, subst, IfOk, ◌∷◌, ◌++◌}
+use Rattle.std.proofs.Common.{◌≡◌, sym, ap, subst, IfOk, ◌∷◌, ◌++◌}
 use Rattle.virtual_path.specs.Path.{Path, parent_of, HasNoSlash}
 use Rattle.file_tree.specs.Tree.{place_of}
 use Rattle.file_tree.proofs.Places.{root_if_plain, path_cut, front_kept, front_names}

@@ -1,4 +1,4 @@
-use Rattle.std.proofs.Common.{◌≡◌, ◌∙◌, ap, List, [], ◌∷◌, ◌++◌, ℕ, string_bytes}
+use Rattle.std.proofs.Common.{◌∙◌, ap, List, [], ◌∷◌, ◌++◌, ℕ, string_bytes}
 use Rattle.virtual_path.specs.Path.{Path, names_in}
 use Rattle.file_tree.proofs.Places.{text_kept, names_of_text, place_text}
 use Rattle.file_tree.proofs.place.Place.first_in.Goals as goal

@@ -1,8 +1,8 @@
-use Rattle.std.proofs.Common.{◌≡◌, ◌≢◌, ◌∙◌, sym, ap, List, ℕ, [], ◌∷◌, ◌++◌, length, drop, string_bytes, true, false}
+use Rattle.std.proofs.Common.{◌≡◌, ◌≢◌, ◌∙◌, sym, ap, [], ◌∷◌, ◌++◌, length, drop, string_bytes}
 use Rattle.std.proofs.lemmas.Result.{IfOk-weaker}
-use Rattle.virtual_path.specs.Path.{Path, names_in, slashed, HasNoSlash}
+use Rattle.virtual_path.specs.Path.{Path, names_in, HasNoSlash}
 use Rattle.virtual_path.proofs.Elements.{each-drop}
-use Rattle.file_tree.specs.Tree.{last_of, begins_with}
+use Rattle.file_tree.specs.Tree.{last_of}
 use Rattle.file_tree.proofs.Moves.{equal_places, unequal_places, moved_itself, stays, goes_along}
 use Rattle.file_tree.proofs.Places.{plain_names, names_of_text, text_kept}
 use Rattle.file_tree.proofs.place.Place.moved.Goals as goal

@@ -1,4 +1,4 @@
-use Rattle.std.proofs.Common.{◌≡◌, ◌∙◌, ap, subst, IfOk}
+use Rattle.std.proofs.Common.{◌≡◌, subst, IfOk}
 use Rattle.virtual_path.specs.Path.{Path}
 use Rattle.file_tree.specs.Tree.{place_of}
 use Rattle.file_tree.proofs.Places.{text_kept, names_of_text}

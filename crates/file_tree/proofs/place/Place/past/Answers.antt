@@ -1,4 +1,4 @@
-use Rattle.std.proofs.Common.{◌≡◌, refl, ◌∙◌, ap, List, [], ◌∷◌, ◌++◌, ℕ, string_bytes}
+use Rattle.std.proofs.Common.{refl, ◌∙◌, ap, List, [], ◌∷◌, ◌++◌, ℕ, string_bytes}
 use Rattle.virtual_path.specs.Path.{Path, names_in}
 use Rattle.file_tree.proofs.Places.{names_past, past_kept, place_text}
 use Rattle.file_tree.proofs.place.Place.past.Goals as goal

@@ -1,6 +1,5 @@
-use Rattle.std.proofs.Common.{◌≡◌, ◌∙◌, sym, ap, string_bytes, List, ℕ, [], ◌∷◌, ◌++◌}
-use Rattle.std.specs.Cmp.Lexicographic.{slice_cmp}
-use Rattle.std.specs.Ordering.{nat_cmp, ordering_then}
+use Rattle.std.proofs.Common.{◌∙◌, ap, string_bytes, [], ◌∷◌, ◌++◌}
+use Rattle.std.specs.Ordering.{ordering_then}
 use Rattle.virtual_path.specs.Path.{Path, names_of, names_in}
 use Rattle.file_tree.specs.Tree.{names_cmp, path_cmp}
 use Rattle.file_tree.proofs.Places.{compared}

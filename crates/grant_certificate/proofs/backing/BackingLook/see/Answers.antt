@@ -3,14 +3,14 @@ use Rattle.std.proofs.lemmas.Bool.{iff_false}
 use Rattle.limit_tree.specs.Outline.{IsFullPlace}
 use Rattle.grant_certificate.specs.Ranges.{IsHeldWithin}
 use Rattle.grant_certificate.proofs.Seen.{held-seen, held-last, held-either}
-use Rattle.grant_certificate.proofs.backing.BackingLookVisitor.visit.Goals as goal
+use Rattle.grant_certificate.proofs.backing.BackingLook.see.Goals as goal
 
-pub returns-then-is_full-clause-saw : goal.returns-then-is_full-clause-saw
-returns-then-is_full-clause-saw c = λ start seen count leaves was.
+pub returns-then-full-clause-saw : goal.returns-then-full-clause-saw
+returns-then-full-clause-saw c = λ start seen told count was.
     let place = c.args.place in
     let now = c.args.self.now in
     let number = c.args.number in
-    let full = subst (λ (g : List ℕ). IsFullPlace place g) was.grants (c.is_full.ensures.full.0 c.if-is_full.true) in
+    let full = subst (λ (g : List ℕ). IsFullPlace place g) was.grants (told.0 c.if-full.true) in
     record {
       grants = was.grants;
       floors = was.floors;
@@ -33,10 +33,10 @@ returns-then-is_full-clause-saw c = λ start seen count leaves was.
       );
     }
 
-pub returns-else-is_full-clause-saw : goal.returns-else-is_full-clause-saw
-returns-else-is_full-clause-saw c = λ start seen count leaves was.
+pub returns-else-full-clause-saw : goal.returns-else-full-clause-saw
+returns-else-full-clause-saw c = λ start seen told count was.
     let place = c.args.place in
-    let not = iff_false c.is_full.ensures.full c.if-is_full.false in
+    let not = iff_false told c.if-full.false in
     record {
       grants = was.grants;
       floors = was.floors;

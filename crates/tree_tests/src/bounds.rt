@@ -1,7 +1,7 @@
 //! Trees of as many leaves, levels and nodes as there may be, and one more.
-use super::trees::{below, leaf, row, tree, wide};
-use crate::expect::holds;
-use grant_certificate::{Certificate, Verdict, check, seal};
+use super::trees::{below, leaf, row, sealed_total, tree, wide};
+use crate::expect::{holds, same};
+use grant_certificate::{Certificate, Verdict, check};
 use limit_tree::{Flat, MAX_LEAVES, MAX_NODES, Node, Tree, TreeFault};
 use plain_allotment::allot_plainly;
 use round_allocator::{allot, allot_counted};
@@ -59,8 +59,7 @@ fn as_many_leaves_as_there_may_be(rt: HostRuntime) -> Result<(), AllocError> {
     holds(&rt, tree.place(16).depth == 16);
     expect_all(&rt, alloc, &tree)?;
     let (grants, certificate) = allot(alloc, &tree)?;
-    let sealed = seal(tree, grants, certificate);
-    holds(&rt, sealed.is_ok_and(|sealed| sealed.total() == 4096));
+    same(&rt, &sealed_total(tree, grants, certificate), &Some(4096));
     Ok(())
 }
 
@@ -69,6 +68,16 @@ fn as_many_nodes_as_there_may_be(rt: HostRuntime) -> Result<(), AllocError> {
     let tree = tree(&rt, wide(rt.alloc(), MAX_NODES - 3)?);
     holds(&rt, tree.nodes() == 4_194_304);
     expect_all(&rt, rt.alloc(), &tree)
+}
+
+// Whether each grant is one octet.
+fn are_ones(grants: &[u64]) -> bool {
+    for grant in grants {
+        if *grant != 1 {
+            return false;
+        }
+    }
+    true
 }
 
 // Each leaf is held back by the one branch.
@@ -86,7 +95,7 @@ fn as_many_leaves_as_are_held_back(rt: HostRuntime) -> Result<(), AllocError> {
     let grants = allot_plainly(alloc, &super::trees::tree(&rt, row(alloc, 64)?))?;
     holds(&rt, grants.len() == 64);
     let (grants, _) = allot(alloc, &tree)?;
-    holds(&rt, grants.iter().all(|grant| *grant == 1));
+    holds(&rt, are_ones(&grants));
     holds(
         &rt,
         check(&tree, &grants, &Certificate::new(entries)) == Verdict::Yes,

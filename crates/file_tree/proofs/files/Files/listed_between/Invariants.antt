@@ -1,7 +1,7 @@
 use Rattle.std.proofs.Common.{◌≡◌, ◌++◌, map, filter}
 use Rattle.virtual_tree.specs.Calls.{entries_of}
 use Rattle.file_tree.specs.Tree.{told_of, is_named}
-use Rattle.file_tree.proofs.files.Files.listing.Given as goal
+use Rattle.file_tree.proofs.files.Files.listed_between.Given as goal
 
 -- what is told so far, and what is left, are all
 abbrev pub invariant-loop-place : goal.invariant-loop-place

@@ -1,6 +1,6 @@
 //! Worked verdicts.
-use super::trees::{three, tree, users};
-use crate::expect::holds;
+use super::trees::{sealed_total, three, tree, users};
+use crate::expect::{holds, same};
 use grant_certificate::{
     Certificate, Flaw, Leaves, Verdict, backed_is_best, backed_is_largest_at_each_level, check,
     each_has_ascending, plain_backed_is_best, plain_backed_is_largest_at_each_level, seal,
@@ -133,8 +133,7 @@ fn seals_what_lies_in_another_heap(rt: HostRuntime) -> Result<(), Fail> {
     let heap = LocalHeap::new(rt.alloc(), 4096)?;
     let (grants, certificate) = allot(&heap, &tree)?;
     holds(&rt, check(&tree, &grants, &certificate) == Verdict::Yes);
-    let sealed = seal(tree, grants, certificate);
-    holds(&rt, sealed.is_ok_and(|sealed| sealed.total() == 75));
+    same(&rt, &sealed_total(tree, grants, certificate), &Some(75));
     Ok(())
 }
 

@@ -1,15 +1,14 @@
 -- Tables that the same document states have the same rates.
-use Rattle.std.proofs.Common.{◌≡◌, ℕ, ◌+◌, Bool, true, false, cond, List, [], ◌∷◌, Option, Some, None, option_map, Result, Ok, Err, refl, sym, ap, subst, ◌∙◌}
+use Rattle.std.proofs.Common.{◌≡◌, ℕ, ◌+◌, false, cond, List, [], ◌∷◌, Option, Some, None, option_map, Ok, refl, sym, ap, subst, ◌∙◌}
 use Rattle.std.specs.Borrow.{Bor}
 use Rattle.std.specs.Option.{is_some}
 use Rattle.std.specs.Prelude.{bytes_eq, codes}
 use Rattle.toml.specs.Data.{Data, Items, no_items, item, Members, get_member}
-use Rattle.config_keys.specs.Keys.{Judged, held, as_line, as_row}
+use Rattle.config_keys.specs.Keys.{Judged, held, as_line}
 use Rattle.config_keys.specs.declared.kind.Kind.TheVariants.{Line}
 use Rattle.config_rates.specs.Groups.{number_named, group_in}
 use Rattle.config_rates.specs.Rows.{numbered, group_row, user_row}
-use Rattle.config_server.specs.declared.stated.ServerTable.{ServerTable}
-use Rattle.config_tables.specs.Rows.{IsRow, AreRows}
+use Rattle.config_tables.specs.Rows.{AreRows}
 use Rattle.config_tables.specs.Users.{IsGroup, IsUser, IsGroupOfUser}
 use Rattle.config_tables.specs.declared.stated.GroupTable.{GroupTable}
 use Rattle.config_tables.specs.declared.stated.UserTable.{UserTable}

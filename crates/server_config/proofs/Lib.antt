@@ -1,4 +1,5 @@
 pub mod Alike
 pub mod Lengths
 pub mod Making
+pub mod Refusing
 pub mod Versions

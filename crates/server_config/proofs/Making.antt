@@ -1,5 +1,5 @@
 -- What the parts of a configuration are made of, seen from the tables.
-use Rattle.std.proofs.Common.{◌≡◌, ℕ, List, Result, Ok, Err, IfOk, ap, subst, ◌∙◌}
+use Rattle.std.proofs.Common.{◌≡◌, List, Result, Ok, Err, IfOk, ap, subst, ◌∙◌}
 use Rattle.line_rates.specs.Rates.{Rates}
 use Rattle.line_rates.specs.Stated.{stated}
 use Rattle.line_rates.specs.declared.row.GroupRate.{GroupRate}

@@ -1,21 +1,18 @@
 -- A document with version 2 states the rates that it stated before.
-use Rattle.std.proofs.Common.{◌≡◌, ℕ, pos, Bool, true, false, cond, List, Option, Some, None, option_map, Ok, BTreeMap, String, Global, string_bytes, refl, sym, ap, subst, ◌∙◌}
+use Rattle.std.proofs.Common.{◌≡◌, ℕ, pos, Bool, true, false, cond, List, Option, Some, None, option_map, BTreeMap, String, Global, string_bytes, refl, sym, ap, subst, ◌∙◌}
 use Rattle.std.specs.BTreeMap as tree
 use Rattle.std.specs.Cmp.Lexicographic.{slice_cmp}
 use Rattle.std.specs.Ordering.{nat_cmp}
-use Rattle.std.specs.Prelude.{bytes_eq, codes, ◌↔◌}
+use Rattle.std.specs.Prelude.{bytes_eq, codes}
 use Rattle.std.specs.String.{string_cmp}
 use Rattle.std.proofs.lemmas.Map.Text.{btree_map_updates_text}
-use Rattle.limit_tree.specs.Sharing.{LimitTree}
-use Rattle.line_rates.specs.Rates.{Rates}
 use Rattle.line_rates.specs.Stated.{stated}
 use Rattle.line_rates.specs.TickTree.{IsTickTree}
-use Rattle.line_rates.specs.declared.ask.Ask.{Ask}
-use Rattle.toml.proofs.Views.{view-lookup, view-Integer}
-use Rattle.toml.specs.Data.{Data, integer, Items, no_items, Members, get_member}
+use Rattle.toml.proofs.Views.{view-lookup}
+use Rattle.toml.specs.Data.{integer, no_items, Members, get_member}
 use Rattle.toml.specs.View.{view, table_view}
 use Rattle.toml.specs.declared.value.Value.{Value}
-use Rattle.config_keys.specs.Keys.{held, as_inner, as_rows, inner, rows}
+use Rattle.config_keys.specs.Keys.{held, as_inner, as_rows}
 use Rattle.config_keys.specs.declared.kind.Kind.TheVariants.{Table, Rows}
 use Rattle.config_rates.specs.Rows.{rates_of, group_rows, user_rows}
 use Rattle.config_server.specs.Server.{IsServer}
@@ -26,7 +23,7 @@ use Rattle.config_tables.specs.Users.{IsGroup, IsUser, group_keys}
 use Rattle.config_tables.specs.declared.stated.GroupTable.{GroupTable}
 use Rattle.config_tables.specs.declared.stated.UserTable.{UserTable}
 use Rattle.config_tables.specs.declared.tables.Tables.{Tables}
-use Rattle.server_config.specs.Migrated.{IsVersioned, StatesRates, SameBranches}
+use Rattle.server_config.specs.Migrated.{IsVersioned, SameBranches}
 use Rattle.server_config.proofs.Alike.{one, AreAlike, rows_alike, GroupsAlike, groups_alike, group_rows_same, UsersAlike, users_alike, user_rows_same}
 
 -- ---- what an insertion leaves

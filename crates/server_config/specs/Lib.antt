@@ -1,4 +1,5 @@
 pub mod Configs
 pub mod Faults
 pub mod Migrated
+pub mod Refused
 pub mod Settings

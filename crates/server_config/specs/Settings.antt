@@ -1,5 +1,5 @@
 -- What the table [server] sets for sessions, and its numbers.
-use Rattle.std.specs.Prelude.{◌≡◌, ℕ, List, Option, Some, None}
+use Rattle.std.specs.Prelude.{◌≡◌, Option, Some, None}
 use Rattle.std.specs.Net.Addr.{ipv4_octets}
 use Rattle.std.specs.declared.net.ipv4_addr.Ipv4Addr.{Ipv4Addr}
 use Rattle.ftp_terms.specs.LineText.{text_of}

@@ -1,11 +1,12 @@
 //! A configuration, from its text.
 
-ghost use Rattle.std.specs.Prelude.{◌≡◌, IfOk, Some};
+ghost use Rattle.std.specs.Prelude.{◌≡◌, IfErr, IfOk, Some};
 ghost use Rattle.toml.specs.Data.{Members};
 ghost use Rattle.toml.specs.Parse.{parse_document};
 ghost use Rattle.toml.specs.View.{table_view};
 ghost use Rattle.config_tables.specs.Tables.{IsTables};
 ghost use Rattle.server_config.specs.Configs.{IsMadeOf, IsConfig, IsConfigText};
+ghost use Rattle.server_config.specs.Refused.{IsFaultOf, IsFaultOfTables, IsFaultOfText};
 
 use crate::fault::{ConfigFault, not_toml, of_rows, of_store, of_table, of_users};
 use crate::settings::{ServerNumbers, SessionTerms, numbers_of, terms_of};
@@ -36,6 +37,7 @@ pub struct Config {
 /// The table that a text is.
 pub fn read_document(alloc: Global, octets: &[u8]) -> Result<Table, ConfigFault>
     ensures document { IfOk result (λ table. parse_document octets.now ≡ Some (table_view table)) }
+    ensures refused { IfErr result (IsFaultOfText octets.now) }
 {
     match toml::table_from_slice(alloc, octets) {
         Ok(table) => Ok(table),
@@ -47,6 +49,7 @@ pub fn read_document(alloc: Global, octets: &[u8]) -> Result<Table, ConfigFault>
 fn made_of(alloc: Global, tables: &Tables) -> Result<Config, ConfigFault>
     requires stated { (document : Members) × IsTables document tables.now }
     ensures made { IfOk result (IsMadeOf tables.now) }
+    ensures refused { IfErr result (IsFaultOfTables tables.now) }
 {
     let (groups, users) = (tables.groups.as_slice(), tables.users.as_slice());
     let rows = match read_rows(alloc, groups, users) {
@@ -75,6 +78,7 @@ fn made_of(alloc: Global, tables: &Tables) -> Result<Config, ConfigFault>
 /// The configuration that a document states.
 pub fn config_of(alloc: Global, document: &Table) -> Result<Config, ConfigFault>
     ensures config { IfOk result (IsConfig (table_view document.now)) }
+    ensures refused { IfErr result (IsFaultOf (table_view document.now)) }
 {
     match read_tables(alloc, document) {
         Ok(tables) => made_of(alloc, &tables),
@@ -84,8 +88,10 @@ pub fn config_of(alloc: Global, document: &Table) -> Result<Config, ConfigFault>
 
 impl Config {
     /// Reads the configuration of a server. `Err` is the file's first fault, or lack of memory.
+    #[tactic(auto, using(crate::proofs::Refusing::text_refused))]
     pub fn read(alloc: Global, octets: &[u8]) -> Result<Config, ConfigFault>
         ensures config { IfOk result (IsConfigText octets.now) }
+        ensures refused { IfErr result (IsFaultOfText octets.now) }
     {
         let document = read_document(alloc, octets)?;
         config_of(alloc, &document)

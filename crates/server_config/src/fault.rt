@@ -1,6 +1,7 @@
 //! Why a configuration is refused, and where.
 
-ghost use Rattle.std.specs.Prelude.{◌≡◌};
+ghost use Rattle.std.specs.Prelude.{◌≡◌, IfOk};
+ghost use Rattle.server_config.specs.Refused.{IsKey, TellsGroup, TellsKey, TellsStore, TellsText, TellsUser};
 ghost use Rattle.server_config.specs.Faults.{name_of};
 
 use authorizer::AuthorizerFault;
@@ -154,7 +155,9 @@ fn located(alloc: Global, place: Place) -> Result<Location, AllocError> {
 }
 
 /// The fault of text that is no TOML.
-pub fn not_toml(octets: &[u8], error: toml::de::Error) -> ConfigFault {
+pub fn not_toml(octets: &[u8], error: toml::de::Error) -> ConfigFault
+    ensures told { TellsText error result }
+{
     let Some(range) = error.span() else {
         return ConfigFault::Memory;
     };
@@ -171,7 +174,9 @@ fn key_fault(
     place: Place,
     key: &str,
     problem: Problem,
-) -> Result<ConfigFault, AllocError> {
+) -> Result<ConfigFault, AllocError>
+    ensures told { IfOk result IsKey }
+{
     Ok(ConfigFault::Key {
         location: located(alloc, place)?,
         key: String::from_str(alloc, key)?,
@@ -180,7 +185,9 @@ fn key_fault(
 }
 
 /// The fault of a table's key.
-pub fn of_table(alloc: Global, fault: TableFault) -> ConfigFault {
+pub fn of_table(alloc: Global, fault: TableFault) -> ConfigFault
+    ensures told { TellsKey fault.entry result }
+{
     match fault {
         TableFault::Key { place, fault } => {
             match key_fault(alloc, place, fault.key, fault.problem) {
@@ -193,7 +200,9 @@ pub fn of_table(alloc: Global, fault: TableFault) -> ConfigFault {
 }
 
 /// The fault of groups.
-pub fn of_rows(alloc: Global, fault: RowsFault) -> ConfigFault {
+pub fn of_rows(alloc: Global, fault: RowsFault) -> ConfigFault
+    ensures told { TellsGroup fault.entry result }
+{
     match fault {
         RowsFault::Group { place, problem } => match located(alloc, place) {
             Ok(location) => ConfigFault::BadGroup { location, problem },
@@ -204,7 +213,9 @@ pub fn of_rows(alloc: Global, fault: RowsFault) -> ConfigFault {
 }
 
 /// The fault of users.
-pub fn of_users(alloc: Global, fault: UsersFault) -> ConfigFault {
+pub fn of_users(alloc: Global, fault: UsersFault) -> ConfigFault
+    ensures told { TellsUser fault.entry result }
+{
     match fault {
         UsersFault::Refused { place, fault } => match located(alloc, place) {
             Ok(location) => ConfigFault::BadUser {
@@ -218,7 +229,9 @@ pub fn of_users(alloc: Global, fault: UsersFault) -> ConfigFault {
 }
 
 /// The fault of a store.
-pub fn of_store(alloc: Global, fault: StoreFaultAt) -> ConfigFault {
+pub fn of_store(alloc: Global, fault: StoreFaultAt) -> ConfigFault
+    ensures told { TellsStore fault.entry result }
+{
     match fault {
         StoreFaultAt::Refused { place, problem } => match located(alloc, place) {
             Ok(location) => ConfigFault::BadStore { location, problem },

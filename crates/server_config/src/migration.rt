@@ -1,10 +1,12 @@
 //! A configuration in the latest version.
 
-ghost use Rattle.std.specs.Prelude.{◌≡◌, IfOk, OnOk, string_bytes};
+ghost use Rattle.std.specs.Prelude.{◌≡◌, ◌≢◌, IfErr, IfOk, OnOk, string_bytes};
 ghost use Rattle.toml.specs.View.{table_view};
 ghost use Rattle.server_config.specs.Configs.{IsConfigText};
 ghost use Rattle.server_config.specs.Migrated.{IsMigrated, IsVersioned, SameBranches};
+ghost use Rattle.server_config.specs.Refused.{IsFaultOfText};
 ghost use Rattle.server_config.specs.declared.config.Config.{Config};
+ghost use Rattle.server_config.specs.declared.fault.ConfigFault.TheVariants.{BadDate};
 
 use crate::config::{config_of, read_document};
 use crate::fault::ConfigFault;
@@ -24,6 +26,7 @@ fn set_version(alloc: Global, document: &mut Table) -> Result<(), AllocError>
 /// refuses is refused alike.
 pub fn migrate(alloc: Global, octets: &[u8]) -> Result<String, ConfigFault>
     ensures config { OnOk result ((config : Config) × IsConfigText octets.now config) }
+    ensures refused { IfErr result (λ fault. fault ≢ BadDate → IsFaultOfText octets.now fault) }
     ensures migrated { IfOk result (λ text. IsMigrated octets.now (string_bytes text)) }
 {
     let mut document = read_document(alloc, octets)?;

@@ -1,7 +1,7 @@
 use Rattle.std.proofs.Common.{◌≡◌, ◌∙◌, List, Vec, Global, ap, sym, subst, length}
 use Rattle.std.specs.List.{AllByRecursion}
 use Rattle.authorizer.specs.Numbers.{no_users}
-use Rattle.config_rates.specs.Groups.{AreApart, HasGroup}
+use Rattle.config_rates.specs.Groups.{AreApart, AreGrouped, HasGroup}
 use Rattle.config_store.specs.Made.{IsStoreOf}
 use Rattle.config_tables.specs.declared.stated.DirTable.{DirTable}
 use Rattle.config_tables.specs.declared.stated.FileTable.{FileTable}
@@ -11,6 +11,7 @@ use Rattle.config_tables.specs.declared.stated.OverrideTable.{OverrideTable}
 use Rattle.config_users.specs.Added.{AddsUsers}
 use Rattle.server_config.proofs.Lengths.{overrides_long, rows_long}
 use Rattle.server_config.proofs.Making.{moved, moved_all, limits_made}
+use Rattle.server_config.proofs.Refusing.{store_refused}
 use Rattle.server_config.proofs.config.made_of.Goals as goal
 
 pub make_users-requires-clause-overrides : goal.make_users-requires-clause-overrides
@@ -21,8 +22,8 @@ pub make_users-requires-clause-rows : goal.make_users-requires-clause-rows
 make_users-requires-clause-rows c =
     ap length c.as_slice.ensures.value ∙ rows_long c.as_slice-groups.result.now c.as_slice-users.result.now c.in-Ok.rows.users.items c.in-Ok.ensures.users
 
-pub returns : goal.returns
-returns c =
+pub returns-clause-made : goal.returns-clause-made
+returns-clause-made c =
     let tables = c.args.tables.now in
     let gs = c.as_slice-groups.result.now in
     let us = c.as_slice-users.result.now in
@@ -30,17 +31,31 @@ returns c =
     let same_users : us ≡ tables.users.items = c.as_slice-users.ensures.value in
     let adds = c.in-Ok-make_users.ensures.users gs (c.as_slice.ensures.value ∙ c.in-Ok.ensures.users) in
     record {
-      made = record {
-        terms = c.in_ok-terms_of.ensures.terms;
-        numbers = c.numbers_of.ensures.numbers;
-        ports = c.in-Ok-make_store.ensures.range;
-        groups_apart = subst (λ (g : List GroupTable). AreApart g) same_groups c.in-Ok.ensures.apart;
-        users_grouped = moved (λ (g : List GroupTable) (u : List UserTable). AllByRecursion (λ user. HasGroup g user.group) u) gs tables.groups.items us tables.users.items same_groups same_users c.in-Ok.ensures.grouped;
-        users = moved_all (λ (g : List GroupTable) (u : List UserTable) (o : List (Vec OverrideTable Global)). AddsUsers g u o no_users c.in-Ok-make_users.authorizer)
-            gs tables.groups.items us tables.users.items c.as_slice-overrides.result.now tables.overrides.items same_groups same_users c.as_slice-overrides.ensures.value adds;
-        store = moved (λ (d : List DirTable) (f : List FileTable). IsStoreOf tables.server d f c.in-Ok-make_store.store)
-            c.as_slice-dirs.result.now tables.dirs.items c.as_slice-files.result.now tables.files.items c.as_slice-dirs.ensures.value c.as_slice-files.ensures.value c.in-Ok-make_store.ensures.store;
-        limits = limits_made tables.server gs tables.groups.items us tables.users.items c.in-Ok.rows.groups.items c.in-Ok.rows.users.items c.limits_of.result
-            same_groups same_users c.in-Ok.ensures.groups c.in-Ok.ensures.users c.limits_of.ensures.limits;
-      };
+      terms = c.in_ok-terms_of.ensures.terms;
+      numbers = c.numbers_of.ensures.numbers;
+      ports = c.in-Ok-make_store.ensures.range;
+      groups_apart = subst (λ (g : List GroupTable). AreApart g) same_groups c.in-Ok.ensures.apart;
+      users_grouped = moved (λ (g : List GroupTable) (u : List UserTable). AllByRecursion (λ user. HasGroup g user.group) u) gs tables.groups.items us tables.users.items same_groups same_users c.in-Ok.ensures.grouped;
+      users = moved_all (λ (g : List GroupTable) (u : List UserTable) (o : List (Vec OverrideTable Global)). AddsUsers g u o no_users c.in-Ok-make_users.authorizer)
+          gs tables.groups.items us tables.users.items c.as_slice-overrides.result.now tables.overrides.items same_groups same_users c.as_slice-overrides.ensures.value adds;
+      store = moved (λ (d : List DirTable) (f : List FileTable). IsStoreOf tables.server d f c.in-Ok-make_store.store)
+          c.as_slice-dirs.result.now tables.dirs.items c.as_slice-files.result.now tables.files.items c.as_slice-dirs.ensures.value c.as_slice-files.ensures.value c.in-Ok-make_store.ensures.store;
+      limits = limits_made tables.server gs tables.groups.items us tables.users.items c.in-Ok.rows.groups.items c.in-Ok.rows.users.items c.limits_of.result
+          same_groups same_users c.in-Ok.ensures.groups c.in-Ok.ensures.users c.limits_of.ensures.limits;
     }
+
+pub returns-in-Err-make_store-clause-refused : goal.returns-in-Err-make_store-clause-refused
+returns-in-Err-make_store-clause-refused c =
+    let tables = c.args.tables.now in
+    let gs = c.as_slice-groups.result.now in
+    let us = c.as_slice-users.result.now in
+    let same_groups : gs ≡ tables.groups.items = c.as_slice-groups.ensures.value in
+    let same_users : us ≡ tables.users.items = c.as_slice-users.ensures.value in
+    let adds = c.in-Ok-make_users.ensures.users gs (c.as_slice.ensures.value ∙ c.in-Ok.ensures.users) in
+    store_refused tables c.as_slice-dirs.result.now c.as_slice-files.result.now c.in-Ok-make_users.authorizer c.in-Err-make_store.fault c.of_store.result
+    c.as_slice-dirs.ensures.value c.as_slice-files.ensures.value
+    (subst (λ (g : List GroupTable). AreApart g) same_groups c.in-Ok.ensures.apart)
+    (moved (λ (g : List GroupTable) (u : List UserTable). AreGrouped g u) gs tables.groups.items us tables.users.items same_groups same_users c.in-Ok.ensures.grouped)
+    (moved_all (λ (g : List GroupTable) (u : List UserTable) (o : List (Vec OverrideTable Global)). AddsUsers g u o no_users c.in-Ok-make_users.authorizer)
+    gs tables.groups.items us tables.users.items c.as_slice-overrides.result.now tables.overrides.items same_groups same_users c.as_slice-overrides.ensures.value adds)
+    c.in-Err-make_store.ensures.refused c.of_store.ensures.told

@@ -10,7 +10,6 @@ ghost use Rattle.sheet_commands.specs.Sharing.{IsSheetFaultOf};
 ghost use Rattle.grant_certificate.specs.declared.flaw.Verdict.{Verdict};
 ghost use Rattle.sheet_commands.specs.Checking.{IsCheckOf, IsGrantsFaultOf};
 
-use super::ends::{TextReader, TextWriter};
 use super::fault::ProgramFault;
 use super::lines::write_whole;
 use super::verdict::verdict_line;
@@ -18,6 +17,7 @@ use super::whole::{MAX_TEXT, read_whole};
 use grant_certificate::{Verdict, check};
 use share_text::{Sheet, read_grants, read_sheet};
 use std::alloc::Allocator;
+use text_ends::{TextReader, TextWriter};
 
 /// The verdict on grants, and its line.
 #[derive(Drop)]

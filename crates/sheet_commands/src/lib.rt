@@ -12,7 +12,6 @@
 #![tactic(auto)]
 
 mod check;
-mod ends;
 mod fault;
 mod lines;
 mod share;
@@ -20,8 +19,8 @@ mod verdict;
 mod whole;
 
 pub use check::{Checked, run_check, verdict_of};
-pub use ends::{Outside, TextReader, TextWriter};
 pub use fault::ProgramFault;
 pub use lines::{Share, lines_of, write_whole};
 pub use share::{run_share, sharing_of};
+pub use text_ends::{Outside, TextReader, TextWriter};
 pub use whole::{MAX_TEXT, read_whole};

@@ -3,9 +3,9 @@ ghost use Rattle.std.specs.Prelude.{◌≡◌, ◌<◌, ◌^◌, ◌++◌, IfErr
 ghost use Rattle.std.specs.Io.KnownBytes.{Appends};
 ghost use Rattle.sheet_commands.specs.Lines.{share_line, share_lines, total, total_line};
 
-use super::ends::TextWriter;
 use super::fault::ProgramFault;
 use std::alloc::{AllocError, Allocator};
+use text_ends::TextWriter;
 
 /// A want and what it got, in octets.
 #[derive(Clone, Copy)]

@@ -9,7 +9,6 @@ ghost use Rattle.share_text.specs.declared.fault.SheetFault.{SheetFault};
 ghost use Rattle.sheet_commands.specs.Faults.{IsReadingFault, IsSheetJudgement, IsTextOf};
 ghost use Rattle.sheet_commands.specs.Sharing.{IsSharingOf, IsSheetFaultOf, leaf_line, sharing_text};
 
-use super::ends::{TextReader, TextWriter};
 use super::fault::ProgramFault;
 use super::lines::{Share, lines_of, write_whole};
 use super::whole::{MAX_TEXT, read_whole};
@@ -17,6 +16,7 @@ use grant_certificate::Leaves;
 use round_allocator::allot;
 use share_text::{Sheet, read_sheet};
 use std::alloc::{AllocError, Allocator};
+use text_ends::{TextReader, TextWriter};
 
 /// The path of the node that an entry names.
 fn path_of<A: Allocator>(sheet: &Sheet<A>, entry: Option<u32>) -> Option<&str>

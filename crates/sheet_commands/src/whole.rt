@@ -3,9 +3,9 @@ ghost use Rattle.std.specs.Prelude.{◌≡◌, ◌≤◌, ◌<◌, true, IfErr, 
 ghost use Rattle.sheet_commands.specs.Faults.{IsReadingFault};
 ghost use Rattle.std.specs.Io.KnownBytes.{Consumes, IsAtEnd};
 
-use super::ends::TextReader;
 use super::fault::ProgramFault;
 use std::alloc::Allocator;
+use text_ends::TextReader;
 
 /// The most octets of a sheet, a grants file or a configuration.
 pub const MAX_TEXT: usize = 4_194_304;

@@ -40,6 +40,35 @@ fn follow<'h>(
     }
 }
 
+/// Carries out a call that was refused, now that there is memory.
+fn follow_refused(
+    rt: &impl AllocGlobal,
+    users: &mut Authorizer<&LocalHeap>,
+    line: &str,
+) -> Result<(), Fail> {
+    follow(rt, users, AS_BEFORE)?;
+    follow(rt, users, line)?;
+    // The refusals have used no number up.
+    if line.starts_with("add bob") {
+        follow(rt, users, "number bob = 1")?;
+    }
+    Ok(())
+}
+
+/// Makes a call in a heap that has only one hole of some octets.
+fn change_in_hole(
+    rt: &impl AllocGlobal,
+    heap: &LocalHeap,
+    users: &mut Authorizer<&LocalHeap>,
+    line: &str,
+    room: usize,
+) -> Result<Result<(), AuthorizerFault>, Fail> {
+    let rest = leave_hole(rt, heap, room)?;
+    let answer = change(users, words_of(line));
+    drop(rest);
+    Ok(answer)
+}
+
 /// Makes a call in a heap that has only one hole of some octets, and answers whether it was
 /// refused.
 fn is_refused<'h>(
@@ -50,18 +79,10 @@ fn is_refused<'h>(
 ) -> Result<bool, Fail> {
     let mut users: Authorizer<&'h LocalHeap> = Authorizer::new(heap)?;
     follow(rt, &mut users, FILLED)?;
-    let rest = leave_hole(rt, heap, room)?;
-    let answer = change(&mut users, words_of(line));
-    drop(rest);
-    match answer {
+    match change_in_hole(rt, heap, &mut users, line, room)? {
         Ok(()) => Ok(false),
         Err(AuthorizerFault::Memory) => {
-            follow(rt, &mut users, AS_BEFORE)?;
-            follow(rt, &mut users, line)?;
-            // The refusals have used no number up.
-            if line.starts_with("add bob") {
-                follow(rt, &mut users, "number bob = 1")?;
-            }
+            follow_refused(rt, &mut users, line)?;
             Ok(true)
         }
         Err(_) => Err(Fail::from("another fault")),

@@ -14,6 +14,7 @@ pub mod Shapes
 pub mod Hops
 pub mod Rows
 pub mod Told
+pub mod Copied
 pub mod Shown
 pub mod Deeper
 pub mod Taken

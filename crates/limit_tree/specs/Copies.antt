@@ -1,19 +1,22 @@
 -- What a copy of a tree's nodes has.
-use Rattle.std.specs.Prelude.{◌≡◌, ℕ, List, false}
-use Rattle.limit_tree.specs.Outline.{limits}
+use Rattle.std.specs.Prelude.{◌≡◌, ℕ, List, ◌++◌, length, map}
+use Rattle.limit_tree.specs.Outline.{limits, moved, places}
 use Rattle.limit_tree.specs.Flat.{IsFlat}
 use Rattle.limit_tree.specs.declared.place.Place.{Place}
-use Rattle.limit_tree.specs.declared.flat.Copying.{Copying}
+use Rattle.limit_tree.specs.declared.copy.Copying.{Copying}
+use Rattle.limit_tree.specs.declared.node.Node.{Node}
 
 -- the nodes that were seen, and the wants and floors of their leaves
-pub record AreCopied (seen places : List Place) (wants floors : List ℕ) : Type 0 where
-  pub nodes : places ≡ seen
+pub record AreCopied (seen outline : List Place) (wants floors : List ℕ) : Type 0 where
+  pub nodes : outline ≡ seen
   pub wants_are : wants ≡ (limits seen).wants
   pub floors_are : floors ≡ (limits seen).floors
 
--- unless memory ran out
-abbrev pub HasCopied : {A : Type 0} → Copying A → List Place → Copying A → Type 0
-HasCopied start seen now = now.failed ≡ false → AreCopied seen now.places.items now.wants.items now.floors.items
+-- a copy that got the nodes of a tree at a depth, and the wants and floors of its leaves, behind what it had
+pub record AreCopiedBehind {A B : Type 0} (depth : ℕ) (node : Node B) (was now : Copying A) : Type 0 where
+  pub nodes : now.places.items ≡ was.places.items ++ map (moved depth (length was.wants.items)) (places node)
+  pub wants_are : now.wants.items ≡ was.wants.items ++ (limits (places node)).wants
+  pub floors_are : now.floors.items ≡ was.floors.items ++ (limits (places node)).floors
 
 -- the nodes of a tree without a fault, and the wants and floors of its leaves
 pub record IsKept (outline : List Place) (wants floors : List ℕ) : Type 0 where

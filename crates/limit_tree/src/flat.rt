@@ -8,61 +8,11 @@ ghost use Rattle.limit_tree.specs.Flat.{taken_in, taken_below, HasRow, IsFlat};
 
 use super::absorb::at_most;
 use super::bounds::{MAX_LEAVES, MAX_NODES, MAX_WANT};
+use super::copy::Copying;
 use super::place::{Kind, Place};
 use super::tree::Tree;
-use super::walk::Visitor;
 use std::alloc::{AllocError, Allocator, Global};
 use std::marker::Model;
-
-/// Copies the nodes that it is shown, in preorder.
-#[derive(Drop)]
-pub struct Copying<A: Allocator> {
-    pub places: Vec<Place, A>,
-    pub wants: Vec<u64, A>,
-    pub floors: Vec<u64, A>,
-    pub leaves: usize,
-    /// Whether memory ran out.
-    pub failed: bool,
-}
-
-impl<A: Allocator> Copying<A> {
-    ghost use Rattle.std.specs.Prelude.{◌≡◌, ◌++◌, ◌∷◌, [], IfOk};
-    ghost use Rattle.std.specs.List.{cons_option};
-    ghost use Rattle.limit_tree.specs.Outline.{leaf_want, leaf_floor};
-
-    fn keep(&mut self, place: Place) -> Result<(), AllocError>
-        ensures leaves { self.new.leaves ≡ self.old.leaves }
-        ensures failed { self.new.failed ≡ self.old.failed }
-        ensures places { IfOk result (λ _. self.new.places.items ≡ self.old.places.items ++ place ∷ []) }
-        ensures wants { IfOk result (λ _. self.new.wants.items ≡ self.old.wants.items ++ cons_option (leaf_want place.kind) []) }
-        ensures floors { IfOk result (λ _. self.new.floors.items ≡ self.old.floors.items ++ cons_option (leaf_floor place.kind) []) }
-    {
-        self.places.push(place)?;
-        match place.kind {
-            Kind::Leaf { want, floor } => {
-                self.wants.push(want)?;
-                self.floors.push(floor)?;
-            }
-            Kind::Branch { .. } => {}
-        }
-        Ok(())
-    }
-}
-
-impl<A: Allocator> Visitor for Copying<A> {
-    ghost use Rattle.limit_tree.specs.Copies.{HasCopied};
-
-    ghost leaves = { λ s. s.leaves };
-
-    ghost Saw = { HasCopied };
-
-    fn visit(&mut self, _number: usize, place: Place) {
-        match self.keep(place) {
-            Ok(()) => {}
-            Err(_) => self.failed = true,
-        }
-    }
-}
 
 /// A tree whose nodes lie in preorder in an array, each with its end, its limit, or its want and floor, and
 /// whose wants and floors lie in arrays by leaf. Contracts see it as its nodes, like the `Tree` that it was
@@ -87,8 +37,8 @@ impl<A: Allocator> Model for Flat<A> {
 }
 
 impl<A: Allocator> Flat<A> {
-    /// The nodes of a tree. Takes memory three times, and O(nodes * depth) time; `AllocError` comes only where
-    /// memory ran out.
+    /// The nodes of a tree. Takes memory three times, and O(nodes) time; `AllocError` comes only where memory ran
+    /// out.
     pub fn of<B: Allocator>(alloc: A, tree: &Tree<B>) -> Result<Flat<A>, AllocError>
     where
         A: Clone,
@@ -100,18 +50,12 @@ impl<A: Allocator> Flat<A> {
             places: Vec::with_capacity(alloc.clone()?, tree.nodes())?,
             wants: Vec::with_capacity(alloc.clone()?, leaves)?,
             floors: Vec::with_capacity(alloc, leaves)?,
-            leaves,
-            failed: false,
         };
-        tree.walk(&mut copy);
-        if copy.failed {
-            return Err(AllocError);
-        }
+        tree.copy_into(&mut copy)?;
         let Copying {
             places,
             wants,
             floors,
-            ..
         } = copy;
         Ok(Flat {
             places,

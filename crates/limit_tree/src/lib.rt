@@ -16,6 +16,7 @@
 
 mod absorb;
 mod bounds;
+mod copy;
 mod fault;
 mod flat;
 mod laws;

@@ -1,8 +1,9 @@
 //! A tree whose numbers were checked.
-ghost use Rattle.std.specs.Prelude.{◌≡◌, ◌+◌, ◌*◌, ◌<◌, ◌≤◌, ◌^◌, ◌↔◌, [], length, slice_get, slice_index, sum, take, IsTrue, IsSome, Some, None, MatchResult, IfSome, ℕ};
+ghost use Rattle.std.specs.Prelude.{◌≡◌, ◌+◌, ◌*◌, ◌<◌, ◌≤◌, ◌^◌, ◌↔◌, [], length, slice_get, slice_index, sum, take, IsTrue, IsSome, Some, None, MatchResult, IfOk, IfSome, ℕ};
 ghost use Rattle.std.specs.Option.{option_and_then};
 ghost use Rattle.limit_tree.specs.Sharing.{sum_over, IsWanted, IsLimitTree, Branch, IsBranch, IsFull, IsDeepestFull};
 ghost use Rattle.limit_tree.specs.Outline.{places, limits, leaves_under, absorbed};
+ghost use Rattle.limit_tree.specs.Copies.{AreCopied};
 ghost use Rattle.limit_tree.specs.Laws.{LaterIsInside};
 ghost use Rattle.limit_tree.specs.Depths.{LaterIsDeeper};
 ghost use Rattle.limit_tree.specs.Faults.{tree_fault};
@@ -10,6 +11,7 @@ ghost use Rattle.limit_tree.specs.Flat.{IsFlat};
 
 use super::absorb::absorb_in;
 use super::bounds::{MAX_LEAVES, MAX_NODES, MAX_WANT};
+use super::copy::{Copying, copy_tree};
 use super::fault::{TreeFault, check_tree, floors_of};
 use super::look::{FullLook, LeafLook, NodeLook};
 use super::node::Node;
@@ -17,7 +19,7 @@ use super::place::{Kind, Place};
 use super::size::size_of_tree;
 use super::tables::leaves_into;
 use super::walk::{Passed, Visitor, walk_tree};
-use std::alloc::{Allocator, Global};
+use std::alloc::{AllocError, Allocator, Global};
 use std::marker::Model;
 
 /// A tree of limits whose numbers were checked. Contracts see it as its nodes in preorder (`places`), and by
@@ -101,6 +103,17 @@ impl<A: Allocator> Tree<A> {
     {
         let size = size_of_tree(&self.root);
         let _passed = walk_tree(&self.root, size, 0, NOTHING, visitor);
+    }
+
+    /// Copies the nodes, and the wants and the floors of the leaves. Takes O(nodes) time.
+    pub(crate) fn copy_into<B: Allocator>(&self, copy: &mut Copying<B>) -> Result<(), AllocError>
+        requires places { copy.old.places.items ≡ [] }
+        requires wants { copy.old.wants.items ≡ [] }
+        requires floors { copy.old.floors.items ≡ [] }
+        ensures copied { IfOk result (λ _. AreCopied self.now copy.new.places.items copy.new.wants.items copy.new.floors.items) }
+    {
+        let _floors = copy_tree(&self.root, 0, copy)?;
+        Ok(())
     }
 
     /// Puts the wants and the floors of the leaves into tables, in octets, each from its start on. Takes O(nodes) time.

@@ -2,7 +2,7 @@
 use Rattle.std.specs.Prelude.{◌≡◌, ℕ, ◌<◌, List, [], length, map, slice_index_or, Option, Some, bytes_eq}
 use Rattle.std.specs.List.{position_from}
 use Rattle.std.specs.String.{string_bytes}
-use Rattle.std.specs.HashMap.{get_by_text}
+use Rattle.std.specs.BTreeMap.{get_by_text}
 use Rattle.share_text.specs.declared.paths.Paths.{Paths}
 use Rattle.share_text.specs.Text.{Octets}
 

@@ -3,15 +3,14 @@ ghost use Rattle.std.specs.Prelude.{◌≡◌, ◌<◌, ◌++◌, ◌∷◌, [],
 ghost use Rattle.share_text.specs.Arena.{Lists, place_of};
 
 use std::alloc::{AllocError, Allocator};
-use std::collections::HashMap;
-use std::hash::{BuildHasherDefault, FoldHasher};
+use std::collections::BTreeMap;
 
-/// Paths that differ, in an order. They are found by a hash whose seed is fixed, so whoever writes a sheet could pick
-/// paths that collide, and have each looked for among all of these.
+/// Paths that differ, in an order. They are found by an ordered map, so that finding one takes a logarithm of steps,
+/// whatever paths somebody writes.
 #[derive(Drop)]
 pub struct Paths<A: Allocator> {
     pub texts: Vec<String<A>, A>,
-    pub places: HashMap<String<A>, usize, BuildHasherDefault<FoldHasher>, A>,
+    pub places: BTreeMap<String<A>, usize, A>,
 }
 
 impl<A: Allocator> Paths<A> {
@@ -36,7 +35,7 @@ impl<A: Allocator + Clone> Paths<A> {
     {
         Ok(Paths {
             texts: Vec::new(alloc.clone()?),
-            places: HashMap::new(alloc),
+            places: BTreeMap::new(alloc),
         })
     }
 

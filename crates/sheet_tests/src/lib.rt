@@ -1,4 +1,4 @@
-//! Tests of the text of sheets and of grants files, by the public calls of `share_text` alone.
+//! Tests of the text of sheets and of grants files, by the public calls of `sheet_nodes` and `share_text` alone.
 #![tactic(auto)]
 
 #[cfg(test)]
@@ -7,5 +7,7 @@ mod expect;
 mod grants;
 #[cfg(test)]
 mod lines;
+#[cfg(test)]
+mod nodes;
 #[cfg(test)]
 mod sheets;

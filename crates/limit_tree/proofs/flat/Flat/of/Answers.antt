@@ -6,7 +6,7 @@ use Rattle.limit_tree.proofs.flat.Flat.of.Goals as goal
 
 pub invariant_of-result : goal.invariant_of-result
 invariant_of-result g c =
-    let copied = c.walk.ensures.saw c.walk.new.visitor (λ kept. record { nodes = c.in_ok-with_capacity.ensures.items; wants_are = c.in_ok-with_capacity-2.ensures.items; floors_are = c.in_ok-with_capacity-3.ensures.items }) c.if-copy.false in
+    let copied = c.in_ok-copy_into.ensures.copied in
     record {
       flat = subst (λ (ps : List Place). IsFlat ps) (sym copied.nodes) c.nodes_are_a_tree.ensures.flat;
       wants_are = copied.wants_are ∙ ap (λ (ps : List Place). (limits ps).wants) (sym copied.nodes);
@@ -15,5 +15,5 @@ invariant_of-result g c =
 
 pub returns : goal.returns
 returns g c =
-    let copied = c.walk.ensures.saw c.walk.new.visitor (λ kept. record { nodes = c.in_ok-with_capacity.ensures.items; wants_are = c.in_ok-with_capacity-2.ensures.items; floors_are = c.in_ok-with_capacity-3.ensures.items }) c.if-copy.false in
+    let copied = c.in_ok-copy_into.ensures.copied in
     record { of = copied.nodes }

@@ -1,0 +1,58 @@
+-- The root alone.
+use Rattle.std.proofs.Common.{◌≡◌, ◌∙◌, ℕ, zero, suc, ◌<◌, true, false, List, [], ◌∷◌, ◌++◌, get_or, refl, sym, ap, subst, arith, None}
+use Rattle.std.specs.BTreeMap.{BTreeMap, IsEmpty, is_at}
+use Rattle.std.specs.Map.{lookup}
+use Rattle.std.proofs.lemmas.Bool.{true≢false}
+use Rattle.limit_tree.specs.declared.place.Kind.{Kind}
+use Rattle.limit_tree.specs.declared.place.Kind.TheVariants.{Branch}
+use Rattle.limit_tree.specs.Outline.{is_leaf_kind}
+use Rattle.sheet_nodes.specs.declared.node.Node.{Node}
+use Rattle.sheet_tree.specs.Paths.{Path, is_among, is_within, names_of, text_of}
+use Rattle.sheet_tree.proofs.Listing.{place_none}
+use Rattle.sheet_nodes.specs.Table.{fresh, mention_at, want_count}
+use Rattle.sheet_nodes.specs.Inside.{AreNames, AreNodes, Finds, IsTable, Key, key_cmp, kid_of, mention_of}
+
+not_root : (path : Path) (name : List ℕ) → is_among ([] ∷ []) (path ++ name ∷ []) ≡ false
+not_root [] name = refl
+not_root (x ∷ path) name = refl
+
+root_alone : AreNames ([] ∷ [])
+root_alone = record {
+  some = omega arith;
+  rooted = refl;
+  once = (refl, tt);
+  closed = λ front path w e. closed front path w e;
+}
+  where
+    closed : (front path : Path) → is_within front path ≡ true → is_among ([] ∷ []) path ≡ true → is_among ([] ∷ []) front ≡ true
+    closed [] path w e = refl
+    closed (x ∷ front) [] w e = absurd (true≢false (sym w))
+    closed (x ∷ front) (y ∷ path) w e = absurd (true≢false (sym e))
+
+pub fresh_table : IsTable fresh
+fresh_table = record { names = root_alone; branches = λ place l none. branches place l }
+  where
+    branches : (place : ℕ) → place < 1 → is_leaf_kind (mention_at fresh place).kind ≡ false
+    branches zero l = refl
+    branches (suc place) l = refl
+
+pub first_nodes : (nodes none : List Node) (root : Node) (places : BTreeMap Key ℕ) → nodes ≡ none ++ root ∷ [] → none ≡ [] → root.path.now ≡ [] → root.kind ≡ Branch None → root.line ≡ None → IsEmpty places → AreNodes nodes places 0
+first_nodes nodes none root places e start text kind line empty = subst (λ (ns : List Node). AreNodes ns places 0) (sym (e ∙ ap (λ (ns : List Node). ns ++ root ∷ []) start)) alone
+  where
+    mention : mention_of root ∷ [] ≡ fresh
+    mention = cc
+
+    path_is : names_of root.path.now ≡ []
+    path_is = ap names_of text
+
+    alone : AreNodes (root ∷ []) places 0
+    alone = record {
+      table = subst IsTable (sym mention) fresh_table;
+      texts = ap (λ (t : List ℕ). text_of (names_of t) ∷ []) text ∙ ap (λ (t : List ℕ). t ∷ []) (sym text);
+      finds = subst (λ (p : Path). Finds (p ∷ []) places) (sym path_is) (record {
+        there = λ key l. ap (lookup (is_at (key_cmp key))) empty ∙ sym (place_none ([] ∷ []) (kid_of ([] ∷ []) key.0 key.1.now) (not_root (get_or ([] ∷ []) key.0 []) key.1.now));
+        nowhere = λ key l. ap (lookup (is_at (key_cmp key))) empty;
+      });
+      beneath = λ place some within. absurd (omega arith);
+      counted = ap (λ (k : Kind). want_count (record { path = names_of root.path.now; kind = k; line = root.line } ∷ [])) (sym kind);
+    }

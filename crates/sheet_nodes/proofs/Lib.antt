@@ -1,0 +1,7 @@
+mod Cuts
+mod Tables
+mod Walked
+mod Pushed
+mod First
+mod Noted
+mod Stands

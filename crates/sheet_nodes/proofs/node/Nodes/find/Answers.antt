@@ -1,0 +1,6 @@
+use Rattle.std.proofs.Common.{◌∙◌}
+use Rattle.sheet_nodes.proofs.Pushed.{found_there}
+use Rattle.sheet_nodes.proofs.node.Nodes.find.Goals as goal
+
+pub returns : goal.returns
+returns g c = record { place = c.copied.ensures ∙ c.get.ensures.value ∙ found_there c.self.inside.nodes.items c.self.inside.places c.self.inside.wants c.args.self.now c.args.parent c.args.name c.self.invariant c.self.view_is c.requires.parent }

@@ -1,0 +1,65 @@
+-- What the code's nodes stand for.
+use Rattle.std.specs.Prelude.{◌≡◌, ℕ, ◌<◌, ◌≤◌, true, false, List, [], ◌∷◌, ◌++◌, length, map, slice_index_or, None}
+use Rattle.std.specs.Borrow.{Bor}
+use Rattle.std.specs.declared.cmp.Ordering.{Ordering}
+use Rattle.std.specs.Ordering.{nat_cmp, ordering_then}
+use Rattle.std.specs.Cmp.Lexicographic.{slice_cmp}
+use Rattle.std.specs.BTreeMap.{get, BTreeMap}
+use Rattle.limit_tree.specs.Outline.{is_leaf_kind}
+use Rattle.sheet_nodes.specs.declared.node.Node.{Node}
+use Rattle.sheet_tree.specs.Paths.{NoneTwice, Octets, Path, is_among, is_within, names_of, place_of, text_of}
+use Rattle.sheet_nodes.specs.Table.{Mention, Table, mention_at, paths_in, want_count}
+
+abbrev pub mention_of : Node → Mention
+mention_of node = record { path = names_of node.path.now; kind = node.kind; line = node.line }
+
+abbrev pub table_of : List Node → Table
+table_of nodes = map mention_of nodes
+
+abbrev pub paths_of : List Node → List Path
+paths_of nodes = map (λ node. names_of node.path.now) nodes
+
+abbrev pub texts_of : List Node → List Octets
+texts_of nodes = map (λ node. node.path.now) nodes
+
+abbrev pub parents_of : List Node → List ℕ
+parents_of nodes = map (λ node. node.parent) nodes
+
+-- the path of a name below the place of a parent
+abbrev pub kid_of : List Path → ℕ → Octets → Path
+kid_of paths parent name = slice_index_or paths parent [] ++ name ∷ []
+
+-- the root first, each path once, and those above it
+pub record AreNames (paths : List Path) : Type 0 where
+  pub some : 0 < length paths
+  pub rooted : slice_index_or paths 0 ([] ∷ []) ≡ []
+  pub once : NoneTwice paths
+  pub closed : (front path : Path) → is_within front path ≡ true → is_among paths path ≡ true → is_among paths front ≡ true
+
+-- what has no line is no want
+pub record IsTable (table : Table) : Type 0 where
+  pub names : AreNames (paths_in table)
+  pub branches : (place : ℕ) → place < length table → (mention_at table place).line ≡ None → is_leaf_kind (mention_at table place).kind ≡ false
+
+abbrev pub Key : Type 0
+Key = ℕ × Bor (List ℕ)
+
+abbrev pub key_cmp : Key → Key → Ordering
+key_cmp a b = ordering_then (nat_cmp a.0 b.0) (slice_cmp nat_cmp a.1.now b.1.now)
+
+-- a place is found by its parent's and its last name
+pub record Finds (paths : List Path) (places : BTreeMap Key ℕ) : Type 0 where
+  pub there : (key : Key) → key.0 < length paths → get key_cmp places key ≡ place_of paths (kid_of paths key.0 key.1.now)
+  pub nowhere : (key : Key) → length paths ≤ key.0 → get key_cmp places key ≡ None
+
+-- each path but the root's lies a name below that of its parent
+abbrev pub AreBeneath : List Path → List ℕ → Type 0
+AreBeneath paths parents = (place : ℕ) → 0 < place → place < length paths
+    → (slice_index_or parents place 0 < length paths) × (name : Octets) × (slice_index_or paths place [] ≡ kid_of paths (slice_index_or parents place 0) name)
+
+pub record AreNodes (nodes : List Node) (places : BTreeMap Key ℕ) (wants : ℕ) : Type 0 where
+  pub table : IsTable (table_of nodes)
+  pub texts : map text_of (paths_of nodes) ≡ texts_of nodes
+  pub finds : Finds (paths_of nodes) places
+  pub beneath : AreBeneath (paths_of nodes) (parents_of nodes)
+  pub counted : wants ≡ want_count (table_of nodes)

@@ -1,0 +1,54 @@
+-- A walk from the root along names that are there.
+use Rattle.std.specs.Prelude.{◌≡◌, ℕ, ◌<◌, ◌≤◌, Bool, false, ◌&&◌, ◌||◌, Option, Some, None, if◌then◌else◌, [], ◌∷◌, ◌++◌, drop, length, slice_index, take}
+use Rattle.sheet_tree.specs.Paths.{Octets, Path, names_of}
+use Rattle.sheet_nodes.specs.Table.{Table, is_mentioned, is_want, path_at, unstated}
+use Rattle.limit_tree.specs.declared.fault.TreeFault.TheVariants.{TooDeep}
+use Rattle.sheet_nodes.specs.declared.fault.SheetFault.{SheetFault}
+use Rattle.sheet_nodes.specs.declared.fault.SheetFault.TheVariants.{Twice, LeafHasKids, Tree}
+use Rattle.sheet_nodes.specs.declared.walk.Walk.{Walk}
+
+-- how far a walk comes: the path that it comes to, the names behind it, and whether it passed a want on its way
+pub record Walked : Type 0 where
+  pub front : Path
+  pub left : Path
+  pub under : Bool
+
+abbrev pub walked : Table → Path → Bool → Path → Walked
+walked table front under [] = record { front = front; left = []; under = under }
+walked table front under (name ∷ names) =
+    if is_mentioned table (front ++ name ∷ []) then walked table (front ++ name ∷ []) (under || is_want table front) names
+    else record { front = front; left = name ∷ names; under = under || is_want table front }
+
+-- a path more for each name behind a path
+abbrev pub grown : Table → Path → Path → Table
+grown table front [] = table
+grown table front (name ∷ names) = grown (table ++ unstated (front ++ name ∷ []) ∷ []) (front ++ name ∷ []) names
+
+-- a path's text is empty, or begins with a slash
+abbrev pub IsPathText : Octets → Type 0
+IsPathText text = 0 < length text → slice_index text 0 ≡ 47
+
+-- the first names of a path's text, up to some octet, lead to the place, and behind them ends the text or is a slash
+pub record IsStand (table : Table) (text : Octets) (place at : ℕ) : Type 0 where
+  pub place_in : place < length table
+  pub at_in : at ≤ length text
+  pub front : path_at table place ≡ names_of (take at text)
+  pub slash : at < length text → slice_index text at ≡ 47
+
+-- the next path is not there
+abbrev pub IsFresh : Table → Path → Path → Type 0
+IsFresh table front [] = Unit {0}
+IsFresh table front (name ∷ names) = is_mentioned table (front ++ name ∷ []) ≡ false
+
+-- the walk along the names of a text comes to the place
+pub record IsWalk (table : Table) (text : Octets) (walk : Walk) : Type 0 where
+  pub stand : IsStand table text walk.place walk.at
+  pub walked_is : walked table [] false (names_of text) ≡ record { front = path_at table walk.place; left = names_of (drop walk.at text); under = walk.under }
+
+-- the first fault of a path that is there or not, has a line or not, lies beneath a want, is to be one, and is too deep
+abbrev pub fault_shown : ℕ → Bool → Bool → Bool → Bool → Bool → Option SheetFault
+fault_shown number there has_line under leaf deep =
+    if there && has_line then Some (Twice number)
+    else if under || (leaf && there) then Some (LeafHasKids number)
+    else if deep then Some (Tree number TooDeep)
+    else None

@@ -1,0 +1,159 @@
+//! The nodes that a sheet mentions.
+ghost use Rattle.std.specs.Prelude.{◌≡◌, ◌<◌, ◌^◌, ◌∷◌, ◌++◌, [], false, OnOk, IfOk, IfSome, None, Some, length, slice_index_or};
+ghost use Rattle.limit_tree.specs.Outline.{is_leaf_kind};
+ghost use Rattle.sheet_tree.specs.Paths.{names_of, place_of, text_of};
+ghost use Rattle.sheet_nodes.specs.Table.{fresh, mention_at, noted, path_at, paths_in, unstated, want_count};
+ghost use Rattle.sheet_nodes.specs.Inside.{IsTable};
+
+use limit_tree::Kind;
+use std::alloc::{AllocError, Allocator};
+use std::collections::BTreeMap;
+use std::marker::Model;
+
+/// A path's text, what stands there, and the line that states it, if one does.
+#[derive(Clone, Copy)]
+struct Node<'t> {
+    path: &'t str,
+    parent: usize,
+    kind: Kind,
+    line: Option<usize>,
+}
+
+/// What is mentioned, in order of first mention: the root is first. A node is found by the place of its parent and its
+/// own name, and each path is a slice of the text that mentions it first.
+#[derive(Drop)]
+pub struct Nodes<'t, A: Allocator> {
+    nodes: Vec<Node<'t>, A>,
+    places: BTreeMap<(usize, &'t [u8]), usize, A>,
+    wants: usize,
+}
+
+impl<'t, A: Allocator> Model for Nodes<'t, A> {
+    ghost use Rattle.sheet_nodes.specs.Table.{Table};
+    ghost use Rattle.sheet_nodes.specs.Inside.{AreNodes, table_of};
+
+    ghost Value = { Table };
+
+    ghost view = { λ s. table_of s.nodes.items };
+
+    ghost invariant = { λ s. AreNodes s.nodes.items s.places s.wants };
+}
+
+/// Whether a kind is that of a want.
+pub fn is_leaf(kind: Kind) -> bool
+    ensures leaf { result ≡ is_leaf_kind kind }
+{
+    matches!(kind, Kind::Leaf { .. })
+}
+
+impl<'t, A: Allocator> Nodes<'t, A> {
+    /// How many nodes are mentioned.
+    pub fn len(&self) -> usize
+        ensures len { result ≡ length self.now }
+        ensures most { result < 2 ^ 63 }
+        ensures table { IsTable self.now }
+    {
+        self.nodes.len()
+    }
+
+    /// How many of them are wants.
+    pub fn wants(&self) -> usize
+        ensures wants { result ≡ want_count self.now }
+    {
+        self.wants
+    }
+
+    /// The text of the path of a place.
+    pub fn path(&self, place: usize) -> &'t str
+        requires place { place < length self.now }
+        ensures path { result.now ≡ text_of (path_at self.now place) }
+    {
+        self.nodes[place].path
+    }
+
+    /// What stands at a place.
+    pub fn kind(&self, place: usize) -> Kind
+        requires place { place < length self.now }
+        ensures kind { result ≡ (mention_at self.now place).kind }
+    {
+        self.nodes[place].kind
+    }
+
+    /// The number of the line of a place, if it has one.
+    pub fn line(&self, place: usize) -> Option<usize>
+        requires place { place < length self.now }
+        ensures line { result ≡ (mention_at self.now place).line }
+    {
+        self.nodes[place].line
+    }
+
+    /// The place of a name below a place.
+    pub fn find(&self, parent: usize, name: &'t [u8]) -> Option<usize>
+        requires parent { parent < length self.now }
+        ensures place { result ≡ place_of (paths_in self.now) (path_at self.now parent ++ name.now ∷ []) }
+    {
+        self.places.get(&(parent, name)).copied()
+    }
+
+    /// Notes what a line states of a place that has none.
+    pub fn note(&mut self, place: usize, number: usize, kind: Kind)
+        requires place { place < length self.old }
+        requires unstated { (mention_at self.old place).line ≡ None }
+        ensures noted { self.new ≡ noted number (record { path = path_at self.old place; kind = kind }) self.old }
+    {
+        let node = self.nodes[place];
+        self.nodes[place] = Node {
+            kind,
+            line: Some(number),
+            ..node
+        };
+        if is_leaf(kind) {
+            self.wants += 1;
+        }
+    }
+}
+
+impl<'t, A: Allocator + Clone> Nodes<'t, A> {
+    /// The root alone, a branch without a limit.
+    pub fn new(alloc: A) -> Result<Nodes<'t, A>, AllocError>
+        ensures new { IfOk result (λ nodes. nodes ≡ fresh) }
+    {
+        let mut nodes = Vec::new(alloc.clone()?);
+        nodes.push(Node {
+            path: "",
+            parent: 0,
+            kind: Kind::Branch { limit: None },
+            line: None,
+        })?;
+        let places = BTreeMap::new(alloc);
+        Ok(Nodes {
+            nodes,
+            places,
+            wants: 0,
+        })
+    }
+
+    /// A path more that lies a name below a place, and is not there yet.
+    pub fn push(&mut self, parent: usize, name: &'t [u8], path: &'t str) -> Result<(), AllocError>
+        requires parent { parent < length self.old }
+        requires path { names_of path.now ≡ path_at self.old parent ++ name.now ∷ [] }
+        requires text { text_of (names_of path.now) ≡ path.now }
+        requires absent { place_of (paths_in self.old) (names_of path.now) ≡ None }
+        ensures pushed { OnOk result (self.new ≡ self.old ++ unstated (names_of path.now) ∷ []) }
+    {
+        let place = self.nodes.len();
+        self.nodes.push(Node {
+            path,
+            parent,
+            kind: Kind::Branch { limit: None },
+            line: None,
+        })?;
+        match self.places.insert((parent, name), place) {
+            Ok(_) => Ok(()),
+            Err(_) => {
+                let _ = self.nodes.pop();
+                Err(AllocError)
+            }
+        }
+    }
+}

@@ -1,0 +1,98 @@
+//! Taking what a line states.
+ghost use Rattle.std.specs.Prelude.{◌≡◌, ◌≢◌, MatchResult, Ok, Err, length};
+ghost use Rattle.sheet_tree.specs.Paths.{names_of};
+ghost use Rattle.sheet_nodes.specs.Table.{place_fault, size_fault, taken};
+ghost use Rattle.sheet_nodes.specs.Walks.{IsPathText, IsWalk, fault_shown};
+
+use crate::fault::SheetFault;
+use crate::names::count_slashes;
+use crate::node::{Nodes, is_leaf};
+use crate::walk::Walk;
+use limit_tree::{Kind, MAX_DEPTH, MAX_LEAVES, MAX_LIMIT, MAX_NODES, MAX_WANT, TreeFault};
+use std::alloc::Allocator;
+
+/// The fault of a tree with so many nodes, to which a want comes after so many.
+fn size_fault(nodes: usize, wants: usize, kind: Kind) -> Option<TreeFault>
+    ensures fault { result ≡ size_fault nodes wants kind }
+{
+    if nodes > MAX_NODES {
+        return Some(TreeFault::TooManyLeaves);
+    }
+    match kind {
+        Kind::Leaf { want, floor } => {
+            if wants >= MAX_LEAVES {
+                Some(TreeFault::TooManyLeaves)
+            } else if want > MAX_WANT {
+                Some(TreeFault::WantTooLarge)
+            } else if floor > want {
+                Some(TreeFault::FloorTooLarge)
+            } else {
+                None
+            }
+        }
+        Kind::Branch { limit: Some(limit) } if limit > MAX_LIMIT => Some(TreeFault::LimitTooLarge),
+        Kind::Branch { .. } => None,
+    }
+}
+
+/// The first fault of a path that is there or not, has a line or not, lies beneath a want, is to be one, and is too deep.
+fn fault_shown(
+    number: usize,
+    there: bool,
+    has_line: bool,
+    under: bool,
+    leaf: bool,
+    deep: bool,
+) -> Option<SheetFault>
+    ensures fault { result ≡ fault_shown number there has_line under leaf deep }
+{
+    if there && has_line {
+        return Some(SheetFault::Twice(number));
+    }
+    if under || leaf && there {
+        return Some(SheetFault::LeafHasKids(number));
+    }
+    if deep {
+        return Some(SheetFault::Tree(number, TreeFault::TooDeep));
+    }
+    None
+}
+
+impl<'t, A: Allocator> Nodes<'t, A> {
+    /// The fault of a statement that the nodes before it show: `Twice`, `LeafHasKids` or `TooDeep`.
+    fn place_fault(&self, number: usize, path: &str, kind: Kind, walk: Walk) -> Option<SheetFault>
+        requires text { IsPathText path.now }
+        requires walk { IsWalk self.now path.now walk }
+        ensures fault { result ≡ place_fault self.now number (record { path = names_of path.now; kind = kind }) }
+    {
+        let _nodes = self.len();
+        let there = walk.at == path.len();
+        let has_line = self.line(walk.place).is_some();
+        let deep = count_slashes(path.as_bytes()) > MAX_DEPTH;
+        fault_shown(number, there, has_line, walk.under, is_leaf(kind), deep)
+    }
+}
+
+impl<'t, A: Allocator + Clone> Nodes<'t, A> {
+    /// Takes what the line of a number states of a path; its text is empty for the root, and begins with a `/` else. What
+    /// has a fault is refused before anything grows; where memory runs out, some of the path may be mentioned.
+    pub fn take(&mut self, number: usize, path: &'t str, kind: Kind) -> Result<(), SheetFault>
+        requires text { IsPathText path.now }
+        ensures taken { MatchResult result
+            (λ _. taken self.old number (record { path = names_of path.now; kind = kind }) ≡ Ok self.new)
+            (λ fault. fault ≢ SheetFault.Memory → taken self.old number (record { path = names_of path.now; kind = kind }) ≡ Err fault) }
+    {
+        let walk = self.walk(path);
+        if let Some(fault) = self.place_fault(number, path, kind, walk) {
+            return Err(fault);
+        }
+        let left = count_slashes(&path.as_bytes()[walk.at..]);
+        if let Some(fault) = size_fault(self.len() + left, self.wants(), kind) {
+            return Err(SheetFault::Tree(number, fault));
+        }
+        let place = self.grow(walk.place, walk.at, path)?;
+        let _grown = self.len();
+        self.note(place, number, kind);
+        Ok(())
+    }
+}

@@ -1,0 +1,54 @@
+//! Walking along the names of a path as far as they are there.
+ghost use Rattle.std.specs.Prelude.{◌≡◌, ◌||◌};
+ghost use Rattle.limit_tree.specs.Outline.{is_leaf_kind};
+ghost use Rattle.sheet_nodes.specs.Walks.{IsPathText, IsWalk};
+
+use crate::names::name_len;
+use crate::node::{Nodes, is_leaf};
+use limit_tree::Kind;
+use std::alloc::Allocator;
+
+/// How far a walk came.
+#[derive(Clone, Copy)]
+pub struct Walk {
+    /// The last place that is there.
+    pub place: usize,
+    /// Where in the path's text the names begin that are left.
+    pub at: usize,
+    /// Whether a want lies above the path.
+    pub under: bool,
+}
+
+/// Whether a want was passed, where a further node has a kind.
+fn passes(under: bool, kind: Kind) -> bool
+    ensures passes { result ≡ (under || is_leaf_kind kind) }
+{
+    under || is_leaf(kind)
+}
+
+impl<'t, A: Allocator> Nodes<'t, A> {
+    /// Walks from the root along a path as far as it is there. Nothing beneath a path that is not there is.
+    pub fn walk(&self, path: &'t str) -> Walk
+        requires text { IsPathText path.now }
+        ensures walk { IsWalk self.now path.now result }
+    {
+        let text = path.as_bytes();
+        let mut walk = Walk {
+            place: 0,
+            at: 0,
+            under: false,
+        };
+        let _nodes = self.len();
+        'names: while walk.at < text.len() {
+            let rest = &text[walk.at + 1..];
+            let len = name_len(rest);
+            walk.under = passes(walk.under, self.kind(walk.place));
+            let Some(kid) = self.find(walk.place, &rest[..len]) else {
+                return walk;
+            };
+            walk.place = kid;
+            walk.at += 1 + len;
+        }
+        walk
+    }
+}

@@ -1,0 +1,76 @@
+//! What no clause says of the nodes of a sheet: that the calls succeed, and what texts give.
+
+use crate::expect::holds;
+use limit_tree::{Kind, TreeFault};
+use sheet_nodes::{Nodes, SheetFault, name_len};
+use std::alloc::Allocator;
+use std::process::Abort;
+use std::test::Fail;
+
+const LIMIT: Kind = Kind::Branch { limit: Some(9) };
+
+/// A line of a sheet and its fault.
+const LINES: [(&str, Kind, Option<SheetFault>); 8] = [
+    ("/a/b", Kind::Leaf { want: 5, floor: 1 }, None),
+    ("", LIMIT, None),
+    ("", LIMIT, Some(SheetFault::Twice(3))),
+    (
+        "/a/b/c",
+        Kind::Leaf { want: 1, floor: 0 },
+        Some(SheetFault::LeafHasKids(4)),
+    ),
+    (
+        "/a",
+        Kind::Leaf { want: 1, floor: 0 },
+        Some(SheetFault::LeafHasKids(5)),
+    ),
+    (
+        "/1/2/3/4/5/6/7/8/9/10/11/12/13/14/15/16/17",
+        LIMIT,
+        Some(SheetFault::Tree(6, TreeFault::TooDeep)),
+    ),
+    (
+        "/d/e",
+        Kind::Leaf { want: 1, floor: 2 },
+        Some(SheetFault::Tree(7, TreeFault::FloorTooLarge)),
+    ),
+    ("/a/c", LIMIT, None),
+];
+
+/// The paths that these lines mention, in that order: a line with a fault mentions nothing.
+const PATHS: [&str; 4] = ["", "/a", "/a/b", "/a/c"];
+
+fn take_lines<A: Allocator + Clone>(rt: &impl Abort, alloc: A) -> Result<(), SheetFault> {
+    let mut nodes = Nodes::new(alloc)?;
+    for (at, (path, kind, fault)) in LINES.iter().enumerate() {
+        match nodes.take(at + 1, path, *kind) {
+            Ok(()) => holds(rt, fault.is_none()),
+            Err(SheetFault::Memory) => return Err(SheetFault::Memory),
+            Err(found) => holds(rt, *fault == Some(found)),
+        }
+    }
+    expect_paths(rt, &nodes);
+    Ok(())
+}
+
+fn expect_paths<A: Allocator>(rt: &impl Abort, nodes: &Nodes<'_, A>) {
+    holds(rt, nodes.len() == PATHS.len());
+    for (place, path) in PATHS.iter().enumerate() {
+        if place >= nodes.len() {
+            rt.abort();
+        }
+        holds(rt, nodes.path(place) == *path);
+    }
+}
+
+#[test]
+fn lines_are_taken(rt: HostRuntime) -> Result<(), Fail> {
+    take_lines(&rt, rt.alloc())?;
+    Ok(())
+}
+
+#[test]
+fn a_name_ends_at_a_slash(rt: HostRuntime) {
+    holds(&rt, name_len(b"ab/c") == 2);
+    holds(&rt, name_len(b"ab") == 2);
+}

@@ -1,0 +1,4 @@
+pub mod Paths
+pub mod Forest
+pub mod Mentions
+pub mod Law

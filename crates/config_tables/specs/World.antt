@@ -2,7 +2,7 @@
 use Rattle.std.specs.Prelude.{◌≡◌, ℕ, ◌∷◌, [], List, codes, Some, None, Ok}
 use Rattle.toml.specs.Data.{Members}
 use Rattle.config_keys.specs.Keys.{number, line, text}
-use Rattle.config_tables.specs.declared.stated.TheConstants.{LATEST_TIME}
+use Rattle.ftp_terms.specs.declared.entries.TheConstants.{LATEST}
 use Rattle.config_tables.specs.declared.stated.DirTable.{DirTable}
 use Rattle.config_tables.specs.declared.stated.FileTable.{FileTable}
 
@@ -18,4 +18,4 @@ file_keys = codes "path" ∷ codes "text" ∷ codes "modified" ∷ []
 pub record IsFile (members : Members) (file : FileTable) : Type 0 where
   pub path : line (codes "path") None members ≡ Ok file.path.now
   pub text : text (codes "text") None members ≡ Ok file.text.now
-  pub modified : number (codes "modified") 0 LATEST_TIME (Some 0) members ≡ Ok file.modified
+  pub modified : number (codes "modified") 0 LATEST (Some 0) members ≡ Ok file.modified

@@ -26,5 +26,5 @@ mod users;
 mod world;
 
 pub use fault::{Place, TableFault, TableName};
-pub use stated::{DirTable, FileTable, GroupTable, LATEST_TIME, OverrideTable, UserTable};
+pub use stated::{DirTable, FileTable, GroupTable, OverrideTable, UserTable};
 pub use tables::{LATEST_VERSION, Tables, read_tables};

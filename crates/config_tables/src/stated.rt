@@ -2,13 +2,10 @@
 
 ghost use Rattle.std.specs.Prelude.{◌≤◌};
 ghost use Rattle.config_server.specs.declared.stated.TheConstants.{MAX_RATE};
-ghost use Rattle.config_tables.specs.declared.stated.TheConstants.{LATEST_TIME};
+ghost use Rattle.ftp_terms.specs.declared.entries.TheConstants.{LATEST};
 ghost use Rattle.ftp_terms.specs.Lines.{IsLine};
 
 use toml::Value;
-
-/// The latest time of a file, in seconds since 1970: the end of the year 9999.
-pub const LATEST_TIME: u64 = 253_402_300_799;
 
 /// The keys of a `[[group]]`.
 #[derive(Clone, Copy, Debug)]
@@ -87,5 +84,5 @@ pub struct FileTable<'a> {
     pub text: &'a str,
     /// When it was last changed, in seconds since 1970.
     pub modified: u64,
-    pub ghost shown: { modified ≤ LATEST_TIME },
+    pub ghost shown: { modified ≤ LATEST },
 }

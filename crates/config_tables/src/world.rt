@@ -1,8 +1,9 @@
 //! The tables `[[dir]]` and `[[file]]`: what a store in memory holds at the start.
 
 use crate::rows::Row;
-use crate::stated::{DirTable, FileTable, LATEST_TIME};
+use crate::stated::{DirTable, FileTable};
 use config_keys::{KeyFault, line_at, number_at, text_at};
+use ftp_terms::LATEST;
 use toml::Table;
 
 impl<'a> Row<'a> for DirTable<'a> {
@@ -28,7 +29,7 @@ impl<'a> Row<'a> for FileTable<'a> {
         Ok(FileTable {
             path: line_at(table, "path", None)?,
             text: text_at(table, "text", None)?,
-            modified: number_at(table, "modified", 0, LATEST_TIME, Some(0))?,
+            modified: number_at(table, "modified", 0, LATEST, Some(0))?,
         })
     }
 }

@@ -58,8 +58,8 @@ fn plan_queue<L: Allocator, A: Allocator + Clone>(
 
 /// The tree of a tick for some asks, each with the number of its lane: a branch for the server, beneath it one for each
 /// way that is asked for, then for groups beside users without one, users, sessions and, as leaves, the asks. At each
-/// level they stand in the order of first ask. Takes O(n log n) time for n asks, with binary searches for the user of each,
-/// and for the user or the group of each branch.
+/// level they stand in the order of first ask. Takes O(n log n) time for n asks, with binary searches for the user of
+/// each, and for the user or the group of each branch.
 pub fn tree_of<L: Allocator, A: Allocator + Clone>(
     alloc: A,
     limits: &Limits<L>,

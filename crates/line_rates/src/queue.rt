@@ -64,7 +64,8 @@ fn first_of(before: Queued, it: Queued) -> usize
     }
 }
 
-// Tells each ask the number of the first that has its name, where those of one name stand side by side, by their numbers.
+// Tells each ask the number of the first that has its name, where those of one name stand side by side, by their
+// numbers.
 fn give_firsts(queue: &mut [Queued])
     ensures askers { askers queue.new ≡ askers queue.old }
     ensures names { map name_of queue.new ≡ map name_of queue.old }
@@ -78,8 +79,8 @@ fn give_firsts(queue: &mut [Queued])
     }
 }
 
-/// Brings those of one name at a level side by side, in the order of first ask. Takes O(n log n) time for n asks, with a
-/// binary search for the user of each.
+/// Brings those of one name at a level side by side, in the order of first ask. Takes O(n log n) time for n asks, with
+/// a binary search for the user of each.
 pub fn arrange<A: Allocator>(limits: &Limits<A>, level: usize, queue: &mut [Queued])
     ensures all { IsPermutation (askers queue.old) (askers queue.new) }
     ensures together { AreTogether limits.now level queue.new }

@@ -36,7 +36,7 @@ pub trait Hooks: Drop {
     fn on_file_sent(&mut self, path: &str)
         ensures { Told self.old (FileSent path.now) self.new };
 
-    /// A file was received whole, by STOR or APPE, and stands in the store.
+    /// A file was received whole, by STOR or APPE. Whether the store took it, the client is told.
     fn on_file_received(&mut self, path: &str)
         ensures { Told self.old (FileReceived path.now) self.new };
 
@@ -44,7 +44,7 @@ pub trait Hooks: Drop {
     fn on_incomplete_file_sent(&mut self, path: &str)
         ensures { Told self.old (FileNotSent path.now) self.new };
 
-    /// The receiving of a file ended before its end, or the store did not take it.
+    /// The receiving of a file ended before its end.
     fn on_incomplete_file_received(&mut self, path: &str)
         ensures { Told self.old (FileNotReceived path.now) self.new };
 }

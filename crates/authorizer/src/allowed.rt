@@ -21,8 +21,10 @@ fn covers(rule: &Rule, up: usize) -> bool
 /// The letters of the override of a path, if it covers what lies so many names beneath.
 fn covering<A: Allocator>(rules: &Rules<A>, text: &str, up: usize) -> Option<Letters>
     ensures covering { MatchOption result
-        ((rule : Rule) → map.get (map_of (λ rule. rule) rules.now) text.now ≡ Some rule → Covers rule up → ⊥)
-        (λ letters. (rule : Rule) × (map.get (map_of (λ rule. rule) rules.now) text.now ≡ Some rule) × Covers rule up × (letters ≡ rule.letters)) }
+        ((rule : Rule) → map.get (map_of (λ rule. rule) rules.now) text.now ≡ Some rule
+        → Covers rule up → ⊥)
+        (λ letters. (rule : Rule) × (map.get (map_of (λ rule. rule) rules.now) text.now ≡ Some rule)
+        × Covers rule up × (letters ≡ rule.letters)) }
 {
     let rule = rules.get(text)?;
     if covers(rule, up) {
@@ -36,7 +38,9 @@ fn covering<A: Allocator>(rules: &Rules<A>, text: &str, up: usize) -> Option<Let
 fn deepest<A: Allocator, B: Allocator>(rules: &Rules<A>, path: &VPath<B>) -> Option<Letters>
     ensures deepest { MatchOption result
         ((up : ℕ) (rule : Rule) → IsCovered (map_of (λ rule. rule) rules.now) path.now up rule → ⊥)
-        (λ letters. (up : ℕ) × (rule : Rule) × IsDeepest (map_of (λ rule. rule) rules.now) path.now up rule × (letters ≡ rule.letters)) }
+        (λ letters. (up : ℕ) × (rule : Rule)
+        × IsDeepest (map_of (λ rule. rule) rules.now) path.now up rule
+        × (letters ≡ rule.letters)) }
 {
     let mut text = path.text();
     let depth = path.depth();

@@ -48,7 +48,8 @@ impl<A: Allocator> Model for Authorizer<A> {
 impl<A: Allocator + Clone> Authorizer<A> {
     /// No users.
     pub fn new(alloc: A) -> Result<Authorizer<A>, AllocError>
-        ensures none { IfOk result (λ authorizer. authorizer ≡ record { users = map.empty; next = 0 }) }
+        ensures none { IfOk result
+            (λ authorizer. authorizer ≡ record { users = map.empty; next = 0 }) }
     {
         let accounts = BTreeMap::new(alloc.clone()?);
         Ok(Authorizer {
@@ -66,9 +67,11 @@ impl<A: Allocator + Clone> Authorizer<A> {
         home: &str,
         letters: &str,
     ) -> Result<(), AuthorizerFault>
-        ensures ok { OnOk result (added self.old name.now password.now home.now letters.now ≡ Ok self.new) }
+        ensures ok { OnOk result (added self.old name.now password.now home.now letters.now
+            ≡ Ok self.new) }
         ensures err { OnErr result (self.new ≡ self.old) }
-        ensures which { IfErr result (λ fault. fault ≢ AuthorizerFault.Memory → added self.old name.now password.now home.now letters.now ≡ Err fault) }
+        ensures which { IfErr result (λ fault. fault ≢ AuthorizerFault.Memory
+            → added self.old name.now password.now home.now letters.now ≡ Err fault) }
     {
         if self.has_user(name) {
             return Err(AuthorizerFault::UserExists);
@@ -82,9 +85,12 @@ impl<A: Allocator + Clone> Authorizer<A> {
 
     /// Gives the account the next number.
     fn admit(&mut self, name: String<A>, account: Account<A>) -> Result<(), AuthorizerFault>
-        ensures ok { OnOk result (placed self.old (string_bytes name) (record (user_of account) { number = self.old.next }) ≡ Ok self.new) }
+        ensures ok { OnOk result
+            (placed self.old (string_bytes name)
+            (record (user_of account) { number = self.old.next }) ≡ Ok self.new) }
         ensures err { OnErr result (self.new ≡ self.old) }
-        ensures which { IfErr result (λ fault. fault ≢ AuthorizerFault.Memory → (fault ≡ AuthorizerFault.NoNumber) × (2 ^ 32 ≤ self.old.next)) }
+        ensures which { IfErr result (λ fault. fault ≢ AuthorizerFault.Memory
+            → (fault ≡ AuthorizerFault.NoNumber) × (2 ^ 32 ≤ self.old.next)) }
     {
         let Ok(number) = u32::try_from(self.next) else {
             return Err(AuthorizerFault::NoNumber);
@@ -97,9 +103,11 @@ impl<A: Allocator + Clone> Authorizer<A> {
 
     /// Adds the user `anonymous`, who has every password.
     pub fn add_anonymous(&mut self, home: &str, letters: &str) -> Result<(), AuthorizerFault>
-        ensures ok { OnOk result (added self.old (codes "anonymous") [] home.now letters.now ≡ Ok self.new) }
+        ensures ok { OnOk result (added self.old (codes "anonymous") [] home.now letters.now
+            ≡ Ok self.new) }
         ensures err { OnErr result (self.new ≡ self.old) }
-        ensures which { IfErr result (λ fault. fault ≢ AuthorizerFault.Memory → added self.old (codes "anonymous") [] home.now letters.now ≡ Err fault) }
+        ensures which { IfErr result (λ fault. fault ≢ AuthorizerFault.Memory
+            → added self.old (codes "anonymous") [] home.now letters.now ≡ Err fault) }
     {
         self.add_user("anonymous", "", home, letters)
     }
@@ -124,9 +132,11 @@ impl<A: Allocator + Clone> Authorizer<A> {
         letters: &str,
         recursive: bool,
     ) -> Result<(), AuthorizerFault>
-        ensures ok { OnOk result (overridden self.old name.now path.now letters.now recursive ≡ Ok self.new) }
+        ensures ok { OnOk result (overridden self.old name.now path.now letters.now recursive
+            ≡ Ok self.new) }
         ensures err { OnErr result (self.new ≡ self.old) }
-        ensures which { IfErr result (λ fault. fault ≢ AuthorizerFault.Memory → overridden self.old name.now path.now letters.now recursive ≡ Err fault) }
+        ensures which { IfErr result (λ fault. fault ≢ AuthorizerFault.Memory
+            → overridden self.old name.now path.now letters.now recursive ≡ Err fault) }
     {
         if !self.has_user(name) {
             return Err(AuthorizerFault::NoSuchUser);
@@ -147,9 +157,11 @@ impl<A: Allocator + Clone> Authorizer<A> {
     ) -> Result<(), AuthorizerFault>
         requires login { IsLine login.now }
         requires quit { IsLine quit.now }
-        ensures ok { OnOk result (with_messages self.old name.now login.now quit.now ≡ Ok self.new) }
+        ensures ok { OnOk result (with_messages self.old name.now login.now quit.now
+            ≡ Ok self.new) }
         ensures err { OnErr result (self.new ≡ self.old) }
-        ensures which { IfErr result (λ fault. fault ≢ AuthorizerFault.Memory → with_messages self.old name.now login.now quit.now ≡ Err fault) }
+        ensures which { IfErr result (λ fault. fault ≢ AuthorizerFault.Memory
+            → with_messages self.old name.now login.now quit.now ≡ Err fault) }
     {
         if !self.has_user(name) {
             return Err(AuthorizerFault::NoSuchUser);
@@ -198,7 +210,8 @@ impl<A: Allocator + Clone> Authorizer<A> {
 
     /// All letters that a user holds at a path, found in one walk from the path up to the root.
     pub fn letters_at<B: Allocator>(&self, user: &str, path: &VPath<B>) -> Option<Letters>
-        ensures letters { result ≡ option_map (λ user. letters_at user path.now) (map.get self.now.users user.now) }
+        ensures letters { result
+            ≡ option_map (λ user. letters_at user path.now) (map.get self.now.users user.now) }
     {
         let account = table::find(&self.accounts, user)?;
         Some(letters_at(account, path))
@@ -206,7 +219,8 @@ impl<A: Allocator + Clone> Authorizer<A> {
 
     /// The number of a user. Users are numbered as they are added, and no number is given twice.
     pub fn number(&self, name: &str) -> Option<u32>
-        ensures number { result ≡ option_map (λ user. user.number) (map.get self.now.users name.now) }
+        ensures number { result
+            ≡ option_map (λ user. user.number) (map.get self.now.users name.now) }
     {
         let account = table::find(&self.accounts, name)?;
         Some(account.number)
@@ -214,7 +228,8 @@ impl<A: Allocator + Clone> Authorizer<A> {
 
     /// The letters of a user where no override covers.
     pub fn perms(&self, name: &str) -> Option<Letters>
-        ensures letters { result ≡ option_map (λ user. user.letters) (map.get self.now.users name.now) }
+        ensures letters { result
+            ≡ option_map (λ user. user.letters) (map.get self.now.users name.now) }
     {
         let account = table::find(&self.accounts, name)?;
         Some(account.letters)
@@ -222,7 +237,8 @@ impl<A: Allocator + Clone> Authorizer<A> {
 
     /// The group of a user, if the user is in one.
     pub fn group(&self, name: &str) -> Option<u32>
-        ensures group { result ≡ option_and_then (λ user. user.group) (map.get self.now.users name.now) }
+        ensures group { result
+            ≡ option_and_then (λ user. user.group) (map.get self.now.users name.now) }
     {
         let account = table::find(&self.accounts, name)?;
         account.group
@@ -230,7 +246,8 @@ impl<A: Allocator + Clone> Authorizer<A> {
 
     /// The home of a user: the root of the paths that the user sees.
     pub fn home(&self, name: &str) -> Option<&VPath<A>>
-        ensures home { option_copied result ≡ option_map (λ user. user.home) (map.get self.now.users name.now) }
+        ensures home { option_copied result
+            ≡ option_map (λ user. user.home) (map.get self.now.users name.now) }
     {
         let account = table::find(&self.accounts, name)?;
         Some(&account.home)
@@ -238,7 +255,8 @@ impl<A: Allocator + Clone> Authorizer<A> {
 
     /// What a user is told at login, on one line.
     pub fn msg_login(&self, name: &str) -> Option<&str>
-        ensures login { option_copied result ≡ option_map (λ user. user.login) (map.get self.now.users name.now) }
+        ensures login { option_copied result
+            ≡ option_map (λ user. user.login) (map.get self.now.users name.now) }
         ensures line { IfSome result (λ text. IsLine text.now) }
     {
         let account = table::find(&self.accounts, name)?;
@@ -247,7 +265,8 @@ impl<A: Allocator + Clone> Authorizer<A> {
 
     /// What a user is told at the end, on one line.
     pub fn msg_quit(&self, name: &str) -> Option<&str>
-        ensures quit { option_copied result ≡ option_map (λ user. user.quit) (map.get self.now.users name.now) }
+        ensures quit { option_copied result
+            ≡ option_map (λ user. user.quit) (map.get self.now.users name.now) }
         ensures line { IfSome result (λ text. IsLine text.now) }
     {
         let account = table::find(&self.accounts, name)?;
@@ -256,7 +275,8 @@ impl<A: Allocator + Clone> Authorizer<A> {
 }
 
 fn read_letters(text: &str) -> Result<Letters, AuthorizerFault>
-    ensures letters { MatchResult result (λ letters. letters_of text.now ≡ Some letters) (λ fault. (fault ≡ AuthorizerFault.BadLetter) × (letters_of text.now ≡ None)) }
+    ensures letters { MatchResult result (λ letters. letters_of text.now ≡ Some letters)
+        (λ fault. (fault ≡ AuthorizerFault.BadLetter) × (letters_of text.now ≡ None)) }
 {
     Letters::read(text).ok_or(AuthorizerFault::BadLetter)
 }
@@ -264,7 +284,8 @@ fn read_letters(text: &str) -> Result<Letters, AuthorizerFault>
 fn read_path<A: Allocator + Clone>(alloc: A, text: &str) -> Result<VPath<A>, AuthorizerFault>
     ensures path { MatchResult result
         (λ path. resolved [] text.now ≡ Ok path)
-        (λ fault. fault ≢ AuthorizerFault.Memory → (fault ≡ AuthorizerFault.BadPath) × ((path : Path) → resolved [] text.now ≢ Ok path)) }
+        (λ fault. fault ≢ AuthorizerFault.Memory → (fault ≡ AuthorizerFault.BadPath)
+        × ((path : Path) → resolved [] text.now ≢ Ok path)) }
 {
     let root = VPath::root(alloc.clone()?);
     match root.resolve(alloc, text) {
@@ -281,7 +302,8 @@ fn new_account<A: Allocator + Clone>(
     home: VPath<A>,
     letters: Letters,
 ) -> Result<Account<A>, AllocError>
-    ensures account { IfOk result (λ account. user_of account ≡ new_user 0 password.now home letters) }
+    ensures account { IfOk result
+        (λ account. user_of account ≡ new_user 0 password.now home letters) }
 {
     let password = String::from_str(alloc.clone()?, password)?;
     Ok(Account {

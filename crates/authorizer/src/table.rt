@@ -33,7 +33,9 @@ pub fn place<A: Allocator + Clone>(
     name: String<A>,
     account: Account<A>,
 ) -> Result<(), AllocError>
-    ensures ok { OnOk result (map_of user_of accounts.new ≡ map.insert (map_of user_of accounts.old) (string_bytes name) (user_of account)) }
+    ensures ok { OnOk result
+        (map_of user_of accounts.new ≡ map.insert (map_of user_of accounts.old) (string_bytes name)
+        (user_of account)) }
     ensures err { OnErr result (map_of user_of accounts.new ≡ map_of user_of accounts.old) }
 {
     accounts.insert(name, account)?;
@@ -43,7 +45,8 @@ pub fn place<A: Allocator + Clone>(
 pub fn remove<A: Allocator>(accounts: &mut Table<A>, name: &str) -> bool
     ensures removed { result ≡ map.contains_key (map_of user_of accounts.old) name.now }
     ensures missing { result ≡ false → map_of user_of accounts.new ≡ map_of user_of accounts.old }
-    ensures users { map_of user_of accounts.new ≡ map.remove (map_of user_of accounts.old) name.now }
+    ensures users { map_of user_of accounts.new
+        ≡ map.remove (map_of user_of accounts.old) name.now }
 {
     accounts.remove(name).is_some()
 }
@@ -53,7 +56,9 @@ fn put_rule<A: Allocator + Clone>(
     text: String<A>,
     rule: Rule,
 ) -> Result<(), AllocError>
-    ensures ok { OnOk result (map_of (λ rule. rule) rules.new ≡ map.insert (map_of (λ rule. rule) rules.old) (string_bytes text) rule) }
+    ensures ok { OnOk result
+        (map_of (λ rule. rule) rules.new
+        ≡ map.insert (map_of (λ rule. rule) rules.old) (string_bytes text) rule) }
     ensures err { OnErr result (map_of (λ rule. rule) rules.new ≡ map_of (λ rule. rule) rules.old) }
 {
     rules.insert(text, rule)?;
@@ -66,10 +71,15 @@ pub fn override_path<A: Allocator + Clone>(
     text: String<A>,
     rule: Rule,
 ) -> Result<(), AuthorizerFault>
-    ensures ok { OnOk result ((user : User) × (map.get (map_of user_of accounts.old) name.now ≡ Some user)
-        × (map_of user_of accounts.new ≡ map.insert (map_of user_of accounts.old) name.now (record user { overrides = map.insert user.overrides (string_bytes text) rule }))) }
+    ensures ok { OnOk result ((user : User)
+        × (map.get (map_of user_of accounts.old) name.now ≡ Some user)
+        × (map_of user_of accounts.new
+        ≡ map.insert (map_of user_of accounts.old) name.now
+        (record user { overrides = map.insert user.overrides (string_bytes text) rule }))) }
     ensures err { OnErr result (map_of user_of accounts.new ≡ map_of user_of accounts.old) }
-    ensures which { IfErr result (λ fault. fault ≢ AuthorizerFault.Memory → (fault ≡ AuthorizerFault.NoSuchUser) × (map.get (map_of user_of accounts.old) name.now ≡ None)) }
+    ensures which { IfErr result (λ fault. fault ≢ AuthorizerFault.Memory
+        → (fault ≡ AuthorizerFault.NoSuchUser)
+        × (map.get (map_of user_of accounts.old) name.now ≡ None)) }
 {
     match accounts.get_mut(name) {
         Some(account) => {
@@ -88,8 +98,12 @@ pub fn set_messages<A: Allocator>(
 ) -> Result<(), AuthorizerFault>
     ensures messages { MatchResult result
         (λ _. (user : User) × (map.get (map_of user_of accounts.old) name.now ≡ Some user)
-        × (map_of user_of accounts.new ≡ map.insert (map_of user_of accounts.old) name.now (record user { login = text_of login; quit = text_of quit })))
-        (λ fault. (fault ≡ AuthorizerFault.NoSuchUser) × (map.get (map_of user_of accounts.old) name.now ≡ None) × (map_of user_of accounts.new ≡ map_of user_of accounts.old)) }
+        × (map_of user_of accounts.new
+        ≡ map.insert (map_of user_of accounts.old) name.now
+        (record user { login = text_of login; quit = text_of quit })))
+        (λ fault. (fault ≡ AuthorizerFault.NoSuchUser)
+        × (map.get (map_of user_of accounts.old) name.now ≡ None)
+        × (map_of user_of accounts.new ≡ map_of user_of accounts.old)) }
 {
     match accounts.get_mut(name) {
         Some(account) => {
@@ -108,8 +122,11 @@ pub fn set_group<A: Allocator>(
 ) -> Result<(), AuthorizerFault>
     ensures group { MatchResult result
         (λ _. (user : User) × (map.get (map_of user_of accounts.old) name.now ≡ Some user)
-        × (map_of user_of accounts.new ≡ map.insert (map_of user_of accounts.old) name.now (record user { group = group })))
-        (λ fault. (fault ≡ AuthorizerFault.NoSuchUser) × (map.get (map_of user_of accounts.old) name.now ≡ None) × (map_of user_of accounts.new ≡ map_of user_of accounts.old)) }
+        × (map_of user_of accounts.new
+        ≡ map.insert (map_of user_of accounts.old) name.now (record user { group = group })))
+        (λ fault. (fault ≡ AuthorizerFault.NoSuchUser)
+        × (map.get (map_of user_of accounts.old) name.now ≡ None)
+        × (map_of user_of accounts.new ≡ map_of user_of accounts.old)) }
 {
     match accounts.get_mut(name) {
         Some(account) => {

@@ -54,7 +54,8 @@ fn with_file<'a>(
     id: &'a str,
     help: &'a str,
 ) -> Result<Command<'a>, AllocError>
-    ensures rule { IfOk result (λ c. app_of c ≡ with_rule (app_of command.entry) (file_rule id.entry.now)) }
+    ensures rule { IfOk result
+        (λ c. app_of c ≡ with_rule (app_of command.entry) (file_rule id.entry.now)) }
 {
     let command = command.arg(file(alloc, id, help))?;
     Ok(command)
@@ -139,10 +140,12 @@ fn refused(alloc: Global, error: &Error) -> WordsFault
 
 /// What a command's argument of that name is, where the words have that command.
 fn word_of<'a>(matches: &ArgMatches<'a>, command: &str, id: &str) -> Option<&'a str>
-    ensures given { (rows : List Row) (word : List ℕ) → subcommand_rows_of matches.now ≡ Some (command.now, rows)
+    ensures given { (rows : List Row) (word : List ℕ)
+        → subcommand_rows_of matches.now ≡ Some (command.now, rows)
         → first_of id.now rows ≡ Some word → option_map (λ w. w.now) result ≡ Some word }
     ensures found { IfSome result (λ word. (rows : List Row)
-        × (subcommand_rows_of matches.now ≡ Some (command.now, rows)) × (first_of id.now rows ≡ Some word.now)) }
+        × (subcommand_rows_of matches.now ≡ Some (command.now, rows))
+        × (first_of id.now rows ≡ Some word.now)) }
 {
     let inner = matches.subcommand_matches(command)?;
     let word = inner.get_str(id)?;
@@ -150,7 +153,8 @@ fn word_of<'a>(matches: &ArgMatches<'a>, command: &str, id: &str) -> Option<&'a 
 }
 
 fn share_given<'a>(matches: &ArgMatches<'a>) -> Option<Words<'a>>
-    ensures share { (rows : List Row) (word : List ℕ) → subcommand_rows_of matches.now ≡ Some (codes "share", rows)
+    ensures share { (rows : List Row) (word : List ℕ)
+        → subcommand_rows_of matches.now ≡ Some (codes "share", rows)
         → first_of (codes "SHEET") rows ≡ Some word → IsSomeAnd result (IsShare word) }
     ensures found { IfSome result (IsFound (subcommand_rows_of matches.now)) }
 {
@@ -159,8 +163,10 @@ fn share_given<'a>(matches: &ArgMatches<'a>) -> Option<Words<'a>>
 }
 
 fn check_given<'a>(matches: &ArgMatches<'a>) -> Option<Words<'a>>
-    ensures check { (rows : List Row) (first second : List ℕ) → subcommand_rows_of matches.now ≡ Some (codes "check", rows)
-        → first_of (codes "SHEET") rows ≡ Some first → first_of (codes "GRANTS") rows ≡ Some second → IsSomeAnd result (IsCheck first second) }
+    ensures check { (rows : List Row) (first second : List ℕ)
+        → subcommand_rows_of matches.now ≡ Some (codes "check", rows)
+        → first_of (codes "SHEET") rows ≡ Some first → first_of (codes "GRANTS") rows ≡ Some second
+        → IsSomeAnd result (IsCheck first second) }
     ensures found { IfSome result (IsFound (subcommand_rows_of matches.now)) }
 {
     let sheet = word_of(matches, "check", "SHEET")?;
@@ -169,7 +175,8 @@ fn check_given<'a>(matches: &ArgMatches<'a>) -> Option<Words<'a>>
 }
 
 fn migrate_given<'a>(matches: &ArgMatches<'a>) -> Option<Words<'a>>
-    ensures migrate { (rows : List Row) (word : List ℕ) → subcommand_rows_of matches.now ≡ Some (codes "migrate", rows)
+    ensures migrate { (rows : List Row) (word : List ℕ)
+        → subcommand_rows_of matches.now ≡ Some (codes "migrate", rows)
         → first_of (codes "CONFIG") rows ≡ Some word → IsSomeAnd result (IsMigrate word) }
     ensures found { IfSome result (IsFound (subcommand_rows_of matches.now)) }
 {
@@ -178,11 +185,15 @@ fn migrate_given<'a>(matches: &ArgMatches<'a>) -> Option<Words<'a>>
 }
 
 fn given<'a>(matches: &ArgMatches<'a>) -> Option<Words<'a>>
-    ensures share { (rows : List Row) (word : List ℕ) → subcommand_rows_of matches.now ≡ Some (codes "share", rows)
+    ensures share { (rows : List Row) (word : List ℕ)
+        → subcommand_rows_of matches.now ≡ Some (codes "share", rows)
         → first_of (codes "SHEET") rows ≡ Some word → IsSomeAnd result (IsShare word) }
-    ensures check { (rows : List Row) (first second : List ℕ) → subcommand_rows_of matches.now ≡ Some (codes "check", rows)
-        → first_of (codes "SHEET") rows ≡ Some first → first_of (codes "GRANTS") rows ≡ Some second → IsSomeAnd result (IsCheck first second) }
-    ensures migrate { (rows : List Row) (word : List ℕ) → subcommand_rows_of matches.now ≡ Some (codes "migrate", rows)
+    ensures check { (rows : List Row) (first second : List ℕ)
+        → subcommand_rows_of matches.now ≡ Some (codes "check", rows)
+        → first_of (codes "SHEET") rows ≡ Some first → first_of (codes "GRANTS") rows ≡ Some second
+        → IsSomeAnd result (IsCheck first second) }
+    ensures migrate { (rows : List Row) (word : List ℕ)
+        → subcommand_rows_of matches.now ≡ Some (codes "migrate", rows)
         → first_of (codes "CONFIG") rows ≡ Some word → IsSomeAnd result (IsMigrate word) }
     ensures found { IfSome result (IsFound (subcommand_rows_of matches.now)) }
 {
@@ -200,11 +211,14 @@ fn given<'a>(matches: &ArgMatches<'a>) -> Option<Words<'a>>
 /// `Refused` comes only where the parser refuses the words or they ask for help or the version, and `Memory` only
 /// where memory ran out.
 pub fn read_words<'a>(alloc: Global, words: &'a [&'a str]) -> Result<Words<'a>, WordsFault>
-    ensures share { (word : List ℕ) → IsPlainWord word → map (λ s. s.now) words.now ≡ codes "share" ∷ word ∷ []
+    ensures share { (word : List ℕ) → IsPlainWord word
+        → map (λ s. s.now) words.now ≡ codes "share" ∷ word ∷ []
         → GivesOrMemory (IsShare word) result }
-    ensures check { (first second : List ℕ) → IsPlainWord first → IsPlainWord second → map (λ s. s.now) words.now ≡ codes "check" ∷ first ∷ second ∷ []
+    ensures check { (first second : List ℕ) → IsPlainWord first → IsPlainWord second
+        → map (λ s. s.now) words.now ≡ codes "check" ∷ first ∷ second ∷ []
         → GivesOrMemory (IsCheck first second) result }
-    ensures migrate { (word : List ℕ) → IsPlainWord word → map (λ s. s.now) words.now ≡ codes "migrate" ∷ word ∷ []
+    ensures migrate { (word : List ℕ) → IsPlainWord word
+        → map (λ s. s.now) words.now ≡ codes "migrate" ∷ word ∷ []
         → GivesOrMemory (IsMigrate word) result }
     ensures refused { IfErr result (IsRefusal (fault_of program (map (λ s. s.now) words.now))) }
     ensures given { IfOk result (λ _. fault_of program (map (λ s. s.now) words.now) ≡ []) }

@@ -19,7 +19,8 @@ fn is_among(known: &[&str], key: &str) -> bool
 pub fn only_known<'a>(table: &'a Table, known: &[&str]) -> Result<(), KeyFault<'a>>
     ensures known { MatchResult result
         (λ _. stray (map (λ s. s.now) known.now) (table_view table.now) ≡ None)
-        (λ fault. (stray (map (λ s. s.now) known.now) (table_view table.now) ≡ Some fault.key.now) × (fault.problem ≡ Unknown)) }
+        (λ fault. (stray (map (λ s. s.now) known.now) (table_view table.now) ≡ Some fault.key.now)
+        × (fault.problem ≡ Unknown)) }
 {
     for key in table.keys() {
         if !is_among(known, key.as_str()) {

@@ -14,7 +14,8 @@ use toml::{Table, Value};
 
 /// What stands at a key.
 fn value_at<'a>(table: &'a Table, key: &str) -> Option<&'a Value>
-    ensures value { option_map (λ v. view v.now) result ≡ get_member key.now (table_view table.now) }
+    ensures value { option_map (λ v. view v.now) result
+        ≡ get_member key.now (table_view table.now) }
 {
     table.get(key)
 }
@@ -66,7 +67,8 @@ pub fn number_at<'a>(
 ) -> Result<u64, KeyFault<'a>>
     requires default { IfSome default (λ d. d ≤ high) }
     ensures most { IfOk result (λ n. n ≤ high) }
-    ensures number { Judges (λ n. n) key.now (number key.now low high default (table_view table.now)) result }
+    ensures number { Judges
+        (λ n. n) key.now (number key.now low high default (table_view table.now)) result }
 {
     let kind = Kind::Number { low, high };
     let Some(value) = value_at(table, key) else {
@@ -90,7 +92,8 @@ pub fn text_at<'a>(
     key: &'a str,
     default: Option<&'a str>,
 ) -> Result<&'a str, KeyFault<'a>>
-    ensures text { Judges (λ s. s.now) key.now (text key.now (option_map (λ s. s.now) default.entry) (table_view table.now)) result }
+    ensures text { Judges (λ s. s.now) key.now
+        (text key.now (option_map (λ s. s.now) default.entry) (table_view table.now)) result }
 {
     let Some(value) = value_at(table, key) else {
         return default.ok_or(missing(key, Kind::Text));
@@ -117,7 +120,8 @@ pub fn line_at<'a>(
     requires default { IfSome default (λ s. HasNoControl s.now) }
     ensures plain { IfOk result (λ s. HasNoControl s.now) }
     ensures one_line { IfOk result (λ s. IsLine s.now) }
-    ensures line { Judges (λ s. s.now) key.now (line key.now (option_map (λ s. s.now) default.entry) (table_view table.now)) result }
+    ensures line { Judges (λ s. s.now) key.now
+        (line key.now (option_map (λ s. s.now) default.entry) (table_view table.now)) result }
 {
     let Some(value) = value_at(table, key) else {
         return default.ok_or(missing(key, Kind::Line));
@@ -146,7 +150,8 @@ pub fn flag_at<'a>(table: &Table, key: &'a str, default: Option<bool>) -> Result
 
 /// The table at a key, which must be there.
 pub fn table_at<'a>(table: &'a Table, key: &'a str) -> Result<&'a Table, KeyFault<'a>>
-    ensures table { Judges (λ t. table_view t.now) key.now (inner key.now (table_view table.now)) result }
+    ensures table { Judges (λ t. table_view t.now) key.now
+        (inner key.now (table_view table.now)) result }
 {
     let Some(value) = value_at(table, key) else {
         return Err(missing(key, Kind::Table));
@@ -159,7 +164,8 @@ pub fn table_at<'a>(table: &'a Table, key: &'a str) -> Result<&'a Table, KeyFaul
 
 /// The elements of the list at a key; none where there is no such key.
 pub fn rows_at<'a>(table: &'a Table, key: &'a str) -> Result<&'a [Value], KeyFault<'a>>
-    ensures rows { Judges (λ vs. items_view vs.now) key.now (rows key.now (table_view table.now)) result }
+    ensures rows { Judges (λ vs. items_view vs.now) key.now
+        (rows key.now (table_view table.now)) result }
 {
     let Some(value) = value_at(table, key) else {
         return Ok(&[]);

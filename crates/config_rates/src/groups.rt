@@ -43,7 +43,8 @@ fn number_next<'a>(
     ensures refused { IfErr result (IsFaultOfNext numbers.old index group.now.name.now) }
     ensures first { OnOk result (number_by numbers.old group.now.name.now ≡ None) }
     ensures next { OnOk result ((name : List ℕ)
-        → number_by numbers.new name ≡ cond (bytes_eq group.now.name.now name) (Some index) (number_by numbers.old name)) }
+        → number_by numbers.new name
+        ≡ cond (bytes_eq group.now.name.now name) (Some index) (number_by numbers.old name)) }
 {
     if number_of(numbers, group.name).is_some() {
         return Err(fault_of(index, group, GroupProblem::Twice));

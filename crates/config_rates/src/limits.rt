@@ -13,8 +13,11 @@ use line_rates::Limits;
 /// The limits that a server's rates and rows that were read set. These cannot be refused: each rate is in its range, each
 /// number stands once, and each user's group has a row.
 pub fn limits_of(server: &ServerTable, rows: RateRows) -> Limits
-    requires rows { (groups : List GroupTable) × (users : List UserTable) × AreRowsOf groups users rows }
-    ensures limits { result ≡ stated server.now.rate server.now.down_rate server.now.up_rate rows.groups.items rows.users.items }
+    requires rows { (groups : List GroupTable) × (users : List UserTable)
+        × AreRowsOf groups users rows }
+    ensures limits { result
+        ≡ stated server.now.rate server.now.down_rate server.now.up_rate rows.groups.items
+        rows.users.items }
 {
     match Limits::of(
         server.rate,

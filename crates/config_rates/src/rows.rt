@@ -73,7 +73,8 @@ fn group_of<'a>(
     index: usize,
     user: &UserTable<'a>,
 ) -> Result<Option<u32>, RowsFault<'a>>
-    ensures group { (groups : List GroupTable) → AreNumbers groups numbers.now → IfOk result (λ group. group ≡ group_in groups user.now.group) }
+    ensures group { (groups : List GroupTable) → AreNumbers groups numbers.now
+        → IfOk result (λ group. group ≡ group_in groups user.now.group) }
     ensures has { (groups : List GroupTable) → AreNumbers groups numbers.now
         → OnOk result (HasGroup groups user.now.group) }
     ensures refused { (groups : List GroupTable) → AreNumbers groups numbers.now
@@ -94,7 +95,8 @@ fn read_user<'a>(
     index: usize,
     user: &UserTable<'a>,
 ) -> Result<UserRate, RowsFault<'a>>
-    ensures row { (groups : List GroupTable) → AreNumbers groups numbers.now → IfOk result (λ row. row ≡ user_row groups index user.now) }
+    ensures row { (groups : List GroupTable) → AreNumbers groups numbers.now
+        → IfOk result (λ row. row ≡ user_row groups index user.now) }
     ensures has { (groups : List GroupTable) → AreNumbers groups numbers.now
         → OnOk result (HasGroup groups user.now.group) }
     ensures refused { (groups : List GroupTable) → AreNumbers groups numbers.now
@@ -119,7 +121,8 @@ fn read_users<'a>(
     numbers: &Numbers,
     users: &[UserTable<'a>],
 ) -> Result<Vec<UserRate>, RowsFault<'a>>
-    ensures rows { (groups : List GroupTable) → AreNumbers groups numbers.now → IfOk result (λ rows. rows.items ≡ user_rows groups users.now) }
+    ensures rows { (groups : List GroupTable) → AreNumbers groups numbers.now
+        → IfOk result (λ rows. rows.items ≡ user_rows groups users.now) }
     ensures grouped { (groups : List GroupTable) → AreNumbers groups numbers.now
         → OnOk result (AreGrouped groups users.now) }
     ensures refused { (groups : List GroupTable) → AreNumbers groups numbers.now

@@ -32,8 +32,10 @@ fn small_at<'a>(
     default: Option<u16>,
 ) -> Result<u16, KeyFault<'a>>
     requires default { IfSome default (λ d. d ≤ high) }
-    ensures number { IfOk result (λ n. number key.now low high default (table_view table.now) ≡ Ok n) }
-    ensures refused { OnErr result ((n : ℕ) → number key.now low high default (table_view table.now) ≢ Ok n) }
+    ensures number { IfOk result (λ n. number key.now low high default (table_view table.now)
+        ≡ Ok n) }
+    ensures refused { OnErr result ((n : ℕ)
+        → number key.now low high default (table_view table.now) ≢ Ok n) }
 {
     let wide = match default {
         Some(number) => Some(u64::from(number)),

@@ -30,7 +30,8 @@ fn read_row<'a, R: Row<'a>>(
     known: &[&str],
 ) -> Result<R, KeyFault<'a>>
     ensures row { IfOk result (IsRow R.States (map (λ s. s.now) known.now) (view value.now)) }
-    ensures refused { OnErr result ((read : R) → IsRow R.States (map (λ s. s.now) known.now) (view value.now) read → ⊥) }
+    ensures refused { OnErr result ((read : R)
+        → IsRow R.States (map (λ s. s.now) known.now) (view value.now) read → ⊥) }
 {
     let table = row_at(value, key)?;
     only_known(table, known)?;
@@ -55,8 +56,10 @@ pub fn read_rows<'a, R: Row<'a>>(
     known: &[&str],
     rows: &'a [Value],
 ) -> Result<Vec<R>, TableFault<'a>>
-    ensures rows { IfOk result (λ found. AreRows R.States (map (λ s. s.now) known.now) (items_view rows.now) found.items) }
-    ensures refused { IfErr result (λ fault. fault ≢ TableFault.Memory → AreNone R.States (map (λ s. s.now) known.now) (items_view rows.now)) }
+    ensures rows { IfOk result
+        (λ found. AreRows R.States (map (λ s. s.now) known.now) (items_view rows.now) found.items) }
+    ensures refused { IfErr result (λ fault. fault ≢ TableFault.Memory
+        → AreNone R.States (map (λ s. s.now) known.now) (items_view rows.now)) }
 {
     let mut found = Vec::new(alloc);
     for (index, value) in rows.iter().enumerate() {

@@ -153,7 +153,8 @@ fn read_overrides<'a>(
 #[tactic(auto, using(crate::proofs::NoTables::no_server, crate::proofs::NoTables::no_users, crate::proofs::NoTables::no_overrides,))]
 pub fn read_tables<'a>(alloc: Global, document: &'a Table) -> Result<Tables<'a>, TableFault<'a>>
     ensures tables { IfOk result (IsTables (table_view document.now)) }
-    ensures refused { IfErr result (λ fault. fault ≢ TableFault.Memory → AreNoTables (table_view document.now)) }
+    ensures refused { IfErr result (λ fault. fault ≢ TableFault.Memory
+        → AreNoTables (table_view document.now)) }
 {
     let grouped = is_grouped(document);
     let top = match read_top(document, grouped) {

@@ -30,7 +30,8 @@ impl<'a> Row<'a> for GroupTable<'a> {
 /// The password of a user. That of `anonymous` is not read.
 fn password_at<'a>(table: &'a Table, name: &str) -> Result<&'a str, KeyFault<'a>>
     ensures password { IfOk result (λ s. password_of name.now (table_view table.now) ≡ Ok s.now) }
-    ensures refused { OnErr result ((s : List ℕ) → password_of name.now (table_view table.now) ≢ Ok s) }
+    ensures refused { OnErr result ((s : List ℕ)
+        → password_of name.now (table_view table.now) ≢ Ok s) }
 {
     if name == "anonymous" {
         return Ok("");

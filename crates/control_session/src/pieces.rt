@@ -47,12 +47,15 @@ pub fn take_pieces<
     requires room { 0 < length buffer.old }
     requires start { HasRead [] [] lines.old }
     ensures passes { OnOk result (IsTaken A (C.may_answer clock.now) S.Step D.Asks users.now.users
-        (R.remaining reader.old) (R.remaining reader.new) (λ octets items. HasRead octets items lines.new)
+        (R.remaining reader.old) (R.remaining reader.new)
+        (λ octets items. HasRead octets items lines.new)
         (W.contents writer.old) (W.contents writer.new) []
         session.old floors.old store.old side.old
         session.new floors.new store.new side.new) }
-    ensures breaks { OnErr result (IsInterrupted A (C.may_answer clock.now) S.Step D.Asks users.now.users
-        (R.remaining reader.old) (R.remaining reader.new) (λ octets items. HasRead octets items lines.new)
+    ensures breaks { OnErr result
+        (IsInterrupted A (C.may_answer clock.now) S.Step D.Asks users.now.users
+        (R.remaining reader.old) (R.remaining reader.new)
+        (λ octets items. HasRead octets items lines.new)
         (W.contents writer.old) (W.contents writer.new) []
         session.old floors.old store.old side.old) }
     ensures due { OnOk result (due session.new ≡ false) }

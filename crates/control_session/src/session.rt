@@ -258,7 +258,8 @@ pub fn run_control<
         (new_session settings peer) floors.old store.old side.old
         floors.new store.new side.new) }
     ensures broken { OnErr result (
-        AppendsPart (W.contents writer.old) (W.contents writer.new) (greeting_of (new_session settings peer))
+        AppendsPart (W.contents writer.old) (W.contents writer.new)
+        (greeting_of (new_session settings peer))
         ⊎ IsBroken A (C.may_answer clock.now) S.Step D.Asks users.now.users
         (R.remaining reader.old) (R.remaining reader.new)
         (W.contents writer.old) (W.contents writer.new)

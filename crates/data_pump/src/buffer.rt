@@ -42,7 +42,8 @@ impl<A: Allocator> WireBuffer<A> {
         A: Clone,
         requires some { 0 < half }
         requires most { 2 * half ≤ MAX_WAITING }
-        ensures empty { IfOk result (λ buffer. buffer ≡ record { data_type = data_type; octets = [] }) }
+        ensures empty { IfOk result
+            (λ buffer. buffer ≡ record { data_type = data_type; octets = [] }) }
     {
         let text = match data_type {
             DataType::Ascii => vec![in alloc.clone()?; 0u8; half]?,
@@ -88,7 +89,9 @@ impl<A: Allocator> WireBuffer<A> {
     pub fn fill<S: Source>(&mut self, source: &mut S) -> Result<usize, StoreFault>
         ensures data_type { self.new.data_type ≡ self.old.data_type }
         ensures count { IfOk result (λ count. count ≡ length self.new.octets) }
-        ensures filled { IfOk result (λ count. Fills self.old.data_type (S.remaining source.old) (S.remaining source.new) count self.new.octets) }
+        ensures filled { IfOk result
+            (λ count. Fills self.old.data_type (S.remaining source.old)
+            (S.remaining source.new) count self.new.octets) }
         ensures empty { OnErr result (self.new.octets ≡ []) }
         ensures kept { OnErr result (Keeps (S.remaining source.old) (S.remaining source.new)) }
     {
@@ -107,7 +110,9 @@ impl<A: Allocator> WireBuffer<A> {
 fn read_octets<S: Source>(source: &mut S, octets: &mut [u8]) -> Result<usize, StoreFault>
     requires room { 0 < length octets.old }
     ensures bound { IfOk result (λ count. count ≤ length octets.new) }
-    ensures filled { IfOk result (λ count. Fills DataType.Image (S.remaining source.old) (S.remaining source.new) count (take count octets.new)) }
+    ensures filled { IfOk result
+        (λ count. Fills DataType.Image (S.remaining source.old) (S.remaining source.new) count
+        (take count octets.new)) }
     ensures kept { OnErr result (Keeps (S.remaining source.old) (S.remaining source.new)) }
 {
     source.read(octets)
@@ -122,7 +127,9 @@ fn read_text<S: Source>(
     requires some { 0 < length text.old }
     requires room { 2 * length text.old ≤ length octets.old }
     ensures bound { IfOk result (λ count. count ≤ length octets.new) }
-    ensures filled { IfOk result (λ count. Fills DataType.Ascii (S.remaining source.old) (S.remaining source.new) count (take count octets.new)) }
+    ensures filled { IfOk result
+        (λ count. Fills DataType.Ascii (S.remaining source.old) (S.remaining source.new) count
+        (take count octets.new)) }
     ensures kept { OnErr result (Keeps (S.remaining source.old) (S.remaining source.new)) }
 {
     let count = source.read(text)?;

@@ -52,9 +52,12 @@ impl<S: Source, K: Write + Drop, A: Allocator> DataOut<S, K, A> {
     ) -> Result<DataOut<S, K, A>, OpenFault>
     where
         A: Clone,
-        ensures connection { IfOk result (λ out. (out.connection ≡ connection) × (out.data_type ≡ data_type) × (out.last ≡ PumpEnd.More)) }
-        ensures filled { IfOk result (λ out. (0 < length out.waiting) ⊎ (IsTrue out.is_over × (out.waiting ≡ []))) }
-        ensures sending { (before octets : List ℕ) → K.contents connection ≡ Some before → S.remaining source ≡ Some octets
+        ensures connection { IfOk result (λ out. (out.connection ≡ connection)
+            × (out.data_type ≡ data_type) × (out.last ≡ PumpEnd.More)) }
+        ensures filled { IfOk result (λ out. (0 < length out.waiting)
+            ⊎ (IsTrue out.is_over × (out.waiting ≡ []))) }
+        ensures sending { (before octets : List ℕ) → K.contents connection ≡ Some before
+            → S.remaining source ≡ Some octets
             → IfOk result (IsSending S.remaining K.contents before (sent data_type octets)) }
     {
         let mut source = source;
@@ -101,7 +104,13 @@ impl<S: Source, K: Write + Drop, A: Allocator> DataOut<S, K, A> {
     /// What it asks a round for: leave to send all that waits. That is nothing only once it has ended, or where the
     /// source could not be read.
     pub fn ask(&self, user: u32, session: u32) -> Ask
-        ensures ask { result ≡ record { user = user; session = session; way = Way.Down; want = length self.now.waiting } }
+        ensures ask { result
+            ≡ record {
+              user = user;
+              session = session;
+              way = Way.Down;
+              want = length self.now.waiting;
+            } }
     {
         Ask {
             user,
@@ -139,8 +148,22 @@ fn move_out<S: Source, K: Write, A: Allocator>(
     requires over { OnTrue is_over.old (IsAtEnd (S.remaining source.old)) }
     ensures over { OnTrue is_over.new (IsAtEnd (S.remaining source.new)) }
     ensures moved { (last next : PumpEnd) → MovesOut S.remaining K.contents most
-        (record { source = source.old; connection = connection.old; data_type = buffer.old.data_type; waiting = buffer.old.octets; is_over = is_over.old; last = last })
-        (record { source = source.new; connection = connection.new; data_type = buffer.new.data_type; waiting = buffer.new.octets; is_over = is_over.new; last = next })
+        (record {
+          source = source.old;
+          connection = connection.old;
+          data_type = buffer.old.data_type;
+          waiting = buffer.old.octets;
+          is_over = is_over.old;
+          last = last;
+        })
+        (record {
+          source = source.new;
+          connection = connection.new;
+          data_type = buffer.new.data_type;
+          waiting = buffer.new.octets;
+          is_over = is_over.new;
+          last = next;
+        })
         result }
 {
     let count = most.min(buffer.len() as u64) as usize;
@@ -168,9 +191,11 @@ fn refill<S: Source, A: Allocator>(
     requires over { OnTrue is_over.old (IsAtEnd (S.remaining source.old)) }
     ensures over { OnTrue is_over.new (IsAtEnd (S.remaining source.new)) }
     ensures data_type { buffer.new.data_type ≡ buffer.old.data_type }
-    ensures come { Keeps (still_to_come buffer.old.data_type buffer.old.octets (S.remaining source.old))
+    ensures come { Keeps
+        (still_to_come buffer.old.data_type buffer.old.octets (S.remaining source.old))
         (still_to_come buffer.new.data_type buffer.new.octets (S.remaining source.new)) }
-    ensures left { 0 < length buffer.old.octets → (buffer.new ≡ buffer.old) × (source.new ≡ source.old) }
+    ensures left { 0 < length buffer.old.octets → (buffer.new ≡ buffer.old)
+        × (source.new ≡ source.old) }
     ensures more { result ≡ PumpEnd.More → 0 < length buffer.new.octets }
     ensures ended { result ≡ PumpEnd.Ended → IsTrue is_over.new × (buffer.new.octets ≡ []) }
     ensures fault { IsSourceFault result → buffer.new.octets ≡ [] }
@@ -210,7 +235,8 @@ pub fn pump_out<S: Source, K: Write + Drop, A: Allocator>(
     ensures tally_back { tally.new.back ≡ capped tally.old.back (grant.octets - result.moved) }
     ensures sending { (before text : List ℕ) → IsSending S.remaining K.contents before text out.old
         → IsSending S.remaining K.contents before text out.new }
-    ensures whole { (before text : List ℕ) → IsSending S.remaining K.contents before text out.old → result.end ≡ PumpEnd.Ended
+    ensures whole { (before text : List ℕ) → IsSending S.remaining K.contents before text out.old
+        → result.end ≡ PumpEnd.Ended
         → K.contents out.new.connection ≡ Some (before ++ text) }
 {
     let pumped = out.pump(grant.octets());

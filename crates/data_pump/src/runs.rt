@@ -38,7 +38,8 @@ fn send_line(piece: &[u8], wire: &mut [u8], count: usize) -> (usize, usize)
     ensures within { result.0 ≤ length piece.now }
     ensures least { count + result.0 ≤ result.1 }
     ensures most { result.1 ≤ count + 2 * result.0 }
-    ensures sent { take result.1 wire.new ≡ take count wire.old ++ sent_text (take result.0 piece.now) }
+    ensures sent { take result.1 wire.new
+        ≡ take count wire.old ++ sent_text (take result.0 piece.now) }
 {
     let run = run_before(LF, piece);
     let end = put_run(&piece[..run], wire, count);
@@ -52,7 +53,8 @@ fn send_line(piece: &[u8], wire: &mut [u8], count: usize) -> (usize, usize)
 pub fn receive_text(holds_cr: bool, piece: &[u8], text: &mut [u8]) -> (usize, bool)
     requires room { length piece.now < length text.old }
     ensures bound { result.0 ≤ length text.new }
-    ensures received { ReceivesOctets Ascii (cr_if holds_cr) piece.now (take result.0 text.new) (cr_if result.1) }
+    ensures received { ReceivesOctets Ascii (cr_if holds_cr) piece.now (take result.0 text.new)
+        (cr_if result.1) }
 {
     let mut held = holds_cr;
     let mut from = 0;
@@ -74,7 +76,8 @@ fn receive_run(holds_cr: bool, piece: &[u8], text: &mut [u8], count: usize) -> (
     ensures some { 0 < result.0 }
     ensures within { result.0 ≤ length piece.now }
     ensures most { result.1 + length (cr_if result.2) ≤ count + length (cr_if holds_cr) + result.0 }
-    ensures received { PutsRun holds_cr (take result.0 piece.now) (take count text.old) (take result.1 text.new) result.2 }
+    ensures received { PutsRun holds_cr (take result.0 piece.now) (take count text.old)
+        (take result.1 text.new) result.2 }
 {
     let start = put_held_cr(holds_cr, piece[0], text, count);
     let run = run_before(CR, piece);
@@ -89,7 +92,8 @@ fn receive_run(holds_cr: bool, piece: &[u8], text: &mut [u8], count: usize) -> (
 fn run_before(octet: u8, piece: &[u8]) -> usize
     ensures within { result ≤ length piece.now }
     ensures run { HoldsNo octet (take result piece.now) }
-    ensures next { result < length piece.now → take (result + 1) piece.now ≡ take result piece.now ++ octet ∷ [] }
+    ensures next { result < length piece.now
+        → take (result + 1) piece.now ≡ take result piece.now ++ octet ∷ [] }
 {
     match memchr(octet, piece) {
         Some(place) => place,

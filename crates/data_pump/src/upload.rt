@@ -73,9 +73,17 @@ impl<K: Read + Drop, T: Sink, A: Allocator> DataIn<K, T, A> {
     ) -> Result<DataIn<K, T, A>, OpenFault>
     where
         A: Clone,
-        ensures begun { IfOk result (λ upload. upload ≡ record { connection = connection; sink = sink; data_type = data_type; held = []; last = PumpEnd.More }) }
+        ensures begun { IfOk result
+            (λ upload. upload ≡ record {
+              connection = connection;
+              sink = sink;
+              data_type = data_type;
+              held = [];
+              last = PumpEnd.More;
+            }) }
         ensures refused { IfErr result (λ fault. fault ≡ OpenFault.Memory) }
-        ensures receiving { (before octets : List ℕ) → T.collected sink ≡ Some before → K.remaining connection ≡ Some octets
+        ensures receiving { (before octets : List ℕ) → T.collected sink ≡ Some before
+            → K.remaining connection ≡ Some octets
             → IfOk result (IsReceiving K.remaining T.collected before octets) }
     {
         match buffers(alloc, data_type, MAX_READ) {
@@ -100,7 +108,8 @@ impl<K: Read + Drop, T: Sink, A: Allocator> DataIn<K, T, A> {
 
     /// What it asks a round for: leave to read as much as one pump can.
     pub fn ask(&self, user: u32, session: u32) -> Ask
-        ensures ask { result ≡ record { user = user; session = session; way = Way.Up; want = MAX_READ } }
+        ensures ask { result
+            ≡ record { user = user; session = session; way = Way.Up; want = MAX_READ } }
     {
         Ask {
             user,
@@ -148,7 +157,9 @@ fn read_once<K: Read>(connection: &mut K, octets: &mut [u8], limit: usize) -> io
     requires asks { 0 < limit }
     requires room { limit ≤ length octets.old }
     ensures bound { IfOk result (λ count. count ≤ limit) }
-    ensures read { IfOk result (λ count. Consumes (K.remaining connection.old) (K.remaining connection.new) (take count octets.new)) }
+    ensures read { IfOk result
+        (λ count. Consumes (K.remaining connection.old) (K.remaining connection.new)
+        (take count octets.new)) }
     ensures ended { IfOk result (λ count. count ≡ 0 → IsAtEnd (K.remaining connection.new)) }
     ensures kept { OnErr result (Keeps (K.remaining connection.old) (K.remaining connection.new)) }
 {
@@ -168,8 +179,20 @@ fn move_in<K: Read, T: Sink>(
     requires text { HasTextRoom wire.old.data_type (length octets.old) text.old }
     ensures data_type { wire.new.data_type ≡ wire.old.data_type }
     ensures moved { (last next : PumpEnd) → MovesIn K.remaining T.collected T.target most
-        (record { connection = connection.old; sink = sink.old; data_type = wire.old.data_type; held = wire.old.held; last = last })
-        (record { connection = connection.new; sink = sink.new; data_type = wire.new.data_type; held = wire.new.held; last = next })
+        (record {
+          connection = connection.old;
+          sink = sink.old;
+          data_type = wire.old.data_type;
+          held = wire.old.held;
+          last = last;
+        })
+        (record {
+          connection = connection.new;
+          sink = sink.new;
+          data_type = wire.new.data_type;
+          held = wire.new.held;
+          last = next;
+        })
         result }
 {
     if most == 0 {
@@ -200,7 +223,9 @@ fn give<T: Sink>(wire: &mut Wire, piece: &[u8], text: &mut [u8], sink: &mut T) -
     requires text { HasTextRoom wire.old.data_type (length piece.now) text.old }
     ensures data_type { wire.new.data_type ≡ wire.old.data_type }
     ensures target { T.target sink.new ≡ T.target sink.old }
-    ensures given { result ≡ PumpEnd.More → Gives wire.old.data_type wire.old.held piece.now (T.collected sink.old) (T.collected sink.new) wire.new.held }
+    ensures given { result ≡ PumpEnd.More
+        → Gives wire.old.data_type wire.old.held piece.now (T.collected sink.old)
+        (T.collected sink.new) wire.new.held }
     ensures fault { result ≢ PumpEnd.More → T.collected sink.new ≡ T.collected sink.old }
     ensures own { (result ≢ PumpEnd.Ended) × (result ≢ PumpEnd.ReadFault) }
 {
@@ -222,7 +247,8 @@ fn give<T: Sink>(wire: &mut Wire, piece: &[u8], text: &mut [u8], sink: &mut T) -
 fn finish<T: Sink>(wire: &mut Wire, sink: &mut T) -> PumpEnd
     ensures data_type { wire.new.data_type ≡ wire.old.data_type }
     ensures target { T.target sink.new ≡ T.target sink.old }
-    ensures given { result ≡ PumpEnd.Ended → Appends (T.collected sink.old) (T.collected sink.new) wire.old.held }
+    ensures given { result ≡ PumpEnd.Ended
+        → Appends (T.collected sink.old) (T.collected sink.new) wire.old.held }
     ensures alone { received wire.old.data_type wire.old.held ≡ wire.old.held }
     ensures nothing { wire.new.held ≡ [] }
     ensures own { (result ≢ PumpEnd.More) × (result ≢ PumpEnd.ReadFault) }
@@ -248,14 +274,18 @@ pub fn pump_in<K: Read + Drop, T: Sink, A: Allocator>(
     upload: &mut DataIn<K, T, A>,
     tally: &mut Tally,
 ) -> Pumped
-    ensures moved { MovesIn K.remaining T.collected T.target grant.octets upload.old upload.new result }
+    ensures moved { MovesIn K.remaining T.collected T.target grant.octets upload.old upload.new
+        result }
     ensures last { upload.new.last ≡ result.end }
     ensures tally_moved { tally.new.moved ≡ capped tally.old.moved result.moved }
     ensures tally_back { tally.new.back ≡ capped tally.old.back (grant.octets - result.moved) }
-    ensures receiving { (before octets : List ℕ) → IsReceiving K.remaining T.collected before octets upload.old
+    ensures receiving { (before octets : List ℕ)
+        → IsReceiving K.remaining T.collected before octets upload.old
         → result.end ≡ PumpEnd.More → IsReceiving K.remaining T.collected before octets upload.new }
-    ensures whole { (before octets : List ℕ) → IsReceiving K.remaining T.collected before octets upload.old
-        → result.end ≡ PumpEnd.Ended → T.collected upload.new.sink ≡ Some (before ++ received upload.old.data_type octets) }
+    ensures whole { (before octets : List ℕ)
+        → IsReceiving K.remaining T.collected before octets upload.old
+        → result.end ≡ PumpEnd.Ended
+        → T.collected upload.new.sink ≡ Some (before ++ received upload.old.data_type octets) }
 {
     let pumped = upload.pump(grant.octets());
     grant.spend(pumped.moved, tally);

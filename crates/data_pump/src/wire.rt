@@ -59,7 +59,8 @@ impl Wire {
         requires room { length piece.now < length text.old }
         ensures bound { result ≤ length text.new }
         ensures data_type { self.new.data_type ≡ self.old.data_type }
-        ensures received { ReceivesOctets self.old.data_type self.old.held piece.now (take result text.new) self.new.held }
+        ensures received { ReceivesOctets self.old.data_type self.old.held piece.now
+            (take result text.new) self.new.held }
     {
         match self.data_type {
             DataType::Ascii => {

@@ -9,7 +9,8 @@ use std::io::Write;
 /// only where a write failed; a write that reports none has failed.
 pub fn write_front<K: Write>(connection: &mut K, octets: &[u8]) -> usize
     ensures bound { result ≤ length octets.now }
-    ensures written { Appends (K.contents connection.old) (K.contents connection.new) (take result octets.now) }
+    ensures written { Appends (K.contents connection.old) (K.contents connection.new)
+        (take result octets.now) }
     ensures no_call { octets.now ≡ [] → connection.new ≡ connection.old }
 {
     if octets.is_empty() {
@@ -20,7 +21,8 @@ pub fn write_front<K: Write>(connection: &mut K, octets: &[u8]) -> usize
 
 fn write_some<K: Write>(connection: &mut K, octets: &[u8]) -> usize
     ensures bound { result ≤ length octets.now }
-    ensures written { Appends (K.contents connection.old) (K.contents connection.new) (take result octets.now) }
+    ensures written { Appends (K.contents connection.old) (K.contents connection.new)
+        (take result octets.now) }
 {
     let mut moved = 0;
     'writes: while moved < octets.len() {

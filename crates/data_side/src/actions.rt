@@ -17,7 +17,8 @@ use std::vec::IntoIter;
 
 /// Appends a reply.
 fn push_answer<A: Allocator>(text: &mut Vec<u8, A>, answer: &Answer<A>) -> Result<(), AllocError>
-    ensures text { OnOk result (text.new.items ≡ text.old.items ++ reply_text (answer_form answer.now)) }
+    ensures text { OnOk result
+        (text.new.items ≡ text.old.items ++ reply_text (answer_form answer.now)) }
 {
     let fixed: Answer<A> = match answer {
         Answer::Made(reply) => return reply.write_to(text),
@@ -134,7 +135,8 @@ fn either<A: Allocator, K: Drop>(
 ) -> Option<Input<A, K>>
     requires one { length (waiting first) + length (waiting second) ≤ 1 }
     ensures value { waiting result ≡ waiting first ++ waiting second }
-    ensures kind { AllByRecursion IsAnswer (waiting first) → AllByRecursion IsAnswer (waiting second)
+    ensures kind { AllByRecursion IsAnswer (waiting first)
+        → AllByRecursion IsAnswer (waiting second)
         → AllByRecursion IsAnswer (waiting result) }
 {
     match first {

@@ -67,7 +67,8 @@ impl<A: Allocator + Clone> Files<A> {
 
     /// Puts an entry at a place, over what stands there.
     pub fn put(&mut self, place: Place<A>, entry: Entry<A>) -> Result<(), AllocError>
-        requires { size_at (map.get self.old place) < size_of entry → total (map.insert self.old place entry) < 2 ^ 64 }
+        requires { size_at (map.get self.old place) < size_of entry
+            → total (map.insert self.old place entry) < 2 ^ 64 }
         ensures ok { OnOk result (self.new ≡ map.insert self.old place entry) }
         ensures err { OnErr result (self.new ≡ self.old) }
     {
@@ -104,7 +105,8 @@ impl<A: Allocator + Clone> Files<A> {
         path: &VPath<B>,
     ) -> Result<Vec<Listed<A>, A>, AllocError>
         ensures entries { IfOk result (λ listed. entries_of listed ≡ listing self.now path.now) }
-        ensures rising { IfOk result (λ listed. IsStrictlySortedBy (slice_cmp nat_cmp) (names_of listed)) }
+        ensures rising { IfOk result
+            (λ listed. IsStrictlySortedBy (slice_cmp nat_cmp) (names_of listed)) }
     {
         let first = Place::first_in(alloc, path)?;
         let end = Place::past(alloc, path)?;
@@ -119,7 +121,8 @@ impl<A: Allocator + Clone> Files<A> {
         end: &Place<A>,
     ) -> Result<Vec<Listed<A>, A>, AllocError>
         requires forward { is_gt (path_cmp first.now end.now) ≡ false }
-        ensures entries { (directory : Path) → first.now ≡ directory ++ [] ∷ [] → end.now ≡ (directory ++ [] ∷ []) ++ [] ∷ []
+        ensures entries { (directory : Path) → first.now ≡ directory ++ [] ∷ []
+            → end.now ≡ (directory ++ [] ∷ []) ++ [] ∷ []
             → IfOk result (λ listed. entries_of listed ≡ listing self.now directory) }
     {
         let mut listed = Vec::new(alloc.clone()?);
@@ -136,7 +139,8 @@ impl<A: Allocator + Clone> Files<A> {
 
     /// Whether a directory has no entries.
     pub fn is_bare<B: Allocator>(&self, alloc: &A, path: &VPath<B>) -> Result<bool, AllocError>
-        ensures bare { IfOk result (λ bare. bare ≡ nat_eq (length (children_in self.now path.now)) 0) }
+        ensures bare { IfOk result
+            (λ bare. bare ≡ nat_eq (length (children_in self.now path.now)) 0) }
     {
         let first = Place::first_in(alloc, path)?;
         let end = Place::past(alloc, path)?;

@@ -167,7 +167,8 @@ impl<A: Allocator + Clone> Place<A> {
     pub fn listed(&self, alloc: &A, entry: &Entry<A>) -> Result<Option<Listed<A>>, AllocError>
         ensures { IfOk result (λ found. MatchOption found
             (is_name (last_of self.now) ≡ false)
-            (λ listed. (is_name (last_of self.now) ≡ true) × (entry_of listed ≡ told_of (self.now, entry.now)))) }
+            (λ listed. (is_name (last_of self.now) ≡ true)
+            × (entry_of listed ≡ told_of (self.now, entry.now)))) }
     {
         if !is_name(self.name.as_str()) {
             return Ok(None);
@@ -204,7 +205,8 @@ impl<A: Allocator + Clone> Place<A> {
     fn moved_under(&self, alloc: &A, to: &str, rest: &str) -> Result<Place<A>, AllocError>
         requires to { slashed (names_in to.now) ≡ to.now }
         requires rest { slashed (names_in rest.now) ≡ rest.now }
-        ensures { IfOk result (λ place. place ≡ (names_in to.now ++ names_in rest.now) ++ last_of self.now ∷ []) }
+        ensures { IfOk result
+            (λ place. place ≡ (names_in to.now ++ names_in rest.now) ++ last_of self.now ∷ []) }
     {
         let mut directory = String::from_str(alloc.clone()?, to)?;
         directory.push_str(rest)?;
@@ -243,7 +245,8 @@ fn rest_under<'a>(directory: &str, text: &'a str) -> Option<&'a str>
     ensures { (front path : Path) → AllByRecursion HasNoSlash front → AllByRecursion HasNoSlash path
         → directory.now ≡ slashed front → text.now ≡ slashed path → MatchOption result
         (begins_with front path ≡ false)
-        (λ rest. (begins_with front path ≡ true) × (rest.now ≡ slashed (drop (length front) path))) }
+        (λ rest. (begins_with front path ≡ true)
+        × (rest.now ≡ slashed (drop (length front) path))) }
 {
     match text.strip_prefix(directory) {
         None => None,

@@ -68,7 +68,8 @@ where
     /// stands there.
     fn step(&self, place: &mut Place<R::File, R::A>, name: &str) -> Result<bool, StoreFault>
         ensures full { NeverFull result }
-        ensures place { OnOk result (IsOpenText place.new ⊎ (place.new ≡ place.old ++ 47 ∷ name.now)) }
+        ensures place { OnOk result (IsOpenText place.new
+            ⊎ (place.new ≡ place.old ++ 47 ∷ name.now)) }
     {
         place.push(name)?;
         let looked = self.tells(place.text())?;
@@ -107,7 +108,8 @@ where
     fn below(&self, above: &[&str], last: &str) -> Result<Place<R::File, R::A>, StoreFault>
         ensures full { NeverFull result }
         ensures place { IfOk result
-            (LeadsTo (string_bytes self.now.path) (map (λ name. name.now) above.now ++ last.now ∷ [])) }
+            (LeadsTo (string_bytes self.now.path)
+            (map (λ name. name.now) above.now ++ last.now ∷ [])) }
     {
         let mut place = self.directory(above)?;
         place.push(last)?;

@@ -26,7 +26,8 @@ where
     /// The entries of a directory, in the order of their names' octets.
     pub fn list(&self, path: &VPath<R::A>) -> Result<Vec<Listed<R::A>, R::A>, StoreFault>
         ensures full { NeverFull result }
-        ensures rising { IfOk result (λ listed. IsStrictlySortedBy (slice_cmp nat_cmp) (names_of listed)) }
+        ensures rising { IfOk result
+            (λ listed. IsStrictlySortedBy (slice_cmp nat_cmp) (names_of listed)) }
     {
         let names = path.names(self.rt.alloc())?;
         let place = self.directory(&names)?;
@@ -37,7 +38,8 @@ where
     #[tactic(auto, using(crate::proofs::Rising::rising_push))]
     fn entries(&self, folder: &str) -> Result<Vec<Listed<R::A>, R::A>, StoreFault>
         ensures full { NeverFull result }
-        ensures rising { IfOk result (λ listed. IsStrictlySortedBy (slice_cmp nat_cmp) (names_of listed)) }
+        ensures rising { IfOk result
+            (λ listed. IsStrictlySortedBy (slice_cmp nat_cmp) (names_of listed)) }
     {
         let names = self.names(folder)?;
         let mut listed = Vec::new(self.rt.alloc());
@@ -93,7 +95,8 @@ where
     /// neither a directory nor a file, and where the machine does not tell what it is.
     fn entry(&self, folder: &str, name: String<R::A>) -> Result<Option<Listed<R::A>>, StoreFault>
         ensures full { NeverFull result }
-        ensures name { IfOk result (λ found. IfSome found (λ entry. string_bytes entry.name ≡ string_bytes name)) }
+        ensures name { IfOk result
+            (λ found. IfSome found (λ entry. string_bytes entry.name ≡ string_bytes name)) }
     {
         if !is_name(name.as_str()) {
             return Ok(None);

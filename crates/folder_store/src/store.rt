@@ -39,7 +39,9 @@ where
     /// The folder at a path of the machine, which has to be there. A link at its end is followed.
     pub fn new(rt: R, folder: &str) -> Result<DirStore<R>, StoreFault>
         ensures new { IfOk result (λ store. store.count ≡ 0) }
-        ensures faults { IfErr result (λ fault. (fault ≡ StoreFault.NotFound) ⊎ (fault ≡ StoreFault.NotDir) ⊎ (fault ≡ StoreFault.Device) ⊎ (fault ≡ StoreFault.Memory)) }
+        ensures faults { IfErr result (λ fault. (fault ≡ StoreFault.NotFound)
+            ⊎ (fault ≡ StoreFault.NotDir) ⊎ (fault ≡ StoreFault.Device)
+            ⊎ (fault ≡ StoreFault.Memory)) }
     {
         match fs::metadata(&rt, folder) {
             Ok(metadata) => {

@@ -75,7 +75,9 @@ fn mark_held(
     requires floors { length floors.now ≡ length grants.now }
     requires entries { length entries.now ≡ length grants.now }
     requires marks { length grants.now ≤ length marks.old }
-    ensures marked { (i : ℕ) → IsMarked marks.new i ↔ (IsMarked marks.old i ⊎ IsHeldWithin number place.first place.leaves grants.now floors.now entries.now i) }
+    ensures marked { (i : ℕ) → IsMarked marks.new i
+        ↔ (IsMarked marks.old i
+        ⊎ IsHeldWithin number place.first place.leaves grants.now floors.now entries.now i) }
 {
     let most = greatest(grants, floors, place.first, place.leaves);
     for leaf in place.first..place.first + place.leaves {

@@ -77,7 +77,9 @@ fn backing_flaw<A: Allocator>(
     requires entries { length entries.now ≡ length grants.now }
     requires marks { length grants.now ≤ length backed.now }
     requires held { AreHeld (limits tree.now) grants.now floors.now entries.now backed.now }
-    ensures flaw { MatchOption result ((i : ℕ) → i < length grants.now → IsBackedAt (limits tree.now) grants.now entries.now i) (λ flaw. IsFirstUnbacked (limits tree.now) grants.now entries.now flaw) }
+    ensures flaw { MatchOption result ((i : ℕ) → i < length grants.now
+        → IsBackedAt (limits tree.now) grants.now entries.now i)
+        (λ flaw. IsFirstUnbacked (limits tree.now) grants.now entries.now flaw) }
 {
     for leaf in 0..grants.len() {
         if grants[leaf] < wants[leaf] && !backed[leaf] {
@@ -98,7 +100,9 @@ fn flaw_beside<A: Allocator>(
     requires lengths { HasLengths (limits tree.now) grants.now entries.now }
     requires wants { wants.now ≡ (limits tree.now).wants }
     requires floors { floors.now ≡ (limits tree.now).floors }
-    ensures flaw { MatchOption result (IsWithin (limits tree.now) grants.now × IsBackedBy (limits tree.now) grants.now entries.now) (λ flaw. IsFirstFlaw (limits tree.now) grants.now entries.now flaw) }
+    ensures flaw { MatchOption result (IsWithin (limits tree.now) grants.now
+        × IsBackedBy (limits tree.now) grants.now entries.now)
+        (λ flaw. IsFirstFlaw (limits tree.now) grants.now entries.now flaw) }
 {
     let _bounded = tree.leaves();
     if let Some(leaf) = first_above(grants, wants) {
@@ -125,7 +129,9 @@ fn flaw_by<A: Allocator>(
     requires lengths { HasLengths (limits tree.now) grants.now entries.now }
     requires room { length grants.now ≤ length wants.old }
     requires tables { length floors.old ≡ length wants.old }
-    ensures flaw { MatchOption result (IsWithin (limits tree.now) grants.now × IsBackedBy (limits tree.now) grants.now entries.now) (λ flaw. IsFirstFlaw (limits tree.now) grants.now entries.now flaw) }
+    ensures flaw { MatchOption result (IsWithin (limits tree.now) grants.now
+        × IsBackedBy (limits tree.now) grants.now entries.now)
+        (λ flaw. IsFirstFlaw (limits tree.now) grants.now entries.now flaw) }
 {
     tree.leaves_into(wants, floors);
     let leaves = grants.len();
@@ -140,7 +146,9 @@ fn flaw_of_few<A: Allocator>(
 ) -> Option<Flaw>
     requires lengths { HasLengths (limits tree.now) grants.now entries.now }
     requires few { length grants.now ≤ FEW_LEAVES }
-    ensures flaw { MatchOption result (IsWithin (limits tree.now) grants.now × IsBackedBy (limits tree.now) grants.now entries.now) (λ flaw. IsFirstFlaw (limits tree.now) grants.now entries.now flaw) }
+    ensures flaw { MatchOption result (IsWithin (limits tree.now) grants.now
+        × IsBackedBy (limits tree.now) grants.now entries.now)
+        (λ flaw. IsFirstFlaw (limits tree.now) grants.now entries.now flaw) }
 {
     let mut wants = [0; FEW_LEAVES];
     let mut floors = [0; FEW_LEAVES];
@@ -155,7 +163,9 @@ fn flaw_of_many<A: Allocator>(
 ) -> Option<Flaw>
     requires lengths { HasLengths (limits tree.now) grants.now entries.now }
     requires few { length grants.now ≤ MAX_LEAVES }
-    ensures flaw { MatchOption result (IsWithin (limits tree.now) grants.now × IsBackedBy (limits tree.now) grants.now entries.now) (λ flaw. IsFirstFlaw (limits tree.now) grants.now entries.now flaw) }
+    ensures flaw { MatchOption result (IsWithin (limits tree.now) grants.now
+        × IsBackedBy (limits tree.now) grants.now entries.now)
+        (λ flaw. IsFirstFlaw (limits tree.now) grants.now entries.now flaw) }
 {
     let mut wants = [0; MAX_LEAVES];
     let mut floors = [0; MAX_LEAVES];
@@ -177,7 +187,9 @@ pub fn check<A: Allocator, B: Allocator>(
     certificate: &Certificate<B>,
 ) -> Verdict
     ensures verdict { IsVerdict (limits tree.now) grants.now certificate.now result }
-    ensures yes { (result ≡ Verdict.Yes) ↔ (IsWithin (limits tree.now) grants.now × IsBackedBy (limits tree.now) grants.now certificate.now) }
+    ensures yes { (result ≡ Verdict.Yes)
+        ↔ (IsWithin (limits tree.now) grants.now
+        × IsBackedBy (limits tree.now) grants.now certificate.now) }
     ensures best { result ≡ Verdict.Yes → IsBest (limits tree.now) grants.now }
 {
     judge(tree, grants, certificate.entries())

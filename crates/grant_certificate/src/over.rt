@@ -7,8 +7,10 @@ use limit_tree::Place;
 /// The first number that is larger than its bound.
 pub fn first_above(numbers: &[u64], bounds: &[u64]) -> Option<usize>
     requires lengths { length bounds.now ≡ length numbers.now }
-    ensures first { MatchOption result ((j : ℕ) → j < length numbers.now → slice_index numbers.now j ≤ slice_index bounds.now j)
-        (λ i. (i < length numbers.now) × (slice_index bounds.now i < slice_index numbers.now i) × ((j : ℕ) → j < i → slice_index numbers.now j ≤ slice_index bounds.now j)) }
+    ensures first { MatchOption result ((j : ℕ) → j < length numbers.now
+        → slice_index numbers.now j ≤ slice_index bounds.now j)
+        (λ i. (i < length numbers.now) × (slice_index bounds.now i < slice_index numbers.now i)
+        × ((j : ℕ) → j < i → slice_index numbers.now j ≤ slice_index bounds.now j)) }
 {
     for (leaf, number) in numbers.iter().enumerate() {
         if *number > bounds[leaf] {

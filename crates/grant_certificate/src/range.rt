@@ -65,7 +65,8 @@ pub fn first_greater(
 ) -> Option<usize>
     requires inside { first + leaves ≤ length grants.now }
     requires floors { length floors.now ≡ length grants.now }
-    ensures greater { MatchOption result (IsNoneGreater first leaves grants.now floors.now grant) (λ leaf. IsFirstGreater first leaves grants.now floors.now grant leaf) }
+    ensures greater { MatchOption result (IsNoneGreater first leaves grants.now floors.now grant)
+        (λ leaf. IsFirstGreater first leaves grants.now floors.now grant leaf) }
 {
     for leaf in first..first + leaves {
         let other = grants[leaf];

@@ -46,9 +46,14 @@ pub fn seal<A: Allocator, B: Allocator>(
     grants: Vec<u64, B>,
     certificate: Certificate<B>,
 ) -> Result<Sealed<A, B>, Refused<A, B>>
-    ensures seals { IsOk result ↔ (IsWithin (limits tree) grants.items × IsBackedBy (limits tree) grants.items certificate) }
-    ensures sealed { IfOk result (λ s. (s.tree ≡ tree) × (s.grants ≡ grants.items) × (s.certificate ≡ certificate)) }
-    ensures refused { IfErr result (λ r. (r.tree ≡ tree) × (r.grants ≡ grants) × (r.certificate ≡ certificate) × IsFirstFlaw (limits tree) grants.items certificate r.flaw) }
+    ensures seals { IsOk result
+        ↔ (IsWithin (limits tree) grants.items
+        × IsBackedBy (limits tree) grants.items certificate) }
+    ensures sealed { IfOk result (λ s. (s.tree ≡ tree) × (s.grants ≡ grants.items)
+        × (s.certificate ≡ certificate)) }
+    ensures refused { IfErr result (λ r. (r.tree ≡ tree) × (r.grants ≡ grants)
+        × (r.certificate ≡ certificate)
+        × IsFirstFlaw (limits tree) grants.items certificate r.flaw) }
 {
     match check(&tree, &grants, &certificate) {
         Verdict::Yes => Ok(Sealed {

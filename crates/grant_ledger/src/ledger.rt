@@ -92,7 +92,8 @@ impl Book {
     /// A book that has issued `carried` octets, and its tally, in which all of them were moved.
     pub fn open(carried: u64) -> (Book, Tally)
         requires few { carried ≤ MAX_ISSUED }
-        ensures book { result.0 ≡ record { issued = carried; last_tick = None; undrawn = nothing_undrawn } }
+        ensures book { result.0
+            ≡ record { issued = carried; last_tick = None; undrawn = nothing_undrawn } }
         ensures tally { result.1 ≡ record { moved = carried; back = 0 } }
     {
         let book = Book {
@@ -147,7 +148,9 @@ impl Book {
         ensures last_tick { OnOk result (self.new.last_tick ≡ Some tick) }
         ensures undrawn { OnOk result (self.new.undrawn ≡ by_lane lanes.now sealed.now.grants) }
         ensures best { IsBest (limits sealed.now.tree) sealed.now.grants }
-        ensures refusal { MatchResult result (λ _. refusal self.old (sum sealed.now.grants) tick ≡ None) (λ e. refusal self.old (sum sealed.now.grants) tick ≡ Some e) }
+        ensures refusal { MatchResult result
+            (λ _. refusal self.old (sum sealed.now.grants) tick ≡ None)
+            (λ e. refusal self.old (sum sealed.now.grants) tick ≡ Some e) }
         ensures unchanged { OnErr result (self.new ≡ self.old) }
     {
         self.admit(sealed.total(), tick)?;
@@ -161,12 +164,15 @@ impl Book {
         sealed: &Sealed<A, B>,
         tick: u64,
     ) -> Result<Purse, BookFault>
-        ensures purse { IfOk result (λ p. p ≡ record { left = sum sealed.now.grants; tick = tick }) }
+        ensures purse { IfOk result
+            (λ p. p ≡ record { left = sum sealed.now.grants; tick = tick }) }
         ensures issued { OnOk result (self.new.issued ≡ self.old.issued + sum sealed.now.grants) }
         ensures last_tick { OnOk result (self.new.last_tick ≡ Some tick) }
         ensures undrawn { self.new.undrawn ≡ self.old.undrawn }
         ensures best { IsBest (limits sealed.now.tree) sealed.now.grants }
-        ensures refusal { MatchResult result (λ _. refusal self.old (sum sealed.now.grants) tick ≡ None) (λ e. refusal self.old (sum sealed.now.grants) tick ≡ Some e) }
+        ensures refusal { MatchResult result
+            (λ _. refusal self.old (sum sealed.now.grants) tick ≡ None)
+            (λ e. refusal self.old (sum sealed.now.grants) tick ≡ Some e) }
         ensures unchanged { OnErr result (self.new ≡ self.old) }
     {
         let total = sealed.total();
@@ -179,7 +185,8 @@ impl Book {
         ensures issued { OnOk result (self.new.issued ≡ self.old.issued + total) }
         ensures last_tick { OnOk result (self.new.last_tick ≡ Some tick) }
         ensures undrawn { self.new.undrawn ≡ self.old.undrawn }
-        ensures refusal { MatchResult result (λ _. refusal self.old total tick ≡ None) (λ e. refusal self.old total tick ≡ Some e) }
+        ensures refusal { MatchResult result (λ _. refusal self.old total tick ≡ None)
+            (λ e. refusal self.old total tick ≡ Some e) }
         ensures unchanged { OnErr result (self.new ≡ self.old) }
     {
         if let Some(last) = self.last_tick {

@@ -40,7 +40,8 @@ fn settle<B: Allocator, A: Allocator>(
     requires first { first + leaf_count (places node.now) ≡ length copy.old.wants.items }
     requires floors { floors ≡ floor_sum (places node.now) }
     requires some { number < length copy.old.places.items }
-    ensures places { copy.new.places.items ≡ slice_set copy.old.places.items number (root_place depth first node.now) }
+    ensures places { copy.new.places.items
+        ≡ slice_set copy.old.places.items number (root_place depth first node.now) }
     ensures wants { copy.new.wants.items ≡ copy.old.wants.items }
     ensures floors_are { copy.new.floors.items ≡ copy.old.floors.items }
 {

@@ -38,7 +38,9 @@ pub enum TreeFault {
 // The fault of a node alone.
 fn check_alone<A: Allocator>(node: &Node<A>, depth: usize, passed: Passed) -> Result<(), TreeFault>
     ensures within { IfOk result (λ _. (depth ≤ MAX_DEPTH) × (passed.nodes < MAX_NODES)) }
-    ensures fault { MatchResult result (λ _. node_fault depth passed.nodes passed.leaves (kind_of node.now) ≡ None) (λ e. node_fault depth passed.nodes passed.leaves (kind_of node.now) ≡ Some e) }
+    ensures fault { MatchResult result
+        (λ _. node_fault depth passed.nodes passed.leaves (kind_of node.now) ≡ None)
+        (λ e. node_fault depth passed.nodes passed.leaves (kind_of node.now) ≡ Some e) }
 {
     if depth > MAX_DEPTH {
         return Err(TreeFault::TooDeep);
@@ -76,9 +78,12 @@ pub fn check_tree<A: Allocator>(
     requires depth { depth ≤ MAX_DEPTH + 1 }
     requires nodes { passed.nodes ≤ MAX_NODES }
     requires leaves { passed.leaves ≤ MAX_LEAVES }
-    ensures fault { MatchResult result (λ _. first_fault depth passed.nodes passed.leaves (places node.now) ≡ None) (λ e. first_fault depth passed.nodes passed.leaves (places node.now) ≡ Some e) }
+    ensures fault { MatchResult result
+        (λ _. first_fault depth passed.nodes passed.leaves (places node.now) ≡ None)
+        (λ e. first_fault depth passed.nodes passed.leaves (places node.now) ≡ Some e) }
     ensures nodes { IfOk result (λ next. next.nodes ≡ passed.nodes + length (places node.now)) }
-    ensures leaves { IfOk result (λ next. next.leaves ≡ passed.leaves + leaf_count (places node.now)) }
+    ensures leaves { IfOk result
+        (λ next. next.leaves ≡ passed.leaves + leaf_count (places node.now)) }
     ensures few_nodes { IfOk result (λ next. next.nodes ≤ MAX_NODES) }
     ensures few_leaves { IfOk result (λ next. next.leaves ≤ MAX_LEAVES) }
 {

@@ -117,7 +117,8 @@ impl<A: Allocator> Flat<A> {
     pub fn is_full(&self, node: usize, grants: &[u64]) -> bool
         requires node { node < length self.now }
         requires grants { IsWanted (limits self.now) grants.now }
-        ensures full { IsTrue result ↔ ((b : Branch) × IsBranch (limits self.now) node b × IsFull b grants.now) }
+        ensures full { IsTrue result
+            ↔ ((b : Branch) × IsBranch (limits self.now) node b × IsFull b grants.now) }
     {
         let _ = &self.places;
         self.place(node).is_full(grants)

@@ -18,8 +18,10 @@ pub fn leaves_into<A: Allocator>(
     ensures next { result ≡ first + leaf_count (places node.now) }
     ensures size { length wants.new ≡ length wants.old }
     ensures floors_size { length floors.new ≡ length floors.old }
-    ensures wants { take result wants.new ≡ take first wants.old ++ (limits (places node.now)).wants }
-    ensures floors { take result floors.new ≡ take first floors.old ++ (limits (places node.now)).floors }
+    ensures wants { take result wants.new
+        ≡ take first wants.old ++ (limits (places node.now)).wants }
+    ensures floors { take result floors.new
+        ≡ take first floors.old ++ (limits (places node.now)).floors }
 {
     match node {
         Node::Leaf { want, floor } => {

@@ -53,7 +53,8 @@ impl<A: Allocator> Tree<A> {
     /// Checks the numbers of a tree: takes O(nodes) time, and no memory. The first node in preorder that has a
     /// fault decides.
     pub fn new(root: Node<A>) -> Result<Tree<A>, TreeFault>
-        ensures new { MatchResult result (λ t. (t ≡ places root) × (tree_fault (places root) ≡ None)) (λ e. tree_fault (places root) ≡ Some e) }
+        ensures new { MatchResult result (λ t. (t ≡ places root)
+            × (tree_fault (places root) ≡ None)) (λ e. tree_fault (places root) ≡ Some e) }
     {
         let passed = check_tree(&root, 0, NOTHING)?;
         match floors_of(&root, 0).over {
@@ -110,7 +111,9 @@ impl<A: Allocator> Tree<A> {
         requires places { copy.old.places.items ≡ [] }
         requires wants { copy.old.wants.items ≡ [] }
         requires floors { copy.old.floors.items ≡ [] }
-        ensures copied { IfOk result (λ _. AreCopied self.now copy.new.places.items copy.new.wants.items copy.new.floors.items) }
+        ensures copied { IfOk result
+            (λ _. AreCopied self.now copy.new.places.items copy.new.wants.items
+            copy.new.floors.items) }
     {
         let _floors = copy_tree(&self.root, 0, copy)?;
         Ok(())
@@ -121,7 +124,8 @@ impl<A: Allocator> Tree<A> {
         requires room { length (limits self.now).wants ≤ length wants.old }
         requires tables { length floors.old ≡ length wants.old }
         ensures wants { take (length (limits self.now).wants) wants.new ≡ (limits self.now).wants }
-        ensures floors { take (length (limits self.now).wants) floors.new ≡ (limits self.now).floors }
+        ensures floors { take (length (limits self.now).wants) floors.new
+            ≡ (limits self.now).floors }
         ensures size { length wants.new ≡ length wants.old }
         ensures floors_size { length floors.new ≡ length floors.old }
     {
@@ -178,7 +182,8 @@ impl<A: Allocator> Tree<A> {
         requires node { node < length self.now }
         requires grants { IsWanted (limits self.now) grants.now }
         ensures sum { result ≡ sum_over (leaves_under self.now node) grants.now }
-        ensures branch { (b : Branch) → IsBranch (limits self.now) node b → result ≡ sum_over b.holds grants.now }
+        ensures branch { (b : Branch) → IsBranch (limits self.now) node b
+            → result ≡ sum_over b.holds grants.now }
     {
         let _ = &self.leaves;
         self.place(node).sum(grants)
@@ -188,7 +193,8 @@ impl<A: Allocator> Tree<A> {
     pub fn is_full(&self, node: usize, grants: &[u64]) -> bool
         requires node { node < length self.now }
         requires grants { IsWanted (limits self.now) grants.now }
-        ensures full { IsTrue result ↔ ((b : Branch) × IsBranch (limits self.now) node b × IsFull b grants.now) }
+        ensures full { IsTrue result
+            ↔ ((b : Branch) × IsBranch (limits self.now) node b × IsFull b grants.now) }
     {
         let _ = &self.leaves;
         self.place(node).is_full(grants)

@@ -25,7 +25,9 @@ pub trait Visitor {
     fn visit(&mut self, number: usize, place: Place)
         requires inside { place.first + place.leaves ≤ leaves self.old }
         ensures leaves { leaves self.new ≡ leaves self.old }
-        ensures saw { (start : Self) (seen : List Place) → length seen ≡ number → leaf_count seen ≡ place.first → Saw start seen self.old → Saw start (seen ++ place ∷ []) self.new };
+        ensures saw { (start : Self) (seen : List Place) → length seen ≡ number
+            → leaf_count seen ≡ place.first → Saw start seen self.old
+            → Saw start (seen ++ place ∷ []) self.new };
 }
 
 /// How many nodes and leaves a walk has passed.
@@ -64,7 +66,9 @@ pub fn walk_tree<A: Allocator, V: Visitor>(
     ensures nodes { result.nodes ≡ passed.nodes + length (places node.now) }
     ensures leaves { result.leaves ≡ passed.leaves + leaf_count (places node.now) }
     ensures same { V.leaves visitor.new ≡ V.leaves visitor.old }
-    ensures saw { (start : V) (seen : List Place) → length seen ≡ passed.nodes → leaf_count seen ≡ passed.leaves → V.Saw start seen visitor.old → V.Saw start (seen ++ map (moved depth passed.leaves) (places node.now)) visitor.new }
+    ensures saw { (start : V) (seen : List Place) → length seen ≡ passed.nodes
+        → leaf_count seen ≡ passed.leaves → V.Saw start seen visitor.old
+        → V.Saw start (seen ++ map (moved depth passed.leaves) (places node.now)) visitor.new }
 {
     let place = place_of(node, size, depth, passed.leaves);
     visitor.visit(passed.nodes, place);

@@ -42,7 +42,8 @@ fn plan_queue<L: Allocator, A: Allocator + Clone>(
     tick: u64,
     queue: &mut [Queued],
 ) -> Result<Plan<A>, PlanFault>
-    ensures plan { IfOk result (λ p. IsPlanOf limits.now tick queue.old (seen p.tree) p.lanes.items) }
+    ensures plan { IfOk result
+        (λ p. IsPlanOf limits.now tick queue.old (seen p.tree) p.lanes.items) }
     ensures fault { IfErr result (IsFaultOf A limits.now tick (askers queue.old)) }
     ensures floors { FloorsFit limits.now tick (asks_of queue.old) → IfErr result IsNotOfFloors }
 {

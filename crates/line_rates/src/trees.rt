@@ -35,7 +35,8 @@ pub fn grow<L: Allocator, A: Allocator + Clone>(
 ) -> Result<Vec<Node<A>, A>, AllocError>
     requires level { level ≤ 5 }
     requires together { AreTogether limits.now level queue.old }
-    ensures grown { IfOk result (λ k. AreGrownOver limits.now tick level queue.old queue.new k.items) }
+    ensures grown { IfOk result
+        (λ k. AreGrownOver limits.now tick level queue.old queue.new k.items) }
 {
     let mut kids = Vec::new(alloc.clone()?);
     let mut start = 0;

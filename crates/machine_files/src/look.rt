@@ -19,9 +19,11 @@ pub fn fault_of(error: &io::Error) -> StoreFault
     ensures file { error_kind error.now ≡ ErrorKind.NotADirectory → result ≡ StoreFault.NotDir }
     ensures directory { error_kind error.now ≡ ErrorKind.IsADirectory → result ≡ StoreFault.IsDir }
     ensures stands { error_kind error.now ≡ ErrorKind.AlreadyExists → result ≡ StoreFault.Exists }
-    ensures bare { error_kind error.now ≡ ErrorKind.DirectoryNotEmpty → result ≡ StoreFault.NotEmpty }
+    ensures bare { error_kind error.now ≡ ErrorKind.DirectoryNotEmpty
+        → result ≡ StoreFault.NotEmpty }
     ensures memory { error_kind error.now ≡ ErrorKind.OutOfMemory → result ≡ StoreFault.Memory }
-    ensures denied { error_kind error.now ≡ ErrorKind.PermissionDenied → result ≡ StoreFault.Device }
+    ensures denied { error_kind error.now ≡ ErrorKind.PermissionDenied
+        → result ≡ StoreFault.Device }
     ensures disk { error_kind error.now ≡ ErrorKind.StorageFull → result ≡ StoreFault.Device }
 {
     match error.kind() {

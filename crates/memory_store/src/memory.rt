@@ -68,8 +68,10 @@ impl<A: Allocator + Clone> MemStore<A> {
 
     /// The entries of a directory.
     fn listing(&self, path: &VPath<A>) -> Result<Vec<Listed<A>, A>, StoreFault>
-        ensures entries { result ≢ Err StoreFault.Memory → in_answer entries_of result ≡ Ok (listing self.now.tree path.now) }
-        ensures rising { IfOk result (λ listed. IsStrictlySortedBy (slice_cmp nat_cmp) (names_of listed)) }
+        ensures entries { result ≢ Err StoreFault.Memory
+            → in_answer entries_of result ≡ Ok (listing self.now.tree path.now) }
+        ensures rising { IfOk result
+            (λ listed. IsStrictlySortedBy (slice_cmp nat_cmp) (names_of listed)) }
     {
         let listed = self.files.listing(&self.alloc, path)?;
         Ok(listed)

@@ -24,11 +24,18 @@ impl<A: Allocator + Clone> MemStore<A> {
     /// What is to be renamed, and where it stands before and afterwards.
     pub(crate) fn moving(&self, from: &VPath<A>, to: &VPath<A>) -> Result<Moving<A>, StoreFault>
         ensures decided { MatchResult result
-            (λ moving. move_between self.now.tree from.now to.now ≡ Ok (record { node = moving.entry; before = moving.before; afterwards = moving.afterwards }))
-            (λ fault. fault ≢ StoreFault.Memory → move_between self.now.tree from.now to.now ≡ Err fault) }
+            (λ moving. move_between self.now.tree from.now to.now
+            ≡ Ok (record {
+              node = moving.entry;
+              before = moving.before;
+              afterwards = moving.afterwards;
+            }))
+            (λ fault. fault ≢ StoreFault.Memory → move_between self.now.tree from.now to.now
+            ≡ Err fault) }
         ensures before { IfOk result (λ moving. moving.before ≡ from.now) }
         ensures afterwards { IfOk result (λ moving. moving.afterwards ≡ to.now) }
-        ensures stands { IfOk result (λ moving. map.get self.now.tree moving.before ≡ Some moving.entry) }
+        ensures stands { IfOk result
+            (λ moving. map.get self.now.tree moving.before ≡ Some moving.entry) }
         ensures vacant { IfOk result (λ moving. map.get self.now.tree moving.afterwards ≡ None) }
     {
         let Some(before) = Place::of(&self.alloc, from)? else {
@@ -61,7 +68,12 @@ impl<A: Allocator + Clone> MemStore<A> {
         requires afterwards { moving.afterwards ≡ to.now }
         requires stands { map.get self.old.tree moving.before ≡ Some moving.entry }
         requires vacant { map.get self.old.tree moving.afterwards ≡ None }
-        ensures { Changes self.old result self.new (Ok (record { node = moving.entry; before = moving.before; afterwards = moving.afterwards })) unit_of (moved_tree self.old.tree) }
+        ensures { Changes self.old result self.new
+            (Ok (record {
+              node = moving.entry;
+              before = moving.before;
+              afterwards = moving.afterwards;
+            })) unit_of (moved_tree self.old.tree) }
     {
         let Moving {
             entry,

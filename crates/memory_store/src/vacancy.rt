@@ -57,7 +57,8 @@ impl<A: Allocator + Clone> MemStore<A> {
     }
 
     pub(crate) fn place_to_make(&self, path: &VPath<A>) -> Result<Place<A>, StoreFault>
-        ensures { result ≢ Err StoreFault.Memory → result ≡ place_to_make self.now.tree path.now (place_of path.now) }
+        ensures { result ≢ Err StoreFault.Memory
+            → result ≡ place_to_make self.now.tree path.now (place_of path.now) }
     {
         match Place::of(&self.alloc, path)? {
             None => Err(StoreFault::Exists),
@@ -66,7 +67,8 @@ impl<A: Allocator + Clone> MemStore<A> {
     }
 
     pub(crate) fn place_of_file(&self, path: &VPath<A>) -> Result<Place<A>, StoreFault>
-        ensures { result ≢ Err StoreFault.Memory → result ≡ place_of_file self.now.tree (place_of path.now) }
+        ensures { result ≢ Err StoreFault.Memory
+            → result ≡ place_of_file self.now.tree (place_of path.now) }
     {
         match Place::of(&self.alloc, path)? {
             None => Err(StoreFault::IsDir),
@@ -79,7 +81,8 @@ impl<A: Allocator + Clone> MemStore<A> {
     }
 
     pub(crate) fn place_of_bare(&self, path: &VPath<A>) -> Result<Place<A>, StoreFault>
-        ensures { result ≢ Err StoreFault.Memory → result ≡ place_of_bare self.now.tree path.now (place_of path.now) }
+        ensures { result ≢ Err StoreFault.Memory
+            → result ≡ place_of_bare self.now.tree path.now (place_of path.now) }
     {
         let Some(place) = Place::of(&self.alloc, path)? else {
             return Err(StoreFault::NotEmpty);

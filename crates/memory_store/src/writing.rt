@@ -22,7 +22,8 @@ impl<A: Allocator + Clone> MemStore<A> {
         place: Place<A>,
         moment: u64,
     ) -> Result<MemSink<A>, StoreFault>
-        ensures { Opens self.old result self.new (Ok (opening (map.insert self.old.tree place (File [] moment)) place 0)) }
+        ensures { Opens self.old result self.new
+            (Ok (opening (map.insert self.old.tree place (File [] moment)) place 0)) }
     {
         let sink = self.sink(&place, 0)?;
         let entry = self.empty(moment)?;
@@ -115,7 +116,8 @@ impl<A: Allocator + Clone> MemStore<A> {
         moment: u64,
     ) -> Result<MemSink<A>, StoreFault>
         requires { length octets.now ≤ size_at (map.get self.old.tree place) }
-        ensures { Opens self.old result self.new (open_octets self.old.tree place moment (WriteMode.At offset) (Some octets.now)) }
+        ensures { Opens self.old result self.new
+            (open_octets self.old.tree place moment (WriteMode.At offset) (Some octets.now)) }
     {
         if (octets.len() as u64) < offset {
             return Err(StoreFault::PastEnd);
@@ -134,7 +136,8 @@ impl<A: Allocator + Clone> MemStore<A> {
         octets: &[u8],
         moment: u64,
     ) -> Result<MemSink<A>, StoreFault>
-        ensures { Opens self.old result self.new (open_octets self.old.tree place moment WriteMode.Append (Some octets.now)) }
+        ensures { Opens self.old result self.new
+            (open_octets self.old.tree place moment WriteMode.Append (Some octets.now)) }
     {
         let sink = self.sink(&place, octets.len())?;
         Ok(sink)
@@ -149,7 +152,8 @@ impl<A: Allocator + Clone> MemStore<A> {
         moment: u64,
     ) -> Result<MemSink<A>, StoreFault>
         requires { length octets.now ≤ size_at (map.get self.old.tree place) }
-        ensures { Opens self.old result self.new (open_octets self.old.tree place moment mode (Some octets.now)) }
+        ensures { Opens self.old result self.new
+            (open_octets self.old.tree place moment mode (Some octets.now)) }
     {
         match mode {
             WriteMode::New => self.open_empty(place, moment),
@@ -165,7 +169,8 @@ impl<A: Allocator + Clone> MemStore<A> {
         place: Place<A>,
         moment: u64,
     ) -> Result<MemSink<A>, StoreFault>
-        ensures { Opens self.old result self.new (open_new self.old.tree moment (vacant self.old.tree path.now place)) }
+        ensures { Opens self.old result self.new
+            (open_new self.old.tree moment (vacant self.old.tree path.now place)) }
     {
         let place = self.vacant(path, place)?;
         self.open_empty(place, moment)
@@ -179,7 +184,8 @@ impl<A: Allocator + Clone> MemStore<A> {
         mode: WriteMode,
         moment: u64,
     ) -> Result<MemSink<A>, StoreFault>
-        ensures { Opens self.old result self.new (open_absent self.old.tree path.now place moment mode) }
+        ensures { Opens self.old result self.new
+            (open_absent self.old.tree path.now place moment mode) }
     {
         match mode {
             WriteMode::New | WriteMode::Append => self.open_new(path, place, moment),
@@ -194,7 +200,8 @@ impl<A: Allocator + Clone> MemStore<A> {
         mode: WriteMode,
         moment: u64,
     ) -> Result<MemSink<A>, StoreFault>
-        ensures { Opens self.old result self.new (open_node self.old.tree path.now place moment mode (map.get self.old.tree place)) }
+        ensures { Opens self.old result self.new
+            (open_node self.old.tree path.now place moment mode (map.get self.old.tree place)) }
     {
         let Some(entry) = self.share(&place)? else {
             return self.open_absent(path, place, mode, moment);
@@ -209,7 +216,8 @@ impl<A: Allocator + Clone> MemStore<A> {
     pub(crate) fn is_passed(&self, before: usize, kept: usize, came: usize) -> bool
         requires within { before ≤ total self.now.tree }
         requires kept { kept ≤ before }
-        ensures passed { result ≡ nat_lt self.now.capacity (total self.now.tree - before + kept + came) }
+        ensures passed { result
+            ≡ nat_lt self.now.capacity (total self.now.tree - before + kept + came) }
         ensures small { result ≡ false → total self.now.tree - before + kept + came < 2 ^ 64 }
     {
         let others = self.files.stored() - (before - kept) as u64;
@@ -226,7 +234,10 @@ impl<A: Allocator + Clone> MemStore<A> {
         moment: u64,
     ) -> Result<(), StoreFault>
         requires { size_at (map.get self.old.tree place) ≡ length octets.now }
-        ensures { Changes self.old result self.new (finish_octets self.old (record { place = place; kept = kept; octets = came.items }) moment (Some octets.now)) unit_of (λ tree. tree) }
+        ensures { Changes self.old result self.new
+            (finish_octets self.old
+            (record { place = place; kept = kept; octets = came.items }) moment (Some octets.now))
+            unit_of (λ tree. tree) }
     {
         let first = kept.min(octets.len());
         let is_passed = self.is_passed(octets.len(), first, came.len());

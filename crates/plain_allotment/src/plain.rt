@@ -64,7 +64,8 @@ fn next_below<A: Allocator>(
 // The leaf that is given the next octet.
 fn next_leaf<A: Allocator>(tree: &Tree<A>, grants: &[u64]) -> Option<usize>
     requires grants { IsWanted (limits tree.now) grants.now }
-    ensures next { MatchOption result (IsExhausted (limits tree.now) grants.now) (λ k. IsNext (limits tree.now) grants.now k) }
+    ensures next { MatchOption result (IsExhausted (limits tree.now) grants.now)
+        (λ k. IsNext (limits tree.now) grants.now k) }
 {
     let mut best: Option<usize> = None;
     for leaf in 0..grants.len() {

@@ -15,7 +15,8 @@ pub fn run_migrate<R: TextReader, W: TextWriter>(
     writer: &mut W,
 ) -> Result<Option<ConfigFault>, ProgramFault>
     ensures told { IfOk result (Tells (R.remaining reader.old) W.contents writer.old writer.new) }
-    ensures unwritten { IfErr result (λ fault. fault ≢ ProgramFault.WriteFault → writer.new ≡ writer.old) }
+    ensures unwritten { IfErr result (λ fault. fault ≢ ProgramFault.WriteFault
+        → writer.new ≡ writer.old) }
 {
     let octets = read_whole(alloc, reader)?;
     match migrate(alloc, octets.as_slice()) {

@@ -28,7 +28,8 @@ fn share<O: Openings, W: TextWriter>(
     files: &mut O,
     output: &mut W,
 ) -> Result<Ending, ProgramFault>
-    ensures fault { IfErr result (λ fault. fault ≢ ProgramFault.WriteFault → output.new ≡ output.old) }
+    ensures fault { IfErr result (λ fault. fault ≢ ProgramFault.WriteFault
+        → output.new ≡ output.old) }
     ensures ending { IfOk result (λ ending. IsUnwritten ending → output.new ≡ output.old) }
 {
     let Some(mut sheet) = files.open(sheet) else {
@@ -46,7 +47,8 @@ fn check<O: Openings, W: TextWriter>(
     files: &mut O,
     output: &mut W,
 ) -> Result<Ending, ProgramFault>
-    ensures fault { IfErr result (λ fault. fault ≢ ProgramFault.WriteFault → output.new ≡ output.old) }
+    ensures fault { IfErr result (λ fault. fault ≢ ProgramFault.WriteFault
+        → output.new ≡ output.old) }
     ensures ending { IfOk result (λ ending. IsUnwritten ending → output.new ≡ output.old) }
 {
     if sheet == STANDARD_INPUT && grants == STANDARD_INPUT {
@@ -71,7 +73,8 @@ fn migrate<O: Openings, W: TextWriter>(
     files: &mut O,
     output: &mut W,
 ) -> Result<Ending, ProgramFault>
-    ensures fault { IfErr result (λ fault. fault ≢ ProgramFault.WriteFault → output.new ≡ output.old) }
+    ensures fault { IfErr result (λ fault. fault ≢ ProgramFault.WriteFault
+        → output.new ≡ output.old) }
     ensures ending { IfOk result (λ ending. IsUnwritten ending → output.new ≡ output.old) }
 {
     let Some(mut config) = files.open(config) else {
@@ -85,7 +88,8 @@ fn migrate<O: Openings, W: TextWriter>(
 
 /// What the parser says of the words: an answer goes to the output, a refusal is told.
 fn tell<W: TextWriter>(text: String, is_help: bool, output: &mut W) -> Result<Ending, ProgramFault>
-    ensures fault { IfErr result (λ fault. fault ≢ ProgramFault.WriteFault → output.new ≡ output.old) }
+    ensures fault { IfErr result (λ fault. fault ≢ ProgramFault.WriteFault
+        → output.new ≡ output.old) }
     ensures ending { IfOk result (λ ending. IsUnwritten ending → output.new ≡ output.old) }
 {
     if !is_help {
@@ -101,7 +105,8 @@ fn run<O: Openings, W: TextWriter>(
     files: &mut O,
     output: &mut W,
 ) -> Result<Ending, ProgramFault>
-    ensures fault { IfErr result (λ fault. fault ≢ ProgramFault.WriteFault → output.new ≡ output.old) }
+    ensures fault { IfErr result (λ fault. fault ≢ ProgramFault.WriteFault
+        → output.new ≡ output.old) }
     ensures ending { IfOk result (λ ending. IsUnwritten ending → output.new ≡ output.old) }
 {
     match read_words(alloc, words) {

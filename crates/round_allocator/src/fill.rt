@@ -26,9 +26,11 @@ fn fill<A: Allocator>(
     requires spare { share.spare ≤ sum (limits tree.now).wants }
     requires grants { length grants.old ≡ length (limits tree.now).wants }
     requires counted { probes.old ≤ 33 * branch_count (take first tree.now) }
-    ensures poured { (begin last past : ℕ) → IsRow tree.now first begin trees last past → IsPouring tree.now first trees begin share grants.old last 0 past result grants.new }
+    ensures poured { (begin last past : ℕ) → IsRow tree.now first begin trees last past
+        → IsPouring tree.now first trees begin share grants.old last 0 past result grants.new }
     ensures size { length grants.new ≡ length grants.old }
-    ensures counted { (begin last past : ℕ) → IsRow tree.now first begin trees last past → probes.new ≤ 33 * branch_count (take last tree.now) }
+    ensures counted { (begin last past : ℕ) → IsRow tree.now first begin trees last past
+        → probes.new ≤ 33 * branch_count (take last tree.now) }
 {
     tree.is_flat();
     let mut node = first;

@@ -15,8 +15,10 @@ use std::alloc::{AllocError, Allocator};
 fn mark(marks: &mut [Option<u32>], first: usize, leaves: usize, node: u32)
     requires inside { first + leaves ≤ length marks.old }
     ensures size { length marks.new ≡ length marks.old }
-    ensures marked { (i : ℕ) → first ≤ i → i < first + leaves → slice_get marks.new i ≡ Some (Some node) }
-    ensures others { (i : ℕ) → (i < first) ⊎ (first + leaves ≤ i) → slice_get marks.new i ≡ slice_get marks.old i }
+    ensures marked { (i : ℕ) → first ≤ i → i < first + leaves
+        → slice_get marks.new i ≡ Some (Some node) }
+    ensures others { (i : ℕ) → (i < first) ⊎ (first + leaves ≤ i)
+        → slice_get marks.new i ≡ slice_get marks.old i }
 {
     for leaf in first..first + leaves {
         marks[leaf] = Some(node);
@@ -36,9 +38,11 @@ fn mark_full<A: Allocator>(flat: &Flat<A>, grants: &[u64], node: usize, marks: &
     requires node { node < length flat.now }
     requires grants { IsWanted (limits flat.now) grants.now }
     requires size { length marks.old ≡ length grants.now }
-    requires marked { (i : ℕ) → i < length grants.now → HasMark (limits flat.now) grants.now node i marks.old }
+    requires marked { (i : ℕ) → i < length grants.now
+        → HasMark (limits flat.now) grants.now node i marks.old }
     ensures size { length marks.new ≡ length grants.now }
-    ensures marked { (i : ℕ) → i < length grants.now → HasMark (limits flat.now) grants.now (node + 1) i marks.new }
+    ensures marked { (i : ℕ) → i < length grants.now
+        → HasMark (limits flat.now) grants.now (node + 1) i marks.new }
 {
     let _nodes = flat.nodes();
     let place = flat.place(node);

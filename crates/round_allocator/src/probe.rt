@@ -91,7 +91,8 @@ impl<'t, A: Allocator> ProbedTree<'t, A> {
     /// probe, and takes O(leaves below) time.
     pub fn floors(&self, node: usize) -> u64
         requires node { node < length self.now }
-        ensures taken { (limit : Option ℕ) → IsBranchAt self.now node limit → result ≡ taken_below 0 self.now node }
+        ensures taken { (limit : Option ℕ) → IsBranchAt self.now node limit
+            → result ≡ taken_below 0 self.now node }
     {
         let _nodes = self.flat.nodes();
         let place = self.flat.place(node);
@@ -102,7 +103,8 @@ impl<'t, A: Allocator> ProbedTree<'t, A> {
 // The floors of so many leaves from a first one on, together.
 fn floor_sum<A: Allocator>(flat: &Flat<A>, first: usize, leaves: usize) -> u64
     requires inside { first + leaves ≤ length (limits flat.now).wants }
-    ensures sum { result + upto (limits flat.now).floors first ≡ upto (limits flat.now).floors (first + leaves) }
+    ensures sum { result + upto (limits flat.now).floors first
+        ≡ upto (limits flat.now).floors (first + leaves) }
 {
     let _nodes = flat.nodes();
     let _leaves = flat.leaves();

@@ -15,7 +15,8 @@ use toml::{Table, Value};
 
 /// States version 2 in a document.
 fn set_version(alloc: Global, document: &mut Table) -> Result<(), AllocError>
-    ensures version { OnOk result (IsVersioned (table_view document.old) (table_view document.new)) }
+    ensures version { OnOk result
+        (IsVersioned (table_view document.old) (table_view document.new)) }
 {
     let key = String::from_str(alloc, "version")?;
     document.insert(key, Value::Integer(2))?;

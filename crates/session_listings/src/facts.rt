@@ -50,7 +50,8 @@ pub fn tell_entry<A: Allocator + Clone, S: Store<A>>(
     store: &mut S,
     location: &Location<A>,
 ) -> Result<Vec<Action<A, S::Source, S::Sink>, A>, AllocError>
-    ensures row { IfOk result (λ actions. Ran S.Step (mlst_row users.now.users state.old location.now)
+    ensures row { IfOk result
+        (λ actions. Ran S.Step (mlst_row users.now.users state.old location.now)
         store.old store.new state.new actions.items) }
     ensures unchanged { OnErr result (state.new ≡ state.old) }
     ensures stops { OnErr result (Stops {A = A} {R = S.Source} {K = S.Sink} S.Step

@@ -38,7 +38,14 @@ fn list_directory<A: Allocator + Clone, S: Store<A>>(
 {
     match store.list(location.stored()) {
         Err(fault) => state.refuse(Refusal::Store(fault)),
-        Ok(entries) => tell_entries(state, users, location.path(), style, way, entries.as_slice()),
+        Ok(entries) => tell_entries(
+            state,
+            users,
+            location.path(),
+            style,
+            way,
+            entries.as_slice(),
+        ),
     }
 }
 
@@ -93,7 +100,8 @@ pub fn list_facts<A: Allocator + Clone, S: Store<A>>(
     store: &mut S,
     location: &Location<A>,
 ) -> Result<Vec<Action<A, S::Source, S::Sink>, A>, AllocError>
-    ensures row { IfOk result (λ actions. Ran S.Step (mlsd_row users.now.users state.old location.now)
+    ensures row { IfOk result
+        (λ actions. Ran S.Step (mlsd_row users.now.users state.old location.now)
         store.old store.new state.new actions.items) }
     ensures unchanged { OnErr result (state.new ≡ state.old) }
     ensures stops { OnErr result (Stops {A = A} {R = S.Source} {K = S.Sink} S.Step
@@ -122,11 +130,19 @@ pub fn tell_listing<A: Allocator + Clone, S: Store<A>>(
     store: &mut S,
     location: &Location<A>,
 ) -> Result<Vec<Action<A, S::Source, S::Sink>, A>, AllocError>
-    ensures row { IfOk result (λ actions. Ran S.Step (stat_row users.now.users state.old location.now)
+    ensures row { IfOk result
+        (λ actions. Ran S.Step (stat_row users.now.users state.old location.now)
         store.old store.new state.new actions.items) }
     ensures unchanged { OnErr result (state.new ≡ state.old) }
     ensures stops { OnErr result (Stops {A = A} {R = S.Source} {K = S.Sink} S.Step
         (stat_row users.now.users state.old location.now) store.old store.new) }
 {
-    list_location(state, users, store, location, Style::LongLines, Way::InReply)
+    list_location(
+        state,
+        users,
+        store,
+        location,
+        Style::LongLines,
+        Way::InReply,
+    )
 }

@@ -51,7 +51,8 @@ pub fn store_file<A: Allocator + Clone, S: Store<A>>(
     moment: u64,
 ) -> Result<Vec<Action<A, S::Source, S::Sink>, A>, AllocError>
     ensures row { IfOk result (λ actions.
-        Ran S.Step (stor_row state.old moment location) store.old store.new state.new actions.items) }
+        Ran S.Step (stor_row state.old moment location) store.old store.new state.new
+        actions.items) }
     ensures unchanged { OnErr result (state.new ≡ state.old) }
     ensures stops { OnErr result (
         Stops {A = A} {R = S.Source} {K = S.Sink} S.Step
@@ -73,7 +74,8 @@ pub fn append<A: Allocator + Clone, S: Store<A>>(
     moment: u64,
 ) -> Result<Vec<Action<A, S::Source, S::Sink>, A>, AllocError>
     ensures row { IfOk result (λ actions.
-        Ran S.Step (appe_row state.old moment location) store.old store.new state.new actions.items) }
+        Ran S.Step (appe_row state.old moment location) store.old store.new state.new
+        actions.items) }
     ensures unchanged { OnErr result (state.new ≡ state.old) }
     ensures stops { OnErr result (
         Stops {A = A} {R = S.Source} {K = S.Sink} S.Step

@@ -51,8 +51,11 @@ impl<A: Allocator + Clone> Arena<A> {
     fn put(&mut self, parent: Option<usize>, path: &str) -> Result<usize, AllocError>
         requires within { IfSome parent (λ place. place < vec_len self.old.kids) }
         requires beneath { IsBeneath (texts_in self.old.paths) parent path.now }
-        requires absent { (texts : List Octets) → Lists self.old.paths texts → place_of path.now texts ≡ None }
-        ensures put { IfOk result (λ place. (texts : List Octets) (statements : List Statement) → Holds self.old texts statements → Holds self.new (texts ++ path.now ∷ []) statements × (place ≡ length texts)) }
+        requires absent { (texts : List Octets) → Lists self.old.paths texts
+            → place_of path.now texts ≡ None }
+        ensures put { IfOk result (λ place. (texts : List Octets) (statements : List Statement)
+            → Holds self.old texts statements → Holds self.new (texts ++ path.now ∷ []) statements
+            × (place ≡ length texts)) }
     {
         let place = self.paths.len();
         let kids = Vec::new(self.wants.allocator().clone()?);
@@ -68,8 +71,13 @@ impl<A: Allocator + Clone> Arena<A> {
     /// not there yet is walked: a path that is there has each path above it there.
     pub fn mention(&mut self, path: &str, found: Option<usize>) -> Result<usize, AllocError>
         requires held { IsHeld self.old }
-        requires found { (texts : List Octets) → Lists self.old.paths texts → found ≡ place_of path.now texts }
-        ensures mentioned { IfOk result (λ place. (texts : List Octets) (statements : List Statement) → Holds self.old texts statements → Holds self.new (mention_all texts path.now) statements × (place_of path.now (mention_all texts path.now) ≡ Some place)) }
+        requires found { (texts : List Octets) → Lists self.old.paths texts
+            → found ≡ place_of path.now texts }
+        ensures mentioned { IfOk result
+            (λ place. (texts : List Octets) (statements : List Statement)
+            → Holds self.old texts statements
+            → Holds self.new (mention_all texts path.now) statements
+            × (place_of path.now (mention_all texts path.now) ≡ Some place)) }
     {
         if let Some(place) = found {
             return Ok(place);
@@ -87,7 +95,9 @@ impl<A: Allocator + Clone> Arena<A> {
     /// Whether a path has a line of its own, by the place that was found for it.
     pub fn has_line(&self, found: Option<usize>) -> bool
         requires within { IfSome found (λ place. place < vec_len self.now.lines) }
-        ensures line { (path : Octets) (texts : List Octets) (statements : List Statement) → Holds self.now texts statements → found ≡ place_of path texts → result ≡ is_some (lines_at statements path) }
+        ensures line { (path : Octets) (texts : List Octets) (statements : List Statement)
+            → Holds self.now texts statements → found ≡ place_of path texts
+            → result ≡ is_some (lines_at statements path) }
     {
         match found {
             Some(place) => self.lines[place].is_some(),
@@ -98,7 +108,10 @@ impl<A: Allocator + Clone> Arena<A> {
     /// Whether a path lies beneath a want.
     pub fn has_want_above(&self, path: &str) -> bool
         requires held { IsHeld self.now }
-        ensures above { (texts : List Octets) (statements : List Statement) → Holds self.now texts statements → result ≡ list_any (λ front. is_leaf_kind (kind_at statements front)) (above path.now) }
+        ensures above { (texts : List Octets) (statements : List Statement)
+            → Holds self.now texts statements
+            → result ≡ list_any (λ front. is_leaf_kind (kind_at statements front))
+            (above path.now) }
     {
         for at in 0..path.len() {
             if path.as_bytes()[at] == b'/' {
@@ -117,7 +130,8 @@ impl<A: Allocator + Clone> Arena<A> {
 
 /// The path directly above a path.
 pub fn parent_of(path: &str) -> Option<&str>
-    ensures parent { MatchOption (option_copied result) (above path.now ≡ []) (λ front. above path.now ≡ above front ++ front ∷ []) }
+    ensures parent { MatchOption (option_copied result) (above path.now ≡ [])
+        (λ front. above path.now ≡ above front ++ front ∷ []) }
 {
     let mut at = path.len();
     while at > 0 {
@@ -137,7 +151,10 @@ fn join<A: Allocator + Clone>(
 ) -> Result<(), AllocError>
     requires within { IfSome parent (λ place. place < vec_len rows.old) }
     ensures length { OnOk result (vec_len rows.new ≡ vec_len rows.old) }
-    ensures rows { OnOk result ((place : ℕ) (row : Vec ℕ A) → slice_get rows.new.items place ≡ Some row → (before : Vec ℕ A) × (slice_get rows.old.items place ≡ Some before) × (row.items ≡ before.items ++ joined parent kid place)) }
+    ensures rows { OnOk result ((place : ℕ) (row : Vec ℕ A)
+        → slice_get rows.new.items place ≡ Some row → (before : Vec ℕ A)
+        × (slice_get rows.old.items place ≡ Some before)
+        × (row.items ≡ before.items ++ joined parent kid place)) }
 {
     if let Some(place) = parent {
         rows[place].push(kid)?;

@@ -28,7 +28,10 @@ impl<A: Allocator + Clone> Arena<A> {
         requires place { place < vec_len self.now.kinds }
         ensures below { AreBelow (vec_len self.now.kinds) result.now }
         ensures levels { 0 < length result.now → 0 < levels }
-        ensures kids { (statements : List Statement) → Holds self.now (mentions statements) statements → texts_at (mentions statements) result.now ≡ kids_to levels statements (slice_index_or (mentions statements) place []) }
+        ensures kids { (statements : List Statement)
+            → Holds self.now (mentions statements) statements
+            → texts_at (mentions statements) result.now
+            ≡ kids_to levels statements (slice_index_or (mentions statements) place []) }
     {
         let kids = self.kids[place].as_slice();
         if levels == 0 {
@@ -51,8 +54,15 @@ impl<A: Allocator + Clone> Arena<A> {
         requires held { IsHeld self.now }
         requires place { place < vec_len self.now.kinds }
         requires below { AreBelow (vec_len self.now.kinds) order.old.items }
-        ensures built { IfOk result (λ node. (statements : List Statement) → Holds self.now (mentions statements) statements → places node ≡ outline_at levels statements (slice_index_or (mentions statements) place [])) }
-        ensures order { OnOk result ((statements : List Statement) → Holds self.now (mentions statements) statements → texts_at (mentions statements) order.new.items ≡ texts_at (mentions statements) order.old.items ++ paths_at levels statements (slice_index_or (mentions statements) place [])) }
+        ensures built { IfOk result (λ node. (statements : List Statement)
+            → Holds self.now (mentions statements) statements
+            → places node ≡ outline_at levels statements
+            (slice_index_or (mentions statements) place [])) }
+        ensures order { OnOk result ((statements : List Statement)
+            → Holds self.now (mentions statements) statements
+            → texts_at (mentions statements) order.new.items
+            ≡ texts_at (mentions statements) order.old.items ++ paths_at levels statements
+            (slice_index_or (mentions statements) place [])) }
         ensures below { OnOk result (AreBelow (vec_len self.now.kinds) order.new.items) }
     {
         order.push(place)?;

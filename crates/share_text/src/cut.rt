@@ -6,7 +6,8 @@ ghost use Rattle.share_text.specs.Text.{parts, parts_behind};
 
 /// What stands before the first octet of a value, and what behind it, if there is one.
 pub fn cut_at(text: &[u8], mark: u8) -> (&[u8], Option<&[u8]>)
-    ensures parts { parts mark text.now ≡ result.0.now ∷ parts_behind mark (option_copied result.1) }
+    ensures parts { parts mark text.now
+        ≡ result.0.now ∷ parts_behind mark (option_copied result.1) }
     ensures shorter { IfSome (option_copied result.1) (λ rest. length rest < length text.now) }
 {
     for (at, octet) in text.iter().enumerate() {

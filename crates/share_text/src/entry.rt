@@ -34,7 +34,8 @@ fn read_want(want: &[u8], floor: Option<u64>) -> Option<Kind>
 }
 
 fn three_words<'t>(word: &[u8], place: &'t [u8], amount: &[u8]) -> Option<Entry<'t>>
-    ensures entry { option_map entry_view result ≡ entry_of_words (word.now ∷ place.now ∷ amount.now ∷ []) }
+    ensures entry { option_map entry_view result
+        ≡ entry_of_words (word.now ∷ place.now ∷ amount.now ∷ []) }
 {
     if word == b"limit".as_slice() {
         let path = read_path(place)?;
@@ -50,7 +51,8 @@ fn three_words<'t>(word: &[u8], place: &'t [u8], amount: &[u8]) -> Option<Entry<
 }
 
 fn four_words<'t>(word: &[u8], place: &'t [u8], amount: &[u8], floor: &[u8]) -> Option<Entry<'t>>
-    ensures entry { option_map entry_view result ≡ entry_of_words (word.now ∷ place.now ∷ amount.now ∷ floor.now ∷ []) }
+    ensures entry { option_map entry_view result
+        ≡ entry_of_words (word.now ∷ place.now ∷ amount.now ∷ floor.now ∷ []) }
 {
     if word != b"want".as_slice() {
         return None;

@@ -70,7 +70,8 @@ struct Slots<A: Allocator> {
 }
 
 fn three_words<'t>(word: &[u8], place: &'t [u8], amount: &[u8]) -> Option<Grant<'t>>
-    ensures line { option_map grant_view result ≡ grant_of_words (word.now ∷ place.now ∷ amount.now ∷ []) }
+    ensures line { option_map grant_view result
+        ≡ grant_of_words (word.now ∷ place.now ∷ amount.now ∷ []) }
 {
     if word != b"grant".as_slice() {
         return None;
@@ -85,7 +86,8 @@ fn three_words<'t>(word: &[u8], place: &'t [u8], amount: &[u8]) -> Option<Grant<
 }
 
 fn four_words<'t>(word: &[u8], place: &'t [u8], amount: &[u8], name: &'t [u8]) -> Option<Grant<'t>>
-    ensures line { option_map grant_view result ≡ grant_of_words (word.now ∷ place.now ∷ amount.now ∷ name.now ∷ []) }
+    ensures line { option_map grant_view result
+        ≡ grant_of_words (word.now ∷ place.now ∷ amount.now ∷ name.now ∷ []) }
 {
     if word != b"grant".as_slice() {
         return None;
@@ -130,8 +132,10 @@ fn find_node<A: Allocator>(
     name: Option<&str>,
 ) -> Result<Option<u32>, GrantsFault>
     ensures found { MatchResult result
-        (λ node. (names_no_node sheet.now (option_copied name.entry) ≡ false) × (node ≡ named_node sheet.now (option_copied name.entry)))
-        (λ fault. (names_no_node sheet.now (option_copied name.entry) ≡ true) × (fault ≡ GrantsFault.NoSuchNode number)) }
+        (λ node. (names_no_node sheet.now (option_copied name.entry) ≡ false)
+        × (node ≡ named_node sheet.now (option_copied name.entry)))
+        (λ fault. (names_no_node sheet.now (option_copied name.entry) ≡ true)
+        × (fault ≡ GrantsFault.NoSuchNode number)) }
 {
     let Some(path) = name else {
         return Ok(None);
@@ -150,9 +154,11 @@ fn judge<A: Allocator>(
     line: Grant<'_>,
 ) -> Result<(usize, Given), GrantsFault>
     ensures judged { MatchResult result
-        (λ r. (grant_fault sheet.now place number (grant_view line.entry) ≡ None) × (r.1 ≡ given_by sheet.now (grant_view line.entry)))
+        (λ r. (grant_fault sheet.now place number (grant_view line.entry) ≡ None)
+        × (r.1 ≡ given_by sheet.now (grant_view line.entry)))
         (λ fault. grant_fault sheet.now place number (grant_view line.entry) ≡ Some fault) }
-    ensures leaf { IfOk result (λ r. (position_from (nat_eq r.0) 0 sheet.now.wants ≡ Some place) × (r.0 < length sheet.now.leaves)) }
+    ensures leaf { IfOk result (λ r. (position_from (nat_eq r.0) 0 sheet.now.wants ≡ Some place)
+        × (r.0 < length sheet.now.leaves)) }
     ensures place { IfOk result (λ r. place < MAX_LEAVES) }
 {
     let Some(leaf) = sheet.wants().get(place) else {
@@ -171,7 +177,8 @@ fn judge<A: Allocator>(
 
 impl<A: Allocator + Clone> Slots<A> {
     fn new(alloc: A, leaves: usize) -> Result<Slots<A>, AllocError>
-        ensures new { IfOk result (λ slots. (slots.lines ≡ 0) × (slots.slots.items ≡ replicate leaves None)) }
+        ensures new { IfOk result (λ slots. (slots.lines ≡ 0)
+            × (slots.slots.items ≡ replicate leaves None)) }
     {
         Ok(Slots {
             lines: 0,
@@ -183,8 +190,11 @@ impl<A: Allocator + Clone> Slots<A> {
     fn read_line(&mut self, sheet: &Sheet<A>, number: usize, line: &[u8]) -> Result<(), GrantsFault>
         requires slots { length self.old.slots.items ≡ length sheet.now.leaves }
         ensures read { MatchResult result
-            (λ _. (lines : List GrantLine) → Filled sheet.now self.old lines → (grants_line_fault sheet.now (length lines) number line.now ≡ None) × Filled sheet.now self.new (lines ++ line_grants line.now))
-            (λ fault. (lines : List GrantLine) → Filled sheet.now self.old lines → grants_line_fault sheet.now (length lines) number line.now ≡ Some fault) }
+            (λ _. (lines : List GrantLine) → Filled sheet.now self.old lines
+            → (grants_line_fault sheet.now (length lines) number line.now ≡ None)
+            × Filled sheet.now self.new (lines ++ line_grants line.now))
+            (λ fault. (lines : List GrantLine) → Filled sheet.now self.old lines
+            → grants_line_fault sheet.now (length lines) number line.now ≡ Some fault) }
     {
         if is_skipped(line) {
             return Ok(());
@@ -200,8 +210,12 @@ impl<A: Allocator + Clone> Slots<A> {
 
     /// The octets and the named nodes of the leaves that a line gives to.
     fn lists(&self, alloc: A) -> Result<(Vec<u64, A>, Certificate<A>), AllocError>
-        ensures grants { IfOk result (λ lists. lists.0.items ≡ map (λ given. given.octets) (filter_map (λ slot. slot) self.now.slots.items)) }
-        ensures entries { IfOk result (λ lists. lists.1 ≡ map (λ given. given.node) (filter_map (λ slot. slot) self.now.slots.items)) }
+        ensures grants { IfOk result
+            (λ lists. lists.0.items
+            ≡ map (λ given. given.octets) (filter_map (λ slot. slot) self.now.slots.items)) }
+        ensures entries { IfOk result
+            (λ lists. lists.1 ≡ map (λ given. given.node)
+            (filter_map (λ slot. slot) self.now.slots.items)) }
     {
         let mut grants = Vec::new(alloc.clone()?);
         let mut entries = Vec::new(alloc);
@@ -224,10 +238,16 @@ pub fn read_grants<A: Allocator + Clone>(
     sheet: &Sheet<A>,
 ) -> Result<(Vec<u64, A>, Certificate<A>), GrantsFault>
     ensures read { MatchResult result
-        (λ lists. (grants_fault sheet.now text.now ≡ None) × (lists.0.items ≡ grants_in sheet.now text.now) × (lists.1 ≡ entries_in sheet.now text.now))
+        (λ lists. (grants_fault sheet.now text.now ≡ None)
+        × (lists.0.items ≡ grants_in sheet.now text.now)
+        × (lists.1 ≡ entries_in sheet.now text.now))
         (λ fault. fault ≢ GrantsFault.Memory → grants_fault sheet.now text.now ≡ Some fault) }
-    ensures full { IfOk result (λ lists. (source : Octets) → IsSheetOf source sheet.now → length (grant_lines (lines text.now)) ≡ length sheet.now.wants → length lists.0.items ≡ length sheet.now.leaves) }
-    ensures short { IfOk result (λ lists. (source : Octets) → IsSheetOf source sheet.now → length (grant_lines (lines text.now)) < length sheet.now.wants → length lists.0.items < length sheet.now.leaves) }
+    ensures full { IfOk result (λ lists. (source : Octets) → IsSheetOf source sheet.now
+        → length (grant_lines (lines text.now)) ≡ length sheet.now.wants
+        → length lists.0.items ≡ length sheet.now.leaves) }
+    ensures short { IfOk result (λ lists. (source : Octets) → IsSheetOf source sheet.now
+        → length (grant_lines (lines text.now)) < length sheet.now.wants
+        → length lists.0.items < length sheet.now.leaves) }
 {
     let mut slots = Slots::new(alloc.clone()?, sheet.tree().leaves())?;
     let mut number = 0;

@@ -17,7 +17,9 @@ pub fn leaf_places<A: Allocator>(
     order: &[usize],
 ) -> Result<Vec<usize, A>, AllocError>
     requires below { AreBelow (length kinds.now) order.now }
-    ensures leaves { IfOk result (λ leaves. leaves.items ≡ filter (λ place. is_leaf_kind (slice_index_or kinds.now place (Branch None))) order.now) }
+    ensures leaves { IfOk result
+        (λ leaves. leaves.items
+        ≡ filter (λ place. is_leaf_kind (slice_index_or kinds.now place (Branch None))) order.now) }
 {
     let mut leaves = Vec::new(alloc);
     for place in order {
@@ -37,7 +39,8 @@ pub fn number_places<A: Allocator>(
     requires below { AreBelow count order.now }
     requires few { length order.now < 2 ^ 32 }
     ensures length { IfOk result (λ numbers. vec_len numbers ≡ count) }
-    ensures numbers { IfOk result (λ numbers. (place : ℕ) → place < count → slice_index_or numbers.items place None ≡ position_from (nat_eq place) 0 order.now) }
+    ensures numbers { IfOk result (λ numbers. (place : ℕ) → place < count
+        → slice_index_or numbers.items place None ≡ position_from (nat_eq place) 0 order.now) }
 {
     let mut numbers = Vec::new(alloc);
     numbers.resize(count, None)?;
@@ -56,8 +59,11 @@ pub fn numbers_at<A: Allocator>(
     numbers: &[Option<u32>],
 ) -> Result<Vec<usize, A>, AllocError>
     requires below { AreBelow (length numbers.now) places.now }
-    requires there { (k : ℕ) → k < length places.now → is_some (slice_index_or numbers.now (slice_index places.now k) None) ≡ true }
-    ensures numbers { IfOk result (λ found. map Some found.items ≡ map (λ place. slice_index_or numbers.now place None) places.now) }
+    requires there { (k : ℕ) → k < length places.now
+        → is_some (slice_index_or numbers.now (slice_index places.now k) None) ≡ true }
+    ensures numbers { IfOk result
+        (λ found. map Some found.items
+        ≡ map (λ place. slice_index_or numbers.now place None) places.now) }
 {
     let mut found = Vec::new(alloc);
     for place in places {

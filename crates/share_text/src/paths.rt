@@ -23,7 +23,8 @@ impl<A: Allocator> Paths<A> {
 
     /// The place of a path.
     pub fn find(&self, path: &str) -> Option<usize>
-        ensures found { (texts : List (List ℕ)) → Lists self.now texts → result ≡ place_of path.now texts }
+        ensures found { (texts : List (List ℕ)) → Lists self.now texts
+            → result ≡ place_of path.now texts }
     {
         self.places.get(path).copied()
     }
@@ -41,7 +42,8 @@ impl<A: Allocator + Clone> Paths<A> {
 
     /// One path more, which is not there yet.
     pub fn push(&mut self, path: &str) -> Result<(), AllocError>
-        ensures pushed { OnOk result ((texts : List (List ℕ)) → Lists self.old texts → place_of path.now texts ≡ None → Lists self.new (texts ++ path.now ∷ [])) }
+        ensures pushed { OnOk result ((texts : List (List ℕ)) → Lists self.old texts
+            → place_of path.now texts ≡ None → Lists self.new (texts ++ path.now ∷ [])) }
     {
         let place = self.texts.len();
         let alloc = self.texts.allocator();

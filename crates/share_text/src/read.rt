@@ -68,8 +68,11 @@ impl<A: Allocator + Clone> Arena<A> {
         found: Option<usize>,
     ) -> Option<SheetFault>
         requires held { IsHeld self.now }
-        requires found { (texts : List Octets) → Lists self.now.paths texts → found ≡ place_of entry.path.now texts }
-        ensures fault { (statements : List Statement) → Holds self.now (mentions statements) statements → result ≡ place_fault statements number (entry_view entry.entry) }
+        requires found { (texts : List Octets) → Lists self.now.paths texts
+            → found ≡ place_of entry.path.now texts }
+        ensures fault { (statements : List Statement)
+            → Holds self.now (mentions statements) statements
+            → result ≡ place_fault statements number (entry_view entry.entry) }
     {
         if self.has_line(found) {
             return Some(SheetFault::Twice(number));
@@ -87,7 +90,10 @@ impl<A: Allocator + Clone> Arena<A> {
     fn note(&mut self, place: usize, number: usize, entry: Entry<'_>) -> Result<(), AllocError>
         requires kinds { place < vec_len self.old.kinds }
         requires lines { place < vec_len self.old.lines }
-        ensures noted { OnOk result ((texts : List Octets) (statements : List Statement) → Holds self.old texts statements → place_of entry.entry.path.now texts ≡ Some place → lines_at statements entry.entry.path.now ≡ None → Holds self.new texts (statements ++ stated number (Some (entry_view entry.entry)))) }
+        ensures noted { OnOk result ((texts : List Octets) (statements : List Statement)
+            → Holds self.old texts statements → place_of entry.entry.path.now texts ≡ Some place
+            → lines_at statements entry.entry.path.now ≡ None
+            → Holds self.new texts (statements ++ stated number (Some (entry_view entry.entry)))) }
     {
         if is_leaf(entry.kind) {
             self.wants.push(place)?;
@@ -101,8 +107,14 @@ impl<A: Allocator + Clone> Arena<A> {
     fn take(&mut self, number: usize, entry: Entry<'_>) -> Result<(), SheetFault>
         requires held { IsHeld self.old }
         ensures taken { MatchResult result
-            (λ _. (statements : List Statement) → Holds self.old (mentions statements) statements → (entry_fault statements number (entry_view entry.entry) ≡ None) × Holds self.new (mentions (statements ++ stated number (Some (entry_view entry.entry)))) (statements ++ stated number (Some (entry_view entry.entry))))
-            (λ fault. fault ≢ SheetFault.Memory → (statements : List Statement) → Holds self.old (mentions statements) statements → entry_fault statements number (entry_view entry.entry) ≡ Some fault) }
+            (λ _. (statements : List Statement) → Holds self.old (mentions statements) statements
+            → (entry_fault statements number (entry_view entry.entry) ≡ None)
+            × Holds self.new (mentions
+            (statements ++ stated number (Some (entry_view entry.entry))))
+            (statements ++ stated number (Some (entry_view entry.entry))))
+            (λ fault. fault ≢ SheetFault.Memory → (statements : List Statement)
+            → Holds self.old (mentions statements) statements
+            → entry_fault statements number (entry_view entry.entry) ≡ Some fault) }
     {
         let found = self.paths.find(entry.path);
         if let Some(fault) = self.place_fault(number, entry, found) {
@@ -120,8 +132,13 @@ impl<A: Allocator + Clone> Arena<A> {
     fn read_line(&mut self, number: usize, line: &[u8]) -> Result<(), SheetFault>
         requires held { IsHeld self.old }
         ensures read { MatchResult result
-            (λ _. (statements : List Statement) → Holds self.old (mentions statements) statements → (line_fault statements number line.now ≡ None) × Holds self.new (mentions (statements ++ line_states number line.now)) (statements ++ line_states number line.now))
-            (λ fault. fault ≢ SheetFault.Memory → (statements : List Statement) → Holds self.old (mentions statements) statements → line_fault statements number line.now ≡ Some fault) }
+            (λ _. (statements : List Statement) → Holds self.old (mentions statements) statements
+            → (line_fault statements number line.now ≡ None)
+            × Holds self.new (mentions (statements ++ line_states number line.now))
+            (statements ++ line_states number line.now))
+            (λ fault. fault ≢ SheetFault.Memory → (statements : List Statement)
+            → Holds self.old (mentions statements) statements
+            → line_fault statements number line.now ≡ Some fault) }
     {
         if is_skipped(line) {
             return Ok(());
@@ -136,7 +153,9 @@ impl<A: Allocator + Clone> Arena<A> {
 /// Reads the lines of a text, up to the first that has a fault.
 pub fn read_lines<A: Allocator + Clone>(alloc: A, text: &[u8]) -> Result<Arena<A>, SheetFault>
     ensures read { MatchResult result
-        (λ arena. (first_line_fault [] 1 (lines text.now) ≡ None) × Holds arena (mentions (statements_from 1 (lines text.now))) (statements_from 1 (lines text.now)))
+        (λ arena. (first_line_fault [] 1 (lines text.now) ≡ None)
+        × Holds arena (mentions (statements_from 1 (lines text.now)))
+        (statements_from 1 (lines text.now)))
         (λ fault. fault ≢ SheetFault.Memory → first_line_fault [] 1 (lines text.now) ≡ Some fault) }
 {
     let mut arena = Arena::new(alloc)?;

@@ -98,7 +98,8 @@ impl<A: Allocator> Sheet<A> {
 
 /// Reads a sheet. The fault of the first faulty line decides; where no line has one, that of the whole tree.
 pub fn read_sheet<A: Allocator + Clone>(alloc: A, text: &[u8]) -> Result<Sheet<A>, SheetFault>
-    ensures read { MatchResult result (λ sheet. IsSheetOf text.now sheet) (λ fault. fault ≢ SheetFault.Memory → sheet_fault text.now ≡ Some fault) }
+    ensures read { MatchResult result (λ sheet. IsSheetOf text.now sheet)
+        (λ fault. fault ≢ SheetFault.Memory → sheet_fault text.now ≡ Some fault) }
 {
     let arena = read_lines(alloc.clone()?, text)?;
     let mut order = Vec::new(alloc.clone()?);

@@ -19,7 +19,10 @@ impl<A: Allocator + Clone> Arena<A> {
         requires held { IsHeld self.now }
         requires below { AreBelow (vec_len self.now.kinds) order.now }
         requires node { (node : ℕ) → fault ≡ FloorsOverLimit node → node < length order.now }
-        ensures line { (statements : List Statement) → Holds self.now (mentions statements) statements → texts_at (mentions statements) order.now ≡ node_paths statements → result ≡ fault_line statements fault }
+        ensures line { (statements : List Statement)
+            → Holds self.now (mentions statements) statements
+            → texts_at (mentions statements) order.now ≡ node_paths statements
+            → result ≡ fault_line statements fault }
     {
         match fault {
             TreeFault::FloorsOverLimit(node) => self.lines[order[node]].unwrap_or(0),
@@ -29,11 +32,16 @@ impl<A: Allocator + Clone> Arena<A> {
 
     /// The tree of the sheet. The places of its nodes, in preorder, come into an order.
     pub fn whole_tree(&self, order: &mut Vec<usize, A>) -> Result<Tree<A>, SheetFault>
-        requires held { (statements : List Statement) × Holds self.now (mentions statements) statements }
+        requires held { (statements : List Statement)
+            × Holds self.now (mentions statements) statements }
         requires empty { order.old.items ≡ [] }
         ensures whole { MatchResult result
-            (λ tree. (statements : List Statement) → Holds self.now (mentions statements) statements → (tree ≡ outline statements) × (whole_fault statements ≡ None) × (texts_at (mentions statements) order.new.items ≡ node_paths statements))
-            (λ fault. fault ≢ SheetFault.Memory → (statements : List Statement) → Holds self.now (mentions statements) statements → whole_fault statements ≡ Some fault) }
+            (λ tree. (statements : List Statement) → Holds self.now (mentions statements) statements
+            → (tree ≡ outline statements) × (whole_fault statements ≡ None)
+            × (texts_at (mentions statements) order.new.items ≡ node_paths statements))
+            (λ fault. fault ≢ SheetFault.Memory → (statements : List Statement)
+            → Holds self.now (mentions statements) statements
+            → whole_fault statements ≡ Some fault) }
         ensures below { OnOk result (AreBelow (vec_len self.now.kinds) order.new.items) }
     {
         let root = self.build(0, MAX_DEPTH, order)?;

@@ -33,8 +33,10 @@ pub fn verdict_of<A: Allocator + Clone>(
     sheet: &Sheet<A>,
     text: &[u8],
 ) -> Result<Checked<A>, ProgramFault>
-    ensures checked { IfOk result (λ checked. (source : List ℕ) → IsSheetOf source sheet.now → IsCheckOf source text.now checked.verdict (string_bytes checked.line)) }
-    ensures grants { (fault : GrantsFault) → IsErrOf result (ProgramFault.Grants fault) → (source : List ℕ) → IsSheetOf source sheet.now → IsGrantsFaultOf source text.now fault }
+    ensures checked { IfOk result (λ checked. (source : List ℕ) → IsSheetOf source sheet.now
+        → IsCheckOf source text.now checked.verdict (string_bytes checked.line)) }
+    ensures grants { (fault : GrantsFault) → IsErrOf result (ProgramFault.Grants fault)
+        → (source : List ℕ) → IsSheetOf source sheet.now → IsGrantsFaultOf source text.now fault }
     ensures faults { IfErr result IsGrantsJudgement }
 {
     let (grants, certificate) = read_grants(alloc.clone()?, text, sheet)?;
@@ -54,21 +56,37 @@ pub fn run_check<A: Allocator + Clone, R: TextReader, Q: TextReader, W: TextWrit
     grants: &mut Q,
     writer: &mut W,
 ) -> Result<Verdict, ProgramFault>
-    ensures checked { IfOk result (λ verdict. (sheet_text grants_text : List ℕ) → R.remaining sheet.old ≡ Some sheet_text → Q.remaining grants.old ≡ Some grants_text
-        → (printed : List ℕ) × IsCheckOf sheet_text grants_text verdict printed × Appends (W.contents writer.old) (W.contents writer.new) printed) }
-    ensures sheet { (fault : SheetFault) → IsErrOf result (ProgramFault.Sheet fault) → (text : List ℕ) → R.remaining sheet.old ≡ Some text → IsSheetFaultOf text fault }
-    ensures judged_first { (fault : SheetFault) → IsErrOf result (ProgramFault.Sheet fault) → grants.new ≡ grants.old }
-    ensures grants { (fault : GrantsFault) → IsErrOf result (ProgramFault.Grants fault) → (sheet_text grants_text : List ℕ)
-        → R.remaining sheet.old ≡ Some sheet_text → Q.remaining grants.old ≡ Some grants_text → IsGrantsFaultOf sheet_text grants_text fault }
-    ensures too_long { IsErrOf result ProgramFault.TooLong → IfSome (R.remaining sheet.old) (λ text. MAX_TEXT < length text)
-        ⊎ (IfSome (R.remaining sheet.old) (λ text. sheet_fault text ≡ None) × IfSome (Q.remaining grants.old) (λ text. MAX_TEXT < length text)) }
-    ensures long_sheet { (text : List ℕ) → R.remaining sheet.old ≡ Some text → MAX_TEXT < length text → IsErrAnd result IsReadingFault × (grants.new ≡ grants.old) }
-    ensures long_grants { (sheet_text text : List ℕ) → R.remaining sheet.old ≡ Some sheet_text → sheet_fault sheet_text ≡ None
-        → Q.remaining grants.old ≡ Some text → MAX_TEXT < length text → IsErrAnd result IsReadingFault }
-    ensures read_fault { IsErrOf result ProgramFault.ReadFault → (R.may_fail sheet.old ≡ true) ⊎ (Q.may_fail grants.old ≡ true) }
-    ensures write_fault { IsErrOf result ProgramFault.WriteFault → (sheet_text grants_text printed : List ℕ) × (verdict : Verdict)
-        × IsTextOf sheet_text (R.remaining sheet.old) × IsTextOf grants_text (Q.remaining grants.old) × IsCheckOf sheet_text grants_text verdict printed × W.may_refuse writer.old printed }
-    ensures unwritten { IfErr result (λ fault. fault ≢ ProgramFault.WriteFault → writer.new ≡ writer.old) }
+    ensures checked { IfOk result (λ verdict. (sheet_text grants_text : List ℕ)
+        → R.remaining sheet.old ≡ Some sheet_text → Q.remaining grants.old ≡ Some grants_text
+        → (printed : List ℕ) × IsCheckOf sheet_text grants_text verdict printed
+        × Appends (W.contents writer.old) (W.contents writer.new) printed) }
+    ensures sheet { (fault : SheetFault) → IsErrOf result (ProgramFault.Sheet fault)
+        → (text : List ℕ) → R.remaining sheet.old ≡ Some text → IsSheetFaultOf text fault }
+    ensures judged_first { (fault : SheetFault) → IsErrOf result (ProgramFault.Sheet fault)
+        → grants.new ≡ grants.old }
+    ensures grants { (fault : GrantsFault) → IsErrOf result (ProgramFault.Grants fault)
+        → (sheet_text grants_text : List ℕ)
+        → R.remaining sheet.old ≡ Some sheet_text → Q.remaining grants.old ≡ Some grants_text
+        → IsGrantsFaultOf sheet_text grants_text fault }
+    ensures too_long { IsErrOf result ProgramFault.TooLong
+        → IfSome (R.remaining sheet.old) (λ text. MAX_TEXT < length text)
+        ⊎ (IfSome (R.remaining sheet.old) (λ text. sheet_fault text ≡ None)
+        × IfSome (Q.remaining grants.old) (λ text. MAX_TEXT < length text)) }
+    ensures long_sheet { (text : List ℕ) → R.remaining sheet.old ≡ Some text
+        → MAX_TEXT < length text → IsErrAnd result IsReadingFault × (grants.new ≡ grants.old) }
+    ensures long_grants { (sheet_text text : List ℕ) → R.remaining sheet.old ≡ Some sheet_text
+        → sheet_fault sheet_text ≡ None
+        → Q.remaining grants.old ≡ Some text → MAX_TEXT < length text
+        → IsErrAnd result IsReadingFault }
+    ensures read_fault { IsErrOf result ProgramFault.ReadFault → (R.may_fail sheet.old ≡ true)
+        ⊎ (Q.may_fail grants.old ≡ true) }
+    ensures write_fault { IsErrOf result ProgramFault.WriteFault
+        → (sheet_text grants_text printed : List ℕ) × (verdict : Verdict)
+        × IsTextOf sheet_text (R.remaining sheet.old)
+        × IsTextOf grants_text (Q.remaining grants.old)
+        × IsCheckOf sheet_text grants_text verdict printed × W.may_refuse writer.old printed }
+    ensures unwritten { IfErr result (λ fault. fault ≢ ProgramFault.WriteFault
+        → writer.new ≡ writer.old) }
 {
     let sheet_text = read_whole(alloc.clone()?, sheet)?;
     let sheet = read_sheet(alloc.clone()?, &sheet_text)?;

@@ -19,7 +19,8 @@ pub struct Share<'a> {
 }
 
 fn write_share<A: Allocator>(text: &mut String<A>, share: &Share<'_>) -> Result<(), AllocError>
-    ensures line { OnOk result (string_bytes text.new ≡ string_bytes text.old ++ share_line share.now) }
+    ensures line { OnOk result
+        (string_bytes text.new ≡ string_bytes text.old ++ share_line share.now) }
 {
     let Share {
         path,
@@ -63,8 +64,10 @@ pub fn lines_of<A: Allocator>(alloc: A, shares: &[Share<'_>]) -> Result<String<A
 
 /// Writes a text. `WriteFault` comes only where the writer refuses that text.
 pub fn write_whole<W: TextWriter>(text: &str, writer: &mut W) -> Result<(), ProgramFault>
-    ensures written { OnOk result (Appends (W.contents writer.old) (W.contents writer.new) text.now) }
-    ensures write_fault { IfErr result (λ fault. (fault ≡ ProgramFault.WriteFault) × W.may_refuse writer.old text.now) }
+    ensures written { OnOk result
+        (Appends (W.contents writer.old) (W.contents writer.new) text.now) }
+    ensures write_fault { IfErr result (λ fault. (fault ≡ ProgramFault.WriteFault)
+        × W.may_refuse writer.old text.now) }
 {
     match writer.write_text(text.as_bytes()) {
         Ok(()) => Ok(()),

@@ -21,7 +21,8 @@ use text_ends::{TextReader, TextWriter};
 /// The path of the node that an entry names.
 fn path_of<A: Allocator>(sheet: &Sheet<A>, entry: Option<u32>) -> Option<&str>
     requires node { IfSome entry (λ node. node < length sheet.now.outline) }
-    ensures path { option_map (λ path. path.now) result ≡ option_map (λ node. written (slice_index_or sheet.now.paths node [])) entry }
+    ensures path { option_map (λ path. path.now) result
+        ≡ option_map (λ node. written (slice_index_or sheet.now.paths node [])) entry }
 {
     match entry {
         Some(node) => Some(sheet.path(node as usize)),
@@ -66,7 +67,8 @@ fn shares_of<'s, A: Allocator, B: Allocator>(
     requires leaves { length sheet.now.leaves ≡ length wants.now }
     requires named { IsNamed (limits sheet.now.outline) grants.now entries.now }
     requires few { sum grants.now < 2 ^ 46 }
-    ensures lines { IfOk result (λ shares. share_lines shares.items ≡ sharing_text sheet.now grants.now entries.now) }
+    ensures lines { IfOk result
+        (λ shares. share_lines shares.items ≡ sharing_text sheet.now grants.now entries.now) }
     ensures fits { IfOk result (λ shares. total shares.items < 2 ^ 64) }
 {
     let leaves = sheet.wants();
@@ -80,7 +82,8 @@ fn shares_of<'s, A: Allocator, B: Allocator>(
 
 /// The lines of the sharing of a sheet that was read.
 fn sharing_lines<A: Allocator + Clone>(alloc: A, sheet: &Sheet<A>) -> Result<String<A>, AllocError>
-    ensures shared { IfOk result (λ lines. (text : List ℕ) → IsSheetOf text sheet.now → IsSharingOf text (string_bytes lines)) }
+    ensures shared { IfOk result (λ lines. (text : List ℕ) → IsSheetOf text sheet.now
+        → IsSharingOf text (string_bytes lines)) }
 {
     let (grants, certificate) = allot(alloc.clone()?, sheet.tree())?;
     let leaves = Leaves::of(sheet.tree());
@@ -99,7 +102,8 @@ fn sharing_lines<A: Allocator + Clone>(alloc: A, sheet: &Sheet<A>) -> Result<Str
 /// are best, and each branch that a line names as full backs its leaf.
 pub fn sharing_of<A: Allocator + Clone>(alloc: A, text: &[u8]) -> Result<String<A>, ProgramFault>
     ensures shared { IfOk result (λ lines. IsSharingOf text.now (string_bytes lines)) }
-    ensures sheet { (fault : SheetFault) → IsErrOf result (ProgramFault.Sheet fault) → IsSheetFaultOf text.now fault }
+    ensures sheet { (fault : SheetFault) → IsErrOf result (ProgramFault.Sheet fault)
+        → IsSheetFaultOf text.now fault }
     ensures faults { IfErr result IsSheetJudgement }
 {
     let sheet = read_sheet(alloc.clone()?, text)?;
@@ -117,13 +121,20 @@ pub fn run_share<A: Allocator + Clone, R: TextReader, W: TextWriter>(
     writer: &mut W,
 ) -> Result<(), ProgramFault>
     ensures written { OnOk result ((text : List ℕ) → R.remaining reader.old ≡ Some text
-        → (printed : List ℕ) × IsSharingOf text printed × Appends (W.contents writer.old) (W.contents writer.new) printed) }
-    ensures sheet { (fault : SheetFault) → IsErrOf result (ProgramFault.Sheet fault) → (text : List ℕ) → R.remaining reader.old ≡ Some text → IsSheetFaultOf text fault }
-    ensures too_long { IsErrOf result ProgramFault.TooLong → IfSome (R.remaining reader.old) (λ text. MAX_TEXT < length text) }
-    ensures long { (text : List ℕ) → R.remaining reader.old ≡ Some text → MAX_TEXT < length text → IsErrAnd result IsReadingFault }
+        → (printed : List ℕ) × IsSharingOf text printed
+        × Appends (W.contents writer.old) (W.contents writer.new) printed) }
+    ensures sheet { (fault : SheetFault) → IsErrOf result (ProgramFault.Sheet fault)
+        → (text : List ℕ) → R.remaining reader.old ≡ Some text → IsSheetFaultOf text fault }
+    ensures too_long { IsErrOf result ProgramFault.TooLong
+        → IfSome (R.remaining reader.old) (λ text. MAX_TEXT < length text) }
+    ensures long { (text : List ℕ) → R.remaining reader.old ≡ Some text → MAX_TEXT < length text
+        → IsErrAnd result IsReadingFault }
     ensures read_fault { IsErrOf result ProgramFault.ReadFault → R.may_fail reader.old ≡ true }
-    ensures write_fault { IsErrOf result ProgramFault.WriteFault → (text printed : List ℕ) × IsTextOf text (R.remaining reader.old) × IsSharingOf text printed × W.may_refuse writer.old printed }
-    ensures unwritten { IfErr result (λ fault. fault ≢ ProgramFault.WriteFault → writer.new ≡ writer.old) }
+    ensures write_fault { IsErrOf result ProgramFault.WriteFault → (text printed : List ℕ)
+        × IsTextOf text (R.remaining reader.old) × IsSharingOf text printed
+        × W.may_refuse writer.old printed }
+    ensures unwritten { IfErr result (λ fault. fault ≢ ProgramFault.WriteFault
+        → writer.new ≡ writer.old) }
 {
     let text = read_whole(alloc.clone()?, reader)?;
     let lines = sharing_of(alloc, &text)?;

@@ -15,7 +15,9 @@ fn push_words<B: Allocator>(
     path: &str,
     octets: u64,
 ) -> Result<(), AllocError>
-    ensures words { OnOk result (string_bytes text.new ≡ string_bytes text.old ++ (name.now ++ (codes " " ++ path.now) ++ number_word octets)) }
+    ensures words { OnOk result
+        (string_bytes text.new
+        ≡ string_bytes text.old ++ (name.now ++ (codes " " ++ path.now) ++ number_word octets)) }
 {
     write!(text, "{name} {path} {octets}")
 }
@@ -28,7 +30,9 @@ fn push_leaf<A: Allocator, B: Allocator>(
     grant: u64,
 ) -> Result<(), AllocError>
     requires leaf { leaf < length sheet.now.leaves }
-    ensures words { OnOk result (string_bytes text.new ≡ string_bytes text.old ++ (name.now ++ leaf_word sheet.now leaf ++ number_word grant)) }
+    ensures words { OnOk result
+        (string_bytes text.new
+        ≡ string_bytes text.old ++ (name.now ++ leaf_word sheet.now leaf ++ number_word grant)) }
 {
     push_words(text, name, sheet.leaf_path(leaf), grant)
 }
@@ -41,7 +45,8 @@ fn push_flaw<A: Allocator, B: Allocator>(
 ) -> Result<(), AllocError>
     requires there { IsThere sheet.now grants.now flaw }
     requires leaves { length sheet.now.leaves ≡ length (limits sheet.now.outline).wants }
-    ensures words { OnOk result (string_bytes text.new ≡ string_bytes text.old ++ flaw_words sheet.now grants.now flaw) }
+    ensures words { OnOk result
+        (string_bytes text.new ≡ string_bytes text.old ++ flaw_words sheet.now grants.now flaw) }
 {
     match flaw {
         Flaw::WrongLength => write!(text, "1 WrongLength"),
@@ -94,7 +99,8 @@ pub fn verdict_line<A: Allocator, B: Allocator>(
 ) -> Result<String<B>, AllocError>
     requires there { (flaw : Flaw) → verdict ≡ No flaw → IsThere sheet.now grants.now flaw }
     requires leaves { length sheet.now.leaves ≡ length (limits sheet.now.outline).wants }
-    ensures line { IfOk result (λ text. string_bytes text ≡ verdict_text sheet.now grants.now verdict) }
+    ensures line { IfOk result
+        (λ text. string_bytes text ≡ verdict_text sheet.now grants.now verdict) }
 {
     let mut text = String::new(alloc);
     match verdict {

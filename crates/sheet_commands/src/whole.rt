@@ -34,9 +34,11 @@ pub fn read_whole<A: Allocator + Clone, R: TextReader>(
     reader: &mut R,
 ) -> Result<Vec<u8, A>, ProgramFault>
     ensures short { IfOk result (λ v. vec_len v ≤ MAX_TEXT) }
-    ensures whole { IfOk result (λ v. Consumes (R.remaining reader.old) (R.remaining reader.new) v.items) }
+    ensures whole { IfOk result
+        (λ v. Consumes (R.remaining reader.old) (R.remaining reader.new) v.items) }
     ensures end { OnOk result (IsAtEnd (R.remaining reader.new)) }
-    ensures too_long { IsErrOf result ProgramFault.TooLong → IfSome (R.remaining reader.old) (λ xs. MAX_TEXT < length xs) }
+    ensures too_long { IsErrOf result ProgramFault.TooLong
+        → IfSome (R.remaining reader.old) (λ xs. MAX_TEXT < length xs) }
     ensures faults { IfErr result IsReadingFault }
     ensures read_fault { IsErrOf result ProgramFault.ReadFault → R.may_fail reader.old ≡ true }
 {

@@ -14,8 +14,10 @@ impl<'t, A: Allocator + Clone> Nodes<'t, A> {
         requires text { IsPathText path.now }
         requires stand { IsStand self.old path.now place at }
         requires fresh { IsFresh self.old (path_at self.old place) (names_of (drop at path.now)) }
-        ensures grown { OnOk result (self.new ≡ grown self.old (path_at self.old place) (names_of (drop at path.now))) }
-        ensures place { IfOk result (λ place. (place < length self.new) × (path_at self.new place ≡ names_of path.now)) }
+        ensures grown { OnOk result
+            (self.new ≡ grown self.old (path_at self.old place) (names_of (drop at path.now))) }
+        ensures place { IfOk result (λ place. (place < length self.new)
+            × (path_at self.new place ≡ names_of path.now)) }
     {
         let text = path.as_bytes();
         let mut place = place;

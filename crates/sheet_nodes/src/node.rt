@@ -90,7 +90,8 @@ impl<'t, A: Allocator> Nodes<'t, A> {
     /// The place of a name below a place.
     pub fn find(&self, parent: usize, name: &'t [u8]) -> Option<usize>
         requires parent { parent < length self.now }
-        ensures place { result ≡ place_of (paths_in self.now) (path_at self.now parent ++ name.now ∷ []) }
+        ensures place { result
+            ≡ place_of (paths_in self.now) (path_at self.now parent ++ name.now ∷ []) }
     {
         self.places.get(&(parent, name)).copied()
     }
@@ -99,7 +100,8 @@ impl<'t, A: Allocator> Nodes<'t, A> {
     pub fn note(&mut self, place: usize, number: usize, kind: Kind)
         requires place { place < length self.old }
         requires unstated { (mention_at self.old place).line ≡ None }
-        ensures noted { self.new ≡ noted number (record { path = path_at self.old place; kind = kind }) self.old }
+        ensures noted { self.new
+            ≡ noted number (record { path = path_at self.old place; kind = kind }) self.old }
     {
         let node = self.nodes[place];
         self.nodes[place] = Node {

@@ -63,7 +63,8 @@ impl<'t, A: Allocator> Nodes<'t, A> {
     fn place_fault(&self, number: usize, path: &str, kind: Kind, walk: Walk) -> Option<SheetFault>
         requires text { IsPathText path.now }
         requires walk { IsWalk self.now path.now walk }
-        ensures fault { result ≡ place_fault self.now number (record { path = names_of path.now; kind = kind }) }
+        ensures fault { result
+            ≡ place_fault self.now number (record { path = names_of path.now; kind = kind }) }
     {
         let _nodes = self.len();
         let there = walk.at == path.len();
@@ -79,8 +80,11 @@ impl<'t, A: Allocator + Clone> Nodes<'t, A> {
     pub fn take(&mut self, number: usize, path: &'t str, kind: Kind) -> Result<(), SheetFault>
         requires text { IsPathText path.now }
         ensures taken { MatchResult result
-            (λ _. taken self.old number (record { path = names_of path.now; kind = kind }) ≡ Ok self.new)
-            (λ fault. fault ≢ SheetFault.Memory → taken self.old number (record { path = names_of path.now; kind = kind }) ≡ Err fault) }
+            (λ _. taken self.old number (record { path = names_of path.now; kind = kind })
+            ≡ Ok self.new)
+            (λ fault. fault ≢ SheetFault.Memory
+            → taken self.old number (record { path = names_of path.now; kind = kind })
+            ≡ Err fault) }
     {
         let walk = self.walk(path);
         if let Some(fault) = self.place_fault(number, path, kind, walk) {

@@ -71,7 +71,8 @@ fn tell<A: Allocator, S: Store<A>>(
 
 /// Carries out a call that changes a store.
 fn change<A: Allocator, S: Store<A>>(store: &mut S, asked: &Asked<A>) -> Result<(), StoreFault>
-    ensures step { IfSome (change_of asked.now.call asked.now.path asked.now.to result) (λ exchange. S.Step store.old exchange store.new) }
+    ensures step { IfSome (change_of asked.now.call asked.now.path asked.now.to result)
+        (λ exchange. S.Step store.old exchange store.new) }
 {
     match asked.call {
         Call::MakeDirectory => store.make_dir(&asked.path),
@@ -93,7 +94,9 @@ pub fn ask<A: Allocator, S: Store<A>>(
     store: &mut S,
     asked: &Asked<A>,
 ) -> Result<String, StoreFault>
-    ensures step { IfSome (change_of asked.now.call asked.now.path asked.now.to (in_answer done result)) (λ exchange. S.Step store.old exchange store.new) }
+    ensures step { IfSome
+        (change_of asked.now.call asked.now.path asked.now.to (in_answer done result))
+        (λ exchange. S.Step store.old exchange store.new) }
 {
     match asked.call {
         Call::Read(_) | Call::Names | Call::Size | Call::Modified | Call::Faults => {

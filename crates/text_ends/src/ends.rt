@@ -81,7 +81,8 @@ impl<R: Read> TextReader for Outside<R> {
 /// One read. It is tried again where it was interrupted.
 fn read_through<R: Read>(reader: &mut R, buffer: &mut [u8]) -> io::Result<usize>
     ensures bound { ReadsAtMost result buffer.new }
-    ensures octets { ReadConsumes (R.remaining reader.old) (R.remaining reader.new) result buffer.new }
+    ensures octets { ReadConsumes (R.remaining reader.old)
+        (R.remaining reader.new) result buffer.new }
 {
     'reads: for _ in 0..u64::MAX {
         match reader.read(buffer) {
@@ -112,8 +113,10 @@ fn write_once<W: Write>(writer: &mut W, text: &[u8]) -> io::Result<usize>
 
 /// Writes all the octets.
 fn write_through<W: Write>(writer: &mut W, text: &[u8]) -> io::Result<()>
-    ensures octets { OnOk result (Appends (W.contents writer.old) (W.contents writer.new) text.now) }
-    ensures part { OnErr result (AppendsPart (W.contents writer.old) (W.contents writer.new) text.now) }
+    ensures octets { OnOk result
+        (Appends (W.contents writer.old) (W.contents writer.new) text.now) }
+    ensures part { OnErr result
+        (AppendsPart (W.contents writer.old) (W.contents writer.new) text.now) }
 {
     let mut done = 0;
     while done < text.len() {

@@ -56,7 +56,8 @@ impl<A: Allocator> VPath<A> {
     /// A text that begins with `/` starts at the root. Empty names and `.` are passed over, and `..`
     /// goes up one name, at the root none.
     pub fn resolve(&self, alloc: A, text: &str) -> Result<VPath<A>, PathFault>
-        ensures path { MatchResult result (λ path. resolved self.now text.now ≡ Ok path) (λ fault. fault ≢ PathFault.Memory → resolved self.now text.now ≡ Err fault) }
+        ensures path { MatchResult result (λ path. resolved self.now text.now ≡ Ok path)
+            (λ fault. fault ≢ PathFault.Memory → resolved self.now text.now ≡ Err fault) }
         ensures names { IfOk result AllNames }
     {
         look_over(text)?;
@@ -91,7 +92,8 @@ impl<A: Allocator> VPath<A> {
     /// The last name, on one line; the root has none.
     pub fn file_name(&self) -> Option<&str>
         ensures line { IfSome result (λ name. IsLine name.now) }
-        ensures name { MatchOption result (self.now ≡ []) (λ name. self.now ≡ parent_of self.now ++ name.now ∷ []) }
+        ensures name { MatchOption result (self.now ≡ [])
+            (λ name. self.now ≡ parent_of self.now ++ name.now ∷ []) }
     {
         let (_, name) = split_last(self.text.as_str())?;
         Some(name)
@@ -99,7 +101,8 @@ impl<A: Allocator> VPath<A> {
 
     /// The text of the path without its last name; the root has none.
     pub fn parent_text(&self) -> Option<&str>
-        ensures parent { MatchOption result (self.now ≡ []) (λ text. (self.now ≢ []) × (text.now ≡ path_text (parent_of self.now))) }
+        ensures parent { MatchOption result (self.now ≡ []) (λ text. (self.now ≢ [])
+            × (text.now ≡ path_text (parent_of self.now))) }
     {
         let (front, _) = split_last(self.text.as_str())?;
         Some(shown(front))
@@ -107,7 +110,9 @@ impl<A: Allocator> VPath<A> {
 
     /// The path without its last name; the root has none.
     pub fn parent<B: Allocator>(&self, alloc: B) -> Result<Option<VPath<B>>, AllocError>
-        ensures parent { IfOk result (λ answer. MatchOption answer (self.now ≡ []) (λ parent. (self.now ≢ []) × (parent ≡ parent_of self.now))) }
+        ensures parent { IfOk result
+            (λ answer. MatchOption answer (self.now ≡ []) (λ parent. (self.now ≢ [])
+            × (parent ≡ parent_of self.now))) }
     {
         let Some((front, _)) = split_last(self.text.as_str()) else {
             return Ok(None);
@@ -128,7 +133,8 @@ impl<A: Allocator> VPath<A> {
     ///
     /// `BadName` is for what is not one name: an empty text, `.`, `..`, or a text with `/` or a control octet.
     pub fn child<B: Allocator>(&self, alloc: B, name: &str) -> Result<VPath<B>, PathFault>
-        ensures path { MatchResult result (λ path. child_of self.now name.now ≡ Ok path) (λ fault. fault ≢ PathFault.Memory → child_of self.now name.now ≡ Err fault) }
+        ensures path { MatchResult result (λ path. child_of self.now name.now ≡ Ok path)
+            (λ fault. fault ≢ PathFault.Memory → child_of self.now name.now ≡ Err fault) }
     {
         if !is_one_name(name) {
             return Err(PathFault::BadName);
@@ -147,7 +153,8 @@ impl<A: Allocator> VPath<A> {
         alloc: B,
         path: &VPath<C>,
     ) -> Result<VPath<B>, PathFault>
-        ensures path { MatchResult result (λ whole. joined self.now path.now ≡ Ok whole) (λ fault. fault ≢ PathFault.Memory → joined self.now path.now ≡ Err fault) }
+        ensures path { MatchResult result (λ whole. joined self.now path.now ≡ Ok whole)
+            (λ fault. fault ≢ PathFault.Memory → joined self.now path.now ≡ Err fault) }
     {
         if self.text.as_str().len() + path.text.as_str().len() > LONGEST_PATH {
             return Err(PathFault::TooLong);

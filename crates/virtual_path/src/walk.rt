@@ -52,7 +52,8 @@ pub fn look_over(text: &str) -> Result<(), PathFault>
 
 /// The text that `way` is followed from: none where it begins with `/`.
 pub fn start<A: Allocator>(alloc: A, from: &str, way: &str) -> Result<String<A>, AllocError>
-    ensures start { IfOk result (λ text. string_bytes text ≡ cond (slice_index way.now 0 == 47) [] from.now) }
+    ensures start { IfOk result
+        (λ text. string_bytes text ≡ cond (slice_index way.now 0 == 47) [] from.now) }
 {
     if way.starts_with('/') {
         Ok(String::new(alloc))
@@ -69,7 +70,8 @@ pub fn enter<A: Allocator>(text: &mut String<A>, name: &str) -> Result<(), Alloc
 }
 
 fn leave<A: Allocator>(text: &mut String<A>)
-    ensures leaves { (path : Path) → AllByRecursion HasNoSlash path → string_bytes text.old ≡ slashed path → string_bytes text.new ≡ slashed (parent_of path) }
+    ensures leaves { (path : Path) → AllByRecursion HasNoSlash path
+        → string_bytes text.old ≡ slashed path → string_bytes text.new ≡ slashed (parent_of path) }
 {
     if let Some(slash) = text.rfind('/') {
         text.truncate(slash);
@@ -77,7 +79,9 @@ fn leave<A: Allocator>(text: &mut String<A>)
 }
 
 fn follow<A: Allocator>(text: &mut String<A>, name: &str) -> Result<(), AllocError>
-    ensures follows { OnOk result ((path : Path) → AllByRecursion HasNoSlash path → string_bytes text.old ≡ slashed path → string_bytes text.new ≡ slashed (through path name.now)) }
+    ensures follows { OnOk result ((path : Path) → AllByRecursion HasNoSlash path
+        → string_bytes text.old ≡ slashed path
+        → string_bytes text.new ≡ slashed (through path name.now)) }
 {
     if name.is_empty() || name == "." {
         return Ok(());
@@ -91,7 +95,9 @@ fn follow<A: Allocator>(text: &mut String<A>, name: &str) -> Result<(), AllocErr
 
 /// Follows the names of `way`, one after another.
 pub fn walk<A: Allocator>(text: &mut String<A>, way: &str) -> Result<(), AllocError>
-    ensures walks { OnOk result ((path : Path) → AllByRecursion HasNoSlash path → string_bytes text.old ≡ slashed path → string_bytes text.new ≡ slashed (fold through path (names_of way.now))) }
+    ensures walks { OnOk result ((path : Path) → AllByRecursion HasNoSlash path
+        → string_bytes text.old ≡ slashed path
+        → string_bytes text.new ≡ slashed (fold through path (names_of way.now))) }
 {
     for name in way.split('/') {
         follow(text, name)?;
@@ -142,7 +148,9 @@ pub fn shown(text: &str) -> &str
 
 /// From a path's text as a caller sees it, the text of the path without its last name; the root has none.
 pub fn parent_text(text: &str) -> Option<&str>
-    ensures parent { (path : Path) → AllNames path → text.now ≡ path_text path → MatchOption result (path ≡ []) (λ parent. (path ≢ []) × (parent.now ≡ path_text (parent_of path))) }
+    ensures parent { (path : Path) → AllNames path → text.now ≡ path_text path
+        → MatchOption result (path ≡ []) (λ parent. (path ≢ [])
+        × (parent.now ≡ path_text (parent_of path))) }
 {
     let (front, name) = split_last(text)?;
     if name.is_empty() {
@@ -159,7 +167,9 @@ fn is_end_of_name(rest: &str) -> bool
 
 /// Whether a path's text is that of `above`, or goes on from it.
 pub fn is_beneath(text: &str, above: &str) -> bool
-    ensures beneath { (path : Path) (other : Path) → AllByRecursion HasNoSlash path → AllByRecursion HasNoSlash other → text.now ≡ slashed path → above.now ≡ slashed other → (IsTrue result ↔ IsBeneath path other) }
+    ensures beneath { (path : Path) (other : Path) → AllByRecursion HasNoSlash path
+        → AllByRecursion HasNoSlash other → text.now ≡ slashed path → above.now ≡ slashed other
+        → (IsTrue result ↔ IsBeneath path other) }
 {
     match text.strip_prefix(above) {
         Some(rest) => is_end_of_name(rest),

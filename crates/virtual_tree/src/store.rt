@@ -45,7 +45,8 @@ pub trait Sink: Drop {
     /// It refuses with `Memory`, or, where the octets are not known, with `Device`; and then the known
     /// octets are those that came before. Nobody counts these faults.
     fn write(&mut self, octets: &[u8]) -> Result<(), StoreFault>
-        ensures octets { OnOk result (Appends (collected self.old) (collected self.new) octets.now) }
+        ensures octets { OnOk result
+            (Appends (collected self.old) (collected self.new) octets.now) }
         ensures kept { OnErr result (collected self.new ≡ collected self.old) }
         ensures target { target self.new ≡ target self.old }
         ensures refusal { IfErr result (IsEndFault (collected self.old)) };
@@ -84,7 +85,8 @@ pub trait Store<A: Allocator> {
     /// The entries of a directory, in the order of their names' octets: no name comes twice.
     fn list(&mut self, path: &VPath<A>) -> Result<Vec<Listed<A>, A>, StoreFault>
         ensures step { Step self.old (Listing path.now (in_answer entries_of result)) self.new }
-        ensures rising { IfOk result (λ listed. IsStrictlySortedBy (slice_cmp nat_cmp) (names_of listed)) };
+        ensures rising { IfOk result
+            (λ listed. IsStrictlySortedBy (slice_cmp nat_cmp) (names_of listed)) };
 
     /// A file's octets from an offset on.
     fn open_read(&mut self, path: &VPath<A>, offset: u64) -> Result<Self::Source, StoreFault>

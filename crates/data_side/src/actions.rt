@@ -4,6 +4,7 @@ ghost use Rattle.std.specs.Prelude.{◌≡◌, ◌≤◌, ◌+◌, ◌++◌, ◌
 ghost use Rattle.std.specs.List.{AllByRecursion};
 ghost use Rattle.std.specs.Vec.Iter.{into_iter_items};
 ghost use Rattle.data_side.specs.Sides.{IsAnswer, Serves, waiting};
+ghost use Rattle.data_side.specs.Sides.SideCall.{Runs};
 ghost use Rattle.data_side.specs.Told.{closes, is_close, released, text_of, texts};
 ghost use Rattle.ftp_reply.specs.Replies.{reply_text};
 ghost use Rattle.session_laws.specs.Laws.{asking, asks_by, release_by, releases};
@@ -11,7 +12,7 @@ ghost use Rattle.session_table.specs.Answers.{answer_form};
 
 use crate::side::DataSide;
 use rate_floors::Floors;
-use session_table::{Action, Answer, Input};
+use session_table::{Action, Answer, End, Input, Job};
 use std::alloc::{AllocError, Allocator};
 use std::vec::IntoIter;
 
@@ -94,6 +95,20 @@ pub fn release<F: Allocator, A: Allocator, R, K>(
     }
 }
 
+/// Runs a transfer to its end, by the call of what it moves.
+fn run<A: Allocator, R: Drop, K: Drop, D: DataSide<A, R, K>>(
+    side: &mut D,
+    job: Job<A, R, K>,
+) -> (End, Option<K>)
+    ensures run { D.Asks side.old (Runs job result.0 result.1) side.new }
+{
+    match job {
+        Job::Text(octets) => (side.send_text(&octets), None),
+        Job::SendFile(source, form) => (side.send_file(source, form), None),
+        Job::TakeFile(sink, form) => side.take_file(sink, form),
+    }
+}
+
 /// Makes the call of an action.
 fn serve_one<A: Allocator, R: Drop, K: Drop, D: DataSide<A, R, K>>(
     side: &mut D,
@@ -117,7 +132,7 @@ fn serve_one<A: Allocator, R: Drop, K: Drop, D: DataSide<A, R, K>>(
             None
         }
         Action::Start(job) => {
-            let (end, sink) = side.run(job);
+            let (end, sink) = run(side, job);
             Some(Input::TransferEnded { end, sink })
         }
         Action::Say(_)

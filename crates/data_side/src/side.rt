@@ -1,11 +1,13 @@
 //! What a control session is lent beside its text: a clock, and what opens data connections.
 
-ghost use Rattle.std.specs.Prelude.{ℕ};
+ghost use Rattle.std.specs.Prelude.{ℕ, None};
 ghost use Rattle.data_side.specs.Sides.{SideCall};
 ghost use Rattle.data_side.specs.Sides.SideCall.{Opens, Connects, Drops, Runs};
+ghost use Rattle.session_table.specs.declared.actions.Job.TheVariants.{Text, SendFile, TakeFile};
 
+use ftp_terms::DataType;
 use ftp_wire::HostPort;
-use session_table::{End, Job};
+use session_table::{End, Octets};
 use std::alloc::Allocator;
 
 /// A clock.
@@ -38,7 +40,15 @@ pub trait DataSide<A: Allocator, R, K> {
     fn drop_data(&mut self)
         ensures { Asks self.old Drops self.new };
 
-    /// Runs a transfer to its end, and says how it ended; a sink comes back.
-    fn run(&mut self, job: Job<A, R, K>) -> (End, Option<K>)
-        ensures { Asks self.old (Runs job result.0 result.1) self.new };
+    /// Sends a listing as it is, and says how that ended.
+    fn send_text(&mut self, octets: &Octets<A>) -> End
+        ensures { Asks self.old (Runs (Text octets.now) result None) self.new };
+
+    /// Sends what is left of a file, and says how that ended.
+    fn send_file(&mut self, source: R, form: DataType) -> End
+        ensures { Asks self.old (Runs (SendFile source form) result None) self.new };
+
+    /// Receives a file, and says how that ended; the sink comes back unless it was lost.
+    fn take_file(&mut self, sink: K, form: DataType) -> (End, Option<K>)
+        ensures { Asks self.old (Runs (TakeFile sink form) result.0 result.1) self.new };
 }

@@ -1,0 +1,55 @@
+-- A control session of a configured server, whose store is in memory.
+use Rattle.std.specs.Prelude.{◌≡◌, ◌⊎◌, ℕ, List, Option, String}
+use Rattle.std.specs.declared.alloc.Global.{Global}
+use Rattle.config_store.specs.declared.store.ServedStore.TheVariants as served
+use Rattle.control_session.specs.Sessions.{IsBroken, IsSession, greeting_of, new_session}
+use Rattle.line_rates.specs.Rates.{Rates}
+use Rattle.memory_store.specs.InMemory.{Memory, InMemory}
+use Rattle.rate_floors.specs.Promises.{HasNoSessions, Promises}
+use Rattle.script_session.specs.Scripts.{AnswersScript, IsFirst, home_address}
+use Rattle.script_session.specs.declared.side.ScriptSide.{ScriptSide}
+use Rattle.authorizer.specs.Users.{Users}
+use Rattle.server_config.specs.declared.config.Config.{Config}
+use Rattle.server_config.specs.declared.settings.SessionTerms.{SessionTerms}
+use Rattle.session_table.specs.declared.settings.Settings.{Settings}
+use Rattle.text_ends.specs.Parts.{AppendsPart}
+use Rattle.configured_session.specs.declared.fault.ServeFault.{ServeFault}
+use Rattle.configured_session.specs.declared.fault.ServeFault.TheVariants.{Folder, Control}
+
+-- what a configuration sets for its sessions
+abbrev pub settings_of : SessionTerms → Settings Global
+settings_of terms = record {
+  banner = terms.banner;
+  login_attempts = terms.login_attempts;
+  permits_foreign_addresses = terms.permits_foreign_addresses;
+  permits_privileged_ports = terms.permits_privileged_ports;
+  address = terms.address;
+}
+
+-- a whole session over a store, from floors of these rates with no session counted; old and new are what is left to be
+-- read, out and out' what was written
+pub record IsServedBy (users : Users) (rates : Rates) (store : Memory) (settings : Settings Global) (port : ℕ) (old new out out' : Option (List ℕ)) : Type 0 where
+  pub promises : Promises
+  pub promises' : Promises
+  pub store' : Memory
+  pub side' : ScriptSide
+  pub rates_are : promises.rates ≡ rates
+  pub none : HasNoSessions promises
+  pub session : IsSession Global IsFirst InMemory AnswersScript users old new out out' (new_session settings home_address) promises store (record { port = port }) promises' store' side'
+
+-- a session that breaks off, before its greeting is out or later
+abbrev pub IsBrokenBy : Users → Rates → Memory → Settings Global → ℕ → Option (List ℕ) → Option (List ℕ) → Option (List ℕ) → Option (List ℕ) → Type 0
+IsBrokenBy users rates store settings port old new out out' =
+    AppendsPart out out' (greeting_of (new_session settings home_address))
+    ⊎ ((promises : Promises) × (promises.rates ≡ rates) × HasNoSessions promises
+    × IsBroken Global IsFirst InMemory AnswersScript users old new out out' (new_session settings home_address) promises store (record { port = port }))
+
+-- the configured store is in memory, and this holds of it
+abbrev pub InStore : (Memory → Type 0) → Config → Type 0
+InStore Holds config = (store : Memory) × (config.store ≡ served.Memory store) × Holds store
+
+-- a folder is configured, or the session over the configured store breaks off
+abbrev pub IsUnserved : Config → Option (List ℕ) → Option (List ℕ) → Option (List ℕ) → Option (List ℕ) → ServeFault → Type 0
+IsUnserved config old new out out' Folder = ((text : String Global) × (config.store ≡ served.Folder text)) × (new ≡ old) × (out' ≡ out)
+IsUnserved config old new out out' (Control why) =
+    InStore (λ store. IsBrokenBy config.users.users config.limits store (settings_of config.terms) config.numbers.passive_first old new out out') config

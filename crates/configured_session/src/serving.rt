@@ -1,0 +1,113 @@
+//! A session of a configured server.
+
+ghost use Rattle.std.specs.Prelude.{◌≡◌, Err, IfErr, Ok, OnErr, OnOk};
+ghost use Rattle.control_session.specs.declared.fault.ControlFault.{ControlFault};
+ghost use Rattle.configured_session.specs.declared.fault.ServeFault.TheVariants as ServeFault;
+ghost use Rattle.configured_session.specs.Served.{InStore, IsBrokenBy, IsServedBy, IsUnserved, settings_of};
+
+use crate::fault::ServeFault;
+use authorizer::Authorizer;
+use config_store::ServedStore;
+use control_session::ControlFault;
+use line_rates::Limits;
+use memory_store::MemStore;
+use rate_floors::Floors;
+use script_session::serve_text;
+use server_config::{Config, SessionTerms};
+use session_table::Settings;
+use std::alloc::Global;
+use text_ends::{TextReader, TextWriter};
+
+/// What a configuration sets for its sessions.
+fn settings_of(terms: SessionTerms) -> Settings
+    ensures settings { result ≡ settings_of terms }
+{
+    Settings {
+        banner: terms.banner,
+        login_attempts: terms.login_attempts,
+        permits_foreign_addresses: terms.permits_foreign_addresses,
+        permits_privileged_ports: terms.permits_privileged_ports,
+        address: terms.address,
+    }
+}
+
+/// A session over a store in memory, which is then forgotten.
+fn serve_memory<R: TextReader, W: TextWriter>(
+    alloc: Global,
+    users: &Authorizer,
+    limits: &Limits,
+    store: MemStore,
+    settings: Settings,
+    port: u16,
+    reader: &mut R,
+    writer: &mut W,
+) -> Result<(), ControlFault>
+    ensures served { OnOk result (IsServedBy users.now.users limits.now store settings port
+        (R.remaining reader.old) (R.remaining reader.new)
+        (W.contents writer.old) (W.contents writer.new)) }
+    ensures broken { OnErr result (IsBrokenBy users.now.users limits.now store settings port
+        (R.remaining reader.old) (R.remaining reader.new)
+        (W.contents writer.old) (W.contents writer.new)) }
+{
+    let mut store = store;
+    let mut floors = Floors::of(alloc, limits)?;
+    serve_text(
+        alloc,
+        reader,
+        writer,
+        users,
+        &mut floors,
+        &mut store,
+        settings,
+        port,
+    )
+}
+
+fn told(served: Result<(), ControlFault>) -> Result<(), ServeFault>
+    ensures served { OnOk result (served ≡ Ok tt) }
+    ensures broken { IfErr result (λ fault. (why : ControlFault)
+        × (fault ≡ ServeFault.Control why) × (served ≡ Err why)) }
+{
+    match served {
+        Ok(()) => Ok(()),
+        Err(fault) => Err(ServeFault::Control(fault)),
+    }
+}
+
+/// A whole control session of the client 127.0.0.1, at the moment 0, on a server of this configuration: its text is what the
+/// reader gives, and its replies are written. Each passive port is the first; a download is taken whole and thrown away,
+/// an upload brings no octets. The store is in memory: a configured folder is refused, before anything is read or written.
+pub fn serve_config<R: TextReader, W: TextWriter>(
+    alloc: Global,
+    config: Config,
+    reader: &mut R,
+    writer: &mut W,
+) -> Result<(), ServeFault>
+    ensures served { OnOk result (InStore
+        (λ store. IsServedBy config.users.users config.limits store (settings_of config.terms)
+        config.numbers.passive_first
+        (R.remaining reader.old) (R.remaining reader.new)
+        (W.contents writer.old) (W.contents writer.new)) config) }
+    ensures broken { IfErr result (IsUnserved config
+        (R.remaining reader.old) (R.remaining reader.new)
+        (W.contents writer.old) (W.contents writer.new)) }
+{
+    let Config {
+        terms,
+        numbers,
+        users,
+        store,
+        limits,
+    } = config;
+    let settings = settings_of(terms);
+    let port = numbers.passive_first;
+    match store {
+        ServedStore::Folder(_folder) => Err(ServeFault::Folder),
+        ServedStore::Memory(store) => {
+            let served = serve_memory(
+                alloc, &users, &limits, store, settings, port, reader, writer,
+            );
+            told(served)
+        }
+    }
+}

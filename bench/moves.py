@@ -1,6 +1,6 @@
-"""Times the pumps of `large_transfer` beside plain Rust that moves the same octets through buffers of the same sizes.
+"""Times the pumps of `bench_work transfer` beside plain Rust that moves the same octets through buffers of the same sizes.
 
-    python3 moves.py FOLDER LARGE_TRANSFER MOVES [RUNS]
+    python3 moves.py FOLDER BENCH_WORK MOVES [RUNS]
 
 It prints a table of octets per second. Each time is the least of so many runs (3), less that of the same program that
 moves nothing; a program that moves other octets than the other ends the bench.
@@ -23,8 +23,8 @@ def rate(program, words, folder, runs):
         return OCTETS * TIMES / ((taken - none) * 1_000), told.read()
 
 
-def row_of(way, data_type, folder, large_transfer, moves, runs):
-    pumps, told = rate(large_transfer, [way, data_type], folder, runs)
+def row_of(way, data_type, folder, bench_work, moves, runs):
+    pumps, told = rate(bench_work, ["transfer", way, data_type], folder, runs)
     plain, same = rate(moves, [way, data_type], folder, runs)
     if told != same:
         sys.exit(f"bench: {way} {data_type}: {told!r} is not {same!r}")
@@ -33,9 +33,9 @@ def row_of(way, data_type, folder, large_transfer, moves, runs):
     return [way, name, f"{pumps:,.0f}", f"{plain:,.0f}", f"{pumps / plain:.2f}", f"{alone:,.0f}" if alone else "-"]
 
 
-def main(folder, large_transfer, moves, runs="3"):
+def main(folder, bench_work, moves, runs="3"):
     forms = [(way, data_type) for data_type in ("image", "text") for way in ("out", "in")]
-    tell(HEAD, (row_of(way, data_type, folder, large_transfer, moves, int(runs)) for way, data_type in forms))
+    tell(HEAD, (row_of(way, data_type, folder, bench_work, moves, int(runs)) for way, data_type in forms))
 
 
 main(*sys.argv[1:])

@@ -1,10 +1,10 @@
-//! The yardstick of the pumps: moves the same text as `large_transfer` by plain Rust, through buffers of the same sizes.
+//! The yardstick of the pumps: moves the same text as `bench_work transfer` by plain Rust, through buffers of the same sizes.
 //!
 //!     moves out|in image|text TIMES       a read, the turning, and a write, as a pump makes them
 //!     moves alone out|in TIMES            the turning of text alone
 //!
 //! Octets are copied by `copy_from_slice`, which is `memcpy`. Text is turned octet by octet. It prints the same line as
-//! `large_transfer`; alone, the sum of what was turned last.
+//! `bench_work transfer`; alone, the sum of what was turned last.
 
 use std::{env, process};
 

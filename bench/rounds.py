@@ -1,6 +1,6 @@
-"""Times whole rounds of `full_round` beside plain Rust with the same rules.
+"""Times whole rounds of `bench_work round` beside plain Rust with the same rules.
 
-    python3 rounds.py FOLDER FULL_ROUND ROUNDS [RUNS]
+    python3 rounds.py FOLDER BENCH_WORK ROUNDS [RUNS]
 
 It prints a table of microseconds for one round: the median of so many runs (21) of many rounds each, less that of the
 same program without a round. A part is what its step adds to the steps before it.
@@ -18,15 +18,15 @@ HEAD = ["part", "here (us)", "plain (us)", "here / plain"]
 
 def times_of(program, folder, runs):
     """Microseconds for one round as far as each work goes, and what was granted last."""
-    none = median([program, "seal", "0"], f"{folder}/round", runs)
-    found = [(median([program, work, str(TIMES)], f"{folder}/round", runs) - none) * 1_000 / TIMES for work in WORKS]
+    none = median([*program, "seal", "0"], f"{folder}/round", runs)
+    found = [(median([*program, work, str(TIMES)], f"{folder}/round", runs) - none) * 1_000 / TIMES for work in WORKS]
     with open(f"{folder}/round", encoding="utf-8") as told:
         return found, told.read()
 
 
-def main(folder, full_round, rounds, runs="21"):
-    here, told = times_of(full_round, folder, int(runs))
-    plain, same = times_of(rounds, folder, int(runs))
+def main(folder, bench_work, rounds, runs="21"):
+    here, told = times_of([bench_work, "round"], folder, int(runs))
+    plain, same = times_of([rounds], folder, int(runs))
     if told != same:
         sys.exit(f"bench: the last round granted {told!r}, and not {same!r}")
     row = lambda name, ours, theirs: [name, f"{ours:.1f}", f"{theirs:.1f}", f"{ours / theirs:.2f}"]

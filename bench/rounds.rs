@@ -1,4 +1,4 @@
-//! The yardstick of a round: the same rules as `full_round` in plain Rust, which is proved nowhere.
+//! The yardstick of a round: the same rules as `bench_work round` in plain Rust, which is proved nowhere.
 //!
 //!     rounds plan|allot|check|seal TIMES
 //!

@@ -1,6 +1,6 @@
-"""Times `ftpd share` and the yardstick on each sheet of a folder, and `large_tree` on a tree that no sheet can hold.
+"""Times `ftpd share` and the yardstick on each sheet of a folder, and `bench_work` on a tree that no sheet can hold.
 
-    python3 times.py FOLDER FTPD YARDSTICK LARGE_TREE [RUNS]
+    python3 times.py FOLDER FTPD YARDSTICK BENCH_WORK [RUNS]
 
 It prints a table of each.
 
@@ -52,9 +52,9 @@ def row_of(name, folder, ftpd, yardstick, runs):
     return [name, *facts, *[f"{time:.1f}" for time in times], f"{memory:.0f}"]
 
 
-def tree_row(folder, large_tree, runs):
+def tree_row(folder, bench_work, runs):
     """What one allotment and one check take beyond the making of the tree; a check's tree is shared once before."""
-    work = lambda word, times: least([large_tree, word, str(NODES), str(times)], f"{folder}/{word}.{times}.out", runs)
+    work = lambda word, times: least([bench_work, "tree", word, str(NODES), str(times)], f"{folder}/{word}.{times}.out", runs)
     made, memory = work("allot", 0)
     allotted, most = work("allot", ALLOTS)
     unchecked, _ = work("check", 0)
@@ -66,9 +66,9 @@ def tree_row(folder, large_tree, runs):
     return [f"{NODES}", *[f"{time:.1f}" for time in times], f"{max(memory, most):.0f}"]
 
 
-def main(folder, ftpd, yardstick, large_tree, runs="3"):
+def main(folder, ftpd, yardstick, bench_work, runs="3"):
     tell(HEAD, (row_of(name, folder, ftpd, yardstick, int(runs)) for name in NAMES))
-    tell(TREE_HEAD, [tree_row(folder, large_tree, int(runs))])
+    tell(TREE_HEAD, [tree_row(folder, bench_work, int(runs))])
 
 
 main(*sys.argv[1:])

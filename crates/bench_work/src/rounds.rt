@@ -1,7 +1,8 @@
 //! Rounds, one after another.
 
+use super::asks::{asks, limits};
 use super::fault::BenchFault;
-use super::words::{Words, Work};
+use super::words::{RoundWords, RoundWork};
 use grant_certificate::{Verdict, check, seal};
 use limit_tree::Tree;
 use line_rates::{Ask, Limits, Plan, tree_of};
@@ -10,15 +11,15 @@ use std::alloc::Global;
 
 // Shares a tree out, and checks and seals its grants, as far as the work goes. Told are the octets granted, where they are
 // sealed.
-fn shared(alloc: Global, tree: Tree, work: Work) -> Result<u64, BenchFault> {
+fn shared(alloc: Global, tree: Tree, work: RoundWork) -> Result<u64, BenchFault> {
     let (grants, certificate) = allot(alloc, &tree)?;
-    if let Work::Allot = work {
+    if let RoundWork::Allot = work {
         return Ok(0);
     }
     if check(&tree, &grants, &certificate) != Verdict::Yes {
         return Err(BenchFault::Round);
     }
-    if let Work::Check = work {
+    if let RoundWork::Check = work {
         return Ok(0);
     }
     match seal(tree, grants, certificate) {
@@ -33,7 +34,7 @@ fn round(
     limits: &Limits,
     tick: u64,
     asks: &[(u8, Ask)],
-    work: Work,
+    work: RoundWork,
 ) -> Result<u64, BenchFault> {
     let Ok(plan) = tree_of(alloc, limits, tick, asks) else {
         return Err(BenchFault::Round);
@@ -42,22 +43,20 @@ fn round(
         tree,
         lanes: _lanes,
     } = plan;
-    if let Work::Plan = work {
+    if let RoundWork::Plan = work {
         return Ok(0);
     }
     shared(alloc, tree, work)
 }
 
-/// So many rounds, each at the next tick; told are the octets that the last of them granted.
-pub fn last_of(
-    alloc: Global,
-    limits: &Limits,
-    asks: &[(u8, Ask)],
-    words: Words,
-) -> Result<u64, BenchFault> {
+/// So many rounds for 64 asks of 64 users in 8 groups, each at the next tick. Told are the octets that the last of them
+/// granted, and 0 where it sealed nothing.
+pub fn round_line(alloc: Global, words: RoundWords) -> Result<String, BenchFault> {
+    let rates = limits(alloc)?;
+    let rows = asks(alloc)?;
     let mut told = 0;
     for tick in 0..words.times {
-        told = round(alloc, limits, tick as u64, asks, words.work)?;
+        told = round(alloc, &rates, tick as u64, rows.as_slice(), words.work)?;
     }
-    Ok(told)
+    Ok(format!(in alloc; "{told}")?)
 }

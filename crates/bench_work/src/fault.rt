@@ -1,6 +1,7 @@
 //! Why the program stops.
 
 use data_pump::OpenFault;
+use limit_tree::TreeFault;
 use std::alloc::AllocError;
 use thiserror::Error;
 use transfer_ends::FundsFault;
@@ -9,11 +10,17 @@ use transfer_ends::FundsFault;
 #[derive(Debug, Clone, Copy, PartialEq, Error)]
 pub enum BenchFault {
     /// The words are not those of a command.
-    #[error("use: large_transfer out|in image|text TIMES")]
+    #[error("use: bench_work [tree allot|check NODES TIMES] [round plan|allot|check|seal TIMES] [transfer out|in image|text TIMES], with 1 to 4194304 nodes")]
     Words,
     /// Memory ran out.
     #[error("out of memory")]
     Memory,
+    /// The tree was refused.
+    #[error("the tree is refused: {0}")]
+    Tree(TreeFault),
+    /// The rates, a plan or its grants were refused.
+    #[error("a round is refused")]
+    Round,
     /// The line could not be written.
     #[error("the line could not be written")]
     Write,
@@ -30,6 +37,11 @@ impl BenchFault {
 }
 
 impl From<AllocError> for BenchFault {
+    ghost use Rattle.std.specs.Prelude.{◌≡◌};
+    ghost use Rattle.bench_work.specs.declared.fault.BenchFault.TheVariants.{Memory};
+
+    ghost from_gives = { λ e fault. fault ≡ Memory };
+
     fn from(_error: AllocError) -> BenchFault {
         BenchFault::Memory
     }

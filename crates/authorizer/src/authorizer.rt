@@ -1,9 +1,10 @@
 //! The users.
 
-ghost use Rattle.std.specs.Prelude.{◌≡◌, ◌≢◌, ◌≤◌, ◌^◌, [], IsTrue, ◌↔◌, IfOk, IfErr, IfSome, OnOk, OnErr, MatchResult, Some, None, Ok, Err, codes};
+ghost use Rattle.std.specs.Prelude.{◌≡◌, ◌≢◌, ◌≤◌, ◌^◌, [], IfOk, IfSome, MatchResult, Some, None, Ok, Err, codes};
 ghost use Rattle.std.specs.FinMap as map;
 ghost use Rattle.std.specs.Option.{option_map, option_copied, option_and_then};
 ghost use Rattle.std.specs.String.{string_bytes};
+ghost use Rattle.memory_terms.specs.Lack.{LeavesDefined, Unless};
 ghost use Rattle.virtual_path.specs.Path.{Path, resolved};
 ghost use Rattle.ftp_terms.specs.Letters.{letters_of};
 ghost use Rattle.ftp_terms.specs.Lines.{IsLine};
@@ -32,7 +33,7 @@ pub struct Authorizer<A: Allocator = Global> {
 }
 
 impl<A: Allocator> Model for Authorizer<A> {
-    ghost use Rattle.std.specs.Prelude.{ℕ, ◌≤◌, ◌^◌};
+    ghost use Rattle.std.specs.Prelude.{◌≤◌, ◌^◌};
     ghost use Rattle.authorizer.specs.Users.{Accounts};
     ghost use Rattle.authorizer.specs.Stored.{accounts_code, map_of, user_of};
 
@@ -67,11 +68,8 @@ impl<A: Allocator + Clone> Authorizer<A> {
         home: &str,
         letters: &str,
     ) -> Result<(), AuthorizerFault>
-        ensures ok { OnOk result (added self.old name.now password.now home.now letters.now
-            ≡ Ok self.new) }
-        ensures err { OnErr result (self.new ≡ self.old) }
-        ensures which { IfErr result (λ fault. fault ≢ AuthorizerFault.Memory
-            → added self.old name.now password.now home.now letters.now ≡ Err fault) }
+        ensures users { LeavesDefined AuthorizerFault.Memory self.old result self.new
+            (added self.old name.now password.now home.now letters.now) }
     {
         if self.has_user(name) {
             return Err(AuthorizerFault::UserExists);
@@ -85,12 +83,9 @@ impl<A: Allocator + Clone> Authorizer<A> {
 
     /// Gives the account the next number.
     fn admit(&mut self, name: String<A>, account: Account<A>) -> Result<(), AuthorizerFault>
-        ensures ok { OnOk result
+        ensures users { LeavesDefined AuthorizerFault.Memory self.old result self.new
             (placed self.old (string_bytes name)
-            (record (user_of account) { number = self.old.next }) ≡ Ok self.new) }
-        ensures err { OnErr result (self.new ≡ self.old) }
-        ensures which { IfErr result (λ fault. fault ≢ AuthorizerFault.Memory
-            → (fault ≡ AuthorizerFault.NoNumber) × (2 ^ 32 ≤ self.old.next)) }
+            (record (user_of account) { number = self.old.next })) }
     {
         let Ok(number) = u32::try_from(self.next) else {
             return Err(AuthorizerFault::NoNumber);
@@ -103,19 +98,15 @@ impl<A: Allocator + Clone> Authorizer<A> {
 
     /// Adds the user `anonymous`, who has every password.
     pub fn add_anonymous(&mut self, home: &str, letters: &str) -> Result<(), AuthorizerFault>
-        ensures ok { OnOk result (added self.old (codes "anonymous") [] home.now letters.now
-            ≡ Ok self.new) }
-        ensures err { OnErr result (self.new ≡ self.old) }
-        ensures which { IfErr result (λ fault. fault ≢ AuthorizerFault.Memory
-            → added self.old (codes "anonymous") [] home.now letters.now ≡ Err fault) }
+        ensures users { LeavesDefined AuthorizerFault.Memory self.old result self.new
+            (added self.old (codes "anonymous") [] home.now letters.now) }
     {
         self.add_user("anonymous", "", home, letters)
     }
 
     pub fn remove_user(&mut self, name: &str) -> Result<(), AuthorizerFault>
-        ensures ok { OnOk result (removed self.old name.now ≡ Ok self.new) }
-        ensures err { OnErr result (self.new ≡ self.old) }
-        ensures which { IfErr result (λ fault. removed self.old name.now ≡ Err fault) }
+        ensures users { MatchResult result (λ _. removed self.old name.now ≡ Ok self.new)
+            (λ fault. (self.new ≡ self.old) × (removed self.old name.now ≡ Err fault)) }
     {
         if !table::remove(&mut self.accounts, name) {
             return Err(AuthorizerFault::NoSuchUser);
@@ -132,11 +123,8 @@ impl<A: Allocator + Clone> Authorizer<A> {
         letters: &str,
         recursive: bool,
     ) -> Result<(), AuthorizerFault>
-        ensures ok { OnOk result (overridden self.old name.now path.now letters.now recursive
-            ≡ Ok self.new) }
-        ensures err { OnErr result (self.new ≡ self.old) }
-        ensures which { IfErr result (λ fault. fault ≢ AuthorizerFault.Memory
-            → overridden self.old name.now path.now letters.now recursive ≡ Err fault) }
+        ensures users { LeavesDefined AuthorizerFault.Memory self.old result self.new
+            (overridden self.old name.now path.now letters.now recursive) }
     {
         if !self.has_user(name) {
             return Err(AuthorizerFault::NoSuchUser);
@@ -157,11 +145,8 @@ impl<A: Allocator + Clone> Authorizer<A> {
     ) -> Result<(), AuthorizerFault>
         requires login { IsLine login.now }
         requires quit { IsLine quit.now }
-        ensures ok { OnOk result (with_messages self.old name.now login.now quit.now
-            ≡ Ok self.new) }
-        ensures err { OnErr result (self.new ≡ self.old) }
-        ensures which { IfErr result (λ fault. fault ≢ AuthorizerFault.Memory
-            → with_messages self.old name.now login.now quit.now ≡ Err fault) }
+        ensures users { LeavesDefined AuthorizerFault.Memory self.old result self.new
+            (with_messages self.old name.now login.now quit.now) }
     {
         if !self.has_user(name) {
             return Err(AuthorizerFault::NoSuchUser);
@@ -174,9 +159,8 @@ impl<A: Allocator + Clone> Authorizer<A> {
 
     /// Puts a user into a group, or into none.
     pub fn set_group(&mut self, name: &str, group: Option<u32>) -> Result<(), AuthorizerFault>
-        ensures ok { OnOk result (with_group self.old name.now group ≡ Ok self.new) }
-        ensures err { OnErr result (self.new ≡ self.old) }
-        ensures which { IfErr result (λ fault. with_group self.old name.now group ≡ Err fault) }
+        ensures users { MatchResult result (λ _. with_group self.old name.now group ≡ Ok self.new)
+            (λ fault. (self.new ≡ self.old) × (with_group self.old name.now group ≡ Err fault)) }
     {
         table::set_group(&mut self.accounts, name, group)
     }
@@ -284,8 +268,8 @@ fn read_letters(text: &str) -> Result<Letters, AuthorizerFault>
 fn read_path<A: Allocator + Clone>(alloc: A, text: &str) -> Result<VPath<A>, AuthorizerFault>
     ensures path { MatchResult result
         (λ path. resolved [] text.now ≡ Ok path)
-        (λ fault. fault ≢ AuthorizerFault.Memory → (fault ≡ AuthorizerFault.BadPath)
-        × ((path : Path) → resolved [] text.now ≢ Ok path)) }
+        (Unless AuthorizerFault.Memory (λ fault. (fault ≡ AuthorizerFault.BadPath)
+        × ((path : Path) → resolved [] text.now ≢ Ok path))) }
 {
     let root = VPath::root(alloc.clone()?);
     match root.resolve(alloc, text) {

@@ -1,8 +1,9 @@
 //! The users by their names, and changes to one of them.
 
-ghost use Rattle.std.specs.Prelude.{◌≡◌, ◌≢◌, false, Some, None, Ok, Err, is_some, MatchOption, MatchResult, IfErr, OnOk, OnErr};
+ghost use Rattle.std.specs.Prelude.{◌≡◌, false, Some, None, Ok, Err, is_some, MatchOption, MatchResult, IfErr, OnOk, OnErr};
 ghost use Rattle.std.specs.FinMap as map;
 ghost use Rattle.std.specs.String.{string_bytes};
+ghost use Rattle.memory_terms.specs.Lack.{Unless};
 ghost use Rattle.ftp_terms.specs.LineText.{text_of};
 ghost use Rattle.authorizer.specs.Users.{User};
 ghost use Rattle.authorizer.specs.Stored.{map_of, user_of};
@@ -77,9 +78,9 @@ pub fn override_path<A: Allocator + Clone>(
         ≡ map.insert (map_of user_of accounts.old) name.now
         (record user { overrides = map.insert user.overrides (string_bytes text) rule }))) }
     ensures err { OnErr result (map_of user_of accounts.new ≡ map_of user_of accounts.old) }
-    ensures which { IfErr result (λ fault. fault ≢ AuthorizerFault.Memory
-        → (fault ≡ AuthorizerFault.NoSuchUser)
-        × (map.get (map_of user_of accounts.old) name.now ≡ None)) }
+    ensures which { IfErr result (Unless AuthorizerFault.Memory (λ fault.
+        (fault ≡ AuthorizerFault.NoSuchUser)
+        × (map.get (map_of user_of accounts.old) name.now ≡ None))) }
 {
     match accounts.get_mut(name) {
         Some(account) => {

@@ -91,7 +91,7 @@ numbers-more groups last k old new at are first next = λ name.
     ∙ numbers_by groups last name (bytes_eq last.name.now name) refl (sym (are last.name.now) ∙ first)
     ∙ sym (number_named-more groups last name)
 
--- the groups up to a place, and the one that stands there
+-- the groups up to an index, and the one that stands there
 pub numbers-next : (groups : List GroupTable) (i : ℕ) (group : GroupTable) (old new : BTreeMap (String Global) ℕ) → i < length groups → group ≡ get_or groups i group
     → AreNumbers (take i groups) old → AreApart (take i groups) → number_by old group.name.now ≡ None
     → ((name : List ℕ) → number_by new name ≡ cond (bytes_eq group.name.now name) (Some i) (number_by old name))

@@ -8,7 +8,7 @@ use Rattle.config_rates.specs.declared.fault.RowsFault.{RowsFault}
 use Rattle.config_rates.specs.declared.fault.RowsFault.TheVariants.{Group, Memory}
 use Rattle.config_rates.specs.declared.fault.GroupProblem.TheVariants.{Twice, NoSuchGroup, NoNumber}
 
--- a place among the first, and among all
+-- an index among the first, and among all
 before_by : (b : Bool) (i : ℕ) (first whole : Option ℕ) → ((k : ℕ) → first ≡ Some k → (whole ≡ Some k) × (k < i))
     → (k : ℕ) → cond b (Some 0) (option_map (λ n. n + 1) first) ≡ Some k → (cond b (Some 0) (option_map (λ n. n + 1) whole) ≡ Some k) × (k < suc i)
 before_by true i first whole known k is = let e : 0 ≡ k = cc in (is, omega (arith, e))
@@ -36,10 +36,10 @@ twice groups i group (Some k) within at is some apart =
 
 pub refused_next : (groups : List GroupTable) (users : List UserTable) (i : ℕ) (group : GroupTable) (numbers : BTreeMap (String Global) ℕ) (fault : RowsFault)
     → i < length groups → group ≡ get_or groups i group → AreNumbers (take i groups) numbers → IsFaultOfNext numbers i group.name.now fault → IsFault groups users fault
-refused_next groups users i group numbers (Group place Twice) within at are is =
+refused_next groups users i group numbers (Group header Twice) within at are is =
     twice groups i group (number_by numbers group.name.now) within at (sym (are group.name.now)) is
-refused_next groups users i group numbers (Group place NoNumber) within at are is = inl (omega (arith, within, is))
-refused_next groups users i group numbers (Group place NoSuchGroup) within at are is = absurd is
+refused_next groups users i group numbers (Group header NoNumber) within at are is = inl (omega (arith, within, is))
+refused_next groups users i group numbers (Group header NoSuchGroup) within at are is = absurd is
 refused_next groups users i group numbers Memory within at are is = tt
 
 -- all of the groups were gone through

@@ -1,4 +1,4 @@
--- The numbers of groups: a group's number is its place in the file, from 0.
+-- The numbers of groups: a group's number is how many stand before it in the file.
 use Rattle.std.specs.Prelude.{◌≡◌, ◌≢◌, ◌≤◌, ◌<◌, ◌^◌, ◌⊎◌, ℕ, ◌+◌, List, [], ◌∷◌, cond, length, bytes_eq, get_or, Option, Some, None, option_map, String}
 use Rattle.std.specs.Borrow.{Bor}
 use Rattle.std.specs.List.{AllByRecursion}
@@ -49,24 +49,24 @@ IsProblem groups users NoSuchGroup = AreGrouped groups users → ⊥
 IsProblem groups users NoNumber = (2 ^ 32 < length groups) ⊎ (2 ^ 32 < length users)
 
 abbrev pub IsFault : List GroupTable → List UserTable → RowsFault → Type 0
-IsFault groups users (Group place problem) = IsProblem groups users problem
+IsFault groups users (Group header problem) = IsProblem groups users problem
 IsFault groups users Memory = Unit {0}
 
--- the same of the group at a place, by the numbers of those before it
+-- the same of the group at an index, by the numbers of those before it
 abbrev pub IsFaultOfNext : BTreeMap (String Global) ℕ → ℕ → List ℕ → RowsFault → Type 0
-IsFaultOfNext numbers index name (Group place Twice) = number_by numbers name ≢ None
-IsFaultOfNext numbers index name (Group place NoNumber) = 2 ^ 32 ≤ index
-IsFaultOfNext numbers index name (Group place NoSuchGroup) = ⊥
+IsFaultOfNext numbers index name (Group header Twice) = number_by numbers name ≢ None
+IsFaultOfNext numbers index name (Group header NoNumber) = 2 ^ 32 ≤ index
+IsFaultOfNext numbers index name (Group header NoSuchGroup) = ⊥
 IsFaultOfNext numbers index name Memory = Unit {0}
 
--- the same of the user at a place
+-- the same of the user at an index
 abbrev pub IsFaultOfUser : List GroupTable → ℕ → Option (Bor (List ℕ)) → RowsFault → Type 0
-IsFaultOfUser groups index name (Group place NoSuchGroup) = HasGroup groups name → ⊥
-IsFaultOfUser groups index name (Group place NoNumber) = 2 ^ 32 ≤ index
-IsFaultOfUser groups index name (Group place Twice) = ⊥
+IsFaultOfUser groups index name (Group header NoSuchGroup) = HasGroup groups name → ⊥
+IsFaultOfUser groups index name (Group header NoNumber) = 2 ^ 32 ≤ index
+IsFaultOfUser groups index name (Group header Twice) = ⊥
 IsFaultOfUser groups index name Memory = Unit {0}
 
--- no number is left at a place
+-- no number is left at an index
 abbrev pub IsNoNumber : ℕ → RowsFault → Type 0
-IsNoNumber index (Group place NoNumber) = 2 ^ 32 ≤ index
+IsNoNumber index (Group header NoNumber) = 2 ^ 32 ≤ index
 IsNoNumber index _ = ⊥

@@ -1,6 +1,6 @@
 //! Why rows of rates are not read.
 
-use config_tables::Place;
+use config_tables::Header;
 use std::alloc::{AllocError, AllocFailed};
 use std::fmt;
 
@@ -30,7 +30,7 @@ impl fmt::Display for GroupProblem {
 pub enum RowsFault<'a> {
     /// A group, or a user's group, is at fault.
     Group {
-        place: Place<'a>,
+        header: Header<'a>,
         problem: GroupProblem,
     },
     /// Memory ran out.

@@ -2,12 +2,12 @@
 
 ghost use Rattle.std.specs.Prelude.{◌≡◌, cond, IfErr, IfOk, OnOk, Some, None, ℕ, List, bytes_eq};
 ghost use Rattle.config_rates.specs.declared.fault.RowsFault.TheVariants as RowsFault;
-ghost use Rattle.config_tables.specs.declared.fault.Place.{Place};
+ghost use Rattle.config_tables.specs.declared.fault.Header.{Header};
 ghost use Rattle.config_rates.specs.Groups.{AreNumbers, AreApart, IsFault, IsFaultOfNext, number_by};
 ghost use Rattle.config_tables.specs.declared.stated.UserTable.{UserTable};
 
 use crate::fault::{GroupProblem, RowsFault};
-use config_tables::{GroupTable, Place, TableName};
+use config_tables::{GroupTable, Header, TableName};
 use std::alloc::Global;
 use std::collections::BTreeMap;
 
@@ -21,19 +21,19 @@ pub fn number_of(numbers: &Numbers, name: &str) -> Option<u32>
     numbers.get(name).copied()
 }
 
-/// The fault of a group, whose place in the file counts from 0.
+/// The fault of a group, whose number in the file counts from 0.
 fn fault_of<'a>(index: usize, group: &GroupTable<'a>, problem: GroupProblem) -> RowsFault<'a>
-    ensures problem { (place : Place) × (result ≡ RowsFault.Group place problem) }
+    ensures problem { (header : Header) × (result ≡ RowsFault.Group header problem) }
 {
-    let place = Place {
+    let header = Header {
         table: TableName::Group,
         row: index.saturating_add(1),
         name: Some(group.name),
     };
-    RowsFault::Group { place, problem }
+    RowsFault::Group { header, problem }
 }
 
-/// Numbers the group at a place of the file.
+/// Numbers the group at an index of the file.
 fn number_next<'a>(
     alloc: Global,
     numbers: &mut Numbers,

@@ -5,7 +5,7 @@
 //! let limits = limits_of(&tables.server, rows);
 //! ```
 //!
-//! A group's number is its place in the file, and so is a user's, both from 0.
+//! A group's number is how many groups stand before it in the file, and so is a user's.
 #![tactic(auto)]
 
 mod fault;

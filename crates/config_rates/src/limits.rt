@@ -3,7 +3,7 @@
 ghost use Rattle.std.specs.Prelude.{◌≡◌, List};
 ghost use Rattle.config_tables.specs.declared.stated.GroupTable.{GroupTable};
 ghost use Rattle.config_tables.specs.declared.stated.UserTable.{UserTable};
-ghost use Rattle.config_rates.specs.Rows.{group_rows, user_rows, AreRowsOf};
+ghost use Rattle.config_rates.specs.Rows.{AreRowsOf};
 ghost use Rattle.line_rates.specs.Stated.{stated};
 
 use crate::rows::RateRows;

@@ -4,13 +4,13 @@ ghost use Rattle.std.specs.Prelude.{◌≡◌, IfErr, IfOk, OnOk, List};
 ghost use Rattle.config_tables.specs.declared.stated.GroupTable.{GroupTable};
 ghost use Rattle.config_rates.specs.Groups.{AreGrouped, AreNumbers, AreApart, HasGroup, IsFault, IsFaultOfUser, IsNoNumber, group_in};
 ghost use Rattle.config_rates.specs.declared.fault.RowsFault.TheVariants as RowsFault;
-ghost use Rattle.config_tables.specs.declared.fault.Place.{Place};
+ghost use Rattle.config_tables.specs.declared.fault.Header.{Header};
 ghost use Rattle.config_tables.specs.declared.stated.UserTable.{UserTable};
-ghost use Rattle.config_rates.specs.Rows.{group_row, user_row, group_rows, user_rows};
+ghost use Rattle.config_rates.specs.Rows.{user_row, group_rows, user_rows};
 
 use crate::fault::{GroupProblem, RowsFault};
 use crate::groups::{Numbers, number_groups, number_of};
-use config_tables::{GroupTable, Place, TableName, UserTable};
+use config_tables::{GroupTable, Header, TableName, UserTable};
 use line_rates::{GroupRate, UserRate};
 use std::alloc::Global;
 
@@ -21,24 +21,24 @@ pub struct RateRows {
     pub users: Vec<UserRate>,
 }
 
-/// The fault of a row, whose place among those of its kind counts from 0.
+/// The fault of a row, whose number among those of its kind counts from 0.
 fn fault_of<'a>(
     table: TableName,
     index: usize,
     name: &'a str,
     problem: GroupProblem,
 ) -> RowsFault<'a>
-    ensures problem { (place : Place) × (result ≡ RowsFault.Group place problem) }
+    ensures problem { (header : Header) × (result ≡ RowsFault.Group header problem) }
 {
-    let place = Place {
+    let header = Header {
         table,
         row: index.saturating_add(1),
         name: Some(name),
     };
-    RowsFault::Group { place, problem }
+    RowsFault::Group { header, problem }
 }
 
-/// The number of the row at a place of the file.
+/// The number of the row at an index of the file.
 fn row_number<'a>(table: TableName, index: usize, name: &'a str) -> Result<u32, RowsFault<'a>>
     ensures number { IfOk result (λ number. number ≡ index) }
     ensures refused { IfErr result (IsNoNumber index) }
@@ -89,7 +89,7 @@ fn group_of<'a>(
     }
 }
 
-/// The row of a user, at a place of the file.
+/// The row of a user, at an index of the file.
 fn read_user<'a>(
     numbers: &Numbers,
     index: usize,

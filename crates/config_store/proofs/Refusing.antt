@@ -2,6 +2,7 @@
 use Rattle.std.proofs.Common.{◌≡◌, ◌≢◌, ℕ, ◌<◌, List, length, take, get_or, Some, Result, Ok, Err, IfErr, refl, sym, ap, subst, ◌∙◌, inr}
 use Rattle.std.proofs.lemmas.Option.{slice_get-get_or}
 use Rattle.std.specs.Io.KnownBytes.{Appends}
+use Rattle.memory_terms.specs.Lack.{Unless}
 use Rattle.memory_store.specs.InMemory.{Memory, Upload, InMemory, target_of}
 use Rattle.virtual_path.specs.Path.{Path}
 use Rattle.virtual_tree.specs.Calls.Exchange.{OpenWrite, Finish}
@@ -13,7 +14,7 @@ use Rattle.config_store.specs.declared.fault.StoreFaultAt.TheVariants as fault
 use Rattle.config_store.specs.declared.fault.StoreProblem.{StoreProblem}
 
 pub told_more : (First Second : StoreProblem → Type 0) → ((told : StoreProblem) → First told → Second told) → (answer : StoreFaultAt) → Tells First answer → Tells Second answer
-told_more First Second more (fault.Refused place told) is = more told is
+told_more First Second more (fault.Refused header told) is = more told is
 told_more First Second more fault.Memory is = tt
 
 pub row_refused : {R : Type 0} (Makes : R → Memory → Memory → Type 0) (Refuses : R → Memory → StoreProblem → Type 0) (rows : List R) (i : ℕ) (row other : R) (old mid : Memory)
@@ -22,7 +23,7 @@ pub row_refused : {R : Type 0} (Makes : R → Memory → Memory → Type 0) (Ref
 row_refused Makes Refuses rows i row other old mid problem answer within at before is =
     told_more (λ told. told ≡ problem) (IsRefusedRow Makes Refuses rows old)
     (λ told same. record {
-      place = i;
+      index = i;
       row = row;
       mid = mid;
       stands = slice_get-get_or rows i other within ∙ ap (λ r. Some r) (sym at);
@@ -33,7 +34,7 @@ row_refused Makes Refuses rows i row other old mid problem answer within at befo
 -- a text that was written, and whose file was not finished
 pub not_filled : (path : Path) (text written : List ℕ) (moment : ℕ) (old opened new : Memory) (given brought : Upload) (answer : Result (Unit {0}) StoreFault) → written ≡ text
     → InMemory old (OpenWrite path New moment (Ok given)) opened → Some (target_of brought) ≡ Some (target_of given) → Appends (Some given.octets) (Some brought.octets) written
-    → InMemory opened (Finish brought moment answer) new → IfErr answer (λ fault. fault ≢ StoreFault.Memory → IsNotFilled path text moment old fault)
+    → InMemory opened (Finish brought moment answer) new → IfErr answer (Unless StoreFault.Memory (IsNotFilled path text moment old))
 not_filled path text written moment old opened new given brought (Ok done) same opens target appends finishes = tt
 not_filled path text written moment old opened new given brought (Err fault) same opens target appends finishes = λ _.
     inr (opened, new, given, brought, opens, (brought, target, subst (λ t. Appends (Some given.octets) (Some brought.octets) t) same appends, refl), finishes)

@@ -3,6 +3,7 @@
 use Rattle.std.specs.Prelude.{◌≡◌, ◌≢◌, ◌<◌, ◌≤◌, ◌⊎◌, ℕ, ◌*◌, List, [], ◌∷◌, take, slice_get, Some, Ok, Err, codes}
 use Rattle.std.specs.FinMap as map
 use Rattle.std.specs.String.{string_bytes}
+use Rattle.memory_terms.specs.Lack.{Unless}
 use Rattle.virtual_path.specs.Path.{Path, resolved}
 use Rattle.virtual_path.specs.declared.fault.PathFault.TheVariants as PathFault
 use Rattle.virtual_tree.specs.Calls.{Writes}
@@ -55,15 +56,15 @@ IsStoreOf server dirs files (served.Folder text) = (server.root.now ≢ codes "m
 
 -- the text names no path
 abbrev pub IsPathProblem : List ℕ → StoreProblem → Type 0
-IsPathProblem text (problem.Path fault) = fault ≢ PathFault.Memory → resolved [] text ≡ Err fault
+IsPathProblem text (problem.Path fault) = Unless PathFault.Memory (λ why. resolved [] text ≡ Err why) fault
 IsPathProblem text _ = ⊥
 
 -- the text names no path, or the store refuses to make the directory
 abbrev pub IsDirProblem : DirTable → Memory → StoreProblem → Type 0
 IsDirProblem dir old problem.EmptyRange = ⊥
-IsDirProblem dir old (problem.Path fault) = fault ≢ PathFault.Memory → resolved [] dir.path.now ≡ Err fault
-IsDirProblem dir old (problem.Store fault) = fault ≢ StoreFault.Memory
-    → (path : Path) × (after : Memory) × (resolved [] dir.path.now ≡ Ok path) × InMemory old (MakeDir path (Err fault)) after
+IsDirProblem dir old (problem.Path fault) = IsPathProblem dir.path.now (problem.Path fault)
+IsDirProblem dir old (problem.Store fault) = Unless StoreFault.Memory (λ why.
+    (path : Path) × (after : Memory) × (resolved [] dir.path.now ≡ Ok path) × InMemory old (MakeDir path (Err why)) after) fault
 
 -- the file is not opened; or it is, and it is not finished
 abbrev pub IsNotFilled : Path → List ℕ → ℕ → Memory → StoreFault → Type 0
@@ -76,17 +77,17 @@ IsNotFilled path text moment old fault =
 -- the text names no path, or the store refuses to make the file
 abbrev pub IsFileProblem : FileTable → Memory → StoreProblem → Type 0
 IsFileProblem file old problem.EmptyRange = ⊥
-IsFileProblem file old (problem.Path fault) = fault ≢ PathFault.Memory → resolved [] file.path.now ≡ Err fault
-IsFileProblem file old (problem.Store fault) = fault ≢ StoreFault.Memory
-    → (path : Path) × (resolved [] file.path.now ≡ Ok path) × IsNotFilled path file.text.now (file.modified * 1000) old fault
+IsFileProblem file old (problem.Path fault) = IsPathProblem file.path.now (problem.Path fault)
+IsFileProblem file old (problem.Store fault) = Unless StoreFault.Memory (λ why.
+    (path : Path) × (resolved [] file.path.now ≡ Ok path) × IsNotFilled path file.text.now (file.modified * 1000) old why) fault
 
 -- the rows before one are made, and that one is refused
 pub record IsRefusedRow {R : Type 0} (Makes : R → Memory → Memory → Type 0) (Refuses : R → Memory → StoreProblem → Type 0) (rows : List R) (old : Memory) (problem : StoreProblem) : Type 0 where
-  pub place : ℕ
+  pub index : ℕ
   pub row : R
   pub mid : Memory
-  pub stands : slice_get rows place ≡ Some row
-  pub before : MakesAll Makes (take place rows) old mid
+  pub stands : slice_get rows index ≡ Some row
+  pub before : MakesAll Makes (take index rows) old mid
   pub refused : Refuses row mid problem
 
 -- a directory is refused, or else a file is
@@ -103,5 +104,5 @@ IsStoreProblem server dirs files told =
 
 -- the problem is told, unless memory ran out
 abbrev pub Tells : (StoreProblem → Type 0) → StoreFaultAt → Type 0
-Tells Refuses (fault.Refused place told) = Refuses told
+Tells Refuses (fault.Refused header told) = Refuses told
 Tells Refuses fault.Memory = Unit {0}

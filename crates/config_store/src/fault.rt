@@ -1,6 +1,6 @@
 //! Why a store is not made.
 
-use config_tables::Place;
+use config_tables::Header;
 use std::alloc::AllocError;
 use std::fmt;
 use virtual_path::PathFault;
@@ -32,7 +32,7 @@ impl fmt::Display for StoreProblem {
 pub enum StoreFaultAt<'a> {
     /// A row, or the range of ports, is at fault.
     Refused {
-        place: Place<'a>,
+        header: Header<'a>,
         problem: StoreProblem,
     },
     /// Memory ran out.

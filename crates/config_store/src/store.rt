@@ -1,6 +1,7 @@
 //! A store with the directories and files of a configuration.
 
-ghost use Rattle.std.specs.Prelude.{◌≡◌, ◌≢◌, ◌≤◌, [], Err, IfErr, IfOk, OnOk, Ok};
+ghost use Rattle.std.specs.Prelude.{◌≡◌, ◌≤◌, [], Err, IfErr, IfOk, OnOk, Ok};
+ghost use Rattle.memory_terms.specs.Lack.{Unless};
 ghost use Rattle.virtual_path.specs.Path.{resolved};
 ghost use Rattle.config_store.specs.Made.{MakesDir, MakesFile, MakesAll, IsFilled, IsStoreOf};
 ghost use Rattle.config_store.specs.Made.{IsDirProblem, IsFileProblem, IsNotFilled, IsRefusedRow, IsStoreProblem, Tells, IsPathProblem};
@@ -8,7 +9,7 @@ ghost use Rattle.virtual_tree.specs.declared.fault.StoreFault.TheVariants as Sto
 
 use crate::fault::{StoreFaultAt, StoreProblem};
 use config_server::ServerTable;
-use config_tables::{DirTable, FileTable, Place, TableName};
+use config_tables::{DirTable, FileTable, Header, TableName};
 use memory_store::MemStore;
 use std::alloc::Global;
 use virtual_path::{PathFault, VPath};
@@ -49,8 +50,8 @@ fn make_dir(alloc: Global, store: &mut MemStore, dir: &DirTable) -> Result<(), S
 /// Puts a text into a file at a moment, in milliseconds since 1970.
 fn put_text(store: &mut MemStore, path: &VPath, text: &str, moment: u64) -> Result<(), StoreFault>
     ensures filled { OnOk result (IsFilled path.now text.now moment store.old store.new) }
-    ensures refused { IfErr result (λ fault. fault ≢ StoreFault.Memory
-        → IsNotFilled path.now text.now moment store.old fault) }
+    ensures refused { IfErr result (Unless StoreFault.Memory
+        (IsNotFilled path.now text.now moment store.old)) }
 {
     let mut sink = store.open_write(path, WriteMode::New, moment)?;
     sink.write(text.as_bytes())?;
@@ -68,7 +69,7 @@ fn make_file(alloc: Global, store: &mut MemStore, file: &FileTable) -> Result<()
     }
 }
 
-/// The refusal of a row, whose place among those of its kind counts from 0.
+/// The refusal of a row, whose number among those of its kind counts from 0.
 fn refused<'a>(table: TableName, index: usize, problem: StoreProblem) -> StoreFaultAt<'a>
     ensures told { Tells (λ told. told ≡ problem) result }
 {
@@ -77,12 +78,12 @@ fn refused<'a>(table: TableName, index: usize, problem: StoreProblem) -> StoreFa
             StoreFaultAt::Memory
         }
         _ => {
-            let place = Place {
+            let header = Header {
                 table,
                 row: index.saturating_add(1),
                 name: None,
             };
-            StoreFaultAt::Refused { place, problem }
+            StoreFaultAt::Refused { header, problem }
         }
     }
 }
@@ -136,13 +137,13 @@ pub fn make_store<'a>(
     ensures refused { IfErr result (Tells (IsStoreProblem server.now dirs.now files.now)) }
 {
     if server.passive_last < server.passive_first {
-        let place = Place {
+        let header = Header {
             table: TableName::Server,
             row: 0,
             name: None,
         };
         let problem = StoreProblem::EmptyRange;
-        return Err(StoreFaultAt::Refused { place, problem });
+        return Err(StoreFaultAt::Refused { header, problem });
     }
     if server.root != "memory" {
         let folder = String::from_str(alloc, server.root)?;

@@ -30,9 +30,9 @@ impl fmt::Display for TableName {
     }
 }
 
-/// A table of a file.
+/// The header that a table of a file stands under.
 #[derive(Clone, Copy, Debug)]
-pub struct Place<'a> {
+pub struct Header<'a> {
     pub table: TableName,
     /// The number of the row among those of its list, from 1; 0 for a table that is no row.
     pub row: usize,
@@ -45,7 +45,7 @@ pub struct Place<'a> {
 pub enum TableFault<'a> {
     /// A key is at fault.
     Key {
-        place: Place<'a>,
+        header: Header<'a>,
         fault: KeyFault<'a>,
     },
     /// Memory ran out.

@@ -7,7 +7,7 @@
 //! let document = toml::table_from_slice(alloc, octets)?;
 //! match read_tables(alloc, &document) {
 //!     Ok(tables) => println!(rt; "port {}", tables.server.port)?,
-//!     Err(TableFault::Key { place, fault }) => eprintln!(rt; "{}: {}: {}", place.table, fault.key, fault.problem)?,
+//!     Err(TableFault::Key { header, fault }) => eprintln!(rt; "{}: {}: {}", header.table, fault.key, fault.problem)?,
 //!     Err(TableFault::Memory) => eprintln!(rt; "out of memory")?,
 //! }
 //! ```
@@ -25,6 +25,6 @@ mod tables;
 mod users;
 mod world;
 
-pub use fault::{Place, TableFault, TableName};
+pub use fault::{Header, TableFault, TableName};
 pub use stated::{DirTable, FileTable, GroupTable, OverrideTable, UserTable};
 pub use tables::{LATEST_VERSION, Tables, read_tables};

@@ -1,12 +1,13 @@
 //! Lists of tables.
 
-ghost use Rattle.std.specs.Prelude.{◌≢◌, IfOk, IfErr, OnErr, map};
+ghost use Rattle.std.specs.Prelude.{IfOk, IfErr, OnErr, map};
+ghost use Rattle.memory_terms.specs.Lack.{Unless};
 ghost use Rattle.toml.specs.Data.{Members};
 ghost use Rattle.toml.specs.View.{view, table_view, items_view};
 ghost use Rattle.config_tables.specs.Rows.{IsRow, IsNone, AreRows, AreNone};
 ghost use Rattle.config_tables.specs.declared.fault.TableFault.TheVariants as TableFault;
 
-use crate::fault::{Place, TableFault, TableName};
+use crate::fault::{Header, TableFault, TableName};
 use config_keys::{KeyFault, only_known, row_at};
 use std::alloc::Global;
 use toml::{Table, Value};
@@ -58,8 +59,8 @@ pub fn read_rows<'a, R: Row<'a>>(
 ) -> Result<Vec<R>, TableFault<'a>>
     ensures rows { IfOk result
         (λ found. AreRows R.States (map (λ s. s.now) known.now) (items_view rows.now) found.items) }
-    ensures refused { IfErr result (λ fault. fault ≢ TableFault.Memory
-        → AreNone R.States (map (λ s. s.now) known.now) (items_view rows.now)) }
+    ensures refused { IfErr result (Unless TableFault.Memory
+        (λ _. AreNone R.States (map (λ s. s.now) known.now) (items_view rows.now))) }
 {
     let mut found = Vec::new(alloc);
     for (index, value) in rows.iter().enumerate() {
@@ -71,12 +72,12 @@ pub fn read_rows<'a, R: Row<'a>>(
             }
             Err(fault) => {
                 let name = owner.or(name_in(value));
-                let place = Place {
+                let header = Header {
                     table,
                     row: index.saturating_add(1),
                     name,
                 };
-                return Err(TableFault::Key { place, fault });
+                return Err(TableFault::Key { header, fault });
             }
         }
     }

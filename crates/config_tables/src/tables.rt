@@ -1,12 +1,13 @@
 //! All tables of a file.
 
-ghost use Rattle.std.specs.Prelude.{◌≡◌, ◌≢◌, IfOk, IfErr, OnErr, map};
+ghost use Rattle.std.specs.Prelude.{◌≡◌, IfOk, IfErr, OnErr, map};
+ghost use Rattle.memory_terms.specs.Lack.{Unless};
 ghost use Rattle.toml.specs.View.{table_view};
 ghost use Rattle.config_tables.specs.Users.{user_keys};
 ghost use Rattle.config_tables.specs.Tables.{is_grouped, top_keys, IsTop, IsTables, AreNoTables, AreNoOverrides, AreOverrides};
 ghost use Rattle.config_tables.specs.declared.fault.TableFault.TheVariants as TableFault;
 
-use crate::fault::{Place, TableFault, TableName};
+use crate::fault::{Header, TableFault, TableName};
 use crate::rows::read_rows;
 use crate::stated::{DirTable, FileTable, GroupTable, OverrideTable, UserTable};
 use config_keys::{KeyFault, number_at, only_known, rows_at, table_at};
@@ -117,12 +118,12 @@ fn read_top<'a>(document: &'a Table, grouped: bool) -> Result<Top<'a>, KeyFault<
 
 /// The fault of a table that is no row.
 fn fault_of(table: TableName, fault: KeyFault<'_>) -> TableFault<'_> {
-    let place = Place {
+    let header = Header {
         table,
         row: 0,
         name: None,
     };
-    TableFault::Key { place, fault }
+    TableFault::Key { header, fault }
 }
 
 fn read_overrides<'a>(
@@ -130,7 +131,7 @@ fn read_overrides<'a>(
     users: &[UserTable<'a>],
 ) -> Result<Vec<Vec<OverrideTable<'a>>>, TableFault<'a>>
     ensures overrides { IfOk result (λ found. AreOverrides users.now found.items) }
-    ensures refused { IfErr result (λ fault. fault ≢ TableFault.Memory → AreNoOverrides users.now) }
+    ensures refused { IfErr result (Unless TableFault.Memory (λ _. AreNoOverrides users.now)) }
 {
     let mut found = Vec::new(alloc);
     for user in users {
@@ -153,8 +154,8 @@ fn read_overrides<'a>(
 #[tactic(auto, using(crate::proofs::NoTables::no_server, crate::proofs::NoTables::no_users, crate::proofs::NoTables::no_overrides,))]
 pub fn read_tables<'a>(alloc: Global, document: &'a Table) -> Result<Tables<'a>, TableFault<'a>>
     ensures tables { IfOk result (IsTables (table_view document.now)) }
-    ensures refused { IfErr result (λ fault. fault ≢ TableFault.Memory
-        → AreNoTables (table_view document.now)) }
+    ensures refused { IfErr result (Unless TableFault.Memory
+        (λ _. AreNoTables (table_view document.now))) }
 {
     let grouped = is_grouped(document);
     let top = match read_top(document, grouped) {

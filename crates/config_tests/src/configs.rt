@@ -80,7 +80,7 @@ fn expect_file<S: Store<Global>>(
 /// The configuration is that of the small file, but for its store.
 fn expect_small(rt: &impl Abort, config: &Config) {
     let Config {
-        terms,
+        settings,
         numbers,
         users,
         store: _,
@@ -100,11 +100,11 @@ fn expect_small(rt: &impl Abort, config: &Config) {
     );
     holds(
         rt,
-        terms.banner.as_str() == "Ready" && terms.login_attempts == 3,
+        settings.banner.as_str() == "Ready" && settings.login_attempts == 3,
     );
     holds(
         rt,
-        terms.address == [127, 0, 0, 1] && numbers.address == [127, 0, 0, 1],
+        settings.address == [127, 0, 0, 1] && numbers.address == [127, 0, 0, 1],
     );
     holds(rt, numbers.port == 2121 && numbers.lanes == 16);
     holds(
@@ -156,7 +156,7 @@ fn expect_limits(rt: &impl Abort, limits: &Limits) {
 
 fn expect_grouped(rt: &impl Abort, config: &Config) {
     let Config {
-        terms,
+        settings,
         numbers,
         users,
         store,
@@ -173,7 +173,7 @@ fn expect_grouped(rt: &impl Abort, config: &Config) {
     );
     holds(
         rt,
-        terms.address == [203, 0, 113, 7] && numbers.address == [0, 0, 0, 0],
+        settings.address == [203, 0, 113, 7] && numbers.address == [0, 0, 0, 0],
     );
     holds(
         rt,

@@ -107,7 +107,7 @@ fn expect_letters(rt: &(impl Abort + Alloc<A = Global>), users: &Authorizer) -> 
 
 fn expect_office(rt: &impl Abort, config: &Config) {
     let Config {
-        terms: _,
+        settings: _,
         numbers,
         users,
         store: _,
@@ -144,7 +144,7 @@ fn an_office_in_the_latest_version(rt: HostRuntime) -> Result<(), Fail> {
 
 fn expect_public(rt: &(impl Abort + Alloc<A = Global>), config: &Config) {
     let Config {
-        terms,
+        settings,
         numbers,
         users,
         store,
@@ -156,7 +156,10 @@ fn expect_public(rt: &(impl Abort + Alloc<A = Global>), config: &Config) {
         users.check_password("anonymous", "x")
             && !users.has_perm("anonymous", Letter::Store, &root),
     );
-    holds(rt, terms.address == [203, 0, 113, 7] && numbers.lanes == 64);
+    holds(
+        rt,
+        settings.address == [203, 0, 113, 7] && numbers.lanes == 64,
+    );
     holds(rt, matches!(store, ServedStore::Folder(_)));
 }
 

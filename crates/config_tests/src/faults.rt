@@ -50,10 +50,10 @@ fn expect(rt: &(impl Abort + Alloc<A = Global>), text: &str, at: At, problem: Pr
     let told = match read_tables(rt.alloc(), &document) {
         Ok(_) => false,
         Err(TableFault::Memory) => false,
-        Err(TableFault::Key { place, fault }) => {
-            place.table == at.table
-                && place.row == at.row
-                && place.name == at.name
+        Err(TableFault::Key { header, fault }) => {
+            header.table == at.table
+                && header.row == at.row
+                && header.name == at.name
                 && fault.key == at.key
                 && fault.problem == problem
         }

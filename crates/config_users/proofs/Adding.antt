@@ -1,5 +1,5 @@
 -- Users and overrides that are added one after another.
-use Rattle.std.proofs.Common.{◌≡◌, ℕ, Option, Result, Err, OnOk, zero, suc, ◌+◌, ◌<◌, List, [], ◌∷◌, ◌++◌, length, take, get_or, Ok, Vec, Global, refl, sym, ap, subst, ◌∙◌, arith}
+use Rattle.std.proofs.Common.{◌≡◌, ℕ, Option, Result, Err, MatchResult, OnOk, zero, suc, ◌+◌, ◌<◌, List, [], ◌∷◌, ◌++◌, length, take, get_or, Ok, Vec, Global, refl, sym, ap, subst, ◌∙◌, arith}
 use Rattle.std.proofs.lemmas.List.{take_more}
 use Rattle.authorizer.specs.Changes.{added, with_messages, with_group}
 use Rattle.authorizer.specs.declared.fault.AuthorizerFault.{AuthorizerFault}
@@ -28,10 +28,15 @@ rules-next name rules i rule other old mid new within at before is =
 
 -- ---- users
 
+-- a user is put into a group, or that is refused
+abbrev pub GroupIsSet : Option ℕ → UserTable → Accounts → Result (Unit {0}) AuthorizerFault → Accounts → Type 0
+GroupIsSet group user old answer new =
+    MatchResult answer (λ _. with_group old user.name.now group ≡ Ok new) (λ fault. (new ≡ old) × (with_group old user.name.now group ≡ Err fault))
+
 -- a user who was added, greeted and put into a group
 pub account : (group : Option ℕ) (user : UserTable) (old named greeted new : Accounts) (answer : Result (Unit {0}) AuthorizerFault)
     → added old user.name.now user.password.now user.home.now user.perms.now ≡ Ok named → with_messages named user.name.now user.msg_login.now user.msg_quit.now ≡ Ok greeted
-    → OnOk answer (with_group greeted user.name.now group ≡ Ok new) → OnOk answer (AddsAccount group user old new)
+    → GroupIsSet group user greeted answer new → OnOk answer (AddsAccount group user old new)
 account group user old named greeted new (Ok done) is_named is_greeted is_grouped =
     record { named = named; greeted = greeted; is_named = is_named; is_greeted = is_greeted; is_grouped = is_grouped }
 account group user old named greeted new (Err fault) is_named is_greeted is_grouped = tt

@@ -44,11 +44,11 @@ AddsUsers groups _ _ old new = ⊥
 
 -- the overrides before one are made, and that one is refused
 pub record IsRefusedRule (name : List ℕ) (rules : List OverrideTable) (old : Accounts) (fault : AuthorizerFault) : Type 0 where
-  pub place : ℕ
+  pub index : ℕ
   pub rule : OverrideTable
   pub mid : Accounts
-  pub stands : slice_get rules place ≡ Some rule
-  pub before : AddsRules name (take place rules) old mid
+  pub stands : slice_get rules index ≡ Some rule
+  pub before : AddsRules name (take index rules) old mid
   pub refused : overridden mid name rule.path.now rule.perms.now rule.recursive ≡ Err fault
 
 -- a user is refused; or else the messages are; or else the group is
@@ -67,16 +67,16 @@ IsRefusedUser group user rules old fault =
 
 -- the users before one are added, and that one is refused
 pub record IsFirstRefusal (groups : List GroupTable) (users : List UserTable) (overrides : List (Vec OverrideTable Global)) (fault : AuthorizerFault) : Type 0 where
-  pub place : ℕ
+  pub index : ℕ
   pub user : UserTable
   pub rules : Vec OverrideTable Global
   pub mid : Accounts
-  pub stands : slice_get users place ≡ Some user
-  pub has : slice_get overrides place ≡ Some rules
-  pub before : AddsUsers groups (take place users) (take place overrides) no_users mid
+  pub stands : slice_get users index ≡ Some user
+  pub has : slice_get overrides index ≡ Some rules
+  pub before : AddsUsers groups (take index users) (take index overrides) no_users mid
   pub refused : IsRefusedUser (group_in groups user.group) user rules.items mid fault
 
 -- the refusal of the authorizer is told, unless memory ran out
 abbrev pub Tells : (AuthorizerFault → Type 0) → UsersFault → Type 0
-Tells Refuses (Refused place fault) = Refuses fault
+Tells Refuses (Refused header fault) = Refuses fault
 Tells Refuses Memory = Unit {0}

@@ -1,7 +1,7 @@
 //! Why users are not added.
 
 use authorizer::AuthorizerFault;
-use config_tables::Place;
+use config_tables::Header;
 use std::alloc::AllocError;
 
 /// Why users are not added.
@@ -9,7 +9,7 @@ use std::alloc::AllocError;
 pub enum UsersFault<'a> {
     /// The authorizer refuses a user, or an override of theirs.
     Refused {
-        place: Place<'a>,
+        header: Header<'a>,
         fault: AuthorizerFault,
     },
     /// Memory ran out.

@@ -1,6 +1,7 @@
 //! An authorizer with the users of a file.
 
 ghost use Rattle.std.specs.Prelude.{◌≡◌, ◌≢◌, Err, IfErr, IfOk, OnOk, List, length};
+ghost use Rattle.memory_terms.specs.Lack.{Unless};
 ghost use Rattle.authorizer.specs.Numbers.{no_users};
 ghost use Rattle.config_rates.specs.Rows.{user_rows};
 ghost use Rattle.config_tables.specs.declared.stated.GroupTable.{GroupTable};
@@ -11,11 +12,11 @@ ghost use Rattle.authorizer.specs.Changes.{overridden};
 
 use crate::fault::UsersFault;
 use authorizer::{Authorizer, AuthorizerFault};
-use config_tables::{OverrideTable, Place, TableName, UserTable};
+use config_tables::{Header, OverrideTable, TableName, UserTable};
 use line_rates::UserRate;
 use std::alloc::Global;
 
-/// The refusal of a row, whose place among those of its kind counts from 0.
+/// The refusal of a row, whose number among those of its kind counts from 0.
 fn refused<'a>(
     table: TableName,
     index: usize,
@@ -27,12 +28,12 @@ fn refused<'a>(
     if fault == AuthorizerFault::Memory {
         return UsersFault::Memory;
     }
-    let place = Place {
+    let header = Header {
         table,
         row: index.saturating_add(1),
         name: Some(name),
     };
-    UsersFault::Refused { place, fault }
+    UsersFault::Refused { header, fault }
 }
 
 /// Adds a user with their messages and their group, and no override yet.
@@ -42,8 +43,8 @@ fn add_account(
     group: Option<u32>,
 ) -> Result<(), AuthorizerFault>
     ensures account { OnOk result (AddsAccount group user.now users.old users.new) }
-    ensures refused { IfErr result (λ fault. fault ≢ AuthorizerFault.Memory
-        → IsRefusedAccount group user.now users.old fault) }
+    ensures refused { IfErr result (Unless AuthorizerFault.Memory
+        (IsRefusedAccount group user.now users.old)) }
 {
     users.add_user(user.name, user.password, user.home, user.perms)?;
     users.set_messages(user.name, user.msg_login, user.msg_quit)?;
@@ -52,9 +53,9 @@ fn add_account(
 
 fn add_rule(users: &mut Authorizer, name: &str, rule: &OverrideTable) -> Result<(), AuthorizerFault>
     ensures rule { OnOk result (AddsRule name.now rule.now users.old users.new) }
-    ensures refused { IfErr result (λ fault. fault ≢ AuthorizerFault.Memory
-        → overridden users.old name.now rule.now.path.now rule.now.perms.now rule.now.recursive
-        ≡ Err fault) }
+    ensures refused { IfErr result (Unless AuthorizerFault.Memory (λ fault.
+        overridden users.old name.now rule.now.path.now rule.now.perms.now rule.now.recursive
+        ≡ Err fault)) }
 {
     users.override_perm(name, rule.path, rule.perms, rule.recursive)
 }
@@ -77,7 +78,7 @@ fn add_rules<'a>(
     Ok(())
 }
 
-/// Adds a user, who stands at a place of the file, with all that is theirs.
+/// Adds a user, who stands at an index of the file, with all that is theirs.
 fn add_user<'a>(
     users: &mut Authorizer,
     index: usize,

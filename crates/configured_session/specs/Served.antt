@@ -10,21 +10,10 @@ use Rattle.script_session.specs.Scripts.{AnswersScript, IsFirst, home_address}
 use Rattle.script_session.specs.declared.side.ScriptSide.{ScriptSide}
 use Rattle.authorizer.specs.Users.{Users}
 use Rattle.server_config.specs.declared.config.Config.{Config}
-use Rattle.server_config.specs.declared.settings.SessionTerms.{SessionTerms}
 use Rattle.session_table.specs.declared.settings.Settings.{Settings}
 use Rattle.text_ends.specs.Parts.{AppendsPart}
 use Rattle.configured_session.specs.declared.fault.ServeFault.{ServeFault}
 use Rattle.configured_session.specs.declared.fault.ServeFault.TheVariants.{Folder, Control}
-
--- what a configuration sets for its sessions
-abbrev pub settings_of : SessionTerms → Settings Global
-settings_of terms = record {
-  banner = terms.banner;
-  login_attempts = terms.login_attempts;
-  permits_foreign_addresses = terms.permits_foreign_addresses;
-  permits_privileged_ports = terms.permits_privileged_ports;
-  address = terms.address;
-}
 
 -- a whole session over a store, from floors of these rates with no session counted; old and new are what is left to be
 -- read, out and out' what was written
@@ -52,4 +41,4 @@ InStore Holds config = (store : Memory) × (config.store ≡ served.Memory store
 abbrev pub IsUnserved : Config → Option (List ℕ) → Option (List ℕ) → Option (List ℕ) → Option (List ℕ) → ServeFault → Type 0
 IsUnserved config old new out out' Folder = ((text : String Global) × (config.store ≡ served.Folder text)) × (new ≡ old) × (out' ≡ out)
 IsUnserved config old new out out' (Control why) =
-    InStore (λ store. IsBrokenBy config.users.users config.limits store (settings_of config.terms) config.numbers.passive_first old new out out') config
+    InStore (λ store. IsBrokenBy config.users.users config.limits store config.settings config.numbers.passive_first old new out out') config

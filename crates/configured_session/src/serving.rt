@@ -3,7 +3,7 @@
 ghost use Rattle.std.specs.Prelude.{◌≡◌, Err, IfErr, Ok, OnErr, OnOk};
 ghost use Rattle.control_session.specs.declared.fault.ControlFault.{ControlFault};
 ghost use Rattle.configured_session.specs.declared.fault.ServeFault.TheVariants as ServeFault;
-ghost use Rattle.configured_session.specs.Served.{InStore, IsBrokenBy, IsServedBy, IsUnserved, settings_of};
+ghost use Rattle.configured_session.specs.Served.{InStore, IsBrokenBy, IsServedBy, IsUnserved};
 
 use crate::fault::ServeFault;
 use authorizer::Authorizer;
@@ -13,23 +13,10 @@ use line_rates::Limits;
 use memory_store::MemStore;
 use rate_floors::Floors;
 use script_session::serve_text;
-use server_config::{Config, SessionTerms};
+use server_config::Config;
 use session_table::Settings;
 use std::alloc::Global;
 use text_ends::{TextReader, TextWriter};
-
-/// What a configuration sets for its sessions.
-fn settings_of(terms: SessionTerms) -> Settings
-    ensures settings { result ≡ settings_of terms }
-{
-    Settings {
-        banner: terms.banner,
-        login_attempts: terms.login_attempts,
-        permits_foreign_addresses: terms.permits_foreign_addresses,
-        permits_privileged_ports: terms.permits_privileged_ports,
-        address: terms.address,
-    }
-}
 
 /// A session over a store in memory, which is then forgotten.
 fn serve_memory<R: TextReader, W: TextWriter>(
@@ -84,7 +71,7 @@ pub fn serve_config<R: TextReader, W: TextWriter>(
     writer: &mut W,
 ) -> Result<(), ServeFault>
     ensures served { OnOk result (InStore
-        (λ store. IsServedBy config.users.users config.limits store (settings_of config.terms)
+        (λ store. IsServedBy config.users.users config.limits store config.settings
         config.numbers.passive_first
         (R.remaining reader.old) (R.remaining reader.new)
         (W.contents writer.old) (W.contents writer.new)) config) }
@@ -93,13 +80,12 @@ pub fn serve_config<R: TextReader, W: TextWriter>(
         (W.contents writer.old) (W.contents writer.new)) }
 {
     let Config {
-        terms,
+        settings,
         numbers,
         users,
         store,
         limits,
     } = config;
-    let settings = settings_of(terms);
     let port = numbers.passive_first;
     match store {
         ServedStore::Folder(_folder) => Err(ServeFault::Folder),

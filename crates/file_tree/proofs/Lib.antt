@@ -1,4 +1,4 @@
 pub mod Listings
 pub mod Moves
-pub mod Places
+pub mod Spots
 pub mod Trees

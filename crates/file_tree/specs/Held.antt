@@ -17,6 +17,6 @@ abbrev pub shared : {A B : Type 0} → Arc (Vec ℕ A) B → List ℕ
 shared octets = (arc_value octets).items
 
 -- what is kept of an entry's path: the text of its directory, `/` before each name, and its own name
-pub record IsPlaceText (directory name : List ℕ) : Type 0 where
+pub record IsSpotText (directory name : List ℕ) : Type 0 where
   pub slashes : slashed (names_in directory) ≡ directory
   pub no_slash : HasNoSlash name

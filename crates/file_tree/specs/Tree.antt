@@ -1,4 +1,4 @@
--- What a store in memory holds: a finite map from places to directories and files.
+-- What a store in memory holds: a finite map from spots to directories and files.
 use Rattle.std.specs.Prelude.{ℕ, ◌/◌, Bool, false, cond, List, [], ◌∷◌, ◌++◌, map, length, take, drop, Option, Some, None, filter, sum_by}
 use Rattle.std.specs.Ordering.{nat_cmp, then_cmp, on, eq_by_cmp}
 use Rattle.std.specs.Cmp.Lexicographic.{slice_cmp}
@@ -28,20 +28,20 @@ abbrev pub Tree : Type 0
 Tree = FinMap path_cmp Node
 
 -- where an entry stands: any path but the root
-abbrev pub Place : Type 0
-Place = Path
+abbrev pub Spot : Type 0
+Spot = Path
 
-abbrev pub place_of : Path → Option Place
-place_of [] = None
-place_of (name ∷ names) = Some (name ∷ names)
+abbrev pub spot_of : Path → Option Spot
+spot_of [] = None
+spot_of (name ∷ names) = Some (name ∷ names)
 
-abbrev pub node_in : Tree → Option Place → Option Node
+abbrev pub node_in : Tree → Option Spot → Option Node
 node_in tree None = Some Directory
-node_in tree (Some place) = get tree place
+node_in tree (Some spot) = get tree spot
 
 -- what stands at a path
 abbrev pub node_at : Tree → Path → Option Node
-node_at tree path = node_in tree (place_of path)
+node_at tree path = node_in tree (spot_of path)
 
 -- what is told of a directory, or of a file, whose moment is told in whole seconds
 abbrev pub meta_of : Node → Meta
@@ -62,7 +62,7 @@ abbrev pub size_of : Node → ℕ
 size_of Directory = 0
 size_of (File octets moment) = length octets
 
--- the octets at a place, none where nothing stands
+-- the octets at a spot, none where nothing stands
 abbrev pub size_at : Option Node → ℕ
 size_at None = 0
 size_at (Some node) = size_of node
@@ -79,7 +79,7 @@ abbrev pub is_in : Path → Path → Bool
 is_in directory [] = false
 is_in directory (name ∷ names) = is_same directory (parent_of (name ∷ names))
 
-abbrev pub children_in : Tree → Path → List (Place × Node)
+abbrev pub children_in : Tree → Path → List (Spot × Node)
 children_in tree directory = filter (λ entry. is_in directory entry.0) (entries tree)
 
 abbrev pub last_of : Path → List ℕ
@@ -88,11 +88,11 @@ last_of (name ∷ []) = name
 last_of (name ∷ next ∷ names) = last_of (next ∷ names)
 
 -- what is told of an entry of a directory, by its name there
-abbrev pub told_of : Place × Node → List ℕ × Meta
+abbrev pub told_of : Spot × Node → List ℕ × Meta
 told_of entry = (last_of entry.0, meta_of entry.1)
 
 -- a listing shows what a path can name
-abbrev pub is_named : Place × Node → Bool
+abbrev pub is_named : Spot × Node → Bool
 is_named entry = is_name (last_of entry.0)
 
 -- a directory's entries, in the order of the names' octets
@@ -104,10 +104,10 @@ abbrev pub begins_with : Path → Path → Bool
 begins_with front path = is_same (take (length front) path) front
 
 -- where an entry stands after a rename: what was renamed at its new path, and what stood beneath it beneath that
-abbrev pub moved : Path → Path → Place → Place
+abbrev pub moved : Path → Path → Spot → Spot
 moved from to path = cond (begins_with from path) (to ++ drop (length from) path) path
 
-abbrev pub moved_entry : Path → Path → Place × Node → Place × Node
+abbrev pub moved_entry : Path → Path → Spot × Node → Spot × Node
 moved_entry from to entry = (moved from to entry.0, entry.1)
 
 abbrev pub renamed : Tree → Path → Path → Tree

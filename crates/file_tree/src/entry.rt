@@ -1,4 +1,4 @@
-//! What stands at a place.
+//! What stands at a spot.
 
 ghost use Rattle.std.specs.Prelude.{◌≡◌, IfOk};
 
@@ -36,7 +36,7 @@ impl<A: Allocator> Model for Entry<A> {
 }
 
 impl<A: Allocator> Entry<A> {
-    ghost use Rattle.std.specs.Prelude.{◌≡◌, IfOk, IfSome, Some, option_map};
+    ghost use Rattle.std.specs.Prelude.{◌≡◌, IfOk, Some, option_map};
     ghost use Rattle.file_tree.specs.Held.{shared};
     ghost use Rattle.file_tree.specs.Tree.{meta_of, size_of, kind_of, octets_of};
     ghost use Rattle.file_tree.specs.Tree.Node.{Directory, File};

@@ -10,7 +10,7 @@ ghost use Rattle.virtual_tree.specs.Calls.{entries_of, names_of};
 ghost use Rattle.file_tree.specs.Tree.{total, size_of, size_at, children_in, listing, path_cmp, renamed};
 
 use crate::entry::Entry;
-use crate::place::Place;
+use crate::spot::Spot;
 use std::alloc::{AllocError, Allocator};
 use std::collections::BTreeMap;
 use std::marker::Model;
@@ -21,7 +21,7 @@ use virtual_tree::Listed;
 /// The entries below the root, and how many octets their files hold.
 #[derive(Drop)]
 pub struct Files<A: Allocator> {
-    nodes: BTreeMap<Place<A>, Entry<A>, A>,
+    nodes: BTreeMap<Spot<A>, Entry<A>, A>,
     stored: u64,
 }
 
@@ -58,41 +58,41 @@ impl<A: Allocator + Clone> Files<A> {
         self.stored
     }
 
-    /// What stands at a place.
-    pub fn get(&self, place: &Place<A>) -> Option<&Entry<A>>
-        ensures { option_copied result ≡ map.get self.now place.now }
+    /// What stands at a spot.
+    pub fn get(&self, spot: &Spot<A>) -> Option<&Entry<A>>
+        ensures { option_copied result ≡ map.get self.now spot.now }
     {
-        self.nodes.get(place)
+        self.nodes.get(spot)
     }
 
-    /// Puts an entry at a place, over what stands there.
-    pub fn put(&mut self, place: Place<A>, entry: Entry<A>) -> Result<(), AllocError>
-        requires { size_at (map.get self.old place) < size_of entry
-            → total (map.insert self.old place entry) < 2 ^ 64 }
-        ensures ok { OnOk result (self.new ≡ map.insert self.old place entry) }
+    /// Puts an entry at a spot, over what stands there.
+    pub fn put(&mut self, spot: Spot<A>, entry: Entry<A>) -> Result<(), AllocError>
+        requires { size_at (map.get self.old spot) < size_of entry
+            → total (map.insert self.old spot entry) < 2 ^ 64 }
+        ensures ok { OnOk result (self.new ≡ map.insert self.old spot entry) }
         ensures err { OnErr result (self.new ≡ self.old) }
     {
         let size = entry.size();
-        let freed = self.size_at(&place);
-        self.nodes.insert(place, entry)?;
+        let freed = self.size_at(&spot);
+        self.nodes.insert(spot, entry)?;
         self.stored = self.stored - freed + size;
         Ok(())
     }
 
-    /// Takes away what stands at a place.
-    pub fn take(&mut self, place: &Place<A>)
-        ensures { self.new ≡ map.remove self.old place.now }
+    /// Takes away what stands at a spot.
+    pub fn take(&mut self, spot: &Spot<A>)
+        ensures { self.new ≡ map.remove self.old spot.now }
     {
-        let freed = self.size_at(place);
-        self.nodes.remove(place);
+        let freed = self.size_at(spot);
+        self.nodes.remove(spot);
         self.stored -= freed;
     }
 
-    /// How many octets stand at a place.
-    fn size_at(&self, place: &Place<A>) -> u64
-        ensures { result ≡ size_at (map.get self.now place.now) }
+    /// How many octets stand at a spot.
+    fn size_at(&self, spot: &Spot<A>) -> u64
+        ensures { result ≡ size_at (map.get self.now spot.now) }
     {
-        match self.get(place) {
+        match self.get(spot) {
             Some(entry) => entry.size(),
             None => 0,
         }
@@ -108,17 +108,17 @@ impl<A: Allocator + Clone> Files<A> {
         ensures rising { IfOk result
             (λ listed. IsStrictlySortedBy (slice_cmp nat_cmp) (names_of listed)) }
     {
-        let first = Place::first_in(alloc, path)?;
-        let end = Place::past(alloc, path)?;
+        let first = Spot::first_in(alloc, path)?;
+        let end = Spot::past(alloc, path)?;
         self.listed_between(alloc, &first, &end)
     }
 
-    /// The same, between the places before and past all entries of the directory.
+    /// The same, between the spots before and past all entries of the directory.
     fn listed_between(
         &self,
         alloc: &A,
-        first: &Place<A>,
-        end: &Place<A>,
+        first: &Spot<A>,
+        end: &Spot<A>,
     ) -> Result<Vec<Listed<A>, A>, AllocError>
         requires forward { is_gt (path_cmp first.now end.now) ≡ false }
         ensures entries { (directory : Path) → first.now ≡ directory ++ [] ∷ []
@@ -126,11 +126,11 @@ impl<A: Allocator + Clone> Files<A> {
             → IfOk result (λ listed. entries_of listed ≡ listing self.now directory) }
     {
         let mut listed = Vec::new(alloc.clone()?);
-        for (place, entry) in self
+        for (spot, entry) in self
             .nodes
             .range((Bound::Included(first), Bound::Excluded(end)))
         {
-            if let Some(found) = place.listed(alloc, entry)? {
+            if let Some(found) = spot.listed(alloc, entry)? {
                 listed.push(found)?;
             }
         }
@@ -142,21 +142,16 @@ impl<A: Allocator + Clone> Files<A> {
         ensures bare { IfOk result
             (λ bare. bare ≡ nat_eq (length (children_in self.now path.now)) 0) }
     {
-        let first = Place::first_in(alloc, path)?;
-        let end = Place::past(alloc, path)?;
+        let first = Spot::first_in(alloc, path)?;
+        let end = Spot::past(alloc, path)?;
         let mut entries = self
             .nodes
             .range((Bound::Included(&first), Bound::Excluded(&end)));
         Ok(entries.next().is_none())
     }
 
-    /// Gives an entry another place, where nothing stands.
-    pub fn shift(
-        &mut self,
-        from: &Place<A>,
-        to: Place<A>,
-        entry: Entry<A>,
-    ) -> Result<(), AllocError>
+    /// Gives an entry another spot, where nothing stands.
+    pub fn shift(&mut self, from: &Spot<A>, to: Spot<A>, entry: Entry<A>) -> Result<(), AllocError>
         requires stands { map.get self.old from.now ≡ Some entry }
         requires vacant { map.get self.old to ≡ None }
         ensures ok { OnOk result (self.new ≡ map.remove (map.insert self.old to entry) from.now) }
@@ -167,14 +162,14 @@ impl<A: Allocator + Clone> Files<A> {
         Ok(())
     }
 
-    /// All entries, each where it stands after a rename from one path to another, whose places these are.
+    /// All entries, each where it stands after a rename from one path to another, whose spots these are.
     pub fn renamed<B: Allocator>(
         &self,
         alloc: &A,
         from: &VPath<B>,
         to: &VPath<B>,
-        before: &Place<A>,
-        afterwards: &Place<A>,
+        before: &Spot<A>,
+        afterwards: &Spot<A>,
     ) -> Result<Files<A>, AllocError>
         requires before { before.now ≡ from.now }
         requires afterwards { afterwards.now ≡ to.now }
@@ -184,10 +179,10 @@ impl<A: Allocator + Clone> Files<A> {
         let _most = self.stored();
         let mut renamed = Files::new(alloc.clone()?);
         let mut rest = self.nodes.iter();
-        while let Some((place, entry)) = rest.next_back() {
-            let place = place.moved(alloc, from, to, before, afterwards)?;
+        while let Some((spot, entry)) = rest.next_back() {
+            let spot = spot.moved(alloc, from, to, before, afterwards)?;
             let entry = entry.share()?;
-            renamed.put(place, entry)?;
+            renamed.put(spot, entry)?;
         }
         Ok(renamed)
     }

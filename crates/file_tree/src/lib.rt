@@ -1,12 +1,12 @@
 //! The tree that a store in memory keeps: directories and files, each at its path.
 //!
-//! [`Files`] is a finite map from paths to entries. A [`Place`] is a path but the root, in an order in which a
+//! [`Files`] is a finite map from paths to entries. A [`Spot`] is a path but the root, in an order in which a
 //! directory's entries are next to each other, in the order of their names.
 //!
 //! ```text
 //! let mut files = Files::new(alloc.clone()?);
-//! if let Some(place) = Place::of(&alloc, &path)? {
-//!     files.put(place, Entry::directory())?;
+//! if let Some(spot) = Spot::of(&alloc, &path)? {
+//!     files.put(spot, Entry::directory())?;
 //! }
 //! let listed = files.listing(&alloc, &above)?;
 //! ```
@@ -14,8 +14,8 @@
 
 mod entry;
 mod files;
-mod place;
+mod spot;
 
 pub use entry::Entry;
 pub use files::Files;
-pub use place::Place;
+pub use spot::Spot;

@@ -6,7 +6,7 @@ use borrow.Author.Tests.{ltb-true}
 use Rattle.virtual_tree.specs.declared.fault.StoreFault.{StoreFault}
 use Rattle.virtual_tree.specs.declared.fault.StoreFault.TheVariants as fault
 use Rattle.virtual_tree.specs.Calls.{in_answer}
-use Rattle.file_tree.specs.Tree.{Node, Place, Tree, size_of, size_at, total}
+use Rattle.file_tree.specs.Tree.{Node, Spot, Tree, size_of, size_at, total}
 use Rattle.file_tree.specs.Tree.Node.{Directory, File}
 use Rattle.memory_store.specs.InMemory.{Memory, Upload, Changes, left_by, filled, finish_octets, unit_of}
 use Rattle.file_tree.proofs.Trees.{total-insert, size_within}
@@ -40,21 +40,21 @@ decided_filled old upload moment octets fits within =
 sums : (after before all kept came : ℕ) → after + before ≡ all + (kept + came) → before ≤ all → all - before + kept + came ≡ after
 sums after before all kept came sum within = omega arith
 
-pub held_within : (tree : Tree) (p : Place) (octets : List ℕ) → size_at (get tree p) ≡ length octets → length octets ≤ total tree
+pub held_within : (tree : Tree) (p : Spot) (octets : List ℕ) → size_at (get tree p) ≡ length octets → length octets ≤ total tree
 held_within tree p octets is = size_within tree p (total tree) (length octets) refl (sym is)
 
 -- what the files hold afterwards
-pub filled_total : (old : Memory) (upload : Upload) (moment : ℕ) (octets : List ℕ) → size_at (get old.tree upload.place) ≡ length octets
+pub filled_total : (old : Memory) (upload : Upload) (moment : ℕ) (octets : List ℕ) → size_at (get old.tree upload.spot) ≡ length octets
     → total old.tree - length octets + min upload.kept (length octets) + length upload.octets ≡ total (filled old.tree upload moment octets)
 filled_total old upload moment octets is =
     sums (total (filled old.tree upload moment octets)) (length octets) (total old.tree) (min upload.kept (length octets)) (length upload.octets)
     (ap (λ n. total (filled old.tree upload moment octets) + n) (sym is)
-    ∙ total-insert old.tree upload.place (File (take upload.kept octets ++ upload.octets) moment)
+    ∙ total-insert old.tree upload.spot (File (take upload.kept octets ++ upload.octets) moment)
     ∙ ap (λ n. total old.tree + n) (length-append (take upload.kept octets) upload.octets ∙ ap (λ n. n + length upload.octets) (length-take upload.kept octets)))
-    (held_within old.tree upload.place octets is)
+    (held_within old.tree upload.spot octets is)
 
 -- as it is counted
-pub passed_is : (old : Memory) (upload : Upload) (moment : ℕ) (octets : List ℕ) (first came : ℕ) → size_at (get old.tree upload.place) ≡ length octets → first ≡ min upload.kept (length octets) → came ≡ length upload.octets
+pub passed_is : (old : Memory) (upload : Upload) (moment : ℕ) (octets : List ℕ) (first came : ℕ) → size_at (get old.tree upload.spot) ≡ length octets → first ≡ min upload.kept (length octets) → came ≡ length upload.octets
     → total old.tree - length octets + first + came ≡ total (filled old.tree upload moment octets)
 passed_is old upload moment octets first came is first_is came_is =
     ap (λ n. total old.tree - length octets + first + n) came_is

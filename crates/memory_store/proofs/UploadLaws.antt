@@ -14,7 +14,7 @@ use Rattle.virtual_tree.specs.declared.mode.WriteMode.{WriteMode}
 use Rattle.virtual_tree.specs.declared.mode.WriteMode.TheVariants.{New, At, Append}
 use Rattle.virtual_tree.specs.Calls.{in_answer, Target, Writes}
 use Rattle.virtual_tree.specs.Calls.Exchange.{OpenWrite, Finish}
-use Rattle.file_tree.specs.Tree.{Node, Place, Tree, place_of, node_in, node_at, total}
+use Rattle.file_tree.specs.Tree.{Node, Spot, Tree, spot_of, node_in, node_at, total}
 use Rattle.file_tree.specs.Tree.Node.{Directory, File}
 use Rattle.memory_store.specs.InMemory.{Memory, Upload, Opening, InMemory, target_of, kind_in, kind_at, vacancy, vacant, opened, open_new, open_absent, open_node, filled, finished, finish_node, if_found, unit_of, left_by}
 use Rattle.memory_store.specs.Uploads.{octets_in, kept_by, FinishPutsWhatCame}
@@ -40,41 +40,41 @@ unless_refused false why answer x e = e
 
 -- ---- open_write
 
-abbrev IsOpening : Place → ℕ → Result Opening StoreFault → Type 0
-IsOpening place kept (Err why) = Unit {0}
-IsOpening place kept (Ok opening) = (opening.upload.place ≡ place) × (opening.upload.kept ≡ kept) × (opening.upload.octets ≡ [])
+abbrev IsOpening : Spot → ℕ → Result Opening StoreFault → Type 0
+IsOpening spot kept (Err why) = Unit {0}
+IsOpening spot kept (Ok opening) = (opening.upload.spot ≡ spot) × (opening.upload.kept ≡ kept) × (opening.upload.octets ≡ [])
 
-new_opens : (tree : Tree) (place : Place) (moment : ℕ) (above here : Option Kind) → IsOpening place 0 (open_new tree moment (vacancy place above here))
-new_opens tree place moment None here = tt
-new_opens tree place moment (Some kind.File) here = tt
-new_opens tree place moment (Some kind.Directory) (Some found) = tt
-new_opens tree place moment (Some kind.Directory) None = (refl, refl, refl)
+new_opens : (tree : Tree) (spot : Spot) (moment : ℕ) (above here : Option Kind) → IsOpening spot 0 (open_new tree moment (vacancy spot above here))
+new_opens tree spot moment None here = tt
+new_opens tree spot moment (Some kind.File) here = tt
+new_opens tree spot moment (Some kind.Directory) (Some found) = tt
+new_opens tree spot moment (Some kind.Directory) None = (refl, refl, refl)
 
-absent_opens : (tree : Tree) (path : Path) (place : Place) (moment : ℕ) (mode : WriteMode) → IsOpening place (kept_by mode []) (open_absent tree path place moment mode)
-absent_opens tree path place moment New = new_opens tree place moment (kind_at tree _) (kind_in tree place)
-absent_opens tree path place moment (At offset) = tt
-absent_opens tree path place moment Append = new_opens tree place moment (kind_at tree _) (kind_in tree place)
+absent_opens : (tree : Tree) (path : Path) (spot : Spot) (moment : ℕ) (mode : WriteMode) → IsOpening spot (kept_by mode []) (open_absent tree path spot moment mode)
+absent_opens tree path spot moment New = new_opens tree spot moment (kind_at tree _) (kind_in tree spot)
+absent_opens tree path spot moment (At offset) = tt
+absent_opens tree path spot moment Append = new_opens tree spot moment (kind_at tree _) (kind_in tree spot)
 
-cut_opens : (place : Place) (kept : ℕ) (past : Bool) (opening : Opening) → IsOpening place kept (Ok opening) → IsOpening place kept (cond past (Err fault.PastEnd) (Ok opening))
-cut_opens place kept true opening is = tt
-cut_opens place kept false opening is = is
+cut_opens : (spot : Spot) (kept : ℕ) (past : Bool) (opening : Opening) → IsOpening spot kept (Ok opening) → IsOpening spot kept (cond past (Err fault.PastEnd) (Ok opening))
+cut_opens spot kept true opening is = tt
+cut_opens spot kept false opening is = is
 
-node_opens : (tree : Tree) (path : Path) (place : Place) (moment : ℕ) (mode : WriteMode) (found : Option Node) → IsOpening place (kept_by mode (octets_in found)) (open_node tree path place moment mode found)
-node_opens tree path place moment mode None = absent_opens tree path place moment mode
-node_opens tree path place moment New (Some Directory) = tt
-node_opens tree path place moment (At offset) (Some Directory) = tt
-node_opens tree path place moment Append (Some Directory) = tt
-node_opens tree path place moment New (Some (File octets modified)) = (refl, refl, refl)
-node_opens tree path place moment (At offset) (Some (File octets modified)) = cut_opens place offset (nat_lt (length octets) offset) _ (refl, refl, refl)
-node_opens tree path place moment Append (Some (File octets modified)) = (refl, refl, refl)
+node_opens : (tree : Tree) (path : Path) (spot : Spot) (moment : ℕ) (mode : WriteMode) (found : Option Node) → IsOpening spot (kept_by mode (octets_in found)) (open_node tree path spot moment mode found)
+node_opens tree path spot moment mode None = absent_opens tree path spot moment mode
+node_opens tree path spot moment New (Some Directory) = tt
+node_opens tree path spot moment (At offset) (Some Directory) = tt
+node_opens tree path spot moment Append (Some Directory) = tt
+node_opens tree path spot moment New (Some (File octets modified)) = (refl, refl, refl)
+node_opens tree path spot moment (At offset) (Some (File octets modified)) = cut_opens spot offset (nat_lt (length octets) offset) _ (refl, refl, refl)
+node_opens tree path spot moment Append (Some (File octets modified)) = (refl, refl, refl)
 
-given_by : (tree : Tree) (path : Path) (mode : WriteMode) (moment : ℕ) (found : Option Place) (upload : Upload) → Ok upload ≡ in_answer (λ (opening : Opening). opening.upload) (opened tree path mode moment found)
-    → (found ≡ Some upload.place) × (upload.kept ≡ kept_by mode (octets_in (node_in tree found))) × (upload.octets ≡ [])
+given_by : (tree : Tree) (path : Path) (mode : WriteMode) (moment : ℕ) (found : Option Spot) (upload : Upload) → Ok upload ≡ in_answer (λ (opening : Opening). opening.upload) (opened tree path mode moment found)
+    → (found ≡ Some upload.spot) × (upload.kept ≡ kept_by mode (octets_in (node_in tree found))) × (upload.octets ≡ [])
 given_by tree path mode moment None upload e = absurd (no_answer fault.IsDir upload (sym e))
-given_by tree path mode moment (Some place) upload e =
-    let decided = told_by (λ (opening : Opening). opening.upload) (open_node tree path place moment mode (get tree place)) upload e in
-    let is = subst (IsOpening place (kept_by mode (octets_in (get tree place)))) decided.1 (node_opens tree path place moment mode (get tree place)) in (
-      ap Some (sym is.0 ∙ ap (λ (u : Upload). u.place) (sym decided.2)),
+given_by tree path mode moment (Some spot) upload e =
+    let decided = told_by (λ (opening : Opening). opening.upload) (open_node tree path spot moment mode (get tree spot)) upload e in
+    let is = subst (IsOpening spot (kept_by mode (octets_in (get tree spot)))) decided.1 (node_opens tree path spot moment mode (get tree spot)) in (
+      ap Some (sym is.0 ∙ ap (λ (u : Upload). u.spot) (sym decided.2)),
       ap (λ (u : Upload). u.kept) decided.2 ∙ is.1,
       ap (λ (u : Upload). u.octets) decided.2 ∙ is.2,
     )
@@ -84,8 +84,8 @@ given_by tree path mode moment (Some place) upload e =
 some_target : (a b : Target) → Some a ≡ Some b → a ≡ b
 some_target a b e = cc
 
-abbrev place_of_target : Target → Place
-place_of_target target = target.path
+abbrev spot_of_target : Target → Spot
+spot_of_target target = target.path
 
 abbrev kept_of_target : Target → ℕ
 kept_of_target target = target.kept
@@ -104,7 +104,7 @@ writes_bring (piece ∷ pieces) given brought (next, same, more, rest) =
 abbrev decided_for : Memory → Upload → ℕ → Option Node → Result Tree StoreFault
 decided_for before upload moment found = if_found (finish_node before upload moment) found
 
-file_of : (before : Memory) (upload : Upload) (moment : ℕ) (found : Option Node) (tree : Tree) → get before.tree upload.place ≡ found → finished before upload moment ≡ Ok tree
+file_of : (before : Memory) (upload : Upload) (moment : ℕ) (found : Option Node) (tree : Tree) → get before.tree upload.spot ≡ found → finished before upload moment ≡ Ok tree
     → tree ≡ filled before.tree upload moment (octets_in found)
 file_of before upload moment None tree is e = absurd (no_answer fault.NotFound tree (sym (ap (decided_for before upload moment) is) ∙ e))
 file_of before upload moment (Some Directory) tree is e = absurd (no_answer fault.IsDir tree (sym (ap (decided_for before upload moment) is) ∙ e))
@@ -118,23 +118,23 @@ file_of before upload moment (Some (File octets modified)) tree is e =
     same : (whole tree : Tree) → (let answer : Result Tree StoreFault = Ok whole in answer) ≡ Ok tree → tree ≡ whole
     same whole tree e = cc
 
-at_its_place : (tree : Tree) (place : Place) (node : Node) → get (insert tree place node) place ≡ Some node
-at_its_place tree place node = get-insert paths_total tree place node place ∙ ap (λ order. cond (is_eq order) (Some node) (get tree place)) (tied_itself paths_total place)
+at_its_spot : (tree : Tree) (spot : Spot) (node : Node) → get (insert tree spot node) spot ≡ Some node
+at_its_spot tree spot node = get-insert paths_total tree spot node spot ∙ ap (λ order. cond (is_eq order) (Some node) (get tree spot)) (tied_itself paths_total spot)
 
 pub finish_puts_what_came : FinishPutsWhatCame
 finish_puts_what_came first opened before after path mode moment later given brought pieces opens writes finish =
-    let start = given_by first.tree path mode moment (place_of path) given (opens.0 (not_memory given)).0 in
+    let start = given_by first.tree path mode moment (spot_of path) given (opens.0 (not_memory given)).0 in
     let way = writes_bring pieces given brought writes in
     let end = finish.0 (not_memory tt) in
     let decided = told_by (unit_of {P = Tree}) (finished before brought later) tt end.0 in
-    let stands : place_of path ≡ Some brought.place = start.0 ∙ ap (λ target. Some (place_of_target target)) (sym way.0) in
+    let stands : spot_of path ≡ Some brought.spot = start.0 ∙ ap (λ target. Some (spot_of_target target)) (sym way.0) in
     let kept : brought.kept ≡ kept_by mode (octets_in (node_at first.tree path)) = ap kept_of_target way.0 ∙ start.1 in
     let octets : brought.octets ≡ concat pieces = way.1 ∙ ap (λ front. front ++ concat pieces) start.2 in
     let tree : after.tree ≡ decided.0 = ap (λ (m : Memory). m.tree) (end.1 ∙ ap (left_by before (λ (tree : Tree). tree)) decided.1) in
-    let file : decided.0 ≡ filled before.tree brought later (octets_in (get before.tree brought.place)) = file_of before brought later (get before.tree brought.place) decided.0 refl decided.1 in
+    let file : decided.0 ≡ filled before.tree brought later (octets_in (get before.tree brought.spot)) = file_of before brought later (get before.tree brought.spot) decided.0 refl decided.1 in
     ap (node_in after.tree) stands
-    ∙ ap (λ (t : Tree). get t brought.place) (tree ∙ file)
-    ∙ at_its_place before.tree brought.place (File (take brought.kept (octets_in (get before.tree brought.place)) ++ brought.octets) later)
-    ∙ ap (λ k. Some (File (take k (octets_in (get before.tree brought.place)) ++ brought.octets) later)) kept
-    ∙ ap (λ came. Some (File (take (kept_by mode (octets_in (node_at first.tree path))) (octets_in (get before.tree brought.place)) ++ came) later)) octets
+    ∙ ap (λ (t : Tree). get t brought.spot) (tree ∙ file)
+    ∙ at_its_spot before.tree brought.spot (File (take brought.kept (octets_in (get before.tree brought.spot)) ++ brought.octets) later)
+    ∙ ap (λ k. Some (File (take k (octets_in (get before.tree brought.spot)) ++ brought.octets) later)) kept
+    ∙ ap (λ came. Some (File (take (kept_by mode (octets_in (node_at first.tree path))) (octets_in (get before.tree brought.spot)) ++ came) later)) octets
     ∙ ap (λ found. Some (File (take (kept_by mode (octets_in (node_at first.tree path))) (octets_in (node_in before.tree found)) ++ concat pieces) later)) (sym stands)

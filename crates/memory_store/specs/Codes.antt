@@ -1,12 +1,12 @@
 -- How the values of stores in memory are told apart.
 use Rattle.std.specs.Prelude.{ℕ, List, refl}
 use Rattle.std.specs.Coded.{Coded, code_by, coded×, coded_ℕ, coded_list}
-use Rattle.file_tree.specs.Codes.{place_code, tree_code}
-use Rattle.file_tree.specs.Tree.{Place, Tree}
+use Rattle.file_tree.specs.Codes.{spot_code, tree_code}
+use Rattle.file_tree.specs.Tree.{Spot, Tree}
 use Rattle.memory_store.specs.InMemory.{Memory, Upload}
 
 abbrev pub memory_code : Coded Memory
 memory_code = code_by (Tree × ℕ) (coded× tree_code coded_ℕ) (λ memory. (memory.tree, memory.capacity)) (λ parts. record { tree = parts.0; capacity = parts.1 }) (λ _. refl)
 
 abbrev pub upload_code : Coded Upload
-upload_code = code_by (Place × (ℕ × List ℕ)) (coded× place_code (coded× coded_ℕ (coded_list coded_ℕ))) (λ upload. (upload.place, (upload.kept, upload.octets))) (λ parts. record { place = parts.0; kept = parts.1.0; octets = parts.1.1 }) (λ _. refl)
+upload_code = code_by (Spot × (ℕ × List ℕ)) (coded× spot_code (coded× coded_ℕ (coded_list coded_ℕ))) (λ upload. (upload.spot, (upload.kept, upload.octets))) (λ parts. record { spot = parts.0; kept = parts.1.0; octets = parts.1.1 }) (λ _. refl)

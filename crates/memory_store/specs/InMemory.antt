@@ -11,7 +11,7 @@ use Rattle.virtual_tree.specs.declared.mode.WriteMode.{WriteMode}
 use Rattle.virtual_tree.specs.declared.mode.WriteMode.TheVariants.{New, At, Append}
 use Rattle.virtual_tree.specs.Calls.{Entry, in_answer, Exchange, Target}
 use Rattle.virtual_tree.specs.Calls.Exchange.{Stat, Listing, OpenRead, OpenWrite, Finish, MakeDir, RemoveDir, RemoveFile, Rename}
-use Rattle.file_tree.specs.Tree.{Node, Place, Tree, place_of, node_at, meta_of, kind_of, octets_of, total, children_in, listing, begins_with, renamed}
+use Rattle.file_tree.specs.Tree.{Node, Spot, Tree, spot_of, node_at, meta_of, kind_of, octets_of, total, children_in, listing, begins_with, renamed}
 use Rattle.file_tree.specs.Tree.Node.{Directory, File}
 
 -- a store in memory: what it holds, and the most octets that its files may hold
@@ -19,15 +19,15 @@ pub record Memory : Type 0 where
   pub tree : Tree
   pub capacity : ℕ
 
--- octets on their way into a file: its place, how many of its octets stay in front, and what came
+-- octets on their way into a file: its spot, how many of its octets stay in front, and what came
 pub record Upload : Type 0 where
-  pub place : Place
+  pub spot : Spot
   pub kept : ℕ
   pub octets : List ℕ
 
 -- where they go
 abbrev pub target_of : Upload → Target
-target_of upload = record { path = upload.place; kept = upload.kept }
+target_of upload = record { path = upload.spot; kept = upload.kept }
 
 -- the answer where something stands, and else that nothing does
 abbrev pub if_found : {X : Type 0} → (Node → Result X StoreFault) → Option Node → Result X StoreFault
@@ -46,9 +46,9 @@ octets_from offset (Some octets) = cond (nat_lt (length octets) offset) (Err fau
 
 -- ---- calls that change the tree: what decides, and then what is left
 
--- what kind of node stands at a place, or at a path
-abbrev pub kind_in : Tree → Place → Option Kind
-kind_in tree place = option_map kind_of (get tree place)
+-- what kind of node stands at a spot, or at a path
+abbrev pub kind_in : Tree → Spot → Option Kind
+kind_in tree spot = option_map kind_of (get tree spot)
 
 abbrev pub kind_at : Tree → Path → Option Kind
 kind_at tree path = option_map kind_of (node_at tree path)
@@ -58,68 +58,68 @@ listing_told tree path None = Err fault.NotFound
 listing_told tree path (Some kind.File) = Err fault.NotDir
 listing_told tree path (Some kind.Directory) = Ok (listing tree path)
 
--- whether an entry may be made, by what stands above it and at its place
-abbrev pub vacancy : Place → Option Kind → Option Kind → Result Place StoreFault
-vacancy place None here = Err fault.NotFound
-vacancy place (Some kind.File) here = Err fault.NotDir
-vacancy place (Some kind.Directory) (Some found) = Err fault.Exists
-vacancy place (Some kind.Directory) None = Ok place
+-- whether an entry may be made, by what stands above it and at its spot
+abbrev pub vacancy : Spot → Option Kind → Option Kind → Result Spot StoreFault
+vacancy spot None here = Err fault.NotFound
+vacancy spot (Some kind.File) here = Err fault.NotDir
+vacancy spot (Some kind.Directory) (Some found) = Err fault.Exists
+vacancy spot (Some kind.Directory) None = Ok spot
 
-abbrev pub vacant : Tree → Path → Place → Result Place StoreFault
-vacant tree path place = vacancy place (kind_at tree (parent_of path)) (kind_in tree place)
+abbrev pub vacant : Tree → Path → Spot → Result Spot StoreFault
+vacant tree path spot = vacancy spot (kind_at tree (parent_of path)) (kind_in tree spot)
 
--- the place for a new directory
-abbrev pub place_to_make : Tree → Path → Option Place → Result Place StoreFault
-place_to_make tree path None = Err fault.Exists
-place_to_make tree path (Some place) = vacant tree path place
+-- the spot for a new directory
+abbrev pub spot_to_make : Tree → Path → Option Spot → Result Spot StoreFault
+spot_to_make tree path None = Err fault.Exists
+spot_to_make tree path (Some spot) = vacant tree path spot
 
-abbrev pub bare_only : Bool → Place → Option Kind → Result Place StoreFault
-bare_only is_bare place None = Err fault.NotFound
-bare_only is_bare place (Some kind.File) = Err fault.NotDir
-bare_only is_bare place (Some kind.Directory) = cond is_bare (Ok place) (Err fault.NotEmpty)
+abbrev pub bare_only : Bool → Spot → Option Kind → Result Spot StoreFault
+bare_only is_bare spot None = Err fault.NotFound
+bare_only is_bare spot (Some kind.File) = Err fault.NotDir
+bare_only is_bare spot (Some kind.Directory) = cond is_bare (Ok spot) (Err fault.NotEmpty)
 
 -- whether a directory has no entries
 abbrev pub is_bare : Tree → Path → Bool
 is_bare tree path = nat_eq (length (children_in tree path)) 0
 
--- the place of an empty directory
-abbrev pub place_of_bare : Tree → Path → Option Place → Result Place StoreFault
-place_of_bare tree path None = Err fault.NotEmpty
-place_of_bare tree path (Some place) = bare_only (is_bare tree path) place (kind_in tree place)
+-- the spot of an empty directory
+abbrev pub spot_of_bare : Tree → Path → Option Spot → Result Spot StoreFault
+spot_of_bare tree path None = Err fault.NotEmpty
+spot_of_bare tree path (Some spot) = bare_only (is_bare tree path) spot (kind_in tree spot)
 
-abbrev pub file_only : Place → Option Kind → Result Place StoreFault
-file_only place None = Err fault.NotFound
-file_only place (Some kind.Directory) = Err fault.IsDir
-file_only place (Some kind.File) = Ok place
+abbrev pub file_only : Spot → Option Kind → Result Spot StoreFault
+file_only spot None = Err fault.NotFound
+file_only spot (Some kind.Directory) = Err fault.IsDir
+file_only spot (Some kind.File) = Ok spot
 
--- the place of a file
-abbrev pub place_of_file : Tree → Option Place → Result Place StoreFault
-place_of_file tree None = Err fault.IsDir
-place_of_file tree (Some place) = file_only place (kind_in tree place)
+-- the spot of a file
+abbrev pub spot_of_file : Tree → Option Spot → Result Spot StoreFault
+spot_of_file tree None = Err fault.IsDir
+spot_of_file tree (Some spot) = file_only spot (kind_in tree spot)
 
--- what is renamed, and its place before and afterwards
+-- what is renamed, and its spot before and afterwards
 pub record Move : Type 0 where
   pub node : Node
-  pub before : Place
-  pub afterwards : Place
+  pub before : Spot
+  pub afterwards : Spot
 
-abbrev pub outside_itself : Path → Path → Move → Result Place StoreFault → Result Move StoreFault
+abbrev pub outside_itself : Path → Path → Move → Result Spot StoreFault → Result Move StoreFault
 outside_itself from to move (Err why) = Err why
-outside_itself from to move (Ok place) = cond (begins_with from to) (Err fault.Inside) (Ok move)
+outside_itself from to move (Ok spot) = cond (begins_with from to) (Err fault.Inside) (Ok move)
 
-abbrev pub move_to : Tree → Path → Path → Place → Place → Node → Result Move StoreFault
+abbrev pub move_to : Tree → Path → Path → Spot → Spot → Node → Result Move StoreFault
 move_to tree from to before afterwards node =
     outside_itself from to (record { node = node; before = before; afterwards = afterwards })
     (vacant tree to afterwards)
 
-abbrev pub move_of : Tree → Path → Path → Option Place → Option Place → Result Move StoreFault
+abbrev pub move_of : Tree → Path → Path → Option Spot → Option Spot → Result Move StoreFault
 move_of tree from to None target = Err fault.Inside
 move_of tree from to (Some before) None = Err fault.Inside
 move_of tree from to (Some before) (Some afterwards) = if_found (move_to tree from to before afterwards) (get tree before)
 
 -- what is renamed between two paths, or why nothing is
 abbrev pub move_between : Tree → Path → Path → Result Move StoreFault
-move_between tree from to = move_of tree from to (place_of from) (place_of to)
+move_between tree from to = move_of tree from to (spot_of from) (spot_of to)
 
 -- a directory takes along all that stands beneath it
 abbrev pub moved_by_kind : Tree → Move → Kind → Tree
@@ -136,38 +136,38 @@ pub record Opening : Type 0 where
   pub tree : Tree
   pub upload : Upload
 
-abbrev pub opening : Tree → Place → ℕ → Opening
-opening tree place kept = record { tree = tree; upload = record { place = place; kept = kept; octets = [] } }
+abbrev pub opening : Tree → Spot → ℕ → Opening
+opening tree spot kept = record { tree = tree; upload = record { spot = spot; kept = kept; octets = [] } }
 
-abbrev pub open_new : Tree → ℕ → Result Place StoreFault → Result Opening StoreFault
+abbrev pub open_new : Tree → ℕ → Result Spot StoreFault → Result Opening StoreFault
 open_new tree moment (Err why) = Err why
-open_new tree moment (Ok place) = Ok (opening (insert tree place (File [] moment)) place 0)
+open_new tree moment (Ok spot) = Ok (opening (insert tree spot (File [] moment)) spot 0)
 
 -- where nothing stands
-abbrev pub open_absent : Tree → Path → Place → ℕ → WriteMode → Result Opening StoreFault
-open_absent tree path place moment New = open_new tree moment (vacant tree path place)
-open_absent tree path place moment (At offset) = Err fault.NotFound
-open_absent tree path place moment Append = open_new tree moment (vacant tree path place)
+abbrev pub open_absent : Tree → Path → Spot → ℕ → WriteMode → Result Opening StoreFault
+open_absent tree path spot moment New = open_new tree moment (vacant tree path spot)
+open_absent tree path spot moment (At offset) = Err fault.NotFound
+open_absent tree path spot moment Append = open_new tree moment (vacant tree path spot)
 
 -- where a file with these octets stands; None: a directory
-abbrev pub open_octets : Tree → Place → ℕ → WriteMode → Option (List ℕ) → Result Opening StoreFault
-open_octets tree place moment mode None = Err fault.IsDir
-open_octets tree place moment New (Some octets) = Ok (opening (insert tree place (File [] moment)) place 0)
-open_octets tree place moment (At offset) (Some octets) = cond (nat_lt (length octets) offset) (Err fault.PastEnd)
-    (Ok (opening (insert tree place (File (take offset octets) moment)) place offset))
-open_octets tree place moment Append (Some octets) = Ok (opening tree place (length octets))
+abbrev pub open_octets : Tree → Spot → ℕ → WriteMode → Option (List ℕ) → Result Opening StoreFault
+open_octets tree spot moment mode None = Err fault.IsDir
+open_octets tree spot moment New (Some octets) = Ok (opening (insert tree spot (File [] moment)) spot 0)
+open_octets tree spot moment (At offset) (Some octets) = cond (nat_lt (length octets) offset) (Err fault.PastEnd)
+    (Ok (opening (insert tree spot (File (take offset octets) moment)) spot offset))
+open_octets tree spot moment Append (Some octets) = Ok (opening tree spot (length octets))
 
-abbrev pub open_node : Tree → Path → Place → ℕ → WriteMode → Option Node → Result Opening StoreFault
-open_node tree path place moment mode None = open_absent tree path place moment mode
-open_node tree path place moment mode (Some node) = open_octets tree place moment mode (octets_of node)
+abbrev pub open_node : Tree → Path → Spot → ℕ → WriteMode → Option Node → Result Opening StoreFault
+open_node tree path spot moment mode None = open_absent tree path spot moment mode
+open_node tree path spot moment mode (Some node) = open_octets tree spot moment mode (octets_of node)
 
-abbrev pub opened : Tree → Path → WriteMode → ℕ → Option Place → Result Opening StoreFault
+abbrev pub opened : Tree → Path → WriteMode → ℕ → Option Spot → Result Opening StoreFault
 opened tree path mode moment None = Err fault.IsDir
-opened tree path mode moment (Some place) = open_node tree path place moment mode (get tree place)
+opened tree path mode moment (Some spot) = open_node tree path spot moment mode (get tree spot)
 
--- the tree once the file at the upload's place is its first octets, followed by those that came
+-- the tree once the file at the upload's spot is its first octets, followed by those that came
 abbrev pub filled : Tree → Upload → ℕ → List ℕ → Tree
-filled tree upload moment octets = insert tree upload.place (File (take upload.kept octets ++ upload.octets) moment)
+filled tree upload moment octets = insert tree upload.spot (File (take upload.kept octets ++ upload.octets) moment)
 
 -- by the octets of the file that stands there; None: a directory
 abbrev pub finish_octets : Memory → Upload → ℕ → Option (List ℕ) → Result Tree StoreFault
@@ -180,7 +180,7 @@ abbrev pub finish_node : Memory → Upload → ℕ → Node → Result Tree Stor
 finish_node memory upload moment node = finish_octets memory upload moment (octets_of node)
 
 abbrev pub finished : Memory → Upload → ℕ → Result Tree StoreFault
-finished memory upload moment = if_found (finish_node memory upload moment) (get memory.tree upload.place)
+finished memory upload moment = if_found (finish_node memory upload moment) (get memory.tree upload.spot)
 
 -- ---- the relation
 
@@ -210,21 +210,21 @@ InMemory old (Stat path answer) new = Tells old answer new (if_found meta_told (
 InMemory old (Listing path answer) new = Tells old answer new (listing_told old.tree path (kind_at old.tree path))
 InMemory old (OpenRead path offset answer) new = Tells old answer new (if_found (λ node. octets_from offset (octets_of node)) (node_at old.tree path))
 InMemory old (OpenWrite path mode moment answer) new =
-    Opens old answer new (opened old.tree path mode moment (place_of path))
+    Opens old answer new (opened old.tree path mode moment (spot_of path))
 InMemory old (Finish upload moment answer) new = Changes old answer new (finished old upload moment) unit_of (λ tree. tree)
 InMemory old (MakeDir path answer) new =
-    Changes old answer new (place_to_make old.tree path (place_of path)) unit_of (λ place. insert old.tree place Directory)
+    Changes old answer new (spot_to_make old.tree path (spot_of path)) unit_of (λ spot. insert old.tree spot Directory)
 InMemory old (RemoveDir path answer) new =
-    Changes old answer new (place_of_bare old.tree path (place_of path)) unit_of (λ place. remove old.tree place)
+    Changes old answer new (spot_of_bare old.tree path (spot_of path)) unit_of (λ spot. remove old.tree spot)
 InMemory old (RemoveFile path answer) new =
-    Changes old answer new (place_of_file old.tree (place_of path)) unit_of (λ place. remove old.tree place)
+    Changes old answer new (spot_of_file old.tree (spot_of path)) unit_of (λ spot. remove old.tree spot)
 InMemory old (Rename from to answer) new =
-    Changes old answer new (move_of old.tree from to (place_of from) (place_of to)) unit_of (moved_tree old.tree)
+    Changes old answer new (move_of old.tree from to (spot_of from) (spot_of to)) unit_of (moved_tree old.tree)
 
--- the octets at a place, none where no file stands
-abbrev pub octets_at : Tree → Place → List ℕ
-octets_at tree place = unwrap_or (option_and_then octets_of (get tree place)) []
+-- the octets at a spot, none where no file stands
+abbrev pub octets_at : Tree → Spot → List ℕ
+octets_at tree spot = unwrap_or (option_and_then octets_of (get tree spot)) []
 
 -- the octets that the files would hold once those of an upload have come
 abbrev pub would_hold : Memory → Upload → ℕ → ℕ
-would_hold memory upload moment = total (filled memory.tree upload moment (octets_at memory.tree upload.place))
+would_hold memory upload moment = total (filled memory.tree upload moment (octets_at memory.tree upload.spot))

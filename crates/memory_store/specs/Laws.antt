@@ -13,8 +13,8 @@ use Rattle.virtual_tree.specs.declared.mode.WriteMode.{WriteMode}
 use Rattle.virtual_tree.specs.declared.mode.WriteMode.TheVariants.{New, At, Append}
 use Rattle.virtual_tree.specs.Calls.{in_answer, Exchange, refusal, PassesCapacity}
 use Rattle.virtual_tree.specs.Calls.Exchange.{Stat, Listing, OpenRead, OpenWrite, Finish, MakeDir, RemoveDir, RemoveFile, Rename}
-use Rattle.file_tree.specs.Tree.{Node, Place, Tree, place_of, node_at, octets_of, total, begins_with}
-use Rattle.memory_store.specs.InMemory.{Memory, Upload, Opening, Move, Tells, Changes, InMemory, would_hold, if_found, meta_told, listing_told, octets_from, kind_in, kind_at, vacancy, vacant, place_to_make, bare_only, is_bare, place_of_bare, file_only, place_of_file, outside_itself, move_to, move_of, open_new, open_absent, open_octets, open_node, opened, filled, unit_of, finish_octets, finish_node, finished, octets_at}
+use Rattle.file_tree.specs.Tree.{Node, Spot, Tree, spot_of, node_at, octets_of, total, begins_with}
+use Rattle.memory_store.specs.InMemory.{Memory, Upload, Opening, Move, Tells, Changes, InMemory, would_hold, if_found, meta_told, listing_told, octets_from, kind_in, kind_at, vacancy, vacant, spot_to_make, bare_only, is_bare, spot_of_bare, file_only, spot_of_file, outside_itself, move_to, move_of, open_new, open_absent, open_octets, open_node, opened, filled, unit_of, finish_octets, finish_node, finished, octets_at}
 
 -- neither the device nor the capacity
 abbrev is_plain : StoreFault → Bool
@@ -63,69 +63,69 @@ plain-octets_from : (offset : ℕ) (octets : Option (List ℕ)) → Plain (octet
 plain-octets_from offset None = tt
 plain-octets_from offset (Some octets) = plain-cond (nat_lt (length octets) offset) _ _ tt tt
 
-plain-vacancy : (place : Place) (above here : Option Kind) → Plain (vacancy place above here)
-plain-vacancy place None here = tt
-plain-vacancy place (Some kind.File) here = tt
-plain-vacancy place (Some kind.Directory) (Some found) = tt
-plain-vacancy place (Some kind.Directory) None = tt
+plain-vacancy : (spot : Spot) (above here : Option Kind) → Plain (vacancy spot above here)
+plain-vacancy spot None here = tt
+plain-vacancy spot (Some kind.File) here = tt
+plain-vacancy spot (Some kind.Directory) (Some found) = tt
+plain-vacancy spot (Some kind.Directory) None = tt
 
-plain-vacant : (tree : Tree) (path : Path) (place : Place) → Plain (vacant tree path place)
-plain-vacant tree path place = plain-vacancy place _ _
+plain-vacant : (tree : Tree) (path : Path) (spot : Spot) → Plain (vacant tree path spot)
+plain-vacant tree path spot = plain-vacancy spot _ _
 
-plain-place_to_make : (tree : Tree) (path : Path) (place : Option Place) → Plain (place_to_make tree path place)
-plain-place_to_make tree path None = tt
-plain-place_to_make tree path (Some place) = plain-vacant tree path place
+plain-spot_to_make : (tree : Tree) (path : Path) (spot : Option Spot) → Plain (spot_to_make tree path spot)
+plain-spot_to_make tree path None = tt
+plain-spot_to_make tree path (Some spot) = plain-vacant tree path spot
 
-plain-bare_only : (bare : Bool) (place : Place) (found : Option Kind) → Plain (bare_only bare place found)
-plain-bare_only bare place None = tt
-plain-bare_only bare place (Some kind.File) = tt
-plain-bare_only bare place (Some kind.Directory) = plain-cond bare _ _ tt tt
+plain-bare_only : (bare : Bool) (spot : Spot) (found : Option Kind) → Plain (bare_only bare spot found)
+plain-bare_only bare spot None = tt
+plain-bare_only bare spot (Some kind.File) = tt
+plain-bare_only bare spot (Some kind.Directory) = plain-cond bare _ _ tt tt
 
-plain-place_of_bare : (tree : Tree) (path : Path) (place : Option Place) → Plain (place_of_bare tree path place)
-plain-place_of_bare tree path None = tt
-plain-place_of_bare tree path (Some place) = plain-bare_only (is_bare tree path) place _
+plain-spot_of_bare : (tree : Tree) (path : Path) (spot : Option Spot) → Plain (spot_of_bare tree path spot)
+plain-spot_of_bare tree path None = tt
+plain-spot_of_bare tree path (Some spot) = plain-bare_only (is_bare tree path) spot _
 
-plain-file_only : (place : Place) (found : Option Kind) → Plain (file_only place found)
-plain-file_only place None = tt
-plain-file_only place (Some kind.File) = tt
-plain-file_only place (Some kind.Directory) = tt
+plain-file_only : (spot : Spot) (found : Option Kind) → Plain (file_only spot found)
+plain-file_only spot None = tt
+plain-file_only spot (Some kind.File) = tt
+plain-file_only spot (Some kind.Directory) = tt
 
-plain-place_of_file : (tree : Tree) (place : Option Place) → Plain (place_of_file tree place)
-plain-place_of_file tree None = tt
-plain-place_of_file tree (Some place) = plain-file_only place _
+plain-spot_of_file : (tree : Tree) (spot : Option Spot) → Plain (spot_of_file tree spot)
+plain-spot_of_file tree None = tt
+plain-spot_of_file tree (Some spot) = plain-file_only spot _
 
-plain-outside : (from to : Path) (move : Move) (found : Result Place StoreFault) → Plain found → Plain (outside_itself from to move found)
+plain-outside : (from to : Path) (move : Move) (found : Result Spot StoreFault) → Plain found → Plain (outside_itself from to move found)
 plain-outside from to move (Err why) p = p
-plain-outside from to move (Ok place) p = plain-cond (begins_with from to) (Err fault.Inside) (Ok move) tt tt
+plain-outside from to move (Ok spot) p = plain-cond (begins_with from to) (Err fault.Inside) (Ok move) tt tt
 
-plain-move_of : (tree : Tree) (from to : Path) (before afterwards : Option Place) → Plain (move_of tree from to before afterwards)
+plain-move_of : (tree : Tree) (from to : Path) (before afterwards : Option Spot) → Plain (move_of tree from to before afterwards)
 plain-move_of tree from to None afterwards = tt
 plain-move_of tree from to (Some before) None = tt
 plain-move_of tree from to (Some before) (Some afterwards) =
     plain-if_found (move_to tree from to before afterwards) (λ node. plain-outside from to _ _ (plain-vacant tree to afterwards)) (get tree before)
 
-plain-open_new : (tree : Tree) (moment : ℕ) (found : Result Place StoreFault) → Plain found → Plain (open_new tree moment found)
+plain-open_new : (tree : Tree) (moment : ℕ) (found : Result Spot StoreFault) → Plain found → Plain (open_new tree moment found)
 plain-open_new tree moment (Err why) p = p
-plain-open_new tree moment (Ok place) p = tt
+plain-open_new tree moment (Ok spot) p = tt
 
-plain-open_absent : (tree : Tree) (path : Path) (place : Place) (moment : ℕ) (mode : WriteMode) → Plain (open_absent tree path place moment mode)
-plain-open_absent tree path place moment New = plain-open_new tree moment _ (plain-vacant tree path place)
-plain-open_absent tree path place moment (At offset) = tt
-plain-open_absent tree path place moment Append = plain-open_new tree moment _ (plain-vacant tree path place)
+plain-open_absent : (tree : Tree) (path : Path) (spot : Spot) (moment : ℕ) (mode : WriteMode) → Plain (open_absent tree path spot moment mode)
+plain-open_absent tree path spot moment New = plain-open_new tree moment _ (plain-vacant tree path spot)
+plain-open_absent tree path spot moment (At offset) = tt
+plain-open_absent tree path spot moment Append = plain-open_new tree moment _ (plain-vacant tree path spot)
 
-plain-open_octets : (tree : Tree) (place : Place) (moment : ℕ) (mode : WriteMode) (octets : Option (List ℕ)) → Plain (open_octets tree place moment mode octets)
-plain-open_octets tree place moment mode None = tt
-plain-open_octets tree place moment New (Some octets) = tt
-plain-open_octets tree place moment (At offset) (Some octets) = plain-cond (nat_lt (length octets) offset) _ _ tt tt
-plain-open_octets tree place moment Append (Some octets) = tt
+plain-open_octets : (tree : Tree) (spot : Spot) (moment : ℕ) (mode : WriteMode) (octets : Option (List ℕ)) → Plain (open_octets tree spot moment mode octets)
+plain-open_octets tree spot moment mode None = tt
+plain-open_octets tree spot moment New (Some octets) = tt
+plain-open_octets tree spot moment (At offset) (Some octets) = plain-cond (nat_lt (length octets) offset) _ _ tt tt
+plain-open_octets tree spot moment Append (Some octets) = tt
 
-plain-open_node : (tree : Tree) (path : Path) (place : Place) (moment : ℕ) (mode : WriteMode) (found : Option Node) → Plain (open_node tree path place moment mode found)
-plain-open_node tree path place moment mode None = plain-open_absent tree path place moment mode
-plain-open_node tree path place moment mode (Some node) = plain-open_octets tree place moment mode (octets_of node)
+plain-open_node : (tree : Tree) (path : Path) (spot : Spot) (moment : ℕ) (mode : WriteMode) (found : Option Node) → Plain (open_node tree path spot moment mode found)
+plain-open_node tree path spot moment mode None = plain-open_absent tree path spot moment mode
+plain-open_node tree path spot moment mode (Some node) = plain-open_octets tree spot moment mode (octets_of node)
 
-plain-opened : (tree : Tree) (path : Path) (mode : WriteMode) (moment : ℕ) (place : Option Place) → Plain (opened tree path mode moment place)
+plain-opened : (tree : Tree) (path : Path) (mode : WriteMode) (moment : ℕ) (spot : Option Spot) → Plain (opened tree path mode moment spot)
 plain-opened tree path mode moment None = tt
-plain-opened tree path mode moment (Some place) = plain-open_node tree path place moment mode (get tree place)
+plain-opened tree path mode moment (Some spot) = plain-open_node tree path spot moment mode (get tree spot)
 
 -- ---- an answer's fault is plain where the decision's is
 
@@ -178,16 +178,16 @@ plain_step old new (Listing path answer) why grave step is = (refused_by answer 
 plain_step old new (OpenRead path offset answer) why grave step is =
     (refused_by answer _ why grave (plain-if_found (λ node. octets_from offset (octets_of node)) (λ node. plain-octets_from offset (octets_of node)) (node_at old.tree path)) step.0 is)
 plain_step old new (OpenWrite path mode moment answer) why grave step is =
-    (refused_by answer _ why grave (plain-in_answer _ _ (plain-opened old.tree path mode moment (place_of path))) (λ other. (step.0 other).0) is)
+    (refused_by answer _ why grave (plain-in_answer _ _ (plain-opened old.tree path mode moment (spot_of path))) (λ other. (step.0 other).0) is)
 plain_step old new (Finish upload moment answer) why grave step is = tt
 plain_step old new (MakeDir path answer) why grave step is =
-    (refused_by answer _ why grave (plain-in_answer _ _ (plain-place_to_make old.tree path (place_of path))) (λ other. (step.0 other).0) is)
+    (refused_by answer _ why grave (plain-in_answer _ _ (plain-spot_to_make old.tree path (spot_of path))) (λ other. (step.0 other).0) is)
 plain_step old new (RemoveDir path answer) why grave step is =
-    (refused_by answer _ why grave (plain-in_answer _ _ (plain-place_of_bare old.tree path (place_of path))) (λ other. (step.0 other).0) is)
+    (refused_by answer _ why grave (plain-in_answer _ _ (plain-spot_of_bare old.tree path (spot_of path))) (λ other. (step.0 other).0) is)
 plain_step old new (RemoveFile path answer) why grave step is =
-    (refused_by answer _ why grave (plain-in_answer _ _ (plain-place_of_file old.tree (place_of path))) (λ other. (step.0 other).0) is)
+    (refused_by answer _ why grave (plain-in_answer _ _ (plain-spot_of_file old.tree (spot_of path))) (λ other. (step.0 other).0) is)
 plain_step old new (Rename from to answer) why grave step is =
-    (refused_by answer _ why grave (plain-in_answer _ _ (plain-move_of old.tree from to (place_of from) (place_of to))) (λ other. (step.0 other).0) is)
+    (refused_by answer _ why grave (plain-in_answer _ _ (plain-move_of old.tree from to (spot_of from) (spot_of to))) (λ other. (step.0 other).0) is)
 
 -- ---- Finish
 
@@ -231,8 +231,8 @@ finish-node memory upload moment None = record {
 }
 finish-node memory upload moment (Some node) = finish-octets memory upload moment (octets_of node)
 
-finish-step : (memory : Memory) (upload : Upload) (moment : ℕ) → IsFinish memory (total (filled memory.tree upload moment (octets_at memory.tree upload.place))) (finished memory upload moment)
-finish-step memory upload moment = finish-node memory upload moment (get memory.tree upload.place)
+finish-step : (memory : Memory) (upload : Upload) (moment : ℕ) → IsFinish memory (total (filled memory.tree upload moment (octets_at memory.tree upload.spot))) (finished memory upload moment)
+finish-step memory upload moment = finish-node memory upload moment (get memory.tree upload.spot)
 
 err_from : {P X : Type 0} (told : P → X) (decided : Result P StoreFault) (why : StoreFault) → refused X why ≡ in_answer told decided → decided ≡ Err why
 err_from {P} {X} told (Ok x) why e = absurd (never_ok X why (told x) e)

@@ -2,7 +2,7 @@
 
 ghost use Rattle.std.specs.Prelude.{◌≡◌, ◌≤◌, min, take, length, Some};
 
-use file_tree::Place;
+use file_tree::Spot;
 use std::alloc::Allocator;
 use std::marker::Model;
 use std::sync::Arc;
@@ -29,7 +29,7 @@ impl<A: Allocator> Model for MemSource<A> {
 /// The octets that came for a file; `finish` puts them into it.
 #[derive(Drop)]
 pub struct MemSink<A: Allocator> {
-    pub(crate) place: Place<A>,
+    pub(crate) spot: Spot<A>,
     pub(crate) kept: usize,
     pub(crate) octets: Vec<u8, A>,
 }
@@ -42,7 +42,7 @@ impl<A: Allocator> Model for MemSink<A> {
 
     ghost coded = { upload_code };
 
-    ghost view = { λ sink. record { place = sink.place; kept = sink.kept; octets = sink.octets.items } };
+    ghost view = { λ sink. record { spot = sink.spot; kept = sink.kept; octets = sink.octets.items } };
 }
 
 /// Copies as much as there is room for, and answers how much.

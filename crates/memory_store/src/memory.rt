@@ -10,7 +10,7 @@ ghost use Rattle.file_tree.specs.Tree.{listing};
 
 use crate::ends::{MemSink, MemSource};
 use crate::writing::open_from;
-use file_tree::{Entry, Files, Place};
+use file_tree::{Entry, Files, Spot};
 use ftp_terms::{Kind, Meta};
 use std::alloc::{AllocError, Allocator, Global};
 use std::marker::Model;
@@ -53,11 +53,11 @@ impl<A: Allocator + Clone> MemStore<A> {
         })
     }
 
-    /// The entry at a place once more.
-    pub(crate) fn share(&self, place: &Place<A>) -> Result<Option<Entry<A>>, AllocError>
-        ensures { IfOk result (λ found. found ≡ map.get self.now.tree place.now) }
+    /// The entry at a spot once more.
+    pub(crate) fn share(&self, spot: &Spot<A>) -> Result<Option<Entry<A>>, AllocError>
+        ensures { IfOk result (λ found. found ≡ map.get self.now.tree spot.now) }
     {
-        match self.files.get(place) {
+        match self.files.get(spot) {
             None => Ok(None),
             Some(entry) => {
                 let shared = entry.share()?;
@@ -79,7 +79,7 @@ impl<A: Allocator + Clone> MemStore<A> {
 }
 
 impl<A: Allocator + Clone> Store<A> for MemStore<A> {
-    ghost use Rattle.std.specs.Prelude.{ℕ, Some};
+    ghost use Rattle.std.specs.Prelude.{Some};
     ghost use Rattle.memory_store.specs.InMemory.{InMemory, would_hold};
 
     type Source = MemSource<A>;
@@ -99,10 +99,10 @@ impl<A: Allocator + Clone> Store<A> for MemStore<A> {
     }
 
     fn stat(&mut self, path: &VPath<A>) -> Result<Meta, StoreFault> {
-        let Some(place) = Place::of(&self.alloc, path)? else {
+        let Some(spot) = Spot::of(&self.alloc, path)? else {
             return Ok(Entry::<A>::directory().meta());
         };
-        match self.files.get(&place) {
+        match self.files.get(&spot) {
             None => Err(StoreFault::NotFound),
             Some(entry) => Ok(entry.meta()),
         }
@@ -117,10 +117,10 @@ impl<A: Allocator + Clone> Store<A> for MemStore<A> {
     }
 
     fn open_read(&mut self, path: &VPath<A>, offset: u64) -> Result<MemSource<A>, StoreFault> {
-        let Some(place) = Place::of(&self.alloc, path)? else {
+        let Some(spot) = Spot::of(&self.alloc, path)? else {
             return Err(StoreFault::IsDir);
         };
-        let Some(entry) = self.share(&place)? else {
+        let Some(entry) = self.share(&spot)? else {
             return Err(StoreFault::NotFound);
         };
         match entry.into_octets() {
@@ -135,42 +135,42 @@ impl<A: Allocator + Clone> Store<A> for MemStore<A> {
         mode: WriteMode,
         moment: u64,
     ) -> Result<MemSink<A>, StoreFault> {
-        match Place::of(&self.alloc, path)? {
+        match Spot::of(&self.alloc, path)? {
             None => Err(StoreFault::IsDir),
-            Some(place) => self.open_at(path, place, mode, moment),
+            Some(spot) => self.open_at(path, spot, mode, moment),
         }
     }
 
     fn finish(&mut self, sink: MemSink<A>, moment: u64) -> Result<(), StoreFault> {
         let MemSink {
-            place,
+            spot,
             kept,
             octets: came,
         } = sink;
-        let Some(entry) = self.share(&place)? else {
+        let Some(entry) = self.share(&spot)? else {
             return Err(StoreFault::NotFound);
         };
         match entry.into_octets() {
             None => Err(StoreFault::IsDir),
-            Some(octets) => self.fill(place, kept, came, octets.as_slice(), moment),
+            Some(octets) => self.fill(spot, kept, came, octets.as_slice(), moment),
         }
     }
 
     fn make_dir(&mut self, path: &VPath<A>) -> Result<(), StoreFault> {
-        let place = self.place_to_make(path)?;
-        self.files.put(place, Entry::directory())?;
+        let spot = self.spot_to_make(path)?;
+        self.files.put(spot, Entry::directory())?;
         Ok(())
     }
 
     fn remove_dir(&mut self, path: &VPath<A>) -> Result<(), StoreFault> {
-        let place = self.place_of_bare(path)?;
-        self.files.take(&place);
+        let spot = self.spot_of_bare(path)?;
+        self.files.take(&spot);
         Ok(())
     }
 
     fn remove_file(&mut self, path: &VPath<A>) -> Result<(), StoreFault> {
-        let place = self.place_of_file(path)?;
-        self.files.take(&place);
+        let spot = self.spot_of_file(path)?;
+        self.files.take(&spot);
         Ok(())
     }
 

@@ -1,23 +1,24 @@
 //! Entries of a store in memory that are renamed.
 
-ghost use Rattle.std.specs.Prelude.{◌≡◌, ◌≢◌, IfOk, MatchResult, Ok, Err, Some, None};
+ghost use Rattle.std.specs.Prelude.{◌≡◌, IfOk, MatchResult, Ok, Err, Some, None};
 ghost use Rattle.std.specs.FinMap as map;
+ghost use Rattle.memory_terms.specs.Lack.{Unless};
 ghost use Rattle.file_tree.specs.Tree.{begins_with};
 ghost use Rattle.memory_store.specs.InMemory.{vacant, move_between, moved_tree, unit_of, Changes};
 
 use crate::memory::MemStore;
-use file_tree::{Entry, Place};
+use file_tree::{Entry, Spot};
 use ftp_terms::Kind;
 use std::alloc::Allocator;
 use virtual_path::VPath;
 use virtual_tree::StoreFault;
 
-/// An entry that is renamed, and its two places.
+/// An entry that is renamed, and its two spots.
 #[derive(Drop)]
 pub(crate) struct Moving<A: Allocator> {
     pub(crate) entry: Entry<A>,
-    pub(crate) before: Place<A>,
-    pub(crate) afterwards: Place<A>,
+    pub(crate) before: Spot<A>,
+    pub(crate) afterwards: Spot<A>,
 }
 
 impl<A: Allocator + Clone> MemStore<A> {
@@ -30,18 +31,18 @@ impl<A: Allocator + Clone> MemStore<A> {
               before = moving.before;
               afterwards = moving.afterwards;
             }))
-            (λ fault. fault ≢ StoreFault.Memory → move_between self.now.tree from.now to.now
-            ≡ Err fault) }
+            (Unless StoreFault.Memory
+            (λ fault. move_between self.now.tree from.now to.now ≡ Err fault)) }
         ensures before { IfOk result (λ moving. moving.before ≡ from.now) }
         ensures afterwards { IfOk result (λ moving. moving.afterwards ≡ to.now) }
         ensures stands { IfOk result
             (λ moving. map.get self.now.tree moving.before ≡ Some moving.entry) }
         ensures vacant { IfOk result (λ moving. map.get self.now.tree moving.afterwards ≡ None) }
     {
-        let Some(before) = Place::of(&self.alloc, from)? else {
+        let Some(before) = Spot::of(&self.alloc, from)? else {
             return Err(StoreFault::Inside);
         };
-        let Some(afterwards) = Place::of(&self.alloc, to)? else {
+        let Some(afterwards) = Spot::of(&self.alloc, to)? else {
             return Err(StoreFault::Inside);
         };
         let Some(entry) = self.share(&before)? else {

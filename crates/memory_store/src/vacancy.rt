@@ -2,22 +2,22 @@
 
 ghost use Rattle.std.specs.Prelude.{◌≡◌, ◌≢◌, IfOk, Ok, Err, Some, None};
 ghost use Rattle.virtual_path.specs.Path.{parent_of};
-ghost use Rattle.memory_store.specs.InMemory.{kind_in, kind_at, vacant, place_to_make, place_of_bare, place_of_file};
-ghost use Rattle.file_tree.specs.Tree.{place_of};
+ghost use Rattle.memory_store.specs.InMemory.{kind_in, kind_at, vacant, spot_to_make, spot_of_bare, spot_of_file};
+ghost use Rattle.file_tree.specs.Tree.{spot_of};
 
 use crate::memory::MemStore;
-use file_tree::Place;
+use file_tree::Spot;
 use ftp_terms::Kind;
 use std::alloc::{AllocError, Allocator};
 use virtual_path::VPath;
 use virtual_tree::StoreFault;
 
 impl<A: Allocator + Clone> MemStore<A> {
-    /// What kind of entry stands at a place.
-    pub(crate) fn kind_in(&self, place: &Place<A>) -> Option<Kind>
-        ensures { result ≡ kind_in self.now.tree place.now }
+    /// What kind of entry stands at a spot.
+    pub(crate) fn kind_in(&self, spot: &Spot<A>) -> Option<Kind>
+        ensures { result ≡ kind_in self.now.tree spot.now }
     {
-        match self.files.get(place) {
+        match self.files.get(spot) {
             None => None,
             Some(entry) => Some(entry.kind()),
         }
@@ -27,9 +27,9 @@ impl<A: Allocator + Clone> MemStore<A> {
     pub(crate) fn kind_above(&self, path: &VPath<A>) -> Result<Option<Kind>, AllocError>
         ensures { IfOk result (λ kind. kind ≡ kind_at self.now.tree (parent_of path.now)) }
     {
-        match Place::above(&self.alloc, path)? {
+        match Spot::above(&self.alloc, path)? {
             None => Ok(Some(Kind::Directory)),
-            Some(place) => Ok(self.kind_in(&place)),
+            Some(spot) => Ok(self.kind_in(&spot)),
         }
     }
 
@@ -37,63 +37,63 @@ impl<A: Allocator + Clone> MemStore<A> {
     pub(crate) fn kind_at(&self, path: &VPath<A>) -> Result<Option<Kind>, AllocError>
         ensures { IfOk result (λ kind. kind ≡ kind_at self.now.tree path.now) }
     {
-        match Place::of(&self.alloc, path)? {
+        match Spot::of(&self.alloc, path)? {
             None => Ok(Some(Kind::Directory)),
-            Some(place) => Ok(self.kind_in(&place)),
+            Some(spot) => Ok(self.kind_in(&spot)),
         }
     }
 
-    /// The place, if an entry may be made there.
-    pub(crate) fn vacant(&self, path: &VPath<A>, place: Place<A>) -> Result<Place<A>, StoreFault>
-        ensures { result ≢ Err StoreFault.Memory → result ≡ vacant self.now.tree path.now place }
+    /// The spot, if an entry may be made there.
+    pub(crate) fn vacant(&self, path: &VPath<A>, spot: Spot<A>) -> Result<Spot<A>, StoreFault>
+        ensures { result ≢ Err StoreFault.Memory → result ≡ vacant self.now.tree path.now spot }
     {
         let above = self.kind_above(path)?;
-        match (above, self.kind_in(&place)) {
+        match (above, self.kind_in(&spot)) {
             (None, _) => Err(StoreFault::NotFound),
             (Some(Kind::File), _) => Err(StoreFault::NotDir),
             (Some(Kind::Directory), Some(_)) => Err(StoreFault::Exists),
-            (Some(Kind::Directory), None) => Ok(place),
+            (Some(Kind::Directory), None) => Ok(spot),
         }
     }
 
-    pub(crate) fn place_to_make(&self, path: &VPath<A>) -> Result<Place<A>, StoreFault>
+    pub(crate) fn spot_to_make(&self, path: &VPath<A>) -> Result<Spot<A>, StoreFault>
         ensures { result ≢ Err StoreFault.Memory
-            → result ≡ place_to_make self.now.tree path.now (place_of path.now) }
+            → result ≡ spot_to_make self.now.tree path.now (spot_of path.now) }
     {
-        match Place::of(&self.alloc, path)? {
+        match Spot::of(&self.alloc, path)? {
             None => Err(StoreFault::Exists),
-            Some(place) => self.vacant(path, place),
+            Some(spot) => self.vacant(path, spot),
         }
     }
 
-    pub(crate) fn place_of_file(&self, path: &VPath<A>) -> Result<Place<A>, StoreFault>
+    pub(crate) fn spot_of_file(&self, path: &VPath<A>) -> Result<Spot<A>, StoreFault>
         ensures { result ≢ Err StoreFault.Memory
-            → result ≡ place_of_file self.now.tree (place_of path.now) }
+            → result ≡ spot_of_file self.now.tree (spot_of path.now) }
     {
-        match Place::of(&self.alloc, path)? {
+        match Spot::of(&self.alloc, path)? {
             None => Err(StoreFault::IsDir),
-            Some(place) => match self.kind_in(&place) {
+            Some(spot) => match self.kind_in(&spot) {
                 None => Err(StoreFault::NotFound),
                 Some(Kind::Directory) => Err(StoreFault::IsDir),
-                Some(Kind::File) => Ok(place),
+                Some(Kind::File) => Ok(spot),
             },
         }
     }
 
-    pub(crate) fn place_of_bare(&self, path: &VPath<A>) -> Result<Place<A>, StoreFault>
+    pub(crate) fn spot_of_bare(&self, path: &VPath<A>) -> Result<Spot<A>, StoreFault>
         ensures { result ≢ Err StoreFault.Memory
-            → result ≡ place_of_bare self.now.tree path.now (place_of path.now) }
+            → result ≡ spot_of_bare self.now.tree path.now (spot_of path.now) }
     {
-        let Some(place) = Place::of(&self.alloc, path)? else {
+        let Some(spot) = Spot::of(&self.alloc, path)? else {
             return Err(StoreFault::NotEmpty);
         };
         let is_bare = self.files.is_bare(&self.alloc, path)?;
-        match self.kind_in(&place) {
+        match self.kind_in(&spot) {
             None => Err(StoreFault::NotFound),
             Some(Kind::File) => Err(StoreFault::NotDir),
             Some(Kind::Directory) => {
                 if is_bare {
-                    Ok(place)
+                    Ok(spot)
                 } else {
                     Err(StoreFault::NotEmpty)
                 }

@@ -9,7 +9,7 @@ ghost use Rattle.file_tree.specs.Tree.Node.{File};
 
 use crate::ends::{MemSink, MemSource};
 use crate::memory::MemStore;
-use file_tree::{Entry, Place};
+use file_tree::{Entry, Spot};
 use std::alloc::{AllocError, Allocator};
 use std::sync::Arc;
 use virtual_path::VPath;
@@ -19,15 +19,15 @@ impl<A: Allocator + Clone> MemStore<A> {
     /// An empty file, open for writing.
     pub(crate) fn open_empty(
         &mut self,
-        place: Place<A>,
+        spot: Spot<A>,
         moment: u64,
     ) -> Result<MemSink<A>, StoreFault>
         ensures { Opens self.old result self.new
-            (Ok (opening (map.insert self.old.tree place (File [] moment)) place 0)) }
+            (Ok (opening (map.insert self.old.tree spot (File [] moment)) spot 0)) }
     {
-        let sink = self.sink(&place, 0)?;
+        let sink = self.sink(&spot, 0)?;
         let entry = self.empty(moment)?;
-        self.files.put(place, entry)?;
+        self.files.put(spot, entry)?;
         Ok(sink)
     }
 
@@ -41,15 +41,15 @@ impl<A: Allocator + Clone> MemStore<A> {
     }
 
     /// A sink with no octets yet.
-    pub(crate) fn sink(&self, place: &Place<A>, kept: usize) -> Result<MemSink<A>, AllocError>
-        ensures place { IfOk result (λ sink. sink.place ≡ place.now) }
+    pub(crate) fn sink(&self, spot: &Spot<A>, kept: usize) -> Result<MemSink<A>, AllocError>
+        ensures spot { IfOk result (λ sink. sink.spot ≡ spot.now) }
         ensures kept { IfOk result (λ sink. sink.kept ≡ kept) }
         ensures octets { IfOk result (λ sink. sink.octets ≡ []) }
     {
-        let place = place.copy(&self.alloc)?;
+        let spot = spot.copy(&self.alloc)?;
         let alloc = self.alloc.clone()?;
         Ok(MemSink {
-            place,
+            spot,
             kept,
             octets: Vec::new(alloc),
         })
@@ -110,55 +110,55 @@ impl<A: Allocator + Clone> MemStore<A> {
     /// The file's first octets, this many, open to be written behind them.
     pub(crate) fn open_cut(
         &mut self,
-        place: Place<A>,
+        spot: Spot<A>,
         octets: &[u8],
         offset: u64,
         moment: u64,
     ) -> Result<MemSink<A>, StoreFault>
-        requires { length octets.now ≤ size_at (map.get self.old.tree place) }
+        requires { length octets.now ≤ size_at (map.get self.old.tree spot) }
         ensures { Opens self.old result self.new
-            (open_octets self.old.tree place moment (WriteMode.At offset) (Some octets.now)) }
+            (open_octets self.old.tree spot moment (WriteMode.At offset) (Some octets.now)) }
     {
         if (octets.len() as u64) < offset {
             return Err(StoreFault::PastEnd);
         }
         let kept = offset as usize;
-        let sink = self.sink(&place, kept)?;
+        let sink = self.sink(&spot, kept)?;
         let first = self.first(octets, kept)?;
-        self.files.put(place, Entry::file(first, moment))?;
+        self.files.put(spot, Entry::file(first, moment))?;
         Ok(sink)
     }
 
     /// The whole file, open to be written behind its octets.
     pub(crate) fn open_end(
         &mut self,
-        place: Place<A>,
+        spot: Spot<A>,
         octets: &[u8],
         moment: u64,
     ) -> Result<MemSink<A>, StoreFault>
         ensures { Opens self.old result self.new
-            (open_octets self.old.tree place moment WriteMode.Append (Some octets.now)) }
+            (open_octets self.old.tree spot moment WriteMode.Append (Some octets.now)) }
     {
-        let sink = self.sink(&place, octets.len())?;
+        let sink = self.sink(&spot, octets.len())?;
         Ok(sink)
     }
 
     /// A file with these octets, open for writing.
     pub(crate) fn open_octets(
         &mut self,
-        place: Place<A>,
+        spot: Spot<A>,
         octets: &[u8],
         mode: WriteMode,
         moment: u64,
     ) -> Result<MemSink<A>, StoreFault>
-        requires { length octets.now ≤ size_at (map.get self.old.tree place) }
+        requires { length octets.now ≤ size_at (map.get self.old.tree spot) }
         ensures { Opens self.old result self.new
-            (open_octets self.old.tree place moment mode (Some octets.now)) }
+            (open_octets self.old.tree spot moment mode (Some octets.now)) }
     {
         match mode {
-            WriteMode::New => self.open_empty(place, moment),
-            WriteMode::At(offset) => self.open_cut(place, octets, offset, moment),
-            WriteMode::Append => self.open_end(place, octets, moment),
+            WriteMode::New => self.open_empty(spot, moment),
+            WriteMode::At(offset) => self.open_cut(spot, octets, offset, moment),
+            WriteMode::Append => self.open_end(spot, octets, moment),
         }
     }
 
@@ -166,29 +166,29 @@ impl<A: Allocator + Clone> MemStore<A> {
     pub(crate) fn open_new(
         &mut self,
         path: &VPath<A>,
-        place: Place<A>,
+        spot: Spot<A>,
         moment: u64,
     ) -> Result<MemSink<A>, StoreFault>
         ensures { Opens self.old result self.new
-            (open_new self.old.tree moment (vacant self.old.tree path.now place)) }
+            (open_new self.old.tree moment (vacant self.old.tree path.now spot)) }
     {
-        let place = self.vacant(path, place)?;
-        self.open_empty(place, moment)
+        let spot = self.vacant(path, spot)?;
+        self.open_empty(spot, moment)
     }
 
-    /// What stands at no place, open for writing.
+    /// What stands at no spot, open for writing.
     pub(crate) fn open_absent(
         &mut self,
         path: &VPath<A>,
-        place: Place<A>,
+        spot: Spot<A>,
         mode: WriteMode,
         moment: u64,
     ) -> Result<MemSink<A>, StoreFault>
         ensures { Opens self.old result self.new
-            (open_absent self.old.tree path.now place moment mode) }
+            (open_absent self.old.tree path.now spot moment mode) }
     {
         match mode {
-            WriteMode::New | WriteMode::Append => self.open_new(path, place, moment),
+            WriteMode::New | WriteMode::Append => self.open_new(path, spot, moment),
             WriteMode::At(_) => Err(StoreFault::NotFound),
         }
     }
@@ -196,19 +196,19 @@ impl<A: Allocator + Clone> MemStore<A> {
     pub(crate) fn open_at(
         &mut self,
         path: &VPath<A>,
-        place: Place<A>,
+        spot: Spot<A>,
         mode: WriteMode,
         moment: u64,
     ) -> Result<MemSink<A>, StoreFault>
         ensures { Opens self.old result self.new
-            (open_node self.old.tree path.now place moment mode (map.get self.old.tree place)) }
+            (open_node self.old.tree path.now spot moment mode (map.get self.old.tree spot)) }
     {
-        let Some(entry) = self.share(&place)? else {
-            return self.open_absent(path, place, mode, moment);
+        let Some(entry) = self.share(&spot)? else {
+            return self.open_absent(path, spot, mode, moment);
         };
         match entry.into_octets() {
             None => Err(StoreFault::IsDir),
-            Some(octets) => self.open_octets(place, octets.as_slice(), mode, moment),
+            Some(octets) => self.open_octets(spot, octets.as_slice(), mode, moment),
         }
     }
 
@@ -227,16 +227,16 @@ impl<A: Allocator + Clone> MemStore<A> {
     /// Puts what came behind the first octets of a file, which holds `octets`.
     pub(crate) fn fill(
         &mut self,
-        place: Place<A>,
+        spot: Spot<A>,
         kept: usize,
         came: Vec<u8, A>,
         octets: &[u8],
         moment: u64,
     ) -> Result<(), StoreFault>
-        requires { size_at (map.get self.old.tree place) ≡ length octets.now }
+        requires { size_at (map.get self.old.tree spot) ≡ length octets.now }
         ensures { Changes self.old result self.new
             (finish_octets self.old
-            (record { place = place; kept = kept; octets = came.items }) moment (Some octets.now))
+            (record { spot = spot; kept = kept; octets = came.items }) moment (Some octets.now))
             unit_of (λ tree. tree) }
     {
         let first = kept.min(octets.len());
@@ -248,7 +248,7 @@ impl<A: Allocator + Clone> MemStore<A> {
             return Err(StoreFault::PastEnd);
         }
         let filled = self.joined(octets, kept, came)?;
-        self.files.put(place, Entry::file(filled, moment))?;
+        self.files.put(spot, Entry::file(filled, moment))?;
         Ok(())
     }
 }

@@ -23,7 +23,7 @@ pub store_refused : (tables : Tables) (ds : List DirTable) (fs : List FileTable)
     → ds ≡ tables.dirs.items → fs ≡ tables.files.items → AreApart tables.groups.items → AreGrouped tables.groups.items tables.users.items
     → AddsUsers tables.groups.items tables.users.items tables.overrides.items no_users users
     → Tells (IsStoreProblem tables.server ds fs) fault → TellsStore fault answer → IsFaultOfTables tables answer
-store_refused tables ds fs users fault (BadStore location problem) same_dirs same_files apart grouped adds refused told = (
+store_refused tables ds fs users fault (BadStore header problem) same_dirs same_files apart grouped adds refused told = (
   apart,
   grouped,
   (users, adds),
@@ -31,9 +31,9 @@ store_refused tables ds fs users fault (BadStore location problem) same_dirs sam
       same_dirs same_files (subst (Tells (IsStoreProblem tables.server ds fs)) told.1 refused),
 )
 store_refused tables ds fs users fault (NotToml line error) same_dirs same_files apart grouped adds refused told = absurd told
-store_refused tables ds fs users fault (Key location key problem) same_dirs same_files apart grouped adds refused told = absurd told
-store_refused tables ds fs users fault (BadGroup location problem) same_dirs same_files apart grouped adds refused told = absurd told
-store_refused tables ds fs users fault (BadUser location problem) same_dirs same_files apart grouped adds refused told = absurd told
+store_refused tables ds fs users fault (Key header key problem) same_dirs same_files apart grouped adds refused told = absurd told
+store_refused tables ds fs users fault (BadGroup header problem) same_dirs same_files apart grouped adds refused told = absurd told
+store_refused tables ds fs users fault (BadUser header problem) same_dirs same_files apart grouped adds refused told = absurd told
 store_refused tables ds fs users fault BadDate same_dirs same_files apart grouped adds refused told = absurd told
 store_refused tables ds fs users fault Memory same_dirs same_files apart grouped adds refused told = tt
 
@@ -42,21 +42,21 @@ pub tables_refused : (document : Members) (tables : Tables) (answer : Result Con
     → IfErr answer (IsFaultOfTables tables) → IfErr answer (IsFaultOf document)
 tables_refused document tables (Ok config) stated is = tt
 tables_refused document tables (Err (NotToml line error)) stated is = absurd is
-tables_refused document tables (Err (Key location key problem)) stated is = absurd is
+tables_refused document tables (Err (Key header key problem)) stated is = absurd is
 tables_refused document tables (Err BadDate) stated is = absurd is
-tables_refused document tables (Err (BadGroup location problem)) stated is = inr (tables, stated, is)
-tables_refused document tables (Err (BadUser location problem)) stated is = inr (tables, stated, is)
-tables_refused document tables (Err (BadStore location problem)) stated is = inr (tables, stated, is)
+tables_refused document tables (Err (BadGroup header problem)) stated is = inr (tables, stated, is)
+tables_refused document tables (Err (BadUser header problem)) stated is = inr (tables, stated, is)
+tables_refused document tables (Err (BadStore header problem)) stated is = inr (tables, stated, is)
 tables_refused document tables (Err Memory) stated is = inl refl
 
 -- a document that a text is, and which is refused
 pub document_refused : (octets : List ℕ) (document : Members) (fault : ConfigFault) → parse_document octets ≡ Some document → IsFaultOf document fault → IsFaultOfText octets fault
 document_refused octets document (NotToml line error) parsed is = absurd is
 document_refused octets document BadDate parsed is = absurd is
-document_refused octets document (Key location key problem) parsed is = inr (document, parsed, is)
-document_refused octets document (BadGroup location problem) parsed is = inr (document, parsed, is)
-document_refused octets document (BadUser location problem) parsed is = inr (document, parsed, is)
-document_refused octets document (BadStore location problem) parsed is = inr (document, parsed, is)
+document_refused octets document (Key header key problem) parsed is = inr (document, parsed, is)
+document_refused octets document (BadGroup header problem) parsed is = inr (document, parsed, is)
+document_refused octets document (BadUser header problem) parsed is = inr (document, parsed, is)
+document_refused octets document (BadStore header problem) parsed is = inr (document, parsed, is)
 document_refused octets document Memory parsed is = inl refl
 
 pub text_refused : (octets : List ℕ) (document : Members) (answer : Result Config ConfigFault) → parse_document octets ≡ Some document

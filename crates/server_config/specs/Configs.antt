@@ -10,12 +10,12 @@ use Rattle.config_store.specs.Made.{IsStoreOf}
 use Rattle.config_tables.specs.Tables.{IsTables}
 use Rattle.config_tables.specs.declared.tables.Tables.{Tables}
 use Rattle.config_users.specs.Added.{AddsUsers}
-use Rattle.server_config.specs.Settings.{AreTerms, AreNumbers}
+use Rattle.server_config.specs.Settings.{AreSettings, AreNumbers}
 use Rattle.server_config.specs.declared.config.Config.{Config}
 
 -- what the tables of a file make
 pub record IsMadeOf (tables : Tables) (config : Config) : Type 0 where
-  pub terms : AreTerms tables.server config.terms
+  pub settings : AreSettings tables.server config.settings
   pub numbers : AreNumbers tables.server config.numbers
   pub ports : tables.server.passive_first ≤ tables.server.passive_last
   pub groups_apart : AreApart tables.groups.items

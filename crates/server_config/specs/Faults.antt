@@ -13,9 +13,9 @@ name_of_problem (OutOfRange kind) = codes "OutOfRange"
 
 abbrev pub name_of : ConfigFault → List ℕ
 name_of (NotToml line error) = codes "NotToml"
-name_of (Key location key problem) = name_of_problem problem
-name_of (BadGroup location problem) = codes "BadGroup"
-name_of (BadUser location problem) = codes "BadUser"
-name_of (BadStore location problem) = codes "BadStore"
+name_of (Key header key problem) = name_of_problem problem
+name_of (BadGroup header problem) = codes "BadGroup"
+name_of (BadUser header problem) = codes "BadUser"
+name_of (BadStore header problem) = codes "BadStore"
 name_of BadDate = codes "NotToml"
 name_of Memory = codes "Memory"

@@ -11,7 +11,7 @@ use Rattle.config_rates.specs.declared.fault.RowsFault.{RowsFault}
 use Rattle.config_store.specs.Made.{IsStoreProblem}
 use Rattle.config_store.specs.declared.fault.StoreFaultAt.{StoreFaultAt}
 use Rattle.config_tables.specs.Tables.{AreNoTables, IsTables}
-use Rattle.config_tables.specs.declared.fault.Place.{Place}
+use Rattle.config_tables.specs.declared.fault.Header.{Header}
 use Rattle.config_tables.specs.declared.fault.TableFault.{TableFault}
 use Rattle.config_tables.specs.declared.tables.Tables.{Tables}
 use Rattle.config_users.specs.Added.{AddsUsers, IsFirstRefusal}
@@ -21,10 +21,10 @@ use Rattle.server_config.specs.declared.fault.ConfigFault.TheVariants.{NotToml, 
 
 -- the groups are refused; or they are not, and a user is; or nobody is, and what is served is refused
 abbrev pub IsFaultOfTables : Tables → ConfigFault → Type 0
-IsFaultOfTables tables (BadGroup location problem) = IsProblem tables.groups.items tables.users.items problem
-IsFaultOfTables tables (BadUser location problem) = AreApart tables.groups.items × AreGrouped tables.groups.items tables.users.items
+IsFaultOfTables tables (BadGroup header problem) = IsProblem tables.groups.items tables.users.items problem
+IsFaultOfTables tables (BadUser header problem) = AreApart tables.groups.items × AreGrouped tables.groups.items tables.users.items
     × IsFirstRefusal tables.groups.items tables.users.items tables.overrides.items problem
-IsFaultOfTables tables (BadStore location problem) = AreApart tables.groups.items × AreGrouped tables.groups.items tables.users.items
+IsFaultOfTables tables (BadStore header problem) = AreApart tables.groups.items × AreGrouped tables.groups.items tables.users.items
     × ((users : Accounts) × AddsUsers tables.groups.items tables.users.items tables.overrides.items no_users users)
     × IsStoreProblem tables.server tables.dirs.items tables.files.items problem
 IsFaultOfTables tables Memory = Unit {0}
@@ -32,7 +32,7 @@ IsFaultOfTables tables _ = ⊥
 
 -- the document states no tables by a key; or it does, and nothing can be made of them
 abbrev pub IsFaultOf : Members → ConfigFault → Type 0
-IsFaultOf document (Key location key problem) = AreNoTables document
+IsFaultOf document (Key header key problem) = AreNoTables document
 IsFaultOf document (NotToml line error) = ⊥
 IsFaultOf document BadDate = ⊥
 IsFaultOf document fault = (fault ≡ Memory) ⊎ ((tables : Tables) × IsTables document tables × IsFaultOfTables tables fault)
@@ -45,26 +45,26 @@ IsFaultOfText octets fault = (fault ≡ Memory) ⊎ ((document : Members) × (pa
 -- ---- how refusals are told
 
 abbrev pub IsKey : ConfigFault → Type 0
-IsKey (Key location key problem) = Unit {0}
+IsKey (Key header key problem) = Unit {0}
 IsKey _ = ⊥
 
 abbrev pub TellsKey : TableFault → ConfigFault → Type 0
-TellsKey fault (Key location key problem) = fault ≢ TableFault.Memory
+TellsKey fault (Key header key problem) = fault ≢ TableFault.Memory
 TellsKey fault Memory = Unit {0}
 TellsKey fault _ = ⊥
 
 abbrev pub TellsGroup : RowsFault → ConfigFault → Type 0
-TellsGroup fault (BadGroup location problem) = (place : Place) × (fault ≡ RowsFault.Group place problem)
+TellsGroup fault (BadGroup header problem) = (header : Header) × (fault ≡ RowsFault.Group header problem)
 TellsGroup fault Memory = Unit {0}
 TellsGroup fault _ = ⊥
 
 abbrev pub TellsUser : UsersFault → ConfigFault → Type 0
-TellsUser fault (BadUser location problem) = (place : Place) × (fault ≡ UsersFault.Refused place problem)
+TellsUser fault (BadUser header problem) = (header : Header) × (fault ≡ UsersFault.Refused header problem)
 TellsUser fault Memory = Unit {0}
 TellsUser fault _ = ⊥
 
 abbrev pub TellsStore : StoreFaultAt → ConfigFault → Type 0
-TellsStore fault (BadStore location problem) = (place : Place) × (fault ≡ StoreFaultAt.Refused place problem)
+TellsStore fault (BadStore header problem) = (header : Header) × (fault ≡ StoreFaultAt.Refused header problem)
 TellsStore fault Memory = Unit {0}
 TellsStore fault _ = ⊥
 

@@ -1,10 +1,11 @@
 -- What the table [server] sets for sessions, and its numbers.
 use Rattle.std.specs.Prelude.{◌≡◌, Option, Some, None}
+use Rattle.std.specs.declared.alloc.Global.{Global}
 use Rattle.std.specs.Net.Addr.{ipv4_octets}
 use Rattle.std.specs.declared.net.ipv4_addr.Ipv4Addr.{Ipv4Addr}
 use Rattle.ftp_terms.specs.LineText.{text_of}
 use Rattle.config_server.specs.declared.stated.ServerTable.{ServerTable}
-use Rattle.server_config.specs.declared.settings.SessionTerms.{SessionTerms}
+use Rattle.session_table.specs.declared.settings.Settings.{Settings}
 use Rattle.server_config.specs.declared.settings.ServerNumbers.{ServerNumbers}
 
 -- the address that clients are told, or else that of the server
@@ -12,12 +13,12 @@ abbrev pub told_address : Option Ipv4Addr → Ipv4Addr → Ipv4Addr
 told_address None own = own
 told_address (Some stated) own = stated
 
-pub record AreTerms (server : ServerTable) (terms : SessionTerms) : Type 0 where
-  pub banner : text_of terms.banner ≡ server.banner.now
-  pub attempts : terms.login_attempts ≡ server.max_login_attempts
-  pub foreign : terms.permits_foreign_addresses ≡ server.permit_foreign_addresses
-  pub privileged : terms.permits_privileged_ports ≡ server.permit_privileged_ports
-  pub address : terms.address ≡ ipv4_octets (told_address server.masquerade_address server.address)
+pub record AreSettings (server : ServerTable) (settings : Settings Global) : Type 0 where
+  pub banner : text_of settings.banner ≡ server.banner.now
+  pub attempts : settings.login_attempts ≡ server.max_login_attempts
+  pub foreign : settings.permits_foreign_addresses ≡ server.permit_foreign_addresses
+  pub privileged : settings.permits_privileged_ports ≡ server.permit_privileged_ports
+  pub address : settings.address ≡ ipv4_octets (told_address server.masquerade_address server.address)
 
 pub record AreNumbers (server : ServerTable) (numbers : ServerNumbers) : Type 0 where
   pub address : numbers.address ≡ ipv4_octets server.address

@@ -9,13 +9,14 @@ ghost use Rattle.server_config.specs.Configs.{IsMadeOf, IsConfig, IsConfigText};
 ghost use Rattle.server_config.specs.Refused.{IsFaultOf, IsFaultOfTables, IsFaultOfText};
 
 use crate::fault::{ConfigFault, not_toml, of_rows, of_store, of_table, of_users};
-use crate::settings::{ServerNumbers, SessionTerms, numbers_of, terms_of};
+use crate::settings::{ServerNumbers, numbers_of, settings_of};
 use authorizer::Authorizer;
 use config_rates::{limits_of, read_rows};
 use config_store::{ServedStore, make_store};
 use config_tables::{Tables, read_tables};
 use config_users::make_users;
 use line_rates::Limits;
+use session_table::Settings;
 use std::alloc::Global;
 use toml::Table;
 
@@ -23,7 +24,7 @@ use toml::Table;
 #[derive(Drop)]
 pub struct Config {
     /// What it sets for all of its sessions.
-    pub terms: SessionTerms,
+    pub settings: Settings,
     /// Its numbers.
     pub numbers: ServerNumbers,
     /// Its users.
@@ -67,7 +68,7 @@ fn made_of(alloc: Global, tables: &Tables) -> Result<Config, ConfigFault>
         Err(fault) => return Err(of_store(alloc, fault)),
     };
     Ok(Config {
-        terms: terms_of(alloc, &tables.server)?,
+        settings: settings_of(alloc, &tables.server)?,
         numbers: numbers_of(&tables.server),
         users: authorizer,
         store,

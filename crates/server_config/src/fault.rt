@@ -8,7 +8,7 @@ use authorizer::AuthorizerFault;
 use config_keys::Problem;
 use config_rates::{GroupProblem, RowsFault};
 use config_store::{StoreFaultAt, StoreProblem};
-use config_tables::{Place, TableFault, TableName};
+use config_tables::{Header, TableFault, TableName};
 use config_users::UsersFault;
 use std::alloc::{AllocError, Global};
 use std::fmt;
@@ -18,7 +18,7 @@ const LONGEST_SHOWN: usize = 64;
 
 /// A table of a file.
 #[derive(Debug, Drop)]
-pub struct Location {
+pub struct OwnedHeader {
     pub table: TableName,
     /// The number of the row among those of its list, from 1; 0 for a table that is no row.
     pub row: usize,
@@ -36,23 +36,23 @@ pub enum ConfigFault {
     },
     /// A key is unknown, missing, of the wrong kind or out of range.
     Key {
-        location: Location,
+        header: OwnedHeader,
         key: String,
         problem: Problem,
     },
     /// Two groups have one name, or a user's group is not there.
     BadGroup {
-        location: Location,
+        header: OwnedHeader,
         problem: GroupProblem,
     },
     /// The authorizer refuses a user or an override.
     BadUser {
-        location: Location,
+        header: OwnedHeader,
         problem: AuthorizerFault,
     },
     /// The store refuses a directory or a file, or there is no port for passive connections.
     BadStore {
-        location: Location,
+        header: OwnedHeader,
         problem: StoreProblem,
     },
     /// The file has a date that no TOML text can write, so its table cannot be printed.
@@ -106,7 +106,7 @@ fn show<W: fmt::Write>(f: &mut fmt::Formatter<W>, text: &str) -> fmt::Result {
     Ok(())
 }
 
-impl fmt::Display for Location {
+impl fmt::Display for OwnedHeader {
     fn fmt<W: fmt::Write>(&self, f: &mut fmt::Formatter<W>) -> fmt::Result {
         write!(f, "{}", self.table)?;
         if self.row > 0 {
@@ -125,31 +125,31 @@ impl fmt::Display for ConfigFault {
         match self {
             ConfigFault::NotToml { line, error } => write!(f, "line {line}: {}", error.message()),
             ConfigFault::Key {
-                location,
+                header,
                 key,
                 problem,
             } => {
-                write!(f, "{location}: ")?;
+                write!(f, "{header}: ")?;
                 show(f, key.as_str())?;
                 write!(f, ": {problem}")
             }
-            ConfigFault::BadGroup { location, problem } => write!(f, "{location}: {problem}"),
-            ConfigFault::BadUser { location, problem } => write!(f, "{location}: {problem}"),
-            ConfigFault::BadStore { location, problem } => write!(f, "{location}: {problem}"),
+            ConfigFault::BadGroup { header, problem } => write!(f, "{header}: {problem}"),
+            ConfigFault::BadUser { header, problem } => write!(f, "{header}: {problem}"),
+            ConfigFault::BadStore { header, problem } => write!(f, "{header}: {problem}"),
             ConfigFault::BadDate => f.write_str("a date cannot be written"),
             ConfigFault::Memory => f.write_str("out of memory"),
         }
     }
 }
 
-fn located(alloc: Global, place: Place) -> Result<Location, AllocError> {
-    let name = match place.name {
+fn owned(alloc: Global, header: Header) -> Result<OwnedHeader, AllocError> {
+    let name = match header.name {
         Some(name) => Some(String::from_str(alloc, name)?),
         None => None,
     };
-    Ok(Location {
-        table: place.table,
-        row: place.row,
+    Ok(OwnedHeader {
+        table: header.table,
+        row: header.row,
         name,
     })
 }
@@ -171,14 +171,14 @@ pub fn not_toml(octets: &[u8], error: toml::de::Error) -> ConfigFault
 
 fn key_fault(
     alloc: Global,
-    place: Place,
+    header: Header,
     key: &str,
     problem: Problem,
 ) -> Result<ConfigFault, AllocError>
     ensures told { IfOk result IsKey }
 {
     Ok(ConfigFault::Key {
-        location: located(alloc, place)?,
+        header: owned(alloc, header)?,
         key: String::from_str(alloc, key)?,
         problem,
     })
@@ -189,8 +189,8 @@ pub fn of_table(alloc: Global, fault: TableFault) -> ConfigFault
     ensures told { TellsKey fault.entry result }
 {
     match fault {
-        TableFault::Key { place, fault } => {
-            match key_fault(alloc, place, fault.key, fault.problem) {
+        TableFault::Key { header, fault } => {
+            match key_fault(alloc, header, fault.key, fault.problem) {
                 Ok(fault) => fault,
                 Err(_) => ConfigFault::Memory,
             }
@@ -204,8 +204,8 @@ pub fn of_rows(alloc: Global, fault: RowsFault) -> ConfigFault
     ensures told { TellsGroup fault.entry result }
 {
     match fault {
-        RowsFault::Group { place, problem } => match located(alloc, place) {
-            Ok(location) => ConfigFault::BadGroup { location, problem },
+        RowsFault::Group { header, problem } => match owned(alloc, header) {
+            Ok(header) => ConfigFault::BadGroup { header, problem },
             Err(_) => ConfigFault::Memory,
         },
         RowsFault::Memory => ConfigFault::Memory,
@@ -217,9 +217,9 @@ pub fn of_users(alloc: Global, fault: UsersFault) -> ConfigFault
     ensures told { TellsUser fault.entry result }
 {
     match fault {
-        UsersFault::Refused { place, fault } => match located(alloc, place) {
-            Ok(location) => ConfigFault::BadUser {
-                location,
+        UsersFault::Refused { header, fault } => match owned(alloc, header) {
+            Ok(header) => ConfigFault::BadUser {
+                header,
                 problem: fault,
             },
             Err(_) => ConfigFault::Memory,
@@ -233,8 +233,8 @@ pub fn of_store(alloc: Global, fault: StoreFaultAt) -> ConfigFault
     ensures told { TellsStore fault.entry result }
 {
     match fault {
-        StoreFaultAt::Refused { place, problem } => match located(alloc, place) {
-            Ok(location) => ConfigFault::BadStore { location, problem },
+        StoreFaultAt::Refused { header, problem } => match owned(alloc, header) {
+            Ok(header) => ConfigFault::BadStore { header, problem },
             Err(_) => ConfigFault::Memory,
         },
         StoreFaultAt::Memory => ConfigFault::Memory,

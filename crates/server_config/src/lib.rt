@@ -17,6 +17,6 @@ mod migration;
 mod settings;
 
 pub use config::Config;
-pub use fault::{ConfigFault, Location};
+pub use fault::{ConfigFault, OwnedHeader};
 pub use migration::{migrate, same_branches};
-pub use settings::{ServerNumbers, SessionTerms};
+pub use settings::ServerNumbers;

@@ -1,6 +1,6 @@
 //! A configuration in the latest version.
 
-ghost use Rattle.std.specs.Prelude.{◌≡◌, ◌≢◌, IfErr, IfOk, OnOk, string_bytes};
+ghost use Rattle.std.specs.Prelude.{◌≢◌, IfErr, IfOk, OnOk, string_bytes};
 ghost use Rattle.toml.specs.View.{table_view};
 ghost use Rattle.server_config.specs.Configs.{IsConfigText};
 ghost use Rattle.server_config.specs.Migrated.{IsMigrated, IsVersioned, SameBranches};

@@ -1,26 +1,12 @@
 //! What a configuration sets for sessions, and the numbers of its server.
 
-ghost use Rattle.std.specs.Prelude.{◌≡◌, IfOk};
-ghost use Rattle.server_config.specs.Settings.{AreTerms, AreNumbers};
+ghost use Rattle.std.specs.Prelude.{IfOk};
+ghost use Rattle.server_config.specs.Settings.{AreSettings, AreNumbers};
 
 use config_server::ServerTable;
 use ftp_terms::LineText;
+use session_table::Settings;
 use std::alloc::{AllocError, Global};
-
-/// What a server sets for all of its sessions.
-#[derive(Drop)]
-pub struct SessionTerms {
-    /// What a client is greeted with.
-    pub banner: LineText,
-    /// How many wrong passwords close the control connection, from 1 to 100.
-    pub login_attempts: u32,
-    /// Whether a data connection may go to another host than the client's.
-    pub permits_foreign_addresses: bool,
-    /// Whether a data connection may go to a port below 1024.
-    pub permits_privileged_ports: bool,
-    /// The address that PASV tells: the one that is stated for this, or else the server's.
-    pub address: [u8; 4],
-}
 
 /// The numbers of a server.
 #[derive(Clone, Copy, Debug, PartialEq, Eq)]
@@ -43,16 +29,16 @@ pub struct ServerNumbers {
     pub sessions: u64,
 }
 
-/// The terms of sessions that a table states.
-pub fn terms_of(alloc: Global, server: &ServerTable) -> Result<SessionTerms, AllocError>
-    ensures terms { IfOk result (AreTerms server.now) }
+/// What a table sets for sessions. The address that PASV tells is the one that is stated for this, or else the server's.
+pub fn settings_of(alloc: Global, server: &ServerTable) -> Result<Settings, AllocError>
+    ensures settings { IfOk result (AreSettings server.now) }
 {
     let banner = String::from_str(alloc, server.banner)?;
     let address = match server.masquerade_address {
         Some(address) => address.octets(),
         None => server.address.octets(),
     };
-    Ok(SessionTerms {
+    Ok(Settings {
         banner: LineText::made(banner),
         login_attempts: u32::from(server.max_login_attempts),
         permits_foreign_addresses: server.permit_foreign_addresses,

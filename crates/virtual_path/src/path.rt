@@ -1,7 +1,8 @@
 //! A path as one value.
 
-ghost use Rattle.std.specs.Prelude.{◌≡◌, ◌≢◌, ◌≤◌, ◌==◌, ◌++◌, ◌∷◌, [], length, map, IsTrue, ◌↔◌, IfOk, IfSome, MatchResult, MatchOption, Ok, Err};
+ghost use Rattle.std.specs.Prelude.{◌≡◌, ◌≢◌, ◌≤◌, ◌++◌, ◌∷◌, [], length, map, IsTrue, ◌↔◌, IfOk, IfSome, MatchOption, Ok, Err};
 ghost use Rattle.ftp_terms.specs.Lines.{IsLine};
+ghost use Rattle.memory_terms.specs.Lack.{AsDefined};
 ghost use Rattle.virtual_path.specs.Path.{path_text, parent_of, resolved, child_of, joined, IsBeneath, AllNames};
 
 use crate::fault::PathFault;
@@ -56,8 +57,7 @@ impl<A: Allocator> VPath<A> {
     /// A text that begins with `/` starts at the root. Empty names and `.` are passed over, and `..`
     /// goes up one name, at the root none.
     pub fn resolve(&self, alloc: A, text: &str) -> Result<VPath<A>, PathFault>
-        ensures path { MatchResult result (λ path. resolved self.now text.now ≡ Ok path)
-            (λ fault. fault ≢ PathFault.Memory → resolved self.now text.now ≡ Err fault) }
+        ensures path { AsDefined PathFault.Memory result (resolved self.now text.now) }
         ensures names { IfOk result AllNames }
     {
         look_over(text)?;
@@ -133,8 +133,7 @@ impl<A: Allocator> VPath<A> {
     ///
     /// `BadName` is for what is not one name: an empty text, `.`, `..`, or a text with `/` or a control octet.
     pub fn child<B: Allocator>(&self, alloc: B, name: &str) -> Result<VPath<B>, PathFault>
-        ensures path { MatchResult result (λ path. child_of self.now name.now ≡ Ok path)
-            (λ fault. fault ≢ PathFault.Memory → child_of self.now name.now ≡ Err fault) }
+        ensures path { AsDefined PathFault.Memory result (child_of self.now name.now) }
     {
         if !is_one_name(name) {
             return Err(PathFault::BadName);
@@ -153,8 +152,7 @@ impl<A: Allocator> VPath<A> {
         alloc: B,
         path: &VPath<C>,
     ) -> Result<VPath<B>, PathFault>
-        ensures path { MatchResult result (λ whole. joined self.now path.now ≡ Ok whole)
-            (λ fault. fault ≢ PathFault.Memory → joined self.now path.now ≡ Err fault) }
+        ensures path { AsDefined PathFault.Memory result (joined self.now path.now) }
     {
         if self.text.as_str().len() + path.text.as_str().len() > LONGEST_PATH {
             return Err(PathFault::TooLong);

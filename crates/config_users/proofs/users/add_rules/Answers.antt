@@ -13,7 +13,7 @@ loop-index-preserved c =
 pub returns-in-Err-clause-refused : goal.returns-in-Err-clause-refused
 returns-in-Err-clause-refused c =
     told_as (IsRefusedRule c.args.name.now c.args.rules.now c.args.users.now) c.in-Err.fault c.refused.result c.refused.ensures.told (λ told. record {
-      place = c.loop-index.index;
+      index = c.loop-index.index;
       rule = _;
       mid = c.loop-index.users;
       stands = slice_get-get_or c.args.rules.now c.loop-index.index _ c.loop-index-test.true;

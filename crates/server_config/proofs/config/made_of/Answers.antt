@@ -31,7 +31,7 @@ returns-clause-made c =
     let same_users : us ≡ tables.users.items = c.as_slice-users.ensures.value in
     let adds = c.in-Ok-make_users.ensures.users gs (c.as_slice.ensures.value ∙ c.in-Ok.ensures.users) in
     record {
-      terms = c.in_ok-terms_of.ensures.terms;
+      settings = c.in_ok-settings_of.ensures.settings;
       numbers = c.numbers_of.ensures.numbers;
       ports = c.in-Ok-make_store.ensures.range;
       groups_apart = subst (λ (g : List GroupTable). AreApart g) same_groups c.in-Ok.ensures.apart;

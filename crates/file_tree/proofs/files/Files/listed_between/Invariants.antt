@@ -4,5 +4,5 @@ use Rattle.file_tree.specs.Tree.{told_of, is_named}
 use Rattle.file_tree.proofs.files.Files.listed_between.Given as goal
 
 -- what is told so far, and what is left, are all
-abbrev pub invariant-loop-place : goal.invariant-loop-place
-invariant-loop-place g l = entries_of l.listed ++ map told_of (filter is_named l.place-iterator) ≡ map told_of (filter is_named l.initial.place-iterator)
+abbrev pub invariant-loop-spot : goal.invariant-loop-spot
+invariant-loop-spot g l = entries_of l.listed ++ map told_of (filter is_named l.spot-iterator) ≡ map told_of (filter is_named l.initial.spot-iterator)

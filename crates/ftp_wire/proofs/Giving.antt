@@ -38,40 +38,19 @@ any_ok (Err e) = tt
 
 bare_holds : (v : Bare) → IsGiven (bare_command v)
 bare_holds bare.Cdup = tt
-bare_holds bare.Quit = tt
-bare_holds bare.Rein = tt
-bare_holds bare.Pasv = tt
-bare_holds bare.Abor = tt
-bare_holds bare.Pwd = tt
-bare_holds bare.Syst = tt
-bare_holds bare.Feat = tt
-bare_holds bare.Noop = tt
+bare_holds _ = tt
 
 text_holds : (v : Text) (t : List ℕ) → IsArgument t → IsGiven (text_command v t)
 text_holds text.User t h = h
-text_holds text.Cwd t h = h
-text_holds text.Retr t h = h
-text_holds text.Stor t h = h
-text_holds text.Appe t h = h
-text_holds text.Rnfr t h = h
-text_holds text.Rnto t h = h
-text_holds text.Dele t h = h
-text_holds text.Rmd t h = h
-text_holds text.Mkd t h = h
-text_holds text.Size t h = h
-text_holds text.Mdtm t h = h
+text_holds _ t h = h
 
 optional_holds : (v : Optional) (t : Option (List ℕ)) → IfSome t IsArgument → IsGiven (optional_command v t)
 optional_holds optional.Pass t h = h
-optional_holds optional.Allo t h = h
-optional_holds optional.Help t h = h
-optional_holds optional.Mlsd t h = h
-optional_holds optional.Mlst t h = h
+optional_holds _ t h = h
 
 listing_holds : (v : Listing) (t : Option (List ℕ)) → IfSome t IsArgument → IsGiven (listing_command v t)
 listing_holds listing.List t h = h
-listing_holds listing.Nlst t h = h
-listing_holds listing.Stat t h = h
+listing_holds _ t h = h
 
 form_holds : (v : Form) (t : List ℕ) → IfOk (form_command v t) IsGiven
 form_holds form.SetType t = with_holds (λ _. Unit {0}) command.SetType (λ _ h. h) (type_of t) (any_ok (type_of t))

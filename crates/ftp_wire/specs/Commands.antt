@@ -1,7 +1,12 @@
 -- Commands, whatever their texts are made of.
-use Rattle.std.specs.Prelude.{ℕ, List, Option, option_map}
+use Rattle.std.specs.Prelude.{ℕ, List, Option, Some, None, option_map}
+use Rattle.ftp_terms.specs.declared.data_type.DataType.{DataType}
 use Rattle.ftp_wire.specs.declared.commands.Command.{Command}
 use Rattle.ftp_wire.specs.declared.commands.Command.TheVariants as command
+use Rattle.ftp_wire.specs.declared.commands.ExtendedPassive.{ExtendedPassive}
+use Rattle.ftp_wire.specs.declared.commands.ExtendedPort.{ExtendedPort}
+use Rattle.ftp_wire.specs.declared.commands.FeatureOption.{FeatureOption}
+use Rattle.ftp_wire.specs.declared.commands.HostPort.{HostPort}
 use Rattle.ftp_wire.specs.declared.table.Verb.{Verb}
 use Rattle.ftp_wire.specs.declared.table.Verb.TheVariants as verb
 use Rattle.ftp_wire.specs.declared.table.Bare.{Bare}
@@ -13,120 +18,128 @@ use Rattle.ftp_wire.specs.declared.table.Optional.{Optional}
 use Rattle.ftp_wire.specs.declared.table.Optional.TheVariants as optional
 use Rattle.ftp_wire.specs.declared.table.Listing.{Listing}
 use Rattle.ftp_wire.specs.declared.table.Listing.TheVariants as listing
+use Rattle.ftp_wire.specs.Table.{bare_row, listing_row, optional_row, text_row}
+
+-- an argument of a form of its own
+pub data Argument : Type 0 where
+  for_type : DataType → Argument
+  for_mode : Argument
+  for_structure : Argument
+  for_port : HostPort → Argument
+  for_extended_port : ExtendedPort → Argument
+  for_passive : ExtendedPassive → Argument
+  for_offset : ℕ → Argument
+  for_option : FeatureOption → Argument
+
+-- a command in parts, by the kind of argument that it takes
+pub data Parts (T : Type 0) : Type 0 where
+  bare_part : Bare → Parts T
+  text_part : Text → T → Parts T
+  optional_part : Optional → Option T → Parts T
+  listing_part : Listing → Option T → Parts T
+  form_part : Argument → Parts T
+
+-- the parts of a command: one row for each command
+abbrev pub parts_of : {T : Type 0} → Command T → Parts T
+parts_of (command.User t) = text_part text.User t
+parts_of (command.Pass t) = optional_part optional.Pass t
+parts_of (command.Cwd t) = text_part text.Cwd t
+parts_of command.Cdup = bare_part bare.Cdup
+parts_of command.Quit = bare_part bare.Quit
+parts_of command.Rein = bare_part bare.Rein
+parts_of (command.SetType argument) = form_part (for_type argument)
+parts_of command.Mode = form_part for_mode
+parts_of command.Stru = form_part for_structure
+parts_of (command.Port argument) = form_part (for_port argument)
+parts_of (command.Eprt argument) = form_part (for_extended_port argument)
+parts_of command.Pasv = bare_part bare.Pasv
+parts_of (command.Epsv argument) = form_part (for_passive argument)
+parts_of (command.Retr t) = text_part text.Retr t
+parts_of (command.Stor t) = text_part text.Stor t
+parts_of (command.Appe t) = text_part text.Appe t
+parts_of (command.Rest argument) = form_part (for_offset argument)
+parts_of (command.Rnfr t) = text_part text.Rnfr t
+parts_of (command.Rnto t) = text_part text.Rnto t
+parts_of command.Abor = bare_part bare.Abor
+parts_of (command.Dele t) = text_part text.Dele t
+parts_of (command.Rmd t) = text_part text.Rmd t
+parts_of (command.Mkd t) = text_part text.Mkd t
+parts_of command.Pwd = bare_part bare.Pwd
+parts_of (command.Size t) = text_part text.Size t
+parts_of (command.Mdtm t) = text_part text.Mdtm t
+parts_of (command.List t) = listing_part listing.List t
+parts_of (command.Nlst t) = listing_part listing.Nlst t
+parts_of (command.Mlsd t) = optional_part optional.Mlsd t
+parts_of (command.Mlst t) = optional_part optional.Mlst t
+parts_of (command.Stat t) = listing_part listing.Stat t
+parts_of (command.Opts argument) = form_part (for_option argument)
+parts_of command.Feat = bare_part bare.Feat
+parts_of (command.Allo t) = optional_part optional.Allo t
+parts_of command.Syst = bare_part bare.Syst
+parts_of (command.Help t) = optional_part optional.Help t
+parts_of command.Noop = bare_part bare.Noop
+
+abbrev pub bare_command : {T : Type 0} → Bare → Command T
+bare_command v = (bare_row v).1
+
+abbrev pub text_command : {T : Type 0} → Text → T → Command T
+text_command v t = (text_row v).1 t
+
+abbrev pub optional_command : {T : Type 0} → Optional → Option T → Command T
+optional_command v t = (optional_row v).1 t
+
+abbrev pub listing_command : {T : Type 0} → Listing → Option T → Command T
+listing_command v t = (listing_row v).1 t
+
+abbrev pub argument_command : {T : Type 0} → Argument → Command T
+argument_command (for_type argument) = command.SetType argument
+argument_command for_mode = command.Mode
+argument_command for_structure = command.Stru
+argument_command (for_port argument) = command.Port argument
+argument_command (for_extended_port argument) = command.Eprt argument
+argument_command (for_passive argument) = command.Epsv argument
+argument_command (for_offset argument) = command.Rest argument
+argument_command (for_option argument) = command.Opts argument
+
+-- the command that has these parts, its text as a list of octets
+abbrev pub joined : {T : Type 0} → (T → List ℕ) → Parts T → Command (List ℕ)
+joined f (bare_part v) = bare_command v
+joined f (text_part v t) = text_command v (f t)
+joined f (optional_part v t) = optional_command v (option_map f t)
+joined f (listing_part v t) = listing_command v (option_map f t)
+joined f (form_part argument) = argument_command argument
 
 -- the command with its texts as lists of octets
 abbrev pub with_texts : {T : Type 0} → (T → List ℕ) → Command T → Command (List ℕ)
-with_texts f (command.User t) = command.User (f t)
-with_texts f (command.Pass t) = command.Pass (option_map f t)
-with_texts f (command.Cwd t) = command.Cwd (f t)
-with_texts f command.Cdup = command.Cdup
-with_texts f command.Quit = command.Quit
-with_texts f command.Rein = command.Rein
-with_texts f (command.SetType argument) = command.SetType argument
-with_texts f command.Mode = command.Mode
-with_texts f command.Stru = command.Stru
-with_texts f (command.Port argument) = command.Port argument
-with_texts f (command.Eprt argument) = command.Eprt argument
-with_texts f command.Pasv = command.Pasv
-with_texts f (command.Epsv argument) = command.Epsv argument
-with_texts f (command.Retr t) = command.Retr (f t)
-with_texts f (command.Stor t) = command.Stor (f t)
-with_texts f (command.Appe t) = command.Appe (f t)
-with_texts f (command.Rest argument) = command.Rest argument
-with_texts f (command.Rnfr t) = command.Rnfr (f t)
-with_texts f (command.Rnto t) = command.Rnto (f t)
-with_texts f command.Abor = command.Abor
-with_texts f (command.Dele t) = command.Dele (f t)
-with_texts f (command.Rmd t) = command.Rmd (f t)
-with_texts f (command.Mkd t) = command.Mkd (f t)
-with_texts f command.Pwd = command.Pwd
-with_texts f (command.Size t) = command.Size (f t)
-with_texts f (command.Mdtm t) = command.Mdtm (f t)
-with_texts f (command.List t) = command.List (option_map f t)
-with_texts f (command.Nlst t) = command.Nlst (option_map f t)
-with_texts f (command.Mlsd t) = command.Mlsd (option_map f t)
-with_texts f (command.Mlst t) = command.Mlst (option_map f t)
-with_texts f (command.Stat t) = command.Stat (option_map f t)
-with_texts f (command.Opts argument) = command.Opts argument
-with_texts f command.Feat = command.Feat
-with_texts f (command.Allo t) = command.Allo (option_map f t)
-with_texts f command.Syst = command.Syst
-with_texts f (command.Help t) = command.Help (option_map f t)
-with_texts f command.Noop = command.Noop
+with_texts f c = joined f (parts_of c)
+
+abbrev pub argument_verb : Argument → Verb
+argument_verb (for_type _) = verb.Form form.SetType
+argument_verb for_mode = verb.Form form.Mode
+argument_verb for_structure = verb.Form form.Stru
+argument_verb (for_port _) = verb.Form form.Port
+argument_verb (for_extended_port _) = verb.Form form.Eprt
+argument_verb (for_passive _) = verb.Epsv
+argument_verb (for_offset _) = verb.Form form.Rest
+argument_verb (for_option _) = verb.Form form.Opts
+
+abbrev pub part_verb : {T : Type 0} → Parts T → Verb
+part_verb (bare_part v) = verb.Bare v
+part_verb (text_part v _) = verb.Text v
+part_verb (optional_part v _) = verb.Optional v
+part_verb (listing_part v _) = verb.Listing v
+part_verb (form_part argument) = argument_verb argument
 
 -- the command without its argument
 abbrev pub verb_of : {T : Type 0} → Command T → Verb
-verb_of (command.User _) = verb.Text text.User
-verb_of (command.Pass _) = verb.Optional optional.Pass
-verb_of (command.Cwd _) = verb.Text text.Cwd
-verb_of command.Cdup = verb.Bare bare.Cdup
-verb_of command.Quit = verb.Bare bare.Quit
-verb_of command.Rein = verb.Bare bare.Rein
-verb_of (command.SetType _) = verb.Form form.SetType
-verb_of command.Mode = verb.Form form.Mode
-verb_of command.Stru = verb.Form form.Stru
-verb_of (command.Port _) = verb.Form form.Port
-verb_of (command.Eprt _) = verb.Form form.Eprt
-verb_of command.Pasv = verb.Bare bare.Pasv
-verb_of (command.Epsv _) = verb.Epsv
-verb_of (command.Retr _) = verb.Text text.Retr
-verb_of (command.Stor _) = verb.Text text.Stor
-verb_of (command.Appe _) = verb.Text text.Appe
-verb_of (command.Rest _) = verb.Form form.Rest
-verb_of (command.Rnfr _) = verb.Text text.Rnfr
-verb_of (command.Rnto _) = verb.Text text.Rnto
-verb_of command.Abor = verb.Bare bare.Abor
-verb_of (command.Dele _) = verb.Text text.Dele
-verb_of (command.Rmd _) = verb.Text text.Rmd
-verb_of (command.Mkd _) = verb.Text text.Mkd
-verb_of command.Pwd = verb.Bare bare.Pwd
-verb_of (command.Size _) = verb.Text text.Size
-verb_of (command.Mdtm _) = verb.Text text.Mdtm
-verb_of (command.List _) = verb.Listing listing.List
-verb_of (command.Nlst _) = verb.Listing listing.Nlst
-verb_of (command.Mlsd _) = verb.Optional optional.Mlsd
-verb_of (command.Mlst _) = verb.Optional optional.Mlst
-verb_of (command.Stat _) = verb.Listing listing.Stat
-verb_of (command.Opts _) = verb.Form form.Opts
-verb_of command.Feat = verb.Bare bare.Feat
-verb_of (command.Allo _) = verb.Optional optional.Allo
-verb_of command.Syst = verb.Bare bare.Syst
-verb_of (command.Help _) = verb.Optional optional.Help
-verb_of command.Noop = verb.Bare bare.Noop
+verb_of c = part_verb (parts_of c)
 
-abbrev pub bare_command : {T : Type 0} → Bare → Command T
-bare_command bare.Cdup = command.Cdup
-bare_command bare.Quit = command.Quit
-bare_command bare.Rein = command.Rein
-bare_command bare.Pasv = command.Pasv
-bare_command bare.Abor = command.Abor
-bare_command bare.Pwd = command.Pwd
-bare_command bare.Syst = command.Syst
-bare_command bare.Feat = command.Feat
-bare_command bare.Noop = command.Noop
+abbrev pub part_text : {T : Type 0} → Parts T → Option T
+part_text (text_part _ t) = Some t
+part_text (optional_part _ t) = t
+part_text (listing_part _ t) = t
+part_text _ = None
 
-abbrev pub text_command : {T : Type 0} → Text → T → Command T
-text_command text.User t = command.User t
-text_command text.Cwd t = command.Cwd t
-text_command text.Retr t = command.Retr t
-text_command text.Stor t = command.Stor t
-text_command text.Appe t = command.Appe t
-text_command text.Rnfr t = command.Rnfr t
-text_command text.Rnto t = command.Rnto t
-text_command text.Dele t = command.Dele t
-text_command text.Rmd t = command.Rmd t
-text_command text.Mkd t = command.Mkd t
-text_command text.Size t = command.Size t
-text_command text.Mdtm t = command.Mdtm t
-
-abbrev pub optional_command : {T : Type 0} → Optional → Option T → Command T
-optional_command optional.Pass t = command.Pass t
-optional_command optional.Allo t = command.Allo t
-optional_command optional.Help t = command.Help t
-optional_command optional.Mlsd t = command.Mlsd t
-optional_command optional.Mlst t = command.Mlst t
-
-abbrev pub listing_command : {T : Type 0} → Listing → Option T → Command T
-listing_command listing.List t = command.List t
-listing_command listing.Nlst t = command.Nlst t
-listing_command listing.Stat t = command.Stat t
+-- the text of a command, if it has one
+abbrev pub text_argument : {T : Type 0} → Command T → Option T
+text_argument c = part_text (parts_of c)

@@ -2,12 +2,12 @@
 use Rattle.std.specs.Prelude.{◌≡◌, ◌≢◌, ◌≤◌, ◌<◌, ◌^◌, ◌==◌, ℕ, List, IfSome, Ok, false, length, slice_index, true}
 use Rattle.ftp_wire.specs.declared.items.TheConstants.{LONGEST_LINE}
 use Rattle.ftp_wire.specs.declared.commands.Command.{Command}
-use Rattle.ftp_wire.specs.declared.commands.Command.TheVariants as command
 use Rattle.ftp_wire.specs.declared.commands.ExtendedPassive.{ExtendedPassive}
-use Rattle.ftp_wire.specs.declared.commands.ExtendedPassive.TheVariants as passive
+use Rattle.ftp_wire.specs.declared.commands.ExtendedPassive.TheVariants.{Protocol}
 use Rattle.ftp_wire.specs.declared.commands.ExtendedPort.{ExtendedPort}
 use Rattle.ftp_wire.specs.declared.commands.ExtendedPort.TheVariants.{Ipv4, Unsupported}
 use Rattle.ftp_wire.specs.declared.commands.HostPort.{HostPort}
+use Rattle.ftp_wire.specs.Commands.{Argument, Parts, bare_part, for_extended_port, for_offset, for_passive, for_port, form_part, listing_part, optional_part, parts_of, text_part}
 use Rattle.ftp_wire.specs.Items.{line_item}
 use Rattle.ftp_wire.specs.Words.{is_blank, is_text}
 use Rattle.ftp_wire.specs.Written.{written_line}
@@ -27,50 +27,41 @@ IsExtendedPort (Ipv4 host_port) = IsHostPort host_port
 IsExtendedPort (Unsupported protocol) = (protocol ≤ 65535) × (protocol ≢ 1)
 
 abbrev pub IsExtendedPassive : ExtendedPassive → Type 0
-IsExtendedPassive (passive.Protocol protocol) = protocol ≤ 65535
+IsExtendedPassive (Protocol protocol) = protocol ≤ 65535
 IsExtendedPassive _ = Unit {0}
 
 abbrev pub IsOffset : ℕ → Type 0
 IsOffset offset = offset < 10 ^ 19
 
+abbrev pub IsGivenArgument : Argument → Type 0
+IsGivenArgument (for_port to) = IsHostPort to
+IsGivenArgument (for_extended_port to) = IsExtendedPort to
+IsGivenArgument (for_passive protocol) = IsExtendedPassive protocol
+IsGivenArgument (for_offset octets) = IsOffset octets
+IsGivenArgument _ = Unit {0}
+
+abbrev pub AreGiven : Parts (List ℕ) → Type 0
+AreGiven (bare_part _) = Unit {0}
+AreGiven (text_part _ text) = IsArgument text
+AreGiven (optional_part _ text) = IfSome text IsArgument
+AreGiven (listing_part _ text) = IfSome text IsArgument
+AreGiven (form_part argument) = IsGivenArgument argument
+
 -- what holds of each command that a line stands for
 abbrev pub IsGiven : Command (List ℕ) → Type 0
-IsGiven (command.User text) = IsArgument text
-IsGiven (command.Pass text) = IfSome text IsArgument
-IsGiven (command.Cwd text) = IsArgument text
-IsGiven (command.Port host_port) = IsHostPort host_port
-IsGiven (command.Eprt port) = IsExtendedPort port
-IsGiven (command.Epsv passive) = IsExtendedPassive passive
-IsGiven (command.Retr text) = IsArgument text
-IsGiven (command.Stor text) = IsArgument text
-IsGiven (command.Appe text) = IsArgument text
-IsGiven (command.Rest offset) = IsOffset offset
-IsGiven (command.Rnfr text) = IsArgument text
-IsGiven (command.Rnto text) = IsArgument text
-IsGiven (command.Dele text) = IsArgument text
-IsGiven (command.Rmd text) = IsArgument text
-IsGiven (command.Mkd text) = IsArgument text
-IsGiven (command.Size text) = IsArgument text
-IsGiven (command.Mdtm text) = IsArgument text
-IsGiven (command.List text) = IfSome text IsArgument
-IsGiven (command.Nlst text) = IfSome text IsArgument
-IsGiven (command.Mlsd text) = IfSome text IsArgument
-IsGiven (command.Mlst text) = IfSome text IsArgument
-IsGiven (command.Stat text) = IfSome text IsArgument
-IsGiven (command.Allo text) = IfSome text IsArgument
-IsGiven (command.Help text) = IfSome text IsArgument
-IsGiven _ = Unit {0}
+IsGiven c = AreGiven (parts_of c)
 
 -- the text does not begin with a hyphen
 abbrev pub HasNoHyphen : List ℕ → Type 0
 HasNoHyphen text = (slice_index text 0 == 45) ≡ false
 
--- in LIST, NLST and STAT, where such a text would be read as switches
+-- where such a text would be read as switches
+abbrev pub HaveNoSwitch : Parts (List ℕ) → Type 0
+HaveNoSwitch (listing_part _ text) = IfSome text HasNoHyphen
+HaveNoSwitch _ = Unit {0}
+
 abbrev pub HasNoSwitch : Command (List ℕ) → Type 0
-HasNoSwitch (command.List text) = IfSome text HasNoHyphen
-HasNoSwitch (command.Nlst text) = IfSome text HasNoHyphen
-HasNoSwitch (command.Stat text) = IfSome text HasNoHyphen
-HasNoSwitch _ = Unit {0}
+HasNoSwitch c = HaveNoSwitch (parts_of c)
 
 -- some line stands for the command, and its written line is read as it
 pub record CanBeReadBack (c : Command (List ℕ)) : Type 0 where

@@ -2,6 +2,8 @@
 -- 2640, 3659 and 7151).
 use Rattle.std.specs.Prelude.{ℕ, List, [], ◌∷◌, Option, option_map, codes}
 use Rattle.std.specs.List.{find}
+use Rattle.ftp_wire.specs.declared.commands.Command.{Command}
+use Rattle.ftp_wire.specs.declared.commands.Command.TheVariants as command
 use Rattle.ftp_wire.specs.declared.table.Verb.{Verb}
 use Rattle.ftp_wire.specs.declared.table.Verb.TheVariants as verb
 use Rattle.ftp_wire.specs.declared.table.Bare.{Bare}
@@ -19,32 +21,46 @@ use Rattle.ftp_wire.specs.declared.table.Known.TheVariants.{NotServed, Served}
 use Rattle.ftp_wire.specs.declared.table.Row.{Row}
 use Rattle.ftp_wire.specs.Words.{same_letters}
 
--- the codes of the commands that take no argument
-abbrev pub bare_code : Bare → List ℕ
-bare_code bare.Cdup = codes "CDUP"
-bare_code bare.Quit = codes "QUIT"
-bare_code bare.Rein = codes "REIN"
-bare_code bare.Pasv = codes "PASV"
-bare_code bare.Abor = codes "ABOR"
-bare_code bare.Pwd = codes "PWD"
-bare_code bare.Syst = codes "SYST"
-bare_code bare.Feat = codes "FEAT"
-bare_code bare.Noop = codes "NOOP"
+-- the commands that take no argument: the code, and the command
+abbrev pub bare_row : {T : Type 0} → Bare → List ℕ × Command T
+bare_row bare.Cdup = (codes "CDUP", command.Cdup)
+bare_row bare.Quit = (codes "QUIT", command.Quit)
+bare_row bare.Rein = (codes "REIN", command.Rein)
+bare_row bare.Pasv = (codes "PASV", command.Pasv)
+bare_row bare.Abor = (codes "ABOR", command.Abor)
+bare_row bare.Pwd = (codes "PWD", command.Pwd)
+bare_row bare.Syst = (codes "SYST", command.Syst)
+bare_row bare.Feat = (codes "FEAT", command.Feat)
+bare_row bare.Noop = (codes "NOOP", command.Noop)
 
--- the codes of the commands that need a text
-abbrev pub text_code : Text → List ℕ
-text_code text.User = codes "USER"
-text_code text.Cwd = codes "CWD"
-text_code text.Retr = codes "RETR"
-text_code text.Stor = codes "STOR"
-text_code text.Appe = codes "APPE"
-text_code text.Rnfr = codes "RNFR"
-text_code text.Rnto = codes "RNTO"
-text_code text.Dele = codes "DELE"
-text_code text.Rmd = codes "RMD"
-text_code text.Mkd = codes "MKD"
-text_code text.Size = codes "SIZE"
-text_code text.Mdtm = codes "MDTM"
+-- the commands that need a text: the code, and the command with its text
+abbrev pub text_row : {T : Type 0} → Text → List ℕ × (T → Command T)
+text_row text.User = (codes "USER", command.User)
+text_row text.Cwd = (codes "CWD", command.Cwd)
+text_row text.Retr = (codes "RETR", command.Retr)
+text_row text.Stor = (codes "STOR", command.Stor)
+text_row text.Appe = (codes "APPE", command.Appe)
+text_row text.Rnfr = (codes "RNFR", command.Rnfr)
+text_row text.Rnto = (codes "RNTO", command.Rnto)
+text_row text.Dele = (codes "DELE", command.Dele)
+text_row text.Rmd = (codes "RMD", command.Rmd)
+text_row text.Mkd = (codes "MKD", command.Mkd)
+text_row text.Size = (codes "SIZE", command.Size)
+text_row text.Mdtm = (codes "MDTM", command.Mdtm)
+
+-- the commands that may have a text: the code, and the command with its text or none
+abbrev pub optional_row : {T : Type 0} → Optional → List ℕ × (Option T → Command T)
+optional_row optional.Pass = (codes "PASS", command.Pass)
+optional_row optional.Allo = (codes "ALLO", command.Allo)
+optional_row optional.Help = (codes "HELP", command.Help)
+optional_row optional.Mlsd = (codes "MLSD", command.Mlsd)
+optional_row optional.Mlst = (codes "MLST", command.Mlst)
+
+-- the commands that may have a text, and switches before it: the same
+abbrev pub listing_row : {T : Type 0} → Listing → List ℕ × (Option T → Command T)
+listing_row listing.List = (codes "LIST", command.List)
+listing_row listing.Nlst = (codes "NLST", command.Nlst)
+listing_row listing.Stat = (codes "STAT", command.Stat)
 
 -- the codes of the commands that need an argument of a form of their own
 abbrev pub form_code : Form → List ℕ
@@ -56,19 +72,17 @@ form_code form.Eprt = codes "EPRT"
 form_code form.Rest = codes "REST"
 form_code form.Opts = codes "OPTS"
 
--- the codes of the commands that may have a text
-abbrev pub optional_code : Optional → List ℕ
-optional_code optional.Pass = codes "PASS"
-optional_code optional.Allo = codes "ALLO"
-optional_code optional.Help = codes "HELP"
-optional_code optional.Mlsd = codes "MLSD"
-optional_code optional.Mlst = codes "MLST"
+abbrev pub bare_code : Bare → List ℕ
+bare_code v = (bare_row {T = ℕ} v).0
 
--- the codes of the commands that may have a text, and switches before it
+abbrev pub text_code : Text → List ℕ
+text_code v = (text_row {T = ℕ} v).0
+
+abbrev pub optional_code : Optional → List ℕ
+optional_code v = (optional_row {T = ℕ} v).0
+
 abbrev pub listing_code : Listing → List ℕ
-listing_code listing.List = codes "LIST"
-listing_code listing.Nlst = codes "NLST"
-listing_code listing.Stat = codes "STAT"
+listing_code v = (listing_row {T = ℕ} v).0
 
 -- the code of a command that is served
 abbrev pub code : Verb → List ℕ

@@ -2,18 +2,17 @@
 use Rattle.std.specs.Prelude.{ℕ, ◌/◌, ◌%◌, ◌++◌, List, [], ◌∷◌, Bool, true, false, Option, Some, None, codes, ◌||◌, if◌then◌else◌, slice_index}
 use Rattle.std.specs.Fmt.{decimal}
 use Rattle.ftp_wire.specs.declared.commands.Command.{Command}
-use Rattle.ftp_wire.specs.declared.commands.Command.TheVariants as command
 use Rattle.ftp_terms.specs.declared.data_type.DataType.{DataType}
 use Rattle.ftp_terms.specs.declared.data_type.DataType.TheVariants.{Ascii, Image}
 use Rattle.ftp_wire.specs.declared.commands.ExtendedPassive.{ExtendedPassive}
-use Rattle.ftp_wire.specs.declared.commands.ExtendedPassive.TheVariants as passive
+use Rattle.ftp_wire.specs.declared.commands.ExtendedPassive.TheVariants.{All, Protocol, Same}
 use Rattle.ftp_wire.specs.declared.commands.ExtendedPort.{ExtendedPort}
 use Rattle.ftp_wire.specs.declared.commands.ExtendedPort.TheVariants.{Ipv4, Unsupported}
 use Rattle.ftp_terms.specs.declared.facts.Facts.{Facts}
 use Rattle.ftp_wire.specs.declared.commands.FeatureOption.{FeatureOption}
-use Rattle.ftp_wire.specs.declared.commands.FeatureOption.TheVariants as feature
+use Rattle.ftp_wire.specs.declared.commands.FeatureOption.TheVariants.{Mlst, Utf8On}
 use Rattle.ftp_wire.specs.declared.commands.HostPort.{HostPort}
-use Rattle.ftp_wire.specs.Commands.{verb_of}
+use Rattle.ftp_wire.specs.Commands.{Argument, Parts, for_extended_port, for_mode, for_offset, for_option, for_passive, for_port, for_structure, for_type, form_part, parts_of, text_argument, verb_of}
 use Rattle.ftp_wire.specs.Table.{code}
 use Rattle.ftp_wire.specs.Words.{comma, dot}
 
@@ -38,9 +37,9 @@ extended_port_text (Ipv4 host_port) =
 extended_port_text (Unsupported protocol) = 124 ∷ (decimal protocol ++ codes "|||")
 
 abbrev pub extended_passive_text : ExtendedPassive → Option (List ℕ)
-extended_passive_text passive.Same = None
-extended_passive_text passive.All = Some (codes "ALL")
-extended_passive_text (passive.Protocol protocol) = Some (decimal protocol)
+extended_passive_text Same = None
+extended_passive_text All = Some (codes "ALL")
+extended_passive_text (Protocol protocol) = Some (decimal protocol)
 
 abbrev pub fact_text : Bool → List ℕ → List ℕ
 fact_text true name = name
@@ -64,45 +63,28 @@ abbrev pub has_facts : Facts → Bool
 has_facts facts = facts.kind || (facts.size || (facts.modify || facts.perm))
 
 unfoldable pub option_text : FeatureOption → List ℕ
-option_text feature.Utf8On = codes "UTF8 ON"
-option_text (feature.Mlst facts) =
+option_text Utf8On = codes "UTF8 ON"
+option_text (Mlst facts) =
     if has_facts facts then codes "MLST " ++ facts_text facts else codes "MLST"
 
--- the text of a command, if it has one
-abbrev pub text_argument : Command (List ℕ) → Option (List ℕ)
-text_argument (command.User t) = Some t
-text_argument (command.Pass t) = t
-text_argument (command.Cwd t) = Some t
-text_argument (command.Retr t) = Some t
-text_argument (command.Stor t) = Some t
-text_argument (command.Appe t) = Some t
-text_argument (command.Rnfr t) = Some t
-text_argument (command.Rnto t) = Some t
-text_argument (command.Dele t) = Some t
-text_argument (command.Rmd t) = Some t
-text_argument (command.Mkd t) = Some t
-text_argument (command.Size t) = Some t
-text_argument (command.Mdtm t) = Some t
-text_argument (command.List t) = t
-text_argument (command.Nlst t) = t
-text_argument (command.Mlsd t) = t
-text_argument (command.Mlst t) = t
-text_argument (command.Stat t) = t
-text_argument (command.Allo t) = t
-text_argument (command.Help t) = t
-text_argument _ = None
+-- an argument of a form of its own, if there is one
+abbrev pub argument_text : Argument → Option (List ℕ)
+argument_text (for_type argument) = Some (type_text argument)
+argument_text for_mode = Some (codes "S")
+argument_text for_structure = Some (codes "F")
+argument_text (for_port argument) = Some (port_text argument)
+argument_text (for_extended_port argument) = Some (extended_port_text argument)
+argument_text (for_passive argument) = extended_passive_text argument
+argument_text (for_offset argument) = Some (decimal argument)
+argument_text (for_option argument) = Some (option_text argument)
+
+abbrev pub part_form : {T : Type 0} → Parts T → Option (List ℕ)
+part_form (form_part argument) = argument_text argument
+part_form _ = None
 
 -- the argument of a command whose argument has a form of its own
 abbrev pub form_argument : {T : Type 0} → Command T → Option (List ℕ)
-form_argument (command.SetType data_type) = Some (type_text data_type)
-form_argument command.Mode = Some (codes "S")
-form_argument command.Stru = Some (codes "F")
-form_argument (command.Port host_port) = Some (port_text host_port)
-form_argument (command.Eprt port) = Some (extended_port_text port)
-form_argument (command.Epsv passive) = extended_passive_text passive
-form_argument (command.Rest offset) = Some (decimal offset)
-form_argument (command.Opts option) = Some (option_text option)
-form_argument _ = None
+form_argument c = part_form (parts_of c)
 
 -- a space and the argument, if there is one
 abbrev pub argument_part : Option (List ℕ) → List ℕ

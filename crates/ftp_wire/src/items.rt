@@ -11,7 +11,8 @@ use crate::arguments::{
 use crate::commands::{Command, ExtendedPassive};
 use crate::faults::LineFault;
 use crate::ports::{read_eprt, read_port};
-use crate::table::{Bare, Form, Known, Listing, Optional, Text, Verb, verb_of};
+use crate::table::{Form, Known, Verb, verb_of};
+use crate::verbs::{bare_command, listing_command, optional_command, text_command};
 use crate::words::{is_blank, split_word, text_of};
 use std::alloc::{AllocError, Allocator, Global};
 
@@ -34,63 +35,6 @@ fn from_result<A: Allocator>(read: Result<Command<String<A>>, LineFault>) -> Lin
     match read {
         Ok(command) => LineItem::Command(command),
         Err(fault) => LineItem::Fault(fault),
-    }
-}
-
-fn bare_command<T>(verb: Bare) -> Command<T>
-    ensures command { result ≡ bare_command verb }
-{
-    match verb {
-        Bare::Cdup => Command::Cdup,
-        Bare::Quit => Command::Quit,
-        Bare::Rein => Command::Rein,
-        Bare::Pasv => Command::Pasv,
-        Bare::Abor => Command::Abor,
-        Bare::Pwd => Command::Pwd,
-        Bare::Syst => Command::Syst,
-        Bare::Feat => Command::Feat,
-        Bare::Noop => Command::Noop,
-    }
-}
-
-fn text_command<T>(verb: Text, text: T) -> Command<T>
-    ensures command { result ≡ text_command verb text }
-{
-    match verb {
-        Text::User => Command::User(text),
-        Text::Cwd => Command::Cwd(text),
-        Text::Retr => Command::Retr(text),
-        Text::Stor => Command::Stor(text),
-        Text::Appe => Command::Appe(text),
-        Text::Rnfr => Command::Rnfr(text),
-        Text::Rnto => Command::Rnto(text),
-        Text::Dele => Command::Dele(text),
-        Text::Rmd => Command::Rmd(text),
-        Text::Mkd => Command::Mkd(text),
-        Text::Size => Command::Size(text),
-        Text::Mdtm => Command::Mdtm(text),
-    }
-}
-
-fn optional_command<T>(verb: Optional, text: Option<T>) -> Command<T>
-    ensures command { result ≡ optional_command verb text }
-{
-    match verb {
-        Optional::Pass => Command::Pass(text),
-        Optional::Allo => Command::Allo(text),
-        Optional::Help => Command::Help(text),
-        Optional::Mlsd => Command::Mlsd(text),
-        Optional::Mlst => Command::Mlst(text),
-    }
-}
-
-fn listing_command<T>(verb: Listing, text: Option<T>) -> Command<T>
-    ensures command { result ≡ listing_command verb text }
-{
-    match verb {
-        Listing::List => Command::List(text),
-        Listing::Nlst => Command::Nlst(text),
-        Listing::Stat => Command::Stat(text),
     }
 }
 

@@ -26,6 +26,7 @@ mod reader;
 mod table;
 mod telnet;
 mod texts;
+mod verbs;
 mod words;
 mod writer;
 

@@ -1,7 +1,7 @@
 //! The codes of commands, one row for each.
 
 ghost use Rattle.std.specs.Prelude.{◌≡◌, map};
-ghost use Rattle.ftp_wire.specs.Table.{bare_code, code, form_code, listing_code, optional_code, row, row_of, table, text_code};
+ghost use Rattle.ftp_wire.specs.Table.{row, row_of, table};
 
 use crate::words::same_letters;
 
@@ -91,7 +91,7 @@ struct Row(&'static str, Known);
 
 /// The codes that are known (RFC 959, section 5.3; the X codes by RFC 1123, section 4.1.3.1; RFC 2228, 2389,
 /// 2428, 2640, 3659 and 7151). A code with an X is that of the command without it, and XCUP is CDUP.
-static TABLE: [Row; 57] = [
+static TABLE: &[Row] = &[
     Row("CDUP", Known::Served(Verb::Bare(Bare::Cdup))),
     Row("QUIT", Known::Served(Verb::Bare(Bare::Quit))),
     Row("REIN", Known::Served(Verb::Bare(Bare::Rein))),
@@ -154,7 +154,7 @@ static TABLE: [Row; 57] = [
 fn rows() -> &'static [Row]
     ensures rows { map row result.now ≡ table }
 {
-    &TABLE
+    TABLE
 }
 
 /// The first row with this code, letters of either case.
@@ -174,101 +174,4 @@ pub fn verb_of(code: &[u8]) -> Option<Known>
     ensures row { result ≡ row_of table code.now }
 {
     find_row(rows(), code)
-}
-
-impl Verb {
-    /// The code of the command, in capitals and without an X.
-    pub fn code(self) -> &'static str
-        ensures code { result.now ≡ code self }
-    {
-        match self {
-            Verb::Bare(verb) => verb.code(),
-            Verb::Text(verb) => verb.code(),
-            Verb::Form(verb) => verb.code(),
-            Verb::Optional(verb) => verb.code(),
-            Verb::Listing(verb) => verb.code(),
-            Verb::Epsv => "EPSV",
-        }
-    }
-}
-
-impl Bare {
-    fn code(self) -> &'static str
-        ensures code { result.now ≡ bare_code self }
-    {
-        match self {
-            Bare::Cdup => "CDUP",
-            Bare::Quit => "QUIT",
-            Bare::Rein => "REIN",
-            Bare::Pasv => "PASV",
-            Bare::Abor => "ABOR",
-            Bare::Pwd => "PWD",
-            Bare::Syst => "SYST",
-            Bare::Feat => "FEAT",
-            Bare::Noop => "NOOP",
-        }
-    }
-}
-
-impl Text {
-    fn code(self) -> &'static str
-        ensures code { result.now ≡ text_code self }
-    {
-        match self {
-            Text::User => "USER",
-            Text::Cwd => "CWD",
-            Text::Retr => "RETR",
-            Text::Stor => "STOR",
-            Text::Appe => "APPE",
-            Text::Rnfr => "RNFR",
-            Text::Rnto => "RNTO",
-            Text::Dele => "DELE",
-            Text::Rmd => "RMD",
-            Text::Mkd => "MKD",
-            Text::Size => "SIZE",
-            Text::Mdtm => "MDTM",
-        }
-    }
-}
-
-impl Form {
-    fn code(self) -> &'static str
-        ensures code { result.now ≡ form_code self }
-    {
-        match self {
-            Form::SetType => "TYPE",
-            Form::Mode => "MODE",
-            Form::Stru => "STRU",
-            Form::Port => "PORT",
-            Form::Eprt => "EPRT",
-            Form::Rest => "REST",
-            Form::Opts => "OPTS",
-        }
-    }
-}
-
-impl Optional {
-    fn code(self) -> &'static str
-        ensures code { result.now ≡ optional_code self }
-    {
-        match self {
-            Optional::Pass => "PASS",
-            Optional::Allo => "ALLO",
-            Optional::Help => "HELP",
-            Optional::Mlsd => "MLSD",
-            Optional::Mlst => "MLST",
-        }
-    }
-}
-
-impl Listing {
-    fn code(self) -> &'static str
-        ensures code { result.now ≡ listing_code self }
-    {
-        match self {
-            Listing::List => "LIST",
-            Listing::Nlst => "NLST",
-            Listing::Stat => "STAT",
-        }
-    }
 }

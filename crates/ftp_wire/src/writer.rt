@@ -2,95 +2,17 @@
 
 ghost use Rattle.std.specs.Prelude.{◌≡◌, ◌++◌, ◌∷◌, [], IfOk, Ok, OnOk, option_map, string_bytes};
 ghost use Rattle.ftp_reply.specs.Written.{Appends};
-ghost use Rattle.ftp_wire.specs.Commands.{verb_of, with_texts};
+ghost use Rattle.ftp_wire.specs.Commands.{with_texts};
 ghost use Rattle.ftp_wire.specs.Given.{CanBeReadBack};
 ghost use Rattle.ftp_wire.specs.Reading.{OnlyReadsAs};
-ghost use Rattle.ftp_wire.specs.Written.{argument_part, extended_passive_text, extended_port_text, form_argument, has_facts, option_text, text_argument, type_text, written, written_line};
+ghost use Rattle.ftp_wire.specs.Written.{argument_part, extended_passive_text, extended_port_text, form_argument, has_facts, option_text, type_text, written, written_line};
 
 use crate::commands::{Command, ExtendedPassive, ExtendedPort, FeatureOption, HostPort};
-use crate::table::{Bare, Form, Listing, Optional, Text, Verb};
 use crate::texts::{push_facts, push_port};
+use crate::verbs::parts;
 use ftp_terms::{DataType, Facts};
 use std::alloc::{AllocError, Allocator};
 use std::fmt::Write;
-
-/// The command without its argument.
-fn verb<T>(command: &Command<T>) -> Verb
-    ensures verb { result ≡ verb_of command.now }
-{
-    match command {
-        Command::User(_) => Verb::Text(Text::User),
-        Command::Pass(_) => Verb::Optional(Optional::Pass),
-        Command::Cwd(_) => Verb::Text(Text::Cwd),
-        Command::Cdup => Verb::Bare(Bare::Cdup),
-        Command::Quit => Verb::Bare(Bare::Quit),
-        Command::Rein => Verb::Bare(Bare::Rein),
-        Command::SetType(_) => Verb::Form(Form::SetType),
-        Command::Mode => Verb::Form(Form::Mode),
-        Command::Stru => Verb::Form(Form::Stru),
-        Command::Port(_) => Verb::Form(Form::Port),
-        Command::Eprt(_) => Verb::Form(Form::Eprt),
-        Command::Pasv => Verb::Bare(Bare::Pasv),
-        Command::Epsv(_) => Verb::Epsv,
-        Command::Retr(_) => Verb::Text(Text::Retr),
-        Command::Stor(_) => Verb::Text(Text::Stor),
-        Command::Appe(_) => Verb::Text(Text::Appe),
-        Command::Rest(_) => Verb::Form(Form::Rest),
-        Command::Rnfr(_) => Verb::Text(Text::Rnfr),
-        Command::Rnto(_) => Verb::Text(Text::Rnto),
-        Command::Abor => Verb::Bare(Bare::Abor),
-        Command::Dele(_) => Verb::Text(Text::Dele),
-        Command::Rmd(_) => Verb::Text(Text::Rmd),
-        Command::Mkd(_) => Verb::Text(Text::Mkd),
-        Command::Pwd => Verb::Bare(Bare::Pwd),
-        Command::Size(_) => Verb::Text(Text::Size),
-        Command::Mdtm(_) => Verb::Text(Text::Mdtm),
-        Command::List(_) => Verb::Listing(Listing::List),
-        Command::Nlst(_) => Verb::Listing(Listing::Nlst),
-        Command::Mlsd(_) => Verb::Optional(Optional::Mlsd),
-        Command::Mlst(_) => Verb::Optional(Optional::Mlst),
-        Command::Stat(_) => Verb::Listing(Listing::Stat),
-        Command::Opts(_) => Verb::Form(Form::Opts),
-        Command::Feat => Verb::Bare(Bare::Feat),
-        Command::Allo(_) => Verb::Optional(Optional::Allo),
-        Command::Syst => Verb::Bare(Bare::Syst),
-        Command::Help(_) => Verb::Optional(Optional::Help),
-        Command::Noop => Verb::Bare(Bare::Noop),
-    }
-}
-
-/// The text of the command, if it has one.
-fn text<A: Allocator>(command: &Command<String<A>>) -> Option<&str>
-    ensures text { option_map (λ t. t.now) result
-        ≡ text_argument (with_texts string_bytes command.now) }
-{
-    match command {
-        Command::User(text)
-        | Command::Cwd(text)
-        | Command::Retr(text)
-        | Command::Stor(text)
-        | Command::Appe(text)
-        | Command::Rnfr(text)
-        | Command::Rnto(text)
-        | Command::Dele(text)
-        | Command::Rmd(text)
-        | Command::Mkd(text)
-        | Command::Size(text)
-        | Command::Mdtm(text) => Some(text.as_str()),
-        Command::Pass(text)
-        | Command::List(text)
-        | Command::Nlst(text)
-        | Command::Mlsd(text)
-        | Command::Mlst(text)
-        | Command::Stat(text)
-        | Command::Allo(text)
-        | Command::Help(text) => match text {
-            Some(text) => Some(text.as_str()),
-            None => None,
-        },
-        _ => None,
-    }
-}
 
 fn type_text(data_type: DataType) -> &'static str
     ensures text { result.now ≡ type_text data_type }
@@ -184,14 +106,17 @@ fn push_form<A: Allocator, T>(out: &mut String<A>, command: &Command<T>) -> Resu
 }
 
 /// Adds a space and the text, if there is one.
-fn push_text<A: Allocator>(out: &mut String<A>, text: Option<&str>) -> Result<(), AllocError>
+fn push_text<A: Allocator, B: Allocator>(
+    out: &mut String<A>,
+    text: Option<&String<B>>,
+) -> Result<(), AllocError>
     ensures appended { Appends result out.old out.new
-        (argument_part (option_map (λ t. t.now) text.entry)) }
+        (argument_part (option_map string_bytes (option_map (λ t. t.now) text.entry))) }
 {
     match text {
         Some(text) => {
             out.push_str(" ")?;
-            out.push_str(text)
+            out.push_str(text.as_str())
         }
         None => Ok(()),
     }
@@ -212,9 +137,10 @@ pub fn write_command<A: Allocator, B: Allocator>(
         → IfOk result
         (λ line. OnlyReadsAs line.items (Ok (with_texts string_bytes command.now) ∷ [])) }
 {
+    let (code, text) = parts(command);
     let mut out = String::new(alloc);
-    out.push_str(verb(command).code())?;
-    push_text(&mut out, text(command))?;
+    out.push_str(code)?;
+    push_text(&mut out, text)?;
     push_form(&mut out, command)?;
     out.push_str("\r\n")?;
     Ok(out.into_bytes())

@@ -61,6 +61,17 @@ def large(draw):
         number += 1
 
 
+def colliding(draw):
+    """As many limits as a sheet may have, whose paths have one hash under the kit's `FoldHasher`: behind these 24 octets its
+    state is such that the next 8 change nothing."""
+    signs = "0123456789abcdefghijklmnopqrstuvwxyz"
+    name = lambda number: "".join(signs[number // 36**at % 36] for at in range(8))
+    count = MOST_OCTETS // len(limit("/3r1v4x_ZmKtSDbt-pbsOYqC" + name(0), "-\n"))
+    lines = [limit("/3r1v4x_ZmKtSDbt-pbsOYqC" + name(number), "-") for number in range(count)]
+    draw.shuffle(lines)
+    return lines
+
+
 def nested(draw):
     """Limits inside one another, down to depth 14, each of which holds back the wants beside the next one."""
     beside, room = [], 0
@@ -86,6 +97,7 @@ def made():
     yield "large", large(draw)
     yield "nested", nested(draw)
     yield "largest", groups(draw, MOST_WANT)
+    yield "colliding", colliding(draw)
 
 
 def mentioned(lines):

@@ -122,6 +122,34 @@ migrates (b ∷ bs) plain =
     let ne = ne_eqb _ _ plain in
     record { rows = _; taken = migrate_taken b bs ne; entered = migrate_entered b bs ne; config = migrate_first b bs ne }
 
+script_taken : (b : ℕ) (bs : List ℕ) → (b == 45) ≡ false → takes program (codes "script" ∷ (b ∷ bs) ∷ []) ≡ true
+unfolding clap_on_literals
+script_taken b bs ne = simp ne refl
+
+script_entered : (b : ℕ) (bs : List ℕ) → (b == 45) ≡ false
+    → subcommand_of program (codes "script" ∷ (b ∷ bs) ∷ [])
+    ≡ Some (codes "script", rows_in (subcommand_of program (codes "script" ∷ (b ∷ bs) ∷ [])))
+unfolding clap_on_literals
+script_entered b bs ne = simp ne refl
+
+script_first : (b : ℕ) (bs : List ℕ) → (b == 45) ≡ false
+    → first_of (codes "CONFIG") (rows_in (subcommand_of program (codes "script" ∷ (b ∷ bs) ∷ []))) ≡ Some (b ∷ bs)
+unfolding clap_on_literals
+script_first b bs ne = simp ne refl
+
+-- what the parser makes of the words of `script`
+pub record Scripts (word : List ℕ) : Type 0 where
+  pub rows : List Row
+  pub taken : takes program (codes "script" ∷ word ∷ []) ≡ true
+  pub entered : subcommand_of program (codes "script" ∷ word ∷ []) ≡ Some (codes "script", rows)
+  pub config : first_of (codes "CONFIG") rows ≡ Some word
+
+pub scripts : (word : List ℕ) → IsPlainWord word → Scripts word
+scripts [] plain = absurd plain
+scripts (b ∷ bs) plain =
+    let ne = ne_eqb _ _ plain in
+    record { rows = _; taken = script_taken b bs ne; entered = script_entered b bs ne; config = script_first b bs ne }
+
 -- an error of one of those kinds is told as a refusal of one of them
 pub refusal : (kinds : Kinds) (kind : ErrorKind) (fault : WordsFault) → (kind ≡ OutOfMemory → fault ≡ Memory) → IsRefusedAs kind fault
     → (kind ≡ OutOfMemory) ⊎ IsAmong kind kinds → IsRefusal kinds fault

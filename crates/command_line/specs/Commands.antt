@@ -23,6 +23,10 @@ check = with_rule (with_rule (bare (codes "check")) (file_rule (codes "SHEET")))
 abbrev pub migrate : App
 migrate = with_rule (bare (codes "migrate")) (file_rule (codes "CONFIG"))
 
+-- `script CONFIG`
+abbrev pub script : App
+script = with_rule (bare (codes "script")) (file_rule (codes "CONFIG"))
+
 -- the program with no command yet; its first word is no program's name
 abbrev pub top : App
 top =
@@ -30,4 +34,4 @@ top =
     record app { top = record app.top { no_binary_name = true; has_version = true; subcommand_required = true } }
 
 abbrev pub program : App
-program = with_subcommand (with_subcommand (with_subcommand top share.top) check.top) migrate.top
+program = with_subcommand (with_subcommand (with_subcommand (with_subcommand top share.top) check.top) migrate.top) script.top

@@ -4,7 +4,7 @@ use Rattle.clap.specs.Words.{IsAmong, Kinds, Row, Text, first_of}
 use Rattle.clap.specs.declared.error.kind.ErrorKind.{ErrorKind}
 use Rattle.clap.specs.declared.error.kind.ErrorKind.TheVariants.{DisplayHelp, DisplayVersion}
 use Rattle.command_line.specs.declared.words.Words.{Words}
-use Rattle.command_line.specs.declared.words.Words.TheVariants.{Share, Check, Migrate}
+use Rattle.command_line.specs.declared.words.Words.TheVariants.{Share, Check, Migrate, Script}
 use Rattle.command_line.specs.declared.words.WordsFault.{WordsFault}
 use Rattle.command_line.specs.declared.words.WordsFault.TheVariants.{Refused, Memory}
 
@@ -18,18 +18,28 @@ abbrev pub IsShare : List ℕ → Words → Type 0
 IsShare word (Share sheet) = sheet.now ≡ word
 IsShare word (Check sheet grants) = ⊥
 IsShare word (Migrate config) = ⊥
+IsShare word (Script config) = ⊥
 
 -- the command `check` of that sheet and those grants
 abbrev pub IsCheck : List ℕ → List ℕ → Words → Type 0
 IsCheck first second (Share sheet) = ⊥
 IsCheck first second (Check sheet grants) = (sheet.now ≡ first) × (grants.now ≡ second)
 IsCheck first second (Migrate config) = ⊥
+IsCheck first second (Script config) = ⊥
 
 -- the command `migrate` of that configuration
 abbrev pub IsMigrate : List ℕ → Words → Type 0
 IsMigrate word (Share sheet) = ⊥
 IsMigrate word (Check sheet grants) = ⊥
 IsMigrate word (Migrate config) = config.now ≡ word
+IsMigrate word (Script config) = ⊥
+
+-- the command `script` of that configuration
+abbrev pub IsScript : List ℕ → Words → Type 0
+IsScript word (Share sheet) = ⊥
+IsScript word (Check sheet grants) = ⊥
+IsScript word (Migrate config) = ⊥
+IsScript word (Script config) = config.now ≡ word
 
 -- the parser found the command, and the words after it
 abbrev pub IsFound : Option (Text × List Row) → Words → Type 0
@@ -39,6 +49,8 @@ IsFound found (Check sheet grants) =
     (rows : List Row) × (found ≡ Some (codes "check", rows)) × (first_of (codes "SHEET") rows ≡ Some sheet.now) × (first_of (codes "GRANTS") rows ≡ Some grants.now)
 IsFound found (Migrate config) =
     (rows : List Row) × (found ≡ Some (codes "migrate", rows)) × (first_of (codes "CONFIG") rows ≡ Some config.now)
+IsFound found (Script config) =
+    (rows : List Row) × (found ≡ Some (codes "script", rows)) × (first_of (codes "CONFIG") rows ≡ Some config.now)
 
 -- the words are given, or memory ran out
 abbrev pub GivesOrMemory : (Words → Type 0) → Result Words WordsFault → Type 0

@@ -4,6 +4,7 @@
 //! ftpd share SHEET
 //! ftpd check SHEET GRANTS
 //! ftpd migrate CONFIG
+//! ftpd script CONFIG
 //! ```
 #![tactic(auto)]
 

@@ -1,8 +1,8 @@
 //! The words of a command line.
 ghost use Rattle.std.specs.Prelude.{◌≡◌, ◌↔◌, ◌∷◌, [], ℕ, List, Some, IfOk, IfErr, IfSome, IsSomeAnd, IsTrue, false, map, codes, option_map};
 ghost use Rattle.clap.specs.Words.{Row, app_of, fault_of, first_of, kind_of, rule_of, subcommand_of, subcommand_rows_of, with_rule};
-ghost use Rattle.command_line.specs.Commands.{bare, check, file_rule, migrate, program, share, top};
-ghost use Rattle.command_line.specs.Given.{GivesOrMemory, IsCheck, IsFound, IsHelp, IsMigrate, IsPlainWord, IsRefusal, IsRefusedAs, IsShare};
+ghost use Rattle.command_line.specs.Commands.{bare, check, file_rule, migrate, program, script, share, top};
+ghost use Rattle.command_line.specs.Given.{GivesOrMemory, IsCheck, IsFound, IsHelp, IsMigrate, IsPlainWord, IsRefusal, IsRefusedAs, IsScript, IsShare};
 
 use clap::error::ErrorKind;
 use clap::{Arg, ArgAction, ArgMatches, Command, Error};
@@ -17,6 +17,8 @@ pub enum Words<'a> {
     Check { sheet: &'a str, grants: &'a str },
     /// Print a configuration in its latest version; its path.
     Migrate { config: &'a str },
+    /// Serve a control session by a configuration, whose path this is.
+    Script { config: &'a str },
 }
 
 /// Why the words give no command.
@@ -93,6 +95,19 @@ fn migrate_command<'a>(alloc: Global) -> Result<Command<'a>, AllocError>
     )
 }
 
+fn script_command<'a>(alloc: Global) -> Result<Command<'a>, AllocError>
+    ensures script { IfOk result (λ c. app_of c ≡ script) }
+{
+    let about = "Serve the control session on standard input, and print its replies";
+    let config = "File of a configuration, in TOML; not /dev/stdin, which has the control text";
+    with_file(
+        alloc,
+        bare_command(alloc, "script", about),
+        "CONFIG",
+        config,
+    )
+}
+
 fn top_command<'a>(alloc: Global) -> Result<Command<'a>, AllocError>
     ensures top { IfOk result (λ c. app_of c ≡ top) }
 {
@@ -111,7 +126,8 @@ fn program_command<'a>(alloc: Global) -> Result<Command<'a>, AllocError>
     let top = top_command(alloc)?;
     let with_share = top.subcommand(share_command(alloc)?)?;
     let with_check = with_share.subcommand(check_command(alloc)?)?;
-    let command = with_check.subcommand(migrate_command(alloc)?)?;
+    let with_migrate = with_check.subcommand(migrate_command(alloc)?)?;
+    let command = with_migrate.subcommand(script_command(alloc)?)?;
     Ok(command)
 }
 
@@ -184,6 +200,32 @@ fn migrate_given<'a>(matches: &ArgMatches<'a>) -> Option<Words<'a>>
     Some(Words::Migrate { config })
 }
 
+fn script_given<'a>(matches: &ArgMatches<'a>) -> Option<Words<'a>>
+    ensures script { (rows : List Row) (word : List ℕ)
+        → subcommand_rows_of matches.now ≡ Some (codes "script", rows)
+        → first_of (codes "CONFIG") rows ≡ Some word → IsSomeAnd result (IsScript word) }
+    ensures found { IfSome result (IsFound (subcommand_rows_of matches.now)) }
+{
+    let config = word_of(matches, "script", "CONFIG")?;
+    Some(Words::Script { config })
+}
+
+/// The command of a configuration.
+fn of_config<'a>(matches: &ArgMatches<'a>) -> Option<Words<'a>>
+    ensures migrate { (rows : List Row) (word : List ℕ)
+        → subcommand_rows_of matches.now ≡ Some (codes "migrate", rows)
+        → first_of (codes "CONFIG") rows ≡ Some word → IsSomeAnd result (IsMigrate word) }
+    ensures script { (rows : List Row) (word : List ℕ)
+        → subcommand_rows_of matches.now ≡ Some (codes "script", rows)
+        → first_of (codes "CONFIG") rows ≡ Some word → IsSomeAnd result (IsScript word) }
+    ensures found { IfSome result (IsFound (subcommand_rows_of matches.now)) }
+{
+    match migrate_given(matches) {
+        Some(words) => Some(words),
+        None => script_given(matches),
+    }
+}
+
 fn given<'a>(matches: &ArgMatches<'a>) -> Option<Words<'a>>
     ensures share { (rows : List Row) (word : List ℕ)
         → subcommand_rows_of matches.now ≡ Some (codes "share", rows)
@@ -195,6 +237,9 @@ fn given<'a>(matches: &ArgMatches<'a>) -> Option<Words<'a>>
     ensures migrate { (rows : List Row) (word : List ℕ)
         → subcommand_rows_of matches.now ≡ Some (codes "migrate", rows)
         → first_of (codes "CONFIG") rows ≡ Some word → IsSomeAnd result (IsMigrate word) }
+    ensures script { (rows : List Row) (word : List ℕ)
+        → subcommand_rows_of matches.now ≡ Some (codes "script", rows)
+        → first_of (codes "CONFIG") rows ≡ Some word → IsSomeAnd result (IsScript word) }
     ensures found { IfSome result (IsFound (subcommand_rows_of matches.now)) }
 {
     if let Some(words) = share_given(matches) {
@@ -202,7 +247,7 @@ fn given<'a>(matches: &ArgMatches<'a>) -> Option<Words<'a>>
     }
     match check_given(matches) {
         Some(words) => Some(words),
-        None => migrate_given(matches),
+        None => of_config(matches),
     }
 }
 
@@ -220,6 +265,9 @@ pub fn read_words<'a>(alloc: Global, words: &'a [&'a str]) -> Result<Words<'a>, 
     ensures migrate { (word : List ℕ) → IsPlainWord word
         → map (λ s. s.now) words.now ≡ codes "migrate" ∷ word ∷ []
         → GivesOrMemory (IsMigrate word) result }
+    ensures script { (word : List ℕ) → IsPlainWord word
+        → map (λ s. s.now) words.now ≡ codes "script" ∷ word ∷ []
+        → GivesOrMemory (IsScript word) result }
     ensures refused { IfErr result (IsRefusal (fault_of program (map (λ s. s.now) words.now))) }
     ensures given { IfOk result (λ _. fault_of program (map (λ s. s.now) words.now) ≡ []) }
     ensures found { IfOk result (IsFound (subcommand_of program (map (λ s. s.now) words.now))) }

@@ -1,5 +1,5 @@
 -- A session over a store in memory.
-use Rattle.std.proofs.Common.{◌≡◌, ◌⊎◌, ℕ, List, Option, Result, Ok, Err, IfErr, OnErr, OnOk, inl, inr, sym, subst}
+use Rattle.std.proofs.Common.{◌≡◌, ◌∙◌, ◌⊎◌, ℕ, List, Option, Result, Ok, Err, IfErr, OnErr, OnOk, inl, inr, sym, subst}
 use Rattle.std.specs.declared.alloc.Global.{Global}
 use Rattle.authorizer.specs.Users.{Users}
 use Rattle.control_session.specs.Sessions.{IsBroken, IsSession, greeting_of, new_session}
@@ -13,7 +13,7 @@ use Rattle.session_table.specs.declared.settings.Settings.{Settings}
 use Rattle.text_ends.specs.Parts.{AppendsPart}
 use Rattle.configured_session.specs.Served.{IsBrokenBy, IsServedBy}
 use Rattle.configured_session.specs.declared.fault.ServeFault.{ServeFault}
-use Rattle.configured_session.specs.declared.fault.ServeFault.TheVariants.{Control}
+use Rattle.configured_session.specs.declared.fault.ServeFault.TheVariants.{Control, Folder}
 
 pub served_by : (users : Users) (rates : Rates) (store store' : Memory) (settings : Settings Global) (port : ℕ) (old new out out' : Option (List ℕ)) (promises promises' : Promises)
     (answer : Result (Unit {0}) ControlFault) → promises.rates ≡ rates → HasNoSessions promises
@@ -49,3 +49,9 @@ pub on_broken : {X : Type 0} (Y : ServeFault → Type 0) (answer : Result (Unit 
     → IfErr told (λ fault. (why : ControlFault) × (fault ≡ Control why) × (answer ≡ Err why)) → OnErr answer X → ((why : ControlFault) → X → Y (Control why)) → IfErr told Y
 on_broken Y answer (Ok done) same is more = tt
 on_broken {X} Y answer (Err fault) same is more = subst Y (sym same.1) (more same.0 (subst (λ (a : Result (Unit {0}) ControlFault). OnErr a X) same.2 is))
+
+-- what is told of a session is no folder
+pub no_folder : (X : Type 0) (answer : Result (Unit {0}) ControlFault) (told : Result (Unit {0}) ServeFault)
+    → IfErr told (λ fault. (why : ControlFault) × (fault ≡ Control why) × (answer ≡ Err why)) → IfErr told (λ fault. fault ≡ Folder → X)
+no_folder X answer (Ok done) same = tt
+no_folder X answer (Err fault) same = λ is. let no : Folder ≡ Control same.0 = sym is ∙ same.1 in cc

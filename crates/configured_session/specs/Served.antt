@@ -37,6 +37,11 @@ IsBrokenBy users rates store settings port old new out out' =
 abbrev pub InStore : (Memory → Type 0) → Config → Type 0
 InStore Holds config = (store : Memory) × (config.store ≡ served.Memory store) × Holds store
 
+-- the session over the configured store was served whole
+abbrev pub IsServed : Config → Option (List ℕ) → Option (List ℕ) → Option (List ℕ) → Option (List ℕ) → Type 0
+IsServed config old new out out' =
+    InStore (λ store. IsServedBy config.users.users config.limits store config.settings config.numbers.passive_first old new out out') config
+
 -- a folder is configured, or the session over the configured store breaks off
 abbrev pub IsUnserved : Config → Option (List ℕ) → Option (List ℕ) → Option (List ℕ) → Option (List ℕ) → ServeFault → Type 0
 IsUnserved config old new out out' Folder = ((text : String Global) × (config.store ≡ served.Folder text)) × (new ≡ old) × (out' ≡ out)

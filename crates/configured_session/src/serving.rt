@@ -3,7 +3,7 @@
 ghost use Rattle.std.specs.Prelude.{◌≡◌, Err, IfErr, Ok, OnErr, OnOk};
 ghost use Rattle.control_session.specs.declared.fault.ControlFault.{ControlFault};
 ghost use Rattle.configured_session.specs.declared.fault.ServeFault.TheVariants as ServeFault;
-ghost use Rattle.configured_session.specs.Served.{InStore, IsBrokenBy, IsServedBy, IsUnserved};
+ghost use Rattle.configured_session.specs.Served.{IsBrokenBy, IsServed, IsServedBy, IsUnserved};
 
 use crate::fault::ServeFault;
 use authorizer::Authorizer;
@@ -70,14 +70,14 @@ pub fn serve_config<R: TextReader, W: TextWriter>(
     reader: &mut R,
     writer: &mut W,
 ) -> Result<(), ServeFault>
-    ensures served { OnOk result (InStore
-        (λ store. IsServedBy config.users.users config.limits store config.settings
-        config.numbers.passive_first
+    ensures served { OnOk result (IsServed config
         (R.remaining reader.old) (R.remaining reader.new)
-        (W.contents writer.old) (W.contents writer.new)) config) }
+        (W.contents writer.old) (W.contents writer.new)) }
     ensures broken { IfErr result (IsUnserved config
         (R.remaining reader.old) (R.remaining reader.new)
         (W.contents writer.old) (W.contents writer.new)) }
+    ensures untouched { IfErr result (λ fault. fault ≡ ServeFault.Folder
+        → (reader.new ≡ reader.old) × (writer.new ≡ writer.old)) }
 {
     let Config {
         settings,

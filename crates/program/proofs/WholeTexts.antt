@@ -4,7 +4,7 @@ use Rattle.std.specs.Io.KnownBytes.{Appends, Consumes, IsAtEnd}
 use Rattle.server_config.specs.Migrated.{IsMigrated}
 use Rattle.program.specs.Migrating.{AppendsMigrated}
 
-whole : (text rest items : List ℕ) → Consumes (Some text) (Some rest) items → IsAtEnd (Some rest) → items ≡ text
+pub whole : (text rest items : List ℕ) → Consumes (Some text) (Some rest) items → IsAtEnd (Some rest) → items ≡ text
 whole text rest items taken end = sym (append-nil items) ∙ ap (λ (r : List ℕ). items ++ r) (sym end) ∙ sym taken
 
 -- what holds of the octets that were read holds of the text

@@ -2,9 +2,12 @@
 ghost use Rattle.std.specs.Prelude.{◌≡◌};
 ghost use Rattle.program.specs.Endings.{status_of};
 
+use configured_session::ServeFault;
 use server_config::ConfigFault;
 use sheet_commands::ProgramFault;
 use std::fmt;
+
+const NO_MEMORY: &str = "[server]: root: `script` serves no folder, but `memory` alone";
 
 /// How a run of the program ends. It prints as what goes to standard error.
 #[derive(Debug, Drop)]
@@ -19,6 +22,8 @@ pub enum Ending {
     Fault(ProgramFault),
     /// The configuration is refused.
     Config(ConfigFault),
+    /// A folder is configured where the store has to be in memory, or the control session broke off.
+    Session(ServeFault),
 }
 
 impl Ending {
@@ -28,7 +33,7 @@ impl Ending {
     {
         match self {
             Ending::Done => 0,
-            Ending::Fault(_) | Ending::Config(_) => 1,
+            Ending::Fault(_) | Ending::Config(_) | Ending::Session(_) => 1,
             Ending::Refused(_) => 2,
             Ending::Flawed => 3,
         }
@@ -45,6 +50,12 @@ impl fmt::Display for Ending {
             Ending::Config(fault) => {
                 writeln!(f, "{fault}")?;
                 writeln!(f, "ftpd: {}", fault.name())
+            }
+            Ending::Session(fault) => {
+                if *fault == ServeFault::Folder {
+                    writeln!(f, "{NO_MEMORY}")?;
+                }
+                writeln!(f, "ftpd: {fault}")
             }
         }
     }

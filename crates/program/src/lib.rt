@@ -15,7 +15,9 @@
 mod ending;
 mod migrating;
 mod run;
+mod scripting;
 
 pub use ending::Ending;
 pub use migrating::run_migrate;
 pub use run::{Openings, STANDARD_INPUT, run_words};
+pub use scripting::{ScriptFault, run_script};

@@ -68,37 +68,6 @@ fn files_that_are_missing(rt: HostRuntime) {
     }
 }
 
-const CONFIG: &str = "# the least that is accepted
-version = 1
-[server]
-root = \"memory\"
-passive_last = 40001
-passive_first = 40000
-";
-
-const MIGRATED: &str = "version = 2
-
-[server]
-passive_first = 40000
-passive_last = 40001
-root = \"memory\"
-";
-
-#[test]
-fn a_configuration_in_version_2(rt: HostRuntime) {
-    let config = Files {
-        sheet: CONFIG,
-        grants: Some("version = 1\n[server]\ncolour = 1"),
-    };
-    let words = ["migrate", "sheet"];
-    expect(&rt, rt.alloc(), &words, config, 0, MIGRATED, "");
-    let told = "[server]: colour: no such key\nftpd: UnknownKey\n";
-    let words = ["migrate", "grants"];
-    expect(&rt, rt.alloc(), &words, config, 1, "", told);
-    let words = ["migrate", "other"];
-    expect(&rt, rt.alloc(), &words, config, 1, "", "ftpd: ReadFault\n");
-}
-
 #[test]
 fn standard_input_is_read_once(rt: HostRuntime) {
     let told = "error: standard input cannot be both the sheet and the grants\n";

@@ -1,5 +1,4 @@
-//! Tests of the command line, of the commands on sheets, and of the program that joins them, by their public calls
-//! alone.
+//! Tests of the commands on sheets, and of the program that joins them, by their public calls alone.
 #![tactic(auto)]
 
 #[cfg(test)]
@@ -14,5 +13,3 @@ mod rows;
 mod shortages;
 #[cfg(test)]
 mod texts;
-#[cfg(test)]
-mod words;

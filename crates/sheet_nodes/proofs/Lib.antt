@@ -5,3 +5,8 @@ mod Pushed
 mod First
 mod Noted
 mod Stands
+mod Rows
+mod Trees
+mod Taken
+mod Sound
+mod Together

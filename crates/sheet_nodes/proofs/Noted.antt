@@ -1,11 +1,11 @@
 -- What a line states of a place.
-use Rattle.std.proofs.Common.{◌≡◌, ◌∙◌, ℕ, zero, suc, ◌<◌, ◌+◌, ◌||◌, Bool, true, false, cond, List, [], ◌∷◌, length, map, get_or, set, refl, sym, ap, subst, arith, Option, Some, None, inl, inr, get_or-set_same, get_or-set_other, length-set, Bor}
+use Rattle.std.proofs.Common.{◌≡◌, ◌∙◌, ℕ, zero, suc, ◌<◌, ◌+◌, ◌||◌, Bool, true, false, cond, List, [], ◌∷◌, ◌++◌, length, map, get_or, set, refl, sym, ap, subst, arith, Option, Some, None, inl, inr, get_or-set_same, get_or-set_other, length-set, Bor}
 use Rattle.std.proofs.lemmas.Bool.{cases_eq, true≢false}
 use Rattle.std.proofs.lemmas.List.Sums.{sum_by-cons}
 use Rattle.std.specs.BTreeMap.{BTreeMap}
 use Rattle.limit_tree.specs.declared.place.Kind.{Kind}
 use Rattle.limit_tree.specs.Outline.{is_leaf_kind}
-use Rattle.sheet_tree.specs.Paths.{Path, NoneTwice, is_among, names_of, same_path, text_of}
+use Rattle.sheet_tree.specs.Paths.{Octets, Path, NoneTwice, is_among, names_of, same_path, text_of}
 use Rattle.sheet_tree.proofs.Within.{same_self}
 use Rattle.sheet_nodes.specs.declared.node.Node.{Node}
 use Rattle.sheet_nodes.specs.Table.{Entry, Mention, Table, mention_at, noted, path_at, paths_in, unstated, want_count}
@@ -25,7 +25,7 @@ set_same (y ∷ ys) zero d l = refl
 set_same (y ∷ ys) (suc i) d l = ap (λ zs. y ∷ zs) (set_same ys i d (omega arith))
 
 -- a line's path stands nowhere in what follows
-not_noted : (line : ℕ) (entry : Entry) (table : Table) → is_among (paths_in table) entry.path ≡ false → noted line entry table ≡ table
+pub not_noted : (line : ℕ) (entry : Entry) (table : Table) → is_among (paths_in table) entry.path ≡ false → noted line entry table ≡ table
 not_noted line entry [] e = refl
 not_noted line entry (m ∷ table) e = go (same_path entry.path m.path) (is_among (paths_in table) entry.path) refl refl e (not_noted line entry table)
   where
@@ -45,7 +45,7 @@ set_noted line kind (m ∷ table) (suc place) once l =
     ap (λ (t : Table). m ∷ t) (set_noted line kind table place once.1 (omega arith))
     ∙ sym (ap (λ (c : Bool). cond c (record { path = m.path; kind = kind; line = Some line }) m ∷ noted line (record { path = path_at table place; kind = kind }) table) (apart_from m.path (paths_in table) place once.0 (omega (arith, count table, l))))
 
-want_cons : (m : Mention) (table : Table) → want_count (m ∷ table) ≡ cond (is_leaf_kind m.kind) 1 0 + want_count table
+pub want_cons : (m : Mention) (table : Table) → want_count (m ∷ table) ≡ cond (is_leaf_kind m.kind) 1 0 + want_count table
 want_cons m table = sum_by-cons (λ (m : Mention). cond (is_leaf_kind m.kind) 1 0) m table
 
 abbrev one_if : Bool → ℕ
@@ -148,3 +148,17 @@ text_at nodes node table place texts view l is =
     ∙ ap (λ (ts : List (List ℕ)). get_or ts place []) (sym texts)
     ∙ get_or-map text_of (paths_of nodes) place [] [] (omega (arith, within, count))
     ∙ ap (λ (ps : List Path). text_of (get_or ps place [])) (sym (paths_in_table nodes) ∙ ap paths_in view)
+
+-- each place but the root's lies a name below that of its parent
+pub parent_at : (nodes : List Node) (node : Node) (table : Table) (place : ℕ) → AreBeneath (paths_of nodes) (parents_of nodes) → table_of nodes ≡ table → 0 < place → place < length table → node ≡ get_or nodes place node
+    → (node.parent < length table) × (name : Octets) × (path_at table place ≡ path_at table node.parent ++ name ∷ [])
+parent_at nodes node table place beneath view some l is =
+    let paths : paths_of nodes ≡ paths_in table = sym (paths_in_table nodes) ∙ ap paths_in view in
+    let many : length (paths_of nodes) ≡ length table = ap length paths ∙ count table in
+    let within : place < length nodes = omega (arith, l, ap length view, length-map nodes mention_of) in
+    let up : get_or (parents_of nodes) place 0 ≡ node.parent = get_or-map (λ (n : Node). n.parent) nodes place node 0 within ∙ ap (λ (n : Node). n.parent) (sym is) in
+    let got = beneath place some (omega (arith, l, many)) in (
+      omega (arith, got.0, up, many),
+      got.1,
+      ap (λ (ps : List Path). get_or ps place []) (sym paths) ∙ got.2 ∙ ap (λ (n : ℕ). get_or (paths_of nodes) n [] ++ got.1 ∷ []) up ∙ ap (λ (ps : List Path). get_or ps node.parent [] ++ got.1 ∷ []) paths,
+    )

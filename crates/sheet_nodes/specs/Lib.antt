@@ -1,3 +1,6 @@
 pub mod Table
 pub mod Inside
 pub mod Walks
+pub mod Rows
+pub mod Tree
+pub mod Taken

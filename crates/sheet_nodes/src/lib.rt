@@ -10,11 +10,15 @@
 
 mod fault;
 mod grow;
+mod kids;
+mod laws;
 mod names;
 mod node;
 mod take;
+mod tree;
 mod walk;
 
 pub use fault::SheetFault;
+pub use laws::tree_is_of_lines;
 pub use names::name_len;
 pub use node::{Nodes, is_leaf};

@@ -1,7 +1,7 @@
 //! The nodes that a sheet mentions.
 ghost use Rattle.std.specs.Prelude.{◌≡◌, ◌<◌, ◌^◌, ◌∷◌, ◌++◌, [], false, OnOk, IfOk, IfSome, None, Some, length, slice_index_or};
 ghost use Rattle.limit_tree.specs.Outline.{is_leaf_kind};
-ghost use Rattle.sheet_tree.specs.Paths.{names_of, place_of, text_of};
+ghost use Rattle.sheet_tree.specs.Paths.{Octets, names_of, place_of, text_of};
 ghost use Rattle.sheet_nodes.specs.Table.{fresh, mention_at, noted, path_at, paths_in, unstated, want_count};
 ghost use Rattle.sheet_nodes.specs.Inside.{IsTable};
 
@@ -85,6 +85,17 @@ impl<'t, A: Allocator> Nodes<'t, A> {
         ensures line { result ≡ (mention_at self.now place).line }
     {
         self.nodes[place].line
+    }
+
+    /// The place directly above a place.
+    pub fn parent(&self, place: usize) -> usize
+        requires some { 0 < place }
+        requires place { place < length self.now }
+        ensures within { result < length self.now }
+        ensures parent { (name : Octets)
+            × (path_at self.now place ≡ path_at self.now result ++ name ∷ []) }
+    {
+        self.nodes[place].parent
     }
 
     /// The place of a name below a place.

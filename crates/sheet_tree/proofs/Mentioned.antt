@@ -19,7 +19,7 @@ among_map m n q (w ∷ ws) = ap (λ (b : Bool). (bytes_eq m n && same_path q w) 
     go true = refl
     go false = refl
 
-among_way : (p q : Path) → is_among (way_to p) q ≡ is_within q p
+pub among_way : (p q : Path) → is_among (way_to p) q ≡ is_within q p
 among_way [] [] = refl
 among_way [] (m ∷ q) = refl
 among_way (n ∷ p) [] = refl
@@ -41,7 +41,7 @@ among_mention seen p q = go (is_among seen p) refl (same_path q p) refl
     go true e false f = sym (or_none (is_among seen q))
     go false e d f = list_any-append (same_path q) seen (p ∷ []) ∙ ap (λ (b : Bool). is_among seen q || b) (or_none (same_path q p) ∙ f)
 
-among_fold : (seen ps : List Path) (q : Path) → is_among (fold mention seen ps) q ≡ (is_among seen q || is_among ps q)
+pub among_fold : (seen ps : List Path) (q : Path) → is_among (fold mention seen ps) q ≡ (is_among seen q || is_among ps q)
 among_fold seen [] q = sym (or_none (is_among seen q))
 among_fold seen (p ∷ ps) q = among_fold (mention seen p) ps q ∙ ap (λ (b : Bool). b || is_among ps q) (among_mention seen p q) ∙ or_turned (is_among seen q) (same_path q p) (is_among ps q)
 
@@ -71,7 +71,7 @@ once_mention seen p once = go (is_among seen p) refl
     go true e = once
     go false e = once_push seen p once e
 
-once_fold : (seen ps : List Path) → NoneTwice seen → NoneTwice (fold mention seen ps)
+pub once_fold : (seen ps : List Path) → NoneTwice seen → NoneTwice (fold mention seen ps)
 once_fold seen [] once = once
 once_fold seen (p ∷ ps) once = once_fold (mention seen p) ps (once_mention seen p once)
 

@@ -4,7 +4,7 @@ use Rattle.clap.specs.Kinds.{HasKind}
 use Rattle.command_line.specs.Commands.{program}
 use Rattle.command_line.specs.Given.{IsFound}
 use Rattle.clap.specs.Words.{App, Row, Text, app_of, kind_of, fault_of, is_simple, is_simple_and_free, subcommand_of, takes}
-use Rattle.command_line.proofs.Taken.{program_is_free, program_is_simple, refusal, shares, checks, migrates}
+use Rattle.command_line.proofs.Taken.{program_is_free, program_is_simple, refusal, shares, checks, migrates, scripts}
 use Rattle.command_line.proofs.words.read_words.Goals as goal
 
 pub returns-in-Err-clause-share : goal.returns-in-Err-clause-share
@@ -14,6 +14,10 @@ returns-in-Err-clause-share c = λ word plain are.
 pub returns-in-Err-clause-migrate : goal.returns-in-Err-clause-migrate
 returns-in-Err-clause-migrate c = λ word plain are.
     c.refused.ensures.memory (c.in-Err.ensures.passes (ap₂ takes c.in-Ok.ensures.program are ∙ (migrates word plain).taken))
+
+pub returns-in-Err-clause-script : goal.returns-in-Err-clause-script
+returns-in-Err-clause-script c = λ word plain are.
+    c.refused.ensures.memory (c.in-Err.ensures.passes (ap₂ takes c.in-Ok.ensures.program are ∙ (scripts word plain).taken))
 
 pub returns-in-Err-clause-check : goal.returns-in-Err-clause-check
 returns-in-Err-clause-check c = λ first second plain also are.
@@ -40,6 +44,13 @@ returns-in-Some-clause-migrate c = λ word plain are.
     let simple : is_simple (app_of c.in-Ok.command) ≡ true = ap is_simple c.in-Ok.ensures.program ∙ program_is_simple in
     let entered = (c.in-Ok-try_get_matches_from.ensures.matches simple).1 ∙ ap₂ subcommand_of c.in-Ok.ensures.program are ∙ held.entered in
     c.in-Some.ensures.migrate held.rows word entered held.config
+
+pub returns-in-Some-clause-script : goal.returns-in-Some-clause-script
+returns-in-Some-clause-script c = λ word plain are.
+    let held = scripts word plain in
+    let simple : is_simple (app_of c.in-Ok.command) ≡ true = ap is_simple c.in-Ok.ensures.program ∙ program_is_simple in
+    let entered = (c.in-Ok-try_get_matches_from.ensures.matches simple).1 ∙ ap₂ subcommand_of c.in-Ok.ensures.program are ∙ held.entered in
+    c.in-Some.ensures.script held.rows word entered held.config
 
 pub returns-in-Some-clause-check : goal.returns-in-Some-clause-check
 returns-in-Some-clause-check c = λ first second plain also are.

@@ -18,6 +18,10 @@ fn words_of_a_command(rt: HostRuntime) -> Result<(), Fail> {
         &rt,
         read_words(rt.alloc(), &["migrate", config])? == Words::Migrate { config },
     );
+    holds(
+        &rt,
+        read_words(rt.alloc(), &["script", config])? == Words::Script { config },
+    );
     let (sheet, grants) = ("office.sheet", "office.grants");
     holds(
         &rt,
@@ -42,6 +46,12 @@ fn words_that_ask_for_help(rt: HostRuntime) {
         (["--help", ""], "  share    Share the limits of a sheet"),
         (["--help", ""], "  check    Check grants"),
         (["--help", ""], "  migrate  Print a configuration"),
+        (["--help", ""], "  script   Serve the control session"),
+        (
+            ["script", "--help"],
+            "not /dev/stdin, which has the control text",
+        ),
+        (["help", "script"], "Usage: ftpd script <CONFIG>"),
         (
             ["share", "--help"],
             "Status: 0 done, or yes; 1 a fault; 2 refused words; 3 no",

@@ -1,12 +1,13 @@
 //! The users of an FTP server, and what each may do.
 //!
 //! ```text
+//! let alloc = rt.alloc();
 //! let mut users = Authorizer::new(alloc)?;
 //! users.add_user("ann", "secret", "/home/ann", "elr")?;
 //! users.override_perm("ann", "/in", "w", true)?;
-//! let may_log_in = users.check_password("ann", "secret");
-//! let may_store = users.has_perm("ann", Letter::Store, &path);
-//! let letters = users.letters_at("ann", &path);
+//! assert!(rt; users.check_password("ann", "secret"));
+//! let path = VPath::root(alloc).resolve(alloc, "/in/f")?;
+//! assert!(rt; users.has_perm("ann", Letter::Store, &path));
 //! ```
 #![tactic(auto)]
 

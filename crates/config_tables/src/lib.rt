@@ -4,11 +4,12 @@
 //! key. Nothing is made of it here. Both versions of the file are read; version 2 has groups.
 //!
 //! ```text
-//! let document = toml::table_from_slice(alloc, octets)?;
-//! match read_tables(alloc, &document) {
-//!     Ok(tables) => println!(rt; "port {}", tables.server.port)?,
-//!     Err(TableFault::Key { header, fault }) => eprintln!(rt; "{}: {}: {}", header.table, fault.key, fault.problem)?,
-//!     Err(TableFault::Memory) => eprintln!(rt; "out of memory")?,
+//! let document = toml::table_from_str(rt.alloc(), "version = 3")?;
+//! match read_tables(rt.alloc(), &document) {
+//!     Err(TableFault::Key { header, fault }) => {
+//!         assert!(rt; header.table == TableName::Top && fault.key == "version");
+//!     }
+//!     _ => panic!(rt; "no version but 1 and 2 is read"),
 //! }
 //! ```
 //!

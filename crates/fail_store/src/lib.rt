@@ -5,10 +5,12 @@
 //! failing in turn:
 //!
 //! ```text
-//! for passes in 0..calls {
-//!     let store = FailStore::new(MemStore::new(alloc, 1000)?, passes);
-//!     ..
-//! }
+//! let path = VPath::root(rt.alloc()).resolve(rt.alloc(), "/d")?;
+//! let mut store = FailStore::new(MemStore::new(rt.alloc(), 1000)?, 0);
+//! // the first call fails, and no other
+//! assert!(rt; store.make_dir(&path) == Err(StoreFault::Device));
+//! store.make_dir(&path)?;
+//! assert!(rt; store.faults() == 1);
 //! ```
 #![tactic(auto)]
 

@@ -4,11 +4,15 @@
 //! directory's entries are next to each other, in the order of their names.
 //!
 //! ```text
-//! let mut files = Files::new(alloc.clone()?);
+//! let alloc = rt.alloc();
+//! let root = VPath::root(alloc);
+//! let path = root.resolve(alloc, "/d")?;
+//! let mut files = Files::new(alloc);
 //! if let Some(spot) = Spot::of(&alloc, &path)? {
 //!     files.put(spot, Entry::directory())?;
 //! }
-//! let listed = files.listing(&alloc, &above)?;
+//! let listed = files.listing(&alloc, &root)?;
+//! assert!(rt; listed.len() == 1);
 //! ```
 #![tactic(auto)]
 

@@ -1,14 +1,14 @@
 //! What an FTP server writes on a control connection and in a listing: replies, entries, dates.
 //!
 //! ```text
-//! let text = LineText::with_number(alloc, "Restarting at ", 120, "")?;
+//! let text = LineText::with_number(rt.alloc(), "Restarting at ", 120, "")?;
 //! let reply = Reply::one_line(ReplyCode::new(350), text);
-//! reply.write_to(&mut buffer)?; // 350 Restarting at 120
-//!
+//! let mut buffer = Vec::new(rt.alloc());
+//! reply.write_to(&mut buffer)?;
+//! assert!(rt; buffer.as_slice() == b"350 Restarting at 120\r\n".as_slice());
 //! let meta = Meta::new(Kind::File, 120, 951_827_696);
-//! let line = list_line(alloc, &meta, "a.txt")?;
-//! let entry = mlst_entry(alloc, &meta, Facts::ALL, Letters::ALL, "/a.txt")?;
-//! let time = mdtm_line(alloc, meta.modified)?;
+//! let line = list_line(rt.alloc(), &meta, "a.txt")?;
+//! assert!(rt; line.as_str() == "-rw-r--r-- 1 ftp ftp          120 Feb 29  2000 a.txt");
 //! ```
 #![tactic(auto)]
 

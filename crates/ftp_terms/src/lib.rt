@@ -3,10 +3,11 @@
 //! ([`DataType`]) and a text that stands on one line ([`LineText`]).
 //!
 //! ```text
-//! let letters = Letters::read("elr")?;
-//! let may_read = letters.holds(Letter::Retrieve);
-//! let meta = Meta::new(Kind::File, 120, 951_827_696);
-//! let text = LineText::with_number(alloc, "", meta.size, " octets")?;
+//! let letters = Letters::read("elr").unwrap_or(Letters::NONE);
+//! assert!(rt; letters.holds(Letter::Retrieve) && !letters.holds(Letter::Store));
+//! let meta = Meta::new(Kind::File, 120, 951_827_696); // seconds since 1970
+//! let text = LineText::with_number(rt.alloc(), "", meta.size, " octets")?;
+//! assert!(rt; text.as_str() == "120 octets");
 //! ```
 #![tactic(auto)]
 

@@ -7,6 +7,7 @@ ghost use Rattle.ftp_wire.specs.Table.{code};
 use crate::commands::Command;
 use crate::table::{Bare, Listing, Optional, Text};
 
+/// The command that takes no argument.
 pub fn bare_command<T>(verb: Bare) -> Command<T>
     ensures command { result ≡ bare_command verb }
 {
@@ -23,6 +24,7 @@ pub fn bare_command<T>(verb: Bare) -> Command<T>
     }
 }
 
+/// The command with its text.
 pub fn text_command<T>(verb: Text, text: T) -> Command<T>
     ensures command { result ≡ text_command verb text }
 {
@@ -42,6 +44,7 @@ pub fn text_command<T>(verb: Text, text: T) -> Command<T>
     }
 }
 
+/// The command with its text, or with none.
 pub fn optional_command<T>(verb: Optional, text: Option<T>) -> Command<T>
     ensures command { result ≡ optional_command verb text }
 {
@@ -54,6 +57,7 @@ pub fn optional_command<T>(verb: Optional, text: Option<T>) -> Command<T>
     }
 }
 
+/// The command with its text, or with none, once the switches are taken from it.
 pub fn listing_command<T>(verb: Listing, text: Option<T>) -> Command<T>
     ensures command { result ≡ listing_command verb text }
 {

@@ -5,13 +5,18 @@
 //! grants that it accepted.
 //!
 //! ```text
-//! let certificate = Certificate::new(vec![in alloc; Some(0), None]?); // the root holds back the first leaf
-//! match check(&tree, &[20, 10], &certificate) {
-//!     Verdict::Yes => ..,
-//!     Verdict::No(flaw) => .., // and which leaf or branch is at fault
+//! let alloc = rt.alloc();
+//! let tree = Tree::new(two(alloc)?)?; // a limit of 30 over wants of 50 and 10
+//! let grants = vec![in alloc; 20, 10]?;
+//! // the root holds back the first leaf
+//! let certificate = Certificate::new(vec![in alloc; Some(0), None]?);
+//! // a `No` tells which leaf or branch is at fault
+//! let verdict = check(&tree, &grants, &certificate);
+//! assert!(rt; verdict == Verdict::Yes);
+//! match seal(tree, grants, certificate) {
+//!     Ok(sealed) => assert!(rt; sealed.total() == 30),
+//!     Err(_) => panic!(rt; "refused, and all three are handed back"),
 //! }
-//! let sealed = seal(tree, grants, certificate)?; // or hands the three back
-//! sealed.total();
 //! ```
 #![tactic(auto)]
 

@@ -9,14 +9,21 @@
 //! memory.
 //!
 //! ```text
+//! let sealed = sealed(rt.alloc(), &[100])?;
 //! let (mut book, mut tally) = Book::open(0);
-//! let mut purse = book.enter_out(&sealed, 7)?;      // one decision, at tick 7
-//! let grant = purse.split(3, 100);                  // 100 of its octets, for lane 3
-//! purse.close();                                    // where nothing is left
-//! let mut counted = tally.split();                  // a worker's own tally
-//! grant.spend(60, &mut counted);                    // 60 moved, 40 given back
-//! tally.join(counted);
-//! let settled = settle(book, tally);                // issued 100, moved 60, back 40
+//! match book.enter_out(&sealed, 7) {
+//!     Ok(mut purse) => {
+//!         let grant = purse.split(3, purse.left()); // its octets at tick 7, all for lane 3
+//!         purse.close(); // since nothing is left
+//!         let mut own = tally.split(); // a worker's own tally
+//!         let moved = grant.octets().min(60);
+//!         grant.spend(moved, &mut own); // the others are given back
+//!         tally.join(own);
+//!     }
+//!     Err(_) => panic!(rt; "a later tick than the last is taken"),
+//! }
+//! let settled = settle(book, tally);
+//! assert!(rt; settled.issued == 100 && settled.moved == 60 && settled.back == 40);
 //! ```
 #![tactic(auto)]
 

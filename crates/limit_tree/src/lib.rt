@@ -5,12 +5,15 @@
 //! of a tree in arrays, in preorder, for who walks it often.
 //!
 //! ```text
+//! let alloc = rt.alloc();
 //! let ann = Node::Leaf { want: 50, floor: 0 };
 //! let bob = Node::Leaf { want: 10, floor: 6 };
-//! let tree = Tree::new(Node::Branch { limit: Some(30), kids: vec![in alloc; ann, bob]? })?;
-//! tree.leaves();              // 2
-//! tree.absorb(0, 12);         // 22: what the root takes in where each leaf has up to 12 octets
-//! tree.is_full(0, &[20, 10]); // true: its leaves have the whole limit
+//! let kids = vec![in alloc; ann, bob]?;
+//! let limit = Some(30);
+//! let tree = Tree::new(Node::Branch { limit, kids })?;
+//! assert!(rt; tree.leaves() == 2 && tree.nodes() == 3);
+//! // what the root takes in where each leaf has up to 12 octets
+//! assert!(rt; tree.absorb(0, 12) == 22);
 //! ```
 #![tactic(auto)]
 

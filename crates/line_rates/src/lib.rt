@@ -2,6 +2,22 @@
 //!
 //! `Limits::of` takes the rates of the line, of its two ways, of groups and of users. In each tick, `tree_of` makes of the
 //! asks of the transfers the limit tree that a round shares out; `rate_limit` is what a rate lets through in a tick.
+//!
+//! ```text
+//! let alloc = rt.alloc();
+//! // 1,000 octets a second down, and no other limit
+//! let limits = Limits::of(0, 1_000, 0, Vec::new(alloc), Vec::new(alloc))?;
+//! let (user, session, way, want) = (0, 0, Way::Down, 500);
+//! let ask = Ask {
+//!     user,
+//!     session,
+//!     way,
+//!     want,
+//! };
+//! let plan = tree_of(alloc, &limits, 7, &[(3, ask)])?; // at tick 7, of the transfer in lane 3
+//! let (grants, _certificate) = allot(alloc, &plan.tree)?;
+//! assert!(rt; grants.as_slice() == [100].as_slice()); // what a tenth of a second lets through
+//! ```
 #![tactic(auto)]
 
 mod ask;

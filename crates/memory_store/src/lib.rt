@@ -3,13 +3,12 @@
 //! [`MemStore`] is a `Store`, and what each of its calls makes of it is a function of what it held.
 //!
 //! ```text
-//! let mut store = MemStore::new(alloc, 1_000_000)?;
-//! let path = VPath::root(alloc).resolve(alloc, "/report")?;
-//! let mut sink = store.open_write(&path, WriteMode::New, moment)?;
-//! sink.write(b"all is well")?;
-//! store.finish(sink, moment)?;
-//! let mut source = store.open_read(&path, 4)?;
-//! let count = source.read(&mut buffer)?;
+//! let alloc = rt.alloc();
+//! let mut store = MemStore::new(alloc, 1_000_000)?; // of so many octets at most
+//! let path = VPath::root(alloc).resolve(alloc, "/reports")?;
+//! store.make_dir(&path)?;
+//! assert!(rt; store.list(&path)?.is_empty());
+//! assert!(rt; store.make_dir(&path) == Err(StoreFault::Exists));
 //! ```
 #![tactic(auto)]
 

@@ -4,14 +4,15 @@
 //! all and by the address that they come from, and admits no more than its two limits.
 //!
 //! ```text
-//! let mut pool = PortPool::new(alloc, 40000, 40001)?;
-//! pool.lease();                                        // Some(40000)
-//! pool.lease();                                        // Some(40001)
-//! pool.lease();                                        // None: all are leased
-//! pool.give_back(40000);                               // true, and false if it is called again
-//! let mut registry = Registry::new(alloc, 64, 8)?;     // 64 connections, 8 of them from one address
+//! let mut pool = PortPool::new(rt.alloc(), 40000, 40001)?;
+//! assert!(rt; pool.lease() == Some(40000));
+//! assert!(rt; pool.lease() == Some(40001));
+//! assert!(rt; pool.lease().is_none()); // all are leased
+//! assert!(rt; pool.give_back(40000)); // and not once more
+//! // 64 connections, 8 of them from one address
+//! let mut registry = Registry::new(rt.alloc(), 64, 8)?;
 //! let key = registry.admit([192, 0, 2, 1])?;
-//! registry.leave(key);                                 // true: the key may be used again
+//! assert!(rt; registry.leave(key)); // the key may be used again
 //! ```
 #![tactic(auto)]
 

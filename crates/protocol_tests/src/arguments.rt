@@ -5,7 +5,7 @@ use crate::told::check_rows;
 use ftp_wire::{ExtendedPort, HostPort, LineFault, read_eprt, read_port};
 use std::test::Fail;
 
-static PARAMETERS: [(&str, &str); 23] = [
+static PARAMETERS: &[(&str, &str)] = &[
     ("TYPE a n", "TYPE A"),
     ("TYPE A T", "BadParameter"),
     ("TYPE A C", "BadParameter"),
@@ -31,7 +31,7 @@ static PARAMETERS: [(&str, &str); 23] = [
     ("REST 5 ", "BadArgument"),
 ];
 
-static SWITCHES: [(&str, &str); 15] = [
+static SWITCHES: &[(&str, &str)] = &[
     ("LIST -la x", "LIST x"),
     ("LIST -la", "LIST"),
     ("LIST -a", "LIST"),
@@ -49,7 +49,7 @@ static SWITCHES: [(&str, &str); 15] = [
     ("MLSD -a", "MLSD -a"),
 ];
 
-static OPTIONS: [(&str, &str); 15] = [
+static OPTIONS: &[(&str, &str)] = &[
     ("OPTS utf8 on", "OPTS UTF8 ON"),
     ("opts UTF8 ON", "OPTS UTF8 ON"),
     ("OPTS UTF8", "BadArgument"),
@@ -70,7 +70,7 @@ static OPTIONS: [(&str, &str); 15] = [
     ("OPTS HASH", "BadArgument"),
 ];
 
-static BLANKS: [(&str, &str); 14] = [
+static BLANKS: &[(&str, &str)] = &[
     ("", "Empty"),
     (" NOOP", "Empty"),
     ("XPWD ", "PWD"),
@@ -87,7 +87,7 @@ static BLANKS: [(&str, &str); 14] = [
     ("PASS a\tb", "BadArgument"),
 ];
 
-static ADDRESSES: [(&str, &str); 15] = [
+static ADDRESSES: &[(&str, &str)] = &[
     ("PORT 10,0,0,1,20,0", "PORT 10,0,0,1,20,0"),
     ("PORT 10,0,0,1,20,256", "BadArgument"),
     ("PORT 10,0,0,1,20", "BadArgument"),
@@ -105,7 +105,7 @@ static ADDRESSES: [(&str, &str); 15] = [
     ("EPSV ALL ", "BadArgument"),
 ];
 
-static UNKNOWN: [(&str, &str); 4] = [
+static UNKNOWN: &[(&str, &str)] = &[
     ("CLNT x", "Unknown"),
     ("LPRT x", "Unknown"),
     ("PRET x", "Unknown"),
@@ -113,33 +113,11 @@ static UNKNOWN: [(&str, &str); 4] = [
 ];
 
 #[test]
-fn unknown_codes(rt: HostRuntime) -> Result<(), Fail> {
-    check_rows(&rt, rt.alloc(), &UNKNOWN)
-}
-
-#[test]
-fn parameters(rt: HostRuntime) -> Result<(), Fail> {
-    check_rows(&rt, rt.alloc(), &PARAMETERS)
-}
-
-#[test]
-fn switches(rt: HostRuntime) -> Result<(), Fail> {
-    check_rows(&rt, rt.alloc(), &SWITCHES)
-}
-
-#[test]
-fn options(rt: HostRuntime) -> Result<(), Fail> {
-    check_rows(&rt, rt.alloc(), &OPTIONS)
-}
-
-#[test]
-fn blanks(rt: HostRuntime) -> Result<(), Fail> {
-    check_rows(&rt, rt.alloc(), &BLANKS)
-}
-
-#[test]
-fn addresses(rt: HostRuntime) -> Result<(), Fail> {
-    check_rows(&rt, rt.alloc(), &ADDRESSES)
+fn arguments(rt: HostRuntime) -> Result<(), Fail> {
+    for rows in [UNKNOWN, PARAMETERS, SWITCHES, OPTIONS, BLANKS, ADDRESSES] {
+        check_rows(&rt, rt.alloc(), rows)?;
+    }
+    Ok(())
 }
 
 const HOST: HostPort = HostPort {
@@ -151,19 +129,11 @@ const HOST: HostPort = HostPort {
 fn ports_are_read(rt: HostRuntime) {
     same(&rt, &read_port("127,0,0,1,0,21"), &Ok(HOST));
     same(&rt, &read_port("127,0,0,1,0"), &Err(LineFault::BadArgument));
-}
-
-#[test]
-fn extended_ports_are_read(rt: HostRuntime) {
-    same(
-        &rt,
-        &read_eprt("|1|127.0.0.1|21|"),
-        &Ok(ExtendedPort::Ipv4(HOST)),
-    );
-    same(
-        &rt,
-        &read_eprt("|2|::1|5000|"),
-        &Ok(ExtendedPort::Unsupported(2)),
-    );
-    same(&rt, &read_eprt("|2|"), &Err(LineFault::BadArgument));
+    for (text, wanted) in [
+        ("|1|127.0.0.1|21|", Ok(ExtendedPort::Ipv4(HOST))),
+        ("|2|::1|5000|", Ok(ExtendedPort::Unsupported(2))),
+        ("|2|", Err(LineFault::BadArgument)),
+    ] {
+        same(&rt, &read_eprt(text), &wanted);
+    }
 }

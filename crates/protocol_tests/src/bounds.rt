@@ -2,7 +2,7 @@
 
 use crate::expect::{holds, same};
 use crate::told::{told, told_of};
-use ftp_wire::{LONGEST_HELD, LineReader};
+use ftp_wire::LineReader;
 use std::alloc::Global;
 use std::test::Fail;
 
@@ -62,22 +62,20 @@ fn flood(alloc: Global, start: &[u8], octet: u8, end: &[u8]) -> Result<(String, 
     Ok((out, kept))
 }
 
-#[test]
-fn long_floods(rt: HostRuntime) -> Result<(), Fail> {
-    let (long, kept) = flood(rt.alloc(), b"", 255, b"\n")?;
-    same(&rt, &long.as_str(), &"TooLong\r\n");
-    holds(&rt, kept <= LONGEST_HELD);
-    let (next, kept) = flood(rt.alloc(), b"CWD ", b'x', b"\r\nNOOP\r\n")?;
-    same(&rt, &next.as_str(), &"TooLong\r\nNOOP\r\n");
-    same(&rt, &kept, &0);
-    Ok(())
-}
+/// A start, the octet of the piece, an end, and what comes of them.
+static FLOODS: &[(&[u8], u8, &[u8], &str)] = &[
+    (b"", 255, b"\n", "TooLong\r\n"),
+    (b"CWD ", b'x', b"\r\nNOOP\r\n", "TooLong\r\nNOOP\r\n"),
+    (b"\xff\xfa", b'x', b"", ""),
+];
 
 #[test]
-fn telnet_floods(rt: HostRuntime) -> Result<(), Fail> {
-    let (none, kept) = flood(rt.alloc(), b"\xff\xfa", b'x', b"")?;
-    same(&rt, &none.as_str(), &"");
-    same(&rt, &kept, &0);
+fn nothing_is_kept_of_a_flood(rt: HostRuntime) -> Result<(), Fail> {
+    for (start, octet, end, wanted) in FLOODS {
+        let (found, kept) = flood(rt.alloc(), start, *octet, end)?;
+        same(&rt, &found.as_str(), wanted);
+        same(&rt, &kept, &0);
+    }
     Ok(())
 }
 

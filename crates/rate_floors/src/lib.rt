@@ -5,10 +5,12 @@
 //! back. Neither takes memory, and each costs two binary searches and a few sums.
 //!
 //! ```text
+//! let alloc = rt.alloc();
+//! let limits = Limits::of(0, 1_000, 0, Vec::new(alloc), Vec::new(alloc))?;
 //! let mut floors = Floors::of(alloc, &limits)?;
-//! if floors.admit(user) {
-//!     // a session of the user, whose guarantee is counted until ..
-//!     floors.release(user);
+//! if floors.admit(1) {
+//!     // a session of user 1, whose guarantee is counted until it is released
+//!     floors.release(1);
 //! }
 //! ```
 #![tactic(auto)]

@@ -18,7 +18,7 @@ const MOMENTS: [(u64, &[u8; 14]); 3] = [
 fn moments_are_civil_dates(rt: HostRuntime) -> Result<(), Fail> {
     for (seconds, text) in MOMENTS {
         holds(&rt, seconds <= LATEST);
-        assert!(rt; mdtm_text(seconds) == *text, "at {seconds}");
+        same(&rt, &mdtm_text(seconds), text);
         let line = mdtm_line(rt.alloc(), seconds)?;
         same(&rt, &line.as_str().as_bytes(), &text.as_slice());
     }
@@ -88,78 +88,80 @@ const READS: Letters = Letters {
     store: false,
 };
 
-const FILES: [(Facts, Letters, &str); 5] = [
+/// Kind, size and moment of an entry.
+type Of = (Kind, u64, u64);
+
+const FILE: Of = (Kind::File, 3, LEAP_DAY);
+
+const FOLDER: Of = (Kind::Directory, 0, 0);
+
+const ENTRIES: [(Of, Facts, Letters, &str, &str); 10] = [
     (
+        FILE,
         Facts::ALL,
         READS,
+        "/f",
         "type=file;size=3;modify=20000229123456;perm=r; /f",
     ),
     (
+        FILE,
         Facts::ALL,
         Letters::ALL,
+        "/f",
         "type=file;size=3;modify=20000229123456;perm=adfrw; /f",
     ),
     (
+        FILE,
         Facts::ALL,
         Letters::NONE,
+        "/f",
         "type=file;size=3;modify=20000229123456;perm=; /f",
     ),
-    (SIZE_ALONE, Letters::ALL, "size=3; /f"),
-    (Facts::NONE, Letters::ALL, " /f"),
-];
-
-#[test]
-fn entries_of_files(rt: HostRuntime) -> Result<(), Fail> {
-    let meta = Meta::new(Kind::File, 3, LEAP_DAY);
-    for (facts, letters, wanted) in FILES {
-        let entry = mlst_entry(rt.alloc(), &meta, facts, letters, "/f")?;
-        same(&rt, &entry.as_str(), &wanted);
-    }
-    Ok(())
-}
-
-const FOLDERS: [(Facts, Letters, &str); 4] = [
+    (FILE, SIZE_ALONE, Letters::ALL, "/f", "size=3; /f"),
+    (FILE, Facts::NONE, Letters::ALL, "/f", " /f"),
     (
+        (Kind::File, u64::MAX, 0),
+        SIZE_ALONE,
+        Letters::NONE,
+        "/f",
+        "size=18446744073709551615; /f",
+    ),
+    (
+        FOLDER,
         Facts::ALL,
         Letters::ALL,
+        "/",
         "type=dir;modify=19700101000000;perm=cdeflmp; /",
     ),
     (
+        FOLDER,
         Facts::ALL,
         Letters::NONE,
+        "/",
         "type=dir;modify=19700101000000;perm=; /",
     ),
-    (SIZE_ALONE, Letters::NONE, " /"),
-    (Facts::NONE, Letters::NONE, " /"),
+    (FOLDER, SIZE_ALONE, Letters::NONE, "/", " /"),
+    (FOLDER, Facts::NONE, Letters::NONE, "/", " /"),
 ];
 
 #[test]
-fn entries_of_folders(rt: HostRuntime) -> Result<(), Fail> {
-    let meta = Meta::new(Kind::Directory, 0, 0);
-    for (facts, letters, wanted) in FOLDERS {
-        let entry = mlst_entry(rt.alloc(), &meta, facts, letters, "/")?;
+fn entries(rt: HostRuntime) -> Result<(), Fail> {
+    for ((kind, size, seconds), facts, letters, path, wanted) in ENTRIES {
+        let meta = Meta::new(kind, size, seconds);
+        let entry = mlst_entry(rt.alloc(), &meta, facts, letters, path)?;
         same(&rt, &entry.as_str(), &wanted);
     }
-    Ok(())
-}
-
-#[test]
-fn longest_size_in_an_entry(rt: HostRuntime) -> Result<(), Fail> {
-    let meta = Meta::new(Kind::File, u64::MAX, 0);
-    let entry = mlst_entry(rt.alloc(), &meta, SIZE_ALONE, Letters::NONE, "/f")?;
-    same(&rt, &entry.as_str(), &"size=18446744073709551615; /f");
     Ok(())
 }
 
 #[test]
 fn paths_are_quoted(rt: HostRuntime) -> Result<(), Fail> {
-    let alloc = rt.alloc();
-    same(&rt, &quoted_path(alloc, "/a\"b")?.as_str(), &"\"/a\"\"b\"");
-    same(&rt, &quoted_path(alloc, "/")?.as_str(), &"\"/\"");
-    same(
-        &rt,
-        &quoted_path(alloc, "/\u{e9}\"\"")?.as_str(),
-        &"\"/\u{e9}\"\"\"\"\"",
-    );
+    for (path, quoted) in [
+        ("/a\"b", "\"/a\"\"b\""),
+        ("/", "\"/\""),
+        ("/\u{e9}\"\"", "\"/\u{e9}\"\"\"\"\""),
+    ] {
+        same(&rt, &quoted_path(rt.alloc(), path)?.as_str(), &quoted);
+    }
     Ok(())
 }

@@ -92,66 +92,65 @@ fn faults_have_replies(rt: HostRuntime) -> Result<(), Fail> {
     Ok(())
 }
 
+const PORTS: [([u8; 4], u16, &str); 2] = [
+    ([127, 0, 0, 1], 21, "127,0,0,1,0,21"),
+    ([255, 255, 255, 255], 65535, "255,255,255,255,255,255"),
+];
+
 #[test]
 fn texts_of_ports(rt: HostRuntime) -> Result<(), Fail> {
-    let low = HostPort {
-        address: [127, 0, 0, 1],
-        port: 21,
-    };
-    same(
-        &rt,
-        &port_text(rt.alloc(), &low)?.as_str(),
-        &"127,0,0,1,0,21",
-    );
-    let high = HostPort {
-        address: [255, 255, 255, 255],
-        port: 65535,
-    };
-    same(
-        &rt,
-        &port_text(rt.alloc(), &high)?.as_str(),
-        &"255,255,255,255,255,255",
-    );
+    for (address, port, wanted) in PORTS {
+        let text = port_text(rt.alloc(), &HostPort { address, port })?;
+        same(&rt, &text.as_str(), &wanted);
+    }
     Ok(())
 }
 
+const KIND_AND_MODIFY: Facts = Facts {
+    kind: true,
+    size: false,
+    modify: true,
+    perm: false,
+};
+
+/// Facts, their names, and all names with stars.
+const FACTS: [(Facts, &str, &str); 3] = [
+    (Facts::NONE, "", "type;size;modify;perm;"),
+    (KIND_AND_MODIFY, "type;modify;", "type*;size;modify*;perm;"),
+    (
+        Facts::ALL,
+        "type;size;modify;perm;",
+        "type*;size*;modify*;perm*;",
+    ),
+];
+
 #[test]
 fn texts_of_facts(rt: HostRuntime) -> Result<(), Fail> {
-    let alloc = rt.alloc();
-    let some = Facts {
-        kind: true,
-        size: false,
-        modify: true,
-        perm: false,
-    };
-    same(&rt, &facts_text(alloc, Facts::NONE)?.as_str(), &"");
-    same(&rt, &facts_text(alloc, some)?.as_str(), &"type;modify;");
-    same(
-        &rt,
-        &starred_facts_text(alloc, some)?.as_str(),
-        &"type*;size;modify*;perm;",
-    );
-    same(
-        &rt,
-        &starred_facts_text(alloc, Facts::ALL)?.as_str(),
-        &"type*;size*;modify*;perm*;",
-    );
+    for (facts, named, starred) in FACTS {
+        same(&rt, &facts_text(rt.alloc(), facts)?.as_str(), &named);
+        let text = starred_facts_text(rt.alloc(), facts)?;
+        same(&rt, &text.as_str(), &starred);
+    }
     Ok(())
+}
+
+const PASSIVE: HostPort = HostPort {
+    address: [10, 0, 0, 1],
+    port: 5120,
+};
+
+fn passive(alloc: Global, port: &LineText) -> Result<Reply, Fail> {
+    let text = LineText::joined(alloc, "Entering Passive Mode (", port.as_str(), ")")?;
+    Ok(Reply::one_line(ReplyCode::new(227), text))
 }
 
 #[test]
 fn passive_reply(rt: HostRuntime) -> Result<(), Fail> {
-    let alloc = rt.alloc();
-    let host = HostPort {
-        address: [10, 0, 0, 1],
-        port: 5120,
-    };
-    let port = port_text(alloc, &host)?;
-    let text = LineText::joined(alloc, "Entering Passive Mode (", port.as_str(), ")")?;
-    let reply = Reply::one_line(ReplyCode::new(227), text);
+    let port = port_text(rt.alloc(), &PASSIVE)?;
+    let reply = passive(rt.alloc(), &port)?;
     check_octets(
         &rt,
-        alloc,
+        rt.alloc(),
         &reply,
         "227 Entering Passive Mode (10,0,0,1,20,0)\r\n",
     )

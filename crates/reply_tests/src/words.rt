@@ -20,14 +20,18 @@ fn letters_are_read(rt: HostRuntime) {
     for (text, letter) in NAMED {
         let held = Letters::read(text).unwrap_or(Letters::NONE);
         for (_, other) in NAMED {
-            assert_eq!(rt; held.holds(other), other == letter, "{text}");
+            same(&rt, &held.holds(other), &(other == letter));
         }
     }
-    same(&rt, &Letters::read(""), &Some(Letters::NONE));
-    same(&rt, &Letters::read("elradfmw"), &Some(Letters::ALL));
-    same(&rt, &Letters::read("wwmfdarle"), &Some(Letters::ALL));
-    same(&rt, &Letters::read("elx"), &None);
-    same(&rt, &Letters::read("E"), &None);
+    for (text, letters) in [
+        ("", Some(Letters::NONE)),
+        ("elradfmw", Some(Letters::ALL)),
+        ("wwmfdarle", Some(Letters::ALL)),
+        ("elx", None),
+        ("E", None),
+    ] {
+        same(&rt, &Letters::read(text), &letters);
+    }
 }
 
 #[test]
@@ -56,12 +60,19 @@ fn lines_are_told_from_texts(rt: HostRuntime) -> Result<(), Fail> {
 
 #[test]
 fn texts_are_joined(rt: HostRuntime) -> Result<(), Fail> {
-    let alloc = rt.alloc();
-    let most = LineText::with_number(alloc, "Restarting at ", u64::MAX, ".")?;
-    same(&rt, &most.as_str(), &"Restarting at 18446744073709551615.");
-    let none = LineText::with_number(alloc, "", 0, "")?;
-    same(&rt, &none.as_str(), &"0");
-    let joined = LineText::joined(alloc, "a", "", "\u{e9}b")?;
+    for (front, number, back, wanted) in [
+        (
+            "Restarting at ",
+            u64::MAX,
+            ".",
+            "Restarting at 18446744073709551615.",
+        ),
+        ("", 0, "", "0"),
+    ] {
+        let text = LineText::with_number(rt.alloc(), front, number, back)?;
+        same(&rt, &text.as_str(), &wanted);
+    }
+    let joined = LineText::joined(rt.alloc(), "a", "", "\u{e9}b")?;
     same(&rt, &joined.as_str(), &"a\u{e9}b");
     texts_of_one_line();
     Ok(())

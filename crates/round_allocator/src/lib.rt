@@ -2,8 +2,11 @@
 //! the leaf that has the least among those with room.
 //!
 //! ```text
+//! let alloc = rt.alloc();
+//! let tree = Tree::new(two(alloc)?)?; // a limit of 30 over wants of 50 and 10
 //! let (grants, certificate) = allot(alloc, &tree)?; // one grant for each leaf, in octets
-//! check(&tree, &grants, &certificate);              // Verdict::Yes, always
+//! assert!(rt; grants.as_slice() == [20, 10].as_slice());
+//! assert!(rt; check(&tree, &grants, &certificate) == Verdict::Yes); // always
 //! ```
 #![tactic(auto)]
 

@@ -8,7 +8,9 @@
 //!
 //! ```text
 //! let answer: Answer = Answer::Refusal(Refusal::LogInFirst);
-//! answer.into_reply().write_to(&mut buffer)?; // 530 Log in first
+//! let mut buffer = Vec::new(rt.alloc());
+//! answer.into_reply().write_to(&mut buffer)?;
+//! assert!(rt; buffer.as_slice() == b"530 Log in first\r\n".as_slice());
 //! ```
 #![tactic(auto)]
 

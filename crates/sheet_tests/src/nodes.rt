@@ -1,8 +1,8 @@
 //! What no clause says of the nodes of a sheet: that the calls succeed, and what texts give.
 
-use crate::expect::holds;
-use limit_tree::{Kind, TreeFault};
-use sheet_nodes::{Nodes, SheetFault, name_len};
+use crate::expect::{holds, same};
+use limit_tree::{Kind, Node, Tree, TreeFault};
+use sheet_nodes::{Nodes, SheetFault, name_len, tree_is_of_lines};
 use std::alloc::Allocator;
 use std::process::Abort;
 use std::test::Fail;
@@ -66,6 +66,58 @@ fn expect_paths<A: Allocator>(rt: &impl Abort, nodes: &Nodes<'_, A>) {
 #[test]
 fn lines_are_taken(rt: HostRuntime) -> Result<(), Fail> {
     take_lines(&rt, rt.alloc())?;
+    Ok(())
+}
+
+/// Lines whose tree has its nodes in another order than that of their first mention.
+const CROSSED: [(&str, Kind); 3] = [
+    ("/b/x", Kind::Leaf { want: 5, floor: 1 }),
+    ("/a", LIMIT),
+    ("/b/w", Kind::Leaf { want: 3, floor: 0 }),
+];
+
+fn build_tree<A: Allocator + Clone>(rt: &impl Abort, alloc: A) -> Result<(), SheetFault> {
+    let mut nodes = Nodes::new(alloc.clone()?)?;
+    for (at, (path, kind)) in CROSSED.iter().enumerate() {
+        nodes.take(at + 1, path, *kind)?;
+    }
+    expect_kids(rt, alloc.clone()?, &nodes)?;
+    let mut order = Vec::new(alloc);
+    let root = nodes.tree(&mut order)?;
+    same(rt, &order.as_slice(), &[0, 1, 2, 4, 3].as_slice());
+    expect_tree(rt, root);
+    Ok(())
+}
+
+fn expect_kids<A: Allocator + Clone>(
+    rt: &impl Abort,
+    alloc: A,
+    nodes: &Nodes<'_, A>,
+) -> Result<(), SheetFault> {
+    let rows = nodes.kids(alloc)?;
+    holds(rt, nodes.len() == 5);
+    holds(rt, rows.len() == 5);
+    same(rt, &rows[0].as_slice(), &[1, 3].as_slice());
+    same(rt, &rows[1].as_slice(), &[2, 4].as_slice());
+    holds(rt, nodes.parent(4) == 1);
+    Ok(())
+}
+
+fn expect_tree<A: Allocator>(rt: &impl Abort, root: Node<A>) {
+    match Tree::new(root) {
+        Ok(tree) => {
+            holds(rt, tree.nodes() == 5);
+            holds(rt, tree.leaves() == 2);
+            holds(rt, tree.want(1) == 3);
+        }
+        Err(_) => rt.abort(),
+    }
+}
+
+#[test]
+fn nodes_have_a_tree(rt: HostRuntime) -> Result<(), Fail> {
+    tree_is_of_lines();
+    build_tree(&rt, rt.alloc())?;
     Ok(())
 }
 

@@ -2,8 +2,11 @@
 //! are told to, sealed decisions, funds of granted octets, and whole transfers by them.
 //!
 //! ```text
-//! let mut funds = Funds::new(alloc, &[100])?; // one round that granted one transfer 100 octets
+//! // one round that granted one transfer 100 octets
+//! let mut funds = Funds::new(rt.alloc(), &[100])?;
 //! let grant = funds.grant(60); // at most what is left
+//! grant.spend(0, &mut funds.tally);
+//! assert!(rt; funds.settle().back == 100);
 //! ```
 #![tactic(auto)]
 

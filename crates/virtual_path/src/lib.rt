@@ -4,10 +4,10 @@
 //! so no path leaves its root (compare RFC 3986, section 5.2.4).
 //!
 //! ```text
-//! let root = VPath::root(alloc);
-//! let home = root.resolve(alloc, "/home/ann")?;
-//! let file = home.resolve(alloc, "../bob/./f")?; // /home/bob/f
-//! let name = file.file_name();                   // f
+//! let alloc = rt.alloc();
+//! let home = VPath::root(alloc).resolve(alloc, "/home/ann")?;
+//! let file = home.resolve(alloc, "../bob/./f")?;
+//! assert!(rt; file.text() == "/home/bob/f" && file.file_name() == Some("f"));
 //! ```
 #![tactic(auto)]
 

@@ -90,50 +90,56 @@ pub(crate) fn make_room(alloc: Global) -> Result<Room, Fail> {
     })
 }
 
+fn put(octets: &mut Vec<u8>, text: &str) -> Result<(), Fail> {
+    octets.extend_from_slice(text.as_bytes())?;
+    Ok(())
+}
+
 /// A transfer that starts; what is written through is kept.
-fn started(
-    room: &mut Room,
-    job: Job<Global, MemSource<Global>, MemSink<Global>>,
+fn put_job(
     octets: &mut Vec<u8>,
+    kept: &mut Option<MemSink<Global>>,
+    job: Job<Global, MemSource<Global>, MemSink<Global>>,
 ) -> Result<(), Fail> {
     match job {
-        Job::TakeFile(sink, _path) => {
-            room.sink = Some(sink);
-            octets.extend_from_slice(b"[take]")?;
+        Job::TakeFile(sink, _) => {
+            *kept = Some(sink);
+            put(octets, "[take]")
         }
-        Job::SendFile(_source, _path) => octets.extend_from_slice(b"[send]")?,
-        Job::Text(text) => octets.extend_from_slice(text.as_slice())?,
+        Job::SendFile(_, _) => put(octets, "[send]"),
+        Job::Text(text) => Ok(octets.extend_from_slice(text.as_slice())?),
     }
-    Ok(())
+}
+
+fn put_release(octets: &mut Vec<u8>, floors: &mut Floors, user: u32) -> Result<(), Fail> {
+    let _was_counted = floors.release(user);
+    put(octets, "[release]")
 }
 
 /// What is to be done, in words: replies end with CR LF, other actions stand in brackets.
 fn put_told(
-    room: &mut Room,
-    action: Action<Global, MemSource<Global>, MemSink<Global>>,
     octets: &mut Vec<u8>,
+    kept: &mut Option<MemSink<Global>>,
+    floors: &mut Floors,
+    action: Action<Global, MemSource<Global>, MemSink<Global>>,
 ) -> Result<(), Fail> {
     match action {
-        Action::Say(answer) => answer.into_reply().write_to(octets)?,
-        Action::Start(job) => started(room, job, octets)?,
-        Action::OpenPassive => octets.extend_from_slice(b"[passive]")?,
-        Action::ConnectTo(_to) => octets.extend_from_slice(b"[connect]")?,
-        Action::DropData => octets.extend_from_slice(b"[drop]")?,
-        Action::Abort => octets.extend_from_slice(b"[abort]")?,
-        Action::CloseControl => octets.extend_from_slice(b"[close]")?,
-        Action::ReleaseFloor(user) => {
-            let _was_counted = room.floors.release(user);
-            octets.extend_from_slice(b"[release]")?;
-        }
-        Action::Hook(call) => octets.extend_from_slice(hook_word(&call).as_bytes())?,
+        Action::Say(answer) => Ok(answer.into_reply().write_to(octets)?),
+        Action::Start(job) => put_job(octets, kept, job),
+        Action::OpenPassive => put(octets, "[passive]"),
+        Action::ConnectTo(_) => put(octets, "[connect]"),
+        Action::DropData => put(octets, "[drop]"),
+        Action::Abort => put(octets, "[abort]"),
+        Action::CloseControl => put(octets, "[close]"),
+        Action::ReleaseFloor(user) => put_release(octets, floors, user),
+        Action::Hook(call) => put(octets, hook_word(&call)),
     }
-    Ok(())
 }
 
 pub(crate) fn told(alloc: Global, room: &mut Room, actions: Actions) -> Result<Vec<u8>, Fail> {
     let mut octets = Vec::new(alloc);
     for action in actions {
-        put_told(room, action, &mut octets)?;
+        put_told(&mut octets, &mut room.sink, &mut room.floors, action)?;
     }
     Ok(octets)
 }
@@ -152,10 +158,26 @@ fn hook_word(call: &HookCall<Global>) -> &'static str {
     }
 }
 
+fn read_line(alloc: Global, line: &str) -> Result<Input<Global, MemSink<Global>>, Fail> {
+    let mut reader = LineReader::new(alloc);
+    let mut items = reader.feed(line.as_bytes())?;
+    match items.pop() {
+        Some(item) => Ok(Input::Line(item)),
+        None => Err(Fail::from("no line")),
+    }
+}
+
+fn ended(sink: &mut Option<MemSink<Global>>, end: End) -> Input<Global, MemSink<Global>> {
+    Input::TransferEnded {
+        end,
+        sink: sink.take(),
+    }
+}
+
 /// The input that a word stands for, or that of a line.
 fn input_of(
     alloc: Global,
-    room: &mut Room,
+    sink: &mut Option<MemSink<Global>>,
     line: &str,
 ) -> Result<Input<Global, MemSink<Global>>, Fail> {
     match line {
@@ -163,28 +185,15 @@ fn input_of(
         "no port" => Ok(Input::DataReady(None)),
         "held" => Ok(Input::Held),
         "closed" => Ok(Input::Closed),
-        "done" => Ok(Input::TransferEnded {
-            end: End::Done,
-            sink: room.sink.take(),
-        }),
-        "lost" => Ok(Input::TransferEnded {
-            end: End::Lost,
-            sink: room.sink.take(),
-        }),
-        _ => {
-            let mut reader = LineReader::new(alloc);
-            let mut items = reader.feed(line.as_bytes())?;
-            match items.pop() {
-                Some(item) => Ok(Input::Line(item)),
-                None => Err(Fail::from("no line")),
-            }
-        }
+        "done" => Ok(ended(sink, End::Done)),
+        "lost" => Ok(ended(sink, End::Lost)),
+        _ => read_line(alloc, line),
     }
 }
 
 /// What is done at an input.
 pub(crate) fn said(alloc: Global, room: &mut Room, line: &str) -> Result<Vec<u8>, Fail> {
-    let input = input_of(alloc, room, line)?;
+    let input = input_of(alloc, &mut room.sink, line)?;
     let actions = room
         .session
         .step(&room.users, &mut room.floors, &mut room.store, input, 0)?;

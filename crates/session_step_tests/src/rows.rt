@@ -297,67 +297,26 @@ static HOSTILE: [(&str, &str); 25] = [
     ("done", ""),
 ];
 
+/// Each script, in a session of its own.
 #[test]
-fn logins(rt: HostRuntime) -> Result<(), Fail> {
-    check_alone(&rt, rt.alloc(), &LOGINS)
-}
-
-#[test]
-fn attempts(rt: HostRuntime) -> Result<(), Fail> {
-    check_alone(&rt, rt.alloc(), &ATTEMPTS)
-}
-
-#[test]
-fn paths(rt: HostRuntime) -> Result<(), Fail> {
-    check_alone(&rt, rt.alloc(), &PATHS)
-}
-
-#[test]
-fn data_connections(rt: HostRuntime) -> Result<(), Fail> {
-    check_alone(&rt, rt.alloc(), &DATA)
-}
-
-#[test]
-fn facts(rt: HostRuntime) -> Result<(), Fail> {
-    check_alone(&rt, rt.alloc(), &FACTS)
-}
-
-#[test]
-fn features(rt: HostRuntime) -> Result<(), Fail> {
-    check_alone(&rt, rt.alloc(), &FEATURES)
-}
-
-#[test]
-fn listings(rt: HostRuntime) -> Result<(), Fail> {
-    check_alone(&rt, rt.alloc(), &LISTINGS)
-}
-
-#[test]
-fn transfers(rt: HostRuntime) -> Result<(), Fail> {
-    check_alone(&rt, rt.alloc(), &TRANSFERS)
-}
-
-#[test]
-fn held_lines(rt: HostRuntime) -> Result<(), Fail> {
-    check_alone(&rt, rt.alloc(), &HELD)
-}
-
-#[test]
-fn waiting_quit(rt: HostRuntime) -> Result<(), Fail> {
-    check_alone(&rt, rt.alloc(), &QUITS)
-}
-
-#[test]
-fn closed_in_a_transfer(rt: HostRuntime) -> Result<(), Fail> {
-    check_alone(&rt, rt.alloc(), &CLOSED)
-}
-
-#[test]
-fn quit_before_a_port(rt: HostRuntime) -> Result<(), Fail> {
-    check_alone(&rt, rt.alloc(), &QUITS_BEFORE_A_PORT)
-}
-
-#[test]
-fn hostile_lines(rt: HostRuntime) -> Result<(), Fail> {
-    check_alone(&rt, rt.alloc(), &HOSTILE)
+fn scripts(rt: HostRuntime) -> Result<(), Fail> {
+    let scripts: [&[(&str, &str)]; 13] = [
+        &LOGINS,
+        &ATTEMPTS,
+        &PATHS,
+        &DATA,
+        &FACTS,
+        &FEATURES,
+        &LISTINGS,
+        &TRANSFERS,
+        &HELD,
+        &QUITS,
+        &CLOSED,
+        &QUITS_BEFORE_A_PORT,
+        &HOSTILE,
+    ];
+    for rows in scripts {
+        check_alone(&rt, rt.alloc(), rows)?;
+    }
+    Ok(())
 }

@@ -139,58 +139,36 @@ fn refuses(rt: &impl Abort, alloc: Global, rows: &[(Refusal, &str)]) -> Result<(
 
 #[test]
 fn notices(rt: HostRuntime) -> Result<(), Fail> {
-    notes(&rt, rt.alloc(), &NOTICES)
+    for rows in [&NOTICES[..], &STATES[..], &CHANGES[..]] {
+        notes(&rt, rt.alloc(), rows)?;
+    }
+    Ok(())
 }
 
 #[test]
-fn states(rt: HostRuntime) -> Result<(), Fail> {
-    notes(&rt, rt.alloc(), &STATES)
+fn refusals(rt: HostRuntime) -> Result<(), Fail> {
+    let tables: [&[(Refusal, &str)]; 4] = [
+        &REFUSED_STORES,
+        &REFUSED_CONNECTIONS,
+        &REFUSED_COMMANDS,
+        &REFUSED_USERS,
+    ];
+    for rows in tables {
+        refuses(&rt, rt.alloc(), rows)?;
+    }
+    Ok(())
 }
 
-#[test]
-fn changes(rt: HostRuntime) -> Result<(), Fail> {
-    notes(&rt, rt.alloc(), &CHANGES)
-}
-
-#[test]
-fn refused_stores(rt: HostRuntime) -> Result<(), Fail> {
-    refuses(&rt, rt.alloc(), &REFUSED_STORES)
-}
-
-#[test]
-fn refused_connections(rt: HostRuntime) -> Result<(), Fail> {
-    refuses(&rt, rt.alloc(), &REFUSED_CONNECTIONS)
-}
-
-#[test]
-fn refused_commands(rt: HostRuntime) -> Result<(), Fail> {
-    refuses(&rt, rt.alloc(), &REFUSED_COMMANDS)
-}
-
-#[test]
-fn refused_users(rt: HostRuntime) -> Result<(), Fail> {
-    refuses(&rt, rt.alloc(), &REFUSED_USERS)
-}
+static FAULTS: [(LineFault, &str); 3] = [
+    (LineFault::TooLong, "500 Line too long\r\n"),
+    (LineFault::NotServed, "502 Command not served\r\n"),
+    (LineFault::BadParameter, "504 Parameter not served\r\n"),
+];
 
 #[test]
 fn line_faults(rt: HostRuntime) -> Result<(), Fail> {
-    let alloc = rt.alloc();
-    tells(
-        &rt,
-        alloc,
-        Answer::Fault(LineFault::TooLong),
-        "500 Line too long\r\n",
-    )?;
-    tells(
-        &rt,
-        alloc,
-        Answer::Fault(LineFault::NotServed),
-        "502 Command not served\r\n",
-    )?;
-    tells(
-        &rt,
-        alloc,
-        Answer::Fault(LineFault::BadParameter),
-        "504 Parameter not served\r\n",
-    )
+    for (fault, text) in &FAULTS {
+        tells(&rt, rt.alloc(), Answer::Fault(*fault), text)?;
+    }
+    Ok(())
 }

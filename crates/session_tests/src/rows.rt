@@ -181,26 +181,17 @@ fn greeting(rt: HostRuntime) -> Result<(), Fail> {
     Ok(())
 }
 
-#[test]
-fn logins(rt: HostRuntime) -> Result<(), Fail> {
-    let mut room = make_room(rt.alloc())?;
-    check_rows(&rt, rt.alloc(), &mut room, &LOGINS)
+/// A script in a session of its own.
+fn check_alone(rt: &impl Abort, alloc: Global, rows: &[(&str, &str)]) -> Result<(), Fail> {
+    let mut room = make_room(alloc)?;
+    check_rows(rt, alloc, &mut room, rows)
 }
 
 #[test]
-fn attempts(rt: HostRuntime) -> Result<(), Fail> {
-    let mut room = make_room(rt.alloc())?;
-    check_rows(&rt, rt.alloc(), &mut room, &ATTEMPTS)
-}
-
-#[test]
-fn parameters(rt: HostRuntime) -> Result<(), Fail> {
-    let mut room = make_room(rt.alloc())?;
-    check_rows(&rt, rt.alloc(), &mut room, &PARAMETERS)
-}
-
-#[test]
-fn connections(rt: HostRuntime) -> Result<(), Fail> {
-    let mut room = make_room(rt.alloc())?;
-    check_rows(&rt, rt.alloc(), &mut room, &CONNECTIONS)
+fn scripts(rt: HostRuntime) -> Result<(), Fail> {
+    let scripts: [&[(&str, &str)]; 4] = [&LOGINS, &ATTEMPTS, &PARAMETERS, &CONNECTIONS];
+    for rows in scripts {
+        check_alone(&rt, rt.alloc(), rows)?;
+    }
+    Ok(())
 }

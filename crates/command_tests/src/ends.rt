@@ -5,7 +5,7 @@ use sheet_commands::Outside;
 use std::io;
 use std::io::{ErrorKind, Read, Write};
 
-/// Gives its octets, at most `step` at a time, and then ends or fails.
+/// Gives its octets, at most `step` and at least one at a time, and then ends or fails.
 #[derive(Clone, Copy, Drop)]
 pub(crate) struct Text<'t> {
     pub rest: &'t [u8],
@@ -19,7 +19,8 @@ impl Read for Text<'_> {
     ghost remaining = { λ r. Some r.rest.now };
 
     fn read(&mut self, buffer: &mut [u8]) -> io::Result<usize> {
-        let count = self.rest.len().min(self.step).min(buffer.len());
+        let most = if self.step == 0 { 1 } else { self.step };
+        let count = self.rest.len().min(most).min(buffer.len());
         if count == 0 && self.fails {
             return Err(io::Error::from(ErrorKind::ConnectionReset));
         }

@@ -2,14 +2,13 @@
 
 use crate::ends::PieceReader;
 use authorizer::Authorizer;
-use configured_session::serve_config;
 use control_session::ControlFault;
 use ftp_terms::LineText;
 use line_rates::Limits;
 use memory_store::MemStore;
+use program::run_script;
 use rate_floors::Floors;
 use script_session::serve_text;
-use server_config::Config;
 use session_table::Settings;
 use std::alloc::Global;
 use std::test::Fail;
@@ -89,15 +88,17 @@ pub(crate) fn serve<R: TextReader, W: TextWriter>(
 static CONFIG: &[u8] =
     b"version = 1\n[server]\nroot = \"memory\"\npassive_first = 40000\npassive_last = 40001\n[[user]]\nname = \"ann\"\npassword = \"secret\"\nhome = \"/\"\nperms = \"elradfmw\"\n[[user]]\nname = \"bob\"\npassword = \"b\"\nhome = \"/\"\n[[user.override]]\npath = \"/in\"\nperms = \"w\"\nrecursive = true\n[[dir]]\npath = \"/in\"\n[[file]]\npath = \"/f\"\ntext = \"a\\nb\"\nmodified = 951827696\n";
 
-/// What a server of that configuration writes on a text that comes in pieces of at most so many octets; 0 is all at once.
+/// What `script` writes by that configuration on a text that comes in pieces of at most so many octets; 0 is all at once.
 pub(crate) fn replies(alloc: Global, text: &[u8], most: usize) -> Result<Vec<u8>, Fail> {
-    let config = Config::read(alloc, CONFIG)?;
+    let mut config = CONFIG;
     let mut reader = Outside(PieceReader {
         rest: text,
         most,
         seed: 7,
     });
     let mut output = Vec::new(alloc);
-    serve_config(alloc, config, &mut reader, &mut output)?;
-    Ok(output)
+    match run_script(alloc, &mut config, &mut reader, &mut output) {
+        Ok(()) => Ok(output),
+        Err(_) => Err(Fail::from("the session is not served")),
+    }
 }

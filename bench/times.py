@@ -1,4 +1,4 @@
-"""Times `ftpd share` and the yardstick on each sheet of a folder, and `bench_work` on a tree that no sheet can hold.
+"""Times `sheets share` and the yardstick on each sheet of a folder, and `bench_work` on a tree that no sheet can hold.
 
     python3 times.py FOLDER FTPD YARDSTICK BENCH_WORK [RUNS]
 
@@ -36,13 +36,13 @@ def octets_of(file):
         return it.read()
 
 
-def row_of(name, folder, ftpd, yardstick, runs):
+def row_of(name, folder, shares, yardstick, runs):
     with open(f"{folder}/{name}.facts", encoding="utf-8") as it:
         facts = it.read().split()
-    share = lambda form: least([ftpd, "share", f"{folder}/{name}.{form}"], f"{folder}/{name}.{form}.out", runs)
+    share = lambda form: least([shares, "share", f"{folder}/{name}.{form}"], f"{folder}/{name}.{form}.out", runs)
     whole, memory = share("sheet")
     write_grants(f"{folder}/{name}.sheet.out", f"{folder}/{name}.grants")
-    judged, _ = least([ftpd, "check", f"{folder}/{name}.sheet", f"{folder}/{name}.grants"], f"{folder}/{name}.check.out", runs)
+    judged, _ = least([shares, "check", f"{folder}/{name}.sheet", f"{folder}/{name}.grants"], f"{folder}/{name}.check.out", runs)
     opened, _ = share("open")
     bare, _ = share("bare")
     beside, _ = least([yardstick, f"{folder}/{name}.sheet"], f"{folder}/yardstick.out", runs)
@@ -66,8 +66,8 @@ def tree_row(folder, bench_work, runs):
     return [f"{NODES}", *[f"{time:.1f}" for time in times], f"{max(memory, most):.0f}"]
 
 
-def main(folder, ftpd, yardstick, bench_work, runs="3"):
-    tell(HEAD, (row_of(name, folder, ftpd, yardstick, int(runs)) for name in NAMES))
+def main(folder, shares, yardstick, bench_work, runs="3"):
+    tell(HEAD, (row_of(name, folder, shares, yardstick, int(runs)) for name in NAMES))
     tell(TREE_HEAD, [tree_row(folder, bench_work, int(runs))])
 
 

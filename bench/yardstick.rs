@@ -1,4 +1,4 @@
-//! The yardstick of the bench: the whole job of `ftpd share` in plain Rust, with nothing but Rust's own library. It reads
+//! The yardstick of the bench: the whole job of `sheets share` in plain Rust, with nothing but Rust's own library. It reads
 //! a sheet, makes its tree, searches the levels, gives the remainders, and prints the same octets. It proves nothing,
 //! and tells no fault apart: where a line is not as it must be, it stops.
 

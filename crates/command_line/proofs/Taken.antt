@@ -2,9 +2,9 @@
 use Rattle.std.proofs.Common.{refl, codes, not, true, false, Bool, ◌&&◌, ◌≡◌, ◌==◌, ℕ, List, [], ◌∷◌, Option, None, Some, ◌⊎◌, inl, inr}
 use Rattle.std.specs.Prelude.{option_map, unwrap_or}
 use Rattle.std.proofs.lemmas.Bool.{ne_eqb}
-use Rattle.clap.specs.Words.{Row, Text, first_of, is_simple, is_simple_and_free, subcommand_of, takes}
+use Rattle.clap.specs.Words.{App, Row, Text, first_of, is_simple, is_simple_and_free, subcommand_of, takes}
 use Rattle.clap.proofs.OnLiterals.{clap_on_literals}
-use Rattle.command_line.specs.Commands.{program}
+use Rattle.command_line.specs.Commands.{ftpd, sheets}
 use Rattle.clap.specs.Words.{IsAmong, Kinds}
 use Rattle.clap.specs.declared.error.kind.ErrorKind.{ErrorKind}
 use Rattle.clap.specs.declared.error.kind.ErrorKind.TheVariants.{OutOfMemory}
@@ -19,101 +19,103 @@ no_globals false b true d e = cc
 no_globals true false true d e = cc
 no_globals true true true d e = cc
 
-pub program_is_simple : is_simple program ≡ true
+pub ftpd_is_simple : is_simple ftpd ≡ true
 unfolding clap_on_literals
-program_is_simple = refl
+ftpd_is_simple = refl
 
-pub program_is_free : is_simple_and_free program ≡ true
+pub ftpd_is_free : is_simple_and_free ftpd ≡ true
 unfolding clap_on_literals
-program_is_free = refl
+ftpd_is_free = refl
 
 abbrev pub rows_in : Option (Text × List Row) → List Row
 rows_in found = unwrap_or (option_map (λ p. p.1) found) []
 
-share_taken : (b : ℕ) (bs : List ℕ) → (b == 45) ≡ false → takes program (codes "share" ∷ (b ∷ bs) ∷ []) ≡ true
-unfolding clap_on_literals
-share_taken b bs ne = simp ne refl
-
-share_entered : (b : ℕ) (bs : List ℕ) → (b == 45) ≡ false
-    → subcommand_of program (codes "share" ∷ (b ∷ bs) ∷ [])
-    ≡ Some (codes "share", rows_in (subcommand_of program (codes "share" ∷ (b ∷ bs) ∷ [])))
-unfolding clap_on_literals
-share_entered b bs ne = simp ne refl
-
-share_first : (b : ℕ) (bs : List ℕ) → (b == 45) ≡ false
-    → first_of (codes "SHEET") (rows_in (subcommand_of program (codes "share" ∷ (b ∷ bs) ∷ []))) ≡ Some (b ∷ bs)
-unfolding clap_on_literals
-share_first b bs ne = simp ne refl
-
 -- what the parser makes of the words of `share`
-pub record Shares (word : List ℕ) : Type 0 where
+pub record Shares (app : App) (word : List ℕ) : Type 0 where
   pub rows : List Row
-  pub taken : takes program (codes "share" ∷ word ∷ []) ≡ true
-  pub entered : subcommand_of program (codes "share" ∷ word ∷ []) ≡ Some (codes "share", rows)
+  pub taken : takes app (codes "share" ∷ word ∷ []) ≡ true
+  pub entered : subcommand_of app (codes "share" ∷ word ∷ []) ≡ Some (codes "share", rows)
   pub sheet : first_of (codes "SHEET") rows ≡ Some word
 
-pub shares : (word : List ℕ) → IsPlainWord word → Shares word
-shares [] plain = absurd plain
-shares (b ∷ bs) plain =
-    let ne = ne_eqb _ _ plain in
-    record { rows = _; taken = share_taken b bs ne; entered = share_entered b bs ne; sheet = share_first b bs ne }
-
-check_taken : (b d : ℕ) (bs ds : List ℕ) → (b == 45) ≡ false → (d == 45) ≡ false → takes program (codes "check" ∷ (b ∷ bs) ∷ (d ∷ ds) ∷ []) ≡ true
-unfolding clap_on_literals
-check_taken b d bs ds ne nf = simp (ne, nf) refl
-
-check_entered : (b d : ℕ) (bs ds : List ℕ) → (b == 45) ≡ false → (d == 45) ≡ false
-    → subcommand_of program (codes "check" ∷ (b ∷ bs) ∷ (d ∷ ds) ∷ [])
-    ≡ Some (codes "check", rows_in (subcommand_of program (codes "check" ∷ (b ∷ bs) ∷ (d ∷ ds) ∷ [])))
-unfolding clap_on_literals
-check_entered b d bs ds ne nf = simp (ne, nf) refl
-
-check_first : (b d : ℕ) (bs ds : List ℕ) → (b == 45) ≡ false → (d == 45) ≡ false
-    → first_of (codes "SHEET") (rows_in (subcommand_of program (codes "check" ∷ (b ∷ bs) ∷ (d ∷ ds) ∷ []))) ≡ Some (b ∷ bs)
-unfolding clap_on_literals
-check_first b d bs ds ne nf = simp (ne, nf) refl
-
-check_second : (b d : ℕ) (bs ds : List ℕ) → (b == 45) ≡ false → (d == 45) ≡ false
-    → first_of (codes "GRANTS") (rows_in (subcommand_of program (codes "check" ∷ (b ∷ bs) ∷ (d ∷ ds) ∷ []))) ≡ Some (d ∷ ds)
-unfolding clap_on_literals
-check_second b d bs ds ne nf = simp (ne, nf) refl
-
 -- what the parser makes of the words of `check`
-pub record Checks (first second : List ℕ) : Type 0 where
+pub record Checks (app : App) (first second : List ℕ) : Type 0 where
   pub rows : List Row
-  pub taken : takes program (codes "check" ∷ first ∷ second ∷ []) ≡ true
-  pub entered : subcommand_of program (codes "check" ∷ first ∷ second ∷ []) ≡ Some (codes "check", rows)
+  pub taken : takes app (codes "check" ∷ first ∷ second ∷ []) ≡ true
+  pub entered : subcommand_of app (codes "check" ∷ first ∷ second ∷ []) ≡ Some (codes "check", rows)
   pub sheet : first_of (codes "SHEET") rows ≡ Some first
   pub grants : first_of (codes "GRANTS") rows ≡ Some second
 
-pub checks : (first second : List ℕ) → IsPlainWord first → IsPlainWord second → Checks first second
-checks [] second plain also = absurd plain
-checks (b ∷ bs) [] plain also = absurd also
-checks (b ∷ bs) (d ∷ ds) plain also =
+-- ---- of `ftpd`
+
+ftpd_share_taken : (b : ℕ) (bs : List ℕ) → (b == 45) ≡ false → takes ftpd (codes "share" ∷ (b ∷ bs) ∷ []) ≡ true
+unfolding clap_on_literals
+ftpd_share_taken b bs ne = simp ne refl
+
+ftpd_share_entered : (b : ℕ) (bs : List ℕ) → (b == 45) ≡ false
+    → subcommand_of ftpd (codes "share" ∷ (b ∷ bs) ∷ [])
+    ≡ Some (codes "share", rows_in (subcommand_of ftpd (codes "share" ∷ (b ∷ bs) ∷ [])))
+unfolding clap_on_literals
+ftpd_share_entered b bs ne = simp ne refl
+
+ftpd_share_first : (b : ℕ) (bs : List ℕ) → (b == 45) ≡ false
+    → first_of (codes "SHEET") (rows_in (subcommand_of ftpd (codes "share" ∷ (b ∷ bs) ∷ []))) ≡ Some (b ∷ bs)
+unfolding clap_on_literals
+ftpd_share_first b bs ne = simp ne refl
+
+pub ftpd_shares : (word : List ℕ) → IsPlainWord word → Shares ftpd word
+ftpd_shares [] plain = absurd plain
+ftpd_shares (b ∷ bs) plain =
+    let ne = ne_eqb _ _ plain in
+    record { rows = _; taken = ftpd_share_taken b bs ne; entered = ftpd_share_entered b bs ne; sheet = ftpd_share_first b bs ne }
+
+ftpd_check_taken : (b d : ℕ) (bs ds : List ℕ) → (b == 45) ≡ false → (d == 45) ≡ false → takes ftpd (codes "check" ∷ (b ∷ bs) ∷ (d ∷ ds) ∷ []) ≡ true
+unfolding clap_on_literals
+ftpd_check_taken b d bs ds ne nf = simp (ne, nf) refl
+
+ftpd_check_entered : (b d : ℕ) (bs ds : List ℕ) → (b == 45) ≡ false → (d == 45) ≡ false
+    → subcommand_of ftpd (codes "check" ∷ (b ∷ bs) ∷ (d ∷ ds) ∷ [])
+    ≡ Some (codes "check", rows_in (subcommand_of ftpd (codes "check" ∷ (b ∷ bs) ∷ (d ∷ ds) ∷ [])))
+unfolding clap_on_literals
+ftpd_check_entered b d bs ds ne nf = simp (ne, nf) refl
+
+ftpd_check_first : (b d : ℕ) (bs ds : List ℕ) → (b == 45) ≡ false → (d == 45) ≡ false
+    → first_of (codes "SHEET") (rows_in (subcommand_of ftpd (codes "check" ∷ (b ∷ bs) ∷ (d ∷ ds) ∷ []))) ≡ Some (b ∷ bs)
+unfolding clap_on_literals
+ftpd_check_first b d bs ds ne nf = simp (ne, nf) refl
+
+ftpd_check_second : (b d : ℕ) (bs ds : List ℕ) → (b == 45) ≡ false → (d == 45) ≡ false
+    → first_of (codes "GRANTS") (rows_in (subcommand_of ftpd (codes "check" ∷ (b ∷ bs) ∷ (d ∷ ds) ∷ []))) ≡ Some (d ∷ ds)
+unfolding clap_on_literals
+ftpd_check_second b d bs ds ne nf = simp (ne, nf) refl
+
+pub ftpd_checks : (first second : List ℕ) → IsPlainWord first → IsPlainWord second → Checks ftpd first second
+ftpd_checks [] second plain also = absurd plain
+ftpd_checks (b ∷ bs) [] plain also = absurd also
+ftpd_checks (b ∷ bs) (d ∷ ds) plain also =
     let ne = ne_eqb _ _ plain in
     let nf = ne_eqb _ _ also in
-    record { rows = _; taken = check_taken b d bs ds ne nf; entered = check_entered b d bs ds ne nf; sheet = check_first b d bs ds ne nf; grants = check_second b d bs ds ne nf }
+    record { rows = _; taken = ftpd_check_taken b d bs ds ne nf; entered = ftpd_check_entered b d bs ds ne nf; sheet = ftpd_check_first b d bs ds ne nf; grants = ftpd_check_second b d bs ds ne nf }
 
-migrate_taken : (b : ℕ) (bs : List ℕ) → (b == 45) ≡ false → takes program (codes "migrate" ∷ (b ∷ bs) ∷ []) ≡ true
+migrate_taken : (b : ℕ) (bs : List ℕ) → (b == 45) ≡ false → takes ftpd (codes "migrate" ∷ (b ∷ bs) ∷ []) ≡ true
 unfolding clap_on_literals
 migrate_taken b bs ne = simp ne refl
 
 migrate_entered : (b : ℕ) (bs : List ℕ) → (b == 45) ≡ false
-    → subcommand_of program (codes "migrate" ∷ (b ∷ bs) ∷ [])
-    ≡ Some (codes "migrate", rows_in (subcommand_of program (codes "migrate" ∷ (b ∷ bs) ∷ [])))
+    → subcommand_of ftpd (codes "migrate" ∷ (b ∷ bs) ∷ [])
+    ≡ Some (codes "migrate", rows_in (subcommand_of ftpd (codes "migrate" ∷ (b ∷ bs) ∷ [])))
 unfolding clap_on_literals
 migrate_entered b bs ne = simp ne refl
 
 migrate_first : (b : ℕ) (bs : List ℕ) → (b == 45) ≡ false
-    → first_of (codes "CONFIG") (rows_in (subcommand_of program (codes "migrate" ∷ (b ∷ bs) ∷ []))) ≡ Some (b ∷ bs)
+    → first_of (codes "CONFIG") (rows_in (subcommand_of ftpd (codes "migrate" ∷ (b ∷ bs) ∷ []))) ≡ Some (b ∷ bs)
 unfolding clap_on_literals
 migrate_first b bs ne = simp ne refl
 
 -- what the parser makes of the words of `migrate`
 pub record Migrates (word : List ℕ) : Type 0 where
   pub rows : List Row
-  pub taken : takes program (codes "migrate" ∷ word ∷ []) ≡ true
-  pub entered : subcommand_of program (codes "migrate" ∷ word ∷ []) ≡ Some (codes "migrate", rows)
+  pub taken : takes ftpd (codes "migrate" ∷ word ∷ []) ≡ true
+  pub entered : subcommand_of ftpd (codes "migrate" ∷ word ∷ []) ≡ Some (codes "migrate", rows)
   pub config : first_of (codes "CONFIG") rows ≡ Some word
 
 pub migrates : (word : List ℕ) → IsPlainWord word → Migrates word
@@ -122,26 +124,26 @@ migrates (b ∷ bs) plain =
     let ne = ne_eqb _ _ plain in
     record { rows = _; taken = migrate_taken b bs ne; entered = migrate_entered b bs ne; config = migrate_first b bs ne }
 
-script_taken : (b : ℕ) (bs : List ℕ) → (b == 45) ≡ false → takes program (codes "script" ∷ (b ∷ bs) ∷ []) ≡ true
+script_taken : (b : ℕ) (bs : List ℕ) → (b == 45) ≡ false → takes ftpd (codes "script" ∷ (b ∷ bs) ∷ []) ≡ true
 unfolding clap_on_literals
 script_taken b bs ne = simp ne refl
 
 script_entered : (b : ℕ) (bs : List ℕ) → (b == 45) ≡ false
-    → subcommand_of program (codes "script" ∷ (b ∷ bs) ∷ [])
-    ≡ Some (codes "script", rows_in (subcommand_of program (codes "script" ∷ (b ∷ bs) ∷ [])))
+    → subcommand_of ftpd (codes "script" ∷ (b ∷ bs) ∷ [])
+    ≡ Some (codes "script", rows_in (subcommand_of ftpd (codes "script" ∷ (b ∷ bs) ∷ [])))
 unfolding clap_on_literals
 script_entered b bs ne = simp ne refl
 
 script_first : (b : ℕ) (bs : List ℕ) → (b == 45) ≡ false
-    → first_of (codes "CONFIG") (rows_in (subcommand_of program (codes "script" ∷ (b ∷ bs) ∷ []))) ≡ Some (b ∷ bs)
+    → first_of (codes "CONFIG") (rows_in (subcommand_of ftpd (codes "script" ∷ (b ∷ bs) ∷ []))) ≡ Some (b ∷ bs)
 unfolding clap_on_literals
 script_first b bs ne = simp ne refl
 
 -- what the parser makes of the words of `script`
 pub record Scripts (word : List ℕ) : Type 0 where
   pub rows : List Row
-  pub taken : takes program (codes "script" ∷ word ∷ []) ≡ true
-  pub entered : subcommand_of program (codes "script" ∷ word ∷ []) ≡ Some (codes "script", rows)
+  pub taken : takes ftpd (codes "script" ∷ word ∷ []) ≡ true
+  pub entered : subcommand_of ftpd (codes "script" ∷ word ∷ []) ≡ Some (codes "script", rows)
   pub config : first_of (codes "CONFIG") rows ≡ Some word
 
 pub scripts : (word : List ℕ) → IsPlainWord word → Scripts word
@@ -149,6 +151,67 @@ scripts [] plain = absurd plain
 scripts (b ∷ bs) plain =
     let ne = ne_eqb _ _ plain in
     record { rows = _; taken = script_taken b bs ne; entered = script_entered b bs ne; config = script_first b bs ne }
+
+-- ---- of `sheets`
+
+pub sheets_is_simple : is_simple sheets ≡ true
+unfolding clap_on_literals
+sheets_is_simple = refl
+
+pub sheets_is_free : is_simple_and_free sheets ≡ true
+unfolding clap_on_literals
+sheets_is_free = refl
+
+sheets_share_taken : (b : ℕ) (bs : List ℕ) → (b == 45) ≡ false → takes sheets (codes "share" ∷ (b ∷ bs) ∷ []) ≡ true
+unfolding clap_on_literals
+sheets_share_taken b bs ne = simp ne refl
+
+sheets_share_entered : (b : ℕ) (bs : List ℕ) → (b == 45) ≡ false
+    → subcommand_of sheets (codes "share" ∷ (b ∷ bs) ∷ [])
+    ≡ Some (codes "share", rows_in (subcommand_of sheets (codes "share" ∷ (b ∷ bs) ∷ [])))
+unfolding clap_on_literals
+sheets_share_entered b bs ne = simp ne refl
+
+sheets_share_first : (b : ℕ) (bs : List ℕ) → (b == 45) ≡ false
+    → first_of (codes "SHEET") (rows_in (subcommand_of sheets (codes "share" ∷ (b ∷ bs) ∷ []))) ≡ Some (b ∷ bs)
+unfolding clap_on_literals
+sheets_share_first b bs ne = simp ne refl
+
+pub sheets_shares : (word : List ℕ) → IsPlainWord word → Shares sheets word
+sheets_shares [] plain = absurd plain
+sheets_shares (b ∷ bs) plain =
+    let ne = ne_eqb _ _ plain in
+    record { rows = _; taken = sheets_share_taken b bs ne; entered = sheets_share_entered b bs ne; sheet = sheets_share_first b bs ne }
+
+sheets_check_taken : (b d : ℕ) (bs ds : List ℕ) → (b == 45) ≡ false → (d == 45) ≡ false → takes sheets (codes "check" ∷ (b ∷ bs) ∷ (d ∷ ds) ∷ []) ≡ true
+unfolding clap_on_literals
+sheets_check_taken b d bs ds ne nf = simp (ne, nf) refl
+
+sheets_check_entered : (b d : ℕ) (bs ds : List ℕ) → (b == 45) ≡ false → (d == 45) ≡ false
+    → subcommand_of sheets (codes "check" ∷ (b ∷ bs) ∷ (d ∷ ds) ∷ [])
+    ≡ Some (codes "check", rows_in (subcommand_of sheets (codes "check" ∷ (b ∷ bs) ∷ (d ∷ ds) ∷ [])))
+unfolding clap_on_literals
+sheets_check_entered b d bs ds ne nf = simp (ne, nf) refl
+
+sheets_check_first : (b d : ℕ) (bs ds : List ℕ) → (b == 45) ≡ false → (d == 45) ≡ false
+    → first_of (codes "SHEET") (rows_in (subcommand_of sheets (codes "check" ∷ (b ∷ bs) ∷ (d ∷ ds) ∷ []))) ≡ Some (b ∷ bs)
+unfolding clap_on_literals
+sheets_check_first b d bs ds ne nf = simp (ne, nf) refl
+
+sheets_check_second : (b d : ℕ) (bs ds : List ℕ) → (b == 45) ≡ false → (d == 45) ≡ false
+    → first_of (codes "GRANTS") (rows_in (subcommand_of sheets (codes "check" ∷ (b ∷ bs) ∷ (d ∷ ds) ∷ []))) ≡ Some (d ∷ ds)
+unfolding clap_on_literals
+sheets_check_second b d bs ds ne nf = simp (ne, nf) refl
+
+pub sheets_checks : (first second : List ℕ) → IsPlainWord first → IsPlainWord second → Checks sheets first second
+sheets_checks [] second plain also = absurd plain
+sheets_checks (b ∷ bs) [] plain also = absurd also
+sheets_checks (b ∷ bs) (d ∷ ds) plain also =
+    let ne = ne_eqb _ _ plain in
+    let nf = ne_eqb _ _ also in
+    record { rows = _; taken = sheets_check_taken b d bs ds ne nf; entered = sheets_check_entered b d bs ds ne nf; sheet = sheets_check_first b d bs ds ne nf; grants = sheets_check_second b d bs ds ne nf }
+
+-- ---- of both
 
 -- an error of one of those kinds is told as a refusal of one of them
 pub refusal : (kinds : Kinds) (kind : ErrorKind) (fault : WordsFault) → (kind ≡ OutOfMemory → fault ≡ Memory) → IsRefusedAs kind fault

@@ -1,4 +1,4 @@
--- The commands of the program, as the parser of command lines sees them.
+-- The commands of the programs, as the parser of command lines sees them.
 use Rattle.std.specs.Prelude.{true, codes, Some}
 use Rattle.clap.specs.Words.{App, Rule, Text, new_app, new_rule, with_rule, with_subcommand}
 use Rattle.clap.specs.declared.builder.ArgAction.TheVariants.{Set}
@@ -27,11 +27,20 @@ migrate = with_rule (bare (codes "migrate")) (file_rule (codes "CONFIG"))
 abbrev pub script : App
 script = with_rule (bare (codes "script")) (file_rule (codes "CONFIG"))
 
--- the program with no command yet; its first word is no program's name
-abbrev pub top : App
-top =
-    let app = bare (codes "ftpd") in
+-- the program of that name with no command yet; its first word is no program's name
+abbrev pub top : Text → App
+top name =
+    let app = bare name in
     record app { top = record app.top { no_binary_name = true; has_version = true; subcommand_required = true } }
 
-abbrev pub program : App
-program = with_subcommand (with_subcommand (with_subcommand (with_subcommand top share.top) check.top) migrate.top) script.top
+-- the program of that name with the commands on sheets
+abbrev pub with_sheets : Text → App
+with_sheets name = with_subcommand (with_subcommand (top name) share.top) check.top
+
+-- the program `sheets`
+abbrev pub sheets : App
+sheets = with_sheets (codes "sheets")
+
+-- the program `ftpd`
+abbrev pub ftpd : App
+ftpd = with_subcommand (with_subcommand (with_sheets (codes "ftpd")) migrate.top) script.top

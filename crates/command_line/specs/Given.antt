@@ -3,8 +3,10 @@ use Rattle.std.specs.Prelude.{◌≡◌, ◌≢◌, ◌↔◌, ◌⊎◌, ℕ, L
 use Rattle.clap.specs.Words.{IsAmong, Kinds, Row, Text, first_of}
 use Rattle.clap.specs.declared.error.kind.ErrorKind.{ErrorKind}
 use Rattle.clap.specs.declared.error.kind.ErrorKind.TheVariants.{DisplayHelp, DisplayVersion}
+use Rattle.command_line.specs.declared.words.SheetWords.{SheetWords}
+use Rattle.command_line.specs.declared.words.SheetWords.TheVariants.{Share, Check}
 use Rattle.command_line.specs.declared.words.Words.{Words}
-use Rattle.command_line.specs.declared.words.Words.TheVariants.{Share, Check, Migrate, Script}
+use Rattle.command_line.specs.declared.words.Words.TheVariants.{Sheet, Migrate, Script}
 use Rattle.command_line.specs.declared.words.WordsFault.{WordsFault}
 use Rattle.command_line.specs.declared.words.WordsFault.TheVariants.{Refused, Memory}
 
@@ -14,46 +16,50 @@ IsPlainWord [] = ⊥
 IsPlainWord (octet ∷ rest) = octet ≢ 45
 
 -- the command `share` of that sheet
-abbrev pub IsShare : List ℕ → Words → Type 0
+abbrev pub IsShare : List ℕ → SheetWords → Type 0
 IsShare word (Share sheet) = sheet.now ≡ word
 IsShare word (Check sheet grants) = ⊥
-IsShare word (Migrate config) = ⊥
-IsShare word (Script config) = ⊥
 
 -- the command `check` of that sheet and those grants
-abbrev pub IsCheck : List ℕ → List ℕ → Words → Type 0
+abbrev pub IsCheck : List ℕ → List ℕ → SheetWords → Type 0
 IsCheck first second (Share sheet) = ⊥
 IsCheck first second (Check sheet grants) = (sheet.now ≡ first) × (grants.now ≡ second)
-IsCheck first second (Migrate config) = ⊥
-IsCheck first second (Script config) = ⊥
+
+-- a command on a sheet, of which that holds
+abbrev pub IsOfSheets : (SheetWords → Type 0) → Words → Type 0
+IsOfSheets P (Sheet words) = P words
+IsOfSheets P (Migrate config) = ⊥
+IsOfSheets P (Script config) = ⊥
 
 -- the command `migrate` of that configuration
 abbrev pub IsMigrate : List ℕ → Words → Type 0
-IsMigrate word (Share sheet) = ⊥
-IsMigrate word (Check sheet grants) = ⊥
+IsMigrate word (Sheet words) = ⊥
 IsMigrate word (Migrate config) = config.now ≡ word
 IsMigrate word (Script config) = ⊥
 
 -- the command `script` of that configuration
 abbrev pub IsScript : List ℕ → Words → Type 0
-IsScript word (Share sheet) = ⊥
-IsScript word (Check sheet grants) = ⊥
+IsScript word (Sheet words) = ⊥
 IsScript word (Migrate config) = ⊥
 IsScript word (Script config) = config.now ≡ word
 
+-- the parser found the command on a sheet, and the words after it
+abbrev pub IsSheetFound : Option (Text × List Row) → SheetWords → Type 0
+IsSheetFound found (Share sheet) =
+    (rows : List Row) × (found ≡ Some (codes "share", rows)) × (first_of (codes "SHEET") rows ≡ Some sheet.now)
+IsSheetFound found (Check sheet grants) =
+    (rows : List Row) × (found ≡ Some (codes "check", rows)) × (first_of (codes "SHEET") rows ≡ Some sheet.now) × (first_of (codes "GRANTS") rows ≡ Some grants.now)
+
 -- the parser found the command, and the words after it
 abbrev pub IsFound : Option (Text × List Row) → Words → Type 0
-IsFound found (Share sheet) =
-    (rows : List Row) × (found ≡ Some (codes "share", rows)) × (first_of (codes "SHEET") rows ≡ Some sheet.now)
-IsFound found (Check sheet grants) =
-    (rows : List Row) × (found ≡ Some (codes "check", rows)) × (first_of (codes "SHEET") rows ≡ Some sheet.now) × (first_of (codes "GRANTS") rows ≡ Some grants.now)
+IsFound found (Sheet words) = IsSheetFound found words
 IsFound found (Migrate config) =
     (rows : List Row) × (found ≡ Some (codes "migrate", rows)) × (first_of (codes "CONFIG") rows ≡ Some config.now)
 IsFound found (Script config) =
     (rows : List Row) × (found ≡ Some (codes "script", rows)) × (first_of (codes "CONFIG") rows ≡ Some config.now)
 
 -- the words are given, or memory ran out
-abbrev pub GivesOrMemory : (Words → Type 0) → Result Words WordsFault → Type 0
+abbrev pub GivesOrMemory : {T : Type 0} → (T → Type 0) → Result T WordsFault → Type 0
 GivesOrMemory P r = MatchResult r P (λ fault. fault ≡ Memory)
 
 -- the words asked for help or the version

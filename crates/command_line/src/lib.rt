@@ -1,13 +1,17 @@
-//! The command line of `ftpd`: its grammar, and what the words of a command mean.
+//! The command lines of `ftpd` and of `sheets`: their grammars, and what the words of a command mean.
 //!
 //! ```text
 //! ftpd share SHEET
 //! ftpd check SHEET GRANTS
 //! ftpd migrate CONFIG
 //! ftpd script CONFIG
+//!
+//! sheets share SHEET
+//! sheets check SHEET GRANTS
 //! ```
 #![tactic(auto)]
 
+mod grammar;
 mod words;
 
-pub use words::{Words, WordsFault, read_words};
+pub use words::{SheetWords, Words, WordsFault, read_sheet_words, read_words};

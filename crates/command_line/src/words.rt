@@ -1,20 +1,28 @@
 //! The words of a command line.
-ghost use Rattle.std.specs.Prelude.{◌≡◌, ◌↔◌, ◌∷◌, [], ℕ, List, Some, IfOk, IfErr, IfSome, IsSomeAnd, IsTrue, false, map, codes, option_map};
-ghost use Rattle.clap.specs.Words.{Row, app_of, fault_of, first_of, kind_of, rule_of, subcommand_of, subcommand_rows_of, with_rule};
-ghost use Rattle.command_line.specs.Commands.{bare, check, file_rule, migrate, program, script, share, top};
-ghost use Rattle.command_line.specs.Given.{GivesOrMemory, IsCheck, IsFound, IsHelp, IsMigrate, IsPlainWord, IsRefusal, IsRefusedAs, IsScript, IsShare};
+ghost use Rattle.std.specs.Prelude.{◌≡◌, ◌↔◌, ◌∷◌, [], ℕ, List, Some, IfOk, IfErr, IfSome, IsSomeAnd, IsTrue, map, codes, option_map, true};
+ghost use Rattle.clap.specs.Words.{Row, app_of, fault_of, first_of, is_simple, is_simple_and_free, kind_of, subcommand_of, subcommand_rows_of, takes};
+ghost use Rattle.command_line.specs.Commands.{ftpd, sheets};
+ghost use Rattle.command_line.specs.Given.{GivesOrMemory, IsCheck, IsFound, IsHelp, IsMigrate, IsOfSheets, IsPlainWord, IsRefusal, IsRefusedAs, IsScript, IsSheetFound, IsShare};
 
+use crate::grammar::{ftpd_command, sheets_command};
 use clap::error::ErrorKind;
-use clap::{Arg, ArgAction, ArgMatches, Command, Error};
-use std::alloc::{AllocError, Global};
+use clap::{ArgMatches, Command, Error};
+use std::alloc::Global;
 
-/// A command, with the words after it.
+/// A command on a sheet, with the words after it.
 #[derive(Clone, Copy, Debug, PartialEq, Eq)]
-pub enum Words<'a> {
+pub enum SheetWords<'a> {
     /// Share the limits of a sheet, whose path this is.
     Share { sheet: &'a str },
     /// Check the grants of a file within the limits of a sheet; the paths of both.
     Check { sheet: &'a str, grants: &'a str },
+}
+
+/// A command of `ftpd`, with the words after it.
+#[derive(Clone, Copy, Debug, PartialEq, Eq)]
+pub enum Words<'a> {
+    /// A command on a sheet.
+    Sheet(SheetWords<'a>),
     /// Print a configuration in its latest version; its path.
     Migrate { config: &'a str },
     /// Serve a control session by a configuration, whose path this is.
@@ -29,106 +37,6 @@ pub enum WordsFault {
     Refused { text: String, is_help: bool },
     /// Memory ran out.
     Memory,
-}
-
-fn file<'a>(alloc: Global, id: &'a str, help: &'a str) -> Arg<'a>
-    ensures rule { rule_of result ≡ file_rule id.entry.now }
-    ensures local { result.global ≡ false }
-{
-    Arg::new(alloc, id)
-        .required(true)
-        .action(ArgAction::Set)
-        .help(help)
-}
-
-const STATUSES: &str = "Status: 0 done, or yes; 1 a fault; 2 refused words; 3 no";
-
-fn bare_command<'a>(alloc: Global, name: &'a str, about: &'a str) -> Command<'a>
-    ensures bare { app_of result ≡ bare name.entry.now }
-{
-    Command::new(alloc, name).about(about).after_help(STATUSES)
-}
-
-/// The command with the path of one file more.
-fn with_file<'a>(
-    alloc: Global,
-    command: Command<'a>,
-    id: &'a str,
-    help: &'a str,
-) -> Result<Command<'a>, AllocError>
-    ensures rule { IfOk result
-        (λ c. app_of c ≡ with_rule (app_of command.entry) (file_rule id.entry.now)) }
-{
-    let command = command.arg(file(alloc, id, help))?;
-    Ok(command)
-}
-
-fn share_command<'a>(alloc: Global) -> Result<Command<'a>, AllocError>
-    ensures share { IfOk result (λ c. app_of c ≡ share) }
-{
-    let about = "Share the limits of a sheet: who gets how much, and which limit holds whom back";
-    let sheet = "File of lines `limit PATH N`, `want PATH N` or `want PATH N FLOOR`, or /dev/stdin";
-    with_file(alloc, bare_command(alloc, "share", about), "SHEET", sheet)
-}
-
-fn check_command<'a>(alloc: Global) -> Result<Command<'a>, AllocError>
-    ensures check { IfOk result (λ c. app_of c ≡ check) }
-{
-    let about = "Check grants within the limits of a sheet: yes, or no and the first flaw";
-    let sheet = "File of limits and wants, as for `share`, or /dev/stdin";
-    let grants =
-        "File of lines `grant PATH N` or `grant PATH N NODE`, in the order of the wants, or /dev/stdin";
-    let command = with_file(alloc, bare_command(alloc, "check", about), "SHEET", sheet)?;
-    with_file(alloc, command, "GRANTS", grants)
-}
-
-fn migrate_command<'a>(alloc: Global) -> Result<Command<'a>, AllocError>
-    ensures migrate { IfOk result (λ c. app_of c ≡ migrate) }
-{
-    let about = "Print a configuration in its latest version";
-    let config = "File of a configuration, in TOML, or /dev/stdin";
-    with_file(
-        alloc,
-        bare_command(alloc, "migrate", about),
-        "CONFIG",
-        config,
-    )
-}
-
-fn script_command<'a>(alloc: Global) -> Result<Command<'a>, AllocError>
-    ensures script { IfOk result (λ c. app_of c ≡ script) }
-{
-    let about = "Serve the control session on standard input, and print its replies";
-    let config = "File of a configuration, in TOML; not /dev/stdin, which has the control text";
-    with_file(
-        alloc,
-        bare_command(alloc, "script", about),
-        "CONFIG",
-        config,
-    )
-}
-
-fn top_command<'a>(alloc: Global) -> Result<Command<'a>, AllocError>
-    ensures top { IfOk result (λ c. app_of c ≡ top) }
-{
-    let about = "Share bandwidth among transfers under nested limits";
-    let top = bare_command(alloc, "ftpd", about)
-        .no_binary_name(true)
-        .version("1")
-        .subcommand_required(true)
-        .bin_name("ftpd")?;
-    Ok(top)
-}
-
-fn program_command<'a>(alloc: Global) -> Result<Command<'a>, AllocError>
-    ensures program { IfOk result (λ c. app_of c ≡ program) }
-{
-    let top = top_command(alloc)?;
-    let with_share = top.subcommand(share_command(alloc)?)?;
-    let with_check = with_share.subcommand(check_command(alloc)?)?;
-    let with_migrate = with_check.subcommand(migrate_command(alloc)?)?;
-    let command = with_migrate.subcommand(script_command(alloc)?)?;
-    Ok(command)
 }
 
 fn is_help(kind: ErrorKind) -> bool
@@ -168,26 +76,43 @@ fn word_of<'a>(matches: &ArgMatches<'a>, command: &str, id: &str) -> Option<&'a 
     Some(word)
 }
 
-fn share_given<'a>(matches: &ArgMatches<'a>) -> Option<Words<'a>>
+fn share_given<'a>(matches: &ArgMatches<'a>) -> Option<SheetWords<'a>>
     ensures share { (rows : List Row) (word : List ℕ)
         → subcommand_rows_of matches.now ≡ Some (codes "share", rows)
         → first_of (codes "SHEET") rows ≡ Some word → IsSomeAnd result (IsShare word) }
-    ensures found { IfSome result (IsFound (subcommand_rows_of matches.now)) }
+    ensures found { IfSome result (IsSheetFound (subcommand_rows_of matches.now)) }
 {
     let sheet = word_of(matches, "share", "SHEET")?;
-    Some(Words::Share { sheet })
+    Some(SheetWords::Share { sheet })
 }
 
-fn check_given<'a>(matches: &ArgMatches<'a>) -> Option<Words<'a>>
+fn check_given<'a>(matches: &ArgMatches<'a>) -> Option<SheetWords<'a>>
     ensures check { (rows : List Row) (first second : List ℕ)
         → subcommand_rows_of matches.now ≡ Some (codes "check", rows)
         → first_of (codes "SHEET") rows ≡ Some first → first_of (codes "GRANTS") rows ≡ Some second
         → IsSomeAnd result (IsCheck first second) }
-    ensures found { IfSome result (IsFound (subcommand_rows_of matches.now)) }
+    ensures found { IfSome result (IsSheetFound (subcommand_rows_of matches.now)) }
 {
     let sheet = word_of(matches, "check", "SHEET")?;
     let grants = word_of(matches, "check", "GRANTS")?;
-    Some(Words::Check { sheet, grants })
+    Some(SheetWords::Check { sheet, grants })
+}
+
+/// The command on a sheet.
+fn sheet_given<'a>(matches: &ArgMatches<'a>) -> Option<SheetWords<'a>>
+    ensures share { (rows : List Row) (word : List ℕ)
+        → subcommand_rows_of matches.now ≡ Some (codes "share", rows)
+        → first_of (codes "SHEET") rows ≡ Some word → IsSomeAnd result (IsShare word) }
+    ensures check { (rows : List Row) (first second : List ℕ)
+        → subcommand_rows_of matches.now ≡ Some (codes "check", rows)
+        → first_of (codes "SHEET") rows ≡ Some first → first_of (codes "GRANTS") rows ≡ Some second
+        → IsSomeAnd result (IsCheck first second) }
+    ensures found { IfSome result (IsSheetFound (subcommand_rows_of matches.now)) }
+{
+    match share_given(matches) {
+        Some(words) => Some(words),
+        None => check_given(matches),
+    }
 }
 
 fn migrate_given<'a>(matches: &ArgMatches<'a>) -> Option<Words<'a>>
@@ -229,11 +154,11 @@ fn of_config<'a>(matches: &ArgMatches<'a>) -> Option<Words<'a>>
 fn given<'a>(matches: &ArgMatches<'a>) -> Option<Words<'a>>
     ensures share { (rows : List Row) (word : List ℕ)
         → subcommand_rows_of matches.now ≡ Some (codes "share", rows)
-        → first_of (codes "SHEET") rows ≡ Some word → IsSomeAnd result (IsShare word) }
+        → first_of (codes "SHEET") rows ≡ Some word → IsSomeAnd result (IsOfSheets (IsShare word)) }
     ensures check { (rows : List Row) (first second : List ℕ)
         → subcommand_rows_of matches.now ≡ Some (codes "check", rows)
         → first_of (codes "SHEET") rows ≡ Some first → first_of (codes "GRANTS") rows ≡ Some second
-        → IsSomeAnd result (IsCheck first second) }
+        → IsSomeAnd result (IsOfSheets (IsCheck first second)) }
     ensures migrate { (rows : List Row) (word : List ℕ)
         → subcommand_rows_of matches.now ≡ Some (codes "migrate", rows)
         → first_of (codes "CONFIG") rows ≡ Some word → IsSomeAnd result (IsMigrate word) }
@@ -242,42 +167,92 @@ fn given<'a>(matches: &ArgMatches<'a>) -> Option<Words<'a>>
         → first_of (codes "CONFIG") rows ≡ Some word → IsSomeAnd result (IsScript word) }
     ensures found { IfSome result (IsFound (subcommand_rows_of matches.now)) }
 {
-    if let Some(words) = share_given(matches) {
-        return Some(words);
-    }
-    match check_given(matches) {
-        Some(words) => Some(words),
+    match sheet_given(matches) {
+        Some(words) => Some(Words::Sheet(words)),
         None => of_config(matches),
     }
 }
 
-/// The command that the words give; they come without the program's name.
+/// What the parser holds of the words, which come without the program's name.
+fn parsed<'a>(
+    alloc: Global,
+    command: Command<'a>,
+    words: &'a [&'a str],
+) -> Result<ArgMatches<'a>, WordsFault>
+    ensures takes { takes (app_of command.entry) (map (λ s. s.now) words.now) ≡ true
+        → IfErr result (λ fault. fault ≡ WordsFault.Memory) }
+    ensures refused { is_simple_and_free (app_of command.entry) ≡ true
+        → IfErr result (IsRefusal (fault_of (app_of command.entry) (map (λ s. s.now) words.now))) }
+    ensures given { is_simple_and_free (app_of command.entry) ≡ true
+        → IfOk result (λ _. fault_of (app_of command.entry) (map (λ s. s.now) words.now) ≡ []) }
+    ensures found { is_simple (app_of command.entry) ≡ true
+        → IfOk result (λ matches. subcommand_rows_of matches
+        ≡ subcommand_of (app_of command.entry) (map (λ s. s.now) words.now)) }
+{
+    match command.try_get_matches_from(words) {
+        Ok(matches) => Ok(matches),
+        Err(error) => Err(refused(alloc, &error)),
+    }
+}
+
+/// The command that the words of `sheets` give; they come without the program's name.
 ///
 /// `Refused` comes only where the parser refuses the words or they ask for help or the version, and `Memory` only
 /// where memory ran out.
-pub fn read_words<'a>(alloc: Global, words: &'a [&'a str]) -> Result<Words<'a>, WordsFault>
+pub fn read_sheet_words<'a>(
+    alloc: Global,
+    words: &'a [&'a str],
+) -> Result<SheetWords<'a>, WordsFault>
     ensures share { (word : List ℕ) → IsPlainWord word
         → map (λ s. s.now) words.now ≡ codes "share" ∷ word ∷ []
         → GivesOrMemory (IsShare word) result }
     ensures check { (first second : List ℕ) → IsPlainWord first → IsPlainWord second
         → map (λ s. s.now) words.now ≡ codes "check" ∷ first ∷ second ∷ []
         → GivesOrMemory (IsCheck first second) result }
+    ensures refused { IfErr result (IsRefusal (fault_of sheets (map (λ s. s.now) words.now))) }
+    ensures given { IfOk result (λ _. fault_of sheets (map (λ s. s.now) words.now) ≡ []) }
+    ensures found { IfOk result (IsSheetFound (subcommand_of sheets (map (λ s. s.now) words.now))) }
+{
+    let Ok(command) = sheets_command(alloc) else {
+        return Err(WordsFault::Memory);
+    };
+    let matches = match parsed(alloc, command, words) {
+        Ok(matches) => matches,
+        Err(fault) => return Err(fault),
+    };
+    match sheet_given(&matches) {
+        Some(words) => Ok(words),
+        None => Err(WordsFault::Memory),
+    }
+}
+
+/// The command that the words of `ftpd` give; they come without the program's name.
+///
+/// `Refused` comes only where the parser refuses the words or they ask for help or the version, and `Memory` only
+/// where memory ran out.
+pub fn read_words<'a>(alloc: Global, words: &'a [&'a str]) -> Result<Words<'a>, WordsFault>
+    ensures share { (word : List ℕ) → IsPlainWord word
+        → map (λ s. s.now) words.now ≡ codes "share" ∷ word ∷ []
+        → GivesOrMemory (IsOfSheets (IsShare word)) result }
+    ensures check { (first second : List ℕ) → IsPlainWord first → IsPlainWord second
+        → map (λ s. s.now) words.now ≡ codes "check" ∷ first ∷ second ∷ []
+        → GivesOrMemory (IsOfSheets (IsCheck first second)) result }
     ensures migrate { (word : List ℕ) → IsPlainWord word
         → map (λ s. s.now) words.now ≡ codes "migrate" ∷ word ∷ []
         → GivesOrMemory (IsMigrate word) result }
     ensures script { (word : List ℕ) → IsPlainWord word
         → map (λ s. s.now) words.now ≡ codes "script" ∷ word ∷ []
         → GivesOrMemory (IsScript word) result }
-    ensures refused { IfErr result (IsRefusal (fault_of program (map (λ s. s.now) words.now))) }
-    ensures given { IfOk result (λ _. fault_of program (map (λ s. s.now) words.now) ≡ []) }
-    ensures found { IfOk result (IsFound (subcommand_of program (map (λ s. s.now) words.now))) }
+    ensures refused { IfErr result (IsRefusal (fault_of ftpd (map (λ s. s.now) words.now))) }
+    ensures given { IfOk result (λ _. fault_of ftpd (map (λ s. s.now) words.now) ≡ []) }
+    ensures found { IfOk result (IsFound (subcommand_of ftpd (map (λ s. s.now) words.now))) }
 {
-    let Ok(command) = program_command(alloc) else {
+    let Ok(command) = ftpd_command(alloc) else {
         return Err(WordsFault::Memory);
     };
-    let matches = match command.try_get_matches_from(words) {
+    let matches = match parsed(alloc, command, words) {
         Ok(matches) => matches,
-        Err(error) => return Err(refused(alloc, &error)),
+        Err(fault) => return Err(fault),
     };
     match given(&matches) {
         Some(words) => Ok(words),

@@ -1,6 +1,6 @@
 //! A row of rates for each group and for each user.
 
-ghost use Rattle.std.specs.Prelude.{◌≡◌, IfErr, IfOk, OnOk, List};
+ghost use Rattle.std.specs.Prelude.{◌≡◌, IfErr, IfOk, OnOk, List, length};
 ghost use Rattle.config_tables.specs.declared.stated.GroupTable.{GroupTable};
 ghost use Rattle.config_rates.specs.Groups.{AreGrouped, AreNumbers, AreApart, HasGroup, IsFault, IsFaultOfUser, IsNoNumber, group_in};
 ghost use Rattle.config_rates.specs.declared.fault.RowsFault.TheVariants as RowsFault;
@@ -145,6 +145,7 @@ pub fn read_rows<'a>(
 ) -> Result<RateRows, RowsFault<'a>>
     ensures groups { IfOk result (λ rows. rows.groups.items ≡ group_rows groups.now) }
     ensures users { IfOk result (λ rows. rows.users.items ≡ user_rows groups.now users.now) }
+    ensures many { IfOk result (λ rows. length rows.users.items ≡ length users.now) }
     ensures apart { OnOk result (AreApart groups.now) }
     ensures grouped { OnOk result (AreGrouped groups.now users.now) }
     ensures refused { IfErr result (IsFault groups.now users.now) }

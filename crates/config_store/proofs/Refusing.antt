@@ -1,5 +1,5 @@
 -- Directories and files that are refused, after those that were made.
-use Rattle.std.proofs.Common.{◌≡◌, ◌≢◌, ℕ, ◌<◌, List, length, take, get_or, Some, Result, Ok, Err, IfErr, refl, sym, ap, subst, ◌∙◌, inr}
+use Rattle.std.proofs.Common.{◌≡◌, ℕ, ◌<◌, List, length, take, get_or, Some, Result, Ok, Err, IfErr, refl, sym, ap, subst, ◌∙◌, inr}
 use Rattle.std.proofs.lemmas.Option.{slice_get-get_or}
 use Rattle.std.specs.Io.KnownBytes.{Appends}
 use Rattle.memory_terms.specs.Lack.{Unless}

@@ -1,3 +1,4 @@
 pub mod NoRows
 pub mod NoTables
+pub mod Pairs
 pub mod Pushes

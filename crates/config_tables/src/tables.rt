@@ -1,6 +1,6 @@
 //! All tables of a file.
 
-ghost use Rattle.std.specs.Prelude.{◌≡◌, IfOk, IfErr, OnErr, map};
+ghost use Rattle.std.specs.Prelude.{◌≡◌, IfOk, IfErr, OnErr, length, map};
 ghost use Rattle.memory_terms.specs.Lack.{Unless};
 ghost use Rattle.toml.specs.View.{table_view};
 ghost use Rattle.config_tables.specs.Users.{user_keys};
@@ -151,9 +151,11 @@ fn read_overrides<'a>(
 }
 
 /// Reads the tables of a document. `Err` is the first fault of the file, which then states no tables, or lack of memory.
-#[tactic(auto, using(crate::proofs::NoTables::no_server, crate::proofs::NoTables::no_users, crate::proofs::NoTables::no_overrides,))]
+#[tactic(auto, using(crate::proofs::NoTables::no_server, crate::proofs::NoTables::no_users, crate::proofs::NoTables::no_overrides, crate::proofs::Pairs::same_length,))]
 pub fn read_tables<'a>(alloc: Global, document: &'a Table) -> Result<Tables<'a>, TableFault<'a>>
     ensures tables { IfOk result (IsTables (table_view document.now)) }
+    ensures paired { IfOk result
+        (λ tables. length tables.overrides.items ≡ length tables.users.items) }
     ensures refused { IfErr result (Unless TableFault.Memory
         (λ _. AreNoTables (table_view document.now))) }
 {

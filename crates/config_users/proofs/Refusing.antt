@@ -2,7 +2,7 @@
 use Rattle.std.proofs.Common.{◌≡◌, ◌≢◌, ℕ, ◌<◌, List, length, take, get_or, slice_get, Option, Some, Result, Ok, Err, IfErr, Vec, Global, sym, ap, subst, ◌∙◌, inr}
 use Rattle.std.proofs.lemmas.Option.{slice_get-get_or}
 use Rattle.memory_terms.specs.Lack.{Unless}
-use Rattle.authorizer.specs.Changes.{added, with_messages, with_group}
+use Rattle.authorizer.specs.Changes.{added, with_messages}
 use Rattle.authorizer.specs.Numbers.{no_users}
 use Rattle.authorizer.specs.Users.{Accounts}
 use Rattle.authorizer.specs.declared.fault.AuthorizerFault.{AuthorizerFault}

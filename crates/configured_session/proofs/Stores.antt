@@ -2,8 +2,8 @@
 use Rattle.std.proofs.Common.{◌≡◌, ◌∙◌, ◌⊎◌, ℕ, List, Option, Result, Ok, Err, IfErr, OnErr, OnOk, inl, inr, sym, subst}
 use Rattle.std.specs.declared.alloc.Global.{Global}
 use Rattle.authorizer.specs.Users.{Users}
-use Rattle.control_session.specs.Sessions.{IsBroken, IsSession, greeting_of, new_session}
-use Rattle.control_session.specs.declared.fault.ControlFault.{ControlFault}
+use Rattle.script_session.specs.Sessions.{IsBroken, IsSession, greeting_of, new_session}
+use Rattle.script_session.specs.ControlFault.{ControlFault}
 use Rattle.line_rates.specs.Rates.{Rates}
 use Rattle.memory_store.specs.InMemory.{Memory, InMemory}
 use Rattle.rate_floors.specs.Promises.{HasNoSessions, Promises}

@@ -2,7 +2,7 @@
 use Rattle.std.specs.Prelude.{◌≡◌, ◌⊎◌, ℕ, List, Option, String}
 use Rattle.std.specs.declared.alloc.Global.{Global}
 use Rattle.config_store.specs.declared.store.ServedStore.TheVariants as served
-use Rattle.control_session.specs.Sessions.{IsBroken, IsSession, greeting_of, new_session}
+use Rattle.script_session.specs.Sessions.{IsBroken, IsSession, greeting_of, new_session}
 use Rattle.line_rates.specs.Rates.{Rates}
 use Rattle.memory_store.specs.InMemory.{Memory, InMemory}
 use Rattle.rate_floors.specs.Promises.{HasNoSessions, Promises}

@@ -1,6 +1,6 @@
 //! Why a configured session is not served, or breaks off.
 
-use control_session::ControlFault;
+use script_session::ControlFault;
 use thiserror::Error;
 
 /// Why a configured session is not served, or breaks off. It prints as its name.

@@ -1,18 +1,17 @@
 //! A session of a configured server.
 
 ghost use Rattle.std.specs.Prelude.{◌≡◌, Err, IfErr, Ok, OnErr, OnOk};
-ghost use Rattle.control_session.specs.declared.fault.ControlFault.{ControlFault};
+ghost use Rattle.script_session.specs.ControlFault.{ControlFault};
 ghost use Rattle.configured_session.specs.declared.fault.ServeFault.TheVariants as ServeFault;
 ghost use Rattle.configured_session.specs.Served.{IsBrokenBy, IsServed, IsServedBy, IsUnserved};
 
 use crate::fault::ServeFault;
 use authorizer::Authorizer;
 use config_store::ServedStore;
-use control_session::ControlFault;
 use line_rates::Limits;
 use memory_store::MemStore;
 use rate_floors::Floors;
-use script_session::serve_text;
+use script_session::{ControlFault, serve_text};
 use server_config::Config;
 use session_table::Settings;
 use std::alloc::Global;

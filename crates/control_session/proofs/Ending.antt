@@ -7,17 +7,17 @@ use Rattle.authorizer.specs.Users.{Users}
 use Rattle.ftp_wire.specs.Items.{Item}
 use Rattle.ftp_wire.specs.Reading.{OnlyReadsAs}
 use Rattle.rate_floors.specs.Promises.{Promises}
-use Rattle.session_laws.specs.Steps.{Standing}
+use Rattle.control_turns.specs.Steps.{Standing}
 use Rattle.session_table.specs.Plans.{Plan}
 use Rattle.session_table.specs.Plans.Plan.{Then}
 use Rattle.virtual_tree.specs.Calls.{Exchange}
-use Rattle.data_side.specs.Sides.{SideCall}
-use Rattle.data_side.specs.Told.{texts}
+use Rattle.control_turns.specs.Sides.{SideCall}
+use Rattle.control_turns.specs.Told.{texts}
 use Rattle.text_ends.specs.Parts.{AppendsPart}
 use Rattle.control_turns.specs.Turns.{Closes, Situation, at, due}
 use Rattle.control_turns.specs.Runs.{BreaksAmong, BreaksOff, Leads, Passes, Reaches}
 use Rattle.control_session.specs.Pieces.{IsInterrupted, IsTaken}
-use Rattle.control_session.proofs.Reading.{appends_more, appends_nothing}
+use Rattle.text_ends.proofs.Writing.{appends_more, appends_nothing, on_err}
 use Rattle.control_session.specs.Sessions.{IsBroken, IsSession, greeting_of}
 
 -- what a plan that asks nothing says
@@ -25,13 +25,9 @@ abbrev pub plan_text : {A R K : Type 0} → Plan A R K → List ℕ
 plan_text (Then view actions) = texts actions
 plan_text _ = []
 
-pub on_err_is : {T E : Type 0} (answer : Result T E) {P : Type 0} → P → OnErr answer P
-on_err_is (Ok value) p = tt
-on_err_is (Err why) p = p
-
 -- before anything was said
 pub early : {T E : Type 0} (answer : Result T E) (out : Option (List ℕ)) (greeting : List ℕ) (Other : Type 0) → OnErr answer (AppendsPart out out greeting ⊎ Other)
-early answer out greeting Other = on_err_is answer {P = AppendsPart out out greeting ⊎ Other} (inl ([], greeting, refl, appends_nothing out))
+early answer out greeting Other = on_err answer {P = AppendsPart out out greeting ⊎ Other} (inl ([], greeting, refl, appends_nothing out))
 
 -- the lines that are left where the session ends
 abbrev pub rest_of : Bool → Option (List Item)
@@ -93,7 +89,7 @@ module _ (A : Type 0) {S D R K : Type 0} (May : ℕ → Type 0) (Step : S → Ex
       (v : Standing) (p : Promises) (s : S) (d : D) (fed unfed text : List ℕ) (items : List Item)
       → Consumes old new (fed ++ unfed) → Means fed items → Appends out out' (greeting ++ text) → BreaksAmong A May Step Asks users v p s d items text
       → OnErr answer (IsInterrupted A May Step Asks users old new Means out out' greeting v p s d)
-  interrupted answer old new Means out out' greeting v p s d fed unfed text items consumed means written breaks = on_err_is answer
+  interrupted answer old new Means out out' greeting v p s d fed unfed text items consumed means written breaks = on_err answer
       {P = IsInterrupted A May Step Asks users old new Means out out' greeting v p s d}
       (record { fed = fed; unfed = unfed; items = items; text = text; consumed = consumed; means = means; written = written; breaks = breaks })
 

@@ -2,10 +2,10 @@
 use Rattle.std.specs.Prelude.{ℕ, ◌≡◌, ◌⊎◌, List, ◌++◌, Bool, true, Option}
 use Rattle.std.specs.Io.KnownBytes.{Appends, Consumes, IsAtEnd}
 use Rattle.authorizer.specs.Users.{Users}
-use Rattle.data_side.specs.Sides.{SideCall}
+use Rattle.control_turns.specs.Sides.{SideCall}
 use Rattle.ftp_wire.specs.Items.{Item}
 use Rattle.rate_floors.specs.Promises.{Promises}
-use Rattle.session_laws.specs.Steps.{Standing}
+use Rattle.control_turns.specs.Steps.{Standing}
 use Rattle.virtual_tree.specs.Calls.{Exchange}
 use Rattle.control_turns.specs.Runs.{BreaksAmong, Passes}
 

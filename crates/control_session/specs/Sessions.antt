@@ -2,12 +2,12 @@
 use Rattle.std.specs.Prelude.{ℕ, ◌≡◌, ◌⊎◌, List, [], ◌++◌, false, Option, Some, None}
 use Rattle.std.specs.Io.KnownBytes.{Appends, Consumes, IsAtEnd}
 use Rattle.authorizer.specs.Users.{Users}
-use Rattle.data_side.specs.Sides.{SideCall}
+use Rattle.control_turns.specs.Sides.{SideCall}
 use Rattle.ftp_reply.specs.Replies.{OneLine, reply_text}
 use Rattle.ftp_wire.specs.Items.{Item}
 use Rattle.ftp_wire.specs.Reading.{OnlyReadsAs}
 use Rattle.rate_floors.specs.Promises.{Promises}
-use Rattle.session_laws.specs.Steps.{Standing}
+use Rattle.control_turns.specs.Steps.{Standing}
 use Rattle.session_table.specs.declared.settings.Settings.{Settings}
 use Rattle.session_table.specs.Views.{fresh}
 use Rattle.virtual_tree.specs.Calls.{Exchange}

@@ -16,6 +16,7 @@ mod pieces;
 mod reads;
 mod session;
 
+pub use control_turns::{DataSide, Moments};
 pub use fault::ControlFault;
 pub use reads::Reads;
 pub use session::run_control;

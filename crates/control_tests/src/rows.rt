@@ -4,7 +4,7 @@ use crate::ends::{FailingReader, FailingWriter};
 use crate::expect::same;
 use crate::server::{make_server, replies, serve};
 use configured_session::{ServeFault, serve_config};
-use control_session::ControlFault;
+use script_session::ControlFault;
 use server_config::Config;
 use std::alloc::Global;
 use std::process::Abort;

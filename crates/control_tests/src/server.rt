@@ -2,13 +2,12 @@
 
 use crate::ends::PieceReader;
 use authorizer::Authorizer;
-use control_session::ControlFault;
 use ftp_terms::LineText;
 use line_rates::Limits;
 use memory_store::MemStore;
 use program::run_script;
 use rate_floors::Floors;
-use script_session::serve_text;
+use script_session::{ControlFault, serve_text};
 use session_table::Settings;
 use std::alloc::Global;
 use std::test::Fail;

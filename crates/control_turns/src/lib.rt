@@ -12,5 +12,7 @@
 mod fault;
 mod turns;
 
+pub use data_side::{DataSide, Moments};
 pub use fault::TurnFault;
+pub use session_core::Session;
 pub use turns::{close, speak, take_lines};

@@ -1,6 +1,6 @@
 //! The turns of a control session.
 
-ghost use Rattle.std.specs.Prelude.{◌≡◌, ◌≤◌, ◌++◌, ◌∷◌, [], ℕ, List, Option, IfOk, OnErr, OnOk, MatchOption, cond, false, None, length};
+ghost use Rattle.std.specs.Prelude.{◌≡◌, ◌≤◌, ◌∷◌, [], ℕ, List, Option, IfOk, OnErr, OnOk, MatchOption, cond, false, None, length};
 ghost use Rattle.std.specs.List.{AllByRecursion};
 ghost use Rattle.std.specs.Io.KnownBytes.{Appends};
 ghost use Rattle.std.specs.Vec.Iter.{into_iter_items};
@@ -109,7 +109,7 @@ fn one_step<
 
 /// Whether either closed the control connection.
 fn ends(first: bool, second: bool) -> bool
-    ensures value { (lines : Option (List Item))
+    ensures closed { (lines : Option (List Item))
         → cond result None lines ≡ cond second None (cond first None lines) }
 {
     first || second
@@ -118,7 +118,7 @@ fn ends(first: bool, second: bool) -> bool
 // An answer's actions ask for nothing, so nothing is lost here.
 fn closed_of<A: Allocator, K: Drop>(after: After<A, K>) -> bool
     requires none { length (waiting after.answer) ≡ 0 }
-    ensures value { result ≡ after.is_closed }
+    ensures closed { result ≡ after.is_closed }
 {
     after.is_closed
 }

@@ -1,6 +1,6 @@
 //! What the actions of a step say, release and ask for.
 
-ghost use Rattle.std.specs.Prelude.{◌≡◌, ◌≤◌, ◌+◌, ◌++◌, ◌∷◌, [], IfOk, OnErr, OnOk, MatchOption, length};
+ghost use Rattle.std.specs.Prelude.{◌≡◌, ◌≤◌, ◌+◌, ◌++◌, ◌∷◌, [], IfOk, OnOk, MatchOption, length};
 ghost use Rattle.std.specs.List.{AllByRecursion};
 ghost use Rattle.std.specs.Vec.Iter.{into_iter_items};
 ghost use Rattle.data_side.specs.Sides.{IsAnswer, Serves, waiting};
@@ -58,14 +58,14 @@ pub fn said<A: Allocator, R, K>(
 }
 
 fn is_close<A: Allocator, R, K>(action: &Action<A, R, K>) -> bool
-    ensures value { result ≡ is_close action.now }
+    ensures close { result ≡ is_close action.now }
 {
     matches!(action, Action::CloseControl)
 }
 
 /// Whether the control connection is to be closed.
 pub fn closes<A: Allocator, R, K>(actions: &[Action<A, R, K>]) -> bool
-    ensures value { result ≡ closes actions.now }
+    ensures closes { result ≡ closes actions.now }
 {
     for action in actions {
         if is_close(action) {
@@ -149,7 +149,7 @@ fn either<A: Allocator, K: Drop>(
     second: Option<Input<A, K>>,
 ) -> Option<Input<A, K>>
     requires one { length (waiting first) + length (waiting second) ≤ 1 }
-    ensures value { waiting result ≡ waiting first ++ waiting second }
+    ensures waiting { waiting result ≡ waiting first ++ waiting second }
     ensures kind { AllByRecursion IsAnswer (waiting first)
         → AllByRecursion IsAnswer (waiting second)
         → AllByRecursion IsAnswer (waiting result) }

@@ -142,7 +142,7 @@ impl<A: Allocator + Clone> Spot<A> {
     }
 
     /// Before all entries of a directory.
-    pub fn first_in<B: Allocator>(alloc: &A, path: &VPath<B>) -> Result<Spot<A>, AllocError>
+    pub(crate) fn first_in<B: Allocator>(alloc: &A, path: &VPath<B>) -> Result<Spot<A>, AllocError>
         ensures { IfOk result (λ spot. spot ≡ path.now ++ [] ∷ []) }
     {
         Ok(Spot {
@@ -152,7 +152,7 @@ impl<A: Allocator + Clone> Spot<A> {
     }
 
     /// Past all entries of a directory: no directory stands between it and the one of an empty name in it.
-    pub fn past<B: Allocator>(alloc: &A, path: &VPath<B>) -> Result<Spot<A>, AllocError>
+    pub(crate) fn past<B: Allocator>(alloc: &A, path: &VPath<B>) -> Result<Spot<A>, AllocError>
         ensures { IfOk result (λ spot. spot ≡ (path.now ++ [] ∷ []) ++ [] ∷ []) }
     {
         let mut directory = String::from_str(alloc.clone()?, directory_text(path))?;
@@ -164,7 +164,11 @@ impl<A: Allocator + Clone> Spot<A> {
     }
 
     /// What is told of an entry here; none where no path can name it.
-    pub fn listed(&self, alloc: &A, entry: &Entry<A>) -> Result<Option<Listed<A>>, AllocError>
+    pub(crate) fn listed(
+        &self,
+        alloc: &A,
+        entry: &Entry<A>,
+    ) -> Result<Option<Listed<A>>, AllocError>
         ensures { IfOk result (λ found. MatchOption found
             (is_name (last_of self.now) ≡ false)
             (λ listed. (is_name (last_of self.now) ≡ true)
@@ -180,7 +184,7 @@ impl<A: Allocator + Clone> Spot<A> {
     }
 
     /// Where an entry here stands after a rename from one path to another, whose spots these are.
-    pub fn moved<B: Allocator>(
+    pub(crate) fn moved<B: Allocator>(
         &self,
         alloc: &A,
         from: &VPath<B>,

@@ -1,5 +1,6 @@
 //! Memory that is refused, at each growth in turn, and there again.
 ghost use Rattle.std.specs.Prelude.{◌≤◌};
+ghost use Rattle.floor_tests.specs.declared.shortages.TheConstants.{HEAP};
 
 use super::rates::{limits, user};
 use crate::expect::holds;
@@ -27,7 +28,7 @@ const HEAP: usize = 4096;
 
 // Whether they have memory in so small a room; where they have none, they have once memory is there.
 fn answers_in(rt: &impl Abort, alloc: Global, room: usize, limits: &Limits) -> Result<bool, Fail>
-    requires { room ≤ 4096 }
+    requires { room ≤ HEAP }
 {
     let heap = LocalHeap::new(alloc, HEAP)?;
     let hog = Vec::<u8, &LocalHeap>::with_capacity(&heap, HEAP - room)?;

@@ -1,7 +1,7 @@
 -- Where an entry of a folder stands.
 use Rattle.std.specs.Prelude.{◌≡◌, ◌⊎◌, ◌++◌, List, ℕ, ℤ}
 use Rattle.virtual_path.specs.Path.{Path, slashed}
-use Rattle.machine_files.specs.Places.{open_text}
+use Rattle.machine_files.specs.MachinePaths.{open_text}
 
 -- a machine's path that leads to a path below a folder: the folder's, then `/` and each name, or that of an open
 -- directory, then `/` and each of the names that are not above it

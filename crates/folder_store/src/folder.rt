@@ -1,12 +1,12 @@
 //! Where entries stand in a folder of the machine, and what is found there.
 
 ghost use Rattle.std.specs.Prelude.{◌≡◌, ◌⊎◌, ◌++◌, ◌∷◌, [], map, IfOk, OnOk, string_bytes};
-ghost use Rattle.machine_files.specs.Places.{IsOpenText};
+ghost use Rattle.machine_files.specs.MachinePaths.{IsOpenText};
 ghost use Rattle.machine_files.specs.Refusals.{NeverFull};
 ghost use Rattle.folder_store.specs.Places.{LeadsTo};
 
 use ftp_terms::{Kind, Meta};
-use machine_files::{Place, enter, fault_of, meta_of};
+use machine_files::{MachinePath, enter, fault_of, meta_of};
 use std::fs::Metadata;
 use std::os::fd::AsRawFd;
 use std::rt::Files;
@@ -54,19 +54,19 @@ where
     }
 
     /// The folder, entered.
-    fn top(&self) -> Result<Place<R::File, R::A>, StoreFault>
+    fn top(&self) -> Result<MachinePath<R::File, R::A>, StoreFault>
         ensures full { NeverFull result }
         ensures place { IfOk result (LeadsTo (string_bytes self.now.path) []) }
     {
         let looked = self.itself()?;
-        let mut place = Place::named(self.rt.alloc(), self.path.as_str())?;
+        let mut place = MachinePath::named(self.rt.alloc(), self.path.as_str())?;
         enter(&self.rt, &mut place, &looked)?;
         Ok(place)
     }
 
     /// Goes one name further, and enters the directory that stands there. Answers whether a file
     /// stands there.
-    fn step(&self, place: &mut Place<R::File, R::A>, name: &str) -> Result<bool, StoreFault>
+    fn step(&self, place: &mut MachinePath<R::File, R::A>, name: &str) -> Result<bool, StoreFault>
         ensures full { NeverFull result }
         ensures place { OnOk result (IsOpenText place.new
             ⊎ (place.new ≡ place.old ++ 47 ∷ name.now)) }
@@ -85,7 +85,7 @@ where
     /// link.
     ///
     /// Where the last is that of a file the fault is `NotDir`; where nothing can stand, `NotFound`.
-    pub fn directory(&self, names: &[&str]) -> Result<Place<R::File, R::A>, StoreFault>
+    pub fn directory(&self, names: &[&str]) -> Result<MachinePath<R::File, R::A>, StoreFault>
         ensures full { NeverFull result }
         ensures place { IfOk result
             (LeadsTo (string_bytes self.now.path) (map (λ name. name.now) names.now)) }
@@ -105,7 +105,7 @@ where
     }
 
     /// Where an entry of this name stands or can stand, in the directory to which names lead.
-    fn below(&self, above: &[&str], last: &str) -> Result<Place<R::File, R::A>, StoreFault>
+    fn below(&self, above: &[&str], last: &str) -> Result<MachinePath<R::File, R::A>, StoreFault>
         ensures full { NeverFull result }
         ensures place { IfOk result
             (LeadsTo (string_bytes self.now.path)
@@ -117,7 +117,7 @@ where
     }
 
     /// Where an entry stands or can stand: below the directories above it, which are there.
-    pub fn place(&self, path: &VPath<R::A>) -> Result<Place<R::File, R::A>, StoreFault>
+    pub fn place(&self, path: &VPath<R::A>) -> Result<MachinePath<R::File, R::A>, StoreFault>
         ensures full { NeverFull result }
         ensures place { IfOk result (LeadsTo (string_bytes self.now.path) path.now) }
     {
@@ -129,7 +129,7 @@ where
     }
 
     /// Where an entry stands that is to be found, not made: nothing stands beneath a file.
-    pub fn found(&self, path: &VPath<R::A>) -> Result<Place<R::File, R::A>, StoreFault>
+    pub fn found(&self, path: &VPath<R::A>) -> Result<MachinePath<R::File, R::A>, StoreFault>
         ensures full { NeverFull result }
         ensures place { IfOk result (LeadsTo (string_bytes self.now.path) path.now) }
     {
@@ -160,7 +160,7 @@ where
     }
 
     /// Where a file stands that is to be found. None stands at the root.
-    pub fn found_file(&self, path: &VPath<R::A>) -> Result<Place<R::File, R::A>, StoreFault>
+    pub fn found_file(&self, path: &VPath<R::A>) -> Result<MachinePath<R::File, R::A>, StoreFault>
         ensures full { NeverFull result }
         ensures place { IfOk result (LeadsTo (string_bytes self.now.path) path.now) }
     {

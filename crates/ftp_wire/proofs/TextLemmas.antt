@@ -1,12 +1,11 @@
 -- Ports and facts stand on one line.
-use Rattle.std.proofs.Common.{ℕ, ◌/◌, ◌%◌, Bool, true, false, List, [], ◌∷◌, ◌++◌, refl, codes}
+use Rattle.std.proofs.Common.{ℕ, ◌/◌, ◌%◌, Bool, true, false, List, [], ◌∷◌, refl, codes}
 use Rattle.std.specs.Prelude.{slice_index}
-use Rattle.std.specs.Fmt.{decimal}
 use Rattle.ftp_terms.specs.declared.facts.Facts.{Facts}
 use Rattle.ftp_terms.specs.Lines.{IsLine}
 use Rattle.ftp_terms.proofs.LineLemmas.{IsPlain, both, either, plain, plain_decimal}
 use Rattle.ftp_wire.specs.declared.commands.HostPort.{HostPort}
-use Rattle.ftp_wire.specs.Written.{facts_text, fact_text, host_text, port_text, starred_fact, starred_facts_text}
+use Rattle.ftp_wire.specs.Written.{facts_text, fact_text, port_text, starred_fact, starred_facts_text}
 
 comma_then : {text : List ℕ} → IsPlain text → IsPlain (44 ∷ text)
 comma_then line = both (plain (codes ",") refl) line

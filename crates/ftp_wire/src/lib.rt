@@ -2,16 +2,20 @@
 //! them, and lines that are no command have a reply each.
 //!
 //! ```text
-//! let mut reader = LineReader::new(alloc);
-//! for item in reader.feed(b"RETR a.txt\r\nFOO\r\nNO")? {
+//! let mut reader = LineReader::new(rt.alloc());
+//! let mut lines: Vec<u8> = Vec::new(rt.alloc());
+//! let mut replies: Vec<u8> = Vec::new(rt.alloc());
+//! for item in reader.feed(b"retr a.txt\r\nFOO\r\nNO")? {
 //!     match item {
-//!         LineItem::Command(command) => .., // Command::Retr("a.txt")
-//!         LineItem::Fault(fault) => fault.reply().write_to(&mut buffer)?, // 500 Unknown command
+//!         LineItem::Command(command) => {
+//!             lines.extend_from_slice(&write_command(rt.alloc(), &command)?)?;
+//!         }
+//!         LineItem::Fault(fault) => fault.reply::<Global>().write_to(&mut replies)?,
 //!     }
 //! }
-//! reader.kept(); // 2: `NO` is no line yet
-//! let line = write_command(alloc, &Command::Noop)?;
-//! let text = LineText::joined(alloc, "(", port_text(alloc, &host_port)?.as_str(), ")")?;
+//! assert!(rt; lines.as_slice() == b"RETR a.txt\r\n".as_slice());
+//! assert!(rt; replies.as_slice() == b"500 Unknown command\r\n".as_slice());
+//! assert!(rt; reader.kept() == 2); // `NO` is no line yet
 //! ```
 #![tactic(auto)]
 

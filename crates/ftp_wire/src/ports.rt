@@ -1,6 +1,6 @@
 //! Reads where the server is to connect to.
 
-ghost use Rattle.std.specs.Prelude.{◌≡◌, ◌∷◌, [], List, ℕ, MatchOption, option_map};
+ghost use Rattle.std.specs.Prelude.{◌≡◌, ◌∷◌, [], List, ℕ, MatchOption};
 ghost use Rattle.ftp_wire.specs.Arguments.{extended_parts, extended_port_of, host_of, host_port, ipv4, octet_of, parts_at, port_of};
 ghost use Rattle.ftp_wire.specs.Words.{comma};
 

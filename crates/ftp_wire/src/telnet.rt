@@ -1,6 +1,6 @@
 //! Takes the Telnet commands out of a stream, octet by octet (RFC 854).
 
-ghost use Rattle.std.specs.Prelude.{◌≡◌, ◌++◌, ◌∷◌, [], ℕ, List, option_to_list};
+ghost use Rattle.std.specs.Prelude.{◌++◌, ◌∷◌, [], ℕ, List, option_to_list};
 ghost use Rattle.ftp_wire.specs.Stages.{StripsTo};
 
 const IAC: u8 = 255;

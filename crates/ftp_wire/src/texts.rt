@@ -1,9 +1,9 @@
 //! Ports and facts as texts, for commands and for replies.
 
-ghost use Rattle.std.specs.Prelude.{◌≡◌, ◌++◌, IfOk, OnOk, string_bytes};
+ghost use Rattle.std.specs.Prelude.{◌≡◌, IfOk};
 ghost use Rattle.ftp_terms.specs.LineText.{text_of};
 ghost use Rattle.ftp_reply.specs.Written.{Appends};
-ghost use Rattle.ftp_wire.specs.Written.{fact_text, facts_text, port_text, starred_fact, starred_facts_text};
+ghost use Rattle.ftp_wire.specs.Written.{fact_text, facts_text, port_text, starred_facts_text};
 
 use crate::commands::HostPort;
 use ftp_terms::{Facts, LineText};

@@ -1,6 +1,6 @@
 //! Words of a line.
 
-ghost use Rattle.std.specs.Prelude.{◌≡◌, ◌<◌, ◌==◌, ◌∷◌, [], List, IfSome, MatchOption, false, length, slice_index, true};
+ghost use Rattle.std.specs.Prelude.{◌≡◌, ◌<◌, ◌==◌, ◌∷◌, [], IfSome, MatchOption, false, length, slice_index, true};
 ghost use Rattle.std.specs.List.{after_first, before_first, list_all, position};
 ghost use Rattle.ftp_wire.specs.Arguments.{parts_at};
 ghost use Rattle.ftp_wire.specs.Words.{is_blank, is_printed, is_space, is_text, same_letters};

@@ -1,11 +1,11 @@
 //! Writes commands.
 
-ghost use Rattle.std.specs.Prelude.{◌≡◌, ◌++◌, ◌∷◌, [], IfOk, Ok, OnOk, option_map, string_bytes};
+ghost use Rattle.std.specs.Prelude.{◌≡◌, ◌∷◌, [], IfOk, Ok, option_map, string_bytes};
 ghost use Rattle.ftp_reply.specs.Written.{Appends};
 ghost use Rattle.ftp_wire.specs.Commands.{with_texts};
 ghost use Rattle.ftp_wire.specs.Given.{CanBeReadBack};
 ghost use Rattle.ftp_wire.specs.Reading.{OnlyReadsAs};
-ghost use Rattle.ftp_wire.specs.Written.{argument_part, extended_passive_text, extended_port_text, form_argument, has_facts, option_text, type_text, written, written_line};
+ghost use Rattle.ftp_wire.specs.Written.{argument_part, extended_passive_text, extended_port_text, form_argument, has_facts, option_text, type_text, written};
 
 use crate::commands::{Command, ExtendedPassive, ExtendedPort, FeatureOption, HostPort};
 use crate::texts::{push_facts, push_port};

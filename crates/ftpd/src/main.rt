@@ -2,20 +2,13 @@
 //! ends with its status.
 #![tactic(auto)]
 
-mod opened;
-#[cfg(test)]
-mod tests;
-
-use opened::Machine;
 use program::{Ending, run_words};
-use sheet_commands::{Outside, ProgramFault};
-use std::alloc::{AllocError, Global};
-use std::io::ErrorKind;
+use sheet_commands::Outside;
+use sheet_program::{Machine, as_words, line_words};
+use std::alloc::Global;
+use std::io;
 use std::process::ExitCode;
 use std::rt::{Env, Files};
-use std::{env, io};
-
-const NOT_A_TEXT: &str = "error: a word is not UTF-8\n";
 
 fn run<R: Files + Input + Print + Alloc<A = Global>>(rt: &R, words: &[&str]) -> Ending {
     run_words(
@@ -27,30 +20,19 @@ fn run<R: Files + Input + Print + Alloc<A = Global>>(rt: &R, words: &[&str]) -> 
 }
 
 /// Runs the command of the words behind the program's name.
-fn run_line<R: Env + Files + Input + Print + Alloc<A = Global>>(
-    rt: &R,
-) -> Result<Ending, AllocError> {
-    let arguments = match env::args(rt) {
-        Ok(arguments) => arguments,
-        Err(error) if error.kind() == ErrorKind::InvalidData => {
-            let text = String::from_str(rt.alloc(), NOT_A_TEXT)?;
-            return Ok(Ending::Refused(text));
-        }
-        Err(_) => return Err(AllocError),
+fn run_line<R: Env + Files + Input + Print + Alloc<A = Global>>(rt: &R) -> Ending {
+    let texts = match line_words(rt) {
+        Ok(texts) => texts,
+        Err(ending) => return Ending::Common(ending),
     };
-    let texts = arguments.skip(1).collect::<Vec<String>>(rt.alloc())?;
-    let words = texts
-        .iter()
-        .map(|text| text.as_str())
-        .collect::<Vec<&str>>(rt.alloc())?;
-    Ok(run(rt, words.as_slice()))
+    match as_words(rt.alloc(), texts.as_slice()) {
+        Ok(words) => run(rt, words.as_slice()),
+        Err(ending) => Ending::Common(ending),
+    }
 }
 
 fn main(rt: HostRuntime) -> ExitCode {
-    let ending = match run_line(&rt) {
-        Ok(ending) => ending,
-        Err(_) => Ending::Fault(ProgramFault::Memory),
-    };
+    let ending = run_line(&rt);
     let _ = eprint!(rt; "{ending}");
     ExitCode::from(ending.status())
 }

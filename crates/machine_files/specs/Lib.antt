@@ -1,4 +1,4 @@
-pub mod Places
+pub mod MachinePaths
 pub mod Refusals
 pub mod Times
 pub mod Told

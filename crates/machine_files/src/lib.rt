@@ -7,9 +7,9 @@
 #![tactic(auto)]
 
 mod look;
+mod machine_path;
 mod open;
-mod place;
 
 pub use look::{fault_of, meta_of};
+pub use machine_path::{MachinePath, enter};
 pub use open::{DirSink, DirSource, flushed, read_behind, write_at_end, write_behind, write_new};
-pub use place::{Place, enter};

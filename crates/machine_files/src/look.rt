@@ -1,6 +1,6 @@
 //! What the machine tells of an entry.
 
-ghost use Rattle.std.specs.Prelude.{◌≡◌, ◌≢◌, ◌≤◌, ◌⊎◌, ◌↔◌, IsTrue, MatchOption};
+ghost use Rattle.std.specs.Prelude.{◌≡◌, ◌≢◌, ◌⊎◌, ◌↔◌, IsTrue, MatchOption};
 ghost use Rattle.std.specs.IoError.{error_kind};
 ghost use Rattle.machine_files.specs.Times.{shown};
 ghost use Rattle.machine_files.specs.Told.{IsTold, IsNeither};

@@ -1,14 +1,14 @@
 -- What finish decides, by the octets of the file.
-use Rattle.std.proofs.Common.{◌≡◌, ◌≢◌, ℕ, zero, suc, ◌+◌, ◌-◌, ◌<◌, ◌≤◌, ◌^◌, min, Bool, true, false, cond, List, [], ◌∷◌, ◌++◌, length, take, refl, sym, ap, subst, ◌∙◌, arith, Option, Some, None, Result, Ok, Err, nat_lt, length-append}
+use Rattle.std.proofs.Common.{◌≡◌, ℕ, zero, suc, ◌+◌, ◌-◌, ◌≤◌, min, true, false, cond, List, ◌++◌, length, take, refl, sym, ap, ◌∙◌, arith, Some, Result, Ok, Err, nat_lt, length-append}
 use Rattle.std.proofs.lemmas.List.{length-take}
-use Rattle.std.specs.FinMap.{get, insert}
+use Rattle.std.specs.FinMap.{get}
 use borrow.Author.Tests.{ltb-true}
 use Rattle.virtual_tree.specs.declared.fault.StoreFault.{StoreFault}
 use Rattle.virtual_tree.specs.declared.fault.StoreFault.TheVariants as fault
 use Rattle.virtual_tree.specs.Calls.{in_answer}
-use Rattle.file_tree.specs.Tree.{Node, Spot, Tree, size_of, size_at, total}
-use Rattle.file_tree.specs.Tree.Node.{Directory, File}
-use Rattle.memory_store.specs.InMemory.{Memory, Upload, Changes, left_by, filled, finish_octets, unit_of}
+use Rattle.file_tree.specs.Tree.{Spot, Tree, size_at, total}
+use Rattle.file_tree.specs.Tree.Node.{File}
+use Rattle.memory_store.specs.InMemory.{Memory, Upload, Changes, left_by, filled, finish_octets}
 use Rattle.file_tree.proofs.Trees.{total-insert, size_within}
 
 -- a refusal that was decided

@@ -1,5 +1,5 @@
 -- What an upload leaves.
-use Rattle.std.proofs.Common.{◌≡◌, ◌≢◌, ℕ, Bool, true, false, cond, List, [], ◌∷◌, ◌++◌, length, take, refl, sym, ap, subst, ◌∙◌, Option, Some, None, Result, Ok, Err, nat_lt, append_assoc}
+use Rattle.std.proofs.Common.{◌≡◌, ℕ, Bool, true, false, cond, List, [], ◌∷◌, ◌++◌, length, take, refl, sym, ap, subst, ◌∙◌, Option, Some, None, Result, Ok, Err, nat_lt, append_assoc}
 use Rattle.std.proofs.lemmas.List.{append-nil}
 use Rattle.std.specs.List.{concat}
 use Rattle.std.specs.FinMap.{get, insert, get-insert}
@@ -13,10 +13,9 @@ use Rattle.virtual_tree.specs.declared.fault.StoreFault.TheVariants as fault
 use Rattle.virtual_tree.specs.declared.mode.WriteMode.{WriteMode}
 use Rattle.virtual_tree.specs.declared.mode.WriteMode.TheVariants.{New, At, Append}
 use Rattle.virtual_tree.specs.Calls.{in_answer, Target, Writes}
-use Rattle.virtual_tree.specs.Calls.Exchange.{OpenWrite, Finish}
 use Rattle.file_tree.specs.Tree.{Node, Spot, Tree, spot_of, node_in, node_at, total}
 use Rattle.file_tree.specs.Tree.Node.{Directory, File}
-use Rattle.memory_store.specs.InMemory.{Memory, Upload, Opening, InMemory, target_of, kind_in, kind_at, vacancy, vacant, opened, open_new, open_absent, open_node, filled, finished, finish_node, if_found, unit_of, left_by}
+use Rattle.memory_store.specs.InMemory.{Memory, Upload, Opening, target_of, kind_in, kind_at, vacancy, opened, open_new, open_absent, open_node, filled, finished, finish_node, if_found, unit_of, left_by}
 use Rattle.memory_store.specs.Uploads.{octets_in, kept_by, FinishPutsWhatCame}
 use Rattle.file_tree.specs.Orders.{paths_total}
 

@@ -1,5 +1,5 @@
 -- What each call makes of a store in memory.
-use Rattle.std.specs.Prelude.{ℕ, ◌≡◌, ◌≢◌, Bool, true, false, cond, List, [], ◌∷◌, ◌++◌, length, take, drop, Option, Some, None, Result, Ok, Err, nat_lt, nat_eq, option_map, option_and_then, unwrap_or}
+use Rattle.std.specs.Prelude.{ℕ, ◌≡◌, ◌≢◌, Bool, cond, List, [], ◌++◌, length, take, drop, Option, Some, None, Result, Ok, Err, nat_lt, nat_eq, option_map, option_and_then, unwrap_or}
 use Rattle.std.specs.FinMap.{get, insert, remove}
 use Rattle.virtual_path.specs.Path.{Path, parent_of}
 use Rattle.virtual_tree.specs.declared.fault.StoreFault.{StoreFault}

@@ -1,9 +1,9 @@
 -- Proofs, and nothing to be believed: that each step of a store in memory keeps the laws of the trait `Store`. They stand
 -- here since the toolchain wants the proof of a trait's law among the definitions.
-use Rattle.std.proofs.Common.{◌≡◌, ◌≢◌, ℕ, eqb, eq-eqb, ◌<◌, Bool, true, false, cond, not, T, List, [], ◌∷◌, ◌++◌, Option, Some, None, Result, Ok, Err, length, nat_lt, IsSomeAnd, unwrap_or, arith, lit<, ◌+◌, ◌^◌, option_and_then, refl, sym, ap, ◌∙◌, subst, take}
+use Rattle.std.proofs.Common.{◌≡◌, ◌≢◌, ℕ, eqb, eq-eqb, ◌<◌, Bool, true, false, cond, not, T, List, [], Option, Some, None, Result, Ok, Err, length, nat_lt, unwrap_or, lit<, ◌^◌, option_and_then, refl, sym, ap, ◌∙◌, subst}
 use borrow.Author.Tests.{ltb-true}
 use Rattle.std.specs.Result.{result_err}
-use Rattle.std.specs.FinMap.{get, insert}
+use Rattle.std.specs.FinMap.{get}
 use Rattle.virtual_path.specs.Path.{Path}
 use Rattle.virtual_tree.specs.declared.fault.StoreFault.{StoreFault}
 use Rattle.virtual_tree.specs.declared.fault.StoreFault.TheVariants as fault
@@ -14,7 +14,7 @@ use Rattle.virtual_tree.specs.declared.mode.WriteMode.TheVariants.{New, At, Appe
 use Rattle.virtual_tree.specs.Calls.{in_answer, Exchange, refusal, PassesCapacity}
 use Rattle.virtual_tree.specs.Calls.Exchange.{Stat, Listing, OpenRead, OpenWrite, Finish, MakeDir, RemoveDir, RemoveFile, Rename}
 use Rattle.file_tree.specs.Tree.{Node, Spot, Tree, spot_of, node_at, octets_of, total, begins_with}
-use Rattle.memory_store.specs.InMemory.{Memory, Upload, Opening, Move, Tells, Changes, InMemory, would_hold, if_found, meta_told, listing_told, octets_from, kind_in, kind_at, vacancy, vacant, spot_to_make, bare_only, is_bare, spot_of_bare, file_only, spot_of_file, outside_itself, move_to, move_of, open_new, open_absent, open_octets, open_node, opened, filled, unit_of, finish_octets, finish_node, finished, octets_at}
+use Rattle.memory_store.specs.InMemory.{Memory, Upload, Move, InMemory, would_hold, if_found, meta_told, listing_told, octets_from, vacancy, vacant, spot_to_make, bare_only, is_bare, spot_of_bare, file_only, spot_of_file, outside_itself, move_to, move_of, open_new, open_absent, open_octets, open_node, opened, filled, unit_of, finish_octets, finish_node, finished, octets_at}
 
 -- neither the device nor the capacity
 abbrev is_plain : StoreFault → Bool

@@ -1,5 +1,5 @@
 -- What an upload leaves, over the calls that it takes.
-use Rattle.std.specs.Prelude.{ℕ, ◌≡◌, List, [], ◌++◌, length, take, Option, Some, Result, Ok}
+use Rattle.std.specs.Prelude.{ℕ, ◌≡◌, List, [], ◌++◌, length, take, Option, Some, Ok}
 use Rattle.std.specs.List.{concat}
 use Rattle.virtual_path.specs.Path.{Path}
 use Rattle.virtual_tree.specs.declared.mode.WriteMode.{WriteMode}
@@ -7,7 +7,7 @@ use Rattle.virtual_tree.specs.declared.mode.WriteMode.TheVariants.{New, At, Appe
 use Rattle.virtual_tree.specs.Calls.{Writes}
 use Rattle.virtual_tree.specs.Calls.Exchange.{OpenWrite, Finish}
 use Rattle.file_tree.specs.Tree.{Node, node_at}
-use Rattle.file_tree.specs.Tree.Node.{Directory, File}
+use Rattle.file_tree.specs.Tree.Node.{File}
 use Rattle.memory_store.specs.InMemory.{Memory, Upload, InMemory, target_of}
 
 -- the octets of what stands at a path, none where no file stands

@@ -1,25 +1,26 @@
 -- How the program ends.
-use Rattle.std.specs.Prelude.{◌≢◌, ℕ}
+use Rattle.std.specs.Prelude.{ℕ}
 use Rattle.configured_session.specs.declared.fault.ServeFault.TheVariants.{Control, Folder}
-use Rattle.sheet_commands.specs.declared.fault.ProgramFault.TheVariants.{WriteFault}
+use Rattle.sheet_program.specs.Endings as common
+use Rattle.sheet_program.specs.declared.ending.Ending.{Ending as CommonEnding}
 use Rattle.program.specs.declared.ending.Ending.{Ending}
-use Rattle.program.specs.declared.ending.Ending.TheVariants.{Done, Flawed, Refused, Fault, Config, Session}
+use Rattle.program.specs.declared.ending.Ending.TheVariants.{Common, Config, Session}
 
 abbrev pub status_of : Ending → ℕ
-status_of Done = 0
-status_of (Fault fault) = 1
+status_of (Common ending) = common.status_of ending
 status_of (Config fault) = 1
 status_of (Session fault) = 1
-status_of (Refused text) = 2
-status_of Flawed = 3
 
 -- nothing was written: the command line or the configuration is refused, or there is a fault other than that of the
 -- output; of a session that broke off, some replies may have been
 abbrev pub IsUnwritten : Ending → Type 0
-IsUnwritten Done = ⊥
-IsUnwritten Flawed = ⊥
-IsUnwritten (Refused text) = Unit {0}
-IsUnwritten (Fault fault) = fault ≢ WriteFault
+IsUnwritten (Common ending) = common.IsUnwritten ending
 IsUnwritten (Config fault) = Unit {0}
 IsUnwritten (Session Folder) = Unit {0}
 IsUnwritten (Session (Control why)) = ⊥
+
+-- an ending that any command may have, of which that holds
+abbrev pub IsCommon : (CommonEnding → Type 0) → Ending → Type 0
+IsCommon P (Common ending) = P ending
+IsCommon P (Config fault) = ⊥
+IsCommon P (Session fault) = ⊥

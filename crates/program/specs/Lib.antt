@@ -1,3 +1,4 @@
 pub mod Endings
 pub mod Migrating
+pub mod Runs
 pub mod Scripting

@@ -19,5 +19,6 @@ mod scripting;
 
 pub use ending::Ending;
 pub use migrating::run_migrate;
-pub use run::{Openings, STANDARD_INPUT, run_words};
+pub use run::run_words;
 pub use scripting::{ScriptFault, run_script};
+pub use sheet_program::{Openings, STANDARD_INPUT};

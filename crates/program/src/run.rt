@@ -1,92 +1,45 @@
 //! Running the command of a line's words.
-ghost use Rattle.std.specs.Prelude.{◌≡◌, ◌≢◌, IfErr, IfOk};
-ghost use Rattle.program.specs.Endings.{IsUnwritten};
+ghost use Rattle.std.specs.Prelude.{◌≡◌, ◌≢◌, ◌⊎◌, ◌∷◌, [], ℕ, List, codes, map};
+ghost use Rattle.clap.specs.Words.{fault_of, subcommand_of};
+ghost use Rattle.command_line.specs.Commands.{ftpd};
+ghost use Rattle.command_line.specs.Given.{IsFound, IsPlainWord, IsRefusal};
+ghost use Rattle.command_line.specs.declared.words.Words.{Words};
+ghost use Rattle.command_line.specs.declared.words.WordsFault.{WordsFault};
+ghost use Rattle.sheet_commands.specs.declared.fault.ProgramFault.{ProgramFault};
+ghost use Rattle.sheet_program.specs.Endings.{IsToldEnd};
+ghost use Rattle.sheet_program.specs.Runs.{IsCheckEnd, IsShareEnd};
+ghost use Rattle.sheet_program.specs.declared.ending.Ending.TheVariants.{Fault};
+ghost use Rattle.program.specs.Endings.{IsCommon, IsUnwritten};
+ghost use Rattle.program.specs.Runs.{IsCommandEnd, IsMigrateEnd, IsScriptEnd};
 
 use super::ending::Ending;
 use super::migrating::run_migrate;
 use super::scripting::{ScriptFault, run_script};
-use command_line::{Words, WordsFault, read_words};
-use grant_certificate::Verdict;
-use sheet_commands::{ProgramFault, TextReader, TextWriter, run_check, run_share, write_whole};
+use command_line::{Words, read_words};
+use sheet_commands::{ProgramFault, TextWriter};
+use sheet_program::{Ending as Common, Openings, STANDARD_INPUT, run_sheet_words, tell};
 use std::alloc::Global;
-
-/// The path that names standard input. It can be read but once.
-pub const STANDARD_INPUT: &str = "/dev/stdin";
-
-const READ_TWICE: &str = "error: standard input cannot be both the sheet and the grants\n";
 
 const NO_TEXT_LEFT: &str =
     "error: standard input cannot be both the configuration and the control text\n";
-
-/// Opens the files that words name.
-pub trait Openings {
-    type End: TextReader + Drop;
-
-    /// Opens the file of a path; none where it cannot be opened.
-    fn open(&mut self, path: &str) -> Option<Self::End>;
-}
-
-fn share<O: Openings, W: TextWriter>(
-    alloc: Global,
-    sheet: &str,
-    files: &mut O,
-    output: &mut W,
-) -> Result<Ending, ProgramFault>
-    ensures fault { IfErr result (λ fault. fault ≢ ProgramFault.WriteFault
-        → output.new ≡ output.old) }
-    ensures ending { IfOk result (λ ending. IsUnwritten ending → output.new ≡ output.old) }
-{
-    let Some(mut sheet) = files.open(sheet) else {
-        return Err(ProgramFault::ReadFault);
-    };
-    run_share(alloc, &mut sheet, output)?;
-    Ok(Ending::Done)
-}
-
-/// Both files are opened before anything is read.
-fn check<O: Openings, W: TextWriter>(
-    alloc: Global,
-    sheet: &str,
-    grants: &str,
-    files: &mut O,
-    output: &mut W,
-) -> Result<Ending, ProgramFault>
-    ensures fault { IfErr result (λ fault. fault ≢ ProgramFault.WriteFault
-        → output.new ≡ output.old) }
-    ensures ending { IfOk result (λ ending. IsUnwritten ending → output.new ≡ output.old) }
-{
-    if sheet == STANDARD_INPUT && grants == STANDARD_INPUT {
-        let text = String::from_str(alloc, READ_TWICE)?;
-        return Ok(Ending::Refused(text));
-    }
-    let Some(mut sheet) = files.open(sheet) else {
-        return Err(ProgramFault::ReadFault);
-    };
-    let Some(mut grants) = files.open(grants) else {
-        return Err(ProgramFault::ReadFault);
-    };
-    match run_check(alloc, &mut sheet, &mut grants, output)? {
-        Verdict::Yes => Ok(Ending::Done),
-        Verdict::No(_) => Ok(Ending::Flawed),
-    }
-}
 
 fn migrate<O: Openings, W: TextWriter>(
     alloc: Global,
     config: &str,
     files: &mut O,
     output: &mut W,
-) -> Result<Ending, ProgramFault>
-    ensures fault { IfErr result (λ fault. fault ≢ ProgramFault.WriteFault
-        → output.new ≡ output.old) }
-    ensures ending { IfOk result (λ ending. IsUnwritten ending → output.new ≡ output.old) }
+) -> Ending
+    ensures end { IsMigrateEnd (O.Gives files.old config.now)
+        (W.contents output.old) (W.contents output.new) result }
+    ensures unwritten { IsUnwritten result → output.new ≡ output.old }
 {
     let Some(mut config) = files.open(config) else {
-        return Err(ProgramFault::ReadFault);
+        return Ending::Common(Common::Fault(ProgramFault::ReadFault));
     };
-    match run_migrate(alloc, &mut config, output)? {
-        None => Ok(Ending::Done),
-        Some(fault) => Ok(Ending::Config(fault)),
+    match run_migrate(alloc, &mut config, output) {
+        Ok(None) => Ending::Common(Common::Done),
+        Ok(Some(fault)) => Ending::Config(fault),
+        Err(fault) => Ending::Common(Common::Fault(fault)),
     }
 }
 
@@ -96,59 +49,42 @@ fn script<O: Openings, W: TextWriter>(
     config: &str,
     files: &mut O,
     output: &mut W,
-) -> Result<Ending, ProgramFault>
-    ensures fault { IfErr result (λ fault. fault ≢ ProgramFault.WriteFault
-        → output.new ≡ output.old) }
-    ensures ending { IfOk result (λ ending. IsUnwritten ending → output.new ≡ output.old) }
+) -> Ending
+    ensures end { IsScriptEnd (O.Gives files.old) config.now
+        (W.contents output.old) (W.contents output.new) result }
+    ensures unwritten { IsUnwritten result → output.new ≡ output.old }
 {
     if config == STANDARD_INPUT {
-        let text = String::from_str(alloc, NO_TEXT_LEFT)?;
-        return Ok(Ending::Refused(text));
+        return Ending::Common(Common::refused(alloc, NO_TEXT_LEFT));
     }
     let Some(mut config) = files.open(config) else {
-        return Err(ProgramFault::ReadFault);
+        return Ending::Common(Common::Fault(ProgramFault::ReadFault));
     };
     let Some(mut input) = files.open(STANDARD_INPUT) else {
-        return Err(ProgramFault::ReadFault);
+        return Ending::Common(Common::Fault(ProgramFault::ReadFault));
     };
     match run_script(alloc, &mut config, &mut input, output) {
-        Ok(()) => Ok(Ending::Done),
-        Err(ScriptFault::Reading(fault)) => Err(fault),
-        Err(ScriptFault::Config(fault)) => Ok(Ending::Config(fault)),
-        Err(ScriptFault::Session(fault)) => Ok(Ending::Session(fault)),
+        Ok(()) => Ending::Common(Common::Done),
+        Err(ScriptFault::Reading(fault)) => Ending::Common(Common::Fault(fault)),
+        Err(ScriptFault::Config(fault)) => Ending::Config(fault),
+        Err(ScriptFault::Session(fault)) => Ending::Session(fault),
     }
 }
 
-/// What the parser says of the words: an answer goes to the output, a refusal is told.
-fn tell<W: TextWriter>(text: String, is_help: bool, output: &mut W) -> Result<Ending, ProgramFault>
-    ensures fault { IfErr result (λ fault. fault ≢ ProgramFault.WriteFault
-        → output.new ≡ output.old) }
-    ensures ending { IfOk result (λ ending. IsUnwritten ending → output.new ≡ output.old) }
-{
-    if !is_help {
-        return Ok(Ending::Refused(text));
-    }
-    write_whole(&text, output)?;
-    Ok(Ending::Done)
-}
-
-fn run<O: Openings, W: TextWriter>(
+fn run_command<O: Openings, W: TextWriter>(
     alloc: Global,
-    words: &[&str],
+    words: Words<'_>,
     files: &mut O,
     output: &mut W,
-) -> Result<Ending, ProgramFault>
-    ensures fault { IfErr result (λ fault. fault ≢ ProgramFault.WriteFault
-        → output.new ≡ output.old) }
-    ensures ending { IfOk result (λ ending. IsUnwritten ending → output.new ≡ output.old) }
+) -> Ending
+    ensures end { IsCommandEnd (O.Gives files.old) words.entry
+        (W.contents output.old) (W.contents output.new) result }
+    ensures unwritten { IsUnwritten result → output.new ≡ output.old }
 {
-    match read_words(alloc, words) {
-        Ok(Words::Share { sheet }) => share(alloc, sheet, files, output),
-        Ok(Words::Check { sheet, grants }) => check(alloc, sheet, grants, files, output),
-        Ok(Words::Migrate { config }) => migrate(alloc, config, files, output),
-        Ok(Words::Script { config }) => script(alloc, config, files, output),
-        Err(WordsFault::Refused { text, is_help }) => tell(text, is_help, output),
-        Err(WordsFault::Memory) => Err(ProgramFault::Memory),
+    match words {
+        Words::Sheet(words) => Ending::Common(run_sheet_words(alloc, words, files, output)),
+        Words::Migrate { config } => migrate(alloc, config, files, output),
+        Words::Script { config } => script(alloc, config, files, output),
     }
 }
 
@@ -161,10 +97,34 @@ pub fn run_words<O: Openings, W: TextWriter>(
     files: &mut O,
     output: &mut W,
 ) -> Ending
+    ensures share { (sheet : List ℕ) → IsPlainWord sheet
+        → map (λ s. s.now) words.now ≡ codes "share" ∷ sheet ∷ []
+        → IsCommon (IsShareEnd (O.Gives files.old sheet)
+        (W.contents output.old) (W.contents output.new)) result }
+    ensures check { (sheet grants : List ℕ) → IsPlainWord sheet → IsPlainWord grants
+        → map (λ s. s.now) words.now ≡ codes "check" ∷ sheet ∷ grants ∷ []
+        → IsCommon (IsCheckEnd (O.Gives files.old) sheet grants
+        (W.contents output.old) (W.contents output.new)) result }
+    ensures migrate { (config : List ℕ) → IsPlainWord config
+        → map (λ s. s.now) words.now ≡ codes "migrate" ∷ config ∷ []
+        → IsMigrateEnd (O.Gives files.old config)
+        (W.contents output.old) (W.contents output.new) result }
+    ensures script { (config : List ℕ) → IsPlainWord config
+        → map (λ s. s.now) words.now ≡ codes "script" ∷ config ∷ []
+        → IsScriptEnd (O.Gives files.old) config
+        (W.contents output.old) (W.contents output.new) result }
+    ensures command { fault_of ftpd (map (λ s. s.now) words.now) ≡ []
+        → (result ≡ Ending.Common (Fault ProgramFault.Memory)) ⊎ ((command : Words)
+        × IsFound (subcommand_of ftpd (map (λ s. s.now) words.now)) command
+        × IsCommandEnd (O.Gives files.old) command
+        (W.contents output.old) (W.contents output.new) result) }
+    ensures told { fault_of ftpd (map (λ s. s.now) words.now) ≢ [] → (fault : WordsFault)
+        × IsRefusal (fault_of ftpd (map (λ s. s.now) words.now)) fault
+        × IsCommon (IsToldEnd fault (W.contents output.old) (W.contents output.new)) result }
     ensures unwritten { IsUnwritten result → output.new ≡ output.old }
 {
-    match run(alloc, words, files, output) {
-        Ok(ending) => ending,
-        Err(fault) => Ending::Fault(fault),
+    match read_words(alloc, words) {
+        Ok(words) => run_command(alloc, words, files, output),
+        Err(fault) => Ending::Common(tell(fault, output)),
     }
 }

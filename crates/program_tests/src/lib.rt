@@ -1,4 +1,4 @@
-//! Tests of the commands on sheets, and of the program that joins them, by their public calls alone.
+//! Tests of the commands on sheets, and of the programs that join them, by their public calls alone.
 #![tactic(auto)]
 
 #[cfg(test)]
@@ -9,6 +9,8 @@ mod ends;
 mod expect;
 #[cfg(test)]
 mod rows;
+#[cfg(test)]
+mod sheet_lines;
 #[cfg(test)]
 mod shortages;
 #[cfg(test)]

@@ -44,7 +44,7 @@ fn shares_in(rt: &impl Abort, alloc: Global, room: usize) -> Result<bool, Fail>
 }
 
 // Whether there is memory for a verdict; where there is, it is right.
-fn is_judged<A: Allocator + Clone>(rt: &impl Abort, alloc: A, sheet: &Sheet<A>) -> bool {
+fn is_judged<A: Allocator + Clone>(rt: &impl Abort, alloc: A, sheet: &Sheet<'_, A>) -> bool {
     match verdict_of(alloc, sheet, LUNCH_GRANTS.as_bytes()) {
         Ok(checked) => {
             holds(rt, checked.line.as_str() == "yes\n");

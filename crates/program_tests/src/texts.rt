@@ -1,5 +1,6 @@
 //! Texts read whole and lines written, with refused memory and ends that fail in mid-stream.
 ghost use Rattle.std.specs.Prelude.{◌≤◌};
+ghost use Rattle.program_tests.specs.declared.texts.TheConstants.{HEAP, ROOM};
 
 use super::ends::{FailingReader, FailingWriter, InterruptedReader};
 use crate::expect::holds;
@@ -142,7 +143,7 @@ fn writers_that_fail(rt: HostRuntime) -> Result<(), Fail> {
 const ROOM: usize = 4096;
 
 fn lines_in(rt: &impl Abort, alloc: Global, room: usize) -> Option<bool>
-    requires { room ≤ 4096 }
+    requires { room ≤ ROOM }
 {
     let heap = LocalHeap::new(alloc, ROOM).ok()?;
     let hog = Vec::<u8, &LocalHeap>::with_capacity(&heap, ROOM - room).ok()?;
@@ -169,7 +170,7 @@ fn lines_without_memory(rt: HostRuntime) {
 const HEAP: usize = 131_072;
 
 fn text_in(rt: &impl Abort, alloc: Global, room: usize) -> Option<bool>
-    requires { room ≤ 131072 }
+    requires { room ≤ HEAP }
 {
     let heap = LocalHeap::new(alloc, HEAP).ok()?;
     let hog = Vec::<u8, &LocalHeap>::with_capacity(&heap, HEAP - room).ok()?;

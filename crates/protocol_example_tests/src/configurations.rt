@@ -5,6 +5,7 @@ use config_rates::{limits_of, read_rows};
 use config_server::read_server;
 use config_store::{ServedStore, make_store};
 use config_tables::{TableFault, TableName, read_tables};
+use config_users::make_users;
 use server_config::{Config, migrate};
 use std::test::Fail;
 
@@ -58,6 +59,16 @@ fn config_rates(rt: HostRuntime) -> Result<(), Fail> {
     let rows = read_rows(rt.alloc(), &tables.groups, &tables.users)?;
     let limits = limits_of(&tables.server, rows);
     assert!(rt; limits.users().len() == 1);
+    Ok(())
+}
+
+#[test]
+fn config_users(rt: HostRuntime) -> Result<(), Fail> {
+    let document = toml::table_from_str(rt.alloc(), SMALL)?; // a server, and the user `ann`
+    let tables = read_tables(rt.alloc(), &document)?;
+    let rows = read_rows(rt.alloc(), &tables.groups, &tables.users)?;
+    let users = make_users(rt.alloc(), &tables.users, &tables.overrides, &rows.users)?;
+    assert!(rt; users.check_password("ann", "secret"));
     Ok(())
 }
 

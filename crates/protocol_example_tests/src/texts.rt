@@ -3,7 +3,10 @@
 use authorizer::Authorizer;
 use ftp_reply::{Reply, ReplyCode, list_line};
 use ftp_terms::{Kind, Letter, Letters, LineText, Meta};
-use session_table::{Answer, Refusal};
+use ftp_wire::{LineItem, LineReader, write_command};
+use session_reading::{Line, Meaning, Reading, Said};
+use session_table::{Answer, Octets, Refusal};
+use std::alloc::Global;
 use std::test::Fail;
 use virtual_path::VPath;
 
@@ -31,11 +34,44 @@ fn ftp_reply(rt: HostRuntime) -> Result<(), Fail> {
 }
 
 #[test]
+fn ftp_wire(rt: HostRuntime) -> Result<(), Fail> {
+    let mut reader = LineReader::new(rt.alloc());
+    let mut lines: Vec<u8> = Vec::new(rt.alloc());
+    let mut replies: Vec<u8> = Vec::new(rt.alloc());
+    for item in reader.feed(b"retr a.txt\r\nFOO\r\nNO")? {
+        match item {
+            LineItem::Command(command) => {
+                lines.extend_from_slice(&write_command(rt.alloc(), &command)?)?;
+            }
+            LineItem::Fault(fault) => fault.reply::<Global>().write_to(&mut replies)?,
+        }
+    }
+    assert!(rt; lines.as_slice() == b"RETR a.txt\r\n".as_slice());
+    assert!(rt; replies.as_slice() == b"500 Unknown command\r\n".as_slice());
+    assert!(rt; reader.kept() == 2); // `NO` is no line yet
+    Ok(())
+}
+
+#[test]
+fn session_reading(rt: HostRuntime) -> Result<(), Fail> {
+    let line = Line {
+        text: "PWD",
+        meaning: Meaning::Pwd,
+    };
+    let mut reading = Reading::new(rt.alloc())?;
+    reading.read(Said::Line(line, ""), 951_827_696_000)?;
+    assert!(rt; reading.told() == "530 Log in first\r\n");
+    Ok(())
+}
+
+#[test]
 fn session_table(rt: HostRuntime) -> Result<(), Fail> {
     let answer: Answer = Answer::Refusal(Refusal::LogInFirst);
     let mut buffer = Vec::new(rt.alloc());
     answer.into_reply().write_to(&mut buffer)?;
     assert!(rt; buffer.as_slice() == b"530 Log in first\r\n".as_slice());
+    let list = Octets::new(buffer).into_list();
+    assert!(rt; list.len() == 18);
     Ok(())
 }
 

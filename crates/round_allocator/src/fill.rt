@@ -5,6 +5,7 @@ ghost use Rattle.limit_tree.specs.Outline.{limits};
 ghost use Rattle.limit_tree.specs.Flat.{IsRow, HasRow};
 ghost use Rattle.round_allocator.specs.Rounds.{HasBottlenecks};
 ghost use Rattle.round_allocator.specs.Levels.{IsPouring, branch_count};
+ghost use Rattle.round_allocator.specs.declared.level.TheConstants.{MAX_PROBES};
 
 use super::level::{Share, leaf_grant, share_out};
 use super::probe::{ProbedTree, Probes, unprobed};
@@ -25,12 +26,12 @@ fn fill<A: Allocator>(
     requires level { share.level < 2 ^ 32 }
     requires spare { share.spare ≤ sum (limits tree.now).wants }
     requires grants { length grants.old ≡ length (limits tree.now).wants }
-    requires counted { probes.old ≤ 33 * branch_count (take first tree.now) }
+    requires counted { probes.old ≤ MAX_PROBES * branch_count (take first tree.now) }
     ensures poured { (begin last past : ℕ) → IsRow tree.now first begin trees last past
         → IsPouring tree.now first trees begin share grants.old last 0 past result grants.new }
     ensures size { length grants.new ≡ length grants.old }
     ensures counted { (begin last past : ℕ) → IsRow tree.now first begin trees last past
-        → probes.new ≤ 33 * branch_count (take last tree.now) }
+        → probes.new ≤ MAX_PROBES * branch_count (take last tree.now) }
 {
     tree.is_flat();
     let mut node = first;
@@ -73,11 +74,11 @@ fn zeros<B: Allocator>(alloc: B, leaves: usize) -> Result<Vec<u64, B>, AllocErro
 }
 
 /// The grants of the leaves of a tree, in octets, by the levels of its branches: takes memory once, and
-/// O(nodes * depth) time, some 33 times. `AllocError` comes only where memory ran out.
+/// O(nodes * depth) time, some `MAX_PROBES` times. `AllocError` comes only where memory ran out.
 pub fn give<A: Allocator, B: Allocator>(alloc: B, flat: &Flat<A>) -> Result<Counted<B>, AllocError>
     ensures within { IfOk result (λ r. IsWithin (limits flat.now) r.grants.items) }
     ensures bottlenecks { IfOk result (λ r. HasBottlenecks (limits flat.now) r.grants.items) }
-    ensures counted { IfOk result (λ r. r.probes ≤ 33 * branch_count flat.now) }
+    ensures counted { IfOk result (λ r. r.probes ≤ MAX_PROBES * branch_count flat.now) }
 {
     let leaves = flat.leaves();
     let _nodes = flat.nodes();

@@ -2,9 +2,14 @@
 ghost use Rattle.std.specs.Prelude.{◌≡◌, ◌+◌, ◌<◌, ◌≤◌, ◌^◌, length, Some};
 ghost use Rattle.limit_tree.specs.Flat.{taken_below};
 ghost use Rattle.round_allocator.specs.Levels.{IsBranchAt, IsLevel, IsNarrower, IsPlan, IsLeafGrant};
+ghost use Rattle.round_allocator.specs.declared.level.TheConstants.{MAX_PROBES};
 
 use super::probe::{ProbedTree, Probes};
 use std::alloc::Allocator;
+
+/// How many probes of a branch there are at most: one at the level that it is handed, and 32 of a binary search, where its
+/// kids take in too much there, since the levels go up to `MAX_WANT`, which is below 2^32.
+pub const MAX_PROBES: u64 = 33;
 
 /// A level, and octets that may be given above it, one a leaf.
 #[derive(Clone, Copy)]
@@ -105,7 +110,7 @@ fn search<A: Allocator>(
     }
 }
 
-/// How a branch with so many spare octets above a level shares them with its kids: at most 33 probes, one where
+/// How a branch with so many spare octets above a level shares them with its kids: at most `MAX_PROBES` probes, one where
 /// what its kids take in fits its limit, none where it has no limit.
 pub fn share_out<A: Allocator>(
     tree: &ProbedTree<'_, A>,
@@ -115,10 +120,10 @@ pub fn share_out<A: Allocator>(
     probes: &mut Probes,
 ) -> Plan
     requires branch { IsBranchAt tree.now node limit }
-    requires room { probes.old + 33 < 2 ^ 63 }
+    requires room { probes.old + MAX_PROBES < 2 ^ 63 }
     requires level { share.level < 2 ^ 32 }
     ensures shared { IsPlan tree.now node limit share result }
-    ensures counted { probes.new ≤ probes.old + 33 }
+    ensures counted { probes.new ≤ probes.old + MAX_PROBES }
 {
     let Some(most) = limit else {
         return Plan { share, kept: 0 };

@@ -15,4 +15,5 @@ mod level;
 mod named;
 mod probe;
 
+pub use level::MAX_PROBES;
 pub use named::{allot, allot_counted};

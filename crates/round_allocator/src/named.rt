@@ -4,6 +4,7 @@ ghost use Rattle.limit_tree.specs.Sharing.{IsWanted, IsWithin, IsBackedBy, IsBes
 ghost use Rattle.limit_tree.specs.Outline.{limits};
 ghost use Rattle.round_allocator.specs.Rounds.{IsExhausted, IsEntry, IsNamed};
 ghost use Rattle.round_allocator.specs.Levels.{branch_count};
+ghost use Rattle.round_allocator.specs.declared.level.TheConstants.{MAX_PROBES};
 ghost use Rattle.round_allocator.specs.Marks.{HasMark, AreDeepest};
 
 use super::fill::{Counted, give};
@@ -115,7 +116,7 @@ pub fn allot_counted<A: Allocator, B: Allocator + Clone>(
     ensures named { IfOk result (λ r. IsNamed (limits tree.now) r.0.items r.1) }
     ensures backed { IfOk result (λ r. IsBackedBy (limits tree.now) r.0.items r.1) }
     ensures best { IfOk result (λ r. IsBest (limits tree.now) r.0.items) }
-    ensures counted { IfOk result (λ r. r.2 ≤ 33 * branch_count tree.now) }
+    ensures counted { IfOk result (λ r. r.2 ≤ MAX_PROBES * branch_count tree.now) }
 {
     backed_is_best();
     let _leaves = tree.leaves();
@@ -129,7 +130,7 @@ pub fn allot_counted<A: Allocator, B: Allocator + Clone>(
 /// the floors on, to the leaf with the least grant among those with room, the lowest leaf number first. They are
 /// best. Each leaf that has less than it wants names the deepest full branch above it, and no other names one.
 /// That they are best is proved; that of several best lists they are those of that rule, tests show.
-/// Takes memory a few times, and O(nodes * depth) time some 33 times, whatever the wants are. `AllocError` comes
+/// Takes memory a few times, and O(nodes * depth) time some `MAX_PROBES` times, whatever the wants are. `AllocError` comes
 /// only where memory ran out.
 pub fn allot<A: Allocator, B: Allocator + Clone>(
     alloc: B,

@@ -3,9 +3,9 @@ use Rattle.std.proofs.Common.{ℕ, List, Option, Result, Ok, Err, OnOk}
 use Rattle.authorizer.specs.Users.{Users}
 use Rattle.control_session.specs.Sessions.{IsSession}
 use Rattle.control_session.specs.declared.fault.ControlFault.{ControlFault}
-use Rattle.data_side.specs.Sides.{SideCall}
+use Rattle.control_session.specs.Sides.{SideCall}
 use Rattle.rate_floors.specs.Promises.{Promises}
-use Rattle.session_laws.specs.Steps.{Standing}
+use Rattle.control_session.specs.Steps.{Standing}
 use Rattle.virtual_tree.specs.Calls.{Exchange}
 
 -- the data side that is left is some data side

@@ -8,5 +8,6 @@
 mod script;
 mod side;
 
+pub use control_session::ControlFault;
 pub use script::serve_text;
 pub use side::{ScriptSide, StillClock};

@@ -1,10 +1,10 @@
 //! The clock and the data side of a session without sockets.
 
-ghost use Rattle.std.specs.Prelude.{◌≡◌, None};
+ghost use Rattle.std.specs.Prelude.{None};
 ghost use Rattle.session_table.specs.declared.actions.Job.TheVariants.{Text, SendFile, TakeFile};
 ghost use Rattle.script_session.specs.Scripts.{IsFirst, IsSent, AnswersScript};
 
-use data_side::{DataSide, Moments};
+use control_session::{DataSide, Moments};
 use ftp_terms::DataType;
 use ftp_wire::HostPort;
 use session_table::{End, Octets};
@@ -63,7 +63,7 @@ fn take_whole<R: Source>(source: R) -> End
 }
 
 impl<A: Allocator, R: Source, K: Drop> DataSide<A, R, K> for ScriptSide {
-    ghost use Rattle.data_side.specs.Sides.SideCall.{Opens, Connects, Drops, Runs};
+    ghost use Rattle.control_session.specs.Sides.SideCall.{Runs};
 
     ghost Asks = { AnswersScript };
 

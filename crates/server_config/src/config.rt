@@ -1,10 +1,8 @@
 //! A configuration, from its text.
 
-ghost use Rattle.std.specs.Prelude.{◌≡◌, IfErr, IfOk, Some};
-ghost use Rattle.toml.specs.Data.{Members};
+ghost use Rattle.std.specs.Prelude.{◌≡◌, IfErr, IfOk, Some, length};
 ghost use Rattle.toml.specs.Parse.{parse_document};
 ghost use Rattle.toml.specs.View.{table_view};
-ghost use Rattle.config_tables.specs.Tables.{IsTables};
 ghost use Rattle.server_config.specs.Configs.{IsMadeOf, IsConfig, IsConfigText};
 ghost use Rattle.server_config.specs.Refused.{IsFaultOf, IsFaultOfTables, IsFaultOfText};
 
@@ -48,7 +46,7 @@ pub fn read_document(alloc: Global, octets: &[u8]) -> Result<Table, ConfigFault>
 
 /// What the tables of a file make.
 fn made_of(alloc: Global, tables: &Tables) -> Result<Config, ConfigFault>
-    requires stated { (document : Members) × IsTables document tables.now }
+    requires paired { length tables.now.overrides.items ≡ length tables.now.users.items }
     ensures made { IfOk result (IsMadeOf tables.now) }
     ensures refused { IfErr result (IsFaultOfTables tables.now) }
 {

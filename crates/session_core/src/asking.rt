@@ -13,9 +13,8 @@ use session_files::{
     change_directory, make_directory, remove_directory, remove_file, rename_from, rename_to,
     tell_moment, tell_size,
 };
-use session_judge::Location;
 use session_listings::{Style, list, list_facts, tell_entry, tell_listing};
-use session_state::State;
+use session_state::{Location, State};
 use session_table::Action;
 use session_transfers::{append, retrieve, store_file};
 use std::alloc::{AllocError, Allocator};

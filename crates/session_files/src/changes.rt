@@ -4,8 +4,7 @@ ghost use Rattle.std.specs.Prelude.{◌≡◌, IfOk, OnErr};
 ghost use Rattle.session_table.specs.FileRows.{dele_row, is_root, mkd_row, rmd_row, rnfr_row, rnto_row, told_or};
 ghost use Rattle.session_table.specs.Plans.{Ran, Stops};
 
-use session_judge::Location;
-use session_state::{State, path_answer, put, with_room};
+use session_state::{Location, State, path_answer, put, with_room};
 use session_table::{Action, Answer, Notice, Refusal};
 use std::alloc::{AllocError, Allocator};
 use virtual_path::VPath;

@@ -1,6 +1,6 @@
 //! Facts of a file: SIZE and MDTM (RFC 3659, sections 3 and 4).
 
-ghost use Rattle.std.specs.Prelude.{◌≡◌, ◌∷◌, [], IfOk, OnErr};
+ghost use Rattle.std.specs.Prelude.{◌≡◌, IfOk, OnErr};
 ghost use Rattle.std.specs.Fmt.{decimal};
 ghost use Rattle.ftp_reply.specs.Replies.{OneLine};
 ghost use Rattle.session_table.specs.FileRows.{mdtm_row, size_row};
@@ -10,8 +10,7 @@ ghost use Rattle.session_table.specs.declared.answers.Answer.TheVariants.{Made};
 
 use ftp_reply::mdtm_line;
 use ftp_terms::{DataType, Kind, LineText};
-use session_judge::Location;
-use session_state::{State, made};
+use session_state::{Location, State, made};
 use session_table::{Action, Answer, Refusal};
 use std::alloc::{AllocError, Allocator};
 use virtual_tree::{Store, StoreFault};

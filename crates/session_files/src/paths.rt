@@ -5,8 +5,7 @@ ghost use Rattle.session_table.specs.FileRows.{cwd_row};
 ghost use Rattle.session_table.specs.Plans.{Ran, Stops};
 
 use ftp_terms::Kind;
-use session_judge::Location;
-use session_state::State;
+use session_state::{Location, State};
 use session_table::{Action, Notice, Refusal};
 use std::alloc::{AllocError, Allocator};
 use virtual_tree::{Store, StoreFault};

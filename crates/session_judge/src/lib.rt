@@ -9,9 +9,7 @@
 #![tactic(auto)]
 
 mod commands;
-mod location;
 mod order;
 
 pub use commands::{is_rnfr, needs_data};
-pub use location::Location;
 pub use order::judge;

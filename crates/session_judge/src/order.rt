@@ -3,16 +3,14 @@
 ghost use Rattle.std.specs.Prelude.{◌≡◌, IfOk};
 ghost use Rattle.std.specs.String.{string_bytes};
 ghost use Rattle.ftp_wire.specs.Commands.{with_texts};
-ghost use Rattle.authorizer.specs.Users.{allowed};
 ghost use Rattle.session_table.specs.Judged.{at_once, at_location, first_refusal, home_of, judged, judged_at, located, stored_at};
 ghost use Rattle.virtual_path.specs.Path.{joined, resolved};
 
 use crate::commands::{asked, is_appe, is_rnto, needs_data, needs_login, needs_plain};
-use crate::location::Location;
 use authorizer::Authorizer;
 use ftp_terms::Letter;
 use ftp_wire::Command;
-use session_state::State;
+use session_state::{Location, State};
 use session_table::Refusal;
 use std::alloc::{AllocError, Allocator};
 use virtual_path::{PathFault, VPath};

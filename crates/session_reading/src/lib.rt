@@ -4,9 +4,13 @@
 //! them, texts for paths and a plain list for a store, and uses nothing of the session's crates.
 //!
 //! ```text
-//! let mut reading = Reading::new(alloc)?;
-//! reading.read(Said::Line(line, "/f"), 951_827_696_000)?;
-//! reading.told(); // "530 Log in first\r\n"
+//! let line = Line {
+//!     text: "PWD",
+//!     meaning: Meaning::Pwd,
+//! };
+//! let mut reading = Reading::new(rt.alloc())?;
+//! reading.read(Said::Line(line, ""), 951_827_696_000)?;
+//! assert!(rt; reading.told() == "530 Log in first\r\n");
 //! ```
 #![tactic(auto)]
 

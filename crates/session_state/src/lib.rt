@@ -1,4 +1,4 @@
-//! What a session knows, and replies of one line.
+//! What a session knows, where a path stands, and replies of one line.
 //!
 //! ```text
 //! let mut state = State::new(alloc, settings, peer)?;
@@ -9,10 +9,12 @@
 
 mod answers;
 mod changes;
+mod location;
 mod room;
 mod state;
 mod told;
 
 pub use answers::{copied, made, path_answer};
+pub use location::Location;
 pub use room::{put, with_room};
 pub use state::State;

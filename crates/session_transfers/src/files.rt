@@ -5,8 +5,7 @@ ghost use Rattle.session_table.specs.Plans.{Ran, Stops};
 ghost use Rattle.session_table.specs.TransferRows.{appe_row, retr_row, stor_row, store_mode};
 
 use crate::opened::{put_sending, put_taking};
-use session_judge::Location;
-use session_state::{State, with_room};
+use session_state::{Location, State, with_room};
 use session_table::Action;
 use std::alloc::{AllocError, Allocator};
 use virtual_tree::{Store, WriteMode};

@@ -3,7 +3,8 @@ use Rattle.std.proofs.Common.{◌≡◌, ◌∙◌, ℕ, zero, suc, ◌<◌, ◌
 use Rattle.std.specs.List.{onto_first, join_with_byte}
 use Rattle.std.specs.Str.Lines.{lines, lines_of_parts, strip_carriage_return}
 use Rattle.std.proofs.lemmas.List.Splits.{slice_split-cons_yes, slice_split-cons_no, length-slice_split, join_with_byte-slice_split}
-use Rattle.share_text.specs.Text.{parts, parts_behind, entry_of, entry_of_words}
+use Rattle.sheet_tree.specs.Paths.{parts, parts_behind}
+use Rattle.share_text.specs.Text.{entry_of, entry_of_words}
 use Rattle.std.specs.Option.{option_copied}
 
 -- before its first mark stands the first part

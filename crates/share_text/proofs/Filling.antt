@@ -1,5 +1,5 @@
 -- Slots of the leaves that lines fill, in the order of the wants.
-use Rattle.std.proofs.Common.{◌≡◌, ◌∙◌, ◌≢◌, ℕ, zero, suc, ◌<◌, ◌≤◌, ◌+◌, ◌==◌, Bool, true, false, cond, List, [], ◌∷◌, ◌++◌, length, map, filter_map, get_or, set, slice_get, refl, sym, ap, subst, arith, true≢false, not, bytes_eq, length-append, length-set, Option, Some, None, option_map, option_and_then, inl, inr, nat_eq, eqb-true, eq-eqb, take, drop}
+use Rattle.std.proofs.Common.{◌≡◌, ◌∙◌, ◌≢◌, ℕ, zero, suc, ◌<◌, ◌≤◌, ◌+◌, ◌==◌, Bool, true, false, cond, List, [], ◌∷◌, ◌++◌, length, map, filter_map, get_or, set, slice_get, refl, sym, ap, subst, arith, true≢false, not, length-append, length-set, Option, Some, None, option_map, option_and_then, inl, inr, nat_eq, eqb-true, eq-eqb, take, drop}
 use Rattle.std.specs.List.{position_from, list_any, range_with_len, cons_option, AllByRecursion, IsDistinct}
 use Rattle.std.specs.Option.{is_some, option_to_list}
 use Rattle.std.proofs.lemmas.Bool.{cases_eq, cases_order}
@@ -15,11 +15,11 @@ use Rattle.share_text.specs.declared.grants.Given.{Given}
 use Rattle.share_text.specs.declared.grants.GrantsFault.TheVariants.{WrongPath, NoSuchNode}
 use Rattle.share_text.specs.declared.grants.Slots.{Slots}
 use Rattle.share_text.specs.Views.{SheetValue}
-use Rattle.share_text.specs.Text.{parts}
+use Rattle.sheet_tree.specs.Paths.{parts, same_path}
 use Rattle.share_text.specs.Sheet.{is_skipped}
 use Rattle.share_text.specs.Grants.{GrantLine, grant_fault, grant_of, grant_of_words, grants_line_fault, is_path, line_grants, line_of_leaf, lines_by_leaf, names_no_node, read_grant_fault}
 use Rattle.share_text.specs.Slots.{Filled, given_by}
-use Rattle.share_text.proofs.Listing.{any_is_some, swapped}
+use Rattle.sheet_tree.proofs.Listing.{any_is_some}
 
 found_from : (test : ℕ → Bool) (i : ℕ) (xs : List ℕ) (k : ℕ) → position_from test i xs ≡ Some k → (j : ℕ) × (k ≡ i + j) × (j < length xs) × (test (get_or xs j 0) ≡ true)
 found_from test i [] k e = cc
@@ -148,16 +148,16 @@ many_grant_words word place amount name line rest e = ap grant_of_words e ∙ go
     go (y ∷ ys) h = refl
 
 -- the want of a place has another path
-pub wrong_path : (sheet : SheetValue) (place number leaf : ℕ) (line : GrantLine) → slice_get sheet.wants place ≡ Some leaf → bytes_eq line.path (get_or sheet.leaves leaf []) ≡ false → grant_fault sheet place number line ≡ Some (WrongPath number)
+pub wrong_path : (sheet : SheetValue) (place number leaf : ℕ) (line : GrantLine) → slice_get sheet.wants place ≡ Some leaf → same_path (get_or sheet.leaves leaf []) line.path ≡ false → grant_fault sheet place number line ≡ Some (WrongPath number)
 wrong_path sheet place number leaf line e other =
     ap (λ (o : Option ℕ). cond (not (is_path (option_map (λ n. get_or sheet.leaves n []) o) line.path)) (Some (WrongPath number)) (cond (names_no_node sheet line.node) (Some (NoSuchNode number)) None)) e
-    ∙ ap (λ (b : Bool). cond (not b) (Some (WrongPath number)) (cond (names_no_node sheet line.node) (Some (NoSuchNode number)) None)) (swapped (get_or sheet.leaves leaf []) line.path ∙ other)
+    ∙ ap (λ (b : Bool). cond (not b) (Some (WrongPath number)) (cond (names_no_node sheet line.node) (Some (NoSuchNode number)) None)) other
 
 -- or that of the line, and then only the node decides
-pub right_path : (sheet : SheetValue) (place number leaf : ℕ) (line : GrantLine) → slice_get sheet.wants place ≡ Some leaf → bytes_eq line.path (get_or sheet.leaves leaf []) ≡ true → grant_fault sheet place number line ≡ cond (names_no_node sheet line.node) (Some (NoSuchNode number)) None
+pub right_path : (sheet : SheetValue) (place number leaf : ℕ) (line : GrantLine) → slice_get sheet.wants place ≡ Some leaf → same_path (get_or sheet.leaves leaf []) line.path ≡ true → grant_fault sheet place number line ≡ cond (names_no_node sheet line.node) (Some (NoSuchNode number)) None
 right_path sheet place number leaf line e same =
     ap (λ (o : Option ℕ). cond (not (is_path (option_map (λ n. get_or sheet.leaves n []) o) line.path)) (Some (WrongPath number)) (cond (names_no_node sheet line.node) (Some (NoSuchNode number)) None)) e
-    ∙ ap (λ (b : Bool). cond (not b) (Some (WrongPath number)) (cond (names_no_node sheet line.node) (Some (NoSuchNode number)) None)) (swapped (get_or sheet.leaves leaf []) line.path ∙ same)
+    ∙ ap (λ (b : Bool). cond (not b) (Some (WrongPath number)) (cond (names_no_node sheet line.node) (Some (NoSuchNode number)) None)) same
 
 pub within_leaves : (leaves place leaf : ℕ) (wants : List ℕ) → AllByRecursion (λ n. n < leaves) wants → slice_get wants place ≡ Some leaf → leaf < leaves
 within_leaves leaves place leaf [] all e = cc

@@ -1,73 +1,94 @@
 -- Whether each leaf of a sheet that was read has its line in a grants file.
-use Rattle.std.proofs.Common.{◌≡◌, ◌∙◌, ℕ, zero, suc, ◌<◌, ◌≤◌, true, List, [], ◌∷◌, length, filter_map, get_or, slice_get, refl, sym, ap, arith, true≢false, Option, Some, None, option_and_then, inl, inr, nat_eq, bytes_eq, eq-eqb}
-use Rattle.std.specs.List.{position_from, list_any, range_with_len, cons_option, IsDistinct}
+use Rattle.std.proofs.Common.{◌≡◌, ◌∙◌, ℕ, zero, suc, ◌<◌, ◌≤◌, true, false, cond, subst, ◌||◌, Bool, List, [], ◌∷◌, length, map, filter, filter_map, get_or, slice_get, refl, sym, ap, arith, true≢false, Option, Some, None, option_and_then, nat_eq, eq-eqb, inl, inr}
+use Rattle.std.specs.List.{find, position_from, list_any, range_with_len, cons_option}
 use Rattle.std.specs.Option.{is_some}
 use Rattle.std.specs.Str.Lines.{lines}
-use Rattle.std.proofs.lemmas.Bool.{cases_order}
+use Rattle.std.proofs.lemmas.Bool.{or_left, or_right}
 use Rattle.std.proofs.lemmas.List.{get_or-map, length-map}
 use Rattle.std.proofs.lemmas.List.Folds.{list_any_at}
 use Rattle.std.proofs.lemmas.List.FromFn.{length-range_with_len, get_or-range_with_len}
-use Rattle.std.proofs.lemmas.Map.Keys.{apart_from_distinct}
 use Rattle.std.proofs.lemmas.Option.{slice_get-get_or, slice_get_past}
-use Rattle.share_text.specs.Sheet.{first_line_fault, want_paths}
-use Rattle.share_text.specs.Whole.{leaf_paths, whole_fault}
-use Rattle.share_text.specs.Views.{SheetValue, IsSheetOf, statements}
+use Rattle.limit_tree.specs.declared.place.Kind.TheVariants.{Branch}
+use Rattle.limit_tree.specs.Outline.{is_leaf_kind}
+use Rattle.sheet_tree.specs.Paths.{NoneTwice, Path, is_among, place_of, same_path}
+use Rattle.sheet_tree.proofs.Listing.{any_is_some, found_at}
+use Rattle.sheet_tree.proofs.Nodes.{each_passes, once_filter}
+use Rattle.sheet_tree.proofs.Within.{each_at, is_same}
+use Rattle.sheet_nodes.specs.Table.{Mention, Table, is_at}
+use Rattle.sheet_nodes.specs.Taken.{AreNoted, IsTreeOfLines, Stated, stated_paths}
+use Rattle.sheet_nodes.specs.Tree.{kind_in, kind_of, node_paths}
+use Rattle.sheet_nodes.proofs.Tables.{place_at}
+use Rattle.share_text.specs.Sheet.{leaf_paths, statements, states_want, want_paths}
+use Rattle.share_text.specs.Views.{SheetValue, IsSheetOf}
 use Rattle.share_text.specs.Grants.{GrantLine, line_of_leaf, lines_by_leaf}
-use Rattle.share_text.proofs.Listing.{any_is_some, found_at, same_path}
-use Rattle.share_text.proofs.Grown.{none_first}
-use Rattle.share_text.proofs.Wanted.{place_there, wants_apart}
-use Rattle.share_text.proofs.Complete.{leaf_wanted, leaves_differ}
 use Rattle.share_text.proofs.Filling.{found, first_place}
+use Rattle.share_text.proofs.Taking.{text_tree}
+use Rattle.share_text.proofs.Wants.{place_there, wants_apart, wants_once}
 
--- a path of a list of different ones is found at its own place
-own_place : (texts : List (List ℕ)) (i : ℕ) → IsDistinct bytes_eq texts → i < length texts → position_from (bytes_eq (get_or texts i [])) 0 texts ≡ Some i
-own_place texts i differ l =
-    let path = get_or texts i [] in
-    let there = place_there path texts (list_any_at (bytes_eq path) texts i [] l (same_path path)) in
-    let at = found_at path texts there.0 there.1 in
-    there.1
-    ∙ ap (λ (n : ℕ). Some n)
-    (elim (cases_order there.0 i) [
-      | inl same ↦ same
-      | inr apart ↦ elim apart [
-        | inl before ↦ absurd (true≢false (sym (same_path path) ∙ ap (λ (p : List ℕ). bytes_eq p path) (sym at.1) ∙ apart_from_distinct bytes_eq texts there.0 i [] differ before l))
-        | inr past ↦ absurd (true≢false (sym (same_path path) ∙ ap (bytes_eq path) (sym at.1) ∙ apart_from_distinct bytes_eq texts i there.0 [] differ past at.0))
-      ]
-    ])
+-- the path of a leaf that is stated is that of a want
+stated_want : (table : Table) (lines : List Stated) (path : Path) → AreNoted table lines → is_leaf_kind (kind_in table path) ≡ true → is_among (stated_paths lines) path ≡ true → is_among (want_paths lines) path ≡ true
+stated_want table [] path noted leaf e = e
+stated_want table (s ∷ lines) path noted leaf e = go (same_path path s.entry.path) refl (λ h. stated_want table lines path noted.1 leaf h) e (states_want s) refl
+  where
+    wants : same_path path s.entry.path ≡ true → states_want s ≡ true
+    wants same = sym (ap (λ (p : Path). is_leaf_kind (kind_in table p)) (is_same path s.entry.path same) ∙ ap (λ (o : Option Mention). is_leaf_kind (kind_of o)) noted.0) ∙ leaf
+
+    go : (a : Bool) → same_path path s.entry.path ≡ a → (is_among (stated_paths lines) path ≡ true → is_among (want_paths lines) path ≡ true) → (same_path path s.entry.path || is_among (stated_paths lines) path) ≡ true
+        → (b : Bool) → states_want s ≡ b → is_among (map (λ (x : Stated). x.entry.path) (cond b (s ∷ filter states_want lines) (filter states_want lines))) path ≡ true
+    go true same rest h true is = or_left _ _ same
+    go true same rest h false is = absurd (true≢false (sym (wants same) ∙ is))
+    go false same rest h true is = or_right (same_path path s.entry.path) _ (rest (sym (ap (λ (b : Bool). b || is_among (stated_paths lines) path) same) ∙ h))
+    go false same rest h false is = rest (sym (ap (λ (b : Bool). b || is_among (stated_paths lines) path) same) ∙ h)
 
 module _ (source : List ℕ) (sheet : SheetValue) (is : IsSheetOf source sheet) where
-  lines_sound : first_line_fault [] 1 (lines source) ≡ None
-  lines_sound = none_first (first_line_fault [] 1 (lines source)) (whole_fault (statements source)) is.sound
+  law : IsTreeOfLines is.table (statements source)
+  law = text_tree source is.table is.taken_is
 
   as_many : length sheet.wants ≡ length (want_paths (statements source))
-  as_many = sym (length-map sheet.wants Some) ∙ ap length is.wants_are ∙ length-map (want_paths (statements source)) (λ path. position_from (bytes_eq path) 0 (leaf_paths (statements source)))
+  as_many = sym (length-map sheet.wants Some) ∙ ap length is.wants_are ∙ length-map (want_paths (statements source)) (place_of sheet.leaves)
 
   -- what stands at a place of the wants
-  want_at : (k : ℕ) → k < length sheet.wants → position_from (bytes_eq (get_or (want_paths (statements source)) k [])) 0 (leaf_paths (statements source)) ≡ Some (get_or sheet.wants k 0)
+  want_at : (k : ℕ) → k < length sheet.wants → place_of sheet.leaves (get_or (want_paths (statements source)) k []) ≡ Some (get_or sheet.wants k 0)
   want_at k l =
-      sym (get_or-map (λ path. position_from (bytes_eq path) 0 (leaf_paths (statements source))) (want_paths (statements source)) k [] None (omega (arith, as_many)))
+      sym (get_or-map (place_of sheet.leaves) (want_paths (statements source)) k [] None (omega (arith, as_many)))
       ∙ ap (λ (os : List (Option ℕ)). get_or os k None) (sym is.wants_are)
       ∙ get_or-map Some sheet.wants k 0 None l
+
+  once : NoneTwice sheet.leaves
+  once = subst NoneTwice (sym is.leaves_are) (once_filter (λ p. is_leaf_kind (kind_in is.table p)) (node_paths is.table) law.tree.once)
+
+  -- the path of a leaf is that of a want
+  leaf_wanted : (leaf : ℕ) → leaf < length sheet.leaves → is_among (want_paths (statements source)) (get_or sheet.leaves leaf []) ≡ true
+  leaf_wanted leaf l = go (is_among (stated_paths (statements source)) path) refl
+    where
+      path : Path
+      path = get_or sheet.leaves leaf []
+
+      wants : is_leaf_kind (kind_in is.table path) ≡ true
+      wants =
+          ap (λ (ps : List Path). is_leaf_kind (kind_in is.table (get_or ps leaf []))) is.leaves_are
+          ∙ each_at (λ p. is_leaf_kind (kind_in is.table p) ≡ true) (leaf_paths is.table) leaf (each_passes (λ p. is_leaf_kind (kind_in is.table p)) (node_paths is.table)) (omega (arith, l, ap length is.leaves_are))
+
+      go : (b : Bool) → is_among (stated_paths (statements source)) path ≡ b → is_among (want_paths (statements source)) path ≡ true
+      go true e = stated_want is.table (statements source) path law.taken_is.noted wants e
+      go false e = absurd (true≢false (sym wants ∙ ap is_leaf_kind (law.taken_is.unstated path e)))
 
   -- each leaf is that of a want
   leaf_there : (leaf : ℕ) → leaf < length sheet.leaves → (k : ℕ) × (position_from (nat_eq leaf) 0 sheet.wants ≡ Some k) × (k < length sheet.wants)
   leaf_there leaf l = go (position_from (nat_eq leaf) 0 sheet.wants) refl
     where
-      within : leaf < length (leaf_paths (statements source))
-      within = omega (arith, ap length is.leaves_are)
+      path : Path
+      path = get_or sheet.leaves leaf []
 
-      wanted : (k : ℕ) × (position_from (bytes_eq (get_or (leaf_paths (statements source)) leaf [])) 0 (want_paths (statements source)) ≡ Some k) × (k < length (want_paths (statements source)))
-      wanted =
-          let path = get_or (leaf_paths (statements source)) leaf [] in
-          place_there path (want_paths (statements source)) (leaf_wanted (statements source) path (list_any_at (bytes_eq path) (leaf_paths (statements source)) leaf [] within (same_path path)))
+      wanted : (k : ℕ) × (place_of (want_paths (statements source)) path ≡ Some k) × (k < length (want_paths (statements source)))
+      wanted = place_there path (want_paths (statements source)) (leaf_wanted leaf l)
 
       listed : list_any (nat_eq leaf) sheet.wants ≡ true
       listed =
           let k = wanted.0 in
           let less : k < length sheet.wants = omega (arith, wanted.2, as_many) in
-          let same : get_or (want_paths (statements source)) k [] ≡ get_or (leaf_paths (statements source)) leaf [] = (found_at (get_or (leaf_paths (statements source)) leaf []) (want_paths (statements source)) k wanted.1).1 in
           let number : Some (get_or sheet.wants k 0) ≡ Some leaf =
-          sym (want_at k less) ∙ ap (λ (p : List ℕ). position_from (bytes_eq p) 0 (leaf_paths (statements source))) same ∙ own_place (leaf_paths (statements source)) leaf (leaves_differ (statements source)) within in
+          sym (want_at k less) ∙ ap (place_of sheet.leaves) (found_at path (want_paths (statements source)) k wanted.1).1 ∙ place_at sheet.leaves leaf once l in
           let equal : leaf ≡ get_or sheet.wants k 0 = cc in
           list_any_at (nat_eq leaf) sheet.wants k 0 less (eq-eqb leaf (get_or sheet.wants k 0) equal)
 
@@ -127,8 +148,9 @@ module _ (source : List ℕ) (sheet : SheetValue) (is : IsSheetOf source sheet) 
       let k = length given in
       let leaf = get_or sheet.wants k 0 in
       let wanted = want_at k fewer in
-      let within : leaf < length sheet.leaves = omega (arith, (found_at (get_or (want_paths (statements source)) k []) (leaf_paths (statements source)) leaf wanted).0, ap length is.leaves_are) in
-      let place = first_place sheet.wants k leaf (wants_apart (lines source) sheet.wants lines_sound is.wants_are) (slice_get-get_or sheet.wants k 0 fewer) in
+      let within : leaf < length sheet.leaves = (found_at (get_or (want_paths (statements source)) k []) sheet.leaves leaf wanted).0 in
+      let apart = wants_apart sheet.leaves (want_paths (statements source)) sheet.wants (wants_once is.table (lines source) 1 law.taken_is.noted) is.wants_are in
+      let place = first_place sheet.wants k leaf apart (slice_get-get_or sheet.wants k 0 fewer) in
       let none : line_of_leaf sheet given leaf ≡ None = ap (λ (o : Option ℕ). option_and_then (slice_get given) o) place ∙ slice_get_past given k (omega arith) in
       let inside : leaf < length (range_with_len 0 (length sheet.leaves)) = omega (arith, within, length-range_with_len 0 (length sheet.leaves)) in
       let number : get_or (range_with_len 0 (length sheet.leaves)) leaf 0 ≡ leaf = get_or-range_with_len 0 (length sheet.leaves) leaf 0 within ∙ omega arith in

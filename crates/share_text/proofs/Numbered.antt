@@ -4,7 +4,7 @@ use Rattle.std.specs.List.{position_from}
 use Rattle.std.specs.Option.{is_some}
 use Rattle.std.proofs.lemmas.Bool.{cases_eq}
 use Rattle.std.proofs.lemmas.List.{take_more}
-use Rattle.share_text.proofs.Listing.{push_found, push_none}
+use Rattle.sheet_tree.proofs.Listing.{push_found, push_none}
 
 -- one place more
 first_more : (order : List ℕ) (i place : ℕ) → i < length order → (o : Option ℕ) → position_from (nat_eq place) 0 (take i order) ≡ o

@@ -1,13 +1,15 @@
 -- The octets of a path.
-use Rattle.std.proofs.Common.{◌≡◌, ℕ, ◌<◌, ◌==◌, nat_eq, ◌&&◌, Bool, true, false, cond, List, [], ◌∷◌, refl, ap, arith, tests, Some, Result, Ok, Err, Bor}
-use Rattle.std.specs.Prelude.{MatchResult}
-use Rattle.std.specs.Option.{option_copied}
+use Rattle.std.proofs.Common.{◌≡◌, ◌∙◌, ℕ, ◌<◌, ◌==◌, nat_eq, ◌&&◌, Bool, true, false, cond, List, [], ◌∷◌, refl, ap, sym, subst, eqb-true, arith, tests, Option, Some, Result, Ok, Err, Bor}
+use Rattle.std.specs.Prelude.{IfSome, MatchResult}
+use Rattle.std.specs.Option.{option_map}
+use Rattle.sheet_nodes.specs.Walks.{IsPathText}
 use Rattle.std.specs.Result.{result_ok}
 use Rattle.std.specs.List.{list_all, onto_first}
 use Rattle.std.specs.Str.{IsUtf8, IsAscii}
 use Rattle.std.proofs.lemmas.Str.{IsUtf8-from_ascii}
 use Rattle.std.proofs.lemmas.Str.Ascii.{IsAscii-cons, IsAscii-nil}
-use Rattle.share_text.specs.Text.{parts, is_name, is_name_octet, is_named_path, named_path}
+use Rattle.sheet_tree.specs.Paths.{names_of, parts}
+use Rattle.share_text.specs.Text.{is_name, is_name_octet, is_named_path, named_path}
 
 both : (b d : Bool) → (b && d) ≡ true → (b ≡ true) × (d ≡ true)
 both true d e = (refl, e)
@@ -44,9 +46,20 @@ path_ascii (octet ∷ rest) e =
     let halves = both (nat_eq octet 47) (list_all is_name (parts 47 rest)) e in
     IsAscii-cons octet rest (grind (arith, tests, halves.0)) (ascii_between rest (octets_of_names (parts 47 rest) halves.1))
 
-pub is_text : {E : Type 0} (r : Result (Bor (List ℕ)) E) (text : List ℕ) (Q : E → Type 0) → MatchResult r (λ s. (s.now ≡ text) × IsUtf8 text) (λ e. (¬ (IsUtf8 text)) × Q e) → IsAscii text → option_copied (result_ok r) ≡ Some text
-is_text (Ok s) text Q h a = ap Some h.0
-is_text (Err e) text Q h a = absurd (h.0 (IsUtf8-from_ascii text a))
+-- the text that comes back is the one that was given
+pub is_text : {E : Type 0} (o : Option (Bor (List ℕ))) (r : Result (Bor (List ℕ)) E) (text : List ℕ) (Q : E → Type 0) → MatchResult r (λ s. (s.now ≡ text) × IsUtf8 text) (λ e. (¬ (IsUtf8 text)) × Q e) → o ≡ result_ok r → IsAscii text
+    → option_map (λ path. names_of path.now) o ≡ Some (names_of text)
+is_text o (Ok s) text Q h e a = ap (option_map (λ path. names_of path.now)) e ∙ ap (λ (t : List ℕ). Some (names_of t)) h.0
+is_text o (Err x) text Q h e a = absurd (h.0 (IsUtf8-from_ascii text a))
 
-pub is_named : (text : List ℕ) → is_named_path text ≡ true → named_path text ≡ Some text
+pub is_rooted : {E : Type 0} (o : Option (Bor (List ℕ))) (r : Result (Bor (List ℕ)) E) (text : List ℕ) (Q : E → Type 0) → MatchResult r (λ s. (s.now ≡ text) × IsUtf8 text) (λ e. (¬ (IsUtf8 text)) × Q e) → o ≡ result_ok r → is_named_path text ≡ true
+    → IfSome o (λ path. IsPathText path.now)
+is_rooted o (Ok s) text Q h e named = subst (λ (x : Option (Bor (List ℕ))). IfSome x (λ path. IsPathText path.now)) (sym e) (subst IsPathText (sym h.0) (rooted text named))
+  where
+    rooted : (t : List ℕ) → is_named_path t ≡ true → IsPathText t
+    rooted [] e = λ some. absurd (omega (arith, some))
+    rooted (octet ∷ rest) e = λ some. eqb-true octet 47 (both (nat_eq octet 47) (list_all is_name (parts 47 rest)) e).0
+is_rooted o (Err x) text Q h e named = absurd (h.0 (IsUtf8-from_ascii text (path_ascii text named)))
+
+pub is_named : (text : List ℕ) → is_named_path text ≡ true → named_path text ≡ Some (names_of text)
 is_named text e = rw e refl

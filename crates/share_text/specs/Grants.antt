@@ -6,17 +6,18 @@ use Rattle.std.specs.Str.Lines.{lines}
 use Rattle.limit_tree.specs.Faults.{or_else}
 use Rattle.share_text.specs.declared.grants.GrantsFault.{GrantsFault}
 use Rattle.share_text.specs.declared.grants.GrantsFault.TheVariants.{BadLine, WrongPath, NoSuchNode}
-use Rattle.share_text.specs.Text.{Octets, parts, path, number}
+use Rattle.sheet_tree.specs.Paths.{Octets, Path, parts, place_of, same_path}
+use Rattle.share_text.specs.Text.{path, number}
 use Rattle.share_text.specs.Sheet.{is_skipped}
-use Rattle.share_text.specs.Views.{SheetValue, written}
+use Rattle.share_text.specs.Views.{SheetValue}
 
 -- what one line gives: octets to a want, by its path, and the path of the node that it names, if it names one
 pub record GrantLine : Type 0 where
-  pub path : Octets
+  pub path : Path
   pub octets : ℕ
-  pub node : Option Octets
+  pub node : Option Path
 
-abbrev pub grant_at : Option Octets → Option ℕ → Option (Option Octets) → Option GrantLine
+abbrev pub grant_at : Option Path → Option ℕ → Option (Option Path) → Option GrantLine
 grant_at place amount node = option_and_then (λ p. option_and_then (λ n. option_map (λ name. record { path = p; octets = n; node = name }) node) amount) place
 
 -- `grant PATH N` or `grant PATH N NODE`, by the words between single spaces; NODE is a path too
@@ -29,25 +30,21 @@ abbrev pub grant_of : Octets → Option GrantLine
 grant_of line = grant_of_words (parts 32 line)
 
 -- the path of a want, by its place in the order of the sheet's lines
-abbrev pub want_path : SheetValue → ℕ → Option Octets
+abbrev pub want_path : SheetValue → ℕ → Option Path
 want_path sheet place = option_map (λ leaf. slice_index_or sheet.leaves leaf []) (slice_get sheet.wants place)
 
-abbrev pub is_path : Option Octets → Octets → Bool
+abbrev pub is_path : Option Path → Path → Bool
 is_path None path = false
-is_path (Some wanted) path = bytes_eq wanted path
-
--- the number of a node, by its path as it is written
-abbrev pub node_number : SheetValue → Octets → Option ℕ
-node_number sheet path = position_from (bytes_eq path) 0 (map written sheet.paths)
+is_path (Some wanted) path = same_path wanted path
 
 -- the number of the node that is named, if one is
-abbrev pub named_node : SheetValue → Option Octets → Option ℕ
-named_node sheet name = option_and_then (λ path. node_number sheet (written path)) name
+abbrev pub named_node : SheetValue → Option Path → Option ℕ
+named_node sheet name = option_and_then (place_of sheet.paths) name
 
 -- a node is named that the sheet does not mention
-abbrev pub names_no_node : SheetValue → Option Octets → Bool
+abbrev pub names_no_node : SheetValue → Option Path → Bool
 names_no_node sheet None = false
-names_no_node sheet (Some path) = is_none (node_number sheet (written path))
+names_no_node sheet (Some path) = is_none (place_of sheet.paths path)
 
 -- the fault of a line that gives to the want of a place
 abbrev pub grant_fault : SheetValue → ℕ → ℕ → GrantLine → Option GrantsFault

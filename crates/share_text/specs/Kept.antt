@@ -1,14 +1,34 @@
--- What the code keeps of a sheet: its paths by place, and the places of its nodes and leaves.
-use Rattle.std.specs.Prelude.{◌≡◌, ℕ, ◌<◌, nat_eq, bytes_eq, List, [], length, slice_index_or, Option, Some, None}
+-- What the code knows of a text that was read, and what it keeps of its sheet.
+use Rattle.std.specs.Prelude.{◌≡◌, ℕ, ◌<◌, ◌≤◌, nat_eq, List, length, slice_index_or, Option, None, Ok}
 use Rattle.std.specs.List.{position_from}
-use Rattle.share_text.specs.declared.paths.Paths.{Paths}
-use Rattle.share_text.specs.Arena.{Lists, texts_in}
-use Rattle.share_text.specs.Building.{AreBelow, texts_at}
+use Rattle.limit_tree.specs.declared.place.Place.{Place}
+use Rattle.limit_tree.specs.declared.bounds.TheConstants.{MAX_LEAVES, MAX_NODES}
+use Rattle.limit_tree.specs.Outline.{limits}
+use Rattle.sheet_tree.specs.Paths.{NoneTwice, Octets}
+use Rattle.sheet_nodes.specs.Table.{Table, paths_in}
+use Rattle.sheet_nodes.specs.Rows.{AreBelow}
+use Rattle.sheet_nodes.specs.Tree.{node_paths, outline_of, paths_to}
+use Rattle.sheet_nodes.specs.Whole.{whole_fault}
+use Rattle.share_text.specs.Sheet.{statements, text_taken, want_paths}
 
-pub record IsKept {A : Type 0} (paths : Paths A) (order leaves : List ℕ) (nodes : List (Option ℕ)) : Type 0 where
-  pub lists : Lists paths (texts_in paths)
-  pub order_below : AreBelow (length (texts_in paths)) order
-  pub leaves_below : AreBelow (length (texts_in paths)) leaves
-  pub nodes_length : length nodes ≡ length (texts_in paths)
-  pub nodes_are : (place : ℕ) → place < length (texts_in paths) → slice_index_or nodes place None ≡ position_from (nat_eq place) 0 order
-  pub root : position_from (bytes_eq []) 0 (texts_at (texts_in paths) order) ≡ Some 0
+-- The lines of a text left a table, whose tree has no fault: the places of its nodes in preorder, and those of the wants
+-- in the order of their lines.
+pub record IsRead (text : Octets) (table : Table) (outline : List Place) (order places : List ℕ) : Type 0 where
+  pub taken_is : text_taken text ≡ Ok table
+  pub sound : whole_fault table ≡ None
+  pub outline_is : outline ≡ outline_of table
+  pub few_nodes : length outline ≤ MAX_NODES
+  pub few_leaves : length (limits outline).wants ≤ MAX_LEAVES
+  pub order_is : paths_to table order ≡ node_paths table
+  pub order_below : AreBelow (length table) order
+  pub places_are : paths_to table places ≡ want_paths (statements text)
+  pub places_below : AreBelow (length table) places
+
+-- the tree's nodes and leaves by place, and the number of each place's node
+
+pub record IsKept (table : Table) (order leaves : List ℕ) (numbers : List (Option ℕ)) : Type 0 where
+  pub once : NoneTwice (paths_in table)
+  pub order_below : AreBelow (length table) order
+  pub leaves_below : AreBelow (length table) leaves
+  pub numbers_length : length numbers ≡ length table
+  pub numbers_are : (place : ℕ) → place < length table → slice_index_or numbers place None ≡ position_from (nat_eq place) 0 order

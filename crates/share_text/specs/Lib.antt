@@ -1,10 +1,7 @@
 pub mod Text
 pub mod Entries
 pub mod Sheet
-pub mod Arena
-pub mod Nodes
-pub mod Whole
-pub mod Building
+pub mod Law
 pub mod Views
 pub mod Kept
 pub mod Grants

@@ -1,25 +1,15 @@
 -- What stands in a line: words, numbers and paths.
-use Rattle.std.specs.Prelude.{ℕ, ◌==◌, nat_eq, nat_le, Bool, false, not, ◌&&◌, ◌||◌, if◌then◌else◌, List, [], ◌∷◌, length, map, slice_index, ◌-◌, Option, Some, None, bytes_eq, codes}
-use Rattle.std.specs.List.{list_all, slice_split}
+use Rattle.std.specs.Prelude.{ℕ, nat_eq, nat_le, Bool, false, not, ◌&&◌, ◌||◌, if◌then◌else◌, List, [], ◌∷◌, length, map, slice_index, ◌-◌, Option, Some, None, bytes_eq, codes}
+use Rattle.std.specs.List.{list_all}
 use Rattle.std.specs.Option.{option_map, option_and_then}
 use Rattle.std.specs.Char.{is_ascii_digit, is_ascii_alphanumeric}
 use Rattle.std.specs.Int.Digits.{number_from_digits}
 use Rattle.limit_tree.specs.declared.place.Kind.{Kind}
 use Rattle.limit_tree.specs.declared.place.Kind.TheVariants.{Branch, Leaf}
+use Rattle.sheet_tree.specs.Paths.{Octets, Path, names_of, parts}
+use Rattle.sheet_nodes.specs.Table.{Entry}
 use Rattle.share_text.specs.declared.number.TheConstants.{MOST_DIGITS}
 use Rattle.share_text.specs.declared.path.TheConstants.{LONGEST_NAME}
-
-abbrev pub Octets : Type 0
-Octets = List ℕ
-
--- the parts between the octets of one value
-abbrev pub parts : ℕ → Octets → List Octets
-parts mark text = slice_split (λ octet. octet == mark) text
-
--- the parts of what stands behind a mark, if there is one
-abbrev pub parts_behind : ℕ → Option Octets → List Octets
-parts_behind mark None = []
-parts_behind mark (Some rest) = parts mark rest
 
 -- what a digit stands for
 abbrev pub digit : ℕ → ℕ
@@ -45,19 +35,15 @@ abbrev pub is_named_path : Octets → Bool
 is_named_path [] = false
 is_named_path (octet ∷ rest) = nat_eq octet 47 && list_all is_name (parts 47 rest)
 
--- A path is its names, each after a `/`; so the root is the empty text, which a sheet writes `/`.
-abbrev pub named_path : Octets → Option Octets
-named_path text = if is_named_path text then Some text else None
+-- a path of at least one name
+abbrev pub named_path : Octets → Option Path
+named_path text = if is_named_path text then Some (names_of text) else None
 
-abbrev pub path : Octets → Option Octets
+-- a path: the root is written `/`
+abbrev pub path : Octets → Option Path
 path text = if bytes_eq text (codes "/") then Some [] else named_path text
 
--- what one line says of a path
-pub record Entry : Type 0 where
-  pub path : Octets
-  pub kind : Kind
-
-abbrev pub entry_at : Option Octets → Option Kind → Option Entry
+abbrev pub entry_at : Option Path → Option Kind → Option Entry
 entry_at place kind = option_and_then (λ p. option_map (λ k. record { path = p; kind = k }) kind) place
 
 -- a number, or `-` for none

@@ -2,7 +2,7 @@
 ghost use Rattle.std.specs.Prelude.{◌≡◌, ◌<◌, ◌∷◌, length, IfSome};
 ghost use Rattle.std.specs.Option.{option_copied};
 ghost use Rattle.std.specs.Str.Lines.{lines, strip_carriage_return};
-ghost use Rattle.share_text.specs.Text.{parts, parts_behind};
+ghost use Rattle.sheet_tree.specs.Paths.{parts, parts_behind};
 
 /// What stands before the first octet of a value, and what behind it, if there is one.
 pub fn cut_at(text: &[u8], mark: u8) -> (&[u8], Option<&[u8]>)

@@ -1,5 +1,6 @@
 //! What a line of a sheet says.
-ghost use Rattle.std.specs.Prelude.{◌≡◌, ◌∷◌, [], option_map, Option, Some};
+ghost use Rattle.std.specs.Prelude.{◌≡◌, ◌∷◌, [], IfSome, option_map, Option, Some};
+ghost use Rattle.sheet_nodes.specs.Walks.{IsPathText};
 ghost use Rattle.share_text.specs.Text.{entry_of, entry_of_words, limit_kind, want_kind, number};
 ghost use Rattle.share_text.specs.Entries.{entry_view};
 
@@ -8,7 +9,7 @@ use crate::number::read_number;
 use crate::path::{read_named_path, read_path};
 use limit_tree::Kind;
 
-/// What one line says of a path.
+/// What one line says of a path. The root's text is empty, and any other's has a `/` before each name.
 #[derive(Clone, Copy)]
 pub struct Entry<'t> {
     pub path: &'t str,
@@ -36,6 +37,7 @@ fn read_want(want: &[u8], floor: Option<u64>) -> Option<Kind>
 fn three_words<'t>(word: &[u8], place: &'t [u8], amount: &[u8]) -> Option<Entry<'t>>
     ensures entry { option_map entry_view result
         ≡ entry_of_words (word.now ∷ place.now ∷ amount.now ∷ []) }
+    ensures text { IfSome result (λ entry. IsPathText entry.path.now) }
 {
     if word == b"limit".as_slice() {
         let path = read_path(place)?;
@@ -53,6 +55,7 @@ fn three_words<'t>(word: &[u8], place: &'t [u8], amount: &[u8]) -> Option<Entry<
 fn four_words<'t>(word: &[u8], place: &'t [u8], amount: &[u8], floor: &[u8]) -> Option<Entry<'t>>
     ensures entry { option_map entry_view result
         ≡ entry_of_words (word.now ∷ place.now ∷ amount.now ∷ floor.now ∷ []) }
+    ensures text { IfSome result (λ entry. IsPathText entry.path.now) }
 {
     if word != b"want".as_slice() {
         return None;
@@ -65,6 +68,7 @@ fn four_words<'t>(word: &[u8], place: &'t [u8], amount: &[u8], floor: &[u8]) -> 
 /// Reads `limit PATH N`, `limit PATH -`, `want PATH N` or `want PATH N FLOOR`.
 pub fn read_entry(line: &[u8]) -> Option<Entry<'_>>
     ensures entry { option_map entry_view result ≡ entry_of line.now }
+    ensures text { IfSome result (λ entry. IsPathText entry.path.now) }
 {
     let (word, rest) = cut_at(line, b' ');
     let (place, rest) = cut_at(rest?, b' ');

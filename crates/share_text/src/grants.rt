@@ -1,13 +1,14 @@
 //! Reading a grants file beside its sheet.
-ghost use Rattle.std.specs.Prelude.{◌≡◌, ◌≢◌, ◌<◌, ◌≤◌, ◌∷◌, ◌++◌, [], List, IfOk, MatchResult, None, Some, filter_map, length, map, nat_eq, option_map, replicate, slice_get, true, false};
+ghost use Rattle.std.specs.Prelude.{◌≡◌, ◌<◌, ◌∷◌, ◌++◌, [], List, IfOk, IfSome, MatchResult, None, Some, filter_map, length, map, nat_eq, option_map, replicate, slice_get, true, false};
 ghost use Rattle.std.specs.List.{position_from};
-ghost use Rattle.std.specs.Option.{option_copied};
 ghost use Rattle.limit_tree.specs.declared.bounds.TheConstants.{MAX_LEAVES};
 ghost use Rattle.share_text.specs.Grants.{GrantLine, entries_in, grant_fault, grant_of, grant_of_words, grants_fault, grant_lines, grants_in, grants_line_fault, line_grants, named_node, names_no_node};
 ghost use Rattle.std.specs.Str.Lines.{lines};
-ghost use Rattle.share_text.specs.Text.{Octets};
-ghost use Rattle.share_text.specs.Slots.{Filled, given_by, grant_view};
-ghost use Rattle.share_text.specs.Views.{IsSheetOf, written};
+ghost use Rattle.memory_terms.specs.Lack.{Unless};
+ghost use Rattle.sheet_tree.specs.Paths.{Octets};
+ghost use Rattle.sheet_nodes.specs.Walks.{IsPathText};
+ghost use Rattle.share_text.specs.Slots.{ArePathTexts, Filled, given_by, grant_view, name_view};
+ghost use Rattle.share_text.specs.Views.{IsSheetOf};
 
 use crate::cut::{cut_at, cut_line};
 use crate::number::read_number;
@@ -72,6 +73,7 @@ struct Slots<A: Allocator> {
 fn three_words<'t>(word: &[u8], place: &'t [u8], amount: &[u8]) -> Option<Grant<'t>>
     ensures line { option_map grant_view result
         ≡ grant_of_words (word.now ∷ place.now ∷ amount.now ∷ []) }
+    ensures texts { IfSome result ArePathTexts }
 {
     if word != b"grant".as_slice() {
         return None;
@@ -88,6 +90,7 @@ fn three_words<'t>(word: &[u8], place: &'t [u8], amount: &[u8]) -> Option<Grant<
 fn four_words<'t>(word: &[u8], place: &'t [u8], amount: &[u8], name: &'t [u8]) -> Option<Grant<'t>>
     ensures line { option_map grant_view result
         ≡ grant_of_words (word.now ∷ place.now ∷ amount.now ∷ name.now ∷ []) }
+    ensures texts { IfSome result ArePathTexts }
 {
     if word != b"grant".as_slice() {
         return None;
@@ -105,6 +108,7 @@ fn four_words<'t>(word: &[u8], place: &'t [u8], amount: &[u8], name: &'t [u8]) -
 /// Reads `grant PATH N` or `grant PATH N NODE`.
 fn read_grant(line: &[u8]) -> Option<Grant<'_>>
     ensures line { option_map grant_view result ≡ grant_of line.now }
+    ensures texts { IfSome result ArePathTexts }
 {
     let (word, rest) = cut_at(line, b' ');
     let (place, rest) = cut_at(rest?, b' ');
@@ -119,28 +123,23 @@ fn read_grant(line: &[u8]) -> Option<Grant<'_>>
     }
 }
 
-fn as_written(path: &str) -> &str
-    ensures written { result.now ≡ written path.now }
-{
-    if path.is_empty() { "/" } else { path }
-}
-
 /// The number of the node that a line names, if it names one.
 fn find_node<A: Allocator>(
-    sheet: &Sheet<A>,
+    sheet: &Sheet<'_, A>,
     number: usize,
     name: Option<&str>,
 ) -> Result<Option<u32>, GrantsFault>
+    requires text { IfSome name (λ name. IsPathText name.now) }
     ensures found { MatchResult result
-        (λ node. (names_no_node sheet.now (option_copied name.entry) ≡ false)
-        × (node ≡ named_node sheet.now (option_copied name.entry)))
-        (λ fault. (names_no_node sheet.now (option_copied name.entry) ≡ true)
+        (λ node. (names_no_node sheet.now (name_view name.entry) ≡ false)
+        × (node ≡ named_node sheet.now (name_view name.entry)))
+        (λ fault. (names_no_node sheet.now (name_view name.entry) ≡ true)
         × (fault ≡ GrantsFault.NoSuchNode number)) }
 {
     let Some(path) = name else {
         return Ok(None);
     };
-    match sheet.node_of(as_written(path)) {
+    match sheet.node_at(path) {
         Some(node) => Ok(Some(node)),
         None => Err(GrantsFault::NoSuchNode(number)),
     }
@@ -148,11 +147,12 @@ fn find_node<A: Allocator>(
 
 /// What a line gives to the want of a place in the order of the sheet, and the number of its leaf.
 fn judge<A: Allocator>(
-    sheet: &Sheet<A>,
+    sheet: &Sheet<'_, A>,
     place: usize,
     number: usize,
     line: Grant<'_>,
 ) -> Result<(usize, Given), GrantsFault>
+    requires texts { ArePathTexts line }
     ensures judged { MatchResult result
         (λ r. (grant_fault sheet.now place number (grant_view line.entry) ≡ None)
         × (r.1 ≡ given_by sheet.now (grant_view line.entry)))
@@ -164,7 +164,7 @@ fn judge<A: Allocator>(
     let Some(leaf) = sheet.wants().get(place) else {
         return Err(GrantsFault::WrongPath(number));
     };
-    if line.path != sheet.leaf_path(*leaf) {
+    if !sheet.is_leaf_path(*leaf, line.path) {
         return Err(GrantsFault::WrongPath(number));
     }
     let node = find_node(sheet, number, line.node)?;
@@ -187,7 +187,12 @@ impl<A: Allocator + Clone> Slots<A> {
     }
 
     /// Reads one line.
-    fn read_line(&mut self, sheet: &Sheet<A>, number: usize, line: &[u8]) -> Result<(), GrantsFault>
+    fn read_line(
+        &mut self,
+        sheet: &Sheet<'_, A>,
+        number: usize,
+        line: &[u8],
+    ) -> Result<(), GrantsFault>
         requires slots { length self.old.slots.items ≡ length sheet.now.leaves }
         ensures read { MatchResult result
             (λ _. (lines : List GrantLine) → Filled sheet.now self.old lines
@@ -235,13 +240,13 @@ impl<A: Allocator + Clone> Slots<A> {
 pub fn read_grants<A: Allocator + Clone>(
     alloc: A,
     text: &[u8],
-    sheet: &Sheet<A>,
+    sheet: &Sheet<'_, A>,
 ) -> Result<(Vec<u64, A>, Certificate<A>), GrantsFault>
     ensures read { MatchResult result
         (λ lists. (grants_fault sheet.now text.now ≡ None)
         × (lists.0.items ≡ grants_in sheet.now text.now)
         × (lists.1 ≡ entries_in sheet.now text.now))
-        (λ fault. fault ≢ GrantsFault.Memory → grants_fault sheet.now text.now ≡ Some fault) }
+        (Unless GrantsFault.Memory (λ fault. grants_fault sheet.now text.now ≡ Some fault)) }
     ensures full { IfOk result (λ lists. (source : Octets) → IsSheetOf source sheet.now
         → length (grant_lines (lines text.now)) ≡ length sheet.now.wants
         → length lists.0.items ≡ length sheet.now.leaves) }

@@ -1,29 +1,28 @@
 //! Numbers by place.
-ghost use Rattle.std.specs.Prelude.{◌≡◌, ◌<◌, ◌^◌, ℕ, Some, None, true, IfOk, length, map, filter, nat_eq, vec_len, slice_index, slice_index_or};
+ghost use Rattle.std.specs.Prelude.{◌≡◌, ◌<◌, ◌≤◌, ◌^◌, ℕ, Some, None, true, IfOk, length, map, filter, nat_eq, vec_len, slice_index_or};
 ghost use Rattle.std.specs.List.{position_from};
 ghost use Rattle.std.specs.Option.{is_some};
-ghost use Rattle.limit_tree.specs.declared.place.Kind.TheVariants.{Branch};
 ghost use Rattle.limit_tree.specs.Outline.{is_leaf_kind};
-ghost use Rattle.share_text.specs.Building.{AreBelow};
+ghost use Rattle.sheet_nodes.specs.Rows.{AreBelow};
+ghost use Rattle.sheet_nodes.specs.Table.{mention_at};
 
-use crate::arena::is_leaf;
-use limit_tree::Kind;
+use sheet_nodes::{Nodes, is_leaf};
 use std::alloc::{AllocError, Allocator};
 
 /// The places of an order at which wants stand.
-pub fn leaf_places<A: Allocator>(
+pub fn leaf_places<'t, A: Allocator>(
     alloc: A,
-    kinds: &[Kind],
+    nodes: &Nodes<'t, A>,
     order: &[usize],
 ) -> Result<Vec<usize, A>, AllocError>
-    requires below { AreBelow (length kinds.now) order.now }
+    requires below { AreBelow (length nodes.now) order.now }
     ensures leaves { IfOk result
         (λ leaves. leaves.items
-        ≡ filter (λ place. is_leaf_kind (slice_index_or kinds.now place (Branch None))) order.now) }
+        ≡ filter (λ place. is_leaf_kind (mention_at nodes.now place).kind) order.now) }
 {
     let mut leaves = Vec::new(alloc);
     for place in order {
-        if is_leaf(kinds[*place]) {
+        if is_leaf(nodes.kind(*place)) {
             leaves.push(*place)?;
         }
     }
@@ -60,7 +59,7 @@ pub fn numbers_at<A: Allocator>(
 ) -> Result<Vec<usize, A>, AllocError>
     requires below { AreBelow (length numbers.now) places.now }
     requires there { (k : ℕ) → k < length places.now
-        → is_some (slice_index_or numbers.now (slice_index places.now k) None) ≡ true }
+        → is_some (slice_index_or numbers.now (slice_index_or places.now k 0) None) ≡ true }
     ensures numbers { IfOk result
         (λ found. map Some found.items
         ≡ map (λ place. slice_index_or numbers.now place None) places.now) }

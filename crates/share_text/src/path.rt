@@ -1,8 +1,9 @@
 //! Paths.
-ghost use Rattle.std.specs.Prelude.{◌≡◌, option_map};
+ghost use Rattle.std.specs.Prelude.{◌≡◌, IfSome, option_map};
 ghost use Rattle.std.specs.List.{list_all};
-ghost use Rattle.std.specs.Option.{option_copied};
-ghost use Rattle.share_text.specs.Text.{is_name, is_name_octet, is_named_path, named_path, parts, path};
+ghost use Rattle.sheet_tree.specs.Paths.{names_of, parts};
+ghost use Rattle.sheet_nodes.specs.Walks.{IsPathText};
+ghost use Rattle.share_text.specs.Text.{is_name, is_name_octet, is_named_path, named_path, path};
 
 use std::str::from_utf8;
 
@@ -44,7 +45,8 @@ fn is_named_path(text: &[u8]) -> bool
 
 /// A path of at least one name.
 pub fn read_named_path(text: &[u8]) -> Option<&str>
-    ensures path { option_copied result ≡ named_path text.now }
+    ensures path { option_map (λ path. names_of path.now) result ≡ named_path text.now }
+    ensures text { IfSome result (λ path. IsPathText path.now) }
 {
     if is_named_path(text) {
         from_utf8(text).ok()
@@ -55,7 +57,8 @@ pub fn read_named_path(text: &[u8]) -> Option<&str>
 
 /// A path: `/`, or names each after a `/`. The root's text is then empty.
 pub fn read_path(text: &[u8]) -> Option<&str>
-    ensures path { option_copied result ≡ path text.now }
+    ensures path { option_map (λ path. names_of path.now) result ≡ path text.now }
+    ensures text { IfSome result (λ path. IsPathText path.now) }
 {
     if text == b"/".as_slice() {
         Some("")

@@ -1,49 +1,53 @@
 //! A sheet that was read.
-ghost use Rattle.std.specs.Prelude.{◌≡◌, ◌≢◌, ◌<◌, ◌≤◌, [], Some, MatchResult, length, map, nat_eq, bytes_eq, slice_index_or};
-ghost use Rattle.std.specs.List.{AllByRecursion, IsDistinct, position_from};
+ghost use Rattle.std.specs.Prelude.{◌≡◌, ◌<◌, ◌≤◌, [], MatchResult, IfOk, length, nat_eq, slice_index_or, Some};
+ghost use Rattle.std.specs.List.{AllByRecursion, IsDistinct};
+ghost use Rattle.std.specs.Option.{option_and_then};
 ghost use Rattle.limit_tree.specs.declared.bounds.TheConstants.{MAX_LEAVES};
 ghost use Rattle.limit_tree.specs.Outline.{limits};
-ghost use Rattle.share_text.specs.Views.{IsSheetOf, written};
-ghost use Rattle.share_text.specs.Whole.{sheet_fault};
+ghost use Rattle.memory_terms.specs.Lack.{Unless};
+ghost use Rattle.sheet_tree.specs.Paths.{Octets, names_of, place_of, same_path, text_of, written};
+ghost use Rattle.sheet_nodes.specs.Walks.{IsPathText};
+ghost use Rattle.share_text.specs.Kept.{IsRead};
+ghost use Rattle.share_text.specs.Sheet.{sheet_fault};
+ghost use Rattle.share_text.specs.Text.{path};
+ghost use Rattle.share_text.specs.Views.{IsSheetOf};
 
-use crate::arena::Arena;
-use crate::fault::SheetFault;
 use crate::numbering::{leaf_places, number_places, numbers_at};
-use crate::paths::Paths;
-use crate::read::read_lines;
+use crate::path::read_path;
+use crate::read::{Reading, read_lines};
 use limit_tree::Tree;
-use std::alloc::{Allocator, Global};
+use sheet_nodes::{Nodes, SheetFault};
+use std::alloc::{AllocError, Allocator, Global};
 use std::marker::Model;
 
-/// A sheet without a fault. Contracts see it as the nodes of its tree in preorder, their paths, the paths of its
-/// leaves, and the leaf numbers of its wants in the order of their lines.
+/// A sheet without a fault; its paths are slices of its text. Contracts see it as the nodes of its tree in preorder, their
+/// paths, the paths of its leaves, and the leaf numbers of its wants in the order of their lines.
 #[derive(Drop)]
-pub struct Sheet<A: Allocator = Global> {
+pub struct Sheet<'t, A: Allocator = Global> {
     tree: Tree<A>,
-    paths: Paths<A>,
-    /// The places of the nodes, in preorder.
+    nodes: Nodes<'t, A>,
+    /// The places of the tree's nodes, in preorder.
     order: Vec<usize, A>,
     /// The places of the leaves, in preorder.
     leaves: Vec<usize, A>,
-    /// The number of each place's node, if it has one.
-    nodes: Vec<Option<u32>, A>,
+    /// The number of each place's node.
+    numbers: Vec<Option<u32>, A>,
     wants: Vec<usize, A>,
 }
 
-impl<A: Allocator> Model for Sheet<A> {
-    ghost use Rattle.share_text.specs.Arena.{texts_in};
-    ghost use Rattle.share_text.specs.Building.{texts_at};
+impl<'t, A: Allocator> Model for Sheet<'t, A> {
+    ghost use Rattle.sheet_nodes.specs.Tree.{paths_to};
     ghost use Rattle.share_text.specs.Kept.{IsKept};
     ghost use Rattle.share_text.specs.Views.{SheetValue, IsSheet};
 
     ghost Value = { SheetValue };
 
-    ghost view = { λ s. record { outline = s.tree; paths = texts_at (texts_in s.paths) s.order.items; leaves = texts_at (texts_in s.paths) s.leaves.items; wants = s.wants.items } };
+    ghost view = { λ s. record { outline = s.tree; paths = paths_to s.nodes s.order.items; leaves = paths_to s.nodes s.leaves.items; wants = s.wants.items } };
 
-    ghost invariant = { λ s. IsSheet (record { outline = s.tree; paths = texts_at (texts_in s.paths) s.order.items; leaves = texts_at (texts_in s.paths) s.leaves.items; wants = s.wants.items }) × IsKept s.paths s.order.items s.leaves.items s.nodes.items };
+    ghost invariant = { λ s. IsSheet (record { outline = s.tree; paths = paths_to s.nodes s.order.items; leaves = paths_to s.nodes s.leaves.items; wants = s.wants.items }) × IsKept s.nodes s.order.items s.leaves.items s.numbers.items };
 }
 
-impl<A: Allocator> Sheet<A> {
+impl<'t, A: Allocator> Sheet<'t, A> {
     /// The tree of the sheet.
     pub fn tree(&self) -> &Tree<A>
         ensures tree { result.now ≡ self.now.outline }
@@ -53,20 +57,33 @@ impl<A: Allocator> Sheet<A> {
     }
 
     /// The path of a node as it is written, `/` for the root.
-    pub fn path(&self, node: usize) -> &str
+    pub fn path(&self, node: usize) -> &'t str
         requires node { node < length self.now.outline }
         ensures path { result.now ≡ written (slice_index_or self.now.paths node []) }
     {
-        let path = self.paths.texts[self.order[node]].as_str();
+        let path = self.nodes.path(self.order[node]);
         if path.is_empty() { "/" } else { path }
     }
 
     /// The path of a leaf.
-    pub fn leaf_path(&self, leaf: usize) -> &str
+    pub fn leaf_path(&self, leaf: usize) -> &'t str
         requires leaf { leaf < length self.now.leaves }
-        ensures path { result.now ≡ slice_index_or self.now.leaves leaf [] }
+        ensures path { result.now ≡ text_of (slice_index_or self.now.leaves leaf []) }
     {
-        self.paths.texts[self.leaves[leaf]].as_str()
+        self.nodes.path(self.leaves[leaf])
+    }
+
+    /// Whether a path is that of a leaf.
+    pub(crate) fn is_leaf_path(&self, leaf: usize, path: &str) -> bool
+        requires leaf { leaf < length self.now.leaves }
+        requires text { IsPathText path.now }
+        ensures same { result
+            ≡ same_path (slice_index_or self.now.leaves leaf []) (names_of path.now) }
+    {
+        match self.nodes.place(path) {
+            Some(place) => place == self.leaves[leaf],
+            None => false,
+        }
     }
 
     /// The leaf numbers of the wants, in the order of their lines.
@@ -80,47 +97,68 @@ impl<A: Allocator> Sheet<A> {
         &self.wants
     }
 
-    /// The number of the node of a path as it is written, `/` for the root.
-    pub fn node_of(&self, path: &str) -> Option<u32>
-        ensures node { result ≡ position_from (bytes_eq path.now) 0 (map written self.now.paths) }
+    /// The number of the node of a path; the root's text is empty.
+    pub(crate) fn node_at(&self, path: &str) -> Option<u32>
+        requires text { IsPathText path.now }
+        ensures node { result ≡ place_of self.now.paths (names_of path.now) }
     {
-        let _ = &self.order;
-        if path == "/" {
-            return Some(0);
-        }
-        if path.is_empty() {
-            return None;
-        }
-        let place = self.paths.find(path)?;
-        self.nodes[place]
+        let place = self.nodes.place(path)?;
+        self.numbers[place]
+    }
+
+    /// The number of the node of a path as it is written, `/` for the root.
+    pub fn node_of(&self, written: &str) -> Option<u32>
+        ensures node { result ≡ option_and_then (place_of self.now.paths) (path written.now) }
+    {
+        let path = read_path(written.as_bytes())?;
+        self.node_at(path)
+    }
+}
+
+impl<'t, A: Allocator + Clone> Sheet<'t, A> {
+    /// The sheet of the nodes that lines mention, with their tree, the places of its nodes in preorder, and the places of
+    /// the lines' wants.
+    fn new(
+        alloc: A,
+        nodes: Nodes<'t, A>,
+        tree: Tree<A>,
+        order: Vec<usize, A>,
+        places: &[usize],
+    ) -> Result<Sheet<'t, A>, AllocError>
+        requires read { (text : Octets) × IsRead text nodes tree order.items places.now }
+        ensures sheet { IfOk result (λ sheet. (text : Octets)
+            → IsRead text nodes.entry tree order.items places.now
+            → IsSheetOf text sheet) }
+    {
+        let numbers = number_places(alloc.clone()?, &order, nodes.len())?;
+        let leaves = leaf_places(alloc.clone()?, &nodes, &order)?;
+        let leaf_numbers = number_places(alloc.clone()?, &leaves, nodes.len())?;
+        let wants = numbers_at(alloc, places, &leaf_numbers)?;
+        Ok(Sheet {
+            tree,
+            nodes,
+            order,
+            leaves,
+            numbers,
+            wants,
+        })
     }
 }
 
 /// Reads a sheet. The fault of the first faulty line decides; where no line has one, that of the whole tree.
-pub fn read_sheet<A: Allocator + Clone>(alloc: A, text: &[u8]) -> Result<Sheet<A>, SheetFault>
+pub fn read_sheet<'t, A: Allocator + Clone>(
+    alloc: A,
+    text: &'t [u8],
+) -> Result<Sheet<'t, A>, SheetFault>
     ensures read { MatchResult result (λ sheet. IsSheetOf text.now sheet)
-        (λ fault. fault ≢ SheetFault.Memory → sheet_fault text.now ≡ Some fault) }
+        (Unless SheetFault.Memory (λ fault. sheet_fault text.now ≡ Some fault)) }
 {
-    let arena = read_lines(alloc.clone()?, text)?;
-    let mut order = Vec::new(alloc.clone()?);
-    let tree = arena.whole_tree(&mut order)?;
-    let Arena {
-        paths,
-        kinds,
-        lines: _,
-        kids: _,
-        wants: places,
-    } = arena;
-    let nodes = number_places(alloc.clone()?, &order, paths.len())?;
-    let leaves = leaf_places(alloc.clone()?, &kinds, &order)?;
-    let numbers = number_places(alloc.clone()?, &leaves, paths.len())?;
-    let wants = numbers_at(alloc, &places, &numbers)?;
-    Ok(Sheet {
-        tree,
-        paths,
-        order,
-        leaves,
+    let Reading {
         nodes,
-        wants,
-    })
+        wants: places,
+    } = read_lines(alloc.clone()?, text)?;
+    let mut order = Vec::new(alloc.clone()?);
+    let tree = nodes.whole_tree(&mut order)?;
+    let sheet = Sheet::new(alloc, nodes, tree, order, &places)?;
+    Ok(sheet)
 }

@@ -1,5 +1,6 @@
 //! Memory that is refused, at each growth in turn, and there again.
 ghost use Rattle.std.specs.Prelude.{◌≤◌};
+ghost use Rattle.sharing_tests.specs.declared.shortages.TheConstants.{HEAP};
 
 use super::trees::{three, tree, users};
 use crate::expect::holds;
@@ -65,7 +66,7 @@ fn answers_in(
     call: Call,
     grants: &[u64],
 ) -> Result<bool, Fail>
-    requires { room ≤ 4096 }
+    requires { room ≤ HEAP }
 {
     let heap = LocalHeap::new(alloc, HEAP)?;
     let hog = Vec::<u8, &LocalHeap>::with_capacity(&heap, HEAP - room)?;

@@ -1,8 +1,8 @@
 -- Faults that are told as those of a program.
 use Rattle.std.proofs.Common.{◌≡◌, ◌≢◌, Option, Some, None, Result, Ok, Err, IfErr, IsErrAnd, IsErrOf, refl, subst, sym}
 use Rattle.sheet_commands.specs.declared.fault.ProgramFault.{ProgramFault}
-use Rattle.share_text.specs.declared.fault.SheetFault.{SheetFault}
-use Rattle.share_text.specs.declared.fault.SheetFault.TheVariants.{BadLine, Twice, LeafHasKids, Tree, Memory}
+use Rattle.sheet_nodes.specs.declared.fault.SheetFault.{SheetFault}
+use Rattle.sheet_nodes.specs.declared.fault.SheetFault.TheVariants.{BadLine, Twice, LeafHasKids, Tree, Memory}
 use Rattle.share_text.specs.declared.grants.GrantsFault.{GrantsFault}
 use Rattle.share_text.specs.declared.grants.GrantsFault.TheVariants.{BadLine as BadGrant, WrongPath, NoSuchNode, Memory as NoMemory}
 use Rattle.sheet_commands.specs.declared.fault.ProgramFault.TheVariants.{Sheet, Grants, Memory as OutOfMemory}

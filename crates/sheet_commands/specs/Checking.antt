@@ -10,12 +10,13 @@ use Rattle.grant_certificate.specs.declared.flaw.Flaw.TheVariants.{WrongLength, 
 use Rattle.grant_certificate.specs.declared.flaw.Verdict.{Verdict}
 use Rattle.grant_certificate.specs.declared.flaw.Verdict.TheVariants.{Yes, No}
 use Rattle.share_text.specs.Grants.{grants_fault, grants_in, entries_in}
-use Rattle.share_text.specs.Views.{SheetValue, IsSheetOf, written}
+use Rattle.sheet_tree.specs.Paths.{text_of, written}
+use Rattle.share_text.specs.Views.{SheetValue, IsSheetOf}
 use Rattle.share_text.specs.declared.grants.GrantsFault.{GrantsFault}
 use Rattle.share_text.specs.declared.grants.GrantsFault.TheVariants.{Memory}
 
 abbrev pub leaf_word : SheetValue → ℕ → List ℕ
-leaf_word sheet leaf = codes " " ++ slice_index_or sheet.leaves leaf []
+leaf_word sheet leaf = codes " " ++ text_of (slice_index_or sheet.leaves leaf [])
 
 abbrev pub node_word : SheetValue → ℕ → List ℕ
 node_word sheet node = codes " " ++ written (slice_index_or sheet.paths node [])

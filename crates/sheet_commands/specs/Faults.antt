@@ -4,8 +4,8 @@ use Rattle.sheet_commands.specs.declared.fault.ProgramFault.{ProgramFault}
 use Rattle.sheet_commands.specs.declared.fault.ProgramFault.TheVariants.{TooLong, ReadFault, WriteFault, Memory, Sheet, Grants}
 use Rattle.share_text.specs.declared.grants.GrantsFault.{GrantsFault}
 use Rattle.share_text.specs.declared.grants.GrantsFault.TheVariants.{Memory as NoGrantsMemory}
-use Rattle.share_text.specs.declared.fault.SheetFault.{SheetFault}
-use Rattle.share_text.specs.declared.fault.SheetFault.TheVariants.{Memory as NoSheetMemory}
+use Rattle.sheet_nodes.specs.declared.fault.SheetFault.{SheetFault}
+use Rattle.sheet_nodes.specs.declared.fault.SheetFault.TheVariants.{Memory as NoSheetMemory}
 
 -- the faults of a file read whole
 abbrev pub IsReadingFault : ProgramFault → Type 0

@@ -5,10 +5,11 @@ use Rattle.std.specs.Fmt.{decimal}
 use Rattle.limit_tree.specs.Sharing.{IsWithin, IsBackedBy, IsBest}
 use Rattle.limit_tree.specs.Outline.{limits}
 use Rattle.round_allocator.specs.Rounds.{IsExhausted, IsNamed}
-use Rattle.share_text.specs.Views.{SheetValue, IsSheetOf, written}
-use Rattle.share_text.specs.Whole.{sheet_fault}
-use Rattle.share_text.specs.declared.fault.SheetFault.{SheetFault}
-use Rattle.share_text.specs.declared.fault.SheetFault.TheVariants.{Memory}
+use Rattle.sheet_tree.specs.Paths.{text_of, written}
+use Rattle.share_text.specs.Views.{SheetValue, IsSheetOf}
+use Rattle.share_text.specs.Sheet.{sheet_fault}
+use Rattle.sheet_nodes.specs.declared.fault.SheetFault.{SheetFault}
+use Rattle.sheet_nodes.specs.declared.fault.SheetFault.TheVariants.{Memory}
 use Rattle.sheet_commands.specs.Lines.{total_line}
 
 -- the words behind a leaf that is not met: the branch that its entry names
@@ -19,7 +20,7 @@ held_back sheet (Some node) = codes " full " ++ written (slice_index_or sheet.pa
 -- `PATH G of W`, and behind it `full NODE` where the leaf's entry names a node
 abbrev pub leaf_line : SheetValue → List ℕ → List (Option ℕ) → ℕ → List ℕ
 leaf_line sheet grants entries leaf =
-    slice_index_or sheet.leaves leaf [] ++ codes " " ++ decimal (slice_index grants leaf) ++ codes " of " ++ decimal (slice_index (limits sheet.outline).wants leaf)
+    text_of (slice_index_or sheet.leaves leaf []) ++ codes " " ++ decimal (slice_index grants leaf) ++ codes " of " ++ decimal (slice_index (limits sheet.outline).wants leaf)
     ++ held_back sheet (slice_index_or entries leaf None) ++ 10 ∷ []
 
 -- a line for each want in the order of the sheet, and last the total of their grants

@@ -2,8 +2,8 @@
 ghost use Rattle.std.specs.Prelude.{◌≡◌, ◌≢◌, ◌<◌, ◌⊎◌, ℕ, List, Some, None, true, IfErr, IfOk, IfSome, IsErrAnd, IsErrOf, length, string_bytes};
 ghost use Rattle.std.specs.Io.KnownBytes.{Appends};
 ghost use Rattle.share_text.specs.Views.{IsSheetOf};
-ghost use Rattle.share_text.specs.Whole.{sheet_fault};
-ghost use Rattle.share_text.specs.declared.fault.SheetFault.{SheetFault};
+ghost use Rattle.share_text.specs.Sheet.{sheet_fault};
+ghost use Rattle.sheet_nodes.specs.declared.fault.SheetFault.{SheetFault};
 ghost use Rattle.share_text.specs.declared.grants.GrantsFault.{GrantsFault};
 ghost use Rattle.sheet_commands.specs.Faults.{IsReadingFault, IsGrantsJudgement, IsTextOf};
 ghost use Rattle.sheet_commands.specs.Sharing.{IsSheetFaultOf};
@@ -30,7 +30,7 @@ pub struct Checked<A: Allocator> {
 /// the nodes that the text names, and so best, or else `no` with the first flaw.
 pub fn verdict_of<A: Allocator + Clone>(
     alloc: A,
-    sheet: &Sheet<A>,
+    sheet: &Sheet<'_, A>,
     text: &[u8],
 ) -> Result<Checked<A>, ProgramFault>
     ensures checked { IfOk result (λ checked. (source : List ℕ) → IsSheetOf source sheet.now

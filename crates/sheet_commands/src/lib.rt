@@ -2,12 +2,15 @@
 //! them.
 //!
 //! ```text
-//! let mut output = Vec::new(alloc);
-//! run_share(alloc, &mut reader, &mut output)?;  // a line for each want, and the total
-//! match run_check(alloc, &mut sheet, &mut grants, &mut output)? {
-//!     Verdict::Yes => ..,      // and `yes` was written
-//!     Verdict::No(flaw) => .., // and the first flaw was
-//! }
+//! let alloc = rt.alloc();
+//! let sheet = "limit / 10\nwant /a 8\nwant /b 5\n";
+//! let mut shared = Vec::new(alloc);
+//! run_share(alloc, &mut sheet.as_bytes(), &mut shared)?;
+//! assert!(rt; shared.as_slice() == b"/a 5 of 8 full /\n/b 5 of 5\ntotal 10\n".as_slice());
+//! let mut grants = "grant /a 5 /\ngrant /b 5\n".as_bytes();
+//! let mut verdict = Vec::new(alloc);
+//! let is = run_check(alloc, &mut sheet.as_bytes(), &mut grants, &mut verdict)?;
+//! assert!(rt; is == Verdict::Yes && verdict.as_slice() == b"yes\n".as_slice());
 //! ```
 #![tactic(auto)]
 

@@ -3,9 +3,10 @@ ghost use Rattle.std.specs.Prelude.{◌≡◌, ◌≢◌, ◌<◌, ◌^◌, [], 
 ghost use Rattle.std.specs.Io.KnownBytes.{Appends};
 ghost use Rattle.limit_tree.specs.Outline.{limits};
 ghost use Rattle.round_allocator.specs.Rounds.{IsNamed};
-ghost use Rattle.share_text.specs.Views.{IsSheetOf, written};
+ghost use Rattle.sheet_tree.specs.Paths.{written};
+ghost use Rattle.share_text.specs.Views.{IsSheetOf};
 ghost use Rattle.sheet_commands.specs.Lines.{share_line, share_lines, total};
-ghost use Rattle.share_text.specs.declared.fault.SheetFault.{SheetFault};
+ghost use Rattle.sheet_nodes.specs.declared.fault.SheetFault.{SheetFault};
 ghost use Rattle.sheet_commands.specs.Faults.{IsReadingFault, IsSheetJudgement, IsTextOf};
 ghost use Rattle.sheet_commands.specs.Sharing.{IsSharingOf, IsSheetFaultOf, leaf_line, sharing_text};
 
@@ -19,7 +20,7 @@ use std::alloc::{AllocError, Allocator};
 use text_ends::{TextReader, TextWriter};
 
 /// The path of the node that an entry names.
-fn path_of<A: Allocator>(sheet: &Sheet<A>, entry: Option<u32>) -> Option<&str>
+fn path_of<'t, A: Allocator>(sheet: &Sheet<'t, A>, entry: Option<u32>) -> Option<&'t str>
     requires node { IfSome entry (λ node. node < length sheet.now.outline) }
     ensures path { option_map (λ path. path.now) result
         ≡ option_map (λ node. written (slice_index_or sheet.now.paths node [])) entry }
@@ -31,13 +32,13 @@ fn path_of<A: Allocator>(sheet: &Sheet<A>, entry: Option<u32>) -> Option<&str>
 }
 
 /// What a leaf wants and got.
-fn share_of<'s, A: Allocator>(
-    sheet: &'s Sheet<A>,
+fn share_of<'t, A: Allocator>(
+    sheet: &Sheet<'t, A>,
     wants: &[u64],
     grants: &[u64],
     entries: &[Option<u32>],
     leaf: usize,
-) -> Share<'s>
+) -> Share<'t>
     requires wants { wants.now ≡ (limits sheet.now.outline).wants }
     requires grants { length grants.now ≡ length wants.now }
     requires leaves { length sheet.now.leaves ≡ length wants.now }
@@ -55,13 +56,13 @@ fn share_of<'s, A: Allocator>(
 }
 
 /// What each want of a sheet got, in the order of their lines.
-fn shares_of<'s, A: Allocator, B: Allocator>(
+fn shares_of<'t, A: Allocator, B: Allocator>(
     alloc: B,
-    sheet: &'s Sheet<A>,
+    sheet: &Sheet<'t, A>,
     wants: &[u64],
     grants: &[u64],
     entries: &[Option<u32>],
-) -> Result<Vec<Share<'s>, B>, AllocError>
+) -> Result<Vec<Share<'t>, B>, AllocError>
     requires wants { wants.now ≡ (limits sheet.now.outline).wants }
     requires grants { length grants.now ≡ length wants.now }
     requires leaves { length sheet.now.leaves ≡ length wants.now }
@@ -81,7 +82,10 @@ fn shares_of<'s, A: Allocator, B: Allocator>(
 }
 
 /// The lines of the sharing of a sheet that was read.
-fn sharing_lines<A: Allocator + Clone>(alloc: A, sheet: &Sheet<A>) -> Result<String<A>, AllocError>
+fn sharing_lines<A: Allocator + Clone>(
+    alloc: A,
+    sheet: &Sheet<'_, A>,
+) -> Result<String<A>, AllocError>
     ensures shared { IfOk result (λ lines. (text : List ℕ) → IsSheetOf text sheet.now
         → IsSharingOf text (string_bytes lines)) }
 {

@@ -25,7 +25,7 @@ fn push_words<B: Allocator>(
 fn push_leaf<A: Allocator, B: Allocator>(
     text: &mut String<B>,
     name: &str,
-    sheet: &Sheet<A>,
+    sheet: &Sheet<'_, A>,
     leaf: usize,
     grant: u64,
 ) -> Result<(), AllocError>
@@ -39,7 +39,7 @@ fn push_leaf<A: Allocator, B: Allocator>(
 
 fn push_flaw<A: Allocator, B: Allocator>(
     text: &mut String<B>,
-    sheet: &Sheet<A>,
+    sheet: &Sheet<'_, A>,
     grants: &[u64],
     flaw: Flaw,
 ) -> Result<(), AllocError>
@@ -93,7 +93,7 @@ fn push_flaw<A: Allocator, B: Allocator>(
 /// The line of a verdict: `yes`, or `no` with the number of the flaw, its name and its fields.
 pub fn verdict_line<A: Allocator, B: Allocator>(
     alloc: B,
-    sheet: &Sheet<A>,
+    sheet: &Sheet<'_, A>,
     grants: &[u64],
     verdict: Verdict,
 ) -> Result<String<B>, AllocError>

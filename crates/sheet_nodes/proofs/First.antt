@@ -1,6 +1,9 @@
 -- The root alone.
-use Rattle.std.proofs.Common.{◌≡◌, ◌∙◌, ℕ, zero, suc, ◌<◌, true, false, List, [], ◌∷◌, ◌++◌, get_or, refl, sym, ap, subst, arith, None}
-use Rattle.std.specs.BTreeMap.{BTreeMap, IsEmpty, is_at}
+use Rattle.std.proofs.Common.{◌≡◌, ◌∙◌, ℕ, zero, suc, ◌<◌, true, false, List, [], ◌∷◌, ◌++◌, get_or, refl, sym, ap, subst, arith, Bor, None, Some}
+use Rattle.std.specs.Prelude.{slice_get}
+use Rattle.std.specs.BTreeMap.{is_at}
+use Rattle.std.specs.Ordering.{nat_cmp}
+use Rattle.std.specs.Cmp.Lexicographic.{slice_cmp}
 use Rattle.std.specs.Map.{lookup}
 use Rattle.std.proofs.lemmas.Bool.{true≢false}
 use Rattle.limit_tree.specs.declared.place.Kind.{Kind}
@@ -10,7 +13,7 @@ use Rattle.sheet_nodes.specs.declared.node.Node.{Node}
 use Rattle.sheet_tree.specs.Paths.{Path, is_among, is_within, names_of, text_of}
 use Rattle.sheet_tree.proofs.Listing.{place_none}
 use Rattle.sheet_nodes.specs.Table.{fresh, mention_at, want_count}
-use Rattle.sheet_nodes.specs.Inside.{AreNames, AreNodes, Finds, IsTable, Key, key_cmp, kid_of, mention_of}
+use Rattle.sheet_nodes.specs.Inside.{AreNames, AreNodes, Finds, IsTable, Names, kid_of, mention_of, named}
 
 not_root : (path : Path) (name : List ℕ) → is_among ([] ∷ []) (path ++ name ∷ []) ≡ false
 not_root [] name = refl
@@ -36,8 +39,10 @@ fresh_table = record { names = root_alone; branches = λ place l none. branches 
     branches zero l = refl
     branches (suc place) l = refl
 
-pub first_nodes : (nodes none : List Node) (root : Node) (places : BTreeMap Key ℕ) → nodes ≡ none ++ root ∷ [] → none ≡ [] → root.path.now ≡ [] → root.kind ≡ Branch None → root.line ≡ None → IsEmpty places → AreNodes nodes places 0
-first_nodes nodes none root places e start text kind line empty = subst (λ (ns : List Node). AreNodes ns places 0) (sym (e ∙ ap (λ (ns : List Node). ns ++ root ∷ []) start)) alone
+pub first_nodes : (nodes none : List Node) (root : Node) (rows no_rows : List Names) (row : Names) → nodes ≡ none ++ root ∷ [] → none ≡ [] → root.path.now ≡ [] → root.kind ≡ Branch None → root.line ≡ None → rows ≡ no_rows ++ row ∷ [] → no_rows ≡ [] → row.entries ≡ [] → AreNodes nodes rows 0
+first_nodes nodes none root rows no_rows row e start text kind line rows_are no_rows_are empty =
+    subst (λ (ns : List Node). AreNodes ns rows 0) (sym (e ∙ ap (λ (ns : List Node). ns ++ root ∷ []) start))
+    (subst (λ (rs : List Names). AreNodes (root ∷ []) rs 0) (sym (rows_are ∙ ap (λ (rs : List Names). rs ++ row ∷ []) no_rows_are)) alone)
   where
     mention : mention_of root ∷ [] ≡ fresh
     mention = cc
@@ -45,13 +50,18 @@ first_nodes nodes none root places e start text kind line empty = subst (λ (ns 
     path_is : names_of root.path.now ≡ []
     path_is = ap names_of text
 
-    alone : AreNodes (root ∷ []) places 0
+    nothing : (names : Names) (q : List ℕ) (place : ℕ) → slice_get (row ∷ []) place ≡ Some names → named names q ≡ None
+    nothing names q zero at = let same : row ≡ names = cc in ap (λ (r : Names). named r q) (sym same) ∙ ap (lookup (is_at (λ (key : Bor (List ℕ)). slice_cmp nat_cmp q key.now))) empty
+    nothing names q (suc place) at = cc
+
+    alone : AreNodes (root ∷ []) (row ∷ []) 0
     alone = record {
       table = subst IsTable (sym mention) fresh_table;
       texts = ap (λ (t : List ℕ). text_of (names_of t) ∷ []) text ∙ ap (λ (t : List ℕ). t ∷ []) (sym text);
-      finds = subst (λ (p : Path). Finds (p ∷ []) places) (sym path_is) (record {
-        there = λ key l. ap (lookup (is_at (key_cmp key))) empty ∙ sym (place_none ([] ∷ []) (kid_of ([] ∷ []) key.0 key.1.now) (not_root (get_or ([] ∷ []) key.0 []) key.1.now));
-        nowhere = λ key l. ap (lookup (is_at (key_cmp key))) empty;
+      finds = subst (λ (p : Path). Finds (p ∷ []) (row ∷ [])) (sym path_is) (record {
+        enough = omega arith;
+        there = λ place names q l at. nothing names q place at ∙ sym (place_none ([] ∷ []) (kid_of ([] ∷ []) place q) (not_root (get_or ([] ∷ []) place []) q));
+        nowhere = λ place names q l at. nothing names q place at;
       });
       beneath = λ place some within. absurd (omega arith);
       counted = ap (λ (k : Kind). want_count (record { path = names_of root.path.now; kind = k; line = root.line } ∷ [])) (sym kind);

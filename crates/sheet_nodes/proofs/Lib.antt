@@ -1,12 +1,14 @@
 mod Cuts
-mod Tables
+pub mod Tables
 mod Walked
 mod Pushed
 mod First
 mod Noted
 mod Stands
 mod Rows
-mod Trees
+pub mod Trees
 mod Taken
+mod Places
+mod Faults
 mod Sound
-mod Together
+pub mod Together

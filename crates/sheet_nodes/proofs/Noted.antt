@@ -2,14 +2,13 @@
 use Rattle.std.proofs.Common.{◌≡◌, ◌∙◌, ℕ, zero, suc, ◌<◌, ◌+◌, ◌||◌, Bool, true, false, cond, List, [], ◌∷◌, ◌++◌, length, map, get_or, set, refl, sym, ap, subst, arith, Option, Some, None, inl, inr, get_or-set_same, get_or-set_other, length-set, Bor}
 use Rattle.std.proofs.lemmas.Bool.{cases_eq, true≢false}
 use Rattle.std.proofs.lemmas.List.Sums.{sum_by-cons}
-use Rattle.std.specs.BTreeMap.{BTreeMap}
 use Rattle.limit_tree.specs.declared.place.Kind.{Kind}
 use Rattle.limit_tree.specs.Outline.{is_leaf_kind}
 use Rattle.sheet_tree.specs.Paths.{Octets, Path, NoneTwice, is_among, names_of, same_path, text_of}
 use Rattle.sheet_tree.proofs.Within.{same_self}
 use Rattle.sheet_nodes.specs.declared.node.Node.{Node}
 use Rattle.sheet_nodes.specs.Table.{Entry, Mention, Table, mention_at, noted, path_at, paths_in, unstated, want_count}
-use Rattle.sheet_nodes.specs.Inside.{AreBeneath, AreNames, AreNodes, Finds, IsTable, Key, mention_of, parents_of, paths_of, table_of, texts_of}
+use Rattle.sheet_nodes.specs.Inside.{AreBeneath, AreNames, AreNodes, Finds, IsTable, Names, mention_of, parents_of, paths_of, table_of, texts_of}
 use Rattle.std.proofs.lemmas.List.{get_or-map, length-map}
 use Rattle.sheet_nodes.proofs.Tables.{count, apart_from}
 use Rattle.sheet_nodes.proofs.Pushed.{paths_in_table}
@@ -116,11 +115,11 @@ field_kept : {Y : Type 0} (f : Node → Y) (nodes : List Node) (node new : Node)
 field_kept f nodes node new place l is same =
     map_set f nodes place new ∙ ap (set (map f nodes) place) (same ∙ ap f is ∙ sym (get_or-map f nodes place node (f node) l)) ∙ set_same (map f nodes) place (f node) (omega (arith, length-map nodes f, l))
 
-pub noted_kept : (nodes : List Node) (node new : Node) (table : Table) (places : BTreeMap Key ℕ) (place number wants : ℕ) (kind : Kind) → IsNoting nodes node new table place number kind → AreNodes nodes places wants → AreNodes (set nodes place new) places (one_if (is_leaf_kind kind) + wants)
-noted_kept nodes node new table places place number wants kind is are = record {
+pub noted_kept : (nodes : List Node) (node new : Node) (table : Table) (names : List Names) (place number wants : ℕ) (kind : Kind) → IsNoting nodes node new table place number kind → AreNodes nodes names wants → AreNodes (set nodes place new) names (one_if (is_leaf_kind kind) + wants)
+noted_kept nodes node new table names place number wants kind is are = record {
   table = subst IsTable (sym view_new) (table_set table place kind number tables is.place_in);
   texts = ap (map text_of) paths ∙ are.texts ∙ sym (field_kept (λ (n : Node). n.path.now) nodes node new place within is.node_is (ap (λ (t : Bor (List ℕ)). t.now) is.path_kept));
-  finds = subst (λ (ps : List Path). Finds ps places) (sym paths) are.finds;
+  finds = subst (λ (ps : List Path). Finds ps names) (sym paths) are.finds;
   beneath = subst (λ (ps : List Path). AreBeneath ps (parents_of (set nodes place new))) (sym paths)
       (subst (λ (ups : List ℕ). AreBeneath (paths_of nodes) ups) (sym (field_kept (λ (n : Node). n.parent) nodes node new place within is.node_is is.parent_kept)) are.beneath);
   counted = sym (ap want_count view_new ∙ count_set table place (record { path = path_at table place; kind = kind; line = Some number }) is.place_in (tables.branches place is.place_in is.unstated_is)

@@ -1,13 +1,11 @@
 -- One node more.
-use Rattle.std.proofs.Common.{◌≡◌, ◌∙◌, ℕ, ◌<◌, ◌≤◌, ◌==◌, ◌||◌, ◌&&◌, Bool, true, false, cond, List, [], ◌∷◌, ◌++◌, length, map, get_or, refl, sym, ap, subst, arith, Bor, length-append, Option, Some, None, bytes_eq, inl, inr, eqb-true, eq-eqb, take, ◌-◌}
-use Rattle.std.specs.BTreeMap.{get, BTreeMap, is_at}
-use Rattle.std.specs.declared.cmp.Ordering.{Ordering}
-use Rattle.std.specs.declared.cmp.Ordering.TheVariants.{Less, Equal, Greater}
-use Rattle.std.specs.Ordering.{nat_cmp, ordering_then, is_eq}
+use Rattle.std.proofs.Common.{◌≡◌, ◌∙◌, ℕ, ◌<◌, ◌==◌, ◌||◌, ◌&&◌, Bool, true, false, cond, List, [], ◌∷◌, ◌++◌, length, map, get_or, refl, sym, ap, subst, arith, Bor, length-append, Option, Some, None, bytes_eq, inl, inr, eqb-true, eq-eqb, ne_eqb, set, length-set, take, ◌-◌}
+use Rattle.std.specs.Prelude.{slice_get}
+use Rattle.std.specs.BTreeMap.{is_at}
+use Rattle.std.specs.Ordering.{nat_cmp}
 use Rattle.std.specs.Cmp.Lexicographic.{slice_cmp}
 use Rattle.std.proofs.lemmas.Bool.{and_parts, cases_lt, or_cases, or_left, or_right, true≢false}
-use Rattle.std.proofs.lemmas.Bool.Decides.{nat_tests}
-use Rattle.std.proofs.lemmas.Map.Text.{is_eq-slice_cmp}
+use Rattle.std.proofs.lemmas.Option.{slice_get_read}
 use Rattle.std.specs.Map.{lookup}
 use Rattle.std.proofs.lemmas.List.{get_or_append_left, map-append, length-map, take-append-le, take_all}
 use Rattle.std.proofs.lemmas.List.Folds.{list_any-append}
@@ -20,22 +18,9 @@ use Rattle.sheet_tree.proofs.Listing.{found_after, place_none, not_among}
 use Rattle.sheet_tree.proofs.Mentioned.{once_push}
 use Rattle.sheet_nodes.specs.declared.node.Node.{Node}
 use Rattle.sheet_nodes.specs.Table.{Table, Mention, mention_at, path_at, paths_in, unstated, want_count}
-use Rattle.sheet_nodes.specs.Inside.{AreBeneath, AreNames, AreNodes, Finds, IsTable, Key, key_cmp, kid_of, mention_of, parents_of, paths_of, table_of, texts_of}
+use Rattle.sheet_nodes.specs.Inside.{AreBeneath, AreNames, AreNodes, Finds, IsTable, Names, kid_of, mention_of, named, parents_of, paths_of, table_of, texts_of}
 use Rattle.sheet_nodes.proofs.Tables.{count, place_at, there_at}
-
-is_eq_then : (o p : Ordering) → is_eq (ordering_then o p) ≡ (is_eq o && is_eq p)
-is_eq_then Less p = refl
-is_eq_then Equal p = refl
-is_eq_then Greater p = refl
-
-is_eq_nat : (a b : ℕ) → is_eq (nat_cmp a b) ≡ (a == b)
-is_eq_nat a b = grind (arith, nat_tests)
-
-key_same : (a b : Key) → is_eq (key_cmp a b) ≡ ((a.0 == b.0) && bytes_eq a.1.now b.1.now)
-key_same a b =
-    is_eq_then (nat_cmp a.0 b.0) (slice_cmp nat_cmp a.1.now b.1.now)
-    ∙ ap (λ (t : Bool). t && is_eq (slice_cmp nat_cmp a.1.now b.1.now)) (is_eq_nat a.0 b.0)
-    ∙ ap (λ (t : Bool). (a.0 == b.0) && t) (is_eq-slice_cmp a.1.now b.1.now)
+use Rattle.sheet_nodes.proofs.Rows.{push_get, set_get}
 
 same_bool : (a b : Bool) → (a ≡ true → b ≡ true) → (b ≡ true → a ≡ true) → a ≡ b
 same_bool true b f g = sym (f refl)
@@ -45,20 +30,20 @@ same_bool false false f g = refl
 both_true : (a b : Bool) → a ≡ true → b ≡ true → (a && b) ≡ true
 both_true a b e f = ap (λ (t : Bool). t && b) e ∙ f
 
--- a key is that of a new kid just where their paths are the same
-kid_same : (paths : List Path) (parent : ℕ) (name : Bor (List ℕ)) (key : Key) → AreNames paths → parent < length paths → key.0 < length paths
-    → is_eq (key_cmp (parent, name) key) ≡ same_path (kid_of paths key.0 key.1.now) (kid_of paths parent name.now)
-kid_same paths parent name key names l k = key_same (parent, name) key ∙ same_bool ((parent == key.0) && bytes_eq name.now key.1.now) (same_path (kid_of paths key.0 key.1.now) (kid_of paths parent name.now))
+-- a name below a place is that of a new kid just where their paths are the same
+kid_same : (paths : List Path) (parent place : ℕ) (name q : List ℕ) → AreNames paths → parent < length paths → place < length paths
+    → ((parent == place) && bytes_eq name q) ≡ same_path (kid_of paths place q) (kid_of paths parent name)
+kid_same paths parent place name q names l k = same_bool ((parent == place) && bytes_eq name q) (same_path (kid_of paths place q) (kid_of paths parent name))
     (λ e.
-    let both = and_parts (parent == key.0) (bytes_eq name.now key.1.now) e in
-    let place : parent ≡ key.0 = eqb-true parent key.0 both.0 in
-    let named : name.now ≡ key.1.now = is_name name.now key.1.now both.1 in
-    ap (λ (p : Path). same_path p (kid_of paths parent name.now)) (ap (λ (n : ℕ). kid_of paths n key.1.now) (sym place) ∙ ap (λ (m : List ℕ). kid_of paths parent m) (sym named)) ∙ same_self (kid_of paths parent name.now))
+    let both = and_parts (parent == place) (bytes_eq name q) e in
+    let there : parent ≡ place = eqb-true parent place both.0 in
+    let named : name ≡ q = is_name name q both.1 in
+    ap (λ (p : Path). same_path p (kid_of paths parent name)) (ap (λ (n : ℕ). kid_of paths n q) (sym there) ∙ ap (λ (m : List ℕ). kid_of paths parent m) (sym named)) ∙ same_self (kid_of paths parent name))
     (λ e.
-    let agree = fronts_agree (get_or paths key.0 []) (get_or paths parent []) key.1.now name.now (is_same (kid_of paths key.0 key.1.now) (kid_of paths parent name.now) e) in
-    let found : Some parent ≡ Some key.0 = sym (place_at paths parent names.once l) ∙ ap (place_of paths) (sym agree.0) ∙ place_at paths key.0 names.once k in
-    let place : parent ≡ key.0 = cc in
-    both_true (parent == key.0) (bytes_eq name.now key.1.now) (eq-eqb parent key.0 place) (ap (bytes_eq name.now) agree.1 ∙ same_name name.now))
+    let agree = fronts_agree (get_or paths place []) (get_or paths parent []) q name (is_same (kid_of paths place q) (kid_of paths parent name) e) in
+    let found : Some parent ≡ Some place = sym (place_at paths parent names.once l) ∙ ap (place_of paths) (sym agree.0) ∙ place_at paths place names.once k in
+    let there : parent ≡ place = cc in
+    both_true (parent == place) (bytes_eq name q) (eq-eqb parent place there) (ap (bytes_eq name) agree.1 ∙ same_name name))
 
 longer : (p : Path) (n : List ℕ) → same_path (p ++ n ∷ []) p ≡ false
 longer [] n = refl
@@ -76,35 +61,73 @@ none_beneath paths path name names absent = go (is_among paths (path ++ name ∷
     go false e = place_none paths (path ++ name ∷ []) e
     go true e = absurd (true≢false (sym (names.closed path (path ++ name ∷ []) (within_front path name) e) ∙ not_among paths path absent))
 
-finds_more : (paths : List Path) (parent : ℕ) (name : Bor (List ℕ)) (old new : BTreeMap Key ℕ) → AreNames paths → parent < length paths → place_of paths (kid_of paths parent name.now) ≡ None → Finds paths old
-    → ((q : Key) → get key_cmp new q ≡ cond (is_at (key_cmp (parent, name)) q) (Some (length paths)) (get key_cmp old q)) → Finds (paths ++ kid_of paths parent name.now ∷ []) new
-finds_more paths parent name old new names l absent finds updates = record { there = λ key less. there key less; nowhere = λ key past. nowhere key past }
+-- a row more, which has no names
+pub finds_row : (paths : List Path) (old : List Names) (row : Names) → row.entries ≡ [] → Finds paths old → Finds paths (old ++ row ∷ [])
+finds_row paths old row none finds = record {
+  enough = omega (arith, finds.enough, length-append old (row ∷ []));
+  there = λ place names q l at. elim (push_get old row names place at) [
+    | inl before ↦ finds.there place names q l before
+    | inr new ↦ absurd (omega (arith, l, new.0, finds.enough))
+  ];
+  nowhere = λ place names q l at. elim (push_get old row names place at) [
+    | inl before ↦ finds.nowhere place names q l before
+    | inr new ↦ ap (λ (r : Names). named r q) (sym new.1) ∙ ap (lookup (is_at (λ (key : Bor (List ℕ)). slice_cmp nat_cmp q key.now))) none
+  ];
+}
+
+-- a row that has the same names
+finds_same : (paths : List Path) (parent : ℕ) (old : List Names) (before after : Names) → after.entries ≡ before.entries → slice_get old parent ≡ Some before → Finds paths old → Finds paths (set old parent after)
+finds_same paths parent old before after entries was finds = record {
+  enough = omega (arith, finds.enough, length-set old parent after);
+  there = λ place names q l at. elim (set_get old parent after names place at) [
+    | inl here ↦ same names q here.1 ∙ finds.there place before q l (ap (slice_get old) (sym here.0) ∙ was)
+    | inr other ↦ finds.there place names q l other.1
+  ];
+  nowhere = λ place names q l at. elim (set_get old parent after names place at) [
+    | inl here ↦ same names q here.1 ∙ finds.nowhere place before q l (ap (slice_get old) (sym here.0) ∙ was)
+    | inr other ↦ finds.nowhere place names q l other.1
+  ];
+}
   where
-    elsewhere : (key : Key) → length paths ≤ key.0 → get key_cmp new key ≡ None
-    elsewhere key past =
-        let other : (parent == key.0) ≡ false = grind (arith, nat_tests) in
-        updates key ∙ ap (λ (t : Bool). cond t (Some (length paths)) (get key_cmp old key)) (key_same (parent, name) key ∙ ap (λ (t : Bool). t && bytes_eq name.now key.1.now) other) ∙ finds.nowhere key past
+    same : (names : Names) (q : List ℕ) → after ≡ names → named names q ≡ named before q
+    same names q is = ap (λ (r : Names). named r q) (sym is) ∙ ap (lookup (is_at (λ (key : Bor (List ℕ)). slice_cmp nat_cmp q key.now))) entries
 
-    nowhere : (key : Key) → length (paths ++ kid_of paths parent name.now ∷ []) ≤ key.0 → get key_cmp new key ≡ None
-    nowhere key past = elsewhere key (omega (arith, past, length-append paths (kid_of paths parent name.now ∷ [])))
+-- a name more in the row of its parent
+finds_more : (paths : List Path) (parent : ℕ) (name : List ℕ) (old : List Names) (before after : Names) → AreNames paths → parent < length paths → length paths < length old → place_of paths (kid_of paths parent name) ≡ None → slice_get old parent ≡ Some before
+    → ((q : List ℕ) → named after q ≡ cond (bytes_eq name q) (Some (length paths)) (named before q)) → Finds paths old → Finds (paths ++ kid_of paths parent name ∷ []) (set old parent after)
+finds_more paths parent name old before after are l room absent was updates finds = record {
+  enough = omega (arith, room, length-set old parent after, length-append paths (kid_of paths parent name ∷ []));
+  there = λ place names q less at. there place names q less at;
+  nowhere = λ place names q past at. elim (set_get old parent after names place at) [
+    | inl here ↦ absurd (omega (arith, past, l, here.0, length-append paths (kid_of paths parent name ∷ [])))
+    | inr other ↦ finds.nowhere place names q (omega (arith, past, length-append paths (kid_of paths parent name ∷ []))) other.1
+  ];
+}
+  where
+    found : (place : ℕ) (q : List ℕ) → place < length paths → place_of (paths ++ kid_of paths parent name ∷ []) (kid_of (paths ++ kid_of paths parent name ∷ []) place q) ≡ cond ((parent == place) && bytes_eq name q) (Some (length paths)) (place_of paths (kid_of paths place q))
+    found place q early =
+        ap (λ (p : Path). place_of (paths ++ kid_of paths parent name ∷ []) (p ++ q ∷ [])) (get_or_append_left paths (kid_of paths parent name ∷ []) [] place early)
+        ∙ found_after paths (kid_of paths parent name) (kid_of paths place q) absent
+        ∙ ap (λ (b : Bool). cond b (Some (length paths)) (place_of paths (kid_of paths place q))) (sym (kid_same paths parent place name q are l early))
 
-    there : (key : Key) → key.0 < length (paths ++ kid_of paths parent name.now ∷ []) → get key_cmp new key ≡ place_of (paths ++ kid_of paths parent name.now ∷ []) (kid_of (paths ++ kid_of paths parent name.now ∷ []) key.0 key.1.now)
-    there key less = elim (cases_lt key.0 (length paths)) [
-      | inl before ↦
-          let front : kid_of (paths ++ kid_of paths parent name.now ∷ []) key.0 key.1.now ≡ kid_of paths key.0 key.1.now = ap (λ (p : Path). p ++ key.1.now ∷ []) (get_or_append_left paths (kid_of paths parent name.now ∷ []) [] key.0 before) in
-          updates key
-          ∙ ap (λ (t : Bool). cond t (Some (length paths)) (get key_cmp old key)) (kid_same paths parent name key names l before)
-          ∙ ap (λ (o : Option ℕ). cond (same_path (kid_of paths key.0 key.1.now) (kid_of paths parent name.now)) (Some (length paths)) o) (finds.there key before)
-          ∙ sym (ap (place_of (paths ++ kid_of paths parent name.now ∷ [])) front ∙ found_after paths (kid_of paths parent name.now) (kid_of paths key.0 key.1.now) absent)
-      | inr past ↦
-          let last : key.0 ≡ length paths = omega (arith, less, past, length-append paths (kid_of paths parent name.now ∷ [])) in
-          let front : kid_of (paths ++ kid_of paths parent name.now ∷ []) key.0 key.1.now ≡ kid_of paths parent name.now ++ key.1.now ∷ [] =
-          ap (λ (p : Path). p ++ key.1.now ∷ []) (ap (λ (n : ℕ). get_or (paths ++ kid_of paths parent name.now ∷ []) n []) last ∙ get_or-append_seam paths (kid_of paths parent name.now) [] []) in
-          elsewhere key past
-          ∙ sym (ap (place_of (paths ++ kid_of paths parent name.now ∷ [])) front
-          ∙ found_after paths (kid_of paths parent name.now) (kid_of paths parent name.now ++ key.1.now ∷ []) absent
-          ∙ ap (λ (t : Bool). cond t (Some (length paths)) (place_of paths (kid_of paths parent name.now ++ key.1.now ∷ []))) (longer (kid_of paths parent name.now) key.1.now)
-          ∙ none_beneath paths (kid_of paths parent name.now) key.1.now names absent)
+    behind : (place : ℕ) (q : List ℕ) → place ≡ length paths → place_of (paths ++ kid_of paths parent name ∷ []) (kid_of (paths ++ kid_of paths parent name ∷ []) place q) ≡ None
+    behind place q last =
+        ap (λ (p : Path). place_of (paths ++ kid_of paths parent name ∷ []) (p ++ q ∷ [])) (ap (λ (n : ℕ). get_or (paths ++ kid_of paths parent name ∷ []) n []) last ∙ get_or-append_seam paths (kid_of paths parent name) [] [])
+        ∙ found_after paths (kid_of paths parent name) (kid_of paths parent name ++ q ∷ []) absent
+        ∙ ap (λ (t : Bool). cond t (Some (length paths)) (place_of paths (kid_of paths parent name ++ q ∷ []))) (longer (kid_of paths parent name) q)
+        ∙ none_beneath paths (kid_of paths parent name) q are absent
+
+    there : (place : ℕ) (names : Names) (q : List ℕ) → place < length (paths ++ kid_of paths parent name ∷ []) → slice_get (set old parent after) place ≡ Some names
+        → named names q ≡ place_of (paths ++ kid_of paths parent name ∷ []) (kid_of (paths ++ kid_of paths parent name ∷ []) place q)
+    there place names q less at = elim (set_get old parent after names place at) [
+      | inl here ↦
+          ap (λ (r : Names). named r q) (sym here.1) ∙ updates q
+          ∙ ap (λ (o : Option ℕ). cond (bytes_eq name q) (Some (length paths)) o) (finds.there parent before q l was ∙ ap (λ (n : ℕ). place_of paths (kid_of paths n q)) here.0)
+          ∙ sym (found place q (omega (arith, l, here.0)) ∙ ap (λ (b : Bool). cond (b && bytes_eq name q) (Some (length paths)) (place_of paths (kid_of paths place q))) (eq-eqb parent place here.0))
+      | inr other ↦ elim (cases_lt place (length paths)) [
+        | inl early ↦ finds.there place names q early other.1 ∙ sym (found place q early ∙ ap (λ (b : Bool). cond (b && bytes_eq name q) (Some (length paths)) (place_of paths (kid_of paths place q))) (ne_eqb parent place other.0))
+        | inr past ↦ finds.nowhere place names q past other.1 ∙ sym (behind place q (omega (arith, less, past, length-append paths (kid_of paths parent name ∷ []))))
+      ]
     ]
 
 -- what is above one name more is above the rest, or all
@@ -187,11 +210,14 @@ pub paths_in_table : (nodes : List Node) → paths_in (table_of nodes) ≡ paths
 paths_in_table [] = refl
 paths_in_table (node ∷ nodes) = ap (λ (ps : List Path). names_of node.path.now ∷ ps) (paths_in_table nodes)
 
-pub record IsPushed (nodes new : List Node) (node : Node) (name : Bor (List ℕ)) (old places : BTreeMap Key ℕ) (place : ℕ) : Type 0 where
+pub record IsPushed (nodes new : List Node) (node : Node) (name : List ℕ) (old names : List Names) (before after : Names) (place : ℕ) : Type 0 where
   pub items : new ≡ nodes ++ node ∷ []
   pub plain : mention_of node ≡ unstated (names_of node.path.now)
   pub place_is : place ≡ length nodes
-  pub updates : (q : Key) → get key_cmp places q ≡ cond (is_at (key_cmp (node.parent, name)) q) (Some place) (get key_cmp old q)
+  pub room : length nodes < length old
+  pub was : slice_get old node.parent ≡ Some before
+  pub updates : (q : List ℕ) → named after q ≡ cond (bytes_eq name q) (Some place) (named before q)
+  pub names_are : names ≡ set old node.parent after
 
 -- what the requires of a push say
 pub record IsNext (table : Table) (node : Node) (name : List ℕ) : Type 0 where
@@ -204,21 +230,32 @@ pub table_pushed : (nodes new : List Node) (node : Node) (table : Table) → new
 table_pushed nodes new node table items plain view =
     ap table_of items ∙ map-append mention_of nodes (node ∷ []) ∙ ap (λ (m : Mention). table_of nodes ++ m ∷ []) plain ∙ ap (λ (t : Table). t ++ unstated (names_of node.path.now) ∷ []) view
 
-pub push_kept : (nodes new : List Node) (node : Node) (name : Bor (List ℕ)) (old places : BTreeMap Key ℕ) (place wants : ℕ) (table : Table) → IsPushed nodes new node name old places place → AreNodes nodes old wants → table_of nodes ≡ table → IsNext table node name.now → AreNodes new places wants
-push_kept nodes new node name old places place wants table is are view next = record {
+-- rows more leave the nodes as they are
+pub row_kept : (nodes : List Node) (old : List Names) (row : Names) (wants : ℕ) → row.entries ≡ [] → AreNodes nodes old wants → AreNodes nodes (old ++ row ∷ []) wants
+row_kept nodes old row wants none are = record {
+  table = are.table;
+  texts = are.texts;
+  finds = finds_row (paths_of nodes) old row none are.finds;
+  beneath = are.beneath;
+  counted = are.counted;
+}
+
+pub push_kept : (nodes new : List Node) (node : Node) (name : List ℕ) (old names : List Names) (before after : Names) (place wants : ℕ) (table : Table) → IsPushed nodes new node name old names before after place → AreNodes nodes old wants → table_of nodes ≡ table → IsNext table node name → AreNodes new names wants
+push_kept nodes new node name old names before after place wants table is are view next = record {
   table = subst IsTable (sym (table_pushed nodes new node table is.items is.plain view ∙ ap (λ (p : Path). table ++ unstated p ∷ []) next.path_is))
-      (table_push table (path_at table node.parent) name.now (subst IsTable view are.table) (there_at table node.parent next.parent_in)
+      (table_push table (path_at table node.parent) name (subst IsTable view are.table) (there_at table node.parent next.parent_in)
       (ap (is_among (paths_in table)) (sym next.path_is) ∙ not_among (paths_in table) (names_of node.path.now) next.absent));
   texts = ap (λ (ns : List Node). map text_of (paths_of ns)) is.items ∙ ap (map text_of) (map-append (λ (n : Node). names_of n.path.now) nodes (node ∷ []))
       ∙ map-append text_of (paths_of nodes) (names_of node.path.now ∷ [])
       ∙ ap (λ (ts : List (List ℕ)). ts ++ text_of (names_of node.path.now) ∷ []) are.texts ∙ ap (λ (t : List ℕ). texts_of nodes ++ t ∷ []) next.text_is
       ∙ sym (ap texts_of is.items ∙ map-append (λ (n : Node). n.path.now) nodes (node ∷ []));
-  finds = subst (λ (ps : List Path). Finds ps places) (sym paths_new)
-      (finds_more (paths_of nodes) node.parent name old places names within none are.finds
-      (λ q. is.updates q ∙ ap (λ (n : ℕ). cond (is_at (key_cmp (node.parent, name)) q) (Some n) (get key_cmp old q)) count_is));
+  finds = subst (λ (ps : List Path). Finds ps names) (sym paths_new)
+      (subst (λ (rows : List Names). Finds (paths_of nodes ++ kid_of (paths_of nodes) node.parent name ∷ []) rows) (sym is.names_are)
+      (finds_more (paths_of nodes) node.parent name old before after table_names within (omega (arith, is.room, many)) none is.was
+      (λ q. is.updates q ∙ ap (λ (n : ℕ). cond (bytes_eq name q) (Some n) (named before q)) count_is) are.finds));
   beneath = subst (λ (ps : List Path). AreBeneath ps (parents_of new)) (sym paths_new)
-      (subst (λ (ups : List ℕ). AreBeneath (paths_of nodes ++ kid_of (paths_of nodes) node.parent name.now ∷ []) ups) (sym (ap parents_of is.items ∙ map-append (λ (n : Node). n.parent) nodes (node ∷ [])))
-      (beneath_push (paths_of nodes) (parents_of nodes) node.parent name.now (length-map nodes (λ (n : Node). n.parent) ∙ sym (length-map nodes (λ (n : Node). names_of n.path.now))) within are.beneath));
+      (subst (λ (ups : List ℕ). AreBeneath (paths_of nodes ++ kid_of (paths_of nodes) node.parent name ∷ []) ups) (sym (ap parents_of is.items ∙ map-append (λ (n : Node). n.parent) nodes (node ∷ [])))
+      (beneath_push (paths_of nodes) (parents_of nodes) node.parent name (length-map nodes (λ (n : Node). n.parent) ∙ sym (length-map nodes (λ (n : Node). names_of n.path.now))) within are.beneath));
   counted = are.counted ∙ ap want_count view
       ∙ sym (ap want_count (table_pushed nodes new node table is.items is.plain view)
       ∙ sum_by-append (λ (m : Mention). cond (is_leaf_kind m.kind) 1 0) table (unstated (names_of node.path.now) ∷ []) ∙ omega arith);
@@ -227,42 +264,57 @@ push_kept nodes new node name old places place wants table is are view next = re
     same : paths_in table ≡ paths_of nodes
     same = ap paths_in (sym view) ∙ paths_in_table nodes
 
-    names : AreNames (paths_of nodes)
-    names = subst AreNames (paths_in_table nodes) are.table.names
+    table_names : AreNames (paths_of nodes)
+    table_names = subst AreNames (paths_in_table nodes) are.table.names
 
     within : node.parent < length (paths_of nodes)
     within = omega (arith, ap length same, count table, next.parent_in)
 
-    named : names_of node.path.now ≡ kid_of (paths_of nodes) node.parent name.now
-    named = next.path_is ∙ ap (λ (ps : List Path). kid_of ps node.parent name.now) same
+    path_is : names_of node.path.now ≡ kid_of (paths_of nodes) node.parent name
+    path_is = next.path_is ∙ ap (λ (ps : List Path). kid_of ps node.parent name) same
 
-    none : place_of (paths_of nodes) (kid_of (paths_of nodes) node.parent name.now) ≡ None
-    none = ap (place_of (paths_of nodes)) (sym named) ∙ ap (λ (ps : List Path). place_of ps (names_of node.path.now)) (sym same) ∙ next.absent
+    none : place_of (paths_of nodes) (kid_of (paths_of nodes) node.parent name) ≡ None
+    none = ap (place_of (paths_of nodes)) (sym path_is) ∙ ap (λ (ps : List Path). place_of ps (names_of node.path.now)) (sym same) ∙ next.absent
 
-    paths_new : paths_of new ≡ paths_of nodes ++ kid_of (paths_of nodes) node.parent name.now ∷ []
-    paths_new = ap paths_of is.items ∙ map-append (λ (n : Node). names_of n.path.now) nodes (node ∷ []) ∙ ap (λ (p : Path). paths_of nodes ++ p ∷ []) named
+    paths_new : paths_of new ≡ paths_of nodes ++ kid_of (paths_of nodes) node.parent name ∷ []
+    paths_new = ap paths_of is.items ∙ map-append (λ (n : Node). names_of n.path.now) nodes (node ∷ []) ∙ ap (λ (p : Path). paths_of nodes ++ p ∷ []) path_is
+
+    many : length (paths_of nodes) ≡ length nodes
+    many = length-map nodes (λ (n : Node). names_of n.path.now)
 
     count_is : place ≡ length (paths_of nodes)
     count_is = is.place_is ∙ sym (length-map nodes (λ (n : Node). names_of n.path.now))
 
-pub found_there : (nodes : List Node) (places : BTreeMap Key ℕ) (wants : ℕ) (table : Table) (parent : ℕ) (name : Bor (List ℕ)) → AreNodes nodes places wants → table_of nodes ≡ table → parent < length table
-    → get key_cmp places (parent, name) ≡ place_of (paths_in table) (path_at table parent ++ name.now ∷ [])
-found_there nodes places wants table parent name are view l =
+-- the place of a name in the row of its parent
+pub found_there : (nodes : List Node) (rows : List Names) (wants : ℕ) (table : Table) (parent : ℕ) (row : Names) (name : List ℕ) → AreNodes nodes rows wants → table_of nodes ≡ table → parent < length table → row ≡ get_or rows parent row
+    → named row name ≡ place_of (paths_in table) (path_at table parent ++ name ∷ [])
+found_there nodes rows wants table parent row name are view l is =
     let same : paths_of nodes ≡ paths_in table = sym (paths_in_table nodes) ∙ ap paths_in view in
-    are.finds.there (parent, name) (omega (arith, ap length same, count table, l))
-    ∙ ap (λ (ps : List Path). place_of ps (kid_of ps parent name.now)) same
+    let within : parent < length (paths_of nodes) = omega (arith, l, ap length same, count table) in
+    are.finds.there parent row name within (slice_get_read rows (length rows) parent row refl (omega (arith, within, are.finds.enough)) is)
+    ∙ ap (λ (ps : List Path). place_of ps (kid_of ps parent name)) same
+
+-- a row for each place
+pub rows_there : (nodes : List Node) (rows : List Names) (wants : ℕ) (table : Table) (parent : ℕ) → AreNodes nodes rows wants → table_of nodes ≡ table → parent < length table → parent < length rows
+rows_there nodes rows wants table parent are view l =
+    let same : paths_of nodes ≡ paths_in table = sym (paths_in_table nodes) ∙ ap paths_in view in
+    omega (arith, l, ap length same, count table, are.finds.enough)
+
+-- a row more than places
+pub room_for : (nodes : List Node) (old rows : List Names) (row : Names) (wants : ℕ) → rows ≡ old ++ row ∷ [] → AreNodes nodes old wants → length nodes < length rows
+room_for nodes old rows row wants is are = omega (arith, ap length is, length-append old (row ∷ []), are.finds.enough, length-map nodes (λ (n : Node). names_of n.path.now))
 
 -- a push that was taken back
-pub undone : (nodes pushed popped : List Node) (node : Node) (n : ℕ) (old places : BTreeMap Key ℕ) (wants : ℕ) → pushed ≡ nodes ++ node ∷ [] → popped ≡ take (n - 1) pushed → n ≡ length pushed → places.entries ≡ old.entries → AreNodes nodes old wants → AreNodes popped places wants
-undone nodes pushed popped node n old places wants is rest len entries are =
+pub undone : (nodes pushed popped : List Node) (node : Node) (n : ℕ) (old names : List Names) (parent : ℕ) (before after : Names) (wants : ℕ) → pushed ≡ nodes ++ node ∷ [] → popped ≡ take (n - 1) pushed → n ≡ length pushed → after.entries ≡ before.entries → slice_get old parent ≡ Some before → names ≡ set old parent after
+    → AreNodes nodes old wants → AreNodes popped names wants
+undone nodes pushed popped node n old names parent before after wants is rest len entries was names_are are =
     let less : n - 1 ≡ length nodes = omega (arith, len, ap length is, length-append nodes (node ∷ [])) in
     let same : popped ≡ nodes = rest ∙ ap (λ (k : ℕ). take k pushed) less ∙ ap (take (length nodes)) is ∙ take-append-le (length nodes) nodes (node ∷ []) (omega arith) ∙ take_all (length nodes) nodes (omega arith) in
-    let found : (key : Key) → get key_cmp places key ≡ get key_cmp old key = λ key. ap (lookup (is_at (key_cmp key))) entries in
-    let kept : AreNodes nodes places wants = record {
+    let kept : AreNodes nodes names wants = record {
       table = are.table;
       texts = are.texts;
-      finds = record { there = λ key l. found key ∙ are.finds.there key l; nowhere = λ key l. found key ∙ are.finds.nowhere key l };
+      finds = subst (λ (rows : List Names). Finds (paths_of nodes) rows) (sym names_are) (finds_same (paths_of nodes) parent old before after entries was are.finds);
       beneath = are.beneath;
       counted = are.counted;
     } in
-    subst (λ (ns : List Node). AreNodes ns places wants) (sym same) kept
+    subst (λ (ns : List Node). AreNodes ns names wants) (sym same) kept

@@ -1,5 +1,5 @@
 -- One name further along the text of a path.
-use Rattle.std.proofs.Common.{◌≡◌, ◌∙◌, ℕ, zero, suc, ◌<◌, ◌≤◌, ◌+◌, ◌-◌, ◌||◌, Bool, true, false, cond, List, [], ◌∷◌, ◌++◌, length, take, drop, get_or, refl, sym, ap, subst, arith, Option, Some, None, length-append, append-nil, append_assoc, count_by, eq-eqb, eqb-true, nat_lt, ◌==◌, ◌&&◌, Ok, Err}
+use Rattle.std.proofs.Common.{◌≡◌, ◌∙◌, ℕ, zero, suc, ◌<◌, ◌≤◌, ◌+◌, ◌-◌, ◌||◌, Bool, true, false, cond, List, [], ◌∷◌, ◌++◌, length, take, drop, get_or, refl, sym, ap, subst, arith, Option, Some, None, length-append, append-nil, append_assoc, count_by, eq-eqb, eqb-true, ne_eqb, nat_lt, ◌==◌, ◌&&◌, Ok, Err}
 use Rattle.std.specs.List.{list_any}
 use Rattle.std.specs.Option.{is_some, option_map}
 use Rattle.std.proofs.Math.ListN.{drop_of_length-le}
@@ -26,7 +26,7 @@ use Rattle.sheet_nodes.specs.Table.{Entry, Mention, Table, has_line, is_at, is_m
 use Rattle.sheet_nodes.specs.Inside.{IsTable}
 use Rattle.sheet_nodes.specs.Walks.{IsFresh, IsPathText, IsStand, IsWalk, fault_shown, grown, walked}
 use Rattle.sheet_nodes.proofs.Cuts.{names_more}
-use Rattle.sheet_nodes.proofs.Tables.{count, none_at, only_at, there_at}
+use Rattle.sheet_nodes.proofs.Tables.{count, none_at, only_at, place_at, there_at}
 use Rattle.sheet_nodes.proofs.Walked.{IsKnown, among_push, grown_length, longer, nothing_in, walk_known, within_more}
 
 abbrev pub rest_at : List ℕ → ℕ → List ℕ
@@ -224,6 +224,23 @@ there_is table text walk there is w e = go there e
         some_names : (t : List ℕ) → 0 < length t → 0 < length (names_of t)
         some_names [] l = absurd (omega arith)
         some_names (o ∷ t) l = omega (arith, length-slice_split (λ (x : ℕ). x == 47) t)
+
+-- where a walk ends that comes to the end of its text
+pub ends_there : (table : Table) (text : List ℕ) (walk : Walk) → IsTable table → IsWalk table text walk → walk.at ≡ length text → path_at table walk.place ≡ names_of text
+ends_there table text walk is w e =
+    let all : drop walk.at text ≡ [] = drop_of_length-le text (omega (arith, e)) in
+    no_more (path_at table walk.place) (names_of text) (names_of (drop walk.at text)) (walk_end table text walk is w).joins (ap names_of all)
+
+-- the place of a path
+pub place_found : (table : Table) (text : List ℕ) (walk : Walk) → IsTable table → IsWalk table text walk → length text ≤ walk.at → Some walk.place ≡ place_of (paths_in table) (names_of text)
+place_found table text walk is w past =
+    let all : walk.at ≡ length text = omega (arith, past, w.stand.at_in) in
+    sym (ap (place_of (paths_in table)) (sym (ends_there table text walk is w all)) ∙ place_at (paths_in table) walk.place is.names.once (omega (arith, count table, w.stand.place_in)))
+
+pub place_missing : (table : Table) (text : List ℕ) (walk : Walk) → IsTable table → IsWalk table text walk → walk.at < length text → None ≡ place_of (paths_in table) (names_of text)
+place_missing table text walk is w short =
+    let apart : (walk.at == length text) ≡ false = ne_eqb walk.at (length text) (λ e. absurd (omega (arith, short, e))) in
+    sym (place_none (paths_in table) (names_of text) (there_is table text walk false is w (sym apart)))
 
 -- whether the path has a line
 pub lined : (table : Table) (text : List ℕ) (walk : Walk) (there some : Bool) → IsTable table → IsWalk table text walk → there ≡ (walk.at == length text) → some ≡ is_some (mention_at table walk.place).line → has_line table (names_of text) ≡ (there && some)

@@ -1,7 +1,8 @@
 -- Lines that follow one another.
-use Rattle.std.proofs.Common.{◌≡◌, ◌∙◌, ℕ, ◌≤◌, ◌+◌, ◌||◌, ◌&&◌, nat_le, Bool, true, false, cond, List, [], ◌∷◌, ◌++◌, length, refl, sym, ap, subst, arith, append_assoc, append-nil, Option, Some, None, Result, Ok, Err, leb-false}
+use Rattle.std.proofs.Common.{◌≡◌, ◌∙◌, ℕ, ◌≤◌, ◌+◌, ◌||◌, ◌&&◌, nat_le, Bool, true, false, cond, List, [], ◌∷◌, ◌++◌, length, get_or, refl, sym, ap, subst, arith, append_assoc, append-nil, Option, Some, None, Result, Ok, Err, leb-false}
+use Rattle.std.specs.Prelude.{IfSome}
 use Rattle.std.specs.List.{find, fold, list_any}
-use Rattle.std.specs.Option.{is_some, option_map}
+use Rattle.std.specs.Option.{is_some, option_map, unwrap_or}
 use Rattle.std.proofs.lemmas.Bool.{true≢false, false_from_ne_true}
 use Rattle.std.proofs.lemmas.List.{map-append}
 use Rattle.std.proofs.lemmas.List.Folds.{list_any-append}
@@ -10,7 +11,7 @@ use Rattle.limit_tree.specs.declared.bounds.TheConstants.{MAX_DEPTH, MAX_LEAVES}
 use Rattle.limit_tree.specs.declared.fault.TreeFault.{TreeFault}
 use Rattle.limit_tree.specs.declared.fault.TreeFault.TheVariants.{FloorsOverLimit}
 use Rattle.limit_tree.specs.Outline.{is_leaf_kind}
-use Rattle.limit_tree.specs.Faults.{first_over, kind_fault, or_else}
+use Rattle.limit_tree.specs.Faults.{first_fault, first_over, kind_fault, or_else}
 use Rattle.sheet_tree.specs.Paths.{NoneTwice, Path, is_among, same_path, way_to}
 use Rattle.sheet_tree.specs.Mentions.{mention_all as mention_way, mentions}
 use Rattle.sheet_tree.specs.Law.{IsTreeOf}
@@ -19,9 +20,11 @@ use Rattle.sheet_tree.proofs.Mentioned.{once_fold}
 use Rattle.sheet_tree.proofs.Stated.{are_mentions}
 use Rattle.sheet_tree.proofs.Whole.{tree_is}
 use Rattle.sheet_nodes.specs.declared.fault.SheetFault.{SheetFault}
+use Rattle.sheet_nodes.specs.declared.fault.SheetFault.TheVariants.{Tree}
 use Rattle.sheet_nodes.specs.Table.{Entry, Mention, Table, fresh, has_line, is_at, mention, mention_all, noted, paths_in, taken, unstated, want_count}
-use Rattle.sheet_nodes.specs.Tree.{kind_in, node_paths, outline_of}
-use Rattle.sheet_nodes.specs.Taken.{AreNoted, IsTaken, IsTreeOfLines, Stated, stated_paths, take_on, taken_all}
+use Rattle.sheet_nodes.specs.Tree.{kind_in, line_in, node_paths, outline_of}
+use Rattle.sheet_nodes.specs.Whole.{fault_line, whole_fault}
+use Rattle.sheet_nodes.specs.Taken.{AreNoted, IsAboveLimit, IsTaken, IsTreeOfLines, Stated, stated_paths, take_on, taken_all}
 use Rattle.sheet_nodes.proofs.Noted.{not_noted, want_cons}
 use Rattle.sheet_nodes.proofs.Taken.{IsFit, after, fit, found_here, found_still, kind_here, kind_still, mentions_after, paths_after, paths_fold, paths_noted}
 use Rattle.sheet_nodes.proofs.Sound.{no_fault, over_stated}
@@ -164,6 +167,17 @@ taken_from t table before (s ∷ lines) are e = go (taken t s.line s.entry) refl
         let fits = fit t new s.line s.entry is in
         subst (IsTaken table) (append_assoc before (s ∷ []) lines) (rest new (subst (λ (x : Table). IsTaken x (before ++ s ∷ [])) fits.1 (taken_more t before s fits.0 are)) h)
 
+-- the fault of a whole tree whose nodes have none
+whole_is : (table : Table) → first_fault 0 0 0 (outline_of table) ≡ None → ((node : ℕ) → first_over 0 (outline_of table) ≡ Some node → (line : ℕ) × (line_in table (get_or (node_paths table) node []) ≡ Some line)) → IfSome (whole_fault table) (IsAboveLimit table)
+whole_is table none lined = go (first_fault 0 0 0 (outline_of table)) none (first_over 0 (outline_of table)) refl
+  where
+    go : (f : Option TreeFault) → f ≡ None → (over : Option ℕ) → first_over 0 (outline_of table) ≡ over → IfSome (option_map (λ fault. Tree (fault_line table fault) fault) (or_else f (option_map FloorsOverLimit over))) (IsAboveLimit table)
+    go (Some fault) e over is = cc
+    go None e None is = tt
+    go None e (Some node) is =
+        let got = lined node is in
+        (node, got.0, ap (λ (line : Option ℕ). Tree (unwrap_or line 0) (FloorsOverLimit node)) got.1, is, got.1)
+
 pub tree_of_lines : (lines : List Stated) (table : Table) → taken_all lines ≡ Ok table → IsTreeOfLines table lines
 tree_of_lines lines table e =
     let are : IsTaken table lines = taken_from fresh table [] lines first_taken e in
@@ -173,4 +187,5 @@ tree_of_lines lines table e =
       tree = subst (λ (ps : List Path). IsTreeOf (kind_in table) ps (outline_of table) (node_paths table)) are.paths whole;
       only_floors = ap (λ (f : Option TreeFault). or_else f (option_map FloorsOverLimit (first_over 0 (outline_of table)))) (no_fault table lines are);
       over_stated = λ node over. over_stated table lines node are whole.kinds over;
+      whole = whole_is table (no_fault table lines are) (λ node over. over_stated table lines node are whole.kinds over);
     }

@@ -1,10 +1,9 @@
 -- What the code's nodes stand for.
-use Rattle.std.specs.Prelude.{◌≡◌, ℕ, ◌<◌, ◌≤◌, true, false, List, [], ◌∷◌, ◌++◌, length, map, slice_index_or, None}
+use Rattle.std.specs.Prelude.{◌≡◌, ℕ, ◌<◌, ◌≤◌, true, false, List, [], ◌∷◌, ◌++◌, length, map, slice_get, slice_index_or, Option, Some, None}
 use Rattle.std.specs.Borrow.{Bor}
-use Rattle.std.specs.declared.cmp.Ordering.{Ordering}
-use Rattle.std.specs.Ordering.{nat_cmp, ordering_then}
+use Rattle.std.specs.Ordering.{nat_cmp}
 use Rattle.std.specs.Cmp.Lexicographic.{slice_cmp}
-use Rattle.std.specs.BTreeMap.{get, BTreeMap}
+use Rattle.std.specs.BTreeMap.{BTreeMap, get_by}
 use Rattle.limit_tree.specs.Outline.{is_leaf_kind}
 use Rattle.sheet_nodes.specs.declared.node.Node.{Node}
 use Rattle.sheet_tree.specs.Paths.{NoneTwice, Octets, Path, is_among, is_within, names_of, place_of, text_of}
@@ -41,25 +40,27 @@ pub record IsTable (table : Table) : Type 0 where
   pub names : AreNames (paths_in table)
   pub branches : (place : ℕ) → place < length table → (mention_at table place).line ≡ None → is_leaf_kind (mention_at table place).kind ≡ false
 
-abbrev pub Key : Type 0
-Key = ℕ × Bor (List ℕ)
+-- places by names
+abbrev pub Names : Type 0
+Names = BTreeMap (Bor (List ℕ)) ℕ
 
-abbrev pub key_cmp : Key → Key → Ordering
-key_cmp a b = ordering_then (nat_cmp a.0 b.0) (slice_cmp nat_cmp a.1.now b.1.now)
+abbrev pub named : Names → Octets → Option ℕ
+named names name = get_by (λ key. slice_cmp nat_cmp name key.now) names
 
--- a place is found by its parent's and its last name
-pub record Finds (paths : List Path) (places : BTreeMap Key ℕ) : Type 0 where
-  pub there : (key : Key) → key.0 < length paths → get key_cmp places key ≡ place_of paths (kid_of paths key.0 key.1.now)
-  pub nowhere : (key : Key) → length paths ≤ key.0 → get key_cmp places key ≡ None
+-- a place is found by its name among the kids of its parent
+pub record Finds (paths : List Path) (kids : List Names) : Type 0 where
+  pub enough : length paths ≤ length kids
+  pub there : (parent : ℕ) (names : Names) (name : Octets) → parent < length paths → slice_get kids parent ≡ Some names → named names name ≡ place_of paths (kid_of paths parent name)
+  pub nowhere : (parent : ℕ) (names : Names) (name : Octets) → length paths ≤ parent → slice_get kids parent ≡ Some names → named names name ≡ None
 
 -- each path but the root's lies a name below that of its parent
 abbrev pub AreBeneath : List Path → List ℕ → Type 0
 AreBeneath paths parents = (place : ℕ) → 0 < place → place < length paths
     → (slice_index_or parents place 0 < length paths) × (name : Octets) × (slice_index_or paths place [] ≡ kid_of paths (slice_index_or parents place 0) name)
 
-pub record AreNodes (nodes : List Node) (places : BTreeMap Key ℕ) (wants : ℕ) : Type 0 where
+pub record AreNodes (nodes : List Node) (kids : List Names) (wants : ℕ) : Type 0 where
   pub table : IsTable (table_of nodes)
   pub texts : map text_of (paths_of nodes) ≡ texts_of nodes
-  pub finds : Finds (paths_of nodes) places
+  pub finds : Finds (paths_of nodes) kids
   pub beneath : AreBeneath (paths_of nodes) (parents_of nodes)
   pub counted : wants ≡ want_count (table_of nodes)

@@ -3,4 +3,5 @@ pub mod Inside
 pub mod Walks
 pub mod Rows
 pub mod Tree
+pub mod Whole
 pub mod Taken

@@ -1,5 +1,5 @@
 -- What the lines of a sheet leave together, and the law of its tree.
-use Rattle.std.specs.Prelude.{◌≡◌, ℕ, ◌≤◌, false, List, [], ◌∷◌, length, map, slice_index_or, Some, None, Result, Ok, Err}
+use Rattle.std.specs.Prelude.{◌≡◌, ℕ, ◌≤◌, false, IfSome, List, [], ◌∷◌, length, map, slice_index_or, Some, None, Result, Ok, Err}
 use Rattle.std.specs.List.{find, fold, list_any}
 use Rattle.std.specs.Option.{option_map}
 use Rattle.limit_tree.specs.declared.place.Kind.TheVariants.{Branch}
@@ -10,8 +10,10 @@ use Rattle.sheet_tree.specs.Paths.{Path, same_path}
 use Rattle.sheet_tree.specs.Mentions.{mentions}
 use Rattle.sheet_tree.specs.Law.{AreMentions, IsTreeOf}
 use Rattle.sheet_nodes.specs.declared.fault.SheetFault.{SheetFault}
+use Rattle.sheet_nodes.specs.declared.fault.SheetFault.TheVariants.{Tree}
 use Rattle.sheet_nodes.specs.Table.{Entry, Table, fresh, is_at, paths_in, taken, want_count}
 use Rattle.sheet_nodes.specs.Tree.{kind_in, line_in, node_paths, outline_of}
+use Rattle.sheet_nodes.specs.Whole.{whole_fault}
 
 -- what the line of a number states
 pub record Stated : Type 0 where
@@ -45,6 +47,10 @@ pub record IsTaken (table : Table) (lines : List Stated) : Type 0 where
   pub few_nodes : length table ≤ MAX_NODES
   pub few_wants : want_count table ≤ MAX_LEAVES
 
+-- the floors beneath a branch are above its limit, and the fault bears the number of the line that states that limit
+abbrev pub IsAboveLimit : Table → SheetFault → Type 0
+IsAboveLimit table fault = (node line : ℕ) × (fault ≡ Tree line (FloorsOverLimit node)) × (first_over 0 (outline_of table) ≡ Some node) × (line_in table (slice_index_or (node_paths table) node []) ≡ Some line)
+
 -- The tree of lines without a fault is that of what they state. The only fault that it may have is that of a branch whose
 -- floors do not fit its limit, which a line states.
 pub record IsTreeOfLines (table : Table) (lines : List Stated) : Type 0 where
@@ -52,6 +58,7 @@ pub record IsTreeOfLines (table : Table) (lines : List Stated) : Type 0 where
   pub tree : IsTreeOf (kind_in table) (mentions (stated_paths lines)) (outline_of table) (node_paths table)
   pub only_floors : tree_fault (outline_of table) ≡ option_map FloorsOverLimit (first_over 0 (outline_of table))
   pub over_stated : (node : ℕ) → first_over 0 (outline_of table) ≡ Some node → (line : ℕ) × (line_in table (slice_index_or (node_paths table) node []) ≡ Some line)
+  pub whole : IfSome (whole_fault table) (IsAboveLimit table)
 
 abbrev pub TreeIsOfLines : Type 0
 TreeIsOfLines = (lines : List Stated) (table : Table) → taken_all lines ≡ Ok table → IsTreeOfLines table lines

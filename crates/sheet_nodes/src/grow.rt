@@ -10,7 +10,12 @@ use std::alloc::{AllocError, Allocator};
 
 impl<'t, A: Allocator + Clone> Nodes<'t, A> {
     /// Mentions what is left of a path behind a place, and gives the place of the path.
-    pub fn grow(&mut self, place: usize, at: usize, path: &'t str) -> Result<usize, AllocError>
+    pub(crate) fn grow(
+        &mut self,
+        place: usize,
+        at: usize,
+        path: &'t str,
+    ) -> Result<usize, AllocError>
         requires text { IsPathText path.now }
         requires stand { IsStand self.old path.now place at }
         requires fresh { IsFresh self.old (path_at self.old place) (names_of (drop at path.now)) }

@@ -1,10 +1,15 @@
 //! The nodes that the lines of a sheet mention, found by their parents and their own names.
 //!
 //! ```text
+//! let alloc = rt.alloc();
 //! let mut nodes = Nodes::new(alloc)?;
-//! nodes.take(1, "", Kind::Branch { limit: Some(10) })?;  // what line 1 states of the root
-//! nodes.take(2, "/a/b", Kind::Leaf { want: 8, floor: 0 })?;
-//! nodes.path(2);      // "/a/b"
+//! // what line 1 states of the root, and what line 2 states
+//! nodes.take(1, "", Kind::Branch { limit: Some(10) })?;
+//! let place = nodes.take(2, "/a/b", Kind::Leaf { want: 8, floor: 0 })?;
+//! assert!(rt; nodes.path(place) == "/a/b");
+//! let mut order = Vec::new(alloc);
+//! let tree = nodes.whole_tree(&mut order)?;
+//! assert!(rt; tree.nodes() == 3); // of `/`, `/a` and `/a/b`
 //! ```
 #![tactic(auto)]
 
@@ -17,6 +22,7 @@ mod node;
 mod take;
 mod tree;
 mod walk;
+mod whole;
 
 pub use fault::SheetFault;
 pub use laws::tree_is_of_lines;

@@ -19,12 +19,13 @@ struct Node<'t> {
     line: Option<usize>,
 }
 
-/// What is mentioned, in order of first mention: the root is first. A node is found by the place of its parent and its
-/// own name, and each path is a slice of the text that mentions it first.
+/// What is mentioned, in order of first mention: the root is first. A node is found among the kids of its parent by its own
+/// name, and each path is a slice of the text that mentions it first.
 #[derive(Drop)]
 pub struct Nodes<'t, A: Allocator> {
     nodes: Vec<Node<'t>, A>,
-    places: BTreeMap<(usize, &'t [u8]), usize, A>,
+    /// The places of each node's kids by their names. There may be rows without names behind those of the nodes.
+    names: Vec<BTreeMap<&'t [u8], usize, A>, A>,
     wants: usize,
 }
 
@@ -36,7 +37,7 @@ impl<'t, A: Allocator> Model for Nodes<'t, A> {
 
     ghost view = { λ s. table_of s.nodes.items };
 
-    ghost invariant = { λ s. AreNodes s.nodes.items s.places s.wants };
+    ghost invariant = { λ s. AreNodes s.nodes.items s.names.items s.wants };
 }
 
 /// Whether a kind is that of a want.
@@ -99,16 +100,16 @@ impl<'t, A: Allocator> Nodes<'t, A> {
     }
 
     /// The place of a name below a place.
-    pub fn find(&self, parent: usize, name: &'t [u8]) -> Option<usize>
+    pub(crate) fn find(&self, parent: usize, name: &[u8]) -> Option<usize>
         requires parent { parent < length self.now }
         ensures place { result
             ≡ place_of (paths_in self.now) (path_at self.now parent ++ name.now ∷ []) }
     {
-        self.places.get(&(parent, name)).copied()
+        self.names[parent].get(name).copied()
     }
 
     /// Notes what a line states of a place that has none.
-    pub fn note(&mut self, place: usize, number: usize, kind: Kind)
+    pub(crate) fn note(&mut self, place: usize, number: usize, kind: Kind)
         requires place { place < length self.old }
         requires unstated { (mention_at self.old place).line ≡ None }
         ensures noted { self.new
@@ -138,16 +139,23 @@ impl<'t, A: Allocator + Clone> Nodes<'t, A> {
             kind: Kind::Branch { limit: None },
             line: None,
         })?;
-        let places = BTreeMap::new(alloc);
+        let mut names = Vec::new(alloc.clone()?);
+        let kids = BTreeMap::new(alloc);
+        names.push(kids)?;
         Ok(Nodes {
             nodes,
-            places,
+            names,
             wants: 0,
         })
     }
 
     /// A path more that lies a name below a place, and is not there yet.
-    pub fn push(&mut self, parent: usize, name: &'t [u8], path: &'t str) -> Result<(), AllocError>
+    pub(crate) fn push(
+        &mut self,
+        parent: usize,
+        name: &'t [u8],
+        path: &'t str,
+    ) -> Result<(), AllocError>
         requires parent { parent < length self.old }
         requires path { names_of path.now ≡ path_at self.old parent ++ name.now ∷ [] }
         requires text { text_of (names_of path.now) ≡ path.now }
@@ -155,13 +163,15 @@ impl<'t, A: Allocator + Clone> Nodes<'t, A> {
         ensures pushed { OnOk result (self.new ≡ self.old ++ unstated (names_of path.now) ∷ []) }
     {
         let place = self.nodes.len();
+        let kids = BTreeMap::new(self.nodes.allocator().clone()?);
+        self.names.push(kids)?;
         self.nodes.push(Node {
             path,
             parent,
             kind: Kind::Branch { limit: None },
             line: None,
         })?;
-        match self.places.insert((parent, name), place) {
+        match self.names[parent].insert(name, place) {
             Ok(_) => Ok(()),
             Err(_) => {
                 let _ = self.nodes.pop();

@@ -1,7 +1,8 @@
 //! Taking what a line states.
-ghost use Rattle.std.specs.Prelude.{◌≡◌, ◌≢◌, MatchResult, Ok, Err, length};
+ghost use Rattle.std.specs.Prelude.{◌≡◌, ◌<◌, ◌≤◌, ℕ, IfOk, MatchResult, OnOk, Ok, Err, length};
+ghost use Rattle.memory_terms.specs.Lack.{Unless};
 ghost use Rattle.sheet_tree.specs.Paths.{names_of};
-ghost use Rattle.sheet_nodes.specs.Table.{place_fault, size_fault, taken};
+ghost use Rattle.sheet_nodes.specs.Table.{path_at, place_fault, size_fault, taken};
 ghost use Rattle.sheet_nodes.specs.Walks.{IsPathText, IsWalk, fault_shown};
 
 use crate::fault::SheetFault;
@@ -75,16 +76,21 @@ impl<'t, A: Allocator> Nodes<'t, A> {
 }
 
 impl<'t, A: Allocator + Clone> Nodes<'t, A> {
-    /// Takes what the line of a number states of a path; its text is empty for the root, and begins with a `/` else. What
-    /// has a fault is refused before anything grows; where memory runs out, some of the path may be mentioned.
-    pub fn take(&mut self, number: usize, path: &'t str, kind: Kind) -> Result<(), SheetFault>
+    /// Takes what the line of a number states of a path, and gives the place of the path; its text is empty for the root, and
+    /// begins with a `/` else. What has a fault is refused before anything grows; where memory runs out, some of the path
+    /// may be mentioned.
+    pub fn take(&mut self, number: usize, path: &'t str, kind: Kind) -> Result<usize, SheetFault>
         requires text { IsPathText path.now }
         ensures taken { MatchResult result
             (λ _. taken self.old number (record { path = names_of path.now; kind = kind })
             ≡ Ok self.new)
-            (λ fault. fault ≢ SheetFault.Memory
-            → taken self.old number (record { path = names_of path.now; kind = kind })
-            ≡ Err fault) }
+            (Unless SheetFault.Memory (λ fault. taken self.old number
+            (record { path = names_of path.now; kind = kind }) ≡ Err fault)) }
+        ensures place { IfOk result (λ place. (place < length self.new)
+            × (path_at self.new place ≡ names_of path.now)) }
+        ensures kept { OnOk result ((place : ℕ) → place < length self.old
+            → path_at self.new place ≡ path_at self.old place) }
+        ensures grows { OnOk result (length self.old ≤ length self.new) }
     {
         let walk = self.walk(path);
         if let Some(fault) = self.place_fault(number, path, kind, walk) {
@@ -97,6 +103,6 @@ impl<'t, A: Allocator + Clone> Nodes<'t, A> {
         let place = self.grow(walk.place, walk.at, path)?;
         let _grown = self.len();
         self.note(place, number, kind);
-        Ok(())
+        Ok(place)
     }
 }

@@ -1,6 +1,8 @@
 //! Walking along the names of a path as far as they are there.
 ghost use Rattle.std.specs.Prelude.{◌≡◌, ◌||◌};
 ghost use Rattle.limit_tree.specs.Outline.{is_leaf_kind};
+ghost use Rattle.sheet_tree.specs.Paths.{names_of, place_of};
+ghost use Rattle.sheet_nodes.specs.Table.{paths_in};
 ghost use Rattle.sheet_nodes.specs.Walks.{IsPathText, IsWalk};
 
 use crate::names::name_len;
@@ -28,7 +30,7 @@ fn passes(under: bool, kind: Kind) -> bool
 
 impl<'t, A: Allocator> Nodes<'t, A> {
     /// Walks from the root along a path as far as it is there. Nothing beneath a path that is not there is.
-    pub fn walk(&self, path: &'t str) -> Walk
+    pub(crate) fn walk(&self, path: &str) -> Walk
         requires text { IsPathText path.now }
         ensures walk { IsWalk self.now path.now result }
     {
@@ -50,5 +52,19 @@ impl<'t, A: Allocator> Nodes<'t, A> {
             walk.at += 1 + len;
         }
         walk
+    }
+
+    /// The place of a path, if it is there. Its text is empty for the root, and begins with a `/` else.
+    #[tactic(auto, using(crate::proofs::Stands::place_found, crate::proofs::Stands::place_missing))]
+    pub fn place(&self, path: &str) -> Option<usize>
+        requires text { IsPathText path.now }
+        ensures place { result ≡ place_of (paths_in self.now) (names_of path.now) }
+    {
+        let _nodes = self.len();
+        let walk = self.walk(path);
+        if walk.at < path.len() {
+            return None;
+        }
+        Some(walk.place)
     }
 }

@@ -21,7 +21,7 @@ fn fault_of<A: Allocator + Clone>(
 }
 
 /// Whether the grants have room; where they have, they are those of the text.
-fn have_room<A: Allocator + Clone>(rt: &impl Abort, alloc: A, sheet: &Sheet<A>) -> bool {
+fn have_room<A: Allocator + Clone>(rt: &impl Abort, alloc: A, sheet: &Sheet<'_, A>) -> bool {
     match read_grants(alloc, GRANTS, sheet) {
         Ok((grants, certificate)) => {
             holds(rt, grants.as_slice() == [2, 3, 1].as_slice());

@@ -11,3 +11,5 @@ mod lines;
 mod nodes;
 #[cfg(test)]
 mod sheets;
+#[cfg(test)]
+mod shortages;

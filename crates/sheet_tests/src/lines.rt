@@ -1,7 +1,7 @@
 //! Lines and what they say.
 use crate::expect::{holds, same};
 use limit_tree::Kind;
-use share_text::{cut_line, read_entry, read_number, read_path};
+use share_text::{cut_at, cut_line, read_entry, read_named_path, read_number, read_path};
 use std::test::Fail;
 
 #[test]
@@ -20,6 +20,15 @@ fn lines_end_with_lf_or_cr_lf(rt: HostRuntime) -> Result<(), Fail> {
     same(&rt, &last, &b"c\r".as_slice());
     holds(&rt, text.is_empty());
     Ok(())
+}
+
+#[test]
+fn a_text_is_cut_at_the_first_mark(rt: HostRuntime) {
+    let (front, behind) = cut_at(b"a b c", b' ');
+    same(&rt, &front, &b"a".as_slice());
+    same(&rt, &behind, &Some(b"b c".as_slice()));
+    let (_, none) = cut_at(b"abc", b' ');
+    holds(&rt, none.is_none());
 }
 
 #[test]
@@ -76,5 +85,7 @@ fn numbers_and_paths(rt: HostRuntime) -> Result<(), Fail> {
     same(&rt, &read_number(b""), &None);
     holds(&rt, read_path(b"/").is_some());
     holds(&rt, read_path(b"").is_none());
+    holds(&rt, read_named_path(b"/a/b").is_some());
+    holds(&rt, read_named_path(b"/").is_none());
     Ok(())
 }

@@ -1,5 +1,7 @@
 //! What no clause says of the nodes of a sheet: that the calls succeed, and what texts give.
 
+ghost use Rattle.sheet_nodes.specs.Walks.{IsPathText};
+
 use crate::expect::{holds, same};
 use limit_tree::{Kind, Node, Tree, TreeFault};
 use sheet_nodes::{Nodes, SheetFault, name_len, tree_is_of_lines};
@@ -44,13 +46,32 @@ fn take_lines<A: Allocator + Clone>(rt: &impl Abort, alloc: A) -> Result<(), She
     let mut nodes = Nodes::new(alloc)?;
     for (at, (path, kind, fault)) in LINES.iter().enumerate() {
         match nodes.take(at + 1, path, *kind) {
-            Ok(()) => holds(rt, fault.is_none()),
+            Ok(place) => {
+                holds(rt, fault.is_none());
+                holds(rt, nodes.path(place) == *path);
+            }
             Err(SheetFault::Memory) => return Err(SheetFault::Memory),
             Err(found) => holds(rt, *fault == Some(found)),
         }
     }
     expect_paths(rt, &nodes);
+    expect_place(rt, &nodes, "", Some(0));
+    expect_place(rt, &nodes, "/a/c", Some(3));
+    expect_place(rt, &nodes, "/a/b/c", None);
+    expect_place(rt, &nodes, "/d", None);
     Ok(())
+}
+
+/// The path's text may live shorter than those of the nodes.
+fn expect_place<A: Allocator>(
+    rt: &impl Abort,
+    nodes: &Nodes<'_, A>,
+    path: &str,
+    wanted: Option<usize>,
+)
+    requires text { IsPathText path.now }
+{
+    holds(rt, nodes.place(path) == wanted);
 }
 
 fn expect_paths<A: Allocator>(rt: &impl Abort, nodes: &Nodes<'_, A>) {
@@ -118,6 +139,52 @@ fn expect_tree<A: Allocator>(rt: &impl Abort, root: Node<A>) {
 fn nodes_have_a_tree(rt: HostRuntime) -> Result<(), Fail> {
     tree_is_of_lines();
     build_tree(&rt, rt.alloc())?;
+    Ok(())
+}
+
+/// Lines whose last limit is below the floors beneath it: that of the node 1, which line 3 states.
+const CROWDED: [(&str, Kind); 3] = [
+    ("/a/b", Kind::Leaf { want: 5, floor: 4 }),
+    ("", LIMIT),
+    ("/a", Kind::Branch { limit: Some(3) }),
+];
+
+fn whole_trees<A: Allocator + Clone>(rt: &impl Abort, alloc: A) -> Result<(), SheetFault> {
+    let mut nodes = Nodes::new(alloc.clone()?)?;
+    for (at, (path, kind)) in CROSSED.iter().enumerate() {
+        nodes.take(at + 1, path, *kind)?;
+    }
+    let mut order = Vec::new(alloc);
+    let tree = nodes.whole_tree(&mut order)?;
+    same(rt, &order.as_slice(), &[0, 1, 2, 4, 3].as_slice());
+    holds(rt, tree.nodes() == 5);
+    holds(rt, tree.leaves() == 2);
+    Ok(())
+}
+
+fn crowded_tree<A: Allocator + Clone>(rt: &impl Abort, alloc: A) -> Result<(), SheetFault> {
+    let mut nodes = Nodes::new(alloc.clone()?)?;
+    for (at, (path, kind)) in CROWDED.iter().enumerate() {
+        nodes.take(at + 1, path, *kind)?;
+    }
+    let mut order = Vec::new(alloc);
+    match nodes.whole_tree(&mut order) {
+        Ok(_) => rt.abort(),
+        Err(SheetFault::Memory) => Err(SheetFault::Memory),
+        Err(fault) => {
+            holds(
+                rt,
+                fault == SheetFault::Tree(3, TreeFault::FloorsOverLimit(1)),
+            );
+            Ok(())
+        }
+    }
+}
+
+#[test]
+fn a_whole_tree_is_checked(rt: HostRuntime) -> Result<(), Fail> {
+    whole_trees(&rt, rt.alloc())?;
+    crowded_tree(&rt, rt.alloc())?;
     Ok(())
 }
 

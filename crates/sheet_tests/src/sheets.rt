@@ -1,10 +1,11 @@
 //! What no clause says of sheets: that the calls succeed, and what texts give.
 ghost use Rattle.std.specs.Prelude.{◌≤◌};
+ghost use Rattle.sheet_tests.specs.declared.sheets.TheConstants.{ROOM};
 
 use crate::expect::holds;
 use limit_tree::{Kind, TreeFault};
 use linked_list_allocator::LocalHeap;
-use share_text::{Sheet, SheetFault, read_sheet};
+use share_text::{Sheet, SheetFault, read_sheet, sheet_is_of_its_lines};
 use std::alloc::{Allocator, Global};
 use std::process::Abort;
 
@@ -28,7 +29,7 @@ const fn want(want: u64, floor: u64) -> Kind {
     Kind::Leaf { want, floor }
 }
 
-fn sheet_of(rt: &impl Abort, alloc: Global, text: &[u8]) -> Sheet {
+fn sheet_of<'t>(rt: &impl Abort, alloc: Global, text: &'t [u8]) -> Sheet<'t> {
     match read_sheet(alloc, text) {
         Ok(sheet) => sheet,
         Err(_) => panic!(rt; "a sheet without a fault is refused"),
@@ -36,7 +37,7 @@ fn sheet_of(rt: &impl Abort, alloc: Global, text: &[u8]) -> Sheet {
 }
 
 /// The sheet has these nodes and no others.
-fn expect_nodes<A: Allocator>(rt: &impl Abort, sheet: &Sheet<A>, nodes: &[(&str, Kind)]) {
+fn expect_nodes<A: Allocator>(rt: &impl Abort, sheet: &Sheet<'_, A>, nodes: &[(&str, Kind)]) {
     holds(rt, sheet.tree().nodes() == nodes.len());
     for (node, (path, kind)) in nodes.iter().enumerate() {
         if node >= sheet.tree().nodes() {
@@ -49,7 +50,12 @@ fn expect_nodes<A: Allocator>(rt: &impl Abort, sheet: &Sheet<A>, nodes: &[(&str,
 }
 
 /// The sheet has these leaves and no others, and the wants are theirs in this order.
-fn expect_leaves<A: Allocator>(rt: &impl Abort, sheet: &Sheet<A>, paths: &[&str], wants: &[usize]) {
+fn expect_leaves<A: Allocator>(
+    rt: &impl Abort,
+    sheet: &Sheet<'_, A>,
+    paths: &[&str],
+    wants: &[usize],
+) {
     holds(rt, sheet.tree().leaves() == paths.len());
     for (leaf, path) in paths.iter().enumerate() {
         if leaf >= sheet.tree().leaves() {
@@ -60,7 +66,7 @@ fn expect_leaves<A: Allocator>(rt: &impl Abort, sheet: &Sheet<A>, paths: &[&str]
     holds(rt, sheet.wants() == wants);
 }
 
-fn expect_sheet<A: Allocator>(rt: &impl Abort, sheet: &Sheet<A>) {
+fn expect_sheet<A: Allocator>(rt: &impl Abort, sheet: &Sheet<'_, A>) {
     let nodes = [
         ("/", limit(100)),
         ("/bob", limit(30)),
@@ -75,6 +81,7 @@ fn expect_sheet<A: Allocator>(rt: &impl Abort, sheet: &Sheet<A>) {
 
 #[test]
 fn nodes_stand_in_preorder(rt: HostRuntime) {
+    sheet_is_of_its_lines();
     let sheet = sheet_of(&rt, rt.alloc(), SHEET);
     expect_sheet(&rt, &sheet);
     for path in ["", "//", "bob", "/bob/", "/bo", "/bob/y"] {
@@ -175,7 +182,7 @@ const ROOM: usize = 8192;
 
 /// Whether the sheet has room in so small a heap; where it has none, it has once memory is there.
 fn has_room(rt: &impl Abort, alloc: Global, room: usize) -> bool
-    requires { room ≤ 8192 }
+    requires { room ≤ ROOM }
 {
     let Ok(heap) = LocalHeap::new(alloc, ROOM) else {
         rt.abort()

@@ -4,7 +4,8 @@ use Rattle.std.specs.Io.KnownBytes.{Consumes}
 use Rattle.control_turns.specs.Runs.{Passes}
 use Rattle.ftp_wire.specs.Reading.{HasRead, items_of}
 use Rattle.control_session.proofs.Ending.{interrupted, passes_both, passes_breaks, passes_stops}
-use Rattle.control_session.proofs.Reading.{appends_more, consumes_kept, consumes_more}
+use Rattle.text_ends.proofs.Writing.{appends_more}
+use Rattle.control_session.proofs.Reading.{consumes_kept, consumes_more}
 use Rattle.control_session.proofs.pieces.take_pieces.Goals as goal
 
 pub returns-in_err-count-clause-breaks : goal.returns-in_err-count-clause-breaks

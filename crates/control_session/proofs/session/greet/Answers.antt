@@ -2,19 +2,19 @@ use Rattle.std.proofs.Common.{ℕ, ◌∙◌, [], List, refl, ap, subst}
 use Rattle.std.proofs.lemmas.List.{append-nil}
 use Rattle.std.specs.Io.KnownBytes.{Appends}
 use Rattle.ftp_reply.specs.Replies.{OneLine, reply_text}
-use Rattle.data_side.specs.Told.{texts}
+use Rattle.control_turns.specs.Told.{texts}
 use Rattle.text_ends.specs.Parts.{AppendsPart}
-use Rattle.control_session.proofs.Ending.{on_err_is, plan_text}
-use Rattle.control_session.proofs.Reading.{appends_nothing}
+use Rattle.control_session.proofs.Ending.{plan_text}
+use Rattle.text_ends.proofs.Writing.{appends_nothing, on_err}
 use Rattle.control_session.proofs.session.greet.Goals as goal
 
 pub returns-in_err-greeting-clause-part : goal.returns-in_err-greeting-clause-part
 returns-in_err-greeting-clause-part g c =
     let text = reply_text (OneLine 220 c.args.session.now.view.banner) in
-    on_err_is _ {P = AppendsPart (g.W.TextWriter.contents c.args.writer.now) (g.W.TextWriter.contents c.args.writer.now) text} ([], text, refl, appends_nothing _)
+    on_err _ {P = AppendsPart (g.W.TextWriter.contents c.args.writer.now) (g.W.TextWriter.contents c.args.writer.now) text} ([], text, refl, appends_nothing _)
 
 pub returns-in_err-speak-clause-part : goal.returns-in_err-speak-clause-part
-returns-in_err-speak-clause-part g c = on_err_is _
+returns-in_err-speak-clause-part g c = on_err _
     (subst (λ (x : List ℕ). AppendsPart (g.W.TextWriter.contents c.args.writer.now) (g.W.TextWriter.contents c.speak.new.writer) x)
     (ap texts c.deref.ensures.value ∙ (ap plan_text c.in_ok-greeting.ensures.row ∙ append-nil (reply_text (OneLine 220 c.args.session.now.view.banner)))) c.in_err-speak.ensures.part)
 

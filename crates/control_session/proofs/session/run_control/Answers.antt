@@ -1,5 +1,5 @@
 use Rattle.std.proofs.Common.{◌⊎◌, OnErr, OnOk, subst}
-use Rattle.session_laws.specs.Steps.{Standing}
+use Rattle.control_turns.specs.Steps.{Standing}
 use Rattle.text_ends.specs.Parts.{AppendsPart}
 use Rattle.control_session.specs.Sessions.{IsBroken, IsSession, greeting_of}
 use Rattle.control_session.proofs.Ending.{early}

@@ -1,5 +1,6 @@
 use Rattle.std.proofs.Common.{◌∙◌, inr}
-use Rattle.control_session.proofs.Ending.{on_err_is, session_broken, session_over, session_unclosed}
+use Rattle.text_ends.proofs.Writing.{on_err}
+use Rattle.control_session.proofs.Ending.{session_broken, session_over, session_unclosed}
 use Rattle.control_session.proofs.session.run_session.Goals as goal
 
 pub returns-in-Err-clause-broken : goal.returns-in-Err-clause-broken
@@ -9,7 +10,7 @@ pub returns-in-Err-clause-read_fault : goal.returns-in-Err-clause-read_fault
 returns-in-Err-clause-read_fault g c is = c.converse-outcome.ensures.read_fault (c.in-Err.is ∙ is)
 
 pub returns-in_err-closed-in-Ok-clause-broken : goal.returns-in_err-closed-in-Ok-clause-broken
-returns-in_err-closed-in-Ok-clause-broken g c = on_err_is _ (inr (session_unclosed _ _ _ _ _ _ _ _ _ _ _ _ _ _ _ _ _ c.in-Ok.ensures.passes))
+returns-in_err-closed-in-Ok-clause-broken g c = on_err _ (inr (session_unclosed _ _ _ _ _ _ _ _ _ _ _ _ _ _ _ _ _ c.in-Ok.ensures.passes))
 
 pub returns-in_ok-closed-in-Ok-clause-whole : goal.returns-in_ok-closed-in-Ok-clause-whole
 returns-in_ok-closed-in-Ok-clause-whole g c =

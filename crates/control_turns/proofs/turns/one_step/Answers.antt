@@ -6,7 +6,8 @@ use Rattle.std.specs.Io.KnownBytes.{Appends}
 use Rattle.control_turns.specs.Turns.{at}
 use Rattle.control_turns.proofs.Leading.{breaks_here, breaks_speaking, promises_step, turn_leads}
 use Rattle.control_turns.proofs.Steps.{most_asked_one, step_asks, step_holds}
-use Rattle.control_turns.proofs.Writing.{appends_nothing, broke}
+use Rattle.text_ends.proofs.Writing.{appends_nothing}
+use Rattle.control_turns.proofs.Writing.{broke}
 use Rattle.control_turns.proofs.turns.one_step.Goals as goal
 
 pub returns-in_err-actions-clause-breaks : goal.returns-in_err-actions-clause-breaks
@@ -54,7 +55,7 @@ returns-clause-follows g c = (
       served = c.serve-answer.ensures.calls;
     };
     answers_are = refl;
-    lines_are = ap (λ (closed : Bool). cond closed None lines) (c.closes-is_closed.ensures.value ∙ ap closes c.deref-3.ensures.value);
+    lines_are = ap (λ (closed : Bool). cond closed None lines) (c.closes-is_closed.ensures.closes ∙ ap closes c.deref-3.ensures.value);
     told_is = refl;
   }),
 )

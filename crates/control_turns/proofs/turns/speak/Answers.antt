@@ -1,7 +1,7 @@
 use Rattle.std.proofs.Common.{ℕ, ◌∙◌, [], List, refl, subst, OnErr}
 use Rattle.data_side.specs.Told.{texts}
 use Rattle.text_ends.specs.Parts.{AppendsPart}
-use Rattle.control_turns.proofs.Writing.{appends_nothing, on_err}
+use Rattle.text_ends.proofs.Writing.{appends_nothing, on_err}
 use Rattle.control_turns.proofs.turns.speak.Goals as goal
 
 pub returns-in_err-clone-clause-part : goal.returns-in_err-clone-clause-part

@@ -2,7 +2,8 @@ use Rattle.std.proofs.Common.{◌++◌, ◌∙◌, [], Bool, sym, ap}
 use Rattle.std.proofs.lemmas.List.{append-nil}
 use Rattle.control_turns.specs.Turns.{next}
 use Rattle.control_turns.proofs.Leading.{stays_breaks, stays_settles}
-use Rattle.control_turns.proofs.Writing.{appends_more, appends_nothing, broke}
+use Rattle.text_ends.proofs.Writing.{appends_more, appends_nothing}
+use Rattle.control_turns.proofs.Writing.{broke}
 use Rattle.control_turns.proofs.turns.take_held.Goals as goal
 
 pub loop-session-init : goal.loop-session-init
@@ -17,7 +18,7 @@ loop-session-preserved g c = (
   c.loop-session.invariant.0 ++ c.in_ok-now.ensures.settles.0,
   appends_more _ _ _ _ _ c.loop-session.invariant.1 c.in_ok-now.ensures.settles.1,
   stays_settles _ _ _ _ _ _ _ _ _ _ _ _ _ _ _ _ _ _ _ _ _ _ _ c.loop-session.invariant.2 c.in_ok-now.ensures.settles.2
-      (λ lines. ap (λ (b : Bool). next [] b lines) (sym c.held_due.ensures.due ∙ c.loop-session-test.true)) c.ends-is_closed.ensures.value,
+      (λ lines. ap (λ (b : Bool). next [] b lines) (sym c.held_due.ensures.due ∙ c.loop-session-test.true)) c.ends-is_closed.ensures.closed,
 )
 
 pub returns-in_err-now-clause-breaks : goal.returns-in_err-now-clause-breaks

@@ -3,7 +3,8 @@ use Rattle.std.specs.List.{AllByRecursion}
 use Rattle.data_side.specs.Sides.{Given, IsAnswer, given_of, waiting}
 use Rattle.control_turns.proofs.Leading.{breaks_second, no_length, settles_alone, settles_twice}
 use Rattle.control_turns.proofs.Steps.{answer_asks_none, holds_then}
-use Rattle.control_turns.proofs.Writing.{appends_more, broke}
+use Rattle.text_ends.proofs.Writing.{appends_more}
+use Rattle.control_turns.proofs.Writing.{broke}
 use Rattle.control_turns.proofs.turns.take_input.Goals as goal
 
 pub returns-in_err-answer-clause-breaks : goal.returns-in_err-answer-clause-breaks
@@ -38,7 +39,7 @@ returns-clause-settles g c =
       appends_more _ _ _ _ _ c.in_ok-answer.ensures.follows.1 c.in_ok-last.ensures.follows.1,
       settles_twice _ _ _ _ _ _ _ _ _ _ _ _ _ _ _ _ _ _ _ _ _ _ _ _ _ _ c.in_ok-answer.ensures.follows.2 c.in_ok-last.ensures.follows.2
           (ap waiting c.in-Some.is) (no_length _ none)
-          (λ lines. c.ends.ensures.value lines ∙ ap (λ (b : Bool). cond b None (cond c.in_ok-answer.field-0.is_closed None lines)) c.closed_of.ensures.value),
+          (λ lines. c.ends.ensures.closed lines ∙ ap (λ (b : Bool). cond b None (cond c.in_ok-answer.field-0.is_closed None lines)) c.closed_of.ensures.closed),
     )
 
 pub returns-clause-held : goal.returns-clause-held

@@ -1,6 +1,7 @@
 use Rattle.std.proofs.Common.{◌++◌}
 use Rattle.control_turns.proofs.Leading.{settles_breaks, settles_passes, settling_breaks}
-use Rattle.control_turns.proofs.Writing.{appends_more, broke}
+use Rattle.text_ends.proofs.Writing.{appends_more}
+use Rattle.control_turns.proofs.Writing.{broke}
 use Rattle.control_turns.proofs.turns.take_line.Goals as goal
 
 pub returns-in_err-first-clause-breaks : goal.returns-in_err-first-clause-breaks
@@ -19,5 +20,5 @@ pub returns-clause-passes : goal.returns-clause-passes
 returns-clause-passes g c = (
   c.in_ok-first.ensures.settles.0 ++ c.in_ok-second.ensures.stays.0,
   appends_more _ _ _ _ _ c.in_ok-first.ensures.settles.1 c.in_ok-second.ensures.stays.1,
-  settles_passes _ _ _ _ _ _ _ _ _ _ _ _ _ _ _ _ _ _ _ _ _ _ _ c.in_ok-first.ensures.settles.2 c.in_ok-second.ensures.stays.2 c.requires.due c.ends.ensures.value,
+  settles_passes _ _ _ _ _ _ _ _ _ _ _ _ _ _ _ _ _ _ _ _ _ _ _ c.in_ok-first.ensures.settles.2 c.in_ok-second.ensures.stays.2 c.requires.due c.ends.ensures.closed,
 )

@@ -1,7 +1,8 @@
 use Rattle.std.proofs.Common.{◌++◌, [], sym, ap}
 use Rattle.ftp_wire.specs.Reading.{items_of}
 use Rattle.control_turns.proofs.Leading.{goes_closed, goes_open, goes_wrong, passed_all, passed_none}
-use Rattle.control_turns.proofs.Writing.{appends_more, appends_nothing, broke}
+use Rattle.text_ends.proofs.Writing.{appends_more, appends_nothing}
+use Rattle.control_turns.proofs.Writing.{broke}
 use Rattle.control_turns.proofs.turns.take_lines.Goals as goal
 
 pub loop-item-init : goal.loop-item-init

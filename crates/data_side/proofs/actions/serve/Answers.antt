@@ -24,14 +24,14 @@ loop-action-preserved g c = record {
     c.loop-action.invariant.count,
     c.serve_one-told.ensures.count,
     ap asking c.in-Some.ensures.first,
-    ap length c.either-answer.ensures.value,
+    ap length c.either-answer.ensures.waiting,
     length-append (waiting c.loop-action.answer) (waiting c.serve_one-told.result),
   );
   kind = c.either-answer.ensures.kind c.loop-action.invariant.kind c.serve_one-told.ensures.kind;
   few = c.loop-action.invariant.few;
   rest = λ more new s.
       subst (λ (x : List (Given _)). Serves g.D.DataSide.Asks c.args.actions.items c.args.side.now x new)
-      (sym (ap (λ (x : List (Given _)). x ++ more) c.either-answer.ensures.value ∙ append_assoc (waiting c.loop-action.answer) (waiting c.serve_one-told.result) more))
+      (sym (ap (λ (x : List (Given _)). x ++ more) c.either-answer.ensures.waiting ∙ append_assoc (waiting c.loop-action.answer) (waiting c.serve_one-told.result) more))
       (c.loop-action.invariant.rest (waiting c.serve_one-told.result ++ more) new
       (subst (λ (x : List _). Serves g.D.DataSide.Asks x c.loop-action.side (waiting c.serve_one-told.result ++ more) new) (sym c.in-Some.ensures.first)
       (serves_first g.D.DataSide.Asks c.in-Some.action (into_iter_items c.next_of.new.left) c.loop-action.side c.serve_one-told.new.side new (waiting c.serve_one-told.result) more

@@ -3,6 +3,7 @@ use Rattle.std.proofs.Math.ListN.{length-set}
 use Rattle.limit_tree.specs.Outline.{limits}
 use Rattle.limit_tree.specs.Flat.{IsRow, HasRow}
 use Rattle.limit_tree.proofs.Hops.{row-next, row-inside}
+use Rattle.round_allocator.specs.declared.level.TheConstants.{MAX_PROBES}
 use Rattle.round_allocator.specs.Levels.{IsPouring, branch_count}
 use Rattle.round_allocator.proofs.Counts.{branches-branch, branches-leaf}
 use Rattle.round_allocator.proofs.Pours.{left_of, leaf-floored, plan-level, plan-spare, pouring-start, pouring-next, pouring-end, pouring-leaf, pouring-branch}
@@ -46,7 +47,7 @@ fill-rest-requires g t c =
     let level : c.share_out-plan.result.share.level < 2 ^ 32 = omega (arith, c.requires.level, plan-level ps c.loop-tree.node c.in-Branch.limit (left_of c.args.share c.loop-tree.left) c.share_out-plan.result plan) in
     let spare : c.share_out-plan.result.share.spare ≤ sum (limits ps).wants = plan-spare ps c.loop-tree.node c.in-Branch.limit (left_of c.args.share c.loop-tree.left) c.share_out-plan.result plan (omega (arith, c.loop-tree.invariant.spare, c.requires.spare)) in
     let size : length c.loop-tree.grants ≡ length (limits ps).wants = c.loop-tree.invariant.size ∙ c.requires.grants in
-    let counted : c.share_out-plan.new.probes ≤ 33 * branch_count (take (c.loop-tree.node + 1) ps) = omega (arith, c.share_out-plan.ensures.counted, c.loop-tree.invariant.counted, branches-branch ps c.loop-tree.node p c.in-Branch.limit c.place-place.ensures.place c.in-Branch.is) in
+    let counted : c.share_out-plan.new.probes ≤ MAX_PROBES * branch_count (take (c.loop-tree.node + 1) ps) = omega (arith, c.share_out-plan.ensures.counted, c.loop-tree.invariant.counted, branches-branch ps c.loop-tree.node p c.in-Branch.limit c.place-place.ensures.place c.in-Branch.is) in
     let falls : length ps - (c.loop-tree.node + 1) < length ps - c.args.first = omega (arith, tree.inside, tree.some, c.loop-tree.invariant.past) in
     search (rules, falls, row, level, spare, size, counted)
 
@@ -73,7 +74,7 @@ loop-tree-preserved g t c =
     let tree = flat.shaped node p got in
     let here = left_of c.args.share c.loop-tree.left in
     let old = c.loop-tree.grants in
-    let step : (length c.match-place.grants ≡ length old) × (c.match-place.probes ≤ 33 * branch_count (take (node + p.nodes) ps)) × IsPouring ps node 1 p.first here old (node + p.nodes) 0 (p.first + p.leaves) c.match-place.left c.match-place.grants = elim c.match-place.branch [
+    let step : (length c.match-place.grants ≡ length old) × (c.match-place.probes ≤ MAX_PROBES * branch_count (take (node + p.nodes) ps)) × IsPouring ps node 1 p.first here old (node + p.nodes) 0 (p.first + p.leaves) c.match-place.left c.match-place.grants = elim c.match-place.branch [
       | in-Leaf w ↦
           let want = w.in-Leaf.want in
           let floor = w.in-Leaf.floor in
@@ -120,4 +121,4 @@ pub returns-clause-counted : goal.returns-clause-counted
 returns-clause-counted g t c = λ begin last past row.
     let was = c.loop-tree.invariant.poured begin last past row in
     let ends = (pouring-end c.args.tree.now c.args.first c.args.trees begin c.args.share c.args.grants.now c.loop-tree.node (c.args.trees - c.loop-tree._tree) was.0 c.loop-tree.left c.loop-tree.grants last past (omega arith) was.1 was.2).0 in
-    subst (λ (n : ℕ). c.loop-tree.probes ≤ 33 * branch_count (take n c.args.tree.now)) ends c.loop-tree.invariant.counted
+    subst (λ (n : ℕ). c.loop-tree.probes ≤ MAX_PROBES * branch_count (take n c.args.tree.now)) ends c.loop-tree.invariant.counted

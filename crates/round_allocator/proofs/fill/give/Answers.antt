@@ -4,6 +4,7 @@ use Rattle.limit_tree.specs.Sharing.{IsWithin}
 use Rattle.limit_tree.specs.Outline.{limits}
 use Rattle.limit_tree.specs.Flat.{IsRow, HasRow}
 use Rattle.limit_tree.specs.declared.place.Place.{Place}
+use Rattle.round_allocator.specs.declared.level.TheConstants.{MAX_PROBES}
 use Rattle.round_allocator.specs.Rounds.{HasBottlenecks}
 use Rattle.round_allocator.specs.Levels.{branch_count}
 use Rattle.round_allocator.proofs.Pours.{back}
@@ -49,7 +50,7 @@ pub returns-clause-counted : goal.returns-clause-counted
 returns-clause-counted g c =
     let ps = c.args.flat.now in
     let flat = c.nodes-nodes.ensures.flat in
-    let rows = subst (λ (qs : List Place). (begin last past : ℕ) → IsRow qs 0 begin 1 last past → c.fill-left.new.probes ≤ 33 * branch_count (take last qs)) c.unprobed-tree.ensures.tree c.fill-left.ensures.counted in
-    let counted : c.fill-left.new.probes ≤ 33 * branch_count (take (length ps) ps) = rows 0 (length ps) (length (limits ps).wants) flat.root in
-    let all : c.fill-left.new.probes ≤ 33 * branch_count ps = subst (λ (qs : List Place). c.fill-left.new.probes ≤ 33 * branch_count qs) (take-length ps) counted in
+    let rows = subst (λ (qs : List Place). (begin last past : ℕ) → IsRow qs 0 begin 1 last past → c.fill-left.new.probes ≤ MAX_PROBES * branch_count (take last qs)) c.unprobed-tree.ensures.tree c.fill-left.ensures.counted in
+    let counted : c.fill-left.new.probes ≤ MAX_PROBES * branch_count (take (length ps) ps) = rows 0 (length ps) (length (limits ps).wants) flat.root in
+    let all : c.fill-left.new.probes ≤ MAX_PROBES * branch_count ps = subst (λ (qs : List Place). c.fill-left.new.probes ≤ MAX_PROBES * branch_count qs) (take-length ps) counted in
     omega (arith, all, c.count.ensures.count)

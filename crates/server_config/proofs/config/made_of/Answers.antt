@@ -9,18 +9,17 @@ use Rattle.config_tables.specs.declared.stated.GroupTable.{GroupTable}
 use Rattle.config_tables.specs.declared.stated.UserTable.{UserTable}
 use Rattle.config_tables.specs.declared.stated.OverrideTable.{OverrideTable}
 use Rattle.config_users.specs.Added.{AddsUsers}
-use Rattle.server_config.proofs.Lengths.{overrides_long, rows_long}
 use Rattle.server_config.proofs.Making.{moved, moved_all, limits_made}
 use Rattle.server_config.proofs.Refusing.{store_refused}
 use Rattle.server_config.proofs.config.made_of.Goals as goal
 
 pub make_users-requires-clause-overrides : goal.make_users-requires-clause-overrides
 make_users-requires-clause-overrides c =
-    ap length c.as_slice-overrides.ensures.value ∙ overrides_long c.requires.stated.0 c.args.tables.now c.requires.stated.1 ∙ sym (ap length c.as_slice-users.ensures.value)
+    ap length c.as_slice-overrides.ensures.value ∙ c.requires.paired ∙ sym (ap length c.as_slice-users.ensures.value)
 
 pub make_users-requires-clause-rows : goal.make_users-requires-clause-rows
 make_users-requires-clause-rows c =
-    ap length c.as_slice.ensures.value ∙ rows_long c.as_slice-groups.result.now c.as_slice-users.result.now c.in-Ok.rows.users.items c.in-Ok.ensures.users
+    ap length c.as_slice.ensures.value ∙ c.in-Ok.ensures.many
 
 pub returns-clause-made : goal.returns-clause-made
 returns-clause-made c =

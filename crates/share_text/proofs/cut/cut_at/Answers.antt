@@ -1,7 +1,7 @@
 use Rattle.std.proofs.Common.{◌≡◌, ◌∙◌, ◌+◌, ◌≤◌, suc, length, arith, ap, sym, take, drop, ◌∷◌, ◌-◌, ℕ, List}
 use Rattle.std.proofs.Math.Seq.{take_all}
 use Rattle.std.proofs.lemmas.List.{length-drop}
-use Rattle.share_text.specs.Text.{parts}
+use Rattle.sheet_tree.specs.Paths.{parts}
 use Rattle.share_text.proofs.Cuts.{cut_here, no_cut}
 use Rattle.share_text.proofs.cut.cut_at.Goals as goal
 

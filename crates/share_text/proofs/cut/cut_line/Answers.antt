@@ -2,7 +2,7 @@ use Rattle.std.proofs.Common.{◌≡◌, ◌∙◌, ap, sym, subst, ◌∷◌, [
 use Rattle.std.specs.Prelude.{IfSome}
 use Rattle.std.specs.Option.{option_copied}
 use Rattle.std.specs.Str.Lines.{lines}
-use Rattle.share_text.specs.Text.{parts, parts_behind}
+use Rattle.sheet_tree.specs.Paths.{parts, parts_behind}
 use Rattle.share_text.proofs.Cuts.{lines_more, last_line, nothing_left}
 use Rattle.share_text.proofs.cut.cut_line.Goals as goal
 

@@ -1,16 +1,16 @@
-use Rattle.std.proofs.Common.{◌≡◌, ◌≤◌, ◌+◌, ◌++◌, [], List, length}
+use Rattle.std.proofs.Common.{◌≡◌, ◌≤◌, ◌+◌, ◌++◌, length}
 use Rattle.std.specs.Str.Lines.{lines}
-use Rattle.share_text.specs.Sheet.{Statement, mentions, first_line_fault, statements_from}
-use Rattle.share_text.specs.Nodes.{Holds}
+use Rattle.sheet_nodes.specs.Rows.{AreBelow}
+use Rattle.sheet_nodes.specs.Tree.{paths_to}
+use Rattle.share_text.specs.Sheet.{lines_taken, statements, statements_from, text_taken, want_paths}
 use Rattle.share_text.proofs.read.read_lines.Given as goal
 
 abbrev pub invariant-lines : goal.invariant-lines
 invariant-lines g l = record {
   counted : l.number + length l.rest ≤ length l.text;
-  before : List Statement;
-  holds : Holds l.arena (mentions before) before;
-  fault : first_line_fault [] 1 (lines l.text) ≡ first_line_fault before (l.number + 1) (lines l.rest);
-  states : statements_from 1 (lines l.text) ≡ before ++ statements_from (l.number + 1) (lines l.rest);
+  taken : text_taken l.text ≡ lines_taken l.reading.nodes (l.number + 1) (lines l.rest);
+  wants : want_paths (statements l.text) ≡ paths_to l.reading.nodes l.reading.wants.items ++ want_paths (statements_from (l.number + 1) (lines l.rest));
+  below : AreBelow (length l.reading.nodes) l.reading.wants.items;
 }
 
 abbrev pub decreases-lines : goal.decreases-lines

@@ -1,7 +1,7 @@
 use Rattle.std.proofs.Common.{◌≡◌, ◌∙◌, List, ℕ, Some, None, Err, inr, length, sym, ap, subst, arith}
 use Rattle.share_text.specs.Views.{IsSheetOf}
-use Rattle.share_text.specs.Whole.{sheet_fault}
-use Rattle.share_text.specs.declared.fault.SheetFault.TheVariants.{Memory}
+use Rattle.share_text.specs.Sheet.{fault_of, sheet_fault}
+use Rattle.sheet_nodes.specs.declared.fault.SheetFault.TheVariants.{Memory}
 use Rattle.sheet_commands.specs.declared.fault.ProgramFault.TheVariants.{Sheet, Grants, TooLong}
 use Rattle.sheet_commands.specs.declared.whole.TheConstants.{MAX_TEXT}
 use Rattle.sheet_commands.specs.Faults.{of_sheet, IsReadingFault}
@@ -52,7 +52,7 @@ returns-clause-long_grants g c sheet_text text sheet_known sound known more = ab
 pub returns-in_err-grants_text-clause-too_long : goal.returns-in_err-grants_text-clause-too_long
 returns-in_err-grants_text-clause-too_long g c is =
     let more = c.in_err-grants_text.ensures.too_long (ap Err (told_as c.from_residual-in_err-grants_text.result c.in_err-grants_text.field-0.0 TooLong c.from_residual-in_err-grants_text.ensures.1 is)) in
-    let sound : sheet_fault c.in_ok-sheet_text.sheet_text.items ≡ None = ap (λ (t : List ℕ). sheet_fault t) (sym c.deref.ensures.value) ∙ c.in_ok-sheet.ensures.read.sound in
+    let sound : sheet_fault c.in_ok-sheet_text.sheet_text.items ≡ None = ap (λ (t : List ℕ). sheet_fault t) (sym c.deref.ensures.value) ∙ ap fault_of c.in_ok-sheet.ensures.read.taken_is ∙ c.in_ok-sheet.ensures.read.sound in
     inr (read_text_is _ _ c.in_ok-sheet_text.sheet_text.items (λ (t : List ℕ). sheet_fault t ≡ None) c.in_ok-sheet_text.ensures.whole c.in_ok-sheet_text.ensures.end sound, more)
 
 pub returns-in_err-verdict-clause-grants : goal.returns-in_err-verdict-clause-grants

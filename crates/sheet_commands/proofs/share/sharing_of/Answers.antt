@@ -1,5 +1,5 @@
 use Rattle.std.proofs.Common.{◌≡◌, ◌∙◌, Some, ap}
-use Rattle.share_text.specs.declared.fault.SheetFault.TheVariants.{Memory}
+use Rattle.sheet_nodes.specs.declared.fault.SheetFault.TheVariants.{Memory}
 use Rattle.sheet_commands.specs.declared.fault.ProgramFault.TheVariants.{Sheet}
 use Rattle.sheet_commands.specs.Faults.{of_sheet}
 use Rattle.sheet_commands.proofs.Told.{sheet_told, told_as}

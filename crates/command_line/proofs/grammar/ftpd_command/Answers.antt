@@ -1,0 +1,13 @@
+use Rattle.std.proofs.Common.{ap, ap₂, ◌∙◌}
+use Rattle.clap.specs.Words.{App, with_subcommand}
+use Rattle.command_line.proofs.Taken.{no_globals}
+use Rattle.command_line.proofs.grammar.ftpd_command.Goals as goal
+
+pub returns : goal.returns
+returns c =
+    let migrate = c.in_ok-migrate_command.ensures.migrate in
+    let script = c.in_ok-script_command.ensures.script in
+    let first = c.in_ok-with_migrate.ensures.shape (no_globals _ _ _ _ (ap (λ (a : App). a.top.is_plain) migrate)) ∙ ap₂ with_subcommand c.in_ok-with_sheets.ensures.sheets (ap (λ (a : App). a.top) migrate) in
+    record {
+      ftpd = c.in_ok-command.ensures.shape (no_globals _ _ _ _ (ap (λ (a : App). a.top.is_plain) script)) ∙ ap₂ with_subcommand first (ap (λ (a : App). a.top) script);
+    }

@@ -1,0 +1,171 @@
+//! Paths of the machine, and the directories that are held open on the way there.
+
+ghost use Rattle.std.specs.Prelude.{◌≡◌, ◌++◌, ◌∷◌, IfOk, IfSome, OnOk, string_bytes};
+ghost use Rattle.machine_files.specs.MachinePaths.{IsEntered, IsOpenText, open_text};
+ghost use Rattle.machine_files.specs.Refusals.{NeverFull};
+
+use crate::look::{fault_of, identity_of, is_same};
+use std::alloc::{AllocError, Allocator};
+use std::fs::{Metadata, OpenFile};
+use std::io::ErrorKind;
+use std::marker::Model;
+use std::os::fd::AsRawFd;
+use std::rt::Files;
+use std::{fs, io};
+use virtual_tree::StoreFault;
+
+/// A path of the machine. It may lead through a directory that is held open, and then to what stands
+/// in that very directory, whatever became of the directory's name.
+#[derive(Drop)]
+pub struct MachinePath<F: Drop, A: Allocator> {
+    held: Option<F>,
+    text: String<A>,
+}
+
+impl<F: Drop, A: Allocator> Model for MachinePath<F, A> {
+    ghost use Rattle.std.specs.Prelude.{List, ℕ};
+    ghost use Rattle.std.specs.String.{string_bytes};
+
+    ghost Value = { List ℕ };
+
+    ghost view = { λ path. string_bytes path.text };
+}
+
+impl<F: Drop, A: Allocator> MachinePath<F, A> {
+    /// What stands at a path of the machine, by names alone.
+    pub fn named(alloc: A, text: &str) -> Result<MachinePath<F, A>, AllocError>
+        ensures text { IfOk result (λ path. path ≡ text.now) }
+    {
+        Ok(MachinePath {
+            held: None,
+            text: String::from_str(alloc, text)?,
+        })
+    }
+
+    /// The path.
+    pub fn text(&self) -> &str
+        ensures text { result.now ≡ self.now }
+    {
+        self.text.as_str()
+    }
+
+    /// Goes one name further.
+    pub fn push(&mut self, name: &str) -> Result<(), AllocError>
+        ensures further { OnOk result (self.new ≡ self.old ++ 47 ∷ name.now) }
+    {
+        self.text.push('/')?;
+        self.text.push_str(name)
+    }
+
+    /// Leads through an open directory from now on.
+    fn hold(&mut self, file: F, text: String<A>)
+        ensures text { self.new ≡ string_bytes text }
+    {
+        self.held = Some(file);
+        self.text = text;
+    }
+}
+
+/// Enters the directory at a path, which has to be the very one that was looked at: it is held open,
+/// and the path leads through it from now on.
+///
+/// Where the machine does not let it, as it may be entered but not read, or there is no `/proc`, the
+/// path is as before, and leads there by names. `NotFound` is for another entry that came to stand
+/// where the directory stood.
+pub fn enter<R: Files + Alloc>(
+    rt: &R,
+    path: &mut MachinePath<R::File, R::A>,
+    looked: &Metadata,
+) -> Result<(), StoreFault>
+where
+    R::File: AsRawFd,
+    ensures full { NeverFull result }
+    ensures entered { OnOk result (IsEntered path.old path.new) }
+{
+    let Some(file) = opened(rt, path.text(), looked)? else {
+        return Ok(());
+    };
+    let Some(text) = text_of(rt, &file, looked)? else {
+        return Ok(());
+    };
+    path.hold(file, text);
+    Ok(())
+}
+
+/// A directory that was looked at, opened; none where it may not be read.
+fn opened<R: Files + Alloc>(
+    rt: &R,
+    path: &str,
+    looked: &Metadata,
+) -> Result<Option<R::File>, StoreFault>
+    ensures full { NeverFull result }
+{
+    // Behind a slash stands a directory alone, so no pipe can hold the call.
+    let folder = format!(in rt.alloc(); "{path}/")?;
+    match fs::open(rt, folder.as_str()) {
+        Ok(file) => that_directory(file, looked),
+        Err(error) => match error.kind() {
+            ErrorKind::PermissionDenied => Ok(None),
+            ErrorKind::NotADirectory => Err(StoreFault::NotFound),
+            _ => Err(fault_of(&error)),
+        },
+    }
+}
+
+/// The directory that was opened, where it is the one that was looked at.
+fn that_directory<F: OpenFile + Drop>(file: F, looked: &Metadata) -> Result<Option<F>, StoreFault>
+    ensures full { NeverFull result }
+{
+    match file.metadata() {
+        Ok(metadata) => {
+            if is_same(identity_of(looked), identity_of(&metadata)) {
+                Ok(Some(file))
+            } else {
+                Err(StoreFault::NotFound)
+            }
+        }
+        Err(error) => Err(fault_of(&error)),
+    }
+}
+
+/// The path that leads to an open directory; none where the machine has no such path.
+fn text_of<R: Files + Alloc>(
+    rt: &R,
+    file: &R::File,
+    looked: &Metadata,
+) -> Result<Option<String<R::A>>, StoreFault>
+where
+    R::File: AsRawFd,
+    ensures full { NeverFull result }
+    ensures open { IfOk result (λ found. IfSome found (λ text. IsOpenText (string_bytes text))) }
+{
+    let text = open_text(rt.alloc(), file)?;
+    if leads_to(fs::metadata(rt, text.as_str()), looked)? {
+        Ok(Some(text))
+    } else {
+        Ok(None)
+    }
+}
+
+/// The machine's path of what this process holds open.
+fn open_text<F: AsRawFd, A: Allocator>(alloc: A, file: &F) -> Result<String<A>, AllocError>
+    ensures open { IfOk result (λ text. IsOpenText (string_bytes text)) }
+    ensures number { IfOk result
+        (λ text. IfSome (F.raw_fd file.now) (λ number. string_bytes text ≡ open_text number)) }
+{
+    format!(in alloc; "/proc/self/fd/{}", file.as_raw_fd())
+}
+
+/// Whether what stands at a path is the directory that was looked at; no, where the machine tells
+/// nothing of the path.
+fn leads_to(found: io::Result<Metadata>, looked: &Metadata) -> Result<bool, StoreFault>
+    ensures full { NeverFull result }
+{
+    match found {
+        Ok(metadata) => Ok(is_same(identity_of(looked), identity_of(&metadata))),
+        Err(error) => match error.kind() {
+            ErrorKind::NotFound | ErrorKind::PermissionDenied => Ok(false),
+            _ => Err(fault_of(&error)),
+        },
+    }
+}

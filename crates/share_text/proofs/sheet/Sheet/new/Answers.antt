@@ -1,0 +1,82 @@
+use Rattle.std.proofs.Common.{◌≡◌, ◌∙◌, ◌<◌, ap, sym, subst, arith, ℕ, List, length, nat_eq, map, Some, None, Option, get_or}
+use Rattle.std.specs.List.{position_from}
+use Rattle.std.specs.Option.{is_some}
+use Rattle.limit_tree.specs.Outline.{is_leaf_kind}
+use Rattle.sheet_nodes.specs.Rows.{AreBelow}
+use Rattle.sheet_nodes.specs.Table.{mention_at}
+use Rattle.sheet_nodes.specs.Tree.{paths_to}
+use Rattle.share_text.specs.Kept.{IsKept}
+use Rattle.share_text.specs.Views.{IsSheet, IsSheetOf}
+use Rattle.share_text.proofs.Placed.{filter_short}
+use Rattle.share_text.proofs.Readings.{few, is_kept, is_sheet, is_sheet_of, leaf_places, leaves_below, numbered}
+use Rattle.share_text.proofs.sheet.Sheet.new.Goals as goal
+
+pub number_places-requires-clause-few : goal.number_places-requires-clause-few
+number_places-requires-clause-few g c =
+    let read = c.requires.read in
+    omega (arith, few read.0 c.args.nodes c.args.tree c.args.order.items c.args.places.now read.1, ap length c.deref.ensures.value)
+
+pub number_places-requires-2-clause-below : goal.number_places-requires-2-clause-below
+number_places-requires-2-clause-below g c =
+    let read = c.requires.read in
+    let table = c.args.nodes in
+    let leaves_are = c.deref-3.ensures.value ∙ c.in_ok-leaves.ensures.leaves ∙ ap (leaf_places table) c.deref-2.ensures.value in
+    subst (λ (n : ℕ). AreBelow n c.deref-3.result.now) (sym c.len-2.ensures.len) (subst (AreBelow (length table)) (sym leaves_are) (leaves_below read.0 table c.args.tree c.args.order.items c.args.places.now read.1))
+
+pub number_places-requires-2-clause-few : goal.number_places-requires-2-clause-few
+number_places-requires-2-clause-few g c =
+    let read = c.requires.read in
+    let table = c.args.nodes in
+    let leaves_are = c.deref-3.ensures.value ∙ c.in_ok-leaves.ensures.leaves ∙ ap (leaf_places table) c.deref-2.ensures.value in
+    omega (
+      arith,
+      few read.0 table c.args.tree c.args.order.items c.args.places.now read.1,
+      ap length leaves_are,
+      filter_short (λ place. is_leaf_kind (mention_at table place).kind) c.args.order.items,
+    )
+
+pub numbers_at-requires-clause-there : goal.numbers_at-requires-clause-there
+numbers_at-requires-clause-there g c k less =
+    let read = c.requires.read in
+    let table = c.args.nodes in
+    let leaves_are = c.deref-3.ensures.value ∙ c.in_ok-leaves.ensures.leaves ∙ ap (leaf_places table) c.deref-2.ensures.value in
+    let places = c.args.places.now in
+    ap (λ (ns : List (Option ℕ)). is_some (get_or ns (get_or places k 0) None)) c.deref-4.ensures.value
+    ∙ numbered read.0 table c.args.tree c.args.order.items places read.1 c.in_ok-leaf_numbers.leaf_numbers.items
+    (λ place l. c.in_ok-leaf_numbers.ensures.numbers place (omega (arith, l, c.len-2.ensures.len)) ∙ ap (position_from (nat_eq place) 0) leaves_are) k less
+
+pub invariant_of-result : goal.invariant_of-result
+invariant_of-result g c =
+    let read = c.requires.read in
+    let table = c.args.nodes in
+    let order = c.args.order.items in
+    let places = c.args.places.now in
+    let wants = c.in_ok-wants.wants.items in
+    let leaves_are : c.in_ok-leaves.leaves.items ≡ leaf_places table order = c.in_ok-leaves.ensures.leaves ∙ ap (leaf_places table) c.deref-2.ensures.value in
+    let leaf_numbers = c.in_ok-leaf_numbers.leaf_numbers.items in
+    let are : (place : ℕ) → place < length table → get_or leaf_numbers place None ≡ position_from (nat_eq place) 0 (leaf_places table order) =
+    λ place l. c.in_ok-leaf_numbers.ensures.numbers place (omega (arith, l, c.len-2.ensures.len)) ∙ ap (position_from (nat_eq place) 0) (c.deref-3.ensures.value ∙ leaves_are) in
+    let is : map Some wants ≡ map (λ place. get_or leaf_numbers place None) places = c.in_ok-wants.ensures.numbers ∙ ap (λ (ns : List (Option ℕ)). map (λ place. get_or ns place None) places) c.deref-4.ensures.value in
+    let numbers_many : length c.in_ok-numbers.numbers.items ≡ length table = omega (arith, c.in_ok-numbers.numbers.ok.0, c.in_ok-numbers.ensures.length, c.len.ensures.len) in (
+      subst (λ (ls : List ℕ). IsSheet (record { outline = c.args.tree; paths = paths_to table order; leaves = paths_to table ls; wants = wants })) (sym leaves_are)
+          (is_sheet read.0 table c.args.tree order places read.1 wants leaf_numbers are is),
+      subst (λ (ls : List ℕ). IsKept table order ls c.in_ok-numbers.numbers.items) (sym leaves_are)
+          (is_kept read.0 table c.args.tree order places read.1 c.in_ok-numbers.numbers.items numbers_many
+          (λ place l. c.in_ok-numbers.ensures.numbers place (omega (arith, l, c.len.ensures.len)) ∙ ap (position_from (nat_eq place) 0) c.deref.ensures.value)),
+    )
+
+pub returns : goal.returns
+returns g c =
+    let table = c.args.nodes in
+    let order = c.args.order.items in
+    let places = c.args.places.now in
+    let wants = c.in_ok-wants.wants.items in
+    let leaves_are : c.in_ok-leaves.leaves.items ≡ leaf_places table order = c.in_ok-leaves.ensures.leaves ∙ ap (leaf_places table) c.deref-2.ensures.value in
+    let leaf_numbers = c.in_ok-leaf_numbers.leaf_numbers.items in
+    let are : (place : ℕ) → place < length table → get_or leaf_numbers place None ≡ position_from (nat_eq place) 0 (leaf_places table order) =
+    λ place l. c.in_ok-leaf_numbers.ensures.numbers place (omega (arith, l, c.len-2.ensures.len)) ∙ ap (position_from (nat_eq place) 0) (c.deref-3.ensures.value ∙ leaves_are) in
+    let is : map Some wants ≡ map (λ place. get_or leaf_numbers place None) places = c.in_ok-wants.ensures.numbers ∙ ap (λ (ns : List (Option ℕ)). map (λ place. get_or ns place None) places) c.deref-4.ensures.value in
+    record {
+      sheet = λ text read. subst (λ (ls : List ℕ). IsSheetOf text (record { outline = c.args.tree; paths = paths_to table order; leaves = paths_to table ls; wants = wants })) (sym leaves_are)
+          (is_sheet_of text table c.args.tree order places read wants leaf_numbers are is);
+    }

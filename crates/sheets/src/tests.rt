@@ -1,8 +1,8 @@
 //! The program on real files.
 
 use super::*;
-use std::fs;
 use std::test::Fail;
+use std::{env, fs};
 
 const LUNCH: &str = "limit / 10\nwant /a 10\nwant /b 10\nwant /c 10\n";
 

@@ -1,5 +1,5 @@
 -- The words of a command are taken, and what the parser then holds of them.
-use Rattle.std.proofs.Common.{refl, codes, not, true, false, Bool, ◌&&◌, ◌≡◌, ◌==◌, ℕ, List, [], ◌∷◌, Option, None, Some, ◌⊎◌, inl, inr}
+use Rattle.std.proofs.Common.{refl, codes, subst, not, true, false, Bool, ◌&&◌, ◌≡◌, ◌==◌, ℕ, List, [], ◌∷◌, Option, None, Some, ◌⊎◌, inl, inr}
 use Rattle.std.specs.Prelude.{option_map, unwrap_or}
 use Rattle.std.proofs.lemmas.Bool.{ne_eqb}
 use Rattle.clap.specs.Words.{App, Row, Text, first_of, is_simple, is_simple_and_free, subcommand_of, takes}
@@ -219,6 +219,11 @@ pub refusal : (kinds : Kinds) (kind : ErrorKind) (fault : WordsFault) → (kind 
 refusal kinds kind Memory memory refused among = tt
 refusal kinds kind (Refused text is_help) memory refused (inl out) = let no = memory out in cc
 refusal kinds kind (Refused text is_help) memory refused (inr among) = (kind, among, refused)
+
+-- no kind is refused: memory ran out
+pub refused_by_none : (kinds : Kinds) (fault : WordsFault) → kinds ≡ [] → IsRefusal kinds fault → fault ≡ Memory
+refused_by_none kinds Memory none refused = refl
+refused_by_none kinds (Refused text is_help) none refused = absurd (subst (IsAmong refused.0) none refused.1)
 
 abbrev pub named : {S : Type 0} → (S → Text) → (S → List Row) → S → Text × List Row
 named name rows s = (name s, rows s)

@@ -62,6 +62,10 @@ IsFound found (Script config) =
 abbrev pub GivesOrMemory : {T : Type 0} → (T → Type 0) → Result T WordsFault → Type 0
 GivesOrMemory P r = MatchResult r P (λ fault. fault ≡ Memory)
 
+-- there is such a command, and it is given, or memory ran out
+abbrev pub GivesOneOrMemory : {T : Type 0} → (T → Type 0) → Result T WordsFault → Type 0
+GivesOneOrMemory {T} P r = (one : T) × P one × GivesOrMemory (λ given. given ≡ one) r
+
 -- the words asked for help or the version
 abbrev pub IsHelp : ErrorKind → Type 0
 IsHelp kind = (kind ≡ DisplayHelp) ⊎ (kind ≡ DisplayVersion)

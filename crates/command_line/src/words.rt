@@ -2,7 +2,7 @@
 ghost use Rattle.std.specs.Prelude.{◌≡◌, ◌↔◌, ◌∷◌, [], ℕ, List, Some, IfOk, IfErr, IfSome, IsSomeAnd, IsTrue, map, codes, option_map, true};
 ghost use Rattle.clap.specs.Words.{Row, app_of, fault_of, first_of, is_simple, is_simple_and_free, kind_of, subcommand_of, subcommand_rows_of, takes};
 ghost use Rattle.command_line.specs.Commands.{ftpd, sheets};
-ghost use Rattle.command_line.specs.Given.{GivesOrMemory, IsCheck, IsFound, IsHelp, IsMigrate, IsOfSheets, IsPlainWord, IsRefusal, IsRefusedAs, IsScript, IsSheetFound, IsShare};
+ghost use Rattle.command_line.specs.Given.{GivesOneOrMemory, GivesOrMemory, IsCheck, IsFound, IsHelp, IsMigrate, IsOfSheets, IsPlainWord, IsRefusal, IsRefusedAs, IsScript, IsSheetFound, IsShare};
 
 use crate::grammar::{ftpd_command, sheets_command};
 use clap::error::ErrorKind;
@@ -197,6 +197,7 @@ fn parsed<'a>(
 
 /// The command that the words of `sheets` give; they come without the program's name.
 ///
+/// Words that the parser takes give one, and that is the answer unless memory ran out.
 /// `Refused` comes only where the parser refuses the words or they ask for help or the version, and `Memory` only
 /// where memory ran out.
 pub fn read_sheet_words<'a>(
@@ -209,6 +210,8 @@ pub fn read_sheet_words<'a>(
     ensures check { (first second : List ℕ) → IsPlainWord first → IsPlainWord second
         → map (λ s. s.now) words.now ≡ codes "check" ∷ first ∷ second ∷ []
         → GivesOrMemory (IsCheck first second) result }
+    ensures taken { fault_of sheets (map (λ s. s.now) words.now) ≡ [] → GivesOneOrMemory
+        (IsSheetFound (subcommand_of sheets (map (λ s. s.now) words.now))) result }
     ensures refused { IfErr result (IsRefusal (fault_of sheets (map (λ s. s.now) words.now))) }
     ensures given { IfOk result (λ _. fault_of sheets (map (λ s. s.now) words.now) ≡ []) }
     ensures found { IfOk result (IsSheetFound (subcommand_of sheets (map (λ s. s.now) words.now))) }
@@ -222,12 +225,13 @@ pub fn read_sheet_words<'a>(
     };
     match sheet_given(&matches) {
         Some(words) => Ok(words),
-        None => Err(WordsFault::Memory),
+        None => unreachable!("words that the parser takes give a command"),
     }
 }
 
 /// The command that the words of `ftpd` give; they come without the program's name.
 ///
+/// Words that the parser takes give one, and that is the answer unless memory ran out.
 /// `Refused` comes only where the parser refuses the words or they ask for help or the version, and `Memory` only
 /// where memory ran out.
 pub fn read_words<'a>(alloc: Global, words: &'a [&'a str]) -> Result<Words<'a>, WordsFault>
@@ -243,6 +247,8 @@ pub fn read_words<'a>(alloc: Global, words: &'a [&'a str]) -> Result<Words<'a>, 
     ensures script { (word : List ℕ) → IsPlainWord word
         → map (λ s. s.now) words.now ≡ codes "script" ∷ word ∷ []
         → GivesOrMemory (IsScript word) result }
+    ensures taken { fault_of ftpd (map (λ s. s.now) words.now) ≡ [] → GivesOneOrMemory
+        (IsFound (subcommand_of ftpd (map (λ s. s.now) words.now))) result }
     ensures refused { IfErr result (IsRefusal (fault_of ftpd (map (λ s. s.now) words.now))) }
     ensures given { IfOk result (λ _. fault_of ftpd (map (λ s. s.now) words.now) ≡ []) }
     ensures found { IfOk result (IsFound (subcommand_of ftpd (map (λ s. s.now) words.now))) }
@@ -256,6 +262,6 @@ pub fn read_words<'a>(alloc: Global, words: &'a [&'a str]) -> Result<Words<'a>, 
     };
     match given(&matches) {
         Some(words) => Ok(words),
-        None => Err(WordsFault::Memory),
+        None => unreachable!("words that the parser takes give a command"),
     }
 }

@@ -1,4 +1,4 @@
-//! The codes of commands, one row for each.
+//! The codes of commands, one row for each: the reader and the writer have them from here.
 
 ghost use Rattle.std.specs.Prelude.{◌≡◌, map};
 ghost use Rattle.ftp_wire.specs.Table.{row, row_of, table};
@@ -89,67 +89,96 @@ pub enum Known {
 #[derive(Clone, Copy)]
 struct Row(&'static str, Known);
 
+/// Gives the commands that are served to the macro of that name, one row for each: the variant, and its code in capitals.
+macro_rules! with_served {
+    ($rows:ident $($before:tt)*) => {
+        $rows! {
+            $($before)*:
+            Bare {
+                Cdup "CDUP"
+                Quit "QUIT"
+                Rein "REIN"
+                Pasv "PASV"
+                Abor "ABOR"
+                Pwd "PWD"
+                Syst "SYST"
+                Feat "FEAT"
+                Noop "NOOP"
+            }
+            Text {
+                User "USER"
+                Cwd "CWD"
+                Retr "RETR"
+                Stor "STOR"
+                Appe "APPE"
+                Rnfr "RNFR"
+                Rnto "RNTO"
+                Dele "DELE"
+                Rmd "RMD"
+                Mkd "MKD"
+                Size "SIZE"
+                Mdtm "MDTM"
+            }
+            Form {
+                SetType "TYPE"
+                Mode "MODE"
+                Stru "STRU"
+                Port "PORT"
+                Eprt "EPRT"
+                Rest "REST"
+                Opts "OPTS"
+            }
+            Optional {
+                Pass "PASS"
+                Allo "ALLO"
+                Help "HELP"
+                Mlsd "MLSD"
+                Mlst "MLST"
+            }
+            Listing {
+                List "LIST"
+                Nlst "NLST"
+                Stat "STAT"
+            }
+        }
+    };
+}
+
+pub(crate) use with_served;
+
+/// The codes of the commands that are served, and those that follow here.
+macro_rules! table {
+    (: $($kind:ident { $($name:ident $code:literal)* })*) => {
+        &[
+            $($(Row($code, Known::Served(Verb::$kind($kind::$name))),)*)*
+            Row("EPSV", Known::Served(Verb::Epsv)),
+            Row("XCUP", Known::Served(Verb::Bare(Bare::Cdup))),
+            Row("XPWD", Known::Served(Verb::Bare(Bare::Pwd))),
+            Row("XCWD", Known::Served(Verb::Text(Text::Cwd))),
+            Row("XRMD", Known::Served(Verb::Text(Text::Rmd))),
+            Row("XMKD", Known::Served(Verb::Text(Text::Mkd))),
+            Row("ACCT", Known::NotServed),
+            Row("SMNT", Known::NotServed),
+            Row("STOU", Known::NotServed),
+            Row("SITE", Known::NotServed),
+            Row("LANG", Known::NotServed),
+            Row("HOST", Known::NotServed),
+            Row("AUTH", Known::NotServed),
+            Row("ADAT", Known::NotServed),
+            Row("PBSZ", Known::NotServed),
+            Row("PROT", Known::NotServed),
+            Row("CCC", Known::NotServed),
+            Row("MIC", Known::NotServed),
+            Row("CONF", Known::NotServed),
+            Row("ENC", Known::NotServed),
+            Row("MFMT", Known::NotServed),
+        ]
+    };
+}
+
 /// The codes that are known (RFC 959, section 5.3; the X codes by RFC 1123, section 4.1.3.1; RFC 2228, 2389,
 /// 2428, 2640, 3659 and 7151). A code with an X is that of the command without it, and XCUP is CDUP.
-static TABLE: &[Row] = &[
-    Row("CDUP", Known::Served(Verb::Bare(Bare::Cdup))),
-    Row("QUIT", Known::Served(Verb::Bare(Bare::Quit))),
-    Row("REIN", Known::Served(Verb::Bare(Bare::Rein))),
-    Row("PASV", Known::Served(Verb::Bare(Bare::Pasv))),
-    Row("ABOR", Known::Served(Verb::Bare(Bare::Abor))),
-    Row("PWD", Known::Served(Verb::Bare(Bare::Pwd))),
-    Row("SYST", Known::Served(Verb::Bare(Bare::Syst))),
-    Row("FEAT", Known::Served(Verb::Bare(Bare::Feat))),
-    Row("NOOP", Known::Served(Verb::Bare(Bare::Noop))),
-    Row("USER", Known::Served(Verb::Text(Text::User))),
-    Row("CWD", Known::Served(Verb::Text(Text::Cwd))),
-    Row("RETR", Known::Served(Verb::Text(Text::Retr))),
-    Row("STOR", Known::Served(Verb::Text(Text::Stor))),
-    Row("APPE", Known::Served(Verb::Text(Text::Appe))),
-    Row("RNFR", Known::Served(Verb::Text(Text::Rnfr))),
-    Row("RNTO", Known::Served(Verb::Text(Text::Rnto))),
-    Row("DELE", Known::Served(Verb::Text(Text::Dele))),
-    Row("RMD", Known::Served(Verb::Text(Text::Rmd))),
-    Row("MKD", Known::Served(Verb::Text(Text::Mkd))),
-    Row("SIZE", Known::Served(Verb::Text(Text::Size))),
-    Row("MDTM", Known::Served(Verb::Text(Text::Mdtm))),
-    Row("TYPE", Known::Served(Verb::Form(Form::SetType))),
-    Row("MODE", Known::Served(Verb::Form(Form::Mode))),
-    Row("STRU", Known::Served(Verb::Form(Form::Stru))),
-    Row("PORT", Known::Served(Verb::Form(Form::Port))),
-    Row("EPRT", Known::Served(Verb::Form(Form::Eprt))),
-    Row("REST", Known::Served(Verb::Form(Form::Rest))),
-    Row("OPTS", Known::Served(Verb::Form(Form::Opts))),
-    Row("PASS", Known::Served(Verb::Optional(Optional::Pass))),
-    Row("ALLO", Known::Served(Verb::Optional(Optional::Allo))),
-    Row("HELP", Known::Served(Verb::Optional(Optional::Help))),
-    Row("MLSD", Known::Served(Verb::Optional(Optional::Mlsd))),
-    Row("MLST", Known::Served(Verb::Optional(Optional::Mlst))),
-    Row("LIST", Known::Served(Verb::Listing(Listing::List))),
-    Row("NLST", Known::Served(Verb::Listing(Listing::Nlst))),
-    Row("STAT", Known::Served(Verb::Listing(Listing::Stat))),
-    Row("EPSV", Known::Served(Verb::Epsv)),
-    Row("XCUP", Known::Served(Verb::Bare(Bare::Cdup))),
-    Row("XPWD", Known::Served(Verb::Bare(Bare::Pwd))),
-    Row("XCWD", Known::Served(Verb::Text(Text::Cwd))),
-    Row("XRMD", Known::Served(Verb::Text(Text::Rmd))),
-    Row("XMKD", Known::Served(Verb::Text(Text::Mkd))),
-    Row("ACCT", Known::NotServed),
-    Row("SMNT", Known::NotServed),
-    Row("STOU", Known::NotServed),
-    Row("SITE", Known::NotServed),
-    Row("LANG", Known::NotServed),
-    Row("HOST", Known::NotServed),
-    Row("AUTH", Known::NotServed),
-    Row("ADAT", Known::NotServed),
-    Row("PBSZ", Known::NotServed),
-    Row("PROT", Known::NotServed),
-    Row("CCC", Known::NotServed),
-    Row("MIC", Known::NotServed),
-    Row("CONF", Known::NotServed),
-    Row("ENC", Known::NotServed),
-    Row("MFMT", Known::NotServed),
-];
+static TABLE: &[Row] = with_served!(table);
 
 fn rows() -> &'static [Row]
     ensures rows { map row result.now ≡ table }

@@ -5,67 +5,73 @@ ghost use Rattle.ftp_wire.specs.Commands.{bare_command, listing_command, optiona
 ghost use Rattle.ftp_wire.specs.Table.{code};
 
 use crate::commands::Command;
-use crate::table::{Bare, Listing, Optional, Text};
+use crate::table::{Bare, Listing, Optional, Text, with_served};
+
+/// A match of a verb of that kind, by the rows of its kind: all rows of other kinds are passed by.
+macro_rules! command {
+    (Bare $verb:ident: Bare { $($name:ident $code:literal)* } $($others:tt)*) => {
+        match $verb { $(Bare::$name => Command::$name,)* }
+    };
+    (Text $verb:ident $text:ident: Text { $($name:ident $code:literal)* } $($others:tt)*) => {
+        match $verb { $(Text::$name => Command::$name($text),)* }
+    };
+    (Optional $verb:ident $text:ident: Optional { $($name:ident $code:literal)* } $($others:tt)*) => {
+        match $verb { $(Optional::$name => Command::$name($text),)* }
+    };
+    (Listing $verb:ident $text:ident: Listing { $($name:ident $code:literal)* } $($others:tt)*) => {
+        match $verb { $(Listing::$name => Command::$name($text),)* }
+    };
+    ($kind:ident $verb:ident $($text:ident)?: $other:ident $rows:tt $($others:tt)*) => {
+        command!($kind $verb $($text)?: $($others)*)
+    };
+}
 
 /// The command that takes no argument.
 pub fn bare_command<T>(verb: Bare) -> Command<T>
     ensures command { result ≡ bare_command verb }
 {
-    match verb {
-        Bare::Cdup => Command::Cdup,
-        Bare::Quit => Command::Quit,
-        Bare::Rein => Command::Rein,
-        Bare::Pasv => Command::Pasv,
-        Bare::Abor => Command::Abor,
-        Bare::Pwd => Command::Pwd,
-        Bare::Syst => Command::Syst,
-        Bare::Feat => Command::Feat,
-        Bare::Noop => Command::Noop,
-    }
+    with_served!(command Bare verb)
 }
 
 /// The command with its text.
 pub fn text_command<T>(verb: Text, text: T) -> Command<T>
     ensures command { result ≡ text_command verb text }
 {
-    match verb {
-        Text::User => Command::User(text),
-        Text::Cwd => Command::Cwd(text),
-        Text::Retr => Command::Retr(text),
-        Text::Stor => Command::Stor(text),
-        Text::Appe => Command::Appe(text),
-        Text::Rnfr => Command::Rnfr(text),
-        Text::Rnto => Command::Rnto(text),
-        Text::Dele => Command::Dele(text),
-        Text::Rmd => Command::Rmd(text),
-        Text::Mkd => Command::Mkd(text),
-        Text::Size => Command::Size(text),
-        Text::Mdtm => Command::Mdtm(text),
-    }
+    with_served!(command Text verb text)
 }
 
 /// The command with its text, or with none.
 pub fn optional_command<T>(verb: Optional, text: Option<T>) -> Command<T>
     ensures command { result ≡ optional_command verb text }
 {
-    match verb {
-        Optional::Pass => Command::Pass(text),
-        Optional::Allo => Command::Allo(text),
-        Optional::Help => Command::Help(text),
-        Optional::Mlsd => Command::Mlsd(text),
-        Optional::Mlst => Command::Mlst(text),
-    }
+    with_served!(command Optional verb text)
 }
 
 /// The command with its text, or with none, once the switches are taken from it.
 pub fn listing_command<T>(verb: Listing, text: Option<T>) -> Command<T>
     ensures command { result ≡ listing_command verb text }
 {
-    match verb {
-        Listing::List => Command::List(text),
-        Listing::Nlst => Command::Nlst(text),
-        Listing::Stat => Command::Stat(text),
-    }
+    with_served!(command Listing verb text)
+}
+
+/// The code of a command and its text, if it has one, by the rows of all kinds.
+macro_rules! parts {
+    ($command:ident:
+        Bare { $($bare:ident $bare_code:literal)* }
+        Text { $($text:ident $text_code:literal)* }
+        Form { $($form:ident $form_code:literal)* }
+        Optional { $($optional:ident $optional_code:literal)* }
+        Listing { $($listing:ident $listing_code:literal)* }
+    ) => {
+        match $command {
+            $(Command::$bare => ($bare_code, None),)*
+            $(Command::$text(text) => ($text_code, Some(text)),)*
+            $(Command::$form { .. } => ($form_code, None),)*
+            $(Command::$optional(text) => ($optional_code, text.as_ref()),)*
+            $(Command::$listing(text) => ($listing_code, text.as_ref()),)*
+            Command::Epsv(_) => ("EPSV", None),
+        }
+    };
 }
 
 /// The code of a command, in capitals and without an X, and its text, if it has one.
@@ -73,43 +79,5 @@ pub fn parts<T>(command: &Command<T>) -> (&'static str, Option<&T>)
     ensures code { result.0.now ≡ code (verb_of command.now) }
     ensures text { option_map (λ t. t.now) result.1 ≡ text_argument command.now }
 {
-    match command {
-        Command::User(text) => ("USER", Some(text)),
-        Command::Pass(text) => ("PASS", text.as_ref()),
-        Command::Cwd(text) => ("CWD", Some(text)),
-        Command::Cdup => ("CDUP", None),
-        Command::Quit => ("QUIT", None),
-        Command::Rein => ("REIN", None),
-        Command::SetType(_) => ("TYPE", None),
-        Command::Mode => ("MODE", None),
-        Command::Stru => ("STRU", None),
-        Command::Port(_) => ("PORT", None),
-        Command::Eprt(_) => ("EPRT", None),
-        Command::Pasv => ("PASV", None),
-        Command::Epsv(_) => ("EPSV", None),
-        Command::Retr(text) => ("RETR", Some(text)),
-        Command::Stor(text) => ("STOR", Some(text)),
-        Command::Appe(text) => ("APPE", Some(text)),
-        Command::Rest(_) => ("REST", None),
-        Command::Rnfr(text) => ("RNFR", Some(text)),
-        Command::Rnto(text) => ("RNTO", Some(text)),
-        Command::Abor => ("ABOR", None),
-        Command::Dele(text) => ("DELE", Some(text)),
-        Command::Rmd(text) => ("RMD", Some(text)),
-        Command::Mkd(text) => ("MKD", Some(text)),
-        Command::Pwd => ("PWD", None),
-        Command::Size(text) => ("SIZE", Some(text)),
-        Command::Mdtm(text) => ("MDTM", Some(text)),
-        Command::List(text) => ("LIST", text.as_ref()),
-        Command::Nlst(text) => ("NLST", text.as_ref()),
-        Command::Mlsd(text) => ("MLSD", text.as_ref()),
-        Command::Mlst(text) => ("MLST", text.as_ref()),
-        Command::Stat(text) => ("STAT", text.as_ref()),
-        Command::Opts(_) => ("OPTS", None),
-        Command::Feat => ("FEAT", None),
-        Command::Allo(text) => ("ALLO", text.as_ref()),
-        Command::Syst => ("SYST", None),
-        Command::Help(text) => ("HELP", text.as_ref()),
-        Command::Noop => ("NOOP", None),
-    }
+    with_served!(parts command)
 }

@@ -1,9 +1,10 @@
-use Rattle.std.proofs.Common.{◌≡◌, ◌∙◌, ap, ap₂, subst, map, ℕ, List, Option, true}
+use Rattle.std.proofs.Common.{refl, sym, [], ◌≡◌, ◌∙◌, ap, ap₂, subst, map, ℕ, List, Option, true}
 use Rattle.std.specs.Borrow.{Bor}
 use Rattle.command_line.specs.Commands.{ftpd}
 use Rattle.command_line.specs.Given.{IsFound, IsRefusal}
 use Rattle.clap.specs.Words.{App, Row, Text, app_of, fault_of, is_simple, is_simple_and_free, subcommand_of, takes}
-use Rattle.command_line.proofs.Taken.{ftpd_is_free, ftpd_is_simple, ftpd_checks, ftpd_shares, migrates, scripts}
+use Rattle.command_line.proofs.Taken.{refused_by_none, ftpd_is_free, ftpd_is_simple, ftpd_checks, ftpd_shares, migrates, scripts}
+use Rattle.command_line.proofs.GivenCommand.{no_other_command, ftpd_found}
 use Rattle.command_line.proofs.words.read_words.Goals as goal
 
 pub returns-in-Err-clause-share : goal.returns-in-Err-clause-share
@@ -28,36 +29,59 @@ returns-in-Err-clause-refused c =
     let refused = c.in-Err.ensures.refused (ap is_simple_and_free c.in-Ok.ensures.ftpd ∙ ftpd_is_free) in
     subst (λ (a : App). IsRefusal (fault_of a texts) c.in-Err.fault) c.in-Ok.ensures.ftpd refused
 
-pub returns-in-Some-clause-share : goal.returns-in-Some-clause-share
-returns-in-Some-clause-share c = λ word plain are.
+pub returns-in_default-clause-taken : goal.returns-in_default-clause-taken
+returns-in_default-clause-taken c = λ none.
+    let texts = map (λ (s : Bor (List ℕ)). s.now) c.args.words.now in
+    let found = ftpd_found c.args.words texts none in
+    (found.0, found.1, refl)
+
+pub returns-in-Err-clause-taken : goal.returns-in-Err-clause-taken
+returns-in-Err-clause-taken c = λ none.
+    let texts = map (λ (s : Bor (List ℕ)). s.now) c.args.words.now in
+    let found = ftpd_found c.args.words texts none in
+    (found.0, found.1, refused_by_none (fault_of ftpd texts) c.in-Err.fault none (returns-in-Err-clause-refused c))
+
+pub unreachable-requires : goal.unreachable-requires
+unreachable-requires c =
+    let texts = map (λ (s : Bor (List ℕ)). s.now) c.args.words.now in
+    let free : is_simple_and_free (app_of c.in-Ok.command) ≡ true = ap is_simple_and_free c.in-Ok.ensures.ftpd ∙ ftpd_is_free in
+    let simple : is_simple (app_of c.in-Ok.command) ≡ true = ap is_simple c.in-Ok.ensures.ftpd ∙ ftpd_is_simple in
+    let none : fault_of ftpd texts ≡ [] = subst (λ (a : App). fault_of a texts ≡ []) c.in-Ok.ensures.ftpd (c.in-Ok-parsed.ensures.given free) in
+    let entered = c.in-Ok-parsed.ensures.found simple ∙ ap (λ (a : App). subcommand_of a texts) c.in-Ok.ensures.ftpd in
+    let found = ftpd_found c.args.words texts none in
+    let held = subst (λ (o : Option (Text × List Row)). IsFound o found.0) (sym entered) found.1 in
+    no_other_command _ found.0 held c.in-None.ensures.share c.in-None.ensures.check c.in-None.ensures.migrate c.in-None.ensures.script
+
+pub returns-clause-share : goal.returns-clause-share
+returns-clause-share c = λ word plain are.
     let held = ftpd_shares word plain in
     let simple : is_simple (app_of c.in-Ok.command) ≡ true = ap is_simple c.in-Ok.ensures.ftpd ∙ ftpd_is_simple in
     let entered = c.in-Ok-parsed.ensures.found simple ∙ ap₂ subcommand_of c.in-Ok.ensures.ftpd are ∙ held.entered in
     c.in-Some.ensures.share held.rows word entered held.sheet
 
-pub returns-in-Some-clause-check : goal.returns-in-Some-clause-check
-returns-in-Some-clause-check c = λ first second plain also are.
+pub returns-clause-check : goal.returns-clause-check
+returns-clause-check c = λ first second plain also are.
     let held = ftpd_checks first second plain also in
     let simple : is_simple (app_of c.in-Ok.command) ≡ true = ap is_simple c.in-Ok.ensures.ftpd ∙ ftpd_is_simple in
     let entered = c.in-Ok-parsed.ensures.found simple ∙ ap₂ subcommand_of c.in-Ok.ensures.ftpd are ∙ held.entered in
     c.in-Some.ensures.check held.rows first second entered held.sheet held.grants
 
-pub returns-in-Some-clause-migrate : goal.returns-in-Some-clause-migrate
-returns-in-Some-clause-migrate c = λ word plain are.
+pub returns-clause-migrate : goal.returns-clause-migrate
+returns-clause-migrate c = λ word plain are.
     let held = migrates word plain in
     let simple : is_simple (app_of c.in-Ok.command) ≡ true = ap is_simple c.in-Ok.ensures.ftpd ∙ ftpd_is_simple in
     let entered = c.in-Ok-parsed.ensures.found simple ∙ ap₂ subcommand_of c.in-Ok.ensures.ftpd are ∙ held.entered in
     c.in-Some.ensures.migrate held.rows word entered held.config
 
-pub returns-in-Some-clause-script : goal.returns-in-Some-clause-script
-returns-in-Some-clause-script c = λ word plain are.
+pub returns-clause-script : goal.returns-clause-script
+returns-clause-script c = λ word plain are.
     let held = scripts word plain in
     let simple : is_simple (app_of c.in-Ok.command) ≡ true = ap is_simple c.in-Ok.ensures.ftpd ∙ ftpd_is_simple in
     let entered = c.in-Ok-parsed.ensures.found simple ∙ ap₂ subcommand_of c.in-Ok.ensures.ftpd are ∙ held.entered in
     c.in-Some.ensures.script held.rows word entered held.config
 
-pub returns-in-Some-clause-found : goal.returns-in-Some-clause-found
-returns-in-Some-clause-found c =
+pub returns-clause-found : goal.returns-clause-found
+returns-clause-found c =
     let texts = map (λ (s : Bor (List ℕ)). s.now) c.args.words.now in
     let simple : is_simple (app_of c.in-Ok.command) ≡ true = ap is_simple c.in-Ok.ensures.ftpd ∙ ftpd_is_simple in
     let entered = c.in-Ok-parsed.ensures.found simple ∙ ap (λ (a : App). subcommand_of a texts) c.in-Ok.ensures.ftpd in

@@ -1,9 +1,10 @@
 -- Groups that are refused: the name of one before them.
-use Rattle.std.proofs.Common.{◌≡◌, ◌≢◌, ℕ, zero, suc, ◌+◌, ◌<◌, ◌≤◌, Bool, true, false, cond, List, [], ◌∷◌, length, take, get_or, Option, Some, None, option_map, String, Global, BTreeMap, refl, sym, subst, inl, arith, bytes_eq}
+use Rattle.std.proofs.Common.{◌≡◌, ◌≢◌, ℕ, zero, suc, ◌+◌, ◌<◌, ◌≤◌, Bool, true, false, cond, List, [], ◌∷◌, length, take, get_or, Option, Some, None, option_map, String, Global, BTreeMap, refl, sym, subst, inl, inr, arith, bytes_eq}
+use Rattle.std.specs.List.{AllByRecursion}
 use Rattle.std.proofs.lemmas.List.{take_all}
 use Rattle.config_tables.specs.declared.stated.GroupTable.{GroupTable}
 use Rattle.config_tables.specs.declared.stated.UserTable.{UserTable}
-use Rattle.config_rates.specs.Groups.{number_named, number_by, AreApart, AreNumbers, IsFault, IsFaultOfNext}
+use Rattle.config_rates.specs.Groups.{number_named, number_by, AreApart, AreNumbers, HasGroup, IsFault, IsFaultOfNext, IsFaultOfUser}
 use Rattle.config_rates.specs.declared.fault.RowsFault.{RowsFault}
 use Rattle.config_rates.specs.declared.fault.RowsFault.TheVariants.{Group, Memory}
 use Rattle.config_rates.specs.declared.fault.GroupProblem.TheVariants.{Twice, NoSuchGroup, NoNumber}
@@ -41,6 +42,21 @@ refused_next groups users i group numbers (Group header Twice) within at are is 
 refused_next groups users i group numbers (Group header NoNumber) within at are is = inl (omega (arith, within, is))
 refused_next groups users i group numbers (Group header NoSuchGroup) within at are is = absurd is
 refused_next groups users i group numbers Memory within at are is = tt
+
+-- what all have, the one at an index has
+has_at : (groups : List GroupTable) (users : List UserTable) (i : ℕ) (user : UserTable) → AllByRecursion (λ u. HasGroup groups u.group) users → i < length users
+    → HasGroup groups (get_or users i user).group
+has_at groups [] i user all within = absurd (omega arith)
+has_at groups (first ∷ users) zero user all within = all.0
+has_at groups (first ∷ users) (suc i) user all within = has_at groups users i user all.1 (omega arith)
+
+pub refused_user : (groups : List GroupTable) (users : List UserTable) (i : ℕ) (user : UserTable) (fault : RowsFault)
+    → i < length users → user ≡ get_or users i user → IsFaultOfUser groups i user.group fault → IsFault groups users fault
+refused_user groups users i user (Group header Twice) within at is = absurd is
+refused_user groups users i user (Group header NoNumber) within at is = inr (omega (arith, within, is))
+refused_user groups users i user (Group header NoSuchGroup) within at is =
+    λ all. is (subst (λ (u : UserTable). HasGroup groups u.group) (sym at) (has_at groups users i user all within))
+refused_user groups users i user Memory within at is = tt
 
 -- all of the groups were gone through
 pub apart-whole : (groups : List GroupTable) (i : ℕ) → length groups ≤ i → AreApart (take i groups) → AreApart groups

@@ -1,7 +1,9 @@
 //! What no clause says of a configuration: that it is read, what its parts are, and that the same comes of it in version 2.
 
 use crate::expect::holds;
+use authorizer::Authorizer;
 use config_store::ServedStore;
+use ftp_terms::Letter;
 use line_rates::{Limits, Name, Way};
 use server_config::{Config, migrate};
 use std::alloc::Global;
@@ -43,6 +45,8 @@ address = \"0.0.0.0\"
 masquerade_address = \"203.0.113.7\"
 passive_first = 1
 passive_last = 1
+max_cons_per_address = 8
+lanes = 64
 rate = 100
 down_rate = 60
 [[group]]
@@ -57,6 +61,7 @@ password = \"a\"
 home = \"/\"
 group = \"build\"
 down_rate = 20
+session_up_rate = 15
 session_down_floor = 5
 msg_login = \"Hello\"
 [[user]]
@@ -113,10 +118,22 @@ fn expect_small(rt: &impl Abort, config: &Config) {
     );
 }
 
+/// Bob may store in `/in/a/b`, and not at the root.
+fn expect_letters(rt: &(impl Abort + Alloc<A = Global>), users: &Authorizer) -> Result<(), Fail> {
+    let root = VPath::root(rt.alloc());
+    let deep = root.resolve(rt.alloc(), "/in/a/b")?;
+    holds(
+        rt,
+        users.has_perm("bob", Letter::Store, &deep) && !users.has_perm("bob", Letter::Store, &root),
+    );
+    Ok(())
+}
+
 /// The text is a configuration, and just what the small file is.
 fn is_small(rt: &(impl Abort + Alloc<A = Global>), text: &str) -> Result<(), Fail> {
     let mut config = Config::read(rt.alloc(), text.as_bytes())?;
     expect_small(rt, &config);
+    expect_letters(rt, &config.users)?;
     match &mut config.store {
         ServedStore::Memory(files) => expect_file(rt, files),
         ServedStore::Folder(_) => Err("a folder".into()),
@@ -145,6 +162,7 @@ fn expect_limits(rt: &impl Abort, limits: &Limits) {
         (Name::Group(Way::Up, 1), 30),
         (Name::User(Way::Down, 0), 20),
         (Name::User(Way::Down, 1), 0),
+        (Name::Session(Way::Up, 0, 7), 15),
     ] {
         holds(rt, limits.rate(name) == rate);
     }
@@ -175,6 +193,7 @@ fn expect_grouped(rt: &impl Abort, config: &Config) {
         rt,
         settings.address == [203, 0, 113, 7] && numbers.address == [0, 0, 0, 0],
     );
+    holds(rt, numbers.max_cons_per_address == 8 && numbers.lanes == 64);
     holds(
         rt,
         matches!(store, ServedStore::Folder(text) if text.as_str() == "/srv/ftp"),

@@ -1,10 +1,25 @@
 //! A control session, from the octets that come in to the octets that go out.
 //!
 //! ```text
-//! let mut reads = Reads::none(blank);
-//! run_control(
-//!     &alloc, &mut reader, &mut writer, &users, &mut floors, &mut store, &mut side, settings, peer, &clock, turns, &mut reads,
-//! )?;
+//! let mut reads = Reads::<L>::none(blank); // counts the reads
+//! let mut reader: &[u8] = b"PWD\r\n";
+//! let mut writer: Vec<u8> = Vec::new(rt.alloc());
+//! let served = run_control(
+//!     &rt.alloc(),
+//!     &mut reader,
+//!     &mut writer,
+//!     users,
+//!     floors,
+//!     store,
+//!     &mut ScriptSide { port: 40_000 },
+//!     settings(),
+//!     PEER,
+//!     &StillClock,
+//!     100,
+//!     &mut reads,
+//! );
+//! holds(rt, served.is_ok());
+//! same(rt, &writer, b"220 Ready\r\n530 Log in first\r\n");
 //! ```
 //!
 //! `specs/Sessions.antt` says what a whole session is: it speaks of what was read and of what was written, and not of the

@@ -152,7 +152,35 @@ fn check_later(
     Ok(())
 }
 
+/// A session with memory, after another.
+fn serve_later<'h>(
+    rt: &'h (impl Abort + AllocGlobal),
+    heap: &'h LocalHeap,
+    server: &mut Server<'h>,
+    script: Script<'h>,
+    is_unchanged: bool,
+) -> Result<(), Fail> {
+    let later = serve_rows(rt, heap, server, script.rows, usize::MAX, 0);
+    check_later(rt, &later, script, is_unchanged)
+}
+
 /// A session with one hole of some octets at a line, and one after it with memory.
+fn serve_short<'h>(
+    rt: &'h (impl Abort + AllocGlobal),
+    heap: &'h LocalHeap,
+    server: &mut Server<'h>,
+    script: Script<'h>,
+    line: usize,
+    room: usize,
+) -> Result<bool, Fail> {
+    let told = serve_rows(rt, heap, server, script.rows, line, room);
+    let refused = was_refused(rt, &told, script.rows, line)?;
+    let is_unchanged = told.ended.is_err() && line < script.change;
+    serve_later(rt, heap, server, script, is_unchanged)?;
+    Ok(refused)
+}
+
+/// The same on a server of its own.
 fn try_line(
     rt: &(impl Abort + AllocGlobal),
     script: Script<'_>,
@@ -161,16 +189,7 @@ fn try_line(
 ) -> Result<bool, Fail> {
     let heap = LocalHeap::new(rt.alloc(), HEAP)?;
     let mut server = make_server(rt.alloc(), &heap)?;
-    let told = serve_rows(rt, &heap, &mut server, script.rows, line, room);
-    let refused = was_refused(rt, &told, script.rows, line)?;
-    let later = serve_rows(rt, &heap, &mut server, script.rows, usize::MAX, 0);
-    check_later(
-        rt,
-        &later,
-        script,
-        told.ended.is_err() && line < script.change,
-    )?;
-    Ok(refused)
+    serve_short(rt, &heap, &mut server, script, line, room)
 }
 
 /// How many growths of a line are refused before it passes.
@@ -224,27 +243,56 @@ fn transfers(rt: HostRuntime) -> Result<(), Fail> {
     Ok(())
 }
 
-/// A session that begins with one hole of some octets. Before all is got that it needs, nothing is said.
-fn try_beginning(rt: &(impl Abort + AllocGlobal), room: usize) -> Result<bool, Fail> {
-    let heap = LocalHeap::new(rt.alloc(), HEAP)?;
-    let mut server = make_server(rt.alloc(), &heap)?;
-    let rest = leave_hole(rt, &heap, room)?;
-    let told = serve_rows(rt, &heap, &mut server, &[], usize::MAX, 0);
+/// A session that begins with one hole of some octets.
+fn begin_short<'h>(
+    rt: &'h impl AllocGlobal,
+    heap: &'h LocalHeap,
+    server: &mut Server<'h>,
+    room: usize,
+) -> Result<Told, Fail> {
+    let rest = leave_hole(rt, heap, room)?;
+    let told = serve_rows(rt, heap, server, &[], usize::MAX, 0);
     drop(rest);
+    Ok(told)
+}
+
+/// Whether a beginning was refused: before all is got that it needs, nothing is said, and a session after it passes.
+fn was_refused_at_once<'h>(
+    rt: &'h (impl Abort + AllocGlobal),
+    heap: &'h LocalHeap,
+    server: &mut Server<'h>,
+    told: &Told,
+) -> Result<bool, Fail> {
     if told.ended.is_ok() {
         same(rt, &told.output, GREETING.as_bytes());
         return Ok(false);
     }
     holds(rt, told.ended == Err(ControlFault::Memory), "memory");
-    holds(
-        rt,
-        GREETING.as_bytes().starts_with(&told.output),
-        "greeting",
-    );
-    let later = serve_rows(rt, &heap, &mut server, &PATHS, usize::MAX, 0);
-    let whole = replies(rt, &PATHS)?;
-    same(rt, &later.output, &whole);
+    let is_front = GREETING.as_bytes().starts_with(&told.output);
+    holds(rt, is_front, "greeting");
+    let script = Script {
+        rows: &PATHS,
+        again: "",
+        change: 0,
+    };
+    serve_later(rt, heap, server, script, true)?;
     Ok(true)
+}
+
+fn begin_on<'h>(
+    rt: &'h (impl Abort + AllocGlobal),
+    heap: &'h LocalHeap,
+    server: &mut Server<'h>,
+    room: usize,
+) -> Result<bool, Fail> {
+    let told = begin_short(rt, heap, server, room)?;
+    was_refused_at_once(rt, heap, server, &told)
+}
+
+fn try_beginning(rt: &(impl Abort + AllocGlobal), room: usize) -> Result<bool, Fail> {
+    let heap = LocalHeap::new(rt.alloc(), HEAP)?;
+    let mut server = make_server(rt.alloc(), &heap)?;
+    begin_on(rt, &heap, &mut server, room)
 }
 
 #[test]

@@ -2,7 +2,22 @@
 //! it asks of the data side is called, whose answer is the next input.
 //!
 //! ```text
-//! let is_closed = take_lines(&alloc, &users, &mut session, &mut floors, &mut store, &mut side, &mut writer, &clock, items)?;
+//! let (alloc, mut side) = (rt.alloc(), ScriptSide { port: 40_000 });
+//! let mut session = Session::new(alloc, settings(), PEER)?;
+//! let mut output: Vec<u8> = Vec::new(alloc);
+//! let is_closed = take_lines(
+//!     &alloc,
+//!     users,
+//!     &mut session,
+//!     floors,
+//!     store,
+//!     &mut side,
+//!     &mut output,
+//!     &StillClock,
+//!     items,
+//! );
+//! same(rt, &output, b"530 Log in first\r\n");
+//! holds(rt, is_closed == Ok(false));
 //! ```
 //!
 //! `specs/Runs.antt` has whole sessions as a relation of situations. It speaks of all the lines that come, so nothing in

@@ -4,12 +4,13 @@
 //! pump takes a grant, moves at most so many octets, and spends it. Text is turned on the way ([`Wire`]).
 //!
 //! ```text
-//! let mut out = DataOut::open(alloc, source, connection, DataType::Ascii)?;
-//! while !out.ended() {
-//!     let grant = purse.split(lane, out.waiting() as u64);     // or what a round has posted
-//!     let pumped = pump_out(grant, &mut out, &mut tally);
-//!     if pumped.end != PumpEnd::More { break; }
-//! }
+//! let connection: Vec<u8> = Vec::new(rt.alloc());
+//! let mut out = DataOut::open(rt.alloc(), source, connection, DataType::Ascii)?; // reads once
+//! let pumped = pump_out(funds.grant(3), &mut out, &mut funds.tally); // at most so many octets
+//! holds(rt, pumped.moved == 3 && pumped.end == PumpEnd::More);
+//! let rest = funds.grant(out.waiting() as u64); // of all that is left to move
+//! let pumped = pump_out(rest, &mut out, &mut funds.tally);
+//! holds(rt, pumped.end == PumpEnd::Ended && out.ended());
 //! ```
 #![tactic(auto)]
 

@@ -7,11 +7,11 @@
 //! directory is not empty.
 //!
 //! ```text
-//! let mut store = DirStore::new(rt, "/srv/ftp")?;
-//! let path = VPath::root(rt.alloc()).resolve(rt.alloc(), "/in/report")?;
-//! let mut sink = store.open_write(&path, WriteMode::New, moment)?;
+//! let path = VPath::root(rt.alloc()).resolve(rt.alloc(), "/report")?;
+//! let mut store = DirStore::new(rt, folder)?; // serves the folder and all beneath it
+//! let mut sink = store.open_write(&path, WriteMode::New, 951_827_696_000)?;
 //! sink.write(b"all is well")?;
-//! store.finish(sink, moment)?;
+//! store.finish(sink, 951_827_696_000)?; // milliseconds since 1970
 //! ```
 //!
 //! A new file is made only where nothing stands, not even a link. A file that stands is opened without

@@ -1,4 +1,5 @@
-//! Tests of stores over folders of the machine, each in a fresh one, by their public calls alone.
+//! Tests of stores over folders of the machine, each in a fresh one, and on a machine where another process acts between the
+//! store's calls, by public calls alone.
 #![tactic(auto)]
 
 #[cfg(test)]
@@ -7,5 +8,9 @@ mod expect;
 mod folders;
 #[cfg(test)]
 mod machine;
+#[cfg(test)]
+mod races;
+#[cfg(test)]
+mod racing_machine;
 #[cfg(test)]
 mod sides;

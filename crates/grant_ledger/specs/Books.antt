@@ -43,7 +43,3 @@ AreLanes (lane ∷ lanes) = (lane < 64) × NamesNot lane lanes × AreLanes lanes
 -- a sum that stops at the greatest u64
 abbrev pub capped : ℕ → ℕ → ℕ
 capped a b = min (a + b) 18446744073709551615
-
--- all that a tally counts
-abbrev pub counted : TallyView → ℕ
-counted t = t.moved + t.back

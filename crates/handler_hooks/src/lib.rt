@@ -1,9 +1,9 @@
 //! Callbacks of a server's owner: what a handler is told of sessions, in the order in which it happens.
 //!
 //! ```text
-//! struct Audit { logins: u64 }
-//! impl Hooks for Audit { .. fn on_login(&mut self, _user: &str) { .. } .. }
-//! run_hooks(&mut audit, &actions); // one call for each Hook among the actions, in order
+//! let mut clients = Clients { there: 0 }; // a handler, with a callback for each event
+//! run_hooks(&mut clients, greeting); // one call for each Hook among the actions, in order
+//! holds(rt, clients.there == 1);
 //! ```
 #![tactic(auto)]
 

@@ -9,7 +9,7 @@ use std::alloc::Allocator;
 /// most its want; a branch what its kids take in, cut to its limit.
 pub fn absorb_tree<A: Allocator>(node: &Node<A>, level: u64) -> u64
     requires wants { sum (limits (places node.now)).wants < 2 ^ 63 }
-    ensures value { result ≡ first_or_zero (absorb_stack level (places node.now)) }
+    ensures absorbed { result ≡ first_or_zero (absorb_stack level (places node.now)) }
     ensures most { result ≤ sum (limits (places node.now)).wants }
 {
     match node {
@@ -29,7 +29,7 @@ pub fn absorb_tree<A: Allocator>(node: &Node<A>, level: u64) -> u64
 pub fn absorb_in<A: Allocator>(node: &Node<A>, number: usize, level: u64) -> Result<u64, usize>
     requires nodes { length (places node.now) < 2 ^ 63 }
     requires wants { sum (limits (places node.now)).wants < 2 ^ 63 }
-    ensures value { IfOk result (λ octets. octets ≡ absorbed level (places node.now) number) }
+    ensures absorbed { IfOk result (λ octets. octets ≡ absorbed level (places node.now) number) }
     ensures most { IfOk result (λ octets. octets ≤ sum (limits (places node.now)).wants) }
     ensures inside { IfOk result (λ octets. number < length (places node.now)) }
     ensures nodes { IfErr result (λ nodes. nodes ≡ length (places node.now)) }

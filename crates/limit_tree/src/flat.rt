@@ -10,6 +10,7 @@ use super::absorb::at_most;
 use super::bounds::{MAX_LEAVES, MAX_NODES, MAX_WANT};
 use super::copy::Copying;
 use super::place::{Kind, Place};
+use super::recall::recall;
 use super::tree::Tree;
 use std::alloc::{AllocError, Allocator, Global};
 use std::marker::Model;
@@ -120,7 +121,7 @@ impl<A: Allocator> Flat<A> {
         ensures full { IsTrue result
             ↔ ((b : Branch) × IsBranch (limits self.now) node b × IsFull b grants.now) }
     {
-        let _ = &self.places;
+        recall!(self.places);
         self.place(node).is_full(grants)
     }
 
@@ -144,7 +145,7 @@ impl<A: Allocator> Flat<A> {
     /// at most its want; a branch what its kids take in, cut to its limit. Takes O(nodes below) time.
     pub fn absorb(&self, node: usize, level: u64) -> u64
         requires node { node < length self.now }
-        ensures value { result ≡ absorbed level self.now node }
+        ensures absorbed { result ≡ absorbed level self.now node }
         ensures most { result ≤ sum (limits self.now).wants }
     {
         absorb_row(&self.places, node, 1, level)
@@ -153,7 +154,7 @@ impl<A: Allocator> Flat<A> {
     /// What the kids of a node take in up to a level, together, in octets. Takes O(nodes below) time.
     pub fn absorb_below(&self, node: usize, level: u64) -> u64
         requires node { node < length self.now }
-        ensures value { result ≡ taken_below level self.now node }
+        ensures absorbed { result ≡ taken_below level self.now node }
         ensures most { result ≤ sum (limits self.now).wants }
     {
         let place = self.place(node);
@@ -175,7 +176,7 @@ fn place_at(places: &[Place], node: usize) -> Place
 fn absorb_row(places: &[Place], first: usize, trees: usize, level: u64) -> u64
     requires flat { IsFlat places.now }
     requires row { HasRow places.now first trees }
-    ensures value { result ≡ taken_in level places.now first trees }
+    ensures absorbed { result ≡ taken_in level places.now first trees }
 {
     let mut node = first;
     let mut total = 0;

@@ -26,6 +26,7 @@ mod laws;
 mod look;
 mod node;
 mod place;
+mod recall;
 mod size;
 mod tables;
 mod tree;

@@ -16,6 +16,7 @@ use super::fault::{TreeFault, check_tree, floors_of};
 use super::look::{FullLook, LeafLook, NodeLook};
 use super::node::Node;
 use super::place::{Kind, Place};
+use super::recall::recall;
 use super::size::size_of_tree;
 use super::tables::leaves_into;
 use super::walk::{Passed, Visitor, walk_tree};
@@ -92,7 +93,7 @@ impl<A: Allocator> Tree<A> {
         ensures flat { IsFlat self.now }
         ensures deeper { LaterIsDeeper self.now }
     {
-        let _ = &self.leaves;
+        recall!(self.leaves);
     }
 
     /// Shows a visitor each node in preorder. Takes O(nodes * depth) time, in which each node is counted once for each
@@ -185,7 +186,7 @@ impl<A: Allocator> Tree<A> {
         ensures branch { (b : Branch) → IsBranch (limits self.now) node b
             → result ≡ sum_over b.holds grants.now }
     {
-        let _ = &self.leaves;
+        recall!(self.leaves);
         self.place(node).sum(grants)
     }
 
@@ -196,7 +197,7 @@ impl<A: Allocator> Tree<A> {
         ensures full { IsTrue result
             ↔ ((b : Branch) × IsBranch (limits self.now) node b × IsFull b grants.now) }
     {
-        let _ = &self.leaves;
+        recall!(self.leaves);
         self.place(node).is_full(grants)
     }
 
@@ -204,10 +205,10 @@ impl<A: Allocator> Tree<A> {
     /// at most its want; a branch what its kids take in, cut to its limit.
     pub fn absorb(&self, node: usize, level: u64) -> u64
         requires node { node < length self.now }
-        ensures value { result ≡ absorbed level self.now node }
+        ensures absorbed { result ≡ absorbed level self.now node }
         ensures most { result ≤ sum (limits self.now).wants }
     {
-        let _ = &self.leaves;
+        recall!(self.leaves);
         match absorb_in(&self.root, node, level) {
             Ok(octets) => octets,
             Err(_) => unreachable!(),
@@ -220,7 +221,7 @@ impl<A: Allocator> Tree<A> {
         requires grants { IsWanted (limits self.now) grants.now }
         ensures deepest { IsDeepestFull (limits self.now) grants.now leaf result }
     {
-        let _ = &self.leaves;
+        recall!(self.leaves);
         let mut look = FullLook::new(leaf, grants);
         self.walk(&mut look);
         look.found

@@ -37,12 +37,6 @@ path r a = path_by a.way (group_of r a.user) a.user a.session
 abbrev pub key : Rates → ℕ → Ask → Option Name
 key r level a = slice_get (path r a) level
 
-abbrev pub same_key : Option Name → Option Name → Bool
-same_key None None = true
-same_key (Some n) (Some m) = same_name n m
-same_key None (Some m) = false
-same_key (Some n) None = false
-
 abbrev pub is_some : Option ℕ → ℕ
 is_some None = 0
 is_some (Some g) = 1

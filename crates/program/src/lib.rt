@@ -2,13 +2,12 @@
 //! tells on standard error.
 //!
 //! ```text
-//! struct Table<'t>(&'t [(&'t str, &'t [u8])]);
-//!
-//! impl<'t> Openings for Table<'t> { .. }
-//!
+//! let mut files = Text(SMALL); // opens what the words name
 //! let mut output = Vec::new(rt.alloc());
-//! let ending = run_words(rt.alloc(), &["share", "lunch.sheet"], &mut files, &mut output);
-//! assert_eq!(rt; ending.status(), 0);
+//! let words = ["migrate", "ftpd.toml"];
+//! let ending = run_words(rt.alloc(), &words, &mut files, &mut output);
+//! holds(&rt, ending.status() == 0);
+//! holds(&rt, output.starts_with(b"version = 2\n"));
 //! ```
 #![tactic(auto)]
 

@@ -2,6 +2,8 @@
 
 ghost use Rattle.std.specs.Prelude.{IsTrue};
 
+use std::alloc::Global;
+use std::fmt::Display;
 use std::process::Abort;
 
 /// Stops the test where this does not hold.
@@ -9,4 +11,12 @@ pub(crate) fn holds(rt: &impl Abort, fact: bool)
     ensures so { IsTrue fact }
 {
     assert!(rt; fact);
+}
+
+/// It prints as that.
+pub(crate) fn tells<T: Display>(rt: &impl Abort, alloc: Global, shown: &T, told: &str) {
+    match format!(in alloc; "{shown}") {
+        Ok(text) => assert!(rt; text.as_str() == told, "{text}"),
+        Err(_) => rt.abort(),
+    }
 }

@@ -1,17 +1,20 @@
-//! Tests of the commands on sheets, and of the programs that join them, by their public calls alone.
+//! Tests of the programs and of their commands by public calls, where no run of a program shows it: what calls answer, ends
+//! that fail in mid-stream, and memory that is refused. What runs show stands in `runs/`.
 #![tactic(auto)]
 
 #[cfg(test)]
-mod command_lines;
+mod broken;
+#[cfg(test)]
+mod calls;
 #[cfg(test)]
 mod ends;
 #[cfg(test)]
+mod examples;
+#[cfg(test)]
 mod expect;
-#[cfg(test)]
-mod rows;
-#[cfg(test)]
-mod sheet_lines;
 #[cfg(test)]
 mod shortages;
 #[cfg(test)]
 mod texts;
+#[cfg(test)]
+mod words;

@@ -2,16 +2,11 @@
 ghost use Rattle.std.specs.Prelude.{◌≤◌};
 ghost use Rattle.program_tests.specs.declared.texts.TheConstants.{HEAP, ROOM};
 
-use super::ends::{FailingReader, FailingWriter, InterruptedReader};
-use crate::expect::holds;
+use crate::ends::{FailingWriter, InterruptedReader, broken};
+use crate::expect::{holds, tells};
 use linked_list_allocator::LocalHeap;
-use share_text::{GrantsFault, SheetFault};
-use sheet_commands::{
-    MAX_TEXT, Outside, ProgramFault, Share, TextWriter, lines_of, read_whole, write_whole,
-};
+use sheet_commands::{Outside, ProgramFault, Share, TextWriter, lines_of, read_whole, write_whole};
 use std::alloc::Global;
-use std::io;
-use std::io::Read;
 use std::process::Abort;
 use std::test::Fail;
 
@@ -22,10 +17,7 @@ fn texts_read_whole(rt: HostRuntime) -> Result<(), Fail> {
         holds(&rt, octets.as_slice() == text.as_bytes());
     }
     for step in [1, 3, 100] {
-        let mut reader = FailingReader {
-            rest: b"limit / 10\n",
-            step,
-        };
+        let mut reader = broken(b"limit / 10\n", step);
         holds(
             &rt,
             read_whole(rt.alloc(), &mut Outside(&mut reader)) == Err(ProgramFault::ReadFault),
@@ -43,18 +35,6 @@ fn interrupted_reads_are_tried_again(rt: HostRuntime) -> Result<(), Fail> {
     });
     let octets = read_whole(rt.alloc(), &mut reader)?;
     holds(&rt, octets.as_slice() == b"limit / 10\n".as_slice());
-    Ok(())
-}
-
-#[test]
-fn texts_of_the_most_octets(rt: HostRuntime) -> Result<(), Fail> {
-    let mut longest = Outside(io::repeat(b'#').take(4_194_304));
-    holds(&rt, read_whole(rt.alloc(), &mut longest)?.len() == MAX_TEXT);
-    let mut longer = Outside(io::repeat(b'#').take(4_194_305));
-    holds(
-        &rt,
-        read_whole(rt.alloc(), &mut longer) == Err(ProgramFault::TooLong),
-    );
     Ok(())
 }
 
@@ -81,26 +61,10 @@ fn lines_of_shares(rt: HostRuntime) -> Result<(), Fail> {
     Ok(())
 }
 
+// Runs show the other names.
 #[test]
-fn faults_print_their_names(rt: HostRuntime) -> Result<(), Fail> {
-    let cases = [
-        (ProgramFault::TooLong, "TooLong"),
-        (ProgramFault::ReadFault, "ReadFault"),
-        (ProgramFault::WriteFault, "WriteFault"),
-        (ProgramFault::Memory, "Memory"),
-        (
-            ProgramFault::Sheet(SheetFault::BadLine(3)),
-            "line 3: BadLine",
-        ),
-        (
-            ProgramFault::Grants(GrantsFault::WrongPath(2)),
-            "line 2: WrongPath",
-        ),
-    ];
-    for (fault, name) in cases {
-        holds(&rt, format!(in rt.alloc(); "{fault}")?.as_str() == name);
-    }
-    Ok(())
+fn lack_of_memory_has_a_name(rt: HostRuntime) {
+    tells(&rt, rt.alloc(), &ProgramFault::Memory, "Memory");
 }
 
 // What went out of a text before the writer failed.

@@ -1,4 +1,4 @@
-//! Tests of control text, by its public calls alone.
+//! Tests of the shared words, of control text and of replies, by their public calls alone.
 #![tactic(auto)]
 
 #[cfg(test)]
@@ -10,8 +10,16 @@ mod codes;
 #[cfg(test)]
 mod expect;
 #[cfg(test)]
+mod listings;
+#[cfg(test)]
 mod refused;
+#[cfg(test)]
+mod refused_replies;
+#[cfg(test)]
+mod replies;
 #[cfg(test)]
 mod sessions;
 #[cfg(test)]
 mod told;
+#[cfg(test)]
+mod words;

@@ -93,6 +93,7 @@ impl<A: Allocator> Floors<A> {
     pub fn promises_fit(&self)
         ensures fit { PromisesFit self.now }
     {
+        // the prover recalls what the type promises where a part of a value is looked at
         let _ = &self.users;
     }
 

@@ -2,9 +2,11 @@
 //!
 //! ```text
 //! let heap = LocalHeap::new(rt.alloc(), HEAP)?;
-//! let rest = leave_hole(rt, &heap, 48)?;
-//! // Here a call that needs more than 48 octets in one piece is refused.
+//! let rest = leave_hole(&rt, &heap, 48)?;
+//! let more = Vec::<u8, &LocalHeap>::with_capacity(&heap, 64); // than the hole
+//! holds(&rt, more.is_err());
 //! drop(rest);
+//! holds(&rt, Vec::<u8, &LocalHeap>::with_capacity(&heap, 64).is_ok());
 //! ```
 #![tactic(auto)]
 

@@ -1,12 +1,12 @@
 //! The session machine: each input of a control connection gets the row of the session table.
 //!
 //! ```text
-//! let mut session = Session::new(alloc, settings, peer)?;
-//! let greeting = session.greet()?;
-//! let actions = session.step(&users, &mut floors, &mut store, Input::Line(item), moment)?;
-//! while session.held_due() {
-//!     let more = session.step(&users, &mut floors, &mut store, Input::Held, moment)?;
-//! }
+//! let mut session = Session::new(rt.alloc(), settings(), PEER)?; // of a client at that address
+//! says(rt, session.greet(), "220 Ready\r\n");
+//! let line = Input::Line(LineItem::Command(Command::Pwd));
+//! let told = session.step(users, floors, store, line, 0); // at the moment 0
+//! says(rt, told, "530 Log in first\r\n");
+//! holds(rt, !session.held_due()); // else the next input is Input::Held
 //! ```
 #![tactic(auto)]
 

@@ -2,9 +2,12 @@
 //! control connection.
 //!
 //! ```text
-//! let actions = end_transfer(&mut state, &users, &mut store, End::Done, sink, moment)?; // 226, and what waited
-//! let actions = take_port(&mut state, &users, Some(40_001))?; // 227 or 229
-//! let actions = close(&mut state)?; // no reply: what is left to drop and to tell the handler
+//! let told = end_transfer(state, users, store, End::Done, None, 0);
+//! says(rt, told, "226 Transfer complete\r\n"); // and the replies to the lines that waited
+//! state.await_port(Passive::Plain);
+//! let told = take_port(state, users, Some(40_000));
+//! says(rt, told, "227 Entering Passive Mode (127,0,0,1,156,64)\r\n");
+//! says(rt, close(state), ""); // what is left to drop, and to tell the handler
 //! ```
 #![tactic(auto)]
 

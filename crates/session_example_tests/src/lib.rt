@@ -1,5 +1,12 @@
-//! What the head of `configured_session` shows of its use, as a test. `tools/examples` sees that the two have the same lines.
+//! What the head of each crate's `lib.rt` shows of its use, as tests: sessions, and the rows of their table. `tools/examples`
+//! sees that the two have the same lines.
 #![tactic(auto)]
 
+#[cfg(test)]
+mod expect;
+#[cfg(test)]
+mod room;
+#[cfg(test)]
+mod rows;
 #[cfg(test)]
 mod sessions;

@@ -1,8 +1,10 @@
 //! The rows of the session table on paths, and on changes of a store.
 //!
 //! ```text
-//! let actions = make_directory(&mut state, &mut store, &location)?; // 257, or what the store refused
-//! let actions = rename_from(&mut state, &mut store, location)?; // 350: the path is kept for RNTO
+//! let told = make_directory(state, store, &place); // or what the store refused
+//! says(rt, told, "257 \"/in\"\r\n");
+//! let told = rename_from(state, store, place); // the path is kept for RNTO
+//! says(rt, told, "350 Send RNTO\r\n");
 //! ```
 #![tactic(auto)]
 

@@ -1,9 +1,9 @@
 //! The refusals of a line, in their order, and the location that a command names.
 //!
 //! ```text
-//! match judge(&state, &users, &command)? {
-//!     Ok(location) => .., // the row of the command, at that location
-//!     Err(refusal) => state.refuse(refusal)?, // one reply
+//! match judge(state, users, &Command::Pwd)? {
+//!     Ok(location) => holds(rt, location.stored().is_root()), // where the command acts
+//!     Err(refusal) => says(rt, state.refuse(refusal), "530 Log in first\r\n"),
 //! }
 //! ```
 #![tactic(auto)]

@@ -1,7 +1,8 @@
 //! The rows of the session table on listings: LIST, NLST, MLSD, MLST, and STAT with an argument.
 //!
 //! ```text
-//! let actions = list(&mut state, &users, &mut store, &location, Style::Names)?; // 150, and a job
+//! let told = list(state, users, store, place, Style::Names);
+//! says(rt, told, "150 Opening data connection\r\n"); // and a job sends the names
 //! ```
 #![tactic(auto)]
 

@@ -1,8 +1,9 @@
 //! The rows of the session table on logins: USER, PASS, REIN, QUIT, and the greeting.
 //!
 //! ```text
-//! let actions = name_user(&mut state, "ann")?; // 331
-//! let actions = check_password(&mut state, &users, &mut floors, "secret")?; // 230, or 530
+//! says(rt, name_user(state, "ann"), "331 Password required\r\n");
+//! let told = check_password(state, users, floors, "secret");
+//! says(rt, told, "230 Welcome\r\n"); // else 530
 //! ```
 #![tactic(auto)]
 

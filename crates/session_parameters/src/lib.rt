@@ -1,8 +1,10 @@
 //! The rows of the session table on parameters and data connections, which ask nothing of the store.
 //!
 //! ```text
-//! let actions = set_offset(&mut state, 1_000)?; // 350
-//! let actions = open_passive(&mut state, Passive::Plain)?; // asks for a port; the reply comes with it
+//! says(rt, set_type(state, DataType::Image), "200 Type is I\r\n");
+//! says(rt, set_offset(state, 1000), "350 Restart at 1000\r\n");
+//! let told = open_passive(state, Passive::Plain); // a port is asked for: the reply comes with it
+//! says(rt, told, "");
 //! ```
 #![tactic(auto)]
 

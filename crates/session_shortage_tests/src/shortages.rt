@@ -35,19 +35,15 @@ fn is_lost_end(told: &[u8]) -> bool {
     told == b"451 Out of memory\r\n[received]".as_slice()
 }
 
-/// Whether a row was refused: the rows from it on pass then, or at the end of a file the next ones.
+/// Whether a row that told this was refused: the rows from it on pass then, or at the end of a file the next ones.
 fn was_refused<'h>(
     rt: &(impl Abort + AllocGlobal),
     heap: &'h LocalHeap,
     room: &mut Room<'h>,
-    told: Option<Vec<u8>>,
+    told: &[u8],
     rows: &[(&str, &str)],
 ) -> Result<bool, Fail> {
-    let Some(told) = told else {
-        follow(rt, heap, room, rows)?;
-        return Ok(true);
-    };
-    if is_refusal(told.as_slice()) {
+    if is_refusal(told) {
         follow(rt, heap, room, rows)?;
         return Ok(true);
     }
@@ -55,14 +51,32 @@ fn was_refused<'h>(
         return Ok(false);
     };
     follow(rt, heap, room, others)?;
-    if is_lost_end(told.as_slice()) {
+    if is_lost_end(told) {
         return Ok(true);
     }
-    same(rt, told.as_slice(), reply.as_bytes());
+    same(rt, told, reply.as_bytes());
     Ok(false)
 }
 
-/// A row in a heap that has only one hole of some octets, behind those before it.
+/// A row in a room whose heap has only one hole of some octets. Where memory ran out, the rows from it on pass then.
+fn try_short<'h>(
+    rt: &(impl Abort + AllocGlobal),
+    heap: &'h LocalHeap,
+    room: &mut Room<'h>,
+    rows: &[(&str, &str)],
+    line: &str,
+    hole: usize,
+) -> Result<bool, Fail> {
+    match room.give_short(rt, heap, line, hole)? {
+        Some(told) => was_refused(rt, heap, room, told.as_slice(), rows),
+        None => {
+            follow(rt, heap, room, rows)?;
+            Ok(true)
+        }
+    }
+}
+
+/// The same in a room of its own, behind the rows before it.
 fn try_row(
     rt: &(impl Abort + AllocGlobal),
     before: &[(&str, &str)],
@@ -73,8 +87,7 @@ fn try_row(
     let heap = LocalHeap::new(rt.alloc(), HEAP)?;
     let mut room = make_room(rt.alloc(), &heap)?;
     follow(rt, &heap, &mut room, before)?;
-    let told = room.give_short(rt, &heap, line, hole)?;
-    was_refused(rt, &heap, &mut room, told, rows)
+    try_short(rt, &heap, &mut room, rows, line, hole)
 }
 
 /// How many growths of a row are refused before it passes.

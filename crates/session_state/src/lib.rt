@@ -1,9 +1,10 @@
 //! What a session knows, where a path stands, and replies of one line.
 //!
 //! ```text
-//! let mut state = State::new(alloc, settings, peer)?;
-//! let actions = state.note(Notice::DirectoryChanged)?; // 250 Directory changed
-//! state.change_directory(path);
+//! state.change_directory(path); // each such call changes just what its name says
+//! holds(rt, state.cwd().text() == "/in");
+//! let told = state.note(Notice::DirectoryChanged); // actions, of which one is a reply
+//! says(rt, told, "250 Directory changed\r\n");
 //! ```
 #![tactic(auto)]
 

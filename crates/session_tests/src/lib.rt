@@ -1,9 +1,18 @@
-//! Tests of the session table: the octets of each fixed reply, and rows of logins and parameters.
+//! Tests of the session table: the octets of each fixed reply, rows of logins and parameters, and random inputs, given to a
+//! session over a store in memory and to a second reading of the table.
 #![tactic(auto)]
 
 #[cfg(test)]
+mod dice;
+#[cfg(test)]
 mod expect;
+#[cfg(test)]
+mod played;
 #[cfg(test)]
 mod replies;
 #[cfg(test)]
+mod room;
+#[cfg(test)]
 mod rows;
+#[cfg(test)]
+mod told;

@@ -37,14 +37,26 @@ fn settings() -> Settings {
     }
 }
 
-fn make_room(alloc: Global) -> Result<Room, Fail> {
+/// The user ann alone.
+fn make_users(alloc: Global) -> Result<Authorizer, Fail> {
     let mut users = Authorizer::new(alloc)?;
     users.add_user("ann", "secret", "/", "elradfmw")?;
+    Ok(users)
+}
+
+/// Nobody is guaranteed a rate.
+fn make_floors(alloc: Global) -> Result<Floors, Fail> {
     let limits = Limits::of(0, 0, 0, Vec::new(alloc), Vec::new(alloc))?;
+    Ok(Floors::of(alloc, &limits)?)
+}
+
+fn make_room(alloc: Global) -> Result<Room, Fail> {
+    let floors = make_floors(alloc)?;
+    let users = make_users(alloc)?;
     Ok(Room {
         state: State::new(alloc, settings(), [127, 0, 0, 1])?,
         users,
-        floors: Floors::of(alloc, &limits)?,
+        floors,
     })
 }
 
@@ -100,6 +112,18 @@ fn said(alloc: Global, actions: Actions) -> Result<Vec<u8>, Fail> {
     Ok(octets)
 }
 
+/// What a command leads to.
+fn replies(alloc: Global, room: &mut Room, command: &Command<String>) -> Result<Vec<u8>, Fail> {
+    let actions = row(room, command)?;
+    said(alloc, actions)
+}
+
+/// What a line leads to.
+fn replies_to(alloc: Global, room: &mut Room, line: &str) -> Result<Vec<u8>, Fail> {
+    let command = command_of(alloc, line)?;
+    replies(alloc, room, &command)
+}
+
 fn check_rows(
     rt: &impl Abort,
     alloc: Global,
@@ -107,9 +131,7 @@ fn check_rows(
     rows: &[(&str, &str)],
 ) -> Result<(), Fail> {
     for (line, reply) in rows {
-        let command = command_of(alloc, line)?;
-        let actions = row(room, &command)?;
-        let octets = said(alloc, actions)?;
+        let octets = replies_to(alloc, room, line)?;
         same(rt, octets.as_slice(), reply.as_bytes());
     }
     Ok(())
@@ -172,13 +194,22 @@ static CONNECTIONS: [(&str, &str); 13] = [
     ("PASV\r\n", "501 EPSV ALL is in force\r\n"),
 ];
 
+/// What a new client is told.
+fn greeted(alloc: Global, room: &Room) -> Result<Vec<u8>, Fail> {
+    let actions: Actions = greet(&room.state)?;
+    said(alloc, actions)
+}
+
+fn check_greeting(rt: &impl Abort, alloc: Global, room: &Room) -> Result<(), Fail> {
+    let octets = greeted(alloc, room)?;
+    same(rt, octets.as_slice(), b"220 Ready\r\n");
+    Ok(())
+}
+
 #[test]
 fn greeting(rt: HostRuntime) -> Result<(), Fail> {
     let room = make_room(rt.alloc())?;
-    let actions: Actions = greet(&room.state)?;
-    let octets = said(rt.alloc(), actions)?;
-    same(&rt, octets.as_slice(), b"220 Ready\r\n");
-    Ok(())
+    check_greeting(&rt, rt.alloc(), &room)
 }
 
 /// A script in a session of its own.

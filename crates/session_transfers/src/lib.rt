@@ -1,7 +1,10 @@
 //! The rows of the session table on transfers of files.
 //!
 //! ```text
-//! let actions = retrieve(&mut state, &mut store, location)?; // 150, and a job that sends the file
+//! let told = retrieve(state, store, missing);
+//! says(rt, told, "550 No such file or directory\r\n");
+//! let told = store_file(state, store, place, 951_827_696_000); // milliseconds since 1970
+//! says(rt, told, "150 Opening data connection\r\n"); // and a job takes the file
 //! ```
 #![tactic(auto)]
 

@@ -29,7 +29,7 @@ fn is_number(text: &[u8]) -> bool
 fn value_of(digits: &[u8]) -> u64
     requires digits { list_all is_ascii_digit digits.now ≡ true }
     requires few { length digits.now ≤ MOST_DIGITS }
-    ensures value { result ≡ number_from_digits 10 (map digit digits.now) }
+    ensures number { result ≡ number_from_digits 10 (map digit digits.now) }
 {
     let mut value = 0;
     for digit in digits {

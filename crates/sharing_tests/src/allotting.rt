@@ -1,5 +1,6 @@
 //! The worked allotments, and random ones beside those of the plain rule.
-use super::trees::{Numbers, branch, leaf, three, tree, users};
+use super::numbers::Numbers;
+use super::trees::{branch, leaf, three, tree, users};
 use crate::expect::holds;
 use grant_certificate::{Verdict, check};
 use limit_tree::{MAX_WANT, Node, Tree};

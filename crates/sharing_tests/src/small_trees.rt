@@ -1,5 +1,5 @@
 //! Small random trees, whose grants are held against all grants that there are.
-use super::trees::Numbers;
+use super::numbers::Numbers;
 use crate::expect::holds;
 use grant_certificate::{Verdict, check};
 use limit_tree::{Node, Tree};

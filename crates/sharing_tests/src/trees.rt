@@ -1,6 +1,6 @@
 //! Trees for the tests.
-ghost use Rattle.std.specs.Prelude.{◌<◌};
 
+use grant_certificate::{Certificate, seal};
 use limit_tree::{Node, Tree};
 use std::alloc::{AllocError, Allocator, Global};
 use std::process::Abort;
@@ -36,22 +36,42 @@ pub fn users(alloc: Global, floor: u64) -> Result<Node, AllocError> {
     Ok(branch(Some(75), vec![in alloc; ann, bob, cy]?))
 }
 
-/// A sequence of numbers that looks random (D. Knuth's multiplier for 64 bits).
-#[derive(Drop)]
-pub struct Numbers {
-    pub state: u64,
+/// A branch over so many leaves that want one octet each.
+pub fn row(alloc: Global, leaves: usize) -> Result<Node, AllocError> {
+    let mut kids = Vec::new(alloc);
+    for _ in 0..leaves {
+        kids.push(leaf(1))?;
+    }
+    Ok(branch(None, kids))
 }
 
-impl Numbers {
-    /// A number below one that is not 0.
-    pub fn below(&mut self, end: u64) -> u64
-        requires end { 0 < end }
-        ensures below { result < end }
-    {
-        self.state = self
-            .state
-            .wrapping_mul(6_364_136_223_846_793_005)
-            .wrapping_add(1_442_695_040_888_963_407);
-        (self.state >> 33) % end
+/// A node below so many branches.
+pub fn below(alloc: Global, branches: u32, node: Node) -> Result<Node, AllocError> {
+    let mut node = node;
+    for _ in 0..branches {
+        node = branch(None, vec![in alloc; node]?);
+    }
+    Ok(node)
+}
+
+/// A leaf below a branch with a limit of one octet, and beside that so many branches without kids.
+pub fn wide(alloc: Global, branches: usize) -> Result<Node, AllocError> {
+    let mut kids = Vec::new(alloc);
+    kids.push(branch(Some(1), vec![in alloc; leaf(2)]?))?;
+    for _ in 0..branches {
+        kids.push(branch(None, Vec::new(alloc)))?;
+    }
+    Ok(branch(None, kids))
+}
+
+/// What grants have together, in octets, where they are sealed.
+pub fn sealed_total<A: Allocator>(
+    tree: Tree,
+    grants: Vec<u64, A>,
+    certificate: Certificate<A>,
+) -> Option<u64> {
+    match seal(tree, grants, certificate) {
+        Ok(sealed) => Some(sealed.total()),
+        Err(_) => None,
     }
 }

@@ -6,7 +6,7 @@ use Rattle.sheet_nodes.specs.declared.fault.SheetFault.TheVariants.{BadLine, Twi
 use Rattle.share_text.specs.declared.grants.GrantsFault.{GrantsFault}
 use Rattle.share_text.specs.declared.grants.GrantsFault.TheVariants.{BadLine as BadGrant, WrongPath, NoSuchNode, Memory as NoMemory}
 use Rattle.sheet_commands.specs.declared.fault.ProgramFault.TheVariants.{Sheet, Grants, Memory as OutOfMemory}
-use Rattle.sheet_commands.specs.Faults.{of_sheet, of_grants}
+use Rattle.sheet_commands.specs.Faults.{IsSheetJudgement, of_sheet, of_grants}
 
 -- a fault that is told as that of a sheet is that fault, and not want of memory
 pub sheet_told : (e fault : SheetFault) → of_sheet e ≡ Sheet fault → (e ≡ fault) × (e ≢ Memory)
@@ -59,3 +59,15 @@ sound_is_memory Memory judged told sound = refl
 pub err_and : {T : Type 0} (r : Result T ProgramFault) (e : ProgramFault) (P : ProgramFault → Type 0) → IsErrAnd r (λ f. f ≡ e) → P e → IsErrAnd r P
 err_and (Ok value) e P gives p = absurd gives
 err_and (Err f) e P gives p = subst P (sym gives) p
+
+-- a refusal that tells a fault of some kind bears none but of that kind
+pub kind_told : {T : Type 0} (r : Result T ProgramFault) (e fault : ProgramFault) (Kind : ProgramFault → Type 0) → IsErrAnd r (λ f. f ≡ e) → Kind e → IsErrOf r fault → Kind fault
+kind_told r e fault Kind gives kind is = subst Kind (told_as r e fault gives is) kind
+
+-- what is told of a sheet's fault is of that kind
+pub sheet_judged : (e : SheetFault) → IsSheetJudgement (of_sheet e)
+sheet_judged (BadLine line) = tt
+sheet_judged (Twice line) = tt
+sheet_judged (LeafHasKids line) = tt
+sheet_judged (Tree line f) = tt
+sheet_judged Memory = tt

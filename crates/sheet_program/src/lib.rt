@@ -2,13 +2,13 @@
 //! tells on standard error. `sheets` has no other commands; `ftpd` has more, and ends in more ways.
 //!
 //! ```text
-//! struct Table<'t>(&'t [(&'t str, &'t [u8])]);
-//!
-//! impl<'t> Openings for Table<'t> { .. }
-//!
+//! let mut files = Text("limit / 10\nwant /a 8\nwant /b 5\n"); // opens what the words name
 //! let mut output = Vec::new(rt.alloc());
-//! let ending = run_sheets(rt.alloc(), &["share", "lunch.sheet"], &mut files, &mut output);
-//! assert_eq!(rt; ending.status(), 0);
+//! let words = ["share", "lunch.sheet"];
+//! let ending = run_sheets(rt.alloc(), &words, &mut files, &mut output);
+//! holds(&rt, ending.status() == 0);
+//! let shares = b"/a 5 of 8 full /\n/b 5 of 5\ntotal 10\n";
+//! holds(&rt, output.as_slice() == shares.as_slice());
 //! ```
 #![tactic(auto)]
 

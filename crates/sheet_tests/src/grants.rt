@@ -1,8 +1,9 @@
-//! What no clause says of grants files: that the calls succeed, and what texts give.
+//! What no clause says of grants files: that the calls succeed, and what texts give. Texts that are refused stand in
+//! `runs/faulty_grants.toml`.
 
-use crate::expect::{holds, same};
+use crate::expect::holds;
 use linked_list_allocator::LocalHeap;
-use share_text::{GrantsFault, Sheet, SheetFault, read_grants, read_sheet};
+use share_text::{GrantsFault, Sheet, read_grants, read_sheet};
 use std::alloc::Allocator;
 use std::process::Abort;
 use std::test::Fail;
@@ -11,14 +12,6 @@ use std::test::Fail;
 const SHEET: &[u8] = b"limit / 5\nwant /x/1 9\nwant /y 9\nwant /x/2 9\n";
 
 const GRANTS: &[u8] = b"grant /x/1 2 /\n# a note\n\ngrant /y 1 /x/1\r\ngrant /x/2 3";
-
-fn fault_of<A: Allocator + Clone>(
-    alloc: A,
-    text: &[u8],
-) -> Result<Option<GrantsFault>, SheetFault> {
-    let sheet = read_sheet(alloc.clone()?, SHEET)?;
-    Ok(read_grants(alloc, text, &sheet).err())
-}
 
 /// Whether the grants have room; where they have, they are those of the text.
 fn have_room<A: Allocator + Clone>(rt: &impl Abort, alloc: A, sheet: &Sheet<'_, A>) -> bool {
@@ -62,62 +55,6 @@ fn missing_lines_leave_short_lists(rt: HostRuntime) -> Result<(), Fail> {
     holds(&rt, certificate.entries() == [Some(0), Some(1)].as_slice());
     let (none, _) = read_grants(rt.alloc(), b"", &sheet)?;
     holds(&rt, none.is_empty());
-    Ok(())
-}
-
-#[test]
-fn lines_are_refused(rt: HostRuntime) -> Result<(), Fail> {
-    let alloc = rt.alloc();
-    holds(
-        &rt,
-        fault_of(alloc, b"grant /x/1 2 /\ngrant /y 1")?.is_none(),
-    );
-    holds(
-        &rt,
-        fault_of(alloc, b"grant /y 1 /")? == Some(GrantsFault::WrongPath(1)),
-    );
-    holds(
-        &rt,
-        fault_of(alloc, b"grant / 1 /")? == Some(GrantsFault::WrongPath(1)),
-    );
-    holds(
-        &rt,
-        fault_of(alloc, b"#\n\ngrant /x/1 1 /\ngrant /x/2 1 /z")?
-            == Some(GrantsFault::WrongPath(4)),
-    );
-    holds(
-        &rt,
-        fault_of(
-            alloc,
-            b"grant /x/1 1\ngrant /y 1\ngrant /x/2 1\ngrant /x/2 1",
-        )? == Some(GrantsFault::WrongPath(4)),
-    );
-    holds(
-        &rt,
-        fault_of(alloc, b"grant /x/1 1 /z")? == Some(GrantsFault::NoSuchNode(1)),
-    );
-    holds(
-        &rt,
-        fault_of(alloc, b"grant /x/1 1 z")? == Some(GrantsFault::BadLine(1)),
-    );
-    holds(
-        &rt,
-        fault_of(alloc, b"grant /x/1 01")? == Some(GrantsFault::BadLine(1)),
-    );
-    holds(
-        &rt,
-        fault_of(alloc, b"grant /x/1 1 ")? == Some(GrantsFault::BadLine(1)),
-    );
-    holds(
-        &rt,
-        fault_of(alloc, b"give /x/1 1 /")? == Some(GrantsFault::BadLine(1)),
-    );
-    holds(
-        &rt,
-        fault_of(alloc, b"grant /x/1 1 / /")? == Some(GrantsFault::BadLine(1)),
-    );
-    let text = format!(in alloc; "{}", GrantsFault::NoSuchNode(3))?;
-    same(&rt, &text.as_str(), &"line 3: NoSuchNode");
     Ok(())
 }
 

@@ -1,9 +1,10 @@
-//! What no clause says of sheets: that the calls succeed, and what texts give.
+//! What no clause says of sheets: that the calls succeed, and what texts give. Texts that are refused stand in
+//! `runs/faulty_sheets.toml`.
 ghost use Rattle.std.specs.Prelude.{◌≤◌};
 ghost use Rattle.sheet_tests.specs.declared.sheets.TheConstants.{ROOM};
 
 use crate::expect::holds;
-use limit_tree::{Kind, TreeFault};
+use limit_tree::Kind;
 use linked_list_allocator::LocalHeap;
 use share_text::{Sheet, SheetFault, read_sheet, sheet_is_of_its_lines};
 use std::alloc::{Allocator, Global};
@@ -135,46 +136,6 @@ fn lines_may_end_in_cr_lf_or_lack_the_last_end(rt: HostRuntime) {
         let sheet = sheet_of(&rt, rt.alloc(), text);
         expect_nodes(&rt, &sheet, &[("/", limit(8)), ("/a", want(5, 0))]);
         expect_leaves(&rt, &sheet, &["/a"], &[0]);
-    }
-}
-
-#[test]
-fn faults_name_their_lines(rt: HostRuntime) {
-    let faults = [
-        (b"limit / 01".as_slice(), SheetFault::BadLine(1)),
-        (b"limit / 8\nwant /a 5\r", SheetFault::BadLine(2)),
-        (b"\r", SheetFault::BadLine(1)),
-        (b" # no remark", SheetFault::BadLine(1)),
-        (b"\nlimit / 1\n#\nlimit / 2", SheetFault::Twice(4)),
-        (b"want /a 1\nwant /a 1", SheetFault::Twice(2)),
-        (b"want /a 1\nlimit /a/b 2", SheetFault::LeafHasKids(2)),
-        (b"limit /a/b 2\r\nwant /a 1\r\n", SheetFault::LeafHasKids(2)),
-        (
-            b"want /b 1\nlimit /a 3\nwant /a/x 10 5",
-            SheetFault::Tree(2, TreeFault::FloorsOverLimit(2)),
-        ),
-        (
-            b"want /b 4294967295\nwant /c 4294967296\nx",
-            SheetFault::Tree(2, TreeFault::WantTooLarge),
-        ),
-        (
-            b"want /b 4 5\nx",
-            SheetFault::Tree(1, TreeFault::FloorTooLarge),
-        ),
-        (
-            b"limit /b 4503599627370497",
-            SheetFault::Tree(1, TreeFault::LimitTooLarge),
-        ),
-        (
-            b"limit /1/2/3/4/5/6/7/8/9/10/11/12/13/14/15/16/17 1",
-            SheetFault::Tree(1, TreeFault::TooDeep),
-        ),
-    ];
-    for (text, fault) in faults {
-        assert!(rt;
-            read_sheet(rt.alloc(), text).err() == Some(fault),
-            "{fault}"
-        );
     }
 }
 

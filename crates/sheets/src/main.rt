@@ -2,9 +2,6 @@
 //! with its status.
 #![tactic(auto)]
 
-#[cfg(test)]
-mod tests;
-
 use sheet_commands::Outside;
 use sheet_program::{Ending, Machine, Told, as_words, line_words, run_sheets};
 use std::alloc::Global;

@@ -1,7 +1,12 @@
-//! Tests of the store in memory and of a store that fails once, by their public calls alone.
+//! Tests of the store in memory, of a store that fails once, and of stores where memory is refused: each growth of each call in
+//! turn.
 #![tactic(auto)]
 
 #[cfg(test)]
 mod failing;
 #[cfg(test)]
 mod scripts;
+#[cfg(test)]
+mod shortages;
+#[cfg(test)]
+mod uploads;

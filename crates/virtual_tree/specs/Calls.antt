@@ -50,11 +50,6 @@ refusal (RemoveDir path answer) = result_err answer
 refusal (RemoveFile path answer) = result_err answer
 refusal (Rename from to answer) = result_err answer
 
--- what these exchanges, one after another, leave of a store
-abbrev pub Leaves : {S R K : Type 0} → (S → Exchange R K → S → Type 0) → S → List (Exchange R K) → S → Type 0
-Leaves Step old [] new = new ≡ old
-Leaves {S} Step old (exchange ∷ exchanges) new = (mid : S) × Step old exchange mid × Leaves Step mid exchanges new
-
 -- the call is the end of an upload, after which the files would hold more than this capacity
 abbrev pub PassesCapacity : {R K : Type 0} → Option ℕ → (K → ℕ → ℕ) → Exchange R K → Type 0
 PassesCapacity capacity after (Finish sink moment answer) = IsSomeAnd capacity (λ most. most < after sink moment)

@@ -27,9 +27,9 @@ absorb_in-requires g t c =
     let wants : sum (wants_in (places kid)) < 2 ^ 63 = omega (arith, sum_wants_more kids i kid c.loop-kid-test.true c.kid-item.is, c.loop-kid.invariant.wants, c.requires.wants) in
     search (rules, the_lemmas, nodes, wants)
 
-pub returns-in-Ok-clause-value : goal.returns-in-Ok-clause-value
-returns-in-Ok-clause-value g t c =
-    c.in-Ok.ensures.value ∙
+pub returns-in-Ok-clause-absorbed : goal.returns-in-Ok-clause-absorbed
+returns-in-Ok-clause-absorbed g t c =
+    c.in-Ok.ensures.absorbed ∙
     (sym (absorbed_kid c.args.level c.deref-kid-items.result.now c.loop-kid.kid-index c.kid-item.result (c.args.number - c.loop-kid.passed) c.loop-kid-test.true c.kid-item.is c.in-Ok.ensures.inside) ∙
     sym c.loop-kid.invariant.value)
 

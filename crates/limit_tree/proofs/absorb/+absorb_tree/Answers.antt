@@ -28,12 +28,12 @@ loop-kid-preserved g t c =
     let kid = c.kid-item.result in
     let i = c.loop-kid.kid-index in
     record {
-      value = omega (arith, absorb_more c.args.level kids i kid c.loop-kid-test.true c.kid-item.is, c.absorb_tree-total.ensures.value, c.loop-kid.invariant.value);
+      value = omega (arith, absorb_more c.args.level kids i kid c.loop-kid-test.true c.kid-item.is, c.absorb_tree-total.ensures.absorbed, c.loop-kid.invariant.value);
       most = omega (arith, sum_wants_more kids i kid c.loop-kid-test.true c.kid-item.is, c.absorb_tree-total.ensures.most, c.loop-kid.invariant.most);
     }
 
-pub returns-after-loop-kid-clause-value : goal.returns-after-loop-kid-clause-value
-returns-after-loop-kid-clause-value g t c =
+pub returns-after-loop-kid-clause-absorbed : goal.returns-after-loop-kid-clause-absorbed
+returns-after-loop-kid-clause-absorbed g t c =
     let kids = c.deref-kid-items.result.now in
     let total = absorb_total c.args.level kids c.loop-kid.kid-index c.loop-kid.total c.loop-kid-test.false c.loop-kid.invariant.value in
     let out : absorb_of c.args.level c.args.node.now ≡ cut c.in-Branch.limit (sum_by (absorb_of c.args.level) kids) = absorb_out c.args.level c.args.node.now ∙ search (rules, the_lemmas) in

@@ -31,7 +31,7 @@ overflow_add-total t c =
       | in-Leaf w ↦ omega (arith, c.loop-tree.invariant.value, was, taken, wants, octets, leaves, absorbed-leaf c.args.level ps node p w.in-Leaf.want w.in-Leaf.floor c.place_at-place.ensures.place w.in-Leaf.is, w.total-is)
       | in-Branch w ↦
           let below = absorbed-branch c.args.level ps node p w.in-Branch.limit c.place_at-place.ensures.place w.in-Branch.is in
-          let cuts = w.at_most.ensures.cut ∙ ap (cut w.in-Branch.limit) w.absorb_row-below.ensures.value in
+          let cuts = w.at_most.ensures.cut ∙ ap (cut w.in-Branch.limit) w.absorb_row-below.ensures.absorbed in
           omega (arith, c.loop-tree.invariant.value, was, taken, wants, octets, leaves, below, cuts, w.total-is)
     ]
 
@@ -56,7 +56,7 @@ loop-tree-preserved t c =
         | in-Leaf w ↦ omega (arith, c.loop-tree.invariant.value, was, taken, absorbed-leaf c.args.level ps node p w.in-Leaf.want w.in-Leaf.floor c.place_at-place.ensures.place w.in-Leaf.is, w.total-is)
         | in-Branch w ↦
             let below = absorbed-branch c.args.level ps node p w.in-Branch.limit c.place_at-place.ensures.place w.in-Branch.is in
-            let cuts = w.at_most.ensures.cut ∙ ap (cut w.in-Branch.limit) w.absorb_row-below.ensures.value in
+            let cuts = w.at_most.ensures.cut ∙ ap (cut w.in-Branch.limit) w.absorb_row-below.ensures.absorbed in
             omega (arith, c.loop-tree.invariant.value, was, taken, below, cuts, w.total-is)
       ];
     }
@@ -65,4 +65,4 @@ pub returns : goal.returns
 returns t c =
     let none : c.args.trees - c.loop-tree._tree ≡ 0 = omega arith in
     let past : taken_in c.args.level c.args.places.now c.loop-tree.node (c.args.trees - c.loop-tree._tree) ≡ 0 = ap (taken_in c.args.level c.args.places.now c.loop-tree.node) none in
-    record { value = omega (arith, c.loop-tree.invariant.value, past) }
+    record { absorbed = omega (arith, c.loop-tree.invariant.value, past) }

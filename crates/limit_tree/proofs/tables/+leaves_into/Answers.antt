@@ -1,7 +1,7 @@
-use Rattle.std.proofs.Common.{rules, arith, ◌≡◌, ◌<◌, ◌∙◌, ◌++◌, ◌∷◌, [], ℕ, List, length, take, sym, ap}
+use Rattle.std.proofs.Common.{rules, arith, ◌≡◌, ◌+◌, ◌≤◌, ◌<◌, ◌∙◌, ◌++◌, ◌∷◌, [], ℕ, List, length, take, sym, ap}
 use Rattle.std.specs.List.{cons_option}
-use Rattle.std.proofs.lemmas.List.{take_more_set}
-use Rattle.limit_tree.specs.Outline.{leaf_count, kids_of, kind_of, leaf_want, leaf_floor}
+use Rattle.std.proofs.lemmas.List.{at_drop_all, take_more_set}
+use Rattle.limit_tree.specs.Outline.{places, leaf_count, kids_of, kind_of, leaf_want, leaf_floor}
 use Rattle.limit_tree.specs.declared.place.Kind.{Kind}
 use Rattle.limit_tree.specs.declared.place.Kind.TheVariants.{Branch, Leaf}
 use Rattle.limit_tree.specs.declared.place.Place.{Place}
@@ -53,3 +53,40 @@ returns-in-Leaf-clause-floors g t c =
     let inside : c.args.first < length c.args.floors.now = omega (arith, c.requires.room, c.requires.tables, leaf_count_out node, ap own_leaves kind) in
     take_more_set c.args.floors.now c.args.first c.in-Leaf.floor inside ∙
     ap (λ (fs : List ℕ). take c.args.first c.args.floors.now ++ fs) (sym (told-out leaf_floor node ∙ (ap (λ (k : Kind). cons_option (leaf_floor k) (told leaf_floor (places_of_all (kids_of node)))) kind ∙ ap (λ (ps : List Place). c.in-Leaf.floor ∷ told leaf_floor ps) none)))
+
+pub bounds-wants-first : goal.bounds-wants-first
+bounds-wants-first g t c =
+    let node = c.args.node.now in
+    let kind : kind_of node ≡ Leaf c.in-Leaf.want c.in-Leaf.floor = search (rules, the_lemmas) in
+    omega (arith, c.requires.room, leaf_count_out node, ap own_leaves kind)
+
+pub bounds-floors-first : goal.bounds-floors-first
+bounds-floors-first g t c =
+    let node = c.args.node.now in
+    let kind : kind_of node ≡ Leaf c.in-Leaf.want c.in-Leaf.floor = search (rules, the_lemmas) in
+    omega (arith, c.requires.room, c.requires.tables, leaf_count_out node, ap own_leaves kind)
+
+pub leaves_into-next-requires : goal.leaves_into-next-requires
+leaves_into-next-requires g t c =
+    let kid = c.kid-item.result in
+    let more = leaf_count_of_all-drop c.deref-kid-items.result.now c.loop-kid.kid-index kid c.loop-kid-test.true c.kid-item.is in
+    let room : c.loop-kid.next + leaf_count (places kid) ≤ length c.loop-kid.wants = omega (arith, more, c.loop-kid.invariant.next, c.loop-kid.invariant.size, c.requires.room) in
+    let tables : length c.loop-kid.floors ≡ length c.loop-kid.wants = omega (arith, c.loop-kid.invariant.size, c.loop-kid.invariant.floors_size, c.requires.tables) in
+    search (rules, the_lemmas, room, tables)
+
+pub returns-in-Leaf-clause-next : goal.returns-in-Leaf-clause-next
+returns-in-Leaf-clause-next g t c =
+    let node = c.args.node.now in
+    let kind : kind_of node ≡ Leaf c.in-Leaf.want c.in-Leaf.floor = search (rules, the_lemmas) in
+    let none : places_of_all (kids_of node) ≡ [] = search (rules, the_lemmas) in
+    omega (arith, leaf_count_out node, ap own_leaves kind, ap leaf_count none)
+
+pub returns-after-loop-kid-clause-next : goal.returns-after-loop-kid-clause-next
+returns-after-loop-kid-clause-next g t c =
+    omega (arith, c.loop-kid.invariant.next, at_drop_all (λ ks. leaf_count (places_of_all ks)) c.deref-kid-items.result.now c.loop-kid.kid-index c.loop-kid-test.false)
+
+pub returns-after-loop-kid-clause-size : goal.returns-after-loop-kid-clause-size
+returns-after-loop-kid-clause-size g t c = c.loop-kid.invariant.size
+
+pub returns-after-loop-kid-clause-floors_size : goal.returns-after-loop-kid-clause-floors_size
+returns-after-loop-kid-clause-floors_size g t c = c.loop-kid.invariant.floors_size

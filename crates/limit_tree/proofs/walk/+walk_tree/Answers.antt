@@ -1,4 +1,4 @@
-use Rattle.std.proofs.Common.{rules, arith, ◌≡◌, ◌+◌, ◌≤◌, ◌∙◌, ◌∷◌, ◌++◌, [], ℕ, List, length, map, drop, sym, ap, subst, length-append, append_assoc}
+use Rattle.std.proofs.Common.{rules, arith, ◌≡◌, ◌+◌, ◌^◌, ◌<◌, ◌≤◌, ◌∙◌, ◌∷◌, ◌++◌, [], ℕ, List, length, map, drop, sym, ap, subst, length-append, append_assoc}
 use Rattle.std.proofs.lemmas.List.{length-map, at_drop_all}
 use Rattle.limit_tree.specs.declared.place.Place.{Place}
 use Rattle.limit_tree.specs.Outline.{places, leaf_count, floor_sum, moved, kids_of, kind_of, own_floor}
@@ -97,3 +97,61 @@ returns-after-loop-kid-clause-saw g t c =
     let kids = c.deref-kid-items.result.now in
     let rest = moved (c.args.depth + 1) c.loop-kid.next.leaves in
     shown-all g.V.Visitor.Saw _ _ _ _ _ _ _ _ (at_drop_all (λ ks. map rest (places_of_all ks)) kids c.loop-kid.kid-index c.loop-kid-test.false) c.loop-kid.invariant.saw
+
+pub place_of-place-requires : goal.place_of-place-requires
+place_of-place-requires g t c = record { size = c.requires.size }
+
+pub overflow_add-next : goal.overflow_add-next
+overflow_add-next g t c = omega (arith, c.requires.nodes)
+
+pub overflow_add-next-in-Leaf : goal.overflow_add-next-in-Leaf
+overflow_add-next-in-Leaf g t c = omega (arith, c.requires.leaves)
+
+pub overflow_sub-rest : goal.overflow_sub-rest
+overflow_sub-rest g t c = omega (arith, length_places_out c.args.node.now, c.requires.size.nodes)
+
+pub size_of_next-own-requires-clause-nodes : goal.size_of_next-own-requires-clause-nodes
+size_of_next-own-requires-clause-nodes g t c =
+    omega (arith, length_places_of_all-drop c.deref-kid-items.result.now c.loop-kid.kid-index c.kid-item.result c.loop-kid-test.true c.kid-item.is, c.loop-kid.invariant.nodes, c.requires.nodes)
+
+pub size_of_next-own-requires-clause-leaves : goal.size_of_next-own-requires-clause-leaves
+size_of_next-own-requires-clause-leaves g t c =
+    omega (arith, leaf_count_of_all-drop c.deref-kid-items.result.now c.loop-kid.kid-index c.kid-item.result c.loop-kid-test.true c.kid-item.is, c.loop-kid.invariant.leaves, c.requires.leaves)
+
+pub size_of_next-own-requires-clause-floors : goal.size_of_next-own-requires-clause-floors
+size_of_next-own-requires-clause-floors g t c =
+    omega (arith, floor_sum_of_all-drop c.deref-kid-items.result.now c.loop-kid.kid-index c.kid-item.result c.loop-kid-test.true c.kid-item.is, c.loop-kid.invariant.floors, c.requires.floors)
+
+pub overflow_add-depth : goal.overflow_add-depth
+overflow_add-depth g t c = omega (arith, c.requires.depth)
+
+pub walk_tree-next-requires : goal.walk_tree-next-requires
+walk_tree-next-requires g t c =
+    let kids = c.deref-kid-items.result.now in
+    let kid = c.kid-item.result in
+    let i = c.loop-kid.kid-index in
+    let more = length_places_of_all-drop kids i kid c.loop-kid-test.true c.kid-item.is in
+    let more_leaves = leaf_count_of_all-drop kids i kid c.loop-kid-test.true c.kid-item.is in
+    let depth : length (places kid) + (c.args.depth + 1) < 2 ^ 63 = omega (arith, more, c.loop-kid.invariant.nodes, c.loop-kid.invariant.some, c.requires.depth) in
+    let nodes : c.loop-kid.next.nodes + length (places kid) < 2 ^ 63 = omega (arith, more, c.loop-kid.invariant.nodes, c.requires.nodes) in
+    let leaves : c.loop-kid.next.leaves + leaf_count (places kid) < 2 ^ 63 = omega (arith, more_leaves, c.loop-kid.invariant.leaves, c.requires.leaves) in
+    let floors : floor_sum (places kid) < 2 ^ 63 = omega (arith, floor_sum_of_all-drop kids i kid c.loop-kid-test.true c.kid-item.is, c.loop-kid.invariant.floors, c.requires.floors) in
+    let inside : c.loop-kid.next.leaves + leaf_count (places kid) ≤ g.V.Visitor.leaves c.loop-kid.visitor = omega (arith, more_leaves, c.loop-kid.invariant.leaves, c.requires.inside, c.loop-kid.invariant.same) in
+    search (rules, the_lemmas, depth, nodes, leaves, floors, c.size_of_next-own.ensures.size, inside)
+
+pub overflow_sub-left : goal.overflow_sub-left
+overflow_sub-left g t c = omega (arith, c.loop-kid.invariant.left, c.loop-kid-test.true)
+
+pub overflow_sub-rest-in-loop-kid-2 : goal.overflow_sub-rest-in-loop-kid-2
+overflow_sub-rest-in-loop-kid-2 g t c = omega (arith, leaf_count_of_all-drop c.deref-kid-items.result.now c.loop-kid.kid-index c.kid-item.result c.loop-kid-test.true c.kid-item.is, c.loop-kid.invariant.rest.leaves, c.size_of_next-own.ensures.size.leaves)
+
+pub returns-after-loop-kid-clause-nodes : goal.returns-after-loop-kid-clause-nodes
+returns-after-loop-kid-clause-nodes g t c =
+    omega (arith, c.loop-kid.invariant.nodes, at_drop_all (λ ks. length (places_of_all ks)) c.deref-kid-items.result.now c.loop-kid.kid-index c.loop-kid-test.false)
+
+pub returns-after-loop-kid-clause-leaves : goal.returns-after-loop-kid-clause-leaves
+returns-after-loop-kid-clause-leaves g t c =
+    omega (arith, c.loop-kid.invariant.leaves, at_drop_all (λ ks. leaf_count (places_of_all ks)) c.deref-kid-items.result.now c.loop-kid.kid-index c.loop-kid-test.false)
+
+pub returns-after-loop-kid-clause-same : goal.returns-after-loop-kid-clause-same
+returns-after-loop-kid-clause-same g t c = c.loop-kid.invariant.same

@@ -1,11 +1,30 @@
-use Rattle.std.proofs.Common.{subst, List, ℕ}
-use Rattle.limit_tree.specs.Sharing.{IsWithin}
+use Rattle.std.proofs.Common.{◌*◌, ◌≤◌, subst, sym, List, ℕ}
+use Rattle.limit_tree.specs.Sharing.{IsWanted, IsWithin}
 use Rattle.limit_tree.specs.Outline.{limits}
 use Rattle.limit_tree.specs.declared.place.Place.{Place}
+use Rattle.round_allocator.specs.declared.level.TheConstants.{MAX_PROBES}
+use Rattle.round_allocator.specs.Levels.{branch_count}
 use Rattle.round_allocator.specs.Rounds.{HasBottlenecks, IsNamed}
 use Rattle.round_allocator.proofs.Rooms.{bottlenecks-exhausted}
 use Rattle.round_allocator.proofs.Names.{named-backed}
 use Rattle.round_allocator.proofs.named.allot_counted.Goals as goal
+
+pub name-requires : goal.name-requires
+name-requires g c =
+    record { grants = subst (IsWanted (limits c.in_ok-flat.flat)) (sym c.deref.ensures.value) c.in_ok-grants.ensures.within.wanted }
+
+pub returns-clause-within : goal.returns-clause-within
+returns-clause-within g c =
+    subst (λ (ps : List Place). IsWithin (limits ps) c.in_ok-grants.field-0.grants.items) c.in_ok-flat.ensures.of c.in_ok-grants.ensures.within
+
+pub returns-clause-named : goal.returns-clause-named
+returns-clause-named g c =
+    subst (λ (ps : List Place). IsNamed (limits ps) c.in_ok-grants.field-0.grants.items c.in_ok-certificate.certificate) c.in_ok-flat.ensures.of
+    (subst (λ (g : List ℕ). IsNamed (limits c.in_ok-flat.flat) g c.in_ok-certificate.certificate) c.deref.ensures.value c.in_ok-certificate.ensures.named)
+
+pub returns-clause-counted : goal.returns-clause-counted
+returns-clause-counted g c =
+    subst (λ (ps : List Place). c.in_ok-grants.field-0.probes ≤ MAX_PROBES * branch_count ps) c.in_ok-flat.ensures.of c.in_ok-grants.ensures.counted
 
 pub returns-clause-exhausted : goal.returns-clause-exhausted
 returns-clause-exhausted g c = bottlenecks-exhausted (limits c.args.tree.now) c.in_ok-grants.field-0.grants.items

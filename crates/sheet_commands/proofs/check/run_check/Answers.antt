@@ -1,13 +1,14 @@
-use Rattle.std.proofs.Common.{◌≡◌, ◌∙◌, List, ℕ, Some, None, Err, inr, length, sym, ap, subst, arith}
+use Rattle.std.proofs.Common.{◌≡◌, ◌∙◌, List, ℕ, Some, None, Err, inl, inr, length, sym, ap, subst, arith}
 use Rattle.share_text.specs.Views.{IsSheetOf}
 use Rattle.share_text.specs.Sheet.{fault_of, sheet_fault}
 use Rattle.sheet_nodes.specs.declared.fault.SheetFault.TheVariants.{Memory}
-use Rattle.sheet_commands.specs.declared.fault.ProgramFault.TheVariants.{Sheet, Grants, TooLong}
+use Rattle.sheet_commands.specs.declared.fault.ProgramFault.{ProgramFault}
+use Rattle.sheet_commands.specs.declared.fault.ProgramFault.TheVariants.{Sheet, Grants, TooLong, ReadFault, WriteFault}
 use Rattle.sheet_commands.specs.declared.whole.TheConstants.{MAX_TEXT}
-use Rattle.sheet_commands.specs.Faults.{of_sheet, IsReadingFault}
+use Rattle.sheet_commands.specs.Faults.{of_sheet, IsGrantsJudgement, IsReadingFault, IsSheetJudgement}
 use Rattle.sheet_commands.specs.Checking.{IsCheckOf, IsGrantsFaultOf}
 use Rattle.sheet_commands.proofs.Reading.{read_whole_text, read_text_of, read_text_is, read_whole_few}
-use Rattle.sheet_commands.proofs.Told.{sheet_told, told_as, sound_is_memory, err_and}
+use Rattle.sheet_commands.proofs.Told.{sheet_told, told_as, kind_told, sheet_judged, sound_is_memory, err_and}
 use Rattle.sheet_commands.proofs.check.run_check.Goals as goal
 
 pub returns-in_err-sheet-clause-sheet : goal.returns-in_err-sheet-clause-sheet
@@ -90,3 +91,95 @@ returns-clause-checked g c sheet_text grants_text sheet_known grants_known =
     let line = c.deref-3.result.now in
     let checked = subst (λ (p : List ℕ). IsCheckOf sheet_text c.deref-2.result.now verdict p) (sym c.deref-3.ensures) (c.in_ok-verdict.ensures.checked sheet_text is_sheet) in
     (line, subst (λ (t : List ℕ). IsCheckOf sheet_text t verdict line) (c.deref-2.ensures.value ∙ grants_whole) checked, c.in_ok-write_whole.ensures.written)
+
+pub returns-in_err-sheet_text-clause-sheet : goal.returns-in_err-sheet_text-clause-sheet
+returns-in_err-sheet_text-clause-sheet g c fault is text known =
+    absurd (kind_told c.from_residual-in_err-sheet_text.result c.in_err-sheet_text.field-0.0 (Sheet fault) IsReadingFault c.from_residual-in_err-sheet_text.ensures.1 c.in_err-sheet_text.ensures.faults is)
+
+pub returns-in_err-sheet_text-clause-grants : goal.returns-in_err-sheet_text-clause-grants
+returns-in_err-sheet_text-clause-grants g c fault is sheet_text grants_text sheet_known grants_known =
+    absurd (kind_told c.from_residual-in_err-sheet_text.result c.in_err-sheet_text.field-0.0 (Grants fault) IsReadingFault c.from_residual-in_err-sheet_text.ensures.1 c.in_err-sheet_text.ensures.faults is)
+
+pub returns-in_err-sheet_text-clause-write_fault : goal.returns-in_err-sheet_text-clause-write_fault
+returns-in_err-sheet_text-clause-write_fault g c is =
+    absurd (kind_told c.from_residual-in_err-sheet_text.result c.in_err-sheet_text.field-0.0 WriteFault IsReadingFault c.from_residual-in_err-sheet_text.ensures.1 c.in_err-sheet_text.ensures.faults is)
+
+pub returns-in_err-sheet-clause-grants : goal.returns-in_err-sheet-clause-grants
+returns-in_err-sheet-clause-grants g c fault is sheet_text grants_text sheet_known grants_known =
+    absurd (kind_told c.from_residual-in_err-sheet.result (of_sheet c.in_err-sheet.field-0.0) (Grants fault) IsSheetJudgement c.from_residual-in_err-sheet.ensures.1 (sheet_judged c.in_err-sheet.field-0.0) is)
+
+pub returns-in_err-sheet-clause-too_long : goal.returns-in_err-sheet-clause-too_long
+returns-in_err-sheet-clause-too_long g c is =
+    absurd (kind_told c.from_residual-in_err-sheet.result (of_sheet c.in_err-sheet.field-0.0) TooLong IsSheetJudgement c.from_residual-in_err-sheet.ensures.1 (sheet_judged c.in_err-sheet.field-0.0) is)
+
+pub returns-in_err-sheet-clause-read_fault : goal.returns-in_err-sheet-clause-read_fault
+returns-in_err-sheet-clause-read_fault g c is =
+    absurd (kind_told c.from_residual-in_err-sheet.result (of_sheet c.in_err-sheet.field-0.0) ReadFault IsSheetJudgement c.from_residual-in_err-sheet.ensures.1 (sheet_judged c.in_err-sheet.field-0.0) is)
+
+pub returns-in_err-sheet-clause-write_fault : goal.returns-in_err-sheet-clause-write_fault
+returns-in_err-sheet-clause-write_fault g c is =
+    absurd (kind_told c.from_residual-in_err-sheet.result (of_sheet c.in_err-sheet.field-0.0) WriteFault IsSheetJudgement c.from_residual-in_err-sheet.ensures.1 (sheet_judged c.in_err-sheet.field-0.0) is)
+
+pub returns-in_err-grants_text-clause-sheet : goal.returns-in_err-grants_text-clause-sheet
+returns-in_err-grants_text-clause-sheet g c fault is text known =
+    absurd (kind_told c.from_residual-in_err-grants_text.result c.in_err-grants_text.field-0.0 (Sheet fault) IsReadingFault c.from_residual-in_err-grants_text.ensures.1 c.in_err-grants_text.ensures.faults is)
+
+pub returns-in_err-grants_text-clause-grants : goal.returns-in_err-grants_text-clause-grants
+returns-in_err-grants_text-clause-grants g c fault is sheet_text grants_text sheet_known grants_known =
+    absurd (kind_told c.from_residual-in_err-grants_text.result c.in_err-grants_text.field-0.0 (Grants fault) IsReadingFault c.from_residual-in_err-grants_text.ensures.1 c.in_err-grants_text.ensures.faults is)
+
+pub returns-in_err-grants_text-clause-write_fault : goal.returns-in_err-grants_text-clause-write_fault
+returns-in_err-grants_text-clause-write_fault g c is =
+    absurd (kind_told c.from_residual-in_err-grants_text.result c.in_err-grants_text.field-0.0 WriteFault IsReadingFault c.from_residual-in_err-grants_text.ensures.1 c.in_err-grants_text.ensures.faults is)
+
+pub returns-in_err-verdict-clause-sheet : goal.returns-in_err-verdict-clause-sheet
+returns-in_err-verdict-clause-sheet g c fault is text known =
+    absurd (kind_told c.from_residual-in_err-verdict.result c.in_err-verdict.field-0.0 (Sheet fault) IsGrantsJudgement c.from_residual-in_err-verdict.ensures.1 c.in_err-verdict.ensures.faults is)
+
+pub returns-in_err-verdict-clause-too_long : goal.returns-in_err-verdict-clause-too_long
+returns-in_err-verdict-clause-too_long g c is =
+    absurd (kind_told c.from_residual-in_err-verdict.result c.in_err-verdict.field-0.0 TooLong IsGrantsJudgement c.from_residual-in_err-verdict.ensures.1 c.in_err-verdict.ensures.faults is)
+
+pub returns-in_err-verdict-clause-read_fault : goal.returns-in_err-verdict-clause-read_fault
+returns-in_err-verdict-clause-read_fault g c is =
+    absurd (kind_told c.from_residual-in_err-verdict.result c.in_err-verdict.field-0.0 ReadFault IsGrantsJudgement c.from_residual-in_err-verdict.ensures.1 c.in_err-verdict.ensures.faults is)
+
+pub returns-in_err-verdict-clause-write_fault : goal.returns-in_err-verdict-clause-write_fault
+returns-in_err-verdict-clause-write_fault g c is =
+    absurd (kind_told c.from_residual-in_err-verdict.result c.in_err-verdict.field-0.0 WriteFault IsGrantsJudgement c.from_residual-in_err-verdict.ensures.1 c.in_err-verdict.ensures.faults is)
+
+pub returns-in_err-write_whole-clause-sheet : goal.returns-in_err-write_whole-clause-sheet
+returns-in_err-write_whole-clause-sheet g c fault is text known =
+    let told : (Sheet fault) ≡ WriteFault = kind_told c.from_residual-in_err-write_whole.result c.in_err-write_whole.field-0.0 (Sheet fault) (λ (f : ProgramFault). f ≡ WriteFault) c.from_residual-in_err-write_whole.ensures.1 c.in_err-write_whole.ensures.write_fault.0 is in absurd (cc)
+
+pub returns-in_err-write_whole-clause-grants : goal.returns-in_err-write_whole-clause-grants
+returns-in_err-write_whole-clause-grants g c fault is sheet_text grants_text sheet_known grants_known =
+    let told : (Grants fault) ≡ WriteFault = kind_told c.from_residual-in_err-write_whole.result c.in_err-write_whole.field-0.0 (Grants fault) (λ (f : ProgramFault). f ≡ WriteFault) c.from_residual-in_err-write_whole.ensures.1 c.in_err-write_whole.ensures.write_fault.0 is in absurd (cc)
+
+pub returns-in_err-write_whole-clause-too_long : goal.returns-in_err-write_whole-clause-too_long
+returns-in_err-write_whole-clause-too_long g c is =
+    let told : TooLong ≡ WriteFault = kind_told c.from_residual-in_err-write_whole.result c.in_err-write_whole.field-0.0 TooLong (λ (f : ProgramFault). f ≡ WriteFault) c.from_residual-in_err-write_whole.ensures.1 c.in_err-write_whole.ensures.write_fault.0 is in absurd (cc)
+
+pub returns-in_err-write_whole-clause-read_fault : goal.returns-in_err-write_whole-clause-read_fault
+returns-in_err-write_whole-clause-read_fault g c is =
+    let told : ReadFault ≡ WriteFault = kind_told c.from_residual-in_err-write_whole.result c.in_err-write_whole.field-0.0 ReadFault (λ (f : ProgramFault). f ≡ WriteFault) c.from_residual-in_err-write_whole.ensures.1 c.in_err-write_whole.ensures.write_fault.0 is in absurd (cc)
+
+pub returns-in_err-sheet_text-clause-too_long : goal.returns-in_err-sheet_text-clause-too_long
+returns-in_err-sheet_text-clause-too_long g c is =
+    inl (c.in_err-sheet_text.ensures.too_long (ap Err (told_as c.from_residual-in_err-sheet_text.result c.in_err-sheet_text.field-0.0 TooLong c.from_residual-in_err-sheet_text.ensures.1 is)))
+
+pub returns-in_err-sheet_text-clause-read_fault : goal.returns-in_err-sheet_text-clause-read_fault
+returns-in_err-sheet_text-clause-read_fault g c is =
+    inl (c.in_err-sheet_text.ensures.read_fault (ap Err (told_as c.from_residual-in_err-sheet_text.result c.in_err-sheet_text.field-0.0 ReadFault c.from_residual-in_err-sheet_text.ensures.1 is)))
+
+pub returns-in_err-sheet_text-clause-long_grants : goal.returns-in_err-sheet_text-clause-long_grants
+returns-in_err-sheet_text-clause-long_grants g c sheet_text text sheet_known sound known more =
+    err_and c.from_residual-in_err-sheet_text.result c.in_err-sheet_text.field-0.0 IsReadingFault c.from_residual-in_err-sheet_text.ensures.1 c.in_err-sheet_text.ensures.faults
+
+pub returns-in_err-grants_text-clause-read_fault : goal.returns-in_err-grants_text-clause-read_fault
+returns-in_err-grants_text-clause-read_fault g c is =
+    inr (c.in_err-grants_text.ensures.read_fault (ap Err (told_as c.from_residual-in_err-grants_text.result c.in_err-grants_text.field-0.0 ReadFault c.from_residual-in_err-grants_text.ensures.1 is)))
+
+pub returns-in_err-grants_text-clause-long_grants : goal.returns-in_err-grants_text-clause-long_grants
+returns-in_err-grants_text-clause-long_grants g c sheet_text text sheet_known sound known more =
+    err_and c.from_residual-in_err-grants_text.result c.in_err-grants_text.field-0.0 IsReadingFault c.from_residual-in_err-grants_text.ensures.1 c.in_err-grants_text.ensures.faults

@@ -1,4 +1,4 @@
-use Rattle.std.proofs.Common.{◌≡◌, ◌∙◌, List, ℕ, Option, sum, sym, ap, subst, arith}
+use Rattle.std.proofs.Common.{◌≡◌, ◌∙◌, length, List, ℕ, Option, sum, sym, ap, subst, arith}
 use Rattle.limit_tree.specs.declared.place.Place.{Place}
 use Rattle.limit_tree.specs.Sharing.{IsWithin, IsBackedBy, IsBest}
 use Rattle.limit_tree.specs.Outline.{limits}
@@ -7,6 +7,25 @@ use Rattle.limit_tree.proofs.Sums.{sum-wanted}
 use Rattle.sheet_commands.specs.Lines.{share_lines}
 use Rattle.sheet_commands.specs.Sharing.{sharing_text}
 use Rattle.sheet_commands.proofs.share.sharing_lines.Goals as goal
+
+pub shares_of-requires-clause-wants : goal.shares_of-requires-clause-wants
+shares_of-requires-clause-wants g c =
+    c.wants.ensures.wants ∙ c.of-leaves.ensures.wants ∙ ap (λ (o : List Place). (limits o).wants) c.tree-2.ensures.tree
+
+pub shares_of-requires-clause-grants : goal.shares_of-requires-clause-grants
+shares_of-requires-clause-grants g c =
+    ap length c.deref.ensures.value ∙ c.in_ok-grants.ensures.within.wanted.leaves
+    ∙ ap (λ (o : List Place). length (limits o).wants) (c.tree.ensures.tree ∙ sym c.tree-2.ensures.tree) ∙ sym (ap length (c.wants.ensures.wants ∙ c.of-leaves.ensures.wants))
+
+pub shares_of-requires-clause-leaves : goal.shares_of-requires-clause-leaves
+shares_of-requires-clause-leaves g c =
+    c.tree.ensures.leaves ∙ sym (ap length (c.wants.ensures.wants ∙ c.of-leaves.ensures.wants ∙ ap (λ (o : List Place). (limits o).wants) c.tree-2.ensures.tree))
+
+pub shares_of-requires-clause-named : goal.shares_of-requires-clause-named
+shares_of-requires-clause-named g c =
+    let named = subst (λ (o : List Place). IsNamed (limits o) c.in_ok-grants.grants.items c.in_ok-grants.certificate) c.tree.ensures.tree c.in_ok-grants.ensures.named in
+    subst (λ (gs : List ℕ). IsNamed (limits c.args.sheet.now.outline) gs c.entries.result.now) (sym c.deref.ensures.value)
+    (subst (λ (es : List (Option ℕ)). IsNamed (limits c.args.sheet.now.outline) c.in_ok-grants.grants.items es) (sym c.entries.ensures.entries) named)
 
 pub shares_of-requires-clause-few : goal.shares_of-requires-clause-few
 shares_of-requires-clause-few g c =

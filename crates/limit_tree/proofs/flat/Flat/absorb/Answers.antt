@@ -7,14 +7,14 @@ use Rattle.limit_tree.proofs.flat.Flat.absorb.Goals as goal
 pub absorb_row-requires-clause-row : goal.absorb_row-requires-clause-row
 absorb_row-requires-clause-row g c = row-one c.deref.result.now c.args.node (subst (λ (ps : List Place). c.args.node < length ps) (sym (c.deref.ensures.value ∙ c.self.view_is)) c.requires.node)
 
-pub returns-clause-value : goal.returns-clause-value
-returns-clause-value g c =
+pub returns-clause-absorbed : goal.returns-clause-absorbed
+returns-clause-absorbed g c =
     let same : c.deref.result.now ≡ c.args.self.now = c.deref.ensures.value ∙ c.self.view_is in
     let flat = subst (λ (ps : List Place). IsFlat ps) c.self.view_is c.self.invariant.flat in
-    c.absorb_row.ensures.value ∙ (ap (λ (ps : List Place). taken_in c.args.level ps c.args.node 1) same ∙ taken-at c.args.level c.args.self.now c.args.node flat.shaped c.requires.node)
+    c.absorb_row.ensures.absorbed ∙ (ap (λ (ps : List Place). taken_in c.args.level ps c.args.node 1) same ∙ taken-at c.args.level c.args.self.now c.args.node flat.shaped c.requires.node)
 
 pub returns-clause-most : goal.returns-clause-most
 returns-clause-most g c =
     let same : c.deref.result.now ≡ c.args.self.now = c.deref.ensures.value ∙ c.self.view_is in
     let value = ap (λ (ps : List Place). taken_in c.args.level ps c.args.node 1) same in
-    omega (arith, c.absorb_row.ensures.value, value, taken-wants c.args.level c.args.self.now c.args.node 1)
+    omega (arith, c.absorb_row.ensures.absorbed, value, taken-wants c.args.level c.args.self.now c.args.node 1)

@@ -11,6 +11,20 @@ use Rattle.share_text.proofs.Placed.{filter_short}
 use Rattle.share_text.proofs.Readings.{few, is_kept, is_sheet, is_sheet_of, leaf_places, leaves_below, numbered}
 use Rattle.share_text.proofs.sheet.Sheet.new.Goals as goal
 
+pub number_places-requires-clause-below : goal.number_places-requires-clause-below
+number_places-requires-clause-below g c =
+    subst (AreBelow c.len.result) (sym c.deref.ensures.value) (subst (λ (n : ℕ). AreBelow n c.args.order.items) (sym c.len.ensures.len) c.requires.read.1.order_below)
+
+pub leaf_places-requires : goal.leaf_places-requires
+leaf_places-requires g c =
+    record { below = subst (AreBelow (length c.args.nodes)) (sym c.deref-2.ensures.value) c.requires.read.1.order_below }
+
+pub numbers_at-requires-clause-below : goal.numbers_at-requires-clause-below
+numbers_at-requires-clause-below g c =
+    let numbers = c.in_ok-leaf_numbers.leaf_numbers in
+    let many : length numbers.items ≡ length c.args.nodes = omega (arith, numbers.ok.0, c.in_ok-leaf_numbers.ensures.length, c.len-2.ensures.len) in
+    subst (λ (n : ℕ). AreBelow n c.args.places.now) (sym (ap length c.deref-4.ensures.value ∙ many)) c.requires.read.1.places_below
+
 pub number_places-requires-clause-few : goal.number_places-requires-clause-few
 number_places-requires-clause-few g c =
     let read = c.requires.read in

@@ -1,4 +1,4 @@
-use Rattle.std.proofs.Common.{◌≡◌, ◌∙◌, ◌-◌, ◌∷◌, ◌++◌, [], ℕ, List, length, map, take, ap, sym, subst, arith}
+use Rattle.std.proofs.Common.{rules, ◌≡◌, ◌<◌, ◌∙◌, ◌-◌, ◌∷◌, ◌++◌, [], ℕ, List, length, map, take, get_or, ap, sym, subst, arith}
 use Rattle.std.specs.Prelude.{flat_map}
 use Rattle.std.proofs.Math.Seq.{take_all}
 use Rattle.limit_tree.specs.Outline.{places}
@@ -15,6 +15,15 @@ loop-kid-init g t c = record {
   built = ap (map places) c.new-kids.ensures.items;
   order = ap (paths_to c.args.self.now) c.in_ok-push.ensures.items ∙ paths_push c.args.self.now c.args.order.now.items c.args.place;
 }
+
+pub build-requires : goal.build-requires
+build-requires g t c =
+    let row = c.kids_to-kid-items.result.now in
+    let i = c.loop-kid.kid-index in
+    let some : 0 < c.args.levels = c.kids_to-kid-items.ensures.levels (omega (arith, c.loop-kid-test.true)) in
+    let falls : c.args.levels - 1 < c.args.levels = omega arith in
+    let place : get_or row i 0 < length c.args.self.now = c.kids_to-kid-items.ensures.below i c.loop-kid-test.true in
+    search (rules, falls, c.requires.rows, place, c.loop-kid.invariant.below)
 
 pub loop-kid-preserved : goal.loop-kid-preserved
 loop-kid-preserved g t c =

@@ -1,9 +1,0 @@
-//! Tests of paths, by their public calls alone.
-#![tactic(auto)]
-
-#[cfg(test)]
-mod lines;
-#[cfg(test)]
-mod paths;
-#[cfg(test)]
-mod shortages;

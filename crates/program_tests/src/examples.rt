@@ -1,0 +1,21 @@
+//! The texts that tests speak of.
+
+pub(crate) static LUNCH: &[u8] = b"limit / 10\nwant /a 10\nwant /b 10\nwant /c 10\n";
+
+pub(crate) static LUNCH_LINES: &[u8] =
+    b"/a 4 of 10 full /\n/b 3 of 10 full /\n/c 3 of 10 full /\ntotal 10\n";
+
+pub(crate) static LUNCH_GRANTS: &[u8] = b"grant /a 4 /\ngrant /b 3 /\ngrant /c 3 /\n";
+
+/// A configuration of one user, and the same in version 2.
+pub(crate) static CONFIG: &[u8] =
+    b"version = 1\n[server]\nroot = \"memory\"\npassive_last = 40001\npassive_first = 40000\n[[user]]\nname = \"ann\"\npassword = \"secret\"\nhome = \"/\"\n";
+
+pub(crate) static MIGRATED: &[u8] =
+    b"version = 2\n\n[server]\npassive_first = 40000\npassive_last = 40001\nroot = \"memory\"\n\n[[user]]\nhome = \"/\"\nname = \"ann\"\npassword = \"secret\"\n";
+
+pub(crate) static LOGIN: &[u8] = b"USER ann\r\nPASS secret\r\nPWD\r\n";
+
+/// The replies to that login.
+pub(crate) static WELCOME: &[u8] =
+    b"220 Ready\r\n331 Password required\r\n230 Welcome\r\n257 \"/\"\r\n";

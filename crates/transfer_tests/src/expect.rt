@@ -1,0 +1,30 @@
+//! What tests expect. A call costs the prover less than an `assert!` in its place.
+
+ghost use Rattle.std.specs.Prelude.{IsTrue};
+
+use grant_ledger::{Book, Settled, Tally, settle};
+use std::process::Abort;
+
+/// Stops the test where this does not hold.
+pub(crate) fn holds(rt: &impl Abort, fact: bool)
+    ensures so { IsTrue fact }
+{
+    assert!(rt; fact);
+}
+
+/// Settles, and stops the test where the numbers are others.
+pub(crate) fn settles(
+    rt: &impl Abort,
+    book: Book,
+    tally: Tally,
+    issued: u64,
+    moved: u64,
+    back: u64,
+) {
+    let wanted = Settled {
+        issued,
+        moved,
+        back,
+    };
+    assert_eq!(rt; settle(book, tally), wanted);
+}

@@ -2,9 +2,12 @@
 //! and runs transfers, and what it releases.
 //!
 //! ```text
-//! let text = said(alloc, &actions)?;       // the replies, to be written at once
-//! release(&mut floors, &actions);          // what users who left were guaranteed
-//! let answer = serve(&mut side, actions);  // one call for each action that asks for one, in order
+//! let text = said(rt.alloc(), &actions).expect(rt, "memory"); // the replies, to be written at once
+//! same(rt, &text, b"");
+//! release(floors, &actions); // what users who left were guaranteed
+//! let mut side = ScriptSide { port: 40_000 };
+//! let answer = serve(&mut side, actions); // one call for each action that asks for one, in order
+//! holds(rt, matches!(answer, Some(Input::DataReady(Some(40_000))))); // it is the next input
 //! ```
 #![tactic(auto)]
 

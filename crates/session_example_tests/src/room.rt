@@ -45,7 +45,7 @@ fn make_users(rt: &(impl Abort + AllocGlobal)) -> Authorizer {
     users
 }
 
-fn make_floors(rt: &(impl Abort + AllocGlobal)) -> Floors {
+pub(crate) fn make_floors(rt: &(impl Abort + AllocGlobal)) -> Floors {
     let alloc = rt.alloc();
     let limits = Limits::of(0, 0, 0, Vec::new(alloc), Vec::new(alloc)).expect(rt, "no limits");
     Floors::of(alloc, &limits).expect(rt, "memory")

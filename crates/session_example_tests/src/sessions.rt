@@ -1,20 +1,22 @@
 //! Whole sessions: examples that bear the names of their crates.
 
-ghost use Rattle.std.specs.Prelude.{◌≡◌, ◌<◌};
+ghost use Rattle.std.specs.Prelude.{◌≡◌, ◌≤◌, ◌<◌};
+ghost use Rattle.session_laws.specs.Laws.{asking};
 
 use crate::expect::{holds, same};
-use crate::room::{PEER, Room, make_room, says, settings};
+use crate::room::{Actions, PEER, Room, make_floors, make_room, says, settings};
 use authorizer::Authorizer;
 use configured_session::serve_config;
 use control_session::{ControlFault, Reads, run_control};
 use control_turns::{TurnFault, take_lines};
+use data_side::{release, said, serve};
 use ftp_wire::{Command, LineItem};
 use memory_store::MemStore;
 use rate_floors::Floors;
 use script_session::{ScriptSide, StillClock, serve_text};
 use server_config::Config;
 use session_core::Session;
-use session_table::Input;
+use session_table::{Action, Input};
 use std::alloc::AllocError;
 use std::marker::Brand;
 use std::process::Abort;
@@ -132,6 +134,25 @@ fn script_session(
         b"220 Ready\r\n331 Password required\r\n230 Welcome\r\n",
     );
     Ok(())
+}
+
+/// Among these actions one at most asks for an answer, as a law says of those of a step.
+fn data_side(rt: &(impl Abort + AllocGlobal), floors: &mut Floors, actions: Actions)
+    requires few { asking actions.items ≤ 1 }
+{
+    let text = said(rt.alloc(), &actions).expect(rt, "memory"); // the replies, to be written at once
+    same(rt, &text, b"");
+    release(floors, &actions); // what users who left were guaranteed
+    let mut side = ScriptSide { port: 40_000 };
+    let answer = serve(&mut side, actions); // one call for each action that asks for one, in order
+    holds(rt, matches!(answer, Some(Input::DataReady(Some(40_000))))); // it is the next input
+}
+
+#[test]
+fn a_passive_port(rt: HostRuntime) {
+    let mut actions: Actions = Vec::new(rt.alloc());
+    actions.push(Action::OpenPassive).expect(&rt, "memory");
+    data_side(&rt, &mut make_floors(&rt), actions);
 }
 
 fn in_room(rt: &(impl Abort + AllocGlobal), room: &mut Room, items: Vec<LineItem>) {

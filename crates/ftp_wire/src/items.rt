@@ -2,7 +2,7 @@
 
 ghost use Rattle.std.specs.Prelude.{◌≡◌, Err, IfOk, Ok, Option, Some, option_map, string_bytes};
 ghost use Rattle.ftp_wire.specs.Commands.{bare_command, listing_command, optional_command, text_command, with_texts};
-ghost use Rattle.ftp_wire.specs.Items.{absent_item, argument_item, form_command, line_item, text_item, with_command, without_cr, words_item};
+ghost use Rattle.ftp_wire.specs.Items.{absent_item, argument_item, form_command, line_item, text_item, verb_item, with_command, without_cr, words_item};
 ghost use Rattle.ftp_wire.specs.Reading.{item_of};
 
 use crate::arguments::{
@@ -11,7 +11,7 @@ use crate::arguments::{
 use crate::commands::{Command, ExtendedPassive};
 use crate::faults::LineFault;
 use crate::ports::{read_eprt, read_port};
-use crate::table::{Form, Known, Verb, verb_of};
+use crate::table::{Form, Known, Listing, Optional, Text, Verb, verb_of};
 use crate::verbs::{bare_command, listing_command, optional_command, text_command};
 use crate::words::{is_blank, split_word, text_of};
 use std::alloc::{AllocError, Allocator, Global};
@@ -77,25 +77,50 @@ fn passive_item<A: Allocator>(text: &str) -> LineItem<A>
     }
 }
 
+/// The item of a command that needs a text.
+fn needed_item<A: Allocator>(alloc: A, verb: Text, text: &str) -> Result<LineItem<A>, AllocError>
+    ensures item { IfOk result (λ item. item_of item ≡ Ok (text_command verb text.now)) }
+{
+    let text = String::from_str(alloc, text)?;
+    Ok(LineItem::Command(text_command(verb, text)))
+}
+
+/// The item of a command that may have a text, and has one.
+fn optional_item<A: Allocator>(
+    alloc: A,
+    verb: Optional,
+    text: &str,
+) -> Result<LineItem<A>, AllocError>
+    ensures item { IfOk result
+        (λ item. item_of item ≡ Ok (optional_command verb (Some text.now))) }
+{
+    let text = String::from_str(alloc, text)?;
+    Ok(LineItem::Command(optional_command(verb, Some(text))))
+}
+
+/// The item of a command that may have a text behind its switches.
+fn listing_item<A: Allocator>(
+    alloc: A,
+    verb: Listing,
+    text: Option<&str>,
+) -> Result<LineItem<A>, AllocError>
+    ensures item { IfOk result (λ item. item_of item
+        ≡ Ok (listing_command verb (option_map (λ t. t.now) text.entry))) }
+{
+    let text = copied(alloc, text)?;
+    Ok(LineItem::Command(listing_command(verb, text)))
+}
+
 /// The item of a command with a text.
 fn text_item<A: Allocator>(alloc: A, verb: Verb, text: &str) -> Result<LineItem<A>, AllocError>
     ensures item { IfOk result (λ item. item_of item ≡ text_item verb text.now) }
 {
     match verb {
         Verb::Bare(_) => Ok(LineItem::Fault(LineFault::ArgumentUnwanted)),
-        Verb::Text(verb) => {
-            let text = String::from_str(alloc, text)?;
-            Ok(LineItem::Command(text_command(verb, text)))
-        }
+        Verb::Text(verb) => needed_item(alloc, verb, text),
         Verb::Form(verb) => Ok(from_result(form_command(verb, text))),
-        Verb::Optional(verb) => {
-            let text = copied(alloc, Some(text))?;
-            Ok(LineItem::Command(optional_command(verb, text)))
-        }
-        Verb::Listing(verb) => {
-            let text = copied(alloc, without_switches(text))?;
-            Ok(LineItem::Command(listing_command(verb, text)))
-        }
+        Verb::Optional(verb) => optional_item(alloc, verb, text),
+        Verb::Listing(verb) => listing_item(alloc, verb, without_switches(text)),
         Verb::Epsv => Ok(passive_item(text)),
     }
 }
@@ -130,6 +155,17 @@ fn absent_item<A: Allocator>(verb: Verb) -> LineItem<A>
     }
 }
 
+/// The item of a command and its argument, which counts as absent where it is blank.
+fn verb_item<A: Allocator>(alloc: A, verb: Verb, argument: &[u8]) -> Result<LineItem<A>, AllocError>
+    ensures item { IfOk result (λ item. item_of item ≡ verb_item verb argument.now) }
+{
+    if is_blank(argument) {
+        Ok(absent_item(verb))
+    } else {
+        argument_item(alloc, verb, argument)
+    }
+}
+
 /// The item of a line without its end.
 #[tactic(auto, unfolding(crate::specs::Items::words_item))]
 fn read_words<A: Allocator>(alloc: A, line: &[u8]) -> Result<LineItem<A>, AllocError>
@@ -142,13 +178,7 @@ fn read_words<A: Allocator>(alloc: A, line: &[u8]) -> Result<LineItem<A>, AllocE
     match verb_of(code) {
         None => Ok(LineItem::Fault(LineFault::Unknown)),
         Some(Known::NotServed) => Ok(LineItem::Fault(LineFault::NotServed)),
-        Some(Known::Served(verb)) => {
-            if is_blank(argument) {
-                Ok(absent_item(verb))
-            } else {
-                argument_item(alloc, verb, argument)
-            }
-        }
+        Some(Known::Served(verb)) => verb_item(alloc, verb, argument),
     }
 }
 

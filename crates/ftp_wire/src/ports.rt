@@ -1,7 +1,7 @@
 //! Reads where the server is to connect to.
 
-ghost use Rattle.std.specs.Prelude.{◌≡◌, ◌∷◌, [], List, ℕ, MatchOption};
-ghost use Rattle.ftp_wire.specs.Arguments.{extended_parts, extended_port_of, host_of, host_port, ipv4, octet_of, parts_at, port_of};
+ghost use Rattle.std.specs.Prelude.{◌≡◌, ◌≤◌, ◌∷◌, [], List, ℕ, MatchOption, length};
+ghost use Rattle.ftp_wire.specs.Arguments.{extended_parts, extended_port_of, host, host_of, host_port, ipv4, octet_of, parts_at, port_of};
 ghost use Rattle.ftp_wire.specs.Words.{comma};
 
 use crate::arguments::{number_cut, number_up_to};
@@ -34,15 +34,30 @@ fn last_part(text: &[u8], wanted: u8) -> Option<&[u8]>
     }
 }
 
-fn host_port(text: &[u8]) -> Option<HostPort>
-    ensures port { result ≡ host_port (parts_at comma text.now) }
+/// The first three parts, where something follows them, and what does.
+fn three_parts(text: &[u8], wanted: u8) -> Option<(&[u8], &[u8], &[u8], &[u8])>
+    ensures parts { MatchOption result (length (parts_at wanted text.now) ≤ 3)
+        (λ part. parts_at wanted text.now
+        ≡ part.0.now ∷ part.1.now ∷ part.2.now ∷ parts_at wanted part.3.now) }
 {
-    let (h1, rest) = split_part(text, b',')?;
-    let (h2, rest) = split_part(rest, b',')?;
-    let (h3, rest) = split_part(rest, b',')?;
-    let (h4, rest) = split_part(rest, b',')?;
-    let (p1, rest) = split_part(rest, b',')?;
-    let p2 = last_part(rest, b',')?;
+    let (first, rest) = split_part(text, wanted)?;
+    let (second, rest) = split_part(rest, wanted)?;
+    let (third, rest) = split_part(rest, wanted)?;
+    Some((first, second, third, rest))
+}
+
+/// The host and the port of six parts.
+fn port_of_parts(
+    h1: &[u8],
+    h2: &[u8],
+    h3: &[u8],
+    h4: &[u8],
+    p1: &[u8],
+    p2: &[u8],
+) -> Option<HostPort>
+    ensures port { result
+        ≡ host_port (h1.now ∷ h2.now ∷ h3.now ∷ h4.now ∷ p1.now ∷ p2.now ∷ []) }
+{
     let address = [octet_of(h1)?, octet_of(h2)?, octet_of(h3)?, octet_of(h4)?];
     let high = u16::from(octet_of(p1)?);
     let low = u16::from(octet_of(p2)?);
@@ -50,6 +65,17 @@ fn host_port(text: &[u8]) -> Option<HostPort>
         address,
         port: high * 256 + low,
     })
+}
+
+/// The host and the port of a text with a comma between its six parts.
+fn host_port(text: &[u8]) -> Option<HostPort>
+    ensures port { result ≡ host_port (parts_at comma text.now) }
+{
+    let (h1, h2, h3, rest) = three_parts(text, b',')?;
+    let (h4, rest) = split_part(rest, b',')?;
+    let (p1, rest) = split_part(rest, b',')?;
+    let p2 = last_part(rest, b',')?;
+    port_of_parts(h1, h2, h3, h4, p1, p2)
 }
 
 /// The argument of PORT: an address and a port, or `BadArgument` (RFC 959, section 5.3.2).
@@ -63,19 +89,24 @@ pub fn read_port(text: &str) -> Result<HostPort, LineFault>
     }
 }
 
-#[tactic(auto, unfolding(crate::specs::Arguments::host_of))]
-fn host_of(text: &[u8]) -> Option<[u8; 4]>
-    ensures host { result ≡ host_of text.now }
+/// The host of four parts.
+fn host_of_parts(h1: &[u8], h2: &[u8], h3: &[u8], h4: &[u8]) -> Option<[u8; 4]>
+    ensures host { result ≡ host (h1.now ∷ h2.now ∷ h3.now ∷ h4.now ∷ []) }
 {
-    let (h1, rest) = split_part(text, b'.')?;
-    let (h2, rest) = split_part(rest, b'.')?;
-    let (h3, rest) = split_part(rest, b'.')?;
-    let h4 = last_part(rest, b'.')?;
     let h1 = number_up_to(255, h1)? as u8;
     let h2 = number_up_to(255, h2)? as u8;
     let h3 = number_up_to(255, h3)? as u8;
     let h4 = number_up_to(255, h4)? as u8;
     Some([h1, h2, h3, h4])
+}
+
+#[tactic(auto, unfolding(crate::specs::Arguments::host_of))]
+fn host_of(text: &[u8]) -> Option<[u8; 4]>
+    ensures host { result ≡ host_of text.now }
+{
+    let (h1, h2, h3, rest) = three_parts(text, b'.')?;
+    let h4 = last_part(rest, b'.')?;
+    host_of_parts(h1, h2, h3, h4)
 }
 
 fn ipv4(address: &[u8], port: &[u8]) -> Option<ExtendedPort>

@@ -54,8 +54,8 @@ pub fn listing_command<T>(verb: Listing, text: Option<T>) -> Command<T>
     with_served!(command Listing verb text)
 }
 
-/// The code of a command and its text, if it has one, by the rows of all kinds.
-macro_rules! parts {
+/// The code of a command, by the rows of all kinds.
+macro_rules! codes {
     ($command:ident:
         Bare { $($bare:ident $bare_code:literal)* }
         Text { $($text:ident $text_code:literal)* }
@@ -64,20 +64,44 @@ macro_rules! parts {
         Listing { $($listing:ident $listing_code:literal)* }
     ) => {
         match $command {
-            $(Command::$bare => ($bare_code, None),)*
-            $(Command::$text(text) => ($text_code, Some(text)),)*
-            $(Command::$form { .. } => ($form_code, None),)*
-            $(Command::$optional(text) => ($optional_code, text.as_ref()),)*
-            $(Command::$listing(text) => ($listing_code, text.as_ref()),)*
-            Command::Epsv(_) => ("EPSV", None),
+            $(Command::$bare => $bare_code,)*
+            $(Command::$text(_) => $text_code,)*
+            $(Command::$form { .. } => $form_code,)*
+            $(Command::$optional(_) => $optional_code,)*
+            $(Command::$listing(_) => $listing_code,)*
+            Command::Epsv(_) => "EPSV",
         }
     };
 }
 
-/// The code of a command, in capitals and without an X, and its text, if it has one.
-pub fn parts<T>(command: &Command<T>) -> (&'static str, Option<&T>)
-    ensures code { result.0.now ≡ code (verb_of command.now) }
-    ensures text { option_map (λ t. t.now) result.1 ≡ text_argument command.now }
+/// The code of a command, in capitals and without an X.
+pub fn code_of<T>(command: &Command<T>) -> &'static str
+    ensures code { result.now ≡ code (verb_of command.now) }
 {
-    with_served!(parts command)
+    with_served!(codes command)
+}
+
+/// The text of a command, if it has one, by the rows of the kinds that have one.
+macro_rules! texts {
+    ($command:ident:
+        Bare $bare:tt
+        Text { $($text:ident $text_code:literal)* }
+        Form $form:tt
+        Optional { $($optional:ident $optional_code:literal)* }
+        Listing { $($listing:ident $listing_code:literal)* }
+    ) => {
+        match $command {
+            $(Command::$text(text) => Some(text),)*
+            $(Command::$optional(text) => text.as_ref(),)*
+            $(Command::$listing(text) => text.as_ref(),)*
+            _ => None,
+        }
+    };
+}
+
+/// The text of a command, if it has one.
+pub fn argument_of<T>(command: &Command<T>) -> Option<&T>
+    ensures text { option_map (λ t. t.now) result ≡ text_argument command.now }
+{
+    with_served!(texts command)
 }

@@ -1,6 +1,6 @@
 //! Writes commands.
 
-ghost use Rattle.std.specs.Prelude.{◌≡◌, ◌∷◌, [], IfOk, Ok, option_map, string_bytes};
+ghost use Rattle.std.specs.Prelude.{◌≡◌, ◌∷◌, [], IfOk, Ok, Some, option_map, string_bytes};
 ghost use Rattle.ftp_reply.specs.Written.{Appends};
 ghost use Rattle.ftp_wire.specs.Commands.{with_texts};
 ghost use Rattle.ftp_wire.specs.Given.{CanBeReadBack};
@@ -9,7 +9,7 @@ ghost use Rattle.ftp_wire.specs.Written.{argument_part, extended_passive_text, e
 
 use crate::commands::{Command, ExtendedPassive, ExtendedPort, FeatureOption, HostPort};
 use crate::texts::{push_facts, push_port};
-use crate::verbs::parts;
+use crate::verbs::{argument_of, code_of};
 use ftp_terms::{DataType, Facts};
 use std::alloc::{AllocError, Allocator};
 use std::fmt::Write;
@@ -23,20 +23,22 @@ fn type_text(data_type: DataType) -> &'static str
     }
 }
 
+/// Adds a space and the argument of EPRT.
 #[tactic(auto, unfolding(crate::specs::Written::extended_port_text))]
 fn push_extended_port<A: Allocator>(
     out: &mut String<A>,
     port: &ExtendedPort,
 ) -> Result<(), AllocError>
-    ensures appended { Appends result out.old out.new (extended_port_text port.now) }
+    ensures appended { Appends result out.old out.new
+        (argument_part (Some (extended_port_text port.now))) }
 {
     match port {
         ExtendedPort::Ipv4(host) => {
             let [a, b, c, d] = host.address;
             let port = host.port;
-            write!(out, "|1|{a}.{b}.{c}.{d}|{port}|")
+            write!(out, " |1|{a}.{b}.{c}.{d}|{port}|")
         }
-        ExtendedPort::Unsupported(protocol) => write!(out, "|{protocol}|||"),
+        ExtendedPort::Unsupported(protocol) => write!(out, " |{protocol}|||"),
     }
 }
 
@@ -60,17 +62,19 @@ fn has_facts(facts: Facts) -> bool
     facts.kind || facts.size || facts.modify || facts.perm
 }
 
+/// Adds a space and the argument of OPTS.
 #[tactic(auto, unfolding(crate::specs::Written::option_text))]
 fn push_option<A: Allocator>(out: &mut String<A>, option: FeatureOption) -> Result<(), AllocError>
-    ensures appended { Appends result out.old out.new (option_text option) }
+    ensures appended { Appends result out.old out.new
+        (argument_part (Some (option_text option))) }
 {
     match option {
-        FeatureOption::Utf8On => out.push_str("UTF8 ON"),
+        FeatureOption::Utf8On => out.push_str(" UTF8 ON"),
         FeatureOption::Mlst(facts) => {
             if !has_facts(facts) {
-                return out.push_str("MLST");
+                return out.push_str(" MLST");
             }
-            out.push_str("MLST ")?;
+            out.push_str(" MLST ")?;
             push_facts(out, facts)
         }
     }
@@ -81,26 +85,17 @@ fn push_form<A: Allocator, T>(out: &mut String<A>, command: &Command<T>) -> Resu
     ensures appended { Appends result out.old out.new (argument_part (form_argument command.now)) }
 {
     match command {
-        Command::SetType(data_type) => {
-            out.push_str(" ")?;
-            out.push_str(type_text(*data_type))
-        }
+        Command::SetType(data_type) => write!(out, " {}", type_text(*data_type)),
         Command::Mode => out.push_str(" S"),
         Command::Stru => out.push_str(" F"),
         Command::Port(port) => {
             out.push_str(" ")?;
             push_port(out, port)
         }
-        Command::Eprt(port) => {
-            out.push_str(" ")?;
-            push_extended_port(out, port)
-        }
+        Command::Eprt(port) => push_extended_port(out, port),
         Command::Epsv(passive) => push_passive(out, *passive),
         Command::Rest(offset) => write!(out, " {offset}"),
-        Command::Opts(option) => {
-            out.push_str(" ")?;
-            push_option(out, *option)
-        }
+        Command::Opts(option) => push_option(out, *option),
         _ => Ok(()),
     }
 }
@@ -122,6 +117,20 @@ fn push_text<A: Allocator, B: Allocator>(
     }
 }
 
+/// Adds the line of a command.
+fn push_command<A: Allocator, B: Allocator>(
+    out: &mut String<A>,
+    command: &Command<String<B>>,
+) -> Result<(), AllocError>
+    ensures appended { Appends result out.old out.new
+        (written (with_texts string_bytes command.now)) }
+{
+    out.push_str(code_of(command))?;
+    push_text(out, argument_of(command))?;
+    push_form(out, command)?;
+    out.push_str("\r\n")
+}
+
 /// The line of a command: its code in capitals and without an X, a space and the argument where there is one,
 /// CR and LF.
 ///
@@ -137,11 +146,7 @@ pub fn write_command<A: Allocator, B: Allocator>(
         → IfOk result
         (λ line. OnlyReadsAs line.items (Ok (with_texts string_bytes command.now) ∷ [])) }
 {
-    let (code, text) = parts(command);
     let mut out = String::new(alloc);
-    out.push_str(code)?;
-    push_text(&mut out, text)?;
-    push_form(&mut out, command)?;
-    out.push_str("\r\n")?;
+    push_command(&mut out, command)?;
     Ok(out.into_bytes())
 }

@@ -8,7 +8,7 @@ use Rattle.ftp_wire.specs.declared.commands.Command.TheVariants as command
 use Rattle.ftp_wire.specs.declared.items.LineItem.{LineItem}
 use Rattle.rate_floors.specs.Promises.{Promises}
 use Rattle.session_core.specs.Counted.{counted_by_command, counted_by_item}
-use Rattle.session_core.specs.Turns.{asks_store, closed_at, gives_up, ready_at, ready_in, taken_by, turn_of}
+use Rattle.session_core.specs.Turns.{asks_store, closed_at, gives_up, is_login, ready_at, ready_in, taken_by, turn_of}
 use Rattle.session_core.specs.declared.turns.Turn.{Turn}
 use Rattle.session_core.specs.declared.turns.Turn.TheVariants as turn
 use Rattle.session_table.specs.declared.refusals.Refusal.{Refusal}
@@ -178,6 +178,11 @@ at_once_counts_none users view _ promises is = refl
 pub asking_counts_none : (users : Users) (view : View) (line : Line) (promises : Promises) → asks_store line ≡ true → counted_by_command users view line promises ≡ promises
 asking_counts_none users view (command.Pass text) promises is = absurd (false≢true is)
 asking_counts_none users view _ promises is = refl
+
+-- nor does one that is none of logins
+pub settled_counts_none : (users : Users) (view : View) (line : Line) (promises : Promises) → is_login line ≡ false → counted_by_command users view line promises ≡ promises
+settled_counts_none users view (command.Pass text) promises is = absurd (true≢false is)
+settled_counts_none users view _ promises is = refl
 
 abbrev is_good : {X Y : Type 0} → Result X Y → Bool
 is_good (Ok x) = true

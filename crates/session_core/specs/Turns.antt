@@ -39,6 +39,34 @@ asks_store (command.Stor _) = true
 asks_store (command.Appe _) = true
 asks_store _ = false
 
+-- the row of the command may keep a path of its location
+abbrev pub keeps_path : {T : Type 0} → Command T → Bool
+keeps_path (command.Cwd _) = true
+keeps_path command.Cdup = true
+keeps_path (command.Rnfr _) = true
+keeps_path (command.Retr _) = true
+keeps_path (command.Stor _) = true
+keeps_path (command.Appe _) = true
+keeps_path _ = false
+
+-- the row of the command is one of logins
+abbrev pub is_login : {T : Type 0} → Command T → Bool
+is_login (command.User _) = true
+is_login (command.Pass _) = true
+is_login command.Quit = true
+is_login command.Rein = true
+is_login _ = false
+
+-- the row of the command is on data connections
+abbrev pub is_on_data : {T : Type 0} → Command T → Bool
+is_on_data (command.SetType _) = true
+is_on_data (command.Rest _) = true
+is_on_data (command.Port _) = true
+is_on_data (command.Eprt _) = true
+is_on_data command.Pasv = true
+is_on_data (command.Epsv _) = true
+is_on_data _ = false
+
 -- what becomes of a line while something has begun
 abbrev pub turn_of : Item → Turn
 turn_of (Ok command.Abor) = turn.AtOnce

@@ -57,7 +57,7 @@ impl<A: Allocator + Clone> Session<A> {
     ghost use Rattle.session_table.specs.Plans.Plan.{Then};
     ghost use Rattle.session_table.specs.StateRows.{greeting};
     ghost use Rattle.session_laws.specs.Steps.{SessionStops, Took, counts_lines, is_due};
-    ghost use Rattle.session_table.specs.Table.{SessionStep, holds, meanwhile};
+    ghost use Rattle.session_table.specs.Table.{SessionStep, holds, idle, meanwhile};
     ghost use Rattle.session_table.specs.Views.{fresh, is_closed};
 
     /// A session as it begins, of a client at this address.
@@ -120,6 +120,22 @@ impl<A: Allocator + Clone> Session<A> {
         Ok(actions)
     }
 
+    /// A line more waits, behind those that do.
+    fn keep<R: Drop, K: Drop>(
+        &mut self,
+        item: LineItem<A>,
+    ) -> Result<Vec<Action<A, R, K>, A>, AllocError>
+        ensures row { IfOk result (λ actions.
+            IsTaken
+            (record { plan = idle self.old.view; held = self.old.held ++ item_of item ∷ [] })
+            self.new actions.items) }
+        ensures unchanged { OnErr result (self.new ≡ self.old) }
+    {
+        let actions = self.nothing()?;
+        self.held.push(item)?;
+        Ok(actions)
+    }
+
     /// A line that must wait, behind those that do; the 17th ends the control connection.
     fn hold<R: Drop, K: Drop>(
         &mut self,
@@ -130,11 +146,10 @@ impl<A: Allocator + Clone> Session<A> {
         ensures unchanged { OnErr result (self.new ≡ self.old) }
     {
         if self.held.len() >= MOST_HELD {
+            drop(item);
             return self.give_up();
         }
-        let actions = self.nothing()?;
-        self.held.push(item)?;
-        Ok(actions)
+        self.keep(item)
     }
 
     /// A line while something has begun.

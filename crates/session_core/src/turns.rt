@@ -4,7 +4,7 @@ ghost use Rattle.std.specs.Prelude.{◌≡◌};
 ghost use Rattle.std.specs.String.{string_bytes};
 ghost use Rattle.ftp_wire.specs.Commands.{with_texts};
 ghost use Rattle.ftp_wire.specs.Reading.{item_of};
-ghost use Rattle.session_core.specs.Turns.{asks_store, turn_of};
+ghost use Rattle.session_core.specs.Turns.{asks_store, is_login, is_on_data, keeps_path, turn_of};
 
 use ftp_wire::{Command, LineItem};
 use std::alloc::Allocator;
@@ -33,6 +33,46 @@ pub(crate) fn asks_store<A: Allocator>(command: &Command<String<A>>) -> bool
         | Command::Appe(_) => true,
         _ => false,
     }
+}
+
+/// Whether the row of a command may keep a path of its location.
+pub(crate) fn keeps_path<A: Allocator>(command: &Command<String<A>>) -> bool
+    ensures keeps { result ≡ keeps_path (with_texts string_bytes command.now) }
+{
+    matches!(
+        command,
+        Command::Cwd(_)
+            | Command::Cdup
+            | Command::Rnfr(_)
+            | Command::Retr(_)
+            | Command::Stor(_)
+            | Command::Appe(_)
+    )
+}
+
+/// Whether the row of a command is one of logins.
+pub(crate) fn is_login<A: Allocator>(command: &Command<String<A>>) -> bool
+    ensures login { result ≡ is_login (with_texts string_bytes command.now) }
+{
+    matches!(
+        command,
+        Command::User(_) | Command::Pass(_) | Command::Quit | Command::Rein
+    )
+}
+
+/// Whether the row of a command is on data connections.
+pub(crate) fn is_on_data<A: Allocator>(command: &Command<String<A>>) -> bool
+    ensures data { result ≡ is_on_data (with_texts string_bytes command.now) }
+{
+    matches!(
+        command,
+        Command::SetType(_)
+            | Command::Rest(_)
+            | Command::Port(_)
+            | Command::Eprt(_)
+            | Command::Pasv
+            | Command::Epsv(_)
+    )
 }
 
 /// What becomes of a line while something has begun.

@@ -5,8 +5,9 @@ ghost use Rattle.session_table.specs.declared.actions.Action.TheVariants.{Abort}
 ghost use Rattle.session_table.specs.Plans.Plan.{Then};
 ghost use Rattle.session_table.specs.Table.{closed_row};
 
+use crate::ends::room;
 use session_login::put_leaving;
-use session_state::{State, put, with_room};
+use session_state::{State, put};
 use session_table::{Action, HookCall, Text};
 use std::alloc::{AllocError, Allocator};
 
@@ -29,8 +30,8 @@ pub fn close<A: Allocator + Clone, R: Drop, K: Drop>(
     ensures row { IfOk result (λ actions. Then state.new actions.items ≡ closed_row state.old) }
     ensures unchanged { OnErr result (state.new ≡ state.old) }
 {
+    let mut actions = room(state, 4)?;
     let nobody = Text::empty(state.alloc()?);
-    let mut actions = with_room(state.alloc()?, 4)?;
     let was_inside = state.is_inside();
     let number = state.number();
     put_abort(&mut actions, state.runs());

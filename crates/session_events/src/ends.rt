@@ -4,7 +4,7 @@ ghost use Rattle.std.specs.Prelude.{◌≡◌, ◌≤◌, ◌<◌, ◌+◌, ◌+
 ghost use Rattle.session_table.specs.Plans.{Ran};
 ghost use Rattle.session_table.specs.Plans.Plan.{Then};
 ghost use Rattle.session_table.specs.StateRows.{farewell};
-ghost use Rattle.session_table.specs.Table.{and_quits, end_hook, end_reply, end_row, end_told, ended_row};
+ghost use Rattle.session_table.specs.Table.{and_quits, end_hook, end_reply, end_row, end_told, ended_row, ended_with};
 ghost use Rattle.session_table.specs.Views.{carried};
 ghost use Rattle.session_table.specs.Views.Begun.{Idle};
 
@@ -14,6 +14,18 @@ use session_state::{State, put, with_room};
 use session_table::{Action, Answer, Control, End, Errand, HookCall, Notice, Refusal, Stage};
 use std::alloc::{AllocError, Allocator};
 use virtual_tree::{Store, StoreFault};
+
+/// Room for so many actions.
+pub(crate) fn room<A: Allocator + Clone, R: Drop, K: Drop>(
+    state: &State<A>,
+    count: usize,
+) -> Result<Vec<Action<A, R, K>, A>, AllocError>
+    ensures empty { IfOk result (λ actions. actions.items ≡ []) }
+    ensures len { IfOk result (λ actions. vec_len actions ≡ 0) }
+    ensures room { IfOk result (λ actions. vec_capacity actions ≡ count) }
+{
+    with_room(state.alloc()?, count)
+}
 
 /// The reply to the end of a transfer, with what `finish` answered.
 fn end_told<A: Allocator>(end: End, finished: Result<(), StoreFault>) -> Answer<A>
@@ -127,6 +139,88 @@ fn tell_end<A: Allocator + Clone, R: Drop, K: Drop>(
     quit_if_waiting(state, users, parting, actions);
 }
 
+/// What was begun is over: a sink that came back is finished, and the end is told.
+fn end_errand<A: Allocator + Clone, S: Store<A>>(
+    state: &mut State<A>,
+    users: &Authorizer<A>,
+    store: &mut S,
+    parting: Farewell<A>,
+    errand: Errand<A>,
+    was_aborted: bool,
+    end: End,
+    sink: Option<S::Sink>,
+    moment: u64,
+    actions: &mut Vec<Action<A, S::Source, S::Sink>, A>,
+)
+    requires idle { state.old.begun ≡ Idle }
+    requires farewell { parting ≡ farewell users.now.users state.old }
+    requires empty { actions.old.items ≡ [] }
+    requires room { vec_len actions.old + 6 ≤ vec_capacity actions.old }
+    ensures row { Ran S.Step
+        (ended_with users.now.users state.old moment (carried errand) was_aborted end sink)
+        store.old store.new state.new actions.new.items }
+{
+    match sink {
+        Some(sink) => {
+            let finished = store.finish(sink, moment);
+            tell_end(
+                state,
+                users,
+                parting,
+                errand,
+                was_aborted,
+                end,
+                finished,
+                actions,
+            );
+        }
+        None => tell_end(
+            state,
+            users,
+            parting,
+            errand,
+            was_aborted,
+            end,
+            Ok(()),
+            actions,
+        ),
+    }
+}
+
+/// The end of a transfer, with room for what is told of it.
+fn end_within<A: Allocator + Clone, S: Store<A>>(
+    state: &mut State<A>,
+    users: &Authorizer<A>,
+    store: &mut S,
+    parting: Farewell<A>,
+    end: End,
+    sink: Option<S::Sink>,
+    moment: u64,
+    actions: &mut Vec<Action<A, S::Source, S::Sink>, A>,
+)
+    requires farewell { parting ≡ farewell users.now.users state.old }
+    requires empty { actions.old.items ≡ [] }
+    requires room { vec_len actions.old + 6 ≤ vec_capacity actions.old }
+    ensures row { Ran S.Step (ended_row users.now.users state.old moment end sink)
+        store.old store.new state.new actions.new.items }
+{
+    let was_aborted = state.is_aborted();
+    if let Some(errand) = state.end_transfer() {
+        end_errand(
+            state,
+            users,
+            store,
+            parting,
+            errand,
+            was_aborted,
+            end,
+            sink,
+            moment,
+            actions,
+        );
+    }
+}
+
 /// The end of a transfer. A sink that came back is finished in every case. The moment is in
 /// milliseconds since 1970.
 pub fn end_transfer<A: Allocator + Clone, S: Store<A>>(
@@ -143,39 +237,17 @@ pub fn end_transfer<A: Allocator + Clone, S: Store<A>>(
     ensures unchanged { OnErr result (state.new ≡ state.old) }
     ensures untouched { OnErr result (store.new ≡ store.old) }
 {
+    let mut actions = room(state, 6)?;
     let parting = Farewell::new(state, users)?;
-    let mut actions = with_room(state.alloc()?, 6)?;
-    let was_aborted = state.is_aborted();
-    let Some(errand) = state.end_transfer() else {
-        return Ok(actions);
-    };
-    match sink {
-        Some(sink) => {
-            let finished = store.finish(sink, moment);
-            tell_end(
-                state,
-                users,
-                parting,
-                errand,
-                was_aborted,
-                end,
-                finished,
-                &mut actions,
-            );
-            Ok(actions)
-        }
-        None => {
-            tell_end(
-                state,
-                users,
-                parting,
-                errand,
-                was_aborted,
-                end,
-                Ok(()),
-                &mut actions,
-            );
-            Ok(actions)
-        }
-    }
+    end_within(
+        state,
+        users,
+        store,
+        parting,
+        end,
+        sink,
+        moment,
+        &mut actions,
+    );
+    Ok(actions)
 }

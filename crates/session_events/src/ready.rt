@@ -1,15 +1,16 @@
 //! A passive port came, or none was free (RFC 959, section 4.1.2; RFC 2428, section 3).
 
-ghost use Rattle.std.specs.Prelude.{◌≡◌, IfOk, None, OnErr, Some};
+ghost use Rattle.std.specs.Prelude.{◌≡◌, ◌≤◌, [], ◌∷◌, IfOk, None, OnErr, Some, vec_len, vec_capacity};
 ghost use Rattle.session_table.specs.Plans.Plan.{Then};
+ghost use Rattle.session_table.specs.declared.actions.Action.TheVariants.{Say};
 ghost use Rattle.session_table.specs.Table.{port_told, ready_as, ready_row};
 
-use crate::ends::quit_if_waiting;
+use crate::ends::{quit_if_waiting, room};
 use authorizer::Authorizer;
 use ftp_terms::LineText;
 use ftp_wire::{HostPort, port_text};
 use session_login::Farewell;
-use session_state::{State, made, put, with_room};
+use session_state::{State, made, put};
 use session_table::{Action, Answer, Passive, Refusal};
 use std::alloc::{AllocError, Allocator};
 
@@ -45,6 +46,23 @@ fn port_told<A: Allocator + Clone>(
     }
 }
 
+/// The reply that tells the port, with room for what a QUIT that waited has done.
+fn say_port<A: Allocator + Clone, R: Drop, K: Drop>(
+    state: &State<A>,
+    passive: Passive,
+    port: u16,
+) -> Result<Vec<Action<A, R, K>, A>, AllocError>
+    ensures told { IfOk result (λ actions.
+        actions.items ≡ Say (port_told state.now passive port) ∷ []) }
+    ensures len { IfOk result (λ actions. vec_len actions ≡ 1) }
+    ensures room { IfOk result (λ actions. 5 ≤ vec_capacity actions) }
+{
+    let mut actions = room(state, 5)?;
+    let told = port_told(state, passive, port)?;
+    put(&mut actions, Action::Say(told));
+    Ok(actions)
+}
+
 /// A port is open.
 fn tell_port<A: Allocator + Clone, R: Drop, K: Drop>(
     state: &mut State<A>,
@@ -56,10 +74,8 @@ fn tell_port<A: Allocator + Clone, R: Drop, K: Drop>(
         Then state.new actions.items ≡ ready_as users.now.users state.old passive (Some port)) }
     ensures unchanged { OnErr result (state.new ≡ state.old) }
 {
+    let mut actions = say_port(state, passive, port)?;
     let parting = Farewell::new(state, users)?;
-    let told = port_told(state, passive, port)?;
-    let mut actions = with_room(state.alloc()?, 5)?;
-    put(&mut actions, Action::Say(told));
     state.end_waiting();
     state.prepare();
     quit_if_waiting(state, users, parting, &mut actions);
@@ -76,8 +92,8 @@ fn tell_none<A: Allocator + Clone, R: Drop, K: Drop>(
         Then state.new actions.items ≡ ready_as users.now.users state.old passive None) }
     ensures unchanged { OnErr result (state.new ≡ state.old) }
 {
+    let mut actions = room(state, 5)?;
     let parting = Farewell::new(state, users)?;
-    let mut actions = with_room(state.alloc()?, 5)?;
     let none = Answer::Refusal(Refusal::NoPassivePort);
     put(&mut actions, Action::Say(none));
     state.end_waiting();
@@ -96,7 +112,7 @@ pub fn take_port<A: Allocator + Clone, R: Drop, K: Drop>(
     ensures unchanged { OnErr result (state.new ≡ state.old) }
 {
     match state.awaited() {
-        None => with_room(state.alloc()?, 0),
+        None => room(state, 0),
         Some(passive) => match port {
             Some(port) => tell_port(state, users, passive, port),
             None => tell_none(state, users, passive),

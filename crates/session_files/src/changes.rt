@@ -1,9 +1,16 @@
 //! Changes of a store: MKD, RMD, DELE, RNFR, RNTO (RFC 959, section 4.1.3).
 
-ghost use Rattle.std.specs.Prelude.{◌≡◌, IfOk, OnErr};
-ghost use Rattle.session_table.specs.FileRows.{dele_row, is_root, mkd_row, rmd_row, rnfr_row, rnto_row, told_or};
+ghost use Rattle.std.specs.Prelude.{◌≡◌, [], ◌∷◌, IfOk, OnErr, Some, vec_len, vec_capacity};
+ghost use Rattle.ftp_reply.specs.Quoting.{quoted};
+ghost use Rattle.ftp_reply.specs.Replies.{OneLine};
+ghost use Rattle.session_table.specs.FileRows.{dele_row, is_root, mkd_row, rmd_row, rnfr_by, rnfr_row, rnto_from, rnto_row, told_or};
 ghost use Rattle.session_table.specs.Plans.{Ran, Stops};
+ghost use Rattle.session_table.specs.Plans.Plan.{Then};
+ghost use Rattle.session_table.specs.declared.actions.Action.TheVariants.{Say};
+ghost use Rattle.session_table.specs.declared.answers.Answer.TheVariants.{Made};
+ghost use Rattle.virtual_path.specs.Path.{path_text};
 
+use ftp_terms::Meta;
 use session_state::{Location, State, path_answer, put, with_room};
 use session_table::{Action, Answer, Notice, Refusal};
 use std::alloc::{AllocError, Allocator};
@@ -20,10 +27,46 @@ fn told_or<A: Allocator>(reply: Answer<A>, changed: Result<(), StoreFault>) -> A
     }
 }
 
+fn room<A: Allocator + Clone, R: Drop, K: Drop>(
+    state: &State<A>,
+) -> Result<Vec<Action<A, R, K>, A>, AllocError>
+    ensures empty { IfOk result (λ actions. actions.items ≡ []) }
+    ensures len { IfOk result (λ actions. vec_len actions ≡ 0) }
+    ensures room { IfOk result (λ actions. vec_capacity actions ≡ 1) }
+{
+    with_room(state.alloc()?, 1)
+}
+
+/// The reply to a change, in the room that was got before it.
+fn told<A: Allocator, R: Drop, K: Drop>(
+    room: Vec<Action<A, R, K>, A>,
+    reply: Answer<A>,
+    changed: Result<(), StoreFault>,
+) -> Vec<Action<A, R, K>, A>
+    requires empty { room.items ≡ [] }
+    requires len { vec_len room ≡ 0 }
+    requires room { vec_capacity room ≡ 1 }
+    ensures told { result.items ≡ Say (told_or reply changed) ∷ [] }
+{
+    let mut actions = room;
+    put(&mut actions, Action::Say(told_or(reply, changed)));
+    actions
+}
+
 fn is_root<A: Allocator>(path: &VPath<A>) -> bool
     ensures root { result ≡ is_root path.now }
 {
     path.depth() == 0
+}
+
+fn path_reply<A: Allocator + Clone>(
+    state: &State<A>,
+    location: &Location<A>,
+) -> Result<Answer<A>, AllocError>
+    ensures reply { IfOk result (λ reply.
+        reply ≡ Made (OneLine 257 (quoted (path_text location.now.path)))) }
+{
+    path_answer(state.alloc()?, location.path().text())
 }
 
 /// MKD.
@@ -38,11 +81,10 @@ pub fn make_directory<A: Allocator + Clone, S: Store<A>>(
         Stops {A = A} {R = S.Source} {K = S.Sink} S.Step
         (mkd_row state.now location.now) store.old store.new) }
 {
-    let reply = path_answer(state.alloc()?, location.path().text())?;
-    let mut actions = with_room(state.alloc()?, 1)?;
+    let room = room(state)?;
+    let reply = path_reply(state, location)?;
     let changed = store.make_dir(location.stored());
-    put(&mut actions, Action::Say(told_or(reply, changed)));
-    Ok(actions)
+    Ok(told(room, reply, changed))
 }
 
 /// DELE.
@@ -57,11 +99,9 @@ pub fn remove_file<A: Allocator + Clone, S: Store<A>>(
         Stops {A = A} {R = S.Source} {K = S.Sink} S.Step
         (dele_row state.now location.now) store.old store.new) }
 {
-    let mut actions = with_room(state.alloc()?, 1)?;
+    let room = room(state)?;
     let changed = store.remove_file(location.stored());
-    let reply = told_or(Answer::Notice(Notice::FileRemoved), changed);
-    put(&mut actions, Action::Say(reply));
-    Ok(actions)
+    Ok(told(room, Answer::Notice(Notice::FileRemoved), changed))
 }
 
 /// RMD.
@@ -80,10 +120,27 @@ pub fn remove_directory<A: Allocator + Clone, S: Store<A>>(
     if is_root(location.path()) {
         return state.refuse(Refusal::NotPermitted);
     }
-    let mut actions = with_room(state.alloc()?, 1)?;
+    let room = room(state)?;
     let changed = store.remove_dir(location.stored());
-    let reply = told_or(Answer::Notice(Notice::DirectoryRemoved), changed);
-    put(&mut actions, Action::Say(reply));
+    let reply = Answer::Notice(Notice::DirectoryRemoved);
+    Ok(told(room, reply, changed))
+}
+
+/// What was looked at is kept for RNTO, where it was found.
+fn keep<A: Allocator + Clone, R: Drop, K: Drop>(
+    state: &mut State<A>,
+    stored: VPath<A>,
+    looked: Result<Meta, StoreFault>,
+) -> Result<Vec<Action<A, R, K>, A>, AllocError>
+    ensures row { IfOk result (λ actions.
+        Then state.new actions.items ≡ rnfr_by state.old stored looked) }
+    ensures unchanged { OnErr result (state.new ≡ state.old) }
+{
+    if let Err(fault) = looked {
+        return state.refuse(Refusal::Store(fault));
+    }
+    let actions = state.note(Notice::SendRnto)?;
+    state.keep_source(stored);
     Ok(actions)
 }
 
@@ -103,14 +160,26 @@ pub fn rename_from<A: Allocator + Clone, S: Store<A>>(
     if is_root(location.path()) {
         return state.refuse(Refusal::NotPermitted);
     }
-    match store.stat(location.stored()) {
-        Err(fault) => state.refuse(Refusal::Store(fault)),
-        Ok(_) => {
-            let actions = state.note(Notice::SendRnto)?;
-            state.keep_source(location.into_stored());
-            Ok(actions)
-        }
-    }
+    let looked = store.stat(location.stored());
+    keep(state, location.into_stored(), looked)
+}
+
+fn rename<A: Allocator + Clone, S: Store<A>>(
+    state: &State<A>,
+    store: &mut S,
+    source: &VPath<A>,
+    location: &Location<A>,
+) -> Result<Vec<Action<A, S::Source, S::Sink>, A>, AllocError>
+    ensures row { IfOk result (λ actions.
+        Ran S.Step (rnto_from state.now location.now.stored (Some source.now))
+        store.old store.new state.now actions.items) }
+    ensures stops { OnErr result (
+        Stops {A = A} {R = S.Source} {K = S.Sink} S.Step
+        (rnto_from state.now location.now.stored (Some source.now)) store.old store.new) }
+{
+    let room = room(state)?;
+    let changed = store.rename(source, location.stored());
+    Ok(told(room, Answer::Notice(Notice::Renamed), changed))
 }
 
 /// RNTO, behind an RNFR.
@@ -126,14 +195,8 @@ pub fn rename_to<A: Allocator + Clone, S: Store<A>>(
         Stops {A = A} {R = S.Source} {K = S.Sink} S.Step
         (rnto_row state.old location.now) store.old store.new) }
 {
-    let mut actions = with_room(state.alloc()?, 1)?;
     match state.source() {
         None => state.refuse(Refusal::NoSource),
-        Some(source) => {
-            let changed = store.rename(source, location.stored());
-            let reply = told_or(Answer::Notice(Notice::Renamed), changed);
-            put(&mut actions, Action::Say(reply));
-            Ok(actions)
-        }
+        Some(source) => rename(state, store, source, location),
     }
 }

@@ -2,6 +2,7 @@
 
 ghost use Rattle.std.specs.Prelude.{◌≡◌, ◌++◌, ◌∷◌, [], ℕ, List, codes, IfOk, OnErr};
 ghost use Rattle.ftp_reply.specs.Replies.{SeveralLines};
+ghost use Rattle.ftp_terms.specs.LineText.{text_of};
 ghost use Rattle.session_table.specs.Plans.{Ran, Stops};
 ghost use Rattle.session_table.specs.Texts.{IsTold};
 ghost use Rattle.session_table.specs.Texts.Told.{FactLine};
@@ -19,6 +20,39 @@ use std::alloc::{AllocError, Allocator};
 use virtual_path::VPath;
 use virtual_tree::Store;
 
+fn entry_text<A: Allocator + Clone>(
+    state: &State<A>,
+    users: &Authorizer<A>,
+    path: &VPath<A>,
+    meta: &Meta,
+) -> Result<LineText<A>, AllocError>
+    ensures told { IfOk result (λ entry.
+        IsTold (FactLine meta.now state.now.facts
+        (letters_held users.now.users state.now.name path.now) (path_text path.now))
+        (text_of entry)) }
+{
+    let letters = letters_held(state, users, path);
+    mlst_entry(state.alloc()?, meta, state.facts(), letters, path.text())
+}
+
+/// The reply that tells an entry.
+fn answer_of<A: Allocator + Clone>(
+    state: &State<A>,
+    entry: &LineText<A>,
+) -> Result<Answer<A>, AllocError>
+    ensures reply { IfOk result (λ answer. answer
+        ≡ Made (SeveralLines 250 (codes "Listing")
+        ((codes " " ++ text_of entry.now) ∷ []) (codes "End"))) }
+{
+    let mut lines = with_room(state.alloc()?, 1)?;
+    let line = LineText::joined(state.alloc()?, "", " ", entry.as_str())?;
+    put(&mut lines, line);
+    let first = LineText::fixed("Listing");
+    let last = LineText::fixed("End");
+    let reply = Reply::several_lines(ReplyCode::new(250), first, lines, last);
+    Ok(Answer::Made(reply))
+}
+
 fn entry_answer<A: Allocator + Clone>(
     state: &State<A>,
     users: &Authorizer<A>,
@@ -31,15 +65,8 @@ fn entry_answer<A: Allocator + Clone>(
         × (answer
         ≡ Made (SeveralLines 250 (codes "Listing") ((codes " " ++ line) ∷ []) (codes "End")))) }
 {
-    let letters = letters_held(state, users, path);
-    let entry = mlst_entry(state.alloc()?, meta, state.facts(), letters, path.text())?;
-    let line = LineText::joined(state.alloc()?, "", " ", entry.as_str())?;
-    let mut lines = with_room(state.alloc()?, 1)?;
-    put(&mut lines, line);
-    let first = LineText::fixed("Listing");
-    let last = LineText::fixed("End");
-    let reply = Reply::several_lines(ReplyCode::new(250), first, lines, last);
-    Ok(Answer::Made(reply))
+    let entry = entry_text(state, users, path, meta)?;
+    answer_of(state, &entry)
 }
 
 /// MLST. Want of memory leaves the session as it was, and the store as the look left it.

@@ -2,7 +2,7 @@
 
 ghost use Rattle.std.specs.Prelude.{◌≡◌, ◌≤◌, ◌+◌, [], ◌∷◌, ◌++◌, cond, IfOk, OnErr, vec_len, vec_capacity};
 ghost use Rattle.session_table.specs.Plans.Plan.{Then};
-ghost use Rattle.session_table.specs.StateRows.{farewell, farewell_of, parts, quit_message, quit_row};
+ghost use Rattle.session_table.specs.StateRows.{farewell, parts, quit_row};
 ghost use Rattle.session_table.specs.declared.actions.Action.TheVariants.{Hook, ReleaseFloor};
 ghost use Rattle.session_table.specs.declared.actions.HookCall.TheVariants.{Logout};
 
@@ -31,18 +31,31 @@ pub fn put_leaving<A: Allocator, R: Drop, K: Drop>(
     }
 }
 
-/// The reply of QUIT, for a user who is logged in.
-fn farewell_of<A: Allocator + Clone>(
-    alloc: A,
-    users: &Authorizer<A>,
-    name: &str,
-) -> Result<Answer<A>, AllocError>
-    ensures reply { IfOk result (λ reply.
-        reply ≡ farewell_of (quit_message users.now.users name.now)) }
+/// Room for so many actions.
+pub(crate) fn room<A: Allocator + Clone, R: Drop, K: Drop>(
+    state: &State<A>,
+    count: usize,
+) -> Result<Vec<Action<A, R, K>, A>, AllocError>
+    ensures empty { IfOk result (λ actions. actions.items ≡ []) }
+    ensures len { IfOk result (λ actions. vec_len actions ≡ 0) }
+    ensures room { IfOk result (λ actions. vec_capacity actions ≡ count) }
 {
-    match users.msg_quit(name) {
+    with_room(state.alloc()?, count)
+}
+
+/// The reply of QUIT.
+fn quit_reply<A: Allocator + Clone>(
+    state: &State<A>,
+    users: &Authorizer<A>,
+) -> Result<Answer<A>, AllocError>
+    ensures reply { IfOk result (λ reply. reply ≡ farewell users.now.users state.now) }
+{
+    if !state.is_inside() {
+        return Ok(Answer::Notice(Notice::Goodbye));
+    }
+    match users.msg_quit(state.name()) {
         None => Ok(Answer::Notice(Notice::Goodbye)),
-        Some(message) => copied(alloc, 221, message),
+        Some(message) => copied(state.alloc()?, 221, message),
     }
 }
 
@@ -70,11 +83,7 @@ impl<A: Allocator + Clone> Farewell<A> {
         ensures reply { IfOk result (λ reply. reply ≡ farewell users.now.users state.now) }
     {
         let nobody = Text::empty(state.alloc()?);
-        if !state.is_inside() {
-            let reply = Answer::Notice(Notice::Goodbye);
-            return Ok(Farewell { reply, nobody });
-        }
-        let reply = farewell_of(state.alloc()?, users, state.name())?;
+        let reply = quit_reply(state, users)?;
         Ok(Farewell { reply, nobody })
     }
 }
@@ -105,8 +114,8 @@ pub fn quit<A: Allocator + Clone, R: Drop, K: Drop>(
         Then state.new actions.items ≡ quit_row users.now.users state.old) }
     ensures unchanged { OnErr result (state.new ≡ state.old) }
 {
+    let mut actions = room(state, 4)?;
     let farewell = Farewell::new(state, users)?;
-    let mut actions = with_room(state.alloc()?, 4)?;
     part(state, farewell, &mut actions);
     Ok(actions)
 }

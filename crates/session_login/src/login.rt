@@ -10,6 +10,7 @@ ghost use Rattle.session_table.specs.declared.actions.Action.TheVariants.{CloseC
 ghost use Rattle.session_table.specs.declared.actions.HookCall.TheVariants.{Login, LoginFailed};
 ghost use Rattle.session_table.specs.declared.answers.Answer.TheVariants.{Made};
 
+use crate::leaving::room;
 use authorizer::Authorizer;
 use rate_floors::Floors;
 use session_state::{State, copied, put, with_room};
@@ -18,44 +19,48 @@ use std::alloc::{AllocError, Allocator};
 
 /// What a user is told at login; one that was removed has no message.
 fn welcome<A: Allocator + Clone>(
-    alloc: A,
+    state: &State<A>,
     users: &Authorizer<A>,
-    name: &str,
 ) -> Result<Answer<A>, AllocError>
     ensures reply { IfOk result (λ reply.
-        reply ≡ Made (OneLine 230 (login_message users.now.users name.now))) }
+        reply ≡ Made (OneLine 230 (login_message users.now.users state.now.name))) }
 {
-    match users.msg_login(name) {
-        Some(message) => copied(alloc, 230, message),
-        None => copied(alloc, 230, ""),
+    match users.msg_login(state.name()) {
+        Some(message) => copied(state.alloc()?, 230, message),
+        None => copied(state.alloc()?, 230, ""),
     }
 }
 
+fn name_of<A: Allocator + Clone>(state: &State<A>) -> Result<Text<A>, AllocError>
+    ensures name { IfOk result (λ name. name ≡ state.now.name) }
+{
+    Text::copy_of(state.alloc()?, state.name())
+}
+
 fn welcomed<A: Allocator + Clone, R: Drop, K: Drop>(
-    alloc: A,
+    state: &State<A>,
     users: &Authorizer<A>,
-    name: &str,
 ) -> Result<Vec<Action<A, R, K>, A>, AllocError>
     ensures actions { IfOk result (λ actions. actions.items
-        ≡ Say (Made (OneLine 230 (login_message users.now.users name.now)))
-        ∷ Hook (Login name.now) ∷ []) }
+        ≡ Say (Made (OneLine 230 (login_message users.now.users state.now.name)))
+        ∷ Hook (Login state.now.name) ∷ []) }
 {
-    let mut actions = with_room(alloc.clone()?, 2)?;
-    let reply = welcome(alloc.clone()?, users, name)?;
+    let mut actions = room(state, 2)?;
+    let reply = welcome(state, users)?;
     put(&mut actions, Action::Say(reply));
-    let name = Text::copy_of(alloc, name)?;
+    let name = name_of(state)?;
     put(&mut actions, Action::Hook(HookCall::Login(name)));
     Ok(actions)
 }
 
 /// The guaranteed rate of one more session does not fit.
 fn not_admitted<A: Allocator + Clone, R: Drop, K: Drop>(
-    alloc: A,
+    state: &State<A>,
 ) -> Result<Vec<Action<A, R, K>, A>, AllocError>
     ensures actions { IfOk result (λ actions. actions.items
         ≡ Say (Answer.Refusal Refusal.NoGuarantee) ∷ CloseControl ∷ []) }
 {
-    let mut actions = with_room(alloc, 2)?;
+    let mut actions = with_room(state.alloc()?, 2)?;
     let refused = Answer::Refusal(Refusal::NoGuarantee);
     put(&mut actions, Action::Say(refused));
     put(&mut actions, Action::CloseControl);
@@ -118,8 +123,8 @@ fn enter<A: Allocator + Clone, F: Allocator + Clone, R: Drop, K: Drop>(
     ensures uncounted { OnErr result (floors.new ≡ floors.old) }
 {
     let number = number_of(state, users);
-    let welcomed = welcomed(state.alloc()?, users, state.name())?;
-    let refused = not_admitted(state.alloc()?)?;
+    let welcomed = welcomed(state, users)?;
+    let refused = not_admitted(state)?;
     let fits = count_session(floors, number);
     Ok(settle(state, users, number, fits, welcomed, refused))
 }
@@ -154,8 +159,8 @@ fn turn_away<A: Allocator + Clone, R: Drop, K: Drop>(
     ensures row { IfOk result (λ actions. Then state.new actions.items ≡ turned_away state.old) }
     ensures unchanged { OnErr result (state.new ≡ state.old) }
 {
-    let mut actions = with_room(state.alloc()?, 3)?;
-    let name = Text::copy_of(state.alloc()?, state.name())?;
+    let mut actions = room(state, 3)?;
+    let name = name_of(state)?;
     put(&mut actions, Action::Hook(HookCall::LoginFailed(name)));
     lose_attempt(state, &mut actions);
     Ok(actions)

@@ -1,14 +1,14 @@
 //! The greeting, and whoever begins anew: USER, REIN.
 
-ghost use Rattle.std.specs.Prelude.{◌≡◌, ◌<◌, [], ◌∷◌, ◌++◌, cond, IfOk, OnErr, vec_len, vec_capacity};
+ghost use Rattle.std.specs.Prelude.{◌≡◌, ◌<◌, ◌≤◌, ◌+◌, [], ◌∷◌, ◌++◌, cond, IfOk, OnErr, vec_len, vec_capacity};
 ghost use Rattle.ftp_reply.specs.Replies.{OneLine};
 ghost use Rattle.session_table.specs.Plans.Plan.{Then};
 ghost use Rattle.session_table.specs.StateRows.{greeting, rein_row, restarts, user_row};
 ghost use Rattle.session_table.specs.declared.actions.Action.TheVariants.{DropData};
 ghost use Rattle.session_table.specs.declared.answers.Answer.TheVariants.{Made};
 
-use crate::leaving::put_leaving;
-use session_state::{State, copied, put, with_room};
+use crate::leaving::{put_leaving, room};
+use session_state::{State, copied, put};
 use session_table::{Action, Answer, HookCall, Notice, Stage, Text};
 use std::alloc::{AllocError, Allocator};
 use virtual_path::VPath;
@@ -27,24 +27,24 @@ fn put_drop<A: Allocator, R: Drop, K: Drop>(
 
 fn restart<A: Allocator + Clone, R: Drop, K: Drop>(
     state: &mut State<A>,
+    root: VPath<A>,
     name: Text<A>,
     stage: Stage,
     reply: Answer<A>,
-) -> Result<Vec<Action<A, R, K>, A>, AllocError>
-    ensures row { IfOk result (λ actions.
-        Then state.new actions.items ≡ restarts state.old name stage reply) }
-    ensures unchanged { OnErr result (state.new ≡ state.old) }
+    actions: &mut Vec<Action<A, R, K>, A>,
+)
+    requires root { root ≡ [] }
+    requires empty { actions.old.items ≡ [] }
+    requires room { vec_len actions.old + 4 ≤ vec_capacity actions.old }
+    ensures row { Then state.new actions.new.items ≡ restarts state.old name stage reply }
 {
-    let root = VPath::root(state.alloc()?);
-    let mut actions = with_room(state.alloc()?, 4)?;
     let was_inside = state.is_inside();
     let was_prepared = state.is_prepared();
     let number = state.number();
     let before = state.begin_anew(root, name, stage);
-    put_leaving(&mut actions, was_inside, before, number);
-    put(&mut actions, Action::Say(reply));
-    put_drop(&mut actions, was_prepared);
-    Ok(actions)
+    put_leaving(actions, was_inside, before, number);
+    put(actions, Action::Say(reply));
+    put_drop(actions, was_prepared);
 }
 
 /// USER (RFC 959, section 4.1.1).
@@ -57,12 +57,11 @@ pub fn name_user<A: Allocator + Clone, R: Drop, K: Drop>(
     ensures unchanged { OnErr result (state.new ≡ state.old) }
 {
     let name = Text::copy_of(state.alloc()?, name)?;
-    restart(
-        state,
-        name,
-        Stage::Named,
-        Answer::Notice(Notice::PasswordRequired),
-    )
+    let root = VPath::root(state.alloc()?);
+    let mut actions = room(state, 4)?;
+    let reply = Answer::Notice(Notice::PasswordRequired);
+    restart(state, root, name, Stage::Named, reply, &mut actions);
+    Ok(actions)
 }
 
 fn banner_reply<A: Allocator + Clone>(state: &State<A>) -> Result<Answer<A>, AllocError>
@@ -79,8 +78,11 @@ pub fn reinitialize<A: Allocator + Clone, R: Drop, K: Drop>(
     ensures unchanged { OnErr result (state.new ≡ state.old) }
 {
     let nobody = Text::empty(state.alloc()?);
+    let root = VPath::root(state.alloc()?);
+    let mut actions = room(state, 4)?;
     let reply = banner_reply(state)?;
-    restart(state, nobody, Stage::Greeted, reply)
+    restart(state, root, nobody, Stage::Greeted, reply, &mut actions);
+    Ok(actions)
 }
 
 /// What a new client is told, before any line comes (RFC 959, section 5.4).
@@ -89,8 +91,8 @@ pub fn greet<A: Allocator + Clone, R: Drop, K: Drop>(
 ) -> Result<Vec<Action<A, R, K>, A>, AllocError>
     ensures row { IfOk result (λ actions. Then state.now actions.items ≡ greeting state.now) }
 {
+    let mut actions = room(state, 2)?;
     let reply = banner_reply(state)?;
-    let mut actions = with_room(state.alloc()?, 2)?;
     put(&mut actions, Action::Say(reply));
     put(&mut actions, Action::Hook(HookCall::Connect));
     Ok(actions)

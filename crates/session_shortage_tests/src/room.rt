@@ -1,6 +1,6 @@
 //! A session with all that it needs, in a heap of its own.
 
-use crate::told::{Doings, Sink, put_doing};
+use crate::told::{Doings, Sink, put_doings};
 use authorizer::Authorizer;
 use ftp_terms::LineText;
 use ftp_wire::LineReader;
@@ -12,6 +12,7 @@ use scarce_memory::leave_hole;
 use session_core::Session;
 use session_table::{End, Input, Settings};
 use std::alloc::{AllocError, Global};
+use std::process::Abort;
 use std::test::Fail;
 use virtual_path::VPath;
 use virtual_tree::{Sink as _, Store, WriteMode};
@@ -35,46 +36,55 @@ pub(crate) fn settings<'h>() -> Settings<&'h LocalHeap> {
     }
 }
 
-fn make_floors(global: Global) -> Result<Floors, Fail> {
-    let limits = Limits::of(0, 0, 0, Vec::new(global), Vec::new(global))?;
-    Ok(Floors::of(global, &limits)?)
+fn make_floors(rt: &(impl Abort + AllocGlobal)) -> Floors {
+    let alloc = rt.alloc();
+    let limits = Limits::of(0, 0, 0, Vec::new(alloc), Vec::new(alloc)).expect(rt, "no limits");
+    Floors::of(alloc, &limits).expect(rt, "memory")
 }
 
-fn make_users<'h>(heap: &'h LocalHeap) -> Result<Authorizer<&'h LocalHeap>, Fail> {
-    let mut users = Authorizer::new(heap)?;
-    users.add_user("ann", "secret", "/", "elradfmw")?;
-    users.add_user("bob", "b", "/", "elr")?;
-    users.override_perm("bob", "/in", "lw", true)?;
-    Ok(users)
+fn make_users<'h>(rt: &impl Abort, heap: &'h LocalHeap) -> Authorizer<&'h LocalHeap> {
+    let mut users = Authorizer::new(heap).expect(rt, "memory");
+    users
+        .add_user("ann", "secret", "/", "elradfmw")
+        .expect(rt, "a user");
+    users.add_user("bob", "b", "/", "elr").expect(rt, "a user");
+    users
+        .override_perm("bob", "/in", "lw", true)
+        .expect(rt, "an override");
+    users
 }
 
 /// Makes the directory in, and the file f of the octets a LF b.
 fn fill<'h>(
+    rt: &impl Abort,
     store: &mut MemStore<&'h LocalHeap>,
     root: &VPath<&'h LocalHeap>,
     heap: &'h LocalHeap,
-) -> Result<(), Fail> {
-    store.make_dir(&root.child(heap, "in")?)?;
-    let mut sink = store.open_write(&root.child(heap, "f")?, WriteMode::New, 0)?;
-    sink.write("a\nb".as_bytes())?;
-    store.finish(sink, 951_827_696_000)?;
-    Ok(())
+) {
+    let inner = root.child(heap, "in").expect(rt, "a path");
+    store.make_dir(&inner).expect(rt, "a directory");
+    let path = root.child(heap, "f").expect(rt, "a path");
+    let mut sink = store
+        .open_write(&path, WriteMode::New, 0)
+        .expect(rt, "a file");
+    sink.write("a\nb".as_bytes()).expect(rt, "memory");
+    store.finish(sink, 951_827_696_000).expect(rt, "a file");
 }
 
-fn make_store<'h>(heap: &'h LocalHeap) -> Result<MemStore<&'h LocalHeap>, Fail> {
-    let mut store = MemStore::new(heap, 1000)?;
-    fill(&mut store, &VPath::root(heap), heap)?;
-    Ok(store)
+fn make_store<'h>(rt: &impl Abort, heap: &'h LocalHeap) -> MemStore<&'h LocalHeap> {
+    let mut store = MemStore::new(heap, 1000).expect(rt, "memory");
+    fill(rt, &mut store, &VPath::root(heap), heap);
+    store
 }
 
-pub(crate) fn make_room<'h>(global: Global, heap: &'h LocalHeap) -> Result<Room<'h>, Fail> {
-    Ok(Room {
-        session: Session::new(heap, settings(), [127, 0, 0, 1])?,
-        users: make_users(heap)?,
-        store: make_store(heap)?,
-        floors: make_floors(global)?,
+pub(crate) fn make_room<'h>(rt: &(impl Abort + AllocGlobal), heap: &'h LocalHeap) -> Room<'h> {
+    Room {
+        session: Session::new(heap, settings(), [127, 0, 0, 1]).expect(rt, "memory"),
+        users: make_users(rt, heap),
+        store: make_store(rt, heap),
+        floors: make_floors(rt),
         sink: None,
-    })
+    }
 }
 
 fn read_line<'h>(heap: &'h LocalHeap, line: &str) -> Result<Input<&'h LocalHeap, Sink<'h>>, Fail> {
@@ -93,10 +103,20 @@ fn told<'h>(
     actions: Doings<'h>,
 ) -> Result<Vec<u8>, Fail> {
     let mut octets = Vec::new(global);
-    for action in actions {
-        put_doing(&mut octets, kept, action)?;
-    }
+    put_doings(&mut octets, kept, actions)?;
     Ok(octets)
+}
+
+/// The same of actions, if any.
+fn told_of_any<'h>(
+    global: Global,
+    kept: &mut Option<Sink<'h>>,
+    actions: Option<Doings<'h>>,
+) -> Result<Option<Vec<u8>>, Fail> {
+    match actions {
+        Some(actions) => Ok(Some(told(global, kept, actions)?)),
+        None => Ok(None),
+    }
 }
 
 impl<'h> Room<'h> {
@@ -140,22 +160,31 @@ impl<'h> Room<'h> {
         told(global, &mut self.sink, actions)
     }
 
+    /// A step while the heap has only one hole of some octets; nothing where memory ran out.
+    fn step_short(
+        &mut self,
+        rt: &(impl Abort + AllocGlobal),
+        heap: &'h LocalHeap,
+        input: Input<&'h LocalHeap, Sink<'h>>,
+        hole: usize,
+    ) -> Option<Doings<'h>> {
+        let rest = leave_hole(rt, heap, hole).expect(rt, "memory for the hole");
+        let answer = self.step(input);
+        drop(rest);
+        answer.ok()
+    }
+
     /// What is done at an input while the heap has only one hole of some octets; nothing where memory
     /// ran out.
     pub fn give_short(
         &mut self,
-        rt: &impl AllocGlobal,
+        rt: &(impl Abort + AllocGlobal),
         heap: &'h LocalHeap,
         line: &str,
         hole: usize,
     ) -> Result<Option<Vec<u8>>, Fail> {
         let input = self.input_of(heap, line)?;
-        let rest = leave_hole(rt, heap, hole)?;
-        let answer = self.step(input);
-        drop(rest);
-        match answer {
-            Ok(actions) => Ok(Some(told(rt.alloc(), &mut self.sink, actions)?)),
-            Err(_) => Ok(None),
-        }
+        let actions = self.step_short(rt, heap, input, hole);
+        told_of_any(rt.alloc(), &mut self.sink, actions)
     }
 }

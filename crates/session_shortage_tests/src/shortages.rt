@@ -58,15 +58,18 @@ fn was_refused<'h>(
     Ok(false)
 }
 
-/// A row in a room whose heap has only one hole of some octets. Where memory ran out, the rows from it on pass then.
+/// A row behind those before it, in a room whose heap has only one hole of some octets. Where memory ran out, the rows
+/// from it on pass then.
 fn try_short<'h>(
     rt: &(impl Abort + AllocGlobal),
     heap: &'h LocalHeap,
     room: &mut Room<'h>,
+    before: &[(&str, &str)],
     rows: &[(&str, &str)],
     line: &str,
     hole: usize,
 ) -> Result<bool, Fail> {
+    follow(rt, heap, room, before)?;
     match room.give_short(rt, heap, line, hole)? {
         Some(told) => was_refused(rt, heap, room, told.as_slice(), rows),
         None => {
@@ -76,7 +79,19 @@ fn try_short<'h>(
     }
 }
 
-/// The same in a room of its own, behind the rows before it.
+/// The same in a room of its own, in this heap.
+fn try_in(
+    rt: &(impl Abort + AllocGlobal),
+    heap: &LocalHeap,
+    before: &[(&str, &str)],
+    rows: &[(&str, &str)],
+    line: &str,
+    hole: usize,
+) -> Result<bool, Fail> {
+    let mut room = make_room(rt, heap);
+    try_short(rt, heap, &mut room, before, rows, line, hole)
+}
+
 fn try_row(
     rt: &(impl Abort + AllocGlobal),
     before: &[(&str, &str)],
@@ -85,9 +100,7 @@ fn try_row(
     hole: usize,
 ) -> Result<bool, Fail> {
     let heap = LocalHeap::new(rt.alloc(), HEAP)?;
-    let mut room = make_room(rt.alloc(), &heap)?;
-    follow(rt, &heap, &mut room, before)?;
-    try_short(rt, &heap, &mut room, rows, line, hole)
+    try_in(rt, &heap, before, rows, line, hole)
 }
 
 /// How many growths of a row are refused before it passes.
@@ -151,11 +164,15 @@ type Greeting<'h> = Vec<
     &'h LocalHeap,
 >;
 
-/// A session's beginning in a heap that has only one hole of some octets.
-fn begin<'h>(heap: &'h LocalHeap) -> Result<usize, AllocError> {
-    let session = Session::new(heap, settings(), [127, 0, 0, 1])?;
+fn count_greeting<'h>(session: &Session<&'h LocalHeap>) -> Result<usize, AllocError> {
     let greeting: Greeting<'h> = session.greet()?;
     Ok(greeting.len())
+}
+
+/// A session's beginning, of so many actions.
+fn begin<'h>(heap: &'h LocalHeap) -> Result<usize, AllocError> {
+    let session = Session::new(heap, settings(), [127, 0, 0, 1])?;
+    count_greeting(&session)
 }
 
 fn begin_short(rt: &impl AllocGlobal, hole: usize) -> Result<Option<usize>, Fail> {

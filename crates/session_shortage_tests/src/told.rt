@@ -2,7 +2,7 @@
 
 use linked_list_allocator::LocalHeap;
 use memory_store::{MemSink, MemSource};
-use session_table::{Action, HookCall, Job};
+use session_table::{Action, Answer, HookCall, Job};
 use std::alloc::Allocator;
 use std::test::Fail;
 
@@ -47,20 +47,44 @@ fn put_job<'h>(
     }
 }
 
-pub(crate) fn put_doing<'h>(
+/// What stands for an action that neither says nor starts anything.
+fn word_of<'h>(action: &Doing<'h>) -> &'static str {
+    match action {
+        Action::Say(_) | Action::Start(_) => "",
+        Action::OpenPassive => "[passive]",
+        Action::ConnectTo(_) => "[connect]",
+        Action::DropData => "[drop]",
+        Action::Abort => "[abort]",
+        Action::CloseControl => "[close]",
+        Action::ReleaseFloor(_) => "[release]",
+        Action::Hook(call) => hook_word(call),
+    }
+}
+
+fn put_answer<'h>(octets: &mut Vec<u8>, answer: Answer<&'h LocalHeap>) -> Result<(), Fail> {
+    Ok(answer.into_reply().write_to(octets)?)
+}
+
+fn put_doing<'h>(
     octets: &mut Vec<u8>,
     kept: &mut Option<Sink<'h>>,
     action: Doing<'h>,
 ) -> Result<(), Fail> {
     match action {
-        Action::Say(answer) => Ok(answer.into_reply().write_to(octets)?),
+        Action::Say(answer) => put_answer(octets, answer),
         Action::Start(job) => put_job(octets, kept, job),
-        Action::OpenPassive => put(octets, "[passive]"),
-        Action::ConnectTo(_) => put(octets, "[connect]"),
-        Action::DropData => put(octets, "[drop]"),
-        Action::Abort => put(octets, "[abort]"),
-        Action::CloseControl => put(octets, "[close]"),
-        Action::ReleaseFloor(_) => put(octets, "[release]"),
-        Action::Hook(call) => put(octets, hook_word(&call)),
+        other => put(octets, word_of(&other)),
     }
+}
+
+/// Each of them in turn; a sink is kept.
+pub(crate) fn put_doings<'h>(
+    octets: &mut Vec<u8>,
+    kept: &mut Option<Sink<'h>>,
+    actions: Doings<'h>,
+) -> Result<(), Fail> {
+    for action in actions {
+        put_doing(octets, kept, action)?;
+    }
+    Ok(())
 }

@@ -4,3 +4,4 @@ mod Told
 mod Behind
 mod There
 mod Totals
+mod Checks

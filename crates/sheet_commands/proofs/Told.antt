@@ -1,5 +1,5 @@
 -- Faults that are told as those of a program.
-use Rattle.std.proofs.Common.{◌≡◌, ◌≢◌, Option, Some, None, Result, Ok, Err, IfErr, IsErrAnd, IsErrOf, refl, subst, sym}
+use Rattle.std.proofs.Common.{◌≡◌, ◌≢◌, Option, Some, None, Result, Ok, Err, IfErr, IfOk, IsErrAnd, IsErrOf, refl, subst, sym}
 use Rattle.sheet_commands.specs.declared.fault.ProgramFault.{ProgramFault}
 use Rattle.sheet_nodes.specs.declared.fault.SheetFault.{SheetFault}
 use Rattle.sheet_nodes.specs.declared.fault.SheetFault.TheVariants.{BadLine, Twice, LeafHasKids, Tree, Memory}
@@ -71,3 +71,18 @@ sheet_judged (Twice line) = tt
 sheet_judged (LeafHasKids line) = tt
 sheet_judged (Tree line f) = tt
 sheet_judged Memory = tt
+
+-- a refusal that tells one fault is of each kind that this fault is of
+pub if_err : {T : Type 0} (r : Result T ProgramFault) (e : ProgramFault) (P : ProgramFault → Type 0) → IsErrAnd r (λ f. f ≡ e) → P e → IfErr r P
+if_err (Ok value) e P gives p = absurd gives
+if_err (Err f) e P gives p = subst P (sym gives) p
+
+-- what follows from what a refusal is
+pub if_err_then : {T : Type 0} (r : Result T ProgramFault) (P Q : ProgramFault → Type 0) → ((e : ProgramFault) → P e → Q e) → IfErr r P → IfErr r Q
+if_err_then (Ok value) P Q then p = tt
+if_err_then (Err f) P Q then p = then f p
+
+-- what follows from what a value is
+pub if_ok_then : {T : Type 0} (r : Result T ProgramFault) (P Q : T → Type 0) → ((value : T) → P value → Q value) → IfOk r P → IfOk r Q
+if_ok_then (Ok value) P Q then p = then value p
+if_ok_then (Err f) P Q then p = tt

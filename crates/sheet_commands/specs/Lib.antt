@@ -2,3 +2,4 @@ pub mod Lines
 pub mod Faults
 pub mod Sharing
 pub mod Checking
+pub mod Reading

@@ -9,6 +9,7 @@ ghost use Rattle.sheet_commands.specs.Faults.{IsReadingFault, IsGrantsJudgement,
 ghost use Rattle.sheet_commands.specs.Sharing.{IsSheetFaultOf};
 ghost use Rattle.grant_certificate.specs.declared.flaw.Verdict.{Verdict};
 ghost use Rattle.sheet_commands.specs.Checking.{IsCheckOf, IsGrantsFaultOf};
+ghost use Rattle.sheet_commands.specs.Reading.{IsCheckBeside, IsCheckWithin, IsFaultBeside, IsFaultWithin};
 
 use super::fault::ProgramFault;
 use super::lines::write_whole;
@@ -43,6 +44,38 @@ pub fn verdict_of<A: Allocator + Clone>(
     let verdict = check(sheet.tree(), &grants, &certificate);
     let line = verdict_line(alloc, sheet, &grants, verdict)?;
     Ok(Checked { verdict, line })
+}
+
+/// Reads a grants file, and checks its grants within the limits of a sheet.
+fn check_within<A: Allocator + Clone, Q: TextReader>(
+    alloc: A,
+    sheet: &Sheet<'_, A>,
+    grants: &mut Q,
+) -> Result<Checked<A>, ProgramFault>
+    ensures checked { IfOk result (λ checked.
+        IsCheckWithin sheet.now (Q.remaining grants.old) checked.verdict (string_bytes checked.line)) }
+    ensures faults { IfErr result
+        (IsFaultWithin sheet.now (Q.remaining grants.old) (Q.may_fail grants.old)) }
+{
+    let text = read_whole(alloc.clone()?, grants)?;
+    verdict_of(alloc, sheet, &text)
+}
+
+/// Reads a sheet's text and then a grants file, and checks the grants.
+fn check_beside<A: Allocator + Clone, Q: TextReader>(
+    alloc: A,
+    sheet_text: &[u8],
+    grants: &mut Q,
+) -> Result<Checked<A>, ProgramFault>
+    ensures checked { IfOk result (λ checked. IsCheckBeside sheet_text.now (Q.remaining grants.old)
+        checked.verdict (string_bytes checked.line)) }
+    ensures faults { IfErr result
+        (IsFaultBeside sheet_text.now (Q.remaining grants.old) (Q.may_fail grants.old)) }
+    ensures judged_first { (fault : SheetFault) → IsErrOf result (ProgramFault.Sheet fault)
+        → grants.new ≡ grants.old }
+{
+    let sheet = read_sheet(alloc.clone()?, sheet_text)?;
+    check_within(alloc, &sheet, grants)
 }
 
 /// Reads a sheet and then a grants file, checks the grants, and writes the verdict, which it gives too. The sheet is
@@ -89,9 +122,7 @@ pub fn run_check<A: Allocator + Clone, R: TextReader, Q: TextReader, W: TextWrit
         → writer.new ≡ writer.old) }
 {
     let sheet_text = read_whole(alloc.clone()?, sheet)?;
-    let sheet = read_sheet(alloc.clone()?, &sheet_text)?;
-    let grants_text = read_whole(alloc.clone()?, grants)?;
-    let Checked { verdict, line } = verdict_of(alloc, &sheet, &grants_text)?;
+    let Checked { verdict, line } = check_beside(alloc, &sheet_text, grants)?;
     write_whole(&line, writer)?;
     Ok(verdict)
 }

@@ -41,7 +41,7 @@ fn write_total<A: Allocator>(text: &mut String<A>, total: u64) -> Result<(), All
     writeln!(text, "total {total}")
 }
 
-// The sum of the grants, in octets.
+/// The sum of the grants, in octets.
 fn total_of(shares: &[Share<'_>]) -> u64
     requires fits { total shares.now < 2 ^ 64 }
     ensures total { result ≡ total shares.now }

@@ -3,6 +3,7 @@
 use authorizer::{Authorizer, AuthorizerFault};
 use ftp_terms::is_line_text;
 use std::alloc::Allocator;
+use std::str::Split;
 
 /// The words of a line behind its call's name; those that are not there are empty.
 #[derive(Clone, Copy)]
@@ -14,14 +15,19 @@ pub struct Words<'a> {
     pub three: &'a str,
 }
 
+/// The next word of a line; one that is not there is empty.
+pub fn next_word<'a>(words: &mut Split<'a, char>) -> &'a str {
+    words.next().unwrap_or("")
+}
+
 pub fn words_of<'a>(line: &'a str) -> Words<'a> {
     let mut words = line.split(' ');
     Words {
-        call: words.next().unwrap_or(""),
-        user: words.next().unwrap_or(""),
-        one: words.next().unwrap_or(""),
-        two: words.next().unwrap_or(""),
-        three: words.next().unwrap_or(""),
+        call: next_word(&mut words),
+        user: next_word(&mut words),
+        one: next_word(&mut words),
+        two: next_word(&mut words),
+        three: next_word(&mut words),
     }
 }
 
@@ -37,6 +43,11 @@ fn set_messages<A: Allocator + Clone>(
     Ok(())
 }
 
+/// The group that a word names; none where it names none.
+fn group_of(word: &str) -> Option<u32> {
+    word.parse().ok()
+}
+
 /// Makes a change. `override` takes a path, letters, and `deep` where it is recursive.
 pub fn change<A: Allocator + Clone>(
     users: &mut Authorizer<A>,
@@ -48,6 +59,6 @@ pub fn change<A: Allocator + Clone>(
         "remove" => users.remove_user(words.user),
         "override" => users.override_perm(words.user, words.one, words.two, words.three == "deep"),
         "messages" => set_messages(users, words.user, words.one, words.two),
-        _ => users.set_group(words.user, words.one.parse().ok()),
+        _ => users.set_group(words.user, group_of(words.one)),
     }
 }

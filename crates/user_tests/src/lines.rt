@@ -1,6 +1,7 @@
 //! Questions about users as lines of text; behind ` = ` stands what they tell.
 
 use crate::changes::{Words, change, words_of};
+use crate::path_lines::{answer_told, unmet};
 use authorizer::{Authorizer, AuthorizerFault};
 use ftp_terms::{Letter, Letters};
 use std::alloc::{AllocError, Allocator, Global};
@@ -57,6 +58,13 @@ fn text<'u, A: Allocator + Clone>(users: &'u Authorizer<A>, words: Words<'_>) ->
     }
 }
 
+fn number_told(alloc: Global, number: Option<u32>) -> Result<String, AllocError> {
+    match number {
+        Some(number) => format!(in alloc; "{number}"),
+        None => String::from_str(alloc, "none"),
+    }
+}
+
 /// What a question about users tells.
 fn told<A: Allocator + Clone>(
     users: &Authorizer<A>,
@@ -64,12 +72,9 @@ fn told<A: Allocator + Clone>(
     words: Words<'_>,
 ) -> Result<String, AllocError> {
     match words.call {
-        "number" | "in-group" => match number(users, words) {
-            Some(number) => format!(in alloc; "{number}"),
-            None => String::from_str(alloc, "none"),
-        },
+        "number" | "in-group" => number_told(alloc, number(users, words)),
         "login" | "quit" | "home" => String::from_str(alloc, text(users, words).unwrap_or("none")),
-        _ => format!(in alloc; "{}", is_so(users, alloc, words)),
+        _ => answer_told(alloc, is_so(users, alloc, words)),
     }
 }
 
@@ -99,18 +104,28 @@ fn line_told<A: Allocator + Clone>(
     }
 }
 
-/// The first line that tells something else than it should, with what it tells. A line that says
-/// nothing of it should be done.
+/// A line that tells something else than it should, with what it tells. One that says nothing of it
+/// should be done.
+fn line_unmet<A: Allocator + Clone>(
+    users: &mut Authorizer<A>,
+    alloc: Global,
+    line: &str,
+) -> Result<Option<String>, AllocError> {
+    let (call, wanted) = line.split_once(" = ").unwrap_or((line, "done"));
+    let told = line_told(users, alloc, call)?;
+    unmet(alloc, line, wanted, told.as_str())
+}
+
+/// The first of such lines.
 pub fn first_unmet<A: Allocator + Clone>(
     users: &mut Authorizer<A>,
     alloc: Global,
     lines: &str,
 ) -> Result<Option<String>, AuthorizerFault> {
     for line in lines.split('\n') {
-        let (call, wanted) = line.split_once(" = ").unwrap_or((line, "done"));
-        let told = line_told(users, alloc, call)?;
-        if told.as_str() != wanted {
-            return Ok(Some(format!(in alloc; "{line} (tells {told})")?));
+        let unmet = line_unmet(users, alloc, line)?;
+        if unmet.is_some() {
+            return Ok(unmet);
         }
     }
     Ok(None)

@@ -55,18 +55,36 @@ fn follow_refused(
     Ok(())
 }
 
-/// Makes a call in a heap that has only one hole of some octets.
+/// Whether memory was refused.
+fn is_refusal(answer: &Result<(), AuthorizerFault>) -> Result<bool, Fail> {
+    match answer {
+        Ok(()) => Ok(false),
+        Err(AuthorizerFault::Memory) => Ok(true),
+        Err(_) => Err(Fail::from("another fault")),
+    }
+}
+
+/// Makes a call in a heap that has only one hole of some octets, and answers whether it was refused.
 fn change_in_hole(
     rt: &impl AllocGlobal,
     heap: &LocalHeap,
     users: &mut Authorizer<&LocalHeap>,
     line: &str,
     room: usize,
-) -> Result<Result<(), AuthorizerFault>, Fail> {
+) -> Result<bool, Fail> {
     let rest = leave_hole(rt, heap, room)?;
     let answer = change(users, words_of(line));
     drop(rest);
-    Ok(answer)
+    is_refusal(&answer)
+}
+
+fn filled<'h>(
+    rt: &impl AllocGlobal,
+    heap: &'h LocalHeap,
+) -> Result<Authorizer<&'h LocalHeap>, Fail> {
+    let mut users: Authorizer<&'h LocalHeap> = Authorizer::new(heap)?;
+    follow(rt, &mut users, FILLED)?;
+    Ok(users)
 }
 
 /// Makes a call in a heap that has only one hole of some octets, and answers whether it was
@@ -77,16 +95,12 @@ fn is_refused<'h>(
     line: &str,
     room: usize,
 ) -> Result<bool, Fail> {
-    let mut users: Authorizer<&'h LocalHeap> = Authorizer::new(heap)?;
-    follow(rt, &mut users, FILLED)?;
-    match change_in_hole(rt, heap, &mut users, line, room)? {
-        Ok(()) => Ok(false),
-        Err(AuthorizerFault::Memory) => {
-            follow_refused(rt, &mut users, line)?;
-            Ok(true)
-        }
-        Err(_) => Err(Fail::from("another fault")),
+    let mut users = filled(rt, heap)?;
+    let refused = change_in_hole(rt, heap, &mut users, line, room)?;
+    if refused {
+        follow_refused(rt, &mut users, line)?;
     }
+    Ok(refused)
 }
 
 /// How many growths of a call are refused before it passes.

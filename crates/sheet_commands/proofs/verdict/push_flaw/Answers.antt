@@ -1,54 +1,51 @@
-use Rattle.std.proofs.Common.{◌≡◌, ◌∙◌, ℕ, List, ◌++◌, ap, sym, subst, codes, slice_index, unwrap_or, Option}
+use Rattle.std.proofs.Common.{◌≡◌, ◌∙◌, ℕ, List, ◌++◌, ap, sym, codes, slice_index, Result, Ok, Err, OnOk}
 use Rattle.std.specs.Prelude.{string_bytes}
-use Rattle.std.specs.Option.{option_and_then}
-use Rattle.limit_tree.specs.Sharing.{sum_over}
-use Rattle.limit_tree.specs.Outline.{limits, leaves_under}
+use Rattle.limit_tree.specs.Outline.{limits}
 use Rattle.limit_tree.specs.declared.place.Place.{Place}
 use Rattle.grant_certificate.specs.declared.flaw.Flaw.{Flaw}
-use Rattle.sheet_commands.specs.Checking.{flaw_words, leaf_word, node_word, number_word}
-use Rattle.sheet_commands.proofs.Behind.{on_ok, one_behind, two_behind}
+use Rattle.sheet_commands.specs.Checking.{flaw_words, number_word}
 use Rattle.sheet_commands.proofs.verdict.push_flaw.Goals as goal
 
-pub returns-in_ok-push_leaf-in-TooGreat : goal.returns-in_ok-push_leaf-in-TooGreat
-returns-in_ok-push_leaf-in-TooGreat g c = record {
-  words = on_ok c.push_leaf-in-TooGreat-2.result _ _ c.push_leaf-in-TooGreat-2.ensures.words (λ second.
-      let sheet = c.args.sheet.now in
-      let gs = c.args.grants.now in
-      subst (λ (f : Flaw). string_bytes c.push_leaf-in-TooGreat-2.new.text ≡ string_bytes c.args.text.now ++ flaw_words sheet gs f) (sym c.in-TooGreat.is)
-      (two_behind (string_bytes c.args.text.now) (codes "7 TooGreat" ++ leaf_word sheet c.in-TooGreat.leaf ++ number_word (slice_index gs c.in-TooGreat.leaf))
-      (leaf_word sheet c.in-TooGreat.other) (number_word (slice_index gs c.in-TooGreat.other)) (string_bytes c.push_leaf-in-TooGreat.new.text) (string_bytes c.push_leaf-in-TooGreat-2.new.text)
-      c.in_ok-push_leaf-in-TooGreat.ensures.words second));
+-- the words of a flaw that were written
+wrote : {T E : Type 0} (r : Result T E) (new old words : List ℕ) (told : Flaw → List ℕ) (flaw same : Flaw) → flaw ≡ same → words ≡ told same → OnOk r (new ≡ old ++ words) → OnOk r (new ≡ old ++ told flaw)
+wrote (Ok value) new old words told flaw same is e p = p ∙ ap (λ (w : List ℕ). old ++ w) (e ∙ ap told (sym is))
+wrote (Err fault) new old words told flaw same is e p = tt
+
+with_numbers : (name p q : List ℕ) (g m n : ℕ) → p ≡ q → m ≡ n → name ++ (codes " " ++ p) ++ number_word g ++ number_word m ≡ name ++ (codes " " ++ q) ++ number_word g ++ number_word n
+with_numbers name p q g m n same number =
+    ap (λ (t : List ℕ). name ++ (codes " " ++ t) ++ number_word g ++ number_word m) same ∙ ap (λ (k : ℕ). name ++ (codes " " ++ q) ++ number_word g ++ number_word k) number
+
+with_paths : (name p q a b : List ℕ) → p ≡ q → a ≡ b → name ++ (codes " " ++ p) ++ (codes " " ++ a) ≡ name ++ (codes " " ++ q) ++ (codes " " ++ b)
+with_paths name p q a b leaf node = ap (λ (t : List ℕ). name ++ (codes " " ++ t) ++ (codes " " ++ a)) leaf ∙ ap (λ (t : List ℕ). name ++ (codes " " ++ q) ++ (codes " " ++ t)) node
+
+pub returns-in-OverWant : goal.returns-in-OverWant
+returns-in-OverWant g c =
+    let gs = c.args.grants.now in
+    let leaf = c.in-OverWant.leaf in
+    let number = c.want-want.ensures.want ∙ ap (λ (o : List Place). slice_index (limits o).wants leaf) c.tree.ensures.tree in
+    record {
+      words = wrote c.push_numbers.result (string_bytes c.push_numbers.new.text) (string_bytes c.args.text.now) _ (flaw_words c.args.sheet.now gs) c.args.flaw _ c.in-OverWant.is
+          (with_numbers (codes "2 OverWant") c.leaf_path.result.now _ (slice_index gs leaf) c.want-want.result _ c.leaf_path.ensures.path number) c.push_numbers.ensures.words;
+    }
+
+pub returns-in-UnderFloor : goal.returns-in-UnderFloor
+returns-in-UnderFloor g c =
+    let gs = c.args.grants.now in
+    let leaf = c.in-UnderFloor.leaf in
+    let number = c.floor-floor.ensures.floor ∙ ap (λ (o : List Place). slice_index (limits o).floors leaf) c.tree-in-UnderFloor.ensures.tree in
+    record {
+      words = wrote c.push_numbers-in-UnderFloor.result (string_bytes c.push_numbers-in-UnderFloor.new.text) (string_bytes c.args.text.now) _ (flaw_words c.args.sheet.now gs) c.args.flaw _ c.in-UnderFloor.is
+          (with_numbers (codes "8 UnderFloor") c.leaf_path-in-UnderFloor.result.now _ (slice_index gs leaf) c.floor-floor.result _ c.leaf_path-in-UnderFloor.ensures.path number) c.push_numbers-in-UnderFloor.ensures.words;
+    }
+
+pub returns-in-NotAbove : goal.returns-in-NotAbove
+returns-in-NotAbove g c = record {
+  words = wrote c.push_paths.result (string_bytes c.push_paths.new.text) (string_bytes c.args.text.now) _ (flaw_words c.args.sheet.now c.args.grants.now) c.args.flaw _ c.in-NotAbove.is
+      (with_paths (codes "5 NotAbove") c.leaf_path-in-NotAbove.result.now _ c.path.result.now _ c.leaf_path-in-NotAbove.ensures.path c.path.ensures.path) c.push_paths.ensures.words;
 }
 
-pub returns-in_ok-push_leaf-in-OverWant : goal.returns-in_ok-push_leaf-in-OverWant
-returns-in_ok-push_leaf-in-OverWant g c = record {
-  words = on_ok c.write-in-OverWant.result _ _ c.write-in-OverWant.ensures.bytes (λ second.
-      let sheet = c.args.sheet.now in
-      let gs = c.args.grants.now in
-      let want = c.want-want.ensures.want ∙ ap (λ (o : List Place). slice_index (limits o).wants c.in-OverWant.leaf) c.tree.ensures.tree in
-      subst (λ (f : Flaw). string_bytes c.write-in-OverWant.new.self ≡ string_bytes c.args.text.now ++ flaw_words sheet gs f) (sym c.in-OverWant.is)
-      (one_behind (string_bytes c.args.text.now) (codes "2 OverWant" ++ leaf_word sheet c.in-OverWant.leaf ++ number_word (slice_index gs c.in-OverWant.leaf))
-      (number_word (slice_index (limits sheet.outline).wants c.in-OverWant.leaf)) (string_bytes c.push_leaf.new.text) (string_bytes c.write-in-OverWant.new.self)
-      c.in_ok-push_leaf-in-OverWant.ensures.words (second ∙ ap (λ (n : ℕ). string_bytes c.push_leaf.new.text ++ number_word n) want)));
-}
-
-pub returns-in_ok-push_words-in-OverLimit : goal.returns-in_ok-push_words-in-OverLimit
-returns-in_ok-push_words-in-OverLimit g c = record {
-  words = on_ok c.write-in-OverLimit.result _ _ c.write-in-OverLimit.ensures.bytes (λ second.
-      let sheet = c.args.sheet.now in
-      let gs = c.args.grants.now in
-      let node = c.in-OverLimit.node in
-      let old = string_bytes c.args.text.now in
-      let limit_of : List Place → ℕ = λ o. unwrap_or (option_and_then (λ b. b.limit) ((limits o).branch node)) 0 in
-      let sum_of : List Place → ℕ = λ o. sum_over (leaves_under o node) gs in
-      let limit : c.unwrap_or-limit.result ≡ limit_of sheet.outline =
-      c.unwrap_or-limit.ensures ∙ ap (λ (o : Option ℕ). unwrap_or o 0) c.limit.ensures.limit ∙ ap limit_of c.tree-in-OverLimit-2.ensures.tree in
-      let sum : c.sum_under-sum.result ≡ sum_of sheet.outline = c.sum_under-sum.ensures.sum ∙ ap sum_of c.tree-in-OverLimit.ensures.tree in
-      let words : string_bytes c.push_words.new.text ≡ old ++ (codes "3 OverLimit" ++ node_word sheet node ++ number_word (sum_of sheet.outline)) =
-      c.in_ok-push_words-in-OverLimit.ensures.words ∙ ap (λ (p : List ℕ). old ++ (codes "3 OverLimit" ++ (codes " " ++ p) ++ number_word c.sum_under-sum.result)) c.path.ensures.path
-      ∙ ap (λ (n : ℕ). old ++ (codes "3 OverLimit" ++ node_word sheet node ++ number_word n)) sum in
-      subst (λ (f : Flaw). string_bytes c.write-in-OverLimit.new.self ≡ old ++ flaw_words sheet gs f) (sym c.in-OverLimit.is)
-      (one_behind old (codes "3 OverLimit" ++ node_word sheet node ++ number_word (sum_of sheet.outline))
-      (number_word (limit_of sheet.outline)) (string_bytes c.push_words.new.text) (string_bytes c.write-in-OverLimit.new.self)
-      words (second ∙ ap (λ (n : ℕ). string_bytes c.push_words.new.text ++ number_word n) limit)));
+pub returns-in-NotFull : goal.returns-in-NotFull
+returns-in-NotFull g c = record {
+  words = wrote c.push_paths-in-NotFull.result (string_bytes c.push_paths-in-NotFull.new.text) (string_bytes c.args.text.now) _ (flaw_words c.args.sheet.now c.args.grants.now) c.args.flaw _ c.in-NotFull.is
+      (with_paths (codes "6 NotFull") c.leaf_path-in-NotFull.result.now _ c.path-in-NotFull.result.now _ c.leaf_path-in-NotFull.ensures.path c.path-in-NotFull.ensures.path) c.push_paths-in-NotFull.ensures.words;
 }

@@ -129,11 +129,17 @@ const HOST: HostPort = HostPort {
 fn ports_are_read(rt: HostRuntime) {
     same(&rt, &read_port("127,0,0,1,0,21"), &Ok(HOST));
     same(&rt, &read_port("127,0,0,1,0"), &Err(LineFault::BadArgument));
-    for (text, wanted) in [
-        ("|1|127.0.0.1|21|", Ok(ExtendedPort::Ipv4(HOST))),
-        ("|2|::1|5000|", Ok(ExtendedPort::Unsupported(2))),
-        ("|2|", Err(LineFault::BadArgument)),
-    ] {
-        same(&rt, &read_eprt(text), &wanted);
+}
+
+static EXTENDED: [(&str, Result<ExtendedPort, LineFault>); 3] = [
+    ("|1|127.0.0.1|21|", Ok(ExtendedPort::Ipv4(HOST))),
+    ("|2|::1|5000|", Ok(ExtendedPort::Unsupported(2))),
+    ("|2|", Err(LineFault::BadArgument)),
+];
+
+#[test]
+fn extended_ports_are_read(rt: HostRuntime) {
+    for (text, wanted) in &EXTENDED {
+        same(&rt, &read_eprt(text), wanted);
     }
 }

@@ -1,8 +1,7 @@
 //! Each code that is known, without an argument and with one.
 
-use crate::told::told_of;
+use crate::told::check_row;
 use std::alloc::Global;
-use std::fmt::Write;
 use std::process::Abort;
 use std::test::Fail;
 
@@ -85,13 +84,8 @@ fn check_line(
     argument: &str,
     item: &str,
 ) -> Result<(), Fail> {
-    let mut line = String::new(alloc);
-    write!(line, "{code}{argument}\r\n")?;
-    let mut wanted = String::new(alloc);
-    write!(wanted, "{item}\r\n")?;
-    let found = told_of(alloc, line.as_bytes())?;
-    assert_eq!(rt; found.as_str(), wanted.as_str(), "{code}{argument}");
-    Ok(())
+    let line = format!(in alloc; "{code}{argument}")?;
+    check_row(rt, alloc, line.as_str(), item)
 }
 
 fn check_codes(rt: &impl Abort, alloc: Global, rows: &[Row]) -> Result<(), Fail> {

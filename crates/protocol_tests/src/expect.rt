@@ -16,3 +16,8 @@ pub(crate) fn holds(rt: &impl Abort, fact: bool)
 pub(crate) fn same<T: PartialEq + Debug>(rt: &impl Abort, found: &T, wanted: &T) {
     assert_eq!(rt; found, wanted);
 }
+
+/// Stops the test where what a line tells is not what is wanted.
+pub(crate) fn same_line(rt: &impl Abort, found: &str, wanted: &str, line: &str) {
+    assert_eq!(rt; found, wanted, "{line}");
+}

@@ -3,24 +3,31 @@
 use crate::expect::{holds, same};
 use ftp_reply::{list_line, listings_have_one_text, mdtm_line, mdtm_text, mlst_entry, quoted_path};
 use ftp_terms::{Facts, Kind, LATEST, Letters, Meta};
+use std::alloc::Global;
+use std::process::Abort;
 use std::test::Fail;
 
 /// 2000-02-29 12:34:56.
 const LEAP_DAY: u64 = 951_827_696;
 
-const MOMENTS: [(u64, &[u8; 14]); 3] = [
+static MOMENTS: [(u64, &[u8; 14]); 3] = [
     (LEAP_DAY, b"20000229123456"),
     (0, b"19700101000000"),
     (LATEST, b"99991231235959"),
 ];
 
+fn check_moment(rt: &impl Abort, alloc: Global, seconds: u64, text: &[u8; 14]) -> Result<(), Fail> {
+    holds(rt, seconds <= LATEST);
+    same(rt, &mdtm_text(seconds), text);
+    let line = mdtm_line(alloc, seconds)?;
+    same(rt, &line.as_str().as_bytes(), &text.as_slice());
+    Ok(())
+}
+
 #[test]
 fn moments_are_civil_dates(rt: HostRuntime) -> Result<(), Fail> {
-    for (seconds, text) in MOMENTS {
-        holds(&rt, seconds <= LATEST);
-        same(&rt, &mdtm_text(seconds), text);
-        let line = mdtm_line(rt.alloc(), seconds)?;
-        same(&rt, &line.as_str().as_bytes(), &text.as_slice());
+    for (seconds, text) in &MOMENTS {
+        check_moment(&rt, rt.alloc(), *seconds, text)?;
     }
     listings_have_one_text();
     Ok(())
@@ -34,7 +41,7 @@ fn later_moments_are_told_as_the_latest(rt: HostRuntime) {
     holds(&rt, meta != Meta::new(Kind::Directory, 3, LATEST));
 }
 
-const LISTED: [(Kind, u64, u64, &str); 4] = [
+static LISTED: [(Kind, u64, u64, &str); 4] = [
     (
         Kind::File,
         120,
@@ -63,9 +70,9 @@ const LISTED: [(Kind, u64, u64, &str); 4] = [
 
 #[test]
 fn list_lines(rt: HostRuntime) -> Result<(), Fail> {
-    for (kind, size, seconds, wanted) in LISTED {
-        let line = list_line(rt.alloc(), &Meta::new(kind, size, seconds), "x")?;
-        same(&rt, &line.as_str(), &wanted);
+    for (kind, size, seconds, wanted) in &LISTED {
+        let line = list_line(rt.alloc(), &Meta::new(*kind, *size, *seconds), "x")?;
+        same(&rt, &line.as_str(), wanted);
     }
     Ok(())
 }
@@ -91,11 +98,14 @@ const READS: Letters = Letters {
 /// Kind, size and moment of an entry.
 type Of = (Kind, u64, u64);
 
+/// What an entry is of, its facts, letters and path, and its text.
+type Entry = (Of, Facts, Letters, &'static str, &'static str);
+
 const FILE: Of = (Kind::File, 3, LEAP_DAY);
 
 const FOLDER: Of = (Kind::Directory, 0, 0);
 
-const ENTRIES: [(Of, Facts, Letters, &str, &str); 10] = [
+static ENTRIES: [Entry; 10] = [
     (
         FILE,
         Facts::ALL,
@@ -146,22 +156,25 @@ const ENTRIES: [(Of, Facts, Letters, &str, &str); 10] = [
 
 #[test]
 fn entries(rt: HostRuntime) -> Result<(), Fail> {
-    for ((kind, size, seconds), facts, letters, path, wanted) in ENTRIES {
-        let meta = Meta::new(kind, size, seconds);
-        let entry = mlst_entry(rt.alloc(), &meta, facts, letters, path)?;
-        same(&rt, &entry.as_str(), &wanted);
+    for ((kind, size, seconds), facts, letters, path, wanted) in &ENTRIES {
+        let meta = Meta::new(*kind, *size, *seconds);
+        let entry = mlst_entry(rt.alloc(), &meta, *facts, *letters, path)?;
+        same(&rt, &entry.as_str(), wanted);
     }
     Ok(())
 }
 
+static QUOTED: [(&str, &str); 3] = [
+    ("/a\"b", "\"/a\"\"b\""),
+    ("/", "\"/\""),
+    ("/\u{e9}\"\"", "\"/\u{e9}\"\"\"\"\""),
+];
+
 #[test]
 fn paths_are_quoted(rt: HostRuntime) -> Result<(), Fail> {
-    for (path, quoted) in [
-        ("/a\"b", "\"/a\"\"b\""),
-        ("/", "\"/\""),
-        ("/\u{e9}\"\"", "\"/\u{e9}\"\"\"\"\""),
-    ] {
-        same(&rt, &quoted_path(rt.alloc(), path)?.as_str(), &quoted);
+    for (path, quoted) in &QUOTED {
+        let found = quoted_path(rt.alloc(), path)?;
+        same(&rt, &found.as_str(), quoted);
     }
     Ok(())
 }

@@ -104,21 +104,42 @@ fn welcome(alloc: Global) -> Option<Reply> {
     ))
 }
 
-/// After a refusal the buffer holds what it held.
-fn reply_outcome(rt: &impl Abort, alloc: Global, room: usize) -> Option<bool>
+/// Writes a reply behind what a buffer holds. After a refusal it holds what it held.
+fn write_behind<'h>(
+    rt: &impl Abort,
+    reply: &Reply,
+    heap: &'h LocalHeap,
+    buffer: &mut Vec<u8, &'h LocalHeap>,
+    room: usize,
+) -> Option<bool>
     requires { room ≤ ROOM }
 {
-    let reply = welcome(alloc)?;
-    let heap = LocalHeap::new(alloc, ROOM).ok()?;
-    let mut buffer = Vec::from_slice(&heap, b"before").ok()?;
-    let hog = Vec::<u8, &LocalHeap>::with_capacity(&heap, ROOM - room).ok()?;
-    let first = reply.write_to(&mut buffer).is_ok();
+    let hog = Vec::<u8, &LocalHeap>::with_capacity(heap, ROOM - room).ok()?;
+    let first = reply.write_to(buffer).is_ok();
     holds(rt, first || buffer.as_slice() == b"before".as_slice());
     drop(hog);
+    Some(first)
+}
+
+/// The same, and again once there is memory.
+fn write_twice(rt: &impl Abort, alloc: Global, reply: &Reply, room: usize) -> Option<bool>
+    requires { room ≤ ROOM }
+{
+    let heap = LocalHeap::new(alloc, ROOM).ok()?;
+    let heap = &heap;
+    let mut buffer = Vec::from_slice(heap, b"before").ok()?;
+    let first = write_behind(rt, reply, heap, &mut buffer, room)?;
     buffer.clear();
     holds(rt, reply.write_to(&mut buffer).is_ok());
     same(rt, &buffer.as_slice(), &OCTETS);
     Some(first)
+}
+
+fn reply_outcome(rt: &impl Abort, alloc: Global, room: usize) -> Option<bool>
+    requires { room ≤ ROOM }
+{
+    let reply = welcome(alloc)?;
+    write_twice(rt, alloc, &reply, room)
 }
 
 #[test]

@@ -1,12 +1,12 @@
 //! A control connection in pieces, with Telnet commands in it.
 
 use crate::expect::{holds, same};
-use crate::told::told;
+use crate::told::add_told;
 use ftp_wire::{
     Command, LONGEST_HELD, LineReader, items_stay, only_items, spellings_apart, write_command,
 };
 use std::alloc::Global;
-use std::fmt::Write;
+use std::process::Abort;
 use std::test::Fail;
 
 /// Lines of a session, and what each stands for: the command as it is written, or the fault.
@@ -45,63 +45,105 @@ static SESSION: [(&[u8], &str); 32] = [
     (b"NOO\xff\xfa\xff", ""),
 ];
 
-/// The octets of the session, and what they stand for.
-fn session(alloc: Global) -> Result<(Vec<u8>, String), Fail> {
+/// The octets of the session.
+fn session_octets(alloc: Global) -> Result<Vec<u8>, Fail> {
     let mut octets = Vec::new(alloc);
-    let mut items = String::new(alloc);
-    for (line, item) in &SESSION {
+    for (line, _) in &SESSION {
         octets.extend_from_slice(line)?;
+    }
+    Ok(octets)
+}
+
+/// What the octets of the session stand for.
+fn session_items(alloc: Global) -> Result<String, Fail> {
+    let mut items = String::new(alloc);
+    for (_, item) in &SESSION {
         if !item.is_empty() {
-            write!(items, "{item}\r\n")?;
+            items.push_str(item)?;
+            items.push_str("\r\n")?;
         }
     }
-    Ok((octets, items))
+    Ok(items)
 }
 
 /// What a reader tells of octets that come in two pieces.
 fn told_in_two(alloc: Global, first: &[u8], second: &[u8]) -> Result<String, Fail> {
     let mut reader = LineReader::new(alloc);
-    let mut out = told(alloc, reader.feed(first)?.as_slice())?;
-    let rest = told(alloc, reader.feed(second)?.as_slice())?;
-    out.push_str(rest.as_str())?;
+    let mut out = String::new(alloc);
+    add_told(alloc, &mut out, &mut reader, first)?;
+    add_told(alloc, &mut out, &mut reader, second)?;
     Ok(out)
 }
 
-#[test]
-fn session_however_cut(rt: HostRuntime) -> Result<(), Fail> {
-    let alloc = rt.alloc();
-    let (octets, items) = session(alloc)?;
+fn check_cut(
+    rt: &impl Abort,
+    alloc: Global,
+    first: &[u8],
+    second: &[u8],
+    items: &str,
+) -> Result<(), Fail> {
+    let told = told_in_two(alloc, first, second)?;
+    assert_eq!(rt; told.as_str(), items, "cut at {}", first.len());
+    Ok(())
+}
+
+fn check_each_cut(rt: &impl Abort, alloc: Global, octets: &[u8], items: &str) -> Result<(), Fail> {
     for at in 0..octets.len() {
-        let (first, second) = octets.as_slice().split_at(at);
-        let told = told_in_two(alloc, first, second)?;
-        assert_eq!(rt; told.as_str(), items.as_str(), "cut at {at}");
+        let (first, second) = octets.split_at(at);
+        check_cut(rt, alloc, first, second, items)?;
     }
     Ok(())
 }
 
 #[test]
-fn session_by_octets(rt: HostRuntime) -> Result<(), Fail> {
-    let alloc = rt.alloc();
-    let (octets, items) = session(alloc)?;
-    let mut reader = LineReader::new(alloc);
+fn session_however_cut(rt: HostRuntime) -> Result<(), Fail> {
+    let octets = session_octets(rt.alloc())?;
+    let items = session_items(rt.alloc())?;
+    check_each_cut(&rt, rt.alloc(), octets.as_slice(), items.as_str())
+}
+
+/// What a reader tells of octets that come one by one.
+fn told_by_octets(
+    rt: &impl Abort,
+    alloc: Global,
+    reader: &mut LineReader,
+    octets: &[u8],
+) -> Result<String, Fail> {
     let mut out = String::new(alloc);
-    for octet in octets.as_slice() {
-        let found = told(alloc, reader.feed(&[*octet])?.as_slice())?;
-        out.push_str(found.as_str())?;
-        holds(&rt, reader.kept() <= LONGEST_HELD);
+    for octet in octets {
+        add_told(alloc, &mut out, reader, &[*octet])?;
+        holds(rt, reader.kept() <= LONGEST_HELD);
     }
-    same(&rt, &out.as_str(), &items.as_str());
+    Ok(out)
+}
+
+fn check_by_octets(rt: &impl Abort, alloc: Global, reader: &mut LineReader) -> Result<(), Fail> {
+    let octets = session_octets(alloc)?;
+    let out = told_by_octets(rt, alloc, reader, octets.as_slice())?;
+    let items = session_items(alloc)?;
+    same(rt, &out.as_str(), &items.as_str());
+    Ok(())
+}
+
+#[test]
+fn session_by_octets(rt: HostRuntime) -> Result<(), Fail> {
+    let mut reader = LineReader::new(rt.alloc());
+    check_by_octets(&rt, rt.alloc(), &mut reader)?;
     reader.reads_as();
+    Ok(())
+}
+
+fn check_written(rt: &impl Abort, alloc: Global, command: &Command<String>) -> Result<(), Fail> {
+    let line = write_command(alloc, command)?;
+    same(rt, &line.as_slice(), &b"RETR x\r\n".as_slice());
     Ok(())
 }
 
 #[test]
 fn laws_are_called(rt: HostRuntime) -> Result<(), Fail> {
     let command = Command::Retr(String::from_str(rt.alloc(), "x")?);
-    let line = write_command(rt.alloc(), &command)?;
-    same(&rt, &line.as_slice(), &b"RETR x\r\n".as_slice());
     only_items();
     items_stay();
     spellings_apart();
-    Ok(())
+    check_written(&rt, rt.alloc(), &command)
 }

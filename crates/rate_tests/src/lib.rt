@@ -4,10 +4,6 @@
 #[cfg(test)]
 mod expect;
 #[cfg(test)]
-mod floor_rates;
-#[cfg(test)]
-mod floor_shortages;
-#[cfg(test)]
 mod floors;
 #[cfg(test)]
 mod limits;

@@ -1,99 +1,72 @@
 //! Which rates are refused, and what those that are not look up.
 
-use super::rates::{group, user};
-use crate::expect::same;
-use line_rates::{GroupRate, Limits, LimitsFault, MAX_RATE, Name, UserRate, Way};
-use std::alloc::Global;
+use super::rates::{group, limits_of, user};
+use crate::expect::holds;
+use line_rates::{GroupRate, LimitsFault, MAX_RATE, Name, UserRate, Way};
 use std::process::Abort;
-use std::test::Fail;
 
-// The fault of rates of the line, of groups and of users.
-fn fault(server: u64, groups: Vec<GroupRate>, users: Vec<UserRate>) -> Option<LimitsFault> {
-    match Limits::of(server, 0, 0, groups, users) {
-        Ok(_) => None,
-        Err(fault) => Some(fault),
-    }
+// The fault of rates of the server, of groups and of users, or none.
+fn expect_fault(
+    rt: &(impl Abort + AllocGlobal),
+    server: u64,
+    groups: &[GroupRate],
+    users: &[UserRate],
+    fault: Option<LimitsFault>,
+) {
+    holds(
+        rt,
+        limits_of(rt, server, 0, 0, groups, users).err() == fault,
+    );
 }
 
 #[test]
-fn the_largest_rate_is_taken(rt: HostRuntime) -> Result<(), Fail> {
-    let groups = vec![in rt.alloc(); group(7, MAX_RATE)]?;
-    same(&rt, &fault(MAX_RATE, groups, Vec::new(rt.alloc())), &None);
-    Ok(())
-}
-
-#[test]
-fn a_rate_above_it_is_refused(rt: HostRuntime) -> Result<(), Fail> {
+fn rates_that_are_refused(rt: HostRuntime) {
+    expect_fault(&rt, MAX_RATE, &[group(7, MAX_RATE)], &[], None);
     let large = UserRate {
         session_up_floor: MAX_RATE + 1,
         ..user(3, None)
     };
-    let users = vec![in rt.alloc(); large, user(3, Some(9))]?;
-    same(
+    let users = [large, user(3, Some(9))];
+    expect_fault(&rt, 0, &[], &users, Some(LimitsFault::RateTooLarge));
+    // A user has one row, and a group.
+    let users = [user(3, None), user(1, Some(9)), user(3, None)];
+    expect_fault(&rt, 0, &[], &users, Some(LimitsFault::Twice));
+    let groups = [group(5, 1), group(4, 2), group(5, 3)];
+    expect_fault(&rt, 0, &groups, &[], Some(LimitsFault::Twice));
+    // The group of a user has one.
+    let users = [user(1, Some(4)), user(2, Some(5))];
+    expect_fault(
         &rt,
-        &fault(0, Vec::new(rt.alloc()), users),
-        &Some(LimitsFault::RateTooLarge),
+        0,
+        &[group(4, 1)],
+        &users,
+        Some(LimitsFault::NoSuchGroup),
     );
-    Ok(())
 }
+
+static RATES: [(Name, u64); 6] = [
+    (Name::Server, 1),
+    (Name::Direction(Way::Up), 3),
+    (Name::Group(Way::Down, 2), 20),
+    (Name::Group(Way::Down, 3), 0),
+    (Name::User(Way::Down, 40), 10),
+    (Name::Session(Way::Up, 40, 6), 3),
+];
 
 #[test]
-fn a_user_has_one_row(rt: HostRuntime) -> Result<(), Fail> {
-    let users = vec![in rt.alloc(); user(3, None), user(1, Some(9)), user(3, None)]?;
-    same(
-        &rt,
-        &fault(0, Vec::new(rt.alloc()), users),
-        &Some(LimitsFault::Twice),
-    );
-    Ok(())
-}
-
-#[test]
-fn a_group_has_one_row(rt: HostRuntime) -> Result<(), Fail> {
-    let groups = vec![in rt.alloc(); group(5, 1), group(4, 2), group(5, 3)]?;
-    same(
-        &rt,
-        &fault(0, groups, Vec::new(rt.alloc())),
-        &Some(LimitsFault::Twice),
-    );
-    Ok(())
-}
-
-#[test]
-fn a_group_of_a_user_has_a_row(rt: HostRuntime) -> Result<(), Fail> {
-    let groups = vec![in rt.alloc(); group(4, 1)]?;
-    let users = vec![in rt.alloc(); user(1, Some(4)), user(2, Some(5))]?;
-    same(
-        &rt,
-        &fault(0, groups, users),
-        &Some(LimitsFault::NoSuchGroup),
-    );
-    Ok(())
-}
-
-fn three_users(alloc: Global) -> Result<Vec<UserRate>, Fail> {
+fn rows_are_found_by_their_numbers(rt: HostRuntime) {
     let first = UserRate {
         down: 10,
         session_up: 3,
         ..user(40, Some(2))
     };
-    Ok(vec![in alloc; user(50, None), first, user(7, Some(1))]?)
-}
-
-#[test]
-fn rows_are_found_by_their_numbers(rt: HostRuntime) -> Result<(), Fail> {
-    let groups = vec![in rt.alloc(); group(2, 20), group(1, 10)]?;
-    let Ok(limits) = Limits::of(1, 2, 3, groups, three_users(rt.alloc())?) else {
-        panic!(rt; "rates without a fault are refused");
-    };
-    same(&rt, &limits.rate(Name::Server), &1);
-    same(&rt, &limits.rate(Name::Direction(Way::Up)), &3);
-    same(&rt, &limits.rate(Name::Group(Way::Down, 2)), &20);
-    same(&rt, &limits.rate(Name::Group(Way::Down, 3)), &0);
-    same(&rt, &limits.rate(Name::User(Way::Down, 40)), &10);
-    same(&rt, &limits.rate(Name::Session(Way::Up, 40, 6)), &3);
-    same(&rt, &limits.group_of(7), &Some(1));
-    same(&rt, &limits.group_of(8), &None);
-    same(&rt, &limits.user_row(50), &Some(user(50, None)));
-    Ok(())
+    let users = [user(50, None), first, user(7, Some(1))];
+    let limits = limits_of(&rt, 1, 2, 3, &[group(2, 20), group(1, 10)], &users);
+    let limits = limits.expect(&rt, "rates without a fault");
+    for (name, rate) in &RATES {
+        holds(&rt, limits.rate(*name) == *rate);
+    }
+    holds(&rt, limits.group_of(7) == Some(1));
+    holds(&rt, limits.group_of(8).is_none());
+    holds(&rt, limits.user_row(50) == Some(user(50, None)));
 }

@@ -1,7 +1,6 @@
-//! Rates for the tests.
+//! Rates for the tests. Where there is no memory for them, the test stops.
 
 use line_rates::{Ask, GroupRate, Limits, LimitsFault, UserRate, Way};
-use std::alloc::{AllocError, Global};
 use std::process::Abort;
 
 /// A user without limits.
@@ -15,6 +14,14 @@ pub fn user(user: u32, group: Option<u32>) -> UserRate {
         session_up: 0,
         session_down_floor: 0,
         session_up_floor: 0,
+    }
+}
+
+/// A user whose sessions are each guaranteed a rate down.
+pub fn guaranteed(number: u32, group: Option<u32>, floor: u64) -> UserRate {
+    UserRate {
+        session_down_floor: floor,
+        ..user(number, group)
     }
 }
 
@@ -33,26 +40,28 @@ pub fn down(user: u32, session: u32, want: u64) -> Ask {
     }
 }
 
-fn taken(rt: &impl Abort, limits: Result<Limits, LimitsFault>) -> Limits {
-    match limits {
-        Ok(limits) => limits,
-        Err(fault) => panic!(rt; "rates without a fault are refused: {fault}"),
-    }
+/// The limits of rates of the server, down and up, of groups and of users.
+pub fn limits_of(
+    rt: &(impl Abort + AllocGlobal),
+    server: u64,
+    down: u64,
+    up: u64,
+    groups: &[GroupRate],
+    users: &[UserRate],
+) -> Result<Limits, LimitsFault> {
+    let groups = groups.to_vec(rt.alloc()).expect(rt, "memory");
+    let users = users.to_vec(rt.alloc()).expect(rt, "memory");
+    Limits::of(server, down, up, groups, users)
 }
 
-/// The limits of a rate down, of groups and of users.
-pub fn limits(rt: &impl Abort, rate: u64, groups: Vec<GroupRate>, users: Vec<UserRate>) -> Limits {
-    taken(rt, Limits::of(0, rate, 0, groups, users))
-}
-
-/// The limits of a rate of the server, of groups and of users.
-pub fn server(rt: &impl Abort, rate: u64, groups: Vec<GroupRate>, users: Vec<UserRate>) -> Limits {
-    taken(rt, Limits::of(rate, 0, 0, groups, users))
-}
-
-/// A rate down of 100; group 0 has 40 of it, with users 0 and 1; user 2 is in none and has no row.
-pub fn two_in_a_group(rt: &impl Abort, alloc: Global) -> Result<Limits, AllocError> {
-    let groups = vec![in alloc; group(0, 40)]?;
-    let users = vec![in alloc; user(1, Some(0)), user(0, Some(0))]?;
-    Ok(limits(rt, 100, groups, users))
+/// A rate down of 100; group 0 has 40 of it, with users 0 and 1; user 2 is in none and has no row. Each session of user 5 is
+/// guaranteed 80 of the 100 of group 4.
+pub fn two_groups(rt: &(impl Abort + AllocGlobal)) -> Limits {
+    let groups = [group(0, 40), group(4, 100)];
+    let users = [
+        user(1, Some(0)),
+        user(0, Some(0)),
+        guaranteed(5, Some(4), 80),
+    ];
+    limits_of(rt, 0, 100, 0, &groups, &users).expect(rt, "rates without a fault")
 }

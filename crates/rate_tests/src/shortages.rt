@@ -1,16 +1,16 @@
 //! Memory that is refused, at each growth in turn, and there again.
 ghost use Rattle.std.specs.Prelude.{◌≤◌};
+ghost use Rattle.rate_tests.specs.declared.shortages.TheConstants.{HEAP};
 
-use super::rates::{down, two_in_a_group};
-use crate::expect::{holds, same};
+use super::rates::{down, two_groups};
+use crate::expect::holds;
 use line_rates::{Limits, PlanFault, tree_of};
 use linked_list_allocator::LocalHeap;
-use std::alloc::Global;
+use rate_floors::Floors;
 use std::process::Abort;
-use std::test::Fail;
 
 // Whether the tree of a tick has memory; where it has, it is right.
-fn answers(rt: &impl Abort, heap: &LocalHeap, limits: &Limits) -> bool {
+fn has_plan(rt: &impl Abort, heap: &LocalHeap, limits: &Limits) -> bool {
     let asks = [
         (4, down(0, 0, 10)),
         (5, down(2, 0, 10)),
@@ -19,42 +19,55 @@ fn answers(rt: &impl Abort, heap: &LocalHeap, limits: &Limits) -> bool {
     match tree_of(heap, limits, 0, &asks) {
         Ok(plan) => {
             holds(rt, plan.lanes.as_slice() == [4, 6, 5].as_slice());
-            same(rt, &plan.tree.nodes(), &12);
+            holds(rt, plan.tree.nodes() == 12);
             true
         }
         Err(fault) => {
-            same(rt, &fault, &PlanFault::Memory);
+            holds(rt, fault == PlanFault::Memory);
             false
         }
     }
 }
 
+// Whether the guarantees have memory; where they have, they are right.
+fn has_floors(rt: &impl Abort, heap: &LocalHeap, limits: &Limits) -> bool {
+    match Floors::of(heap, limits) {
+        Ok(floors) => {
+            let mut floors = floors;
+            holds(rt, floors.admit(5));
+            holds(rt, !floors.admit(5));
+            true
+        }
+        Err(_) => false,
+    }
+}
+
 const HEAP: usize = 8192;
 
-// Whether it has memory in so small a room; where it has none, it has once memory is there.
-fn answers_in(rt: &impl Abort, alloc: Global, room: usize, limits: &Limits) -> Result<bool, Fail>
-    requires { room ≤ 8192 }
+// Whether a plan and guarantees each have memory in so small a room; where they have none, they have once memory is
+// there.
+fn answers_in(rt: &(impl Abort + AllocGlobal), room: usize, limits: &Limits) -> [bool; 2]
+    requires { room ≤ HEAP }
 {
-    let heap = LocalHeap::new(alloc, HEAP)?;
-    let hog = Vec::<u8, &LocalHeap>::with_capacity(&heap, HEAP - room)?;
-    let first = answers(rt, &heap, limits);
+    let heap = LocalHeap::new(rt.alloc(), HEAP).expect(rt, "memory");
+    let hog = Vec::<u8, &LocalHeap>::with_capacity(&heap, HEAP - room).expect(rt, "memory");
+    let first = [has_plan(rt, &heap, limits), has_floors(rt, &heap, limits)];
     drop(hog);
-    holds(rt, answers(rt, &heap, limits));
-    Ok(first)
+    holds(
+        rt,
+        has_plan(rt, &heap, limits) && has_floors(rt, &heap, limits),
+    );
+    first
 }
 
 // Room rises by less than the least growth, so that each growth is the first that is refused.
 #[test]
-fn each_growth_of_a_plan(rt: HostRuntime) -> Result<(), Fail> {
-    let limits = two_in_a_group(&rt, rt.alloc())?;
-    let mut refusals = 0u32;
-    let mut last = false;
+fn each_growth_of_a_plan_and_of_the_guarantees(rt: HostRuntime) {
+    let limits = two_groups(&rt);
     for step in 0..256usize {
-        last = answers_in(&rt, rt.alloc(), 16 * step, &limits)?;
-        if !last {
-            refusals = refusals.saturating_add(1);
-        }
+        let answers = answers_in(&rt, 16 * step, &limits);
+        // With no room both are refused, and with much neither.
+        holds(&rt, step > 0 || answers == [false; 2]);
+        holds(&rt, step < 255 || answers == [true; 2]);
     }
-    assert!(rt; refusals > 0 && last, "{refusals}");
-    Ok(())
 }

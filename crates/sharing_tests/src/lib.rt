@@ -13,7 +13,7 @@ mod expect;
 #[cfg(test)]
 mod limits;
 #[cfg(test)]
-mod numbers;
+mod random_trees;
 #[cfg(test)]
 mod shortages;
 #[cfg(test)]

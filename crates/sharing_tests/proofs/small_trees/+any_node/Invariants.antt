@@ -1,4 +1,0 @@
-use Rattle.sharing_tests.proofs.small_trees.+any_node.Given as goal
-
-abbrev pub decreases-any_node : goal.decreases-any_node
-decreases-any_node l = l.levels

@@ -1,11 +1,11 @@
-//! What tests expect. A call costs the prover less than an `assert!` in its place.
+//! What tests expect. A call costs the prover less than an `assert!` in its place, and a value that is expected costs less than a
+//! `?`, which drops all that is alive there.
 
 use folder_store::DirStore;
 use std::alloc::Global;
 use std::os::fd::AsRawFd;
 use std::process::Abort;
 use std::rt::Files;
-use std::test::Fail;
 use store_script::first_unmet;
 use virtual_tree::Store;
 
@@ -14,24 +14,20 @@ pub fn holds(rt: &impl Abort, fact: bool) {
     assert!(rt; fact);
 }
 
-/// Carries out a script. A line that tells something else than it should is a failure.
-pub fn comes_out<S: Store<Global>>(
-    global: Global,
-    store: &mut S,
-    script: &str,
-) -> Result<(), Fail> {
-    match first_unmet(global, global, store, script)? {
-        Some(unmet) => Err(Fail::from(unmet)),
-        None => Ok(()),
+/// Carries out a script. Stops the test at a line that tells something else than it should.
+pub fn comes_out<S: Store<Global>>(rt: &(impl Abort + AllocGlobal), store: &mut S, script: &str) {
+    let unmet = first_unmet(rt.alloc(), rt.alloc(), store, script).expect(rt, script);
+    if let Some(line) = unmet {
+        panic!(rt; "{line}")
     }
 }
 
 /// The same in a folder of a machine.
-pub fn comes_out_in<M>(global: Global, machine: M, folder: &str, script: &str) -> Result<(), Fail>
+pub fn comes_out_in<M>(rt: &(impl Abort + AllocGlobal), machine: M, folder: &str, script: &str)
 where
     M: Files + AllocGlobal + Clone + Drop,
     M::File: AsRawFd,
 {
-    let mut store = DirStore::new(machine, folder)?;
-    comes_out(global, &mut store, script)
+    let mut store = DirStore::new(machine, folder).expect(rt, folder);
+    comes_out(rt, &mut store, script);
 }

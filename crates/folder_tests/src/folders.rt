@@ -1,88 +1,98 @@
 //! Calls one after another on folders of the machine.
 
-use crate::expect::{comes_out, holds};
+use crate::expect::{comes_out_in, holds};
+use crate::racing_machine::{Act, acting};
 use folder_store::DirStore;
+use std::env::Env;
 use std::fs;
+use std::os::fd::AsRawFd;
+use std::process::Abort;
 use std::rt::Files;
 use std::test::Fail;
 use store_script::{DIRECTORIES, FILES, RENAMES, fresh, inside};
 use virtual_tree::StoreFault;
 
-/// What is asked of a folder that has a link to the folder above, `out`, and one to the file `kept`
-/// there, `k`.
-const LINKS: &str = "read /out = not found
-remove-file /out = not found
-remove-directory /out = not found
-read /k = not found
-remove-file /k = not found
-size /k = not found
-rename /k /n = not found
-read /out/kept = not found
-remove-file /out/kept = not found
-new /k x = already exists
-make /k = already exists
-new /out/x x = not found
-make /out/x = not found
-names / =
+/// Where the machine opens no directory, or has no `/proc`, names are followed one by one.
+const BY_NAMES: &str = "make /d
+make /d/e
+new /d/e/f abc
+append /d/e/f d
+read:1 /d/e/f = bcd
+rename /d/e/f /d/b
+size /d/b = 4
+names /d = b
+remove-file /d/b
+remove-directory /d/e
+size /d/e = not found
+new /d/x/y z = not found
 faults = 0";
 
-/// Carries out a script in a folder.
-fn run(rt: &HostRuntime, folder: &str, script: &str) -> Result<(), Fail> {
-    let mut store = DirStore::new(*rt, folder)?;
-    comes_out(rt.alloc(), &mut store, script)
+/// Where the machine refuses each rename, no second name is left.
+const KEPT_NAMES: &str = "new /f abc
+make /d
+rename /f /n = device fault
+size /n = not found
+rename /d /n = device fault
+size /n = not found
+faults = 2
+read /f = abc";
+
+/// Carries out a script in a fresh folder of a machine.
+fn comes_out_afresh<M>(
+    rt: &(impl Abort + Env + Files + AllocGlobal),
+    machine: M,
+    script: &str,
+) -> Result<(), Fail>
+where
+    M: Files + AllocGlobal + Clone + Drop,
+    M::File: AsRawFd,
+{
+    let folder = fresh(rt, "scripts")?;
+    comes_out_in(rt, machine, folder.as_str(), script);
+    Ok(fs::remove_dir_all(rt, folder.as_str())?)
 }
 
 #[test]
-fn in_a_folder(rt: HostRuntime) -> Result<(), Fail> {
+fn in_fresh_folders(rt: HostRuntime) -> Result<(), Fail> {
     for script in [FILES, DIRECTORIES, RENAMES] {
-        let folder = fresh(&rt, "scripts")?;
-        run(&rt, folder.as_str(), script)?;
-        fs::remove_dir_all(&rt, folder.as_str())?;
+        comes_out_afresh(&rt, rt, script)?;
+    }
+    for (act, script) in [
+        (Act::KeepDirectories, BY_NAMES),
+        (Act::HideProc, BY_NAMES),
+        (Act::KeepNames, KEPT_NAMES),
+    ] {
+        comes_out_afresh(&rt, acting(rt, act), script)?;
     }
     Ok(())
 }
 
-/// Puts the two links into a folder.
-fn link(rt: &HostRuntime, folder: &str) -> Result<(), Fail> {
-    rt.symlink("..", inside(rt, folder, "out")?.as_str())?;
-    Ok(rt.symlink("../kept", inside(rt, folder, "k")?.as_str())?)
-}
-
-/// Carries out what is asked of links in a new folder, where the file `kept` stands above it.
-fn ask_of_links(rt: &HostRuntime, folder: &str) -> Result<(), Fail> {
-    fs::create_dir(rt, folder)?;
-    link(rt, folder)?;
-    run(rt, folder, LINKS)
-}
+/// Two of these names no path names.
+const NAMES: [&str; 4] = ["b", "a", "t\tb", "x\u{7f}"];
 
 #[test]
-fn links(rt: HostRuntime) -> Result<(), Fail> {
-    let above = fresh(&rt, "links")?;
-    let kept = inside(&rt, above.as_str(), "kept")?;
-    fs::write(&rt, kept.as_str(), "kept")?;
-    ask_of_links(&rt, inside(&rt, above.as_str(), "served")?.as_str())?;
-    holds(
-        &rt,
-        fs::read_to_string(&rt, kept.as_str())?.as_str() == "kept",
-    );
-    Ok(fs::remove_dir_all(&rt, above.as_str())?)
-}
-
-/// Why there is no store over what stands at a place.
-fn refused(rt: &HostRuntime, place: &str) -> Option<StoreFault> {
-    DirStore::new(*rt, place).err()
+fn names_that_no_path_names(rt: HostRuntime) -> Result<(), Fail> {
+    let folder = fresh(&rt, "names")?;
+    for name in NAMES {
+        fs::write(&rt, inside(&rt, folder.as_str(), name)?.as_str(), "abc")?;
+    }
+    comes_out_in(&rt, rt, folder.as_str(), "names / = a b");
+    for (act, script) in [
+        (Act::Nothing, "names / = a b\nfaults = 0"),
+        (Act::HideFirst, "names / = b\nfaults = 0"),
+    ] {
+        comes_out_in(&rt, acting(rt, act), folder.as_str(), script);
+    }
+    Ok(fs::remove_dir_all(&rt, folder.as_str())?)
 }
 
 #[test]
 fn what_is_no_folder(rt: HostRuntime) -> Result<(), Fail> {
     let folder = fresh(&rt, "none")?;
-    let file = inside(&rt, folder.as_str(), "f")?;
-    fs::write(&rt, file.as_str(), "abc")?;
-    holds(&rt, refused(&rt, file.as_str()) == Some(StoreFault::NotDir));
-    fs::remove_file(&rt, file.as_str())?;
-    holds(
-        &rt,
-        refused(&rt, file.as_str()) == Some(StoreFault::NotFound),
-    );
+    comes_out_in(&rt, rt, folder.as_str(), "new /f abc");
+    for (name, fault) in [("f", StoreFault::NotDir), ("n", StoreFault::NotFound)] {
+        let place = inside(&rt, folder.as_str(), name)?;
+        holds(&rt, DirStore::new(rt, place.as_str()).err() == Some(fault));
+    }
     Ok(fs::remove_dir_all(&rt, folder.as_str())?)
 }

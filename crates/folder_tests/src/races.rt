@@ -1,12 +1,43 @@
-//! What a store answers where another process was faster.
+//! What a store answers where links lead out of its folder, and where another process puts them there between its calls. What stands
+//! outside stays as it is.
 
 use crate::expect::{comes_out_in, holds};
 use crate::racing_machine::{Act, Racing, acting};
 use std::fs;
 use std::os::fd::AsRawFd;
+use std::process::Abort;
 use std::rt::Files;
 use std::test::Fail;
 use store_script::{fresh, inside};
+
+/// What is asked of a folder that has a link to the folder above, `out`, and one to the file `kept`
+/// there, `k`.
+const LINKS: &str = "read /out = not found
+remove-file /out = not found
+remove-directory /out = not found
+read /k = not found
+remove-file /k = not found
+size /k = not found
+rename /k /n = not found
+read /out/kept = not found
+remove-file /out/kept = not found
+new /k x = already exists
+make /k = already exists
+new /out/x x = not found
+make /out/x = not found
+names / =
+faults = 0";
+
+fn ask_of_links<R>(rt: &R, folder: &str) -> Result<(), Fail>
+where
+    R: Abort + Files + AllocGlobal + Copy + Drop,
+    R::File: AsRawFd,
+{
+    rt.symlink("..", inside(rt, folder, "out")?.as_str())?;
+    rt.symlink("../kept", inside(rt, folder, "k")?.as_str())?;
+    comes_out_in(rt, *rt, folder, LINKS);
+    Ok(())
+}
 
 /// The calls that open the file `f`.
 const OPENINGS: &str = "read /f = not found
@@ -14,48 +45,42 @@ new /f x = not found
 at:1 /f x = not found
 append /f x = not found";
 
-/// What another process leaves of a file that it takes away, or puts a link in the place of, just
+/// What another process leaves of the file `f` that it takes away, or puts a link in the place of, just
 /// before each call of `OPENINGS` opens it.
-fn open_late<R>(rt: &R, folder: &str, act: Act) -> Result<(), Fail>
+fn open_late<R>(rt: &R, folder: &str, place: &str)
 where
-    R: Files + AllocGlobal + Copy + Drop,
+    R: Abort + Files + AllocGlobal + Copy + Drop,
     R::File: AsRawFd,
 {
-    let place = inside(rt, folder, "f")?;
-    for call in OPENINGS.split('\n') {
-        fs::write(rt, place.as_str(), "abc")?;
-        comes_out_in(rt.alloc(), acting(*rt, act), folder, call)?;
-        let _gone = fs::remove_file(rt, place.as_str());
+    for act in [Act::Remove, Act::Link] {
+        for call in OPENINGS.split('\n') {
+            fs::write(rt, place, "abc").expect(rt, "a file");
+            comes_out_in(rt, acting(*rt, act), folder, call);
+            let _gone = fs::remove_file(rt, place);
+        }
     }
-    Ok(())
 }
 
 #[test]
-fn a_file_vanishes_before_it_is_opened(rt: HostRuntime) -> Result<(), Fail> {
-    let folder = fresh(&rt, "vanishes")?;
-    open_late(&rt, folder.as_str(), Act::Remove)?;
-    Ok(fs::remove_dir_all(&rt, folder.as_str())?)
-}
-
-#[test]
-fn a_link_comes_before_a_file_is_opened(rt: HostRuntime) -> Result<(), Fail> {
-    let above = fresh(&rt, "swapped")?;
-    let kept = inside(&rt, above.as_str(), "kept")?;
-    fs::write(&rt, kept.as_str(), "kept")?;
+fn files_and_links(rt: HostRuntime) -> Result<(), Fail> {
+    let above = fresh(&rt, "links")?;
+    comes_out_in(&rt, rt, above.as_str(), "new /kept kept\nmake /served");
     let folder = inside(&rt, above.as_str(), "served")?;
-    fs::create_dir(&rt, folder.as_str())?;
-    open_late(&rt, folder.as_str(), Act::Link)?;
-    holds(
+    ask_of_links(&rt, folder.as_str())?;
+    open_late(
         &rt,
-        fs::read_to_string(&rt, kept.as_str())?.as_str() == "kept",
+        folder.as_str(),
+        inside(&rt, folder.as_str(), "f")?.as_str(),
     );
+    let kept = fs::read_to_string(&rt, inside(&rt, above.as_str(), "kept")?.as_str())?;
+    holds(&rt, kept.as_str() == "kept");
     Ok(fs::remove_dir_all(&rt, above.as_str())?)
 }
 
 /// Calls below a directory that is swapped for a link to another one while each of them runs. They
 /// go on in the directory that they went into.
-const BELOW_SWAPPED: &str = "read /d/a = in the folder
-size /d/a = 13
+const BELOW_SWAPPED: &str = "read /d/a = inside
+size /d/a = 6
 names /d = a b
 new /d/n x
 new /d/a x
@@ -77,48 +102,39 @@ rename /d/a /n = not found
 remove-file /d/a = not found
 remove-directory /d/b = not found";
 
-/// A directory with the file `a`, which holds a text, and the directory `b`.
-fn lay_out(rt: &(impl Files + AllocGlobal), directory: &str, text: &str) -> Result<(), Fail> {
-    fs::create_dir(rt, directory)?;
-    fs::create_dir(rt, inside(rt, directory, "b")?.as_str())?;
-    Ok(fs::write(rt, inside(rt, directory, "a")?.as_str(), text)?)
+/// The directory that is swapped, in the folder `served`, and the one that the link leads to.
+const LAID_OUT: &str = "make /served
+make /served/d
+make /served/d/b
+new /served/d/a inside
+make /elsewhere
+make /elsewhere/b
+new /elsewhere/a elsewhere";
+
+/// Whether the directory that the link leads to is as it was laid out.
+fn is_as_laid_out(rt: &(impl Files + AllocGlobal), above: &str) -> Result<bool, Fail> {
+    let is_new = fs::symlink_metadata(rt, inside(rt, above, "elsewhere/n")?.as_str()).is_ok();
+    let is_there = fs::symlink_metadata(rt, inside(rt, above, "elsewhere/b")?.as_str()).is_ok();
+    let read = fs::read_to_string(rt, inside(rt, above, "elsewhere/a")?.as_str())?;
+    Ok(is_there && !is_new && read.as_str() == "elsewhere")
 }
 
-/// Whether a directory is as it was laid out.
-fn is_as_laid_out(
-    rt: &(impl Files + AllocGlobal),
-    directory: &str,
-    text: &str,
-) -> Result<bool, Fail> {
-    let is_new = fs::symlink_metadata(rt, inside(rt, directory, "n")?.as_str()).is_ok();
-    let is_there = fs::symlink_metadata(rt, inside(rt, directory, "b")?.as_str()).is_ok();
-    let read = fs::read_to_string(rt, inside(rt, directory, "a")?.as_str())?;
-    Ok(is_there && !is_new && read.as_str() == text)
-}
-
-/// Carries out one call while the directory `d` of a folder is swapped for a link.
-fn call_while_swapped(rt: &HostRuntime, folder: &str, call: &str, act: Act) -> Result<(), Fail> {
-    let directory = inside(rt, folder, "d")?;
-    let aside = inside(rt, folder, "aside")?;
-    lay_out(rt, directory.as_str(), "in the folder")?;
+/// Carries out one call while the directory is swapped for a link.
+fn call_while_swapped<R>(rt: &R, above: &str, call: &str, act: Act) -> Result<(), Fail>
+where
+    R: Abort + Files + AllocGlobal + Copy + Drop,
+    R::File: AsRawFd,
+{
+    let directory = inside(rt, above, "served/d")?;
+    let aside = inside(rt, above, "served/aside")?;
     let machine = Racing {
         rt: *rt,
         act,
         swapped: (directory.as_str(), aside.as_str()),
     };
-    comes_out_in(rt.alloc(), machine, folder, call)?;
+    comes_out_in(rt, machine, inside(rt, above, "served")?.as_str(), call);
     // The link came: the other process acted.
     Ok(drop(fs::read_link(rt, directory.as_str())?))
-}
-
-/// Whether the directory `elsewhere` beside the folder is as it was, after such a call.
-fn is_inside(rt: &HostRuntime, above: &str, call: &str, act: Act) -> Result<bool, Fail> {
-    let elsewhere = inside(rt, above, "elsewhere")?;
-    lay_out(rt, elsewhere.as_str(), "elsewhere")?;
-    let folder = inside(rt, above, "served")?;
-    fs::create_dir(rt, folder.as_str())?;
-    call_while_swapped(rt, folder.as_str(), call, act)?;
-    is_as_laid_out(rt, elsewhere.as_str(), "elsewhere")
 }
 
 #[test]
@@ -129,68 +145,11 @@ fn a_link_comes_for_a_directory(rt: HostRuntime) -> Result<(), Fail> {
     ] {
         for call in calls.split('\n') {
             let above = fresh(&rt, "directory_swapped")?;
-            holds(&rt, is_inside(&rt, above.as_str(), call, act)?);
+            comes_out_in(&rt, rt, above.as_str(), LAID_OUT);
+            call_while_swapped(&rt, above.as_str(), call, act)?;
+            holds(&rt, is_as_laid_out(&rt, above.as_str())?);
             fs::remove_dir_all(&rt, above.as_str())?;
         }
     }
     Ok(())
-}
-
-/// Where the machine opens no directory, or has no `/proc`, names are followed one by one.
-const BY_NAMES: &str = "make /d
-make /d/e
-new /d/e/f abc
-append /d/e/f d
-read:1 /d/e/f = bcd
-rename /d/e/f /d/b
-size /d/b = 4
-names /d = b
-remove-file /d/b
-remove-directory /d/e
-size /d/e = not found
-new /d/x/y z = not found
-faults = 0";
-
-#[test]
-fn directories_that_cannot_be_held(rt: HostRuntime) -> Result<(), Fail> {
-    for act in [Act::KeepDirectories, Act::HideProc] {
-        let folder = fresh(&rt, "by_names")?;
-        comes_out_in(rt.alloc(), acting(rt, act), folder.as_str(), BY_NAMES)?;
-        fs::remove_dir_all(&rt, folder.as_str())?;
-    }
-    Ok(())
-}
-
-/// Where the machine refuses each rename, no second name is left.
-const KEPT_NAMES: &str = "new /f abc
-make /d
-rename /f /n = device fault
-size /n = not found
-rename /d /n = device fault
-size /n = not found
-faults = 2
-read /f = abc";
-
-#[test]
-fn a_refused_rename_leaves_no_second_name(rt: HostRuntime) -> Result<(), Fail> {
-    let folder = fresh(&rt, "refused_rename")?;
-    let act = Act::KeepNames;
-    comes_out_in(rt.alloc(), acting(rt, act), folder.as_str(), KEPT_NAMES)?;
-    Ok(fs::remove_dir_all(&rt, folder.as_str())?)
-}
-
-#[test]
-fn names_that_no_path_names(rt: HostRuntime) -> Result<(), Fail> {
-    let folder = fresh(&rt, "names")?;
-    for name in ["b", "a", "t\tb", "x\u{7f}"] {
-        fs::write(&rt, inside(&rt, folder.as_str(), name)?.as_str(), "abc")?;
-    }
-    comes_out_in(rt.alloc(), rt, folder.as_str(), "names / = a b")?;
-    for (act, script) in [
-        (Act::Nothing, "names / = a b\nfaults = 0"),
-        (Act::HideFirst, "names / = b\nfaults = 0"),
-    ] {
-        comes_out_in(rt.alloc(), acting(rt, act), folder.as_str(), script)?;
-    }
-    Ok(fs::remove_dir_all(&rt, folder.as_str())?)
 }

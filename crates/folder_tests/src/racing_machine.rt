@@ -65,27 +65,6 @@ impl<R: Files> Racing<'_, R> {
         }
         Ok(())
     }
-
-    /// What happens before a file is opened.
-    fn before_file(&self, path: &str) -> io::Result<()> {
-        match self.act {
-            Act::Remove => self.rt.remove_file(path),
-            Act::Link => {
-                self.rt.remove_file(path)?;
-                self.rt.symlink("../kept", path)
-            }
-            _ => Ok(()),
-        }
-    }
-
-    /// What happens before a directory is opened.
-    fn before_directory(&self, path: &str) -> io::Result<()> {
-        match self.act {
-            Act::KeepDirectories => Err(io::Error::from(io::ErrorKind::PermissionDenied)),
-            Act::SwapAtOnce if path.ends_with("/d/") => self.swap(),
-            _ => Ok(()),
-        }
-    }
 }
 
 /// What is told of each directory: names, each ended by a NUL.
@@ -122,10 +101,18 @@ impl<R: Files> Files for Racing<'_, R> {
     type Dir = Told;
 
     fn open_file(&self, how: &OpenOptions, path: &str) -> io::Result<R::File> {
-        if path.ends_with('/') {
-            self.before_directory(path)?;
-        } else {
-            self.before_file(path)?;
+        let is_directory = path.ends_with('/');
+        match self.act {
+            Act::Remove if !is_directory => self.rt.remove_file(path)?,
+            Act::Link if !is_directory => {
+                self.rt.remove_file(path)?;
+                self.rt.symlink("../kept", path)?;
+            }
+            Act::KeepDirectories if is_directory => {
+                return Err(io::Error::from(io::ErrorKind::PermissionDenied));
+            }
+            Act::SwapAtOnce if path.ends_with("/d/") => self.swap()?,
+            _ => (),
         }
         self.rt.open_file(how, path)
     }

@@ -3,110 +3,89 @@
 
 use folder_store::DirStore;
 use memory_store::MemStore;
-use std::alloc::{Allocator, Global};
+use std::alloc::Global;
 use std::fs;
+use std::process::Abort;
 use std::test::Fail;
-use store_script::{fresh, read_line, told};
-use virtual_tree::{Store, StoreFault};
+use store_script::{first_unmet, fresh};
+use virtual_tree::Store;
 
-/// A list of numbers that looks random, from a seed (G. Marsaglia, *Xorshift RNGs*, 2003).
-#[derive(Drop)]
-struct Numbers {
-    state: u64,
+static CALLS: [&str; 11] = [
+    "make",
+    "remove-directory",
+    "remove-file",
+    "rename",
+    "names",
+    "read",
+    "new",
+    "at",
+    "append",
+    "size",
+    "open-at",
+];
+
+static OFFSETS: [&str; 7] = ["0", "1", "2", "3", "4", "5", "6"];
+
+static PATHS: [&str; 12] = [
+    "/", "/a", "/b", "/c", "/a/a", "/a/b", "/b/a", "/a/a/a", "/a/a/b", "/a!", "/a/b/c", "/b/b",
+];
+
+/// One of some words, by the next of a list of numbers that looks random (G. Marsaglia, *Xorshift
+/// RNGs*, 2003).
+fn one_of(number: &mut u64, words: &[&'static str]) -> &'static str {
+    *number ^= number.wrapping_shl(13);
+    *number ^= number.wrapping_shr(7);
+    *number ^= number.wrapping_shl(17);
+    let index = number.checked_rem(words.len() as u64).unwrap_or(0);
+    words.get(index as usize).copied().unwrap_or("")
 }
-
-/// The next number below a bound.
-fn next(numbers: &mut Numbers, bound: u64) -> u64 {
-    let mut state = numbers.state;
-    state ^= state.wrapping_shl(13);
-    state ^= state.wrapping_shr(7);
-    state ^= state.wrapping_shl(17);
-    numbers.state = state;
-    state.checked_rem(bound).unwrap_or(0)
-}
-
-/// One of some words, which stand with a blank between them.
-fn one_of<'a>(numbers: &mut Numbers, words: &'a str, count: u64) -> &'a str {
-    let number = next(numbers, count) as usize;
-    words.split(' ').nth(number).unwrap_or("")
-}
-
-const CALLS: &str =
-    "make remove-directory remove-file rename names read new at append size open-at";
-
-const PATHS: &str = "/ /a /b /c /a/a /a/b /b/a /a/a/a /a/a/b /a! /a/b/c /b/b";
 
 /// A random call. What it writes, if it does, is the text of its other path.
-fn random_line(global: Global, numbers: &mut Numbers) -> Result<String, StoreFault> {
-    let call = one_of(numbers, CALLS, 11);
-    let offset = next(numbers, 7);
-    let path = one_of(numbers, PATHS, 12);
-    let to = one_of(numbers, PATHS, 12);
-    Ok(format!(in global; "{call}:{offset} {path} {to}")?)
+fn random_line(rt: &(impl Abort + AllocGlobal), number: &mut u64) -> String {
+    let call = one_of(number, &CALLS);
+    let offset = one_of(number, &OFFSETS);
+    let path = one_of(number, &PATHS);
+    let to = one_of(number, &PATHS);
+    format!(in rt.alloc(); "{call}:{offset} {path} {to} = ?").expect(rt, "memory")
 }
 
-/// What a line tells.
-fn tells<S: Store<Global>>(
-    global: Global,
-    store: &mut S,
-    line: &str,
-) -> Result<String, StoreFault> {
-    match read_line(global, global, line) {
-        None => Ok(String::new(global)),
-        Some(asked) => told(global, store, &asked),
-    }
-}
-
-/// Asks both stores for a line. Where they do not tell the same, that line is a failure.
+/// Asks both stores for a line. Since none tells `?`, which the line wants, each answers what it told.
 fn ask_both<S: Store<Global>, T: Store<Global>>(
-    global: Global,
+    rt: &(impl Abort + AllocGlobal),
     one: &mut S,
     other: &mut T,
-    line: String,
-) -> Result<(), Fail> {
-    if tells(global, one, line.as_str())? == tells(global, other, line.as_str())? {
-        Ok(())
-    } else {
-        Err(Fail::from(line))
+    line: &str,
+) {
+    let told = first_unmet(rt.alloc(), rt.alloc(), one, line).expect(rt, line);
+    let too = first_unmet(rt.alloc(), rt.alloc(), other, line).expect(rt, line);
+    if told.is_none() || told != too {
+        panic!(rt; "{line}")
     }
-}
-
-/// Asks both stores for each of the paths, what stands there.
-fn ask_for_all<S: Store<Global>, T: Store<Global>>(
-    global: Global,
-    one: &mut S,
-    other: &mut T,
-    call: &str,
-) -> Result<(), Fail> {
-    for path in PATHS.split(' ') {
-        ask_both(global, one, other, format!(in global; "{call} {path}")?)?;
-    }
-    Ok(())
 }
 
 /// Asks both stores for 4,000 random calls, and then for all that they hold.
 fn side_by_side<S: Store<Global>, T: Store<Global>>(
-    global: Global,
+    rt: &(impl Abort + AllocGlobal),
     one: &mut S,
     other: &mut T,
-    numbers: &mut Numbers,
-) -> Result<(), Fail> {
+) {
+    let mut number = 88_172_645_463_325_252;
     for _ in 0..4000u32 {
-        ask_both(global, one, other, random_line(global, numbers)?)?;
+        ask_both(rt, one, other, random_line(rt, &mut number).as_str());
     }
-    ask_for_all(global, one, other, "names")?;
-    ask_for_all(global, one, other, "read")?;
-    ask_for_all(global, one, other, "faults")
+    for path in &PATHS {
+        for call in ["names", "read", "faults"] {
+            let line = format!(in rt.alloc(); "{call} {path} = ?").expect(rt, "memory");
+            ask_both(rt, one, other, line.as_str());
+        }
+    }
 }
 
 #[test]
 fn of_both_stores(rt: HostRuntime) -> Result<(), Fail> {
     let folder = fresh(&rt, "sides")?;
-    let mut machine = DirStore::new(rt, folder.as_str())?;
-    let mut memory = MemStore::new(rt.alloc(), 1 << 20)?;
-    let mut numbers = Numbers {
-        state: 88_172_645_463_325_252,
-    };
-    side_by_side(rt.alloc(), &mut memory, &mut machine, &mut numbers)?;
+    let mut machine = DirStore::new(rt, folder.as_str()).expect(&rt, "a folder");
+    let mut memory = MemStore::new(rt.alloc(), 1 << 20).expect(&rt, "memory");
+    side_by_side(&rt, &mut memory, &mut machine);
     Ok(fs::remove_dir_all(&rt, folder.as_str())?)
 }

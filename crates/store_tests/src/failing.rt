@@ -1,8 +1,8 @@
 //! A store that fails once, over a store in memory: each call in turn.
 
+use crate::expect::{comes_out, holds};
 use fail_store::FailStore;
 use memory_store::MemStore;
-use std::test::Fail;
 use store_script::first_unmet;
 
 /// Six calls of a store.
@@ -19,16 +19,15 @@ read /g = xy
 faults = 1";
 
 #[test]
-fn each_call_in_turn(rt: HostRuntime) -> Result<(), Fail> {
+fn each_call_in_turn(rt: HostRuntime) {
     for passes in 0..6 {
-        let mut store = FailStore::new(MemStore::new(rt.alloc(), 9)?, passes);
-        let failed = first_unmet(rt.alloc(), rt.alloc(), &mut store, SIX)?;
-        assert!(rt; failed.is_some_and(|line| line.as_str().ends_with("(told device fault)")));
-        let unmet = first_unmet(rt.alloc(), rt.alloc(), &mut store, AFTERWARDS)?;
-        assert!(rt; unmet.is_none(), "{unmet:?}");
+        let memory = MemStore::new(rt.alloc(), 9).expect(&rt, "memory");
+        let mut store = FailStore::new(memory, passes);
+        let unmet = first_unmet(rt.alloc(), rt.alloc(), &mut store, SIX).expect(&rt, "memory");
+        let failed = unmet.expect(&rt, "a call that fails");
+        holds(&rt, failed.as_str().ends_with("(told device fault)"));
+        comes_out(&rt, rt.alloc(), &mut store, AFTERWARDS);
     }
-    let mut store = FailStore::new(MemStore::new(rt.alloc(), 9)?, 6);
-    let unmet = first_unmet(rt.alloc(), rt.alloc(), &mut store, SIX)?;
-    assert!(rt; unmet.is_none(), "{unmet:?}");
-    Ok(())
+    let memory = MemStore::new(rt.alloc(), 9).expect(&rt, "memory");
+    comes_out(&rt, rt.alloc(), &mut FailStore::new(memory, 6), SIX);
 }

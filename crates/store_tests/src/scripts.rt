@@ -1,8 +1,8 @@
 //! Calls one after another on stores in memory.
 
+use crate::expect::comes_out;
 use memory_store::MemStore;
-use std::test::Fail;
-use store_script::{DIRECTORIES, FILES, RENAMES, first_unmet};
+use store_script::{DIRECTORIES, FILES, RENAMES};
 
 /// A store of three octets.
 const FULL: &str = "new /f abc
@@ -27,7 +27,7 @@ size / = 0
 modified / = 0";
 
 #[test]
-fn in_memory(rt: HostRuntime) -> Result<(), Fail> {
+fn in_memory(rt: HostRuntime) {
     for (capacity, script) in [
         (3, FULL),
         (9, CUT),
@@ -35,9 +35,7 @@ fn in_memory(rt: HostRuntime) -> Result<(), Fail> {
         (9, DIRECTORIES),
         (9, RENAMES),
     ] {
-        let mut store = MemStore::new(rt.alloc(), capacity)?;
-        let unmet = first_unmet(rt.alloc(), rt.alloc(), &mut store, script)?;
-        assert!(rt; unmet.is_none(), "{unmet:?}");
+        let mut store = MemStore::new(rt.alloc(), capacity).expect(&rt, "memory");
+        comes_out(&rt, rt.alloc(), &mut store, script);
     }
-    Ok(())
 }

@@ -1,13 +1,17 @@
 //! Each growth of each call of both stores refused in turn: the store is as before, and the call
 //! passes once there is memory.
 
+use crate::expect::{comes_out, holds};
 use folder_store::DirStore;
 use linked_list_allocator::LocalHeap;
 use memory_store::MemStore;
 use scarce_memory::{HEAP, leave_hole};
+use std::env::Env;
 use std::fs;
+use std::process::Abort;
+use std::rt::Files;
 use std::test::Fail;
-use store_script::{ask, first_unmet, fresh, read_line};
+use store_script::{ask, fresh, read_line};
 use virtual_tree::{Store, StoreFault};
 
 /// What a store is before each call.
@@ -35,83 +39,72 @@ remove-file /d/f
 rename /d/f /n
 rename /d /n";
 
-/// Carries out a script, each of whose lines tells what it should.
-fn follow<'h, S: Store<&'h LocalHeap>>(
-    rt: &impl AllocGlobal,
-    heap: &'h LocalHeap,
-    store: &mut S,
-    script: &str,
-) -> Result<(), Fail> {
-    match first_unmet(rt.alloc(), heap, store, script)? {
-        Some(line) => Err(Fail::from(line)),
-        None => Ok(()),
-    }
-}
-
 /// Makes a call in a heap that has only one hole of some octets, and answers whether it was
 /// refused.
 fn is_refused<'h, S: Store<&'h LocalHeap>>(
-    rt: &impl AllocGlobal,
+    rt: &(impl Abort + AllocGlobal),
     heap: &'h LocalHeap,
     store: &mut S,
     line: &str,
     room: usize,
-) -> Result<bool, Fail> {
-    follow(rt, heap, store, FILLED)?;
-    let asked = read_line(rt.alloc(), heap, line).ok_or("no call")?;
-    let rest = leave_hole(rt, heap, room)?;
-    let answer = ask(rt.alloc(), store, &asked);
+) -> bool {
+    comes_out(rt, heap, store, FILLED);
+    let asked = read_line(rt.alloc(), heap, line).expect(rt, line);
+    let rest = leave_hole(rt, heap, room).expect(rt, "memory for the hole");
+    let fault = ask(rt.alloc(), store, &asked).err();
     drop(rest);
-    match answer {
-        Ok(_) => Ok(false),
-        Err(StoreFault::Memory) => {
-            follow(rt, heap, store, AS_BEFORE)?;
-            drop(ask(rt.alloc(), store, &asked)?);
-            Ok(true)
-        }
-        Err(_) => Err(Fail::from("another fault")),
+    if fault.is_some() {
+        holds(rt, fault == Some(StoreFault::Memory));
+        comes_out(rt, heap, store, AS_BEFORE);
+        drop(ask(rt.alloc(), store, &asked).expect(rt, line));
     }
+    fault.is_some()
 }
 
-/// How many growths of a call are refused by a store in memory before it passes.
-fn count_in_memory(rt: &impl AllocGlobal, line: &str) -> Result<usize, Fail> {
+/// Whether a store in memory refuses a call so.
+fn is_refused_in_memory(rt: &(impl Abort + AllocGlobal), line: &str, room: usize) -> bool {
+    let heap = LocalHeap::new(rt.alloc(), HEAP).expect(rt, "memory");
+    let mut store = MemStore::new(&heap, 99).expect(rt, "memory");
+    is_refused(rt, &heap, &mut store, line, room)
+}
+
+/// Whether a store over a folder of the machine refuses a call so.
+fn is_refused_in_a_folder(
+    rt: &(impl Abort + Env + Files + AllocGlobal),
+    machine: HostRuntime,
+    line: &str,
+    room: usize,
+) -> Result<bool, Fail> {
+    let folder = fresh(rt, "refused")?;
+    let heap = LocalHeap::new(rt.alloc(), HEAP).expect(rt, "memory");
+    let mut store = DirStore::new((machine, &heap), folder.as_str()).expect(rt, "a folder");
+    let refused = is_refused(rt, &heap, &mut store, line, room);
+    fs::remove_dir_all(rt, folder.as_str()).expect(rt, "a folder");
+    Ok(refused)
+}
+
+/// Refuses each growth of a call in turn, until neither store needs another.
+fn refuse_in_turn(
+    rt: &(impl Abort + Env + Files + AllocGlobal),
+    machine: HostRuntime,
+    line: &str,
+) -> Result<(), Fail> {
     for step in 0..512usize {
-        let heap = LocalHeap::new(rt.alloc(), HEAP)?;
-        let mut store = MemStore::new(&heap, 99)?;
-        if !is_refused(rt, &heap, &mut store, line, 16 * step)? {
-            return Ok(step);
+        let in_memory = is_refused_in_memory(rt, line, 16 * step);
+        let in_a_folder = is_refused_in_a_folder(rt, machine, line, 16 * step)?;
+        // With no room at all, both refuse.
+        holds(rt, 0 < step || in_memory && in_a_folder);
+        if !in_memory && !in_a_folder {
+            return Ok(());
         }
     }
     Err(Fail::from("never enough memory"))
 }
 
 #[test]
-fn in_memory(rt: HostRuntime) -> Result<(), Fail> {
+fn each_growth(rt: HostRuntime) -> Result<(), Fail> {
     for line in CALLS.split('\n') {
-        assert!(rt; 0 < count_in_memory(&rt, line)?, "{line}");
-    }
-    Ok(())
-}
-
-/// How many growths of a call are refused by a store over a folder before it passes.
-fn count_in_a_folder(rt: HostRuntime, line: &str) -> Result<usize, Fail> {
-    for step in 0..512usize {
-        let folder = fresh(&rt, "refused")?;
-        let heap = LocalHeap::new(rt.alloc(), HEAP)?;
-        let mut store = DirStore::new((rt, &heap), folder.as_str())?;
-        let refused = is_refused(&rt, &heap, &mut store, line, 16 * step)?;
-        fs::remove_dir_all(&rt, folder.as_str())?;
-        if !refused {
-            return Ok(step);
-        }
-    }
-    Err(Fail::from("never enough memory"))
-}
-
-#[test]
-fn in_a_folder(rt: HostRuntime) -> Result<(), Fail> {
-    for line in CALLS.split('\n') {
-        assert!(rt; 0 < count_in_a_folder(rt, line)?, "{line}");
+        refuse_in_turn(&rt, rt, line)?;
     }
     Ok(())
 }

@@ -1,88 +1,54 @@
 //! Uploads to a store in memory, with a write or the end refused.
 
+use crate::expect::{comes_out, holds};
 use linked_list_allocator::LocalHeap;
-use memory_store::{MemSink, MemStore};
+use memory_store::MemStore;
 use scarce_memory::{HEAP, leave_hole};
-use std::test::Fail;
-use store_script::first_unmet;
+use std::process::Abort;
 use virtual_path::VPath;
 use virtual_tree::{Sink, Store, StoreFault, WriteMode};
 
-/// The file `f` of `abc`, opened to be written behind its octets.
-fn open<'h>(
-    rt: &impl AllocGlobal,
-    heap: &'h LocalHeap,
-    store: &mut MemStore<&'h LocalHeap>,
-) -> Result<MemSink<&'h LocalHeap>, Fail> {
-    let made = first_unmet(rt.alloc(), heap, store, "new /f abc")?;
-    if made.is_some() {
-        return Err(Fail::from("no file"));
-    }
-    let path = VPath::root(heap).resolve(heap, "/f")?;
-    Ok(store.open_write(&path, WriteMode::Append, 6_000)?)
-}
+/// Room enough for a write and for an end.
+const PLENTY: usize = 4096;
 
-/// Whether the file holds what it should.
-fn holds<'h>(
-    rt: &impl AllocGlobal,
-    heap: &'h LocalHeap,
-    store: &mut MemStore<&'h LocalHeap>,
-    script: &str,
-) -> Result<bool, Fail> {
-    let unmet = first_unmet(rt.alloc(), heap, store, script)?;
-    Ok(unmet.is_none())
-}
-
-/// Brings one octet more, with only one hole of some octets, and ends the file. A write that was
-/// refused leaves what stays of the file. Answers whether the file holds what it should, and
-/// whether the write was refused.
-fn write_short(rt: &impl AllocGlobal, room: usize) -> Result<(bool, bool), Fail> {
-    let heap = LocalHeap::new(rt.alloc(), HEAP)?;
-    let mut store = MemStore::new(&heap, 99)?;
-    let mut sink = open(rt, &heap, &mut store)?;
-    let rest = leave_hole(rt, &heap, room)?;
-    let refused = sink.write(b"d").is_err();
+/// Brings one octet more to a file of `abc`, and ends the file, each with only one hole of some
+/// octets. A refused write leaves what stays of the file, and a refused end leaves the file as it was
+/// opened. Answers whether the write was refused, and whether the end was.
+fn refused(rt: &(impl Abort + AllocGlobal), write_room: usize, end_room: usize) -> (bool, bool) {
+    let heap = LocalHeap::new(rt.alloc(), HEAP).expect(rt, "memory");
+    let mut store = MemStore::new(&heap, 99).expect(rt, "memory");
+    comes_out(rt, &heap, &mut store, "new /f abc");
+    let path = VPath::root(&heap).resolve(&heap, "/f").expect(rt, "a path");
+    let mode = WriteMode::Append;
+    let mut sink = store.open_write(&path, mode, 6_000).expect(rt, "a sink");
+    let rest = leave_hole(rt, &heap, write_room).expect(rt, "memory for the hole");
+    let no_write = sink.write(b"d").is_err();
     drop(rest);
-    store.finish(sink, 6_000)?;
-    let script = if refused {
+    let rest = leave_hole(rt, &heap, end_room).expect(rt, "memory for the hole");
+    let fault = store.finish(sink, 6_000).err();
+    drop(rest);
+    holds(rt, fault.is_none() || fault == Some(StoreFault::Memory));
+    let no_end = fault.is_some();
+    let script = if no_write || no_end {
         "read /f = abc"
     } else {
         "read /f = abcd"
     };
-    let right = holds(rt, &heap, &mut store, script)?;
-    Ok((right, refused))
-}
-
-/// Brings one octet more, and ends the file with only one hole of some octets. A refused end leaves
-/// the file as it was opened. Answers as above.
-fn end_short(rt: &impl AllocGlobal, room: usize) -> Result<(bool, bool), Fail> {
-    let heap = LocalHeap::new(rt.alloc(), HEAP)?;
-    let mut store = MemStore::new(&heap, 99)?;
-    let mut sink = open(rt, &heap, &mut store)?;
-    sink.write(b"d")?;
-    let rest = leave_hole(rt, &heap, room)?;
-    let refused = store.finish(sink, 6_000) == Err(StoreFault::Memory);
-    drop(rest);
-    let script = if refused {
-        "read /f = abc"
-    } else {
-        "read /f = abcd"
-    };
-    let right = holds(rt, &heap, &mut store, script)?;
-    Ok((right, refused))
+    comes_out(rt, &heap, &mut store, script);
+    (no_write, no_end)
 }
 
 #[test]
-fn of_writes_and_ends(rt: HostRuntime) -> Result<(), Fail> {
+fn of_writes_and_ends(rt: HostRuntime) {
     let (mut writes, mut ends) = (0u32, 0u32);
     for step in 0..32usize {
-        let written = write_short(&rt, 16 * step)?;
-        let ended = end_short(&rt, 16 * step)?;
-        assert!(rt; written.0 && ended.0, "room for {step}");
-        writes |= if written.1 { 1 } else { 2 };
-        ends |= if ended.1 { 1 } else { 2 };
+        let (no_write, no_end_after) = refused(&rt, 16 * step, PLENTY);
+        let (no_write_before, no_end) = refused(&rt, PLENTY, 16 * step);
+        // What has room enough passes.
+        holds(&rt, !no_end_after && !no_write_before);
+        writes |= if no_write { 1 } else { 2 };
+        ends |= if no_end { 1 } else { 2 };
     }
     // Some were refused, and some passed.
-    assert!(rt; writes == 3 && ends == 3);
-    Ok(())
+    holds(&rt, writes == 3 && ends == 3);
 }

@@ -3,10 +3,10 @@
 
 use crate::expect::holds;
 use linked_list_allocator::LocalHeap;
+use scarce_memory::{HEAP, leave_hole};
 use share_text::{GrantsFault, Sheet, read_grants, read_sheet};
 use std::alloc::Allocator;
 use std::process::Abort;
-use std::test::Fail;
 
 /// The leaves of its tree are `/x/1`, `/x/2` and `/y`, so they stand in another order than the wants.
 const SHEET: &[u8] = b"limit / 5\nwant /x/1 9\nwant /y 9\nwant /x/2 9\n";
@@ -25,59 +25,60 @@ fn have_room<A: Allocator + Clone>(rt: &impl Abort, alloc: A, sheet: &Sheet<'_, 
             true
         }
         Err(fault) => {
-            assert!(rt; fault == GrantsFault::Memory, "{fault}");
+            holds(rt, fault == GrantsFault::Memory);
             false
         }
     }
 }
 
 #[test]
-fn grants_stand_by_leaf(rt: HostRuntime) -> Result<(), Fail> {
-    let sheet = read_sheet(rt.alloc(), SHEET)?;
-    let (grants, certificate) = read_grants(rt.alloc(), GRANTS, &sheet)?;
-    holds(&rt, grants.as_slice() == [2, 3, 1].as_slice());
-    holds(
-        &rt,
-        certificate.entries() == [Some(0), None, Some(2)].as_slice(),
-    );
-    Ok(())
+fn grants_stand_by_leaf(rt: HostRuntime) {
+    let sheet = read_sheet(rt.alloc(), SHEET).expect(&rt, "a sheet");
+    holds(&rt, have_room(&rt, rt.alloc(), &sheet));
 }
 
-#[test]
-fn missing_lines_leave_short_lists(rt: HostRuntime) -> Result<(), Fail> {
-    let sheet = read_sheet(rt.alloc(), SHEET)?;
-    let (grants, certificate) = read_grants(
-        rt.alloc(),
+/// What lines give, of which some are missing.
+const SHORT: [(&[u8], &[u64], &[Option<u32>]); 2] = [
+    (
         b"grant /x/1 2 /\ngrant /y 1 /x\n",
-        &sheet,
-    )?;
-    holds(&rt, grants.as_slice() == [2, 1].as_slice());
-    holds(&rt, certificate.entries() == [Some(0), Some(1)].as_slice());
-    let (none, _) = read_grants(rt.alloc(), b"", &sheet)?;
-    holds(&rt, none.is_empty());
-    Ok(())
+        &[2, 1],
+        &[Some(0), Some(1)],
+    ),
+    (b"", &[], &[]),
+];
+
+#[test]
+fn missing_lines_leave_short_lists(rt: HostRuntime) {
+    let sheet = read_sheet(rt.alloc(), SHEET).expect(&rt, "a sheet");
+    for (text, wanted, entries) in &SHORT {
+        let (grants, certificate) = read_grants(rt.alloc(), text, &sheet).expect(&rt, "grants");
+        holds(&rt, grants.as_slice() == *wanted);
+        holds(&rt, certificate.entries() == *entries);
+    }
+}
+
+/// Whether the grants have room beside one hole of some octets. They have it once there is memory.
+fn have_room_in<'h>(
+    rt: &(impl AllocGlobal + Abort),
+    heap: &'h LocalHeap,
+    sheet: &Sheet<'static, &'h LocalHeap>,
+    room: usize,
+) -> bool {
+    let rest = leave_hole(rt, heap, room).expect(rt, "a hole");
+    let first = have_room(rt, heap, sheet);
+    drop(rest);
+    holds(rt, have_room(rt, heap, sheet));
+    first
 }
 
 #[test]
-fn each_growth_may_be_refused(rt: HostRuntime) -> Result<(), Fail> {
-    let heap = LocalHeap::new(rt.alloc(), 16384)?;
-    let sheet = read_sheet(&heap, SHEET)?;
-    let mut hogs = Vec::new(rt.alloc());
-    for _ in 0..1024 {
-        if let Ok(hog) = Vec::<u8, &LocalHeap>::with_capacity(&heap, 16) {
-            hogs.push(hog)?;
-        }
+fn each_growth_may_be_refused(rt: HostRuntime) {
+    let heap = LocalHeap::new(rt.alloc(), HEAP).expect(&rt, "a heap");
+    let sheet = read_sheet(&heap, SHEET).expect(&rt, "a sheet");
+    for step in 0..64usize {
+        let first = have_room_in(&rt, &heap, &sheet, 16 * step);
+        // With no room they are refused, and with much they are taken.
+        holds(&rt, step > 0 || !first);
+        holds(&rt, step < 63 || first);
     }
-    let mut refusals = 0;
-    for _ in 0..64 {
-        if !have_room(&rt, &heap, &sheet) {
-            refusals |= 1;
-        }
-        let hog = hogs.pop();
-        drop(hog);
-    }
-    holds(&rt, refusals == 1);
-    drop(hogs);
-    holds(&rt, have_room(&rt, &heap, &sheet));
-    Ok(())
 }

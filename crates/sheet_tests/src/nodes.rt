@@ -3,11 +3,10 @@
 ghost use Rattle.sheet_nodes.specs.Walks.{IsPathText};
 
 use crate::expect::{holds, same};
-use limit_tree::{Kind, Node, Tree, TreeFault};
+use limit_tree::{Kind, Tree, TreeFault};
 use sheet_nodes::{Nodes, SheetFault, name_len, tree_is_of_lines};
-use std::alloc::Allocator;
+use std::alloc::Global;
 use std::process::Abort;
-use std::test::Fail;
 
 const LIMIT: Kind = Kind::Branch { limit: Some(9) };
 
@@ -42,39 +41,14 @@ const LINES: [(&str, Kind, Option<SheetFault>); 8] = [
 /// The paths that these lines mention, in that order: a line with a fault mentions nothing.
 const PATHS: [&str; 4] = ["", "/a", "/a/b", "/a/c"];
 
-fn take_lines<A: Allocator + Clone>(rt: &impl Abort, alloc: A) -> Result<(), SheetFault> {
-    let mut nodes = Nodes::new(alloc)?;
-    for (at, (path, kind, fault)) in LINES.iter().enumerate() {
-        match nodes.take(at + 1, path, *kind) {
-            Ok(place) => {
-                holds(rt, fault.is_none());
-                holds(rt, nodes.path(place) == *path);
-            }
-            Err(SheetFault::Memory) => return Err(SheetFault::Memory),
-            Err(found) => holds(rt, *fault == Some(found)),
-        }
-    }
-    expect_paths(rt, &nodes);
-    expect_place(rt, &nodes, "", Some(0));
-    expect_place(rt, &nodes, "/a/c", Some(3));
-    expect_place(rt, &nodes, "/a/b/c", None);
-    expect_place(rt, &nodes, "/d", None);
-    Ok(())
-}
-
 /// The path's text may live shorter than those of the nodes.
-fn expect_place<A: Allocator>(
-    rt: &impl Abort,
-    nodes: &Nodes<'_, A>,
-    path: &str,
-    wanted: Option<usize>,
-)
+fn expect_place(rt: &impl Abort, nodes: &Nodes<'_, Global>, path: &str, wanted: Option<usize>)
     requires text { IsPathText path.now }
 {
     holds(rt, nodes.place(path) == wanted);
 }
 
-fn expect_paths<A: Allocator>(rt: &impl Abort, nodes: &Nodes<'_, A>) {
+fn expect_paths(rt: &impl Abort, nodes: &Nodes<'_, Global>) {
     holds(rt, nodes.len() == PATHS.len());
     for (place, path) in PATHS.iter().enumerate() {
         if place >= nodes.len() {
@@ -82,12 +56,20 @@ fn expect_paths<A: Allocator>(rt: &impl Abort, nodes: &Nodes<'_, A>) {
         }
         holds(rt, nodes.path(place) == *path);
     }
+    expect_place(rt, nodes, "", Some(0));
+    expect_place(rt, nodes, "/a/c", Some(3));
+    expect_place(rt, nodes, "/a/b/c", None);
+    expect_place(rt, nodes, "/d", None);
 }
 
 #[test]
-fn lines_are_taken(rt: HostRuntime) -> Result<(), Fail> {
-    take_lines(&rt, rt.alloc())?;
-    Ok(())
+fn lines_are_taken(rt: HostRuntime) {
+    let mut nodes = Nodes::new(rt.alloc()).expect(&rt, "memory");
+    for (at, (path, kind, fault)) in LINES.iter().enumerate() {
+        let taken = nodes.take(at + 1, path, *kind);
+        holds(&rt, taken.err() == *fault);
+    }
+    expect_paths(&rt, &nodes);
 }
 
 /// Lines whose tree has its nodes in another order than that of their first mention.
@@ -97,49 +79,42 @@ const CROSSED: [(&str, Kind); 3] = [
     ("/b/w", Kind::Leaf { want: 3, floor: 0 }),
 ];
 
-fn build_tree<A: Allocator + Clone>(rt: &impl Abort, alloc: A) -> Result<(), SheetFault> {
-    let mut nodes = Nodes::new(alloc.clone()?)?;
-    for (at, (path, kind)) in CROSSED.iter().enumerate() {
-        nodes.take(at + 1, path, *kind)?;
-    }
-    expect_kids(rt, alloc.clone()?, &nodes)?;
-    let mut order = Vec::new(alloc);
-    let root = nodes.tree(&mut order)?;
-    same(rt, &order.as_slice(), &[0, 1, 2, 4, 3].as_slice());
-    expect_tree(rt, root);
-    Ok(())
-}
-
-fn expect_kids<A: Allocator + Clone>(
-    rt: &impl Abort,
-    alloc: A,
-    nodes: &Nodes<'_, A>,
-) -> Result<(), SheetFault> {
-    let rows = nodes.kids(alloc)?;
+fn expect_kids(rt: &impl Abort, alloc: Global, nodes: &Nodes<'_, Global>) {
+    let rows = nodes.kids(alloc).expect(rt, "memory");
     holds(rt, nodes.len() == 5);
     holds(rt, rows.len() == 5);
     same(rt, &rows[0].as_slice(), &[1, 3].as_slice());
     same(rt, &rows[1].as_slice(), &[2, 4].as_slice());
     holds(rt, nodes.parent(4) == 1);
-    Ok(())
 }
 
-fn expect_tree<A: Allocator>(rt: &impl Abort, root: Node<A>) {
-    match Tree::new(root) {
-        Ok(tree) => {
-            holds(rt, tree.nodes() == 5);
-            holds(rt, tree.leaves() == 2);
-            holds(rt, tree.want(1) == 3);
-        }
-        Err(_) => rt.abort(),
-    }
+/// The tree, and the whole tree, of the crossed lines.
+fn expect_tree(rt: &impl Abort, tree: &Tree, order: &[usize]) {
+    same(rt, &order, &[0, 1, 2, 4, 3].as_slice());
+    holds(rt, tree.nodes() == 5);
+    holds(rt, tree.leaves() == 2);
+    holds(rt, tree.want(1) == 3);
+}
+
+fn expect_trees(rt: &impl Abort, alloc: Global, nodes: &Nodes<'_, Global>) {
+    let mut order = Vec::new(alloc);
+    let root = nodes.tree(&mut order).expect(rt, "memory");
+    let tree = Tree::new(root).expect(rt, "a tree");
+    expect_tree(rt, &tree, order.as_slice());
+    order.clear();
+    let whole = nodes.whole_tree(&mut order).expect(rt, "a whole tree");
+    expect_tree(rt, &whole, order.as_slice());
 }
 
 #[test]
-fn nodes_have_a_tree(rt: HostRuntime) -> Result<(), Fail> {
+fn nodes_have_a_tree(rt: HostRuntime) {
     tree_is_of_lines();
-    build_tree(&rt, rt.alloc())?;
-    Ok(())
+    let mut nodes = Nodes::new(rt.alloc()).expect(&rt, "memory");
+    for (at, (path, kind)) in CROSSED.iter().enumerate() {
+        let _place = nodes.take(at + 1, path, *kind).expect(&rt, "no fault");
+    }
+    expect_kids(&rt, rt.alloc(), &nodes);
+    expect_trees(&rt, rt.alloc(), &nodes);
 }
 
 /// Lines whose last limit is below the floors beneath it: that of the node 1, which line 3 states.
@@ -149,43 +124,18 @@ const CROWDED: [(&str, Kind); 3] = [
     ("/a", Kind::Branch { limit: Some(3) }),
 ];
 
-fn whole_trees<A: Allocator + Clone>(rt: &impl Abort, alloc: A) -> Result<(), SheetFault> {
-    let mut nodes = Nodes::new(alloc.clone()?)?;
-    for (at, (path, kind)) in CROSSED.iter().enumerate() {
-        nodes.take(at + 1, path, *kind)?;
-    }
-    let mut order = Vec::new(alloc);
-    let tree = nodes.whole_tree(&mut order)?;
-    same(rt, &order.as_slice(), &[0, 1, 2, 4, 3].as_slice());
-    holds(rt, tree.nodes() == 5);
-    holds(rt, tree.leaves() == 2);
-    Ok(())
-}
-
-fn crowded_tree<A: Allocator + Clone>(rt: &impl Abort, alloc: A) -> Result<(), SheetFault> {
-    let mut nodes = Nodes::new(alloc.clone()?)?;
-    for (at, (path, kind)) in CROWDED.iter().enumerate() {
-        nodes.take(at + 1, path, *kind)?;
-    }
-    let mut order = Vec::new(alloc);
-    match nodes.whole_tree(&mut order) {
-        Ok(_) => rt.abort(),
-        Err(SheetFault::Memory) => Err(SheetFault::Memory),
-        Err(fault) => {
-            holds(
-                rt,
-                fault == SheetFault::Tree(3, TreeFault::FloorsOverLimit(1)),
-            );
-            Ok(())
-        }
-    }
-}
-
 #[test]
-fn a_whole_tree_is_checked(rt: HostRuntime) -> Result<(), Fail> {
-    whole_trees(&rt, rt.alloc())?;
-    crowded_tree(&rt, rt.alloc())?;
-    Ok(())
+fn a_whole_tree_is_checked(rt: HostRuntime) {
+    let mut nodes = Nodes::new(rt.alloc()).expect(&rt, "memory");
+    for (at, (path, kind)) in CROWDED.iter().enumerate() {
+        let _place = nodes.take(at + 1, path, *kind).expect(&rt, "no fault");
+    }
+    let mut order = Vec::new(rt.alloc());
+    let fault = nodes.whole_tree(&mut order).err();
+    holds(
+        &rt,
+        fault == Some(SheetFault::Tree(3, TreeFault::FloorsOverLimit(1))),
+    );
 }
 
 #[test]

@@ -20,21 +20,8 @@ const MENTIONED: &[u8] =
 
 const OPEN: Kind = Kind::Branch { limit: None };
 
-const fn limit(octets: u64) -> Kind {
-    Kind::Branch {
-        limit: Some(octets),
-    }
-}
-
-const fn want(want: u64, floor: u64) -> Kind {
-    Kind::Leaf { want, floor }
-}
-
 fn sheet_of<'t>(rt: &impl Abort, alloc: Global, text: &'t [u8]) -> Sheet<'t> {
-    match read_sheet(alloc, text) {
-        Ok(sheet) => sheet,
-        Err(_) => panic!(rt; "a sheet without a fault is refused"),
-    }
+    read_sheet(alloc, text).expect(rt, "a sheet without a fault")
 }
 
 /// The sheet has these nodes and no others.
@@ -44,9 +31,9 @@ fn expect_nodes<A: Allocator>(rt: &impl Abort, sheet: &Sheet<'_, A>, nodes: &[(&
         if node >= sheet.tree().nodes() {
             rt.abort();
         }
-        assert!(rt; sheet.path(node) == *path, "{path}");
-        assert!(rt; sheet.tree().place(node).kind == *kind, "{path}");
-        assert!(rt; sheet.node_of(path) == Some(node as u32), "{path}");
+        holds(rt, sheet.path(node) == *path);
+        holds(rt, sheet.tree().place(node).kind == *kind);
+        holds(rt, sheet.node_of(path) == Some(node as u32));
     }
 }
 
@@ -62,110 +49,117 @@ fn expect_leaves<A: Allocator>(
         if leaf >= sheet.tree().leaves() {
             rt.abort();
         }
-        assert!(rt; sheet.leaf_path(leaf) == *path, "{path}");
+        holds(rt, sheet.leaf_path(leaf) == *path);
     }
     holds(rt, sheet.wants() == wants);
 }
 
+const NODES: [(&str, Kind); 6] = [
+    ("/", Kind::Branch { limit: Some(100) }),
+    ("/bob", Kind::Branch { limit: Some(30) }),
+    ("/bob/x", Kind::Leaf { want: 10, floor: 5 }),
+    ("/bob/z", Kind::Leaf { want: 7, floor: 0 }),
+    ("/ann", OPEN),
+    ("/ann/y", Kind::Leaf { want: 20, floor: 0 }),
+];
+
 fn expect_sheet<A: Allocator>(rt: &impl Abort, sheet: &Sheet<'_, A>) {
-    let nodes = [
-        ("/", limit(100)),
-        ("/bob", limit(30)),
-        ("/bob/x", want(10, 5)),
-        ("/bob/z", want(7, 0)),
-        ("/ann", OPEN),
-        ("/ann/y", want(20, 0)),
-    ];
-    expect_nodes(rt, sheet, &nodes);
+    expect_nodes(rt, sheet, &NODES);
     expect_leaves(rt, sheet, &["/bob/x", "/bob/z", "/ann/y"], &[0, 2, 1]);
 }
+
+/// What is no path of a node of that sheet.
+const NOWHERE: [&str; 6] = ["", "//", "bob", "/bob/", "/bo", "/bob/y"];
 
 #[test]
 fn nodes_stand_in_preorder(rt: HostRuntime) {
     sheet_is_of_its_lines();
     let sheet = sheet_of(&rt, rt.alloc(), SHEET);
     expect_sheet(&rt, &sheet);
-    for path in ["", "//", "bob", "/bob/", "/bo", "/bob/y"] {
-        assert!(rt; sheet.node_of(path).is_none(), "{path}");
+    for path in &NOWHERE {
+        holds(&rt, sheet.node_of(path).is_none());
     }
 }
+
+const MENTIONED_NODES: [(&str, Kind); 9] = [
+    ("/", OPEN),
+    ("/d", Kind::Branch { limit: Some(7) }),
+    ("/d/e", OPEN),
+    ("/d/e/f", Kind::Leaf { want: 3, floor: 0 }),
+    ("/d/h", Kind::Leaf { want: 1, floor: 0 }),
+    ("/a", OPEN),
+    ("/a/b", Kind::Branch { limit: Some(9) }),
+    ("/a/b/g", Kind::Leaf { want: 2, floor: 0 }),
+    ("/a/c", Kind::Leaf { want: 4, floor: 1 }),
+];
 
 #[test]
 fn kids_stand_in_order_of_first_mention(rt: HostRuntime) {
     let sheet = sheet_of(&rt, rt.alloc(), MENTIONED);
-    let nodes = [
-        ("/", OPEN),
-        ("/d", limit(7)),
-        ("/d/e", OPEN),
-        ("/d/e/f", want(3, 0)),
-        ("/d/h", want(1, 0)),
-        ("/a", OPEN),
-        ("/a/b", limit(9)),
-        ("/a/b/g", want(2, 0)),
-        ("/a/c", want(4, 1)),
-    ];
-    expect_nodes(&rt, &sheet, &nodes);
+    expect_nodes(&rt, &sheet, &MENTIONED_NODES);
     let paths = ["/d/e/f", "/d/h", "/a/b/g", "/a/c"];
     expect_leaves(&rt, &sheet, &paths, &[0, 3, 2, 1]);
 }
 
+/// Remarks alone leave the root.
+const REMARKS: [&[u8]; 5] = [b"", b"\n", b"#", b"# limit / 1\n\r\n#\r\n\n", b"\r\n"];
+
 #[test]
 fn remarks_alone_leave_the_root(rt: HostRuntime) {
-    for text in [
-        b"".as_slice(),
-        b"\n",
-        b"#",
-        b"# limit / 1\n\r\n#\r\n\n",
-        b"\r\n",
-    ] {
+    for text in &REMARKS {
         let sheet = sheet_of(&rt, rt.alloc(), text);
         expect_nodes(&rt, &sheet, &[("/", OPEN)]);
         expect_leaves(&rt, &sheet, &[], &[]);
     }
 }
 
+/// Lines may end in CR LF, or lack the last end.
+const ENDED: [&[u8]; 4] = [
+    b"limit / 8\nwant /a 5\n",
+    b"limit / 8\nwant /a 5",
+    b"limit / 8\r\nwant /a 5\r\n",
+    b"limit / 8\r\n#\r\nwant /a 5",
+];
+
+const ENDED_NODES: [(&str, Kind); 2] = [
+    ("/", Kind::Branch { limit: Some(8) }),
+    ("/a", Kind::Leaf { want: 5, floor: 0 }),
+];
+
 #[test]
 fn lines_may_end_in_cr_lf_or_lack_the_last_end(rt: HostRuntime) {
-    let texts = [
-        b"limit / 8\nwant /a 5\n".as_slice(),
-        b"limit / 8\nwant /a 5",
-        b"limit / 8\r\nwant /a 5\r\n",
-        b"limit / 8\r\n#\r\nwant /a 5",
-    ];
-    for text in texts {
+    for text in &ENDED {
         let sheet = sheet_of(&rt, rt.alloc(), text);
-        expect_nodes(&rt, &sheet, &[("/", limit(8)), ("/a", want(5, 0))]);
+        expect_nodes(&rt, &sheet, &ENDED_NODES);
         expect_leaves(&rt, &sheet, &["/a"], &[0]);
     }
 }
 
 const ROOM: usize = 8192;
 
-/// Whether the sheet has room in so small a heap; where it has none, it has once memory is there.
-fn has_room(rt: &impl Abort, alloc: Global, room: usize) -> bool
-    requires { room ≤ ROOM }
-{
-    let Ok(heap) = LocalHeap::new(alloc, ROOM) else {
-        rt.abort()
-    };
-    let Ok(hog) = Vec::<u8, &LocalHeap>::with_capacity(&heap, ROOM - room) else {
-        rt.abort()
-    };
-    let first = match read_sheet(&heap, SHEET) {
+/// Whether the sheet has room in a heap; where it has, it is that of the text.
+fn is_read(rt: &impl Abort, heap: &LocalHeap) -> bool {
+    match read_sheet(heap, SHEET) {
         Ok(sheet) => {
             expect_sheet(rt, &sheet);
             true
         }
         Err(fault) => {
-            assert!(rt; fault == SheetFault::Memory, "{fault}");
+            holds(rt, fault == SheetFault::Memory);
             false
         }
-    };
-    drop(hog);
-    match read_sheet(&heap, SHEET) {
-        Ok(sheet) => expect_sheet(rt, &sheet),
-        Err(_) => panic!(rt; "memory is there again"),
     }
+}
+
+/// Whether the sheet has room in so small a heap; where it has none, it has once memory is there.
+fn has_room(rt: &impl Abort, alloc: Global, room: usize) -> bool
+    requires { room ≤ ROOM }
+{
+    let heap = LocalHeap::new(alloc, ROOM).expect(rt, "a heap");
+    let hog = Vec::<u8, &LocalHeap>::with_capacity(&heap, ROOM - room).expect(rt, "a hog");
+    let first = is_read(rt, &heap);
+    drop(hog);
+    holds(rt, is_read(rt, &heap));
     first
 }
 

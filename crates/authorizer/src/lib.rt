@@ -1,13 +1,11 @@
 //! The users of an FTP server, and what each may do.
 //!
 //! ```text
-//! let alloc = rt.alloc();
-//! let mut users = Authorizer::new(alloc)?;
+//! let mut users = Authorizer::new(rt.alloc())?;
 //! users.add_user("ann", "secret", "/home/ann", "elr")?;
-//! users.override_perm("ann", "/in", "w", true)?;
-//! assert!(rt; users.check_password("ann", "secret"));
-//! let path = VPath::root(alloc).resolve(alloc, "/in/f")?;
-//! assert!(rt; users.has_perm("ann", Letter::Store, &path));
+//! users.override_perm("ann", "/in", "w", true)?; // and what is below it
+//! holds(rt, users.check_password("ann", "secret"));
+//! holds(rt, users.has_perm("ann", Letter::Store, path)); // the path is `/in/f`
 //! ```
 #![tactic(auto)]
 

@@ -4,10 +4,9 @@
 //! then each key is read by one call, which gives its value or says what is wrong with it:
 //!
 //! ```text
-//! let table = toml::table_from_str(rt.alloc(), "name = \"lunch\"")?;
-//! only_known(&table, &["name", "port"])?;
-//! assert!(rt; line_at(&table, "name", None)? == "lunch");
-//! assert!(rt; number_at(&table, "port", 1, 65535, Some(2121))? == 2121);
+//! only_known(table, &["name", "port"])?; // of a table with the line `name = "lunch"`
+//! holds(rt, line_at(table, "name", None)? == "lunch");
+//! holds(rt, number_at(table, "port", 1, 65535, Some(2121))? == 2121);
 //! ```
 //!
 //! What a call means is one row of a table of keys in `specs/`: `number (codes "port") 1 65535 (Some 2121)` is the key, its

@@ -1,9 +1,8 @@
 //! The table `[server]` of a configuration: where the server listens, what it serves, and its numbers.
 //!
 //! ```text
-//! let document = toml::table_from_str(rt.alloc(), SMALL)?; // a server, and the user `ann`
-//! let server = read_server(table_at(&document, "server")?)?;
-//! assert!(rt; server.port == 2121 && server.lanes == 16);
+//! let server = read_server(table_at(document, "server")?)?; // of a file with `port = 2121`
+//! holds(rt, server.port == 2121 && server.lanes == 16);
 //! ```
 //!
 //! An unknown key is told first, the least by its octets; then the keys are read in the order of the struct's fields. What

@@ -4,13 +4,8 @@
 //! key. Nothing is made of it here. Both versions of the file are read; version 2 has groups.
 //!
 //! ```text
-//! let document = toml::table_from_str(rt.alloc(), "version = 3")?;
-//! match read_tables(rt.alloc(), &document) {
-//!     Err(TableFault::Key { header, fault }) => {
-//!         assert!(rt; header.table == TableName::Top && fault.key == "version");
-//!     }
-//!     _ => panic!(rt; "no version but 1 and 2 is read"),
-//! }
+//! let tables = read_tables(rt.alloc(), document)?; // else the first key that is at fault
+//! holds(rt, tables.server.port == 2121 && tables.users.len() == 1);
 //! ```
 //!
 //! Tables are taken in the order top, `[server]`, `[[group]]`, `[[user]]`, `[[user.override]]`, `[[dir]]`, `[[file]]`, and

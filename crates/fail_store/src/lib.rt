@@ -5,12 +5,11 @@
 //! failing in turn:
 //!
 //! ```text
-//! let path = VPath::root(rt.alloc()).resolve(rt.alloc(), "/d")?;
 //! let mut store = FailStore::new(MemStore::new(rt.alloc(), 1000)?, 0);
-//! // the first call fails, and no other
-//! assert!(rt; store.make_dir(&path) == Err(StoreFault::Device));
-//! store.make_dir(&path)?;
-//! assert!(rt; store.faults() == 1);
+//! // the first call fails, and no other, whatever the path
+//! holds(rt, store.make_dir(path) == Err(StoreFault::Device));
+//! holds(rt, store.make_dir(path) == Ok(()));
+//! holds(rt, store.faults() == 1);
 //! ```
 #![tactic(auto)]
 

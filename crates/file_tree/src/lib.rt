@@ -4,15 +4,13 @@
 //! directory's entries are next to each other, in the order of their names.
 //!
 //! ```text
-//! let alloc = rt.alloc();
-//! let root = VPath::root(alloc);
-//! let path = root.resolve(alloc, "/d")?;
-//! let mut files = Files::new(alloc);
-//! if let Some(spot) = Spot::of(&alloc, &path)? {
+//! let mut files = Files::new(rt.alloc());
+//! // the path `/in` has a spot, and the root has none
+//! if let Some(spot) = Spot::of(&rt.alloc(), path)? {
 //!     files.put(spot, Entry::directory())?;
 //! }
-//! let listed = files.listing(&alloc, &root)?;
-//! assert!(rt; listed.len() == 1);
+//! let listed = files.listing(&rt.alloc(), root)?;
+//! holds(rt, listed.len() == 1);
 //! ```
 #![tactic(auto)]
 

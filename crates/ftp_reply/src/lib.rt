@@ -2,13 +2,12 @@
 //!
 //! ```text
 //! let text = LineText::with_number(rt.alloc(), "Restarting at ", 120, "")?;
-//! let reply = Reply::one_line(ReplyCode::new(350), text);
-//! let mut buffer = Vec::new(rt.alloc());
-//! reply.write_to(&mut buffer)?;
-//! assert!(rt; buffer.as_slice() == b"350 Restarting at 120\r\n".as_slice());
+//! Reply::one_line(ReplyCode::new(350), text).write_to(output)?; // a `Vec` of octets
+//! same(rt, output, b"350 Restarting at 120\r\n");
 //! let meta = Meta::new(Kind::File, 120, 951_827_696);
 //! let line = list_line(rt.alloc(), &meta, "a.txt")?;
-//! assert!(rt; line.as_str() == "-rw-r--r-- 1 ftp ftp          120 Feb 29  2000 a.txt");
+//! let wanted = "-rw-r--r-- 1 ftp ftp          120 Feb 29  2000 a.txt";
+//! holds(rt, line.as_str() == wanted);
 //! ```
 #![tactic(auto)]
 

@@ -4,10 +4,11 @@
 //!
 //! ```text
 //! let letters = Letters::read("elr").unwrap_or(Letters::NONE);
-//! assert!(rt; letters.holds(Letter::Retrieve) && !letters.holds(Letter::Store));
+//! holds(rt, letters.holds(Letter::Retrieve));
+//! holds(rt, !letters.holds(Letter::Store));
 //! let meta = Meta::new(Kind::File, 120, 951_827_696); // seconds since 1970
 //! let text = LineText::with_number(rt.alloc(), "", meta.size, " octets")?;
-//! assert!(rt; text.as_str() == "120 octets");
+//! holds(rt, text.as_str() == "120 octets");
 //! ```
 #![tactic(auto)]
 

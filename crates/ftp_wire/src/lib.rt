@@ -3,19 +3,15 @@
 //!
 //! ```text
 //! let mut reader = LineReader::new(rt.alloc());
-//! let mut lines: Vec<u8> = Vec::new(rt.alloc());
-//! let mut replies: Vec<u8> = Vec::new(rt.alloc());
-//! for item in reader.feed(b"retr a.txt\r\nFOO\r\nNO")? {
-//!     match item {
-//!         LineItem::Command(command) => {
-//!             lines.extend_from_slice(&write_command(rt.alloc(), &command)?)?;
-//!         }
-//!         LineItem::Fault(fault) => fault.reply::<Global>().write_to(&mut replies)?,
+//! let items = reader.feed(b"retr a.txt\r\nFOO\r\nNO")?;
+//! holds(rt, reader.kept() == 2); // `NO` is no line yet
+//! match items.as_slice() {
+//!     [LineItem::Command(command), LineItem::Fault(fault)] => {
+//!         same(rt, &write_command(rt.alloc(), command)?, b"RETR a.txt\r\n");
+//!         says(rt, fault.reply(), b"500 Unknown command\r\n");
 //!     }
+//!     _ => panic!(rt; "each line that has its end is a command or a fault"),
 //! }
-//! assert!(rt; lines.as_slice() == b"RETR a.txt\r\n".as_slice());
-//! assert!(rt; replies.as_slice() == b"500 Unknown command\r\n".as_slice());
-//! assert!(rt; reader.kept() == 2); // `NO` is no line yet
 //! ```
 #![tactic(auto)]
 

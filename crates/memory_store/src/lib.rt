@@ -3,12 +3,10 @@
 //! [`MemStore`] is a `Store`, and what each of its calls makes of it is a function of what it held.
 //!
 //! ```text
-//! let alloc = rt.alloc();
-//! let mut store = MemStore::new(alloc, 1_000_000)?; // of so many octets at most
-//! let path = VPath::root(alloc).resolve(alloc, "/reports")?;
-//! store.make_dir(&path)?;
-//! assert!(rt; store.list(&path)?.is_empty());
-//! assert!(rt; store.make_dir(&path) == Err(StoreFault::Exists));
+//! let mut store = MemStore::new(rt.alloc(), 1_000_000)?; // of so many octets at most
+//! store.make_dir(path)?; // the path is `/in`
+//! holds(rt, store.make_dir(path) == Err(StoreFault::Exists));
+//! holds(rt, store.list(path)?.is_empty());
 //! ```
 #![tactic(auto)]
 

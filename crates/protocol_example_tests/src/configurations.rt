@@ -1,13 +1,17 @@
-//! Configurations: one test for each crate, which bears its name.
+//! Configurations: examples that bear the names of their crates.
 
-use config_keys::{line_at, number_at, only_known, table_at};
-use config_rates::{limits_of, read_rows};
+ghost use Rattle.std.specs.Prelude.{◌≡◌, length};
+
+use crate::expect::holds;
+use config_keys::{KeyFault, line_at, number_at, only_known, table_at};
+use config_rates::{RateRows, RowsFault, limits_of, read_rows};
 use config_server::read_server;
-use config_store::{ServedStore, make_store};
-use config_tables::{TableFault, TableName, read_tables};
-use config_users::make_users;
-use server_config::{Config, migrate};
-use std::test::Fail;
+use config_store::{ServedStore, StoreFaultAt, make_store};
+use config_tables::{TableFault, Tables, read_tables};
+use config_users::{UsersFault, make_users};
+use server_config::{Config, ConfigFault, migrate};
+use std::process::Abort;
+use toml::Table;
 
 /// A configuration of one user.
 const SMALL: &str = "version = 1
@@ -23,77 +27,91 @@ home = \"/\"
 perms = \"elr\"
 ";
 
-#[test]
-fn config_keys(rt: HostRuntime) -> Result<(), Fail> {
-    let table = toml::table_from_str(rt.alloc(), "name = \"lunch\"")?;
-    only_known(&table, &["name", "port"])?;
-    assert!(rt; line_at(&table, "name", None)? == "lunch");
-    assert!(rt; number_at(&table, "port", 1, 65535, Some(2121))? == 2121);
+fn config_keys<'a>(rt: &impl Abort, table: &'a Table) -> Result<(), KeyFault<'a>> {
+    only_known(table, &["name", "port"])?; // of a table with the line `name = "lunch"`
+    holds(rt, line_at(table, "name", None)? == "lunch");
+    holds(rt, number_at(table, "port", 1, 65535, Some(2121))? == 2121);
     Ok(())
 }
 
-#[test]
-fn config_server(rt: HostRuntime) -> Result<(), Fail> {
-    let document = toml::table_from_str(rt.alloc(), SMALL)?; // a server, and the user `ann`
-    let server = read_server(table_at(&document, "server")?)?;
-    assert!(rt; server.port == 2121 && server.lanes == 16);
+fn config_server<'a>(rt: &impl Abort, document: &'a Table) -> Result<(), KeyFault<'a>> {
+    let server = read_server(table_at(document, "server")?)?; // of a file with `port = 2121`
+    holds(rt, server.port == 2121 && server.lanes == 16);
     Ok(())
 }
 
-#[test]
-fn config_tables(rt: HostRuntime) -> Result<(), Fail> {
-    let document = toml::table_from_str(rt.alloc(), "version = 3")?;
-    match read_tables(rt.alloc(), &document) {
-        Err(TableFault::Key { header, fault }) => {
-            assert!(rt; header.table == TableName::Top && fault.key == "version");
-        }
-        _ => panic!(rt; "no version but 1 and 2 is read"),
-    }
+fn config_tables<'a>(
+    rt: &(impl Abort + AllocGlobal),
+    document: &'a Table,
+) -> Result<(), TableFault<'a>> {
+    let tables = read_tables(rt.alloc(), document)?; // else the first key that is at fault
+    holds(rt, tables.server.port == 2121 && tables.users.len() == 1);
     Ok(())
 }
 
-#[test]
-fn config_rates(rt: HostRuntime) -> Result<(), Fail> {
-    let document = toml::table_from_str(rt.alloc(), SMALL)?; // a server, and the user `ann`
-    let tables = read_tables(rt.alloc(), &document)?;
-    let rows = read_rows(rt.alloc(), &tables.groups, &tables.users)?;
+fn config_rates<'a>(
+    rt: &(impl Abort + AllocGlobal),
+    tables: &Tables<'a>,
+) -> Result<(), RowsFault<'a>> {
+    let rows = read_rows(rt.alloc(), &tables.groups, &tables.users)?; // of a file
     let limits = limits_of(&tables.server, rows);
-    assert!(rt; limits.users().len() == 1);
+    holds(rt, limits.users().len() == 1); // of the one user, `ann`
     Ok(())
 }
 
-#[test]
-fn config_users(rt: HostRuntime) -> Result<(), Fail> {
-    let document = toml::table_from_str(rt.alloc(), SMALL)?; // a server, and the user `ann`
-    let tables = read_tables(rt.alloc(), &document)?;
-    let rows = read_rows(rt.alloc(), &tables.groups, &tables.users)?;
+fn config_users<'a>(
+    rt: &(impl Abort + AllocGlobal),
+    tables: &Tables<'a>,
+    rows: &RateRows,
+) -> Result<(), UsersFault<'a>>
+    requires overrides { length tables.now.overrides.items ≡ length tables.now.users.items }
+    requires rows { length rows.now.users.items ≡ length tables.now.users.items }
+{
+    // the tables of a file with a user `ann`, and the rows of rates that `config_rates` reads
     let users = make_users(rt.alloc(), &tables.users, &tables.overrides, &rows.users)?;
-    assert!(rt; users.check_password("ann", "secret"));
+    holds(rt, users.check_password("ann", "secret"));
     Ok(())
 }
 
-#[test]
-fn config_store(rt: HostRuntime) -> Result<(), Fail> {
-    let document = toml::table_from_str(rt.alloc(), SMALL)?; // a server, and the user `ann`
-    let tables = read_tables(rt.alloc(), &document)?;
-    match make_store(rt.alloc(), &tables.server, &tables.dirs, &tables.files)? {
-        ServedStore::Memory(_store) => {} // which is served as it is
-        ServedStore::Folder(_path) => panic!(rt;
-            "a folder of the machine, which this text does not name"
-        ),
-    }
+fn config_store<'a>(
+    rt: &(impl Abort + AllocGlobal),
+    tables: &Tables<'a>,
+) -> Result<(), StoreFaultAt<'a>> {
+    // the tables of a file with `root = "memory"`
+    let store = make_store(rt.alloc(), &tables.server, &tables.dirs, &tables.files)?;
+    holds(rt, matches!(store, ServedStore::Memory(_))); // else a folder, by its path
     Ok(())
 }
 
-#[test]
-fn server_config(rt: HostRuntime) -> Result<(), Fail> {
-    match Config::read(rt.alloc(), SMALL.as_bytes()) {
-        Ok(config) => assert!(rt;
-            config.numbers.port == 2121 && config.settings.login_attempts == 3
-        ),
-        Err(fault) => panic!(rt; "{fault}: {}", fault.name()),
-    }
-    let text = migrate(rt.alloc(), SMALL.as_bytes())?; // the same in version 2
-    assert!(rt; text.as_str().contains("version = 2"));
+fn server_config(rt: &(impl Abort + AllocGlobal)) -> Result<(), ConfigFault> {
+    let text = migrate(rt.alloc(), SMALL.as_bytes())?; // a server and the user `ann`
+    holds(rt, text.as_str().contains("version = 2"));
+    let config = Config::read(rt.alloc(), SMALL.as_bytes())?; // as it is, in version 1
+    holds(rt, config.numbers.port == 2121);
+    holds(rt, config.settings.login_attempts == 3);
     Ok(())
+}
+
+/// What is made of the tables of a document.
+fn of_document(rt: &(impl Abort + AllocGlobal), document: &Table) {
+    let tables = read_tables(rt.alloc(), document).expect(rt, "tables");
+    config_rates(rt, &tables).expect(rt, "rates");
+    let rows = read_rows(rt.alloc(), &tables.groups, &tables.users).expect(rt, "rates");
+    config_users(rt, &tables, &rows).expect(rt, "users");
+    config_store(rt, &tables).expect(rt, "a store");
+}
+
+#[test]
+fn a_document(rt: HostRuntime) {
+    let document = toml::table_from_str(rt.alloc(), SMALL).expect(&rt, "a document");
+    config_server(&rt, &document).expect(&rt, "a server");
+    config_tables(&rt, &document).expect(&rt, "tables");
+    of_document(&rt, &document);
+}
+
+#[test]
+fn a_table_and_a_file(rt: HostRuntime) {
+    let table = toml::table_from_str(rt.alloc(), "name = \"lunch\"").expect(&rt, "a table");
+    config_keys(&rt, &table).expect(&rt, "keys");
+    server_config(&rt).expect(&rt, "a configuration");
 }

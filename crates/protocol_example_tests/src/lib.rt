@@ -5,6 +5,8 @@
 #[cfg(test)]
 mod configurations;
 #[cfg(test)]
+mod expect;
+#[cfg(test)]
 mod stores;
 #[cfg(test)]
 mod texts;

@@ -1,126 +1,75 @@
 //! The longest line, and floods.
 
-use crate::expect::{holds, same};
-use crate::told::{add_told, told_of};
+use crate::expect::same;
+use crate::told::{add_told, told};
 use ftp_wire::LineReader;
 use std::alloc::Global;
 use std::process::Abort;
-use std::test::Fail;
 
-fn many(alloc: Global, octet: u8, count: usize) -> Result<Vec<u8>, Fail> {
-    Ok(vec![in alloc; octet; count]?)
-}
+/// A start, and one octet so many times; how many octets are kept then; an end, and what all stand for.
+type Flood = (
+    &'static [u8],
+    u8,
+    usize,
+    usize,
+    &'static [u8],
+    &'static [u8],
+);
 
-fn command_line(alloc: Global, name: &[u8]) -> Result<Vec<u8>, Fail> {
-    let mut line = Vec::from_slice(alloc, b"CWD ")?;
-    line.extend_from_slice(name)?;
-    line.extend_from_slice(b"\r\n")?;
-    Ok(line)
-}
-
-/// What a line of `CWD ` and so many letters stands for.
-fn long_line(alloc: Global, letters: usize) -> Result<String, Fail> {
-    let name = many(alloc, b'x', letters)?;
-    let line = command_line(alloc, name.as_slice())?;
-    told_of(alloc, line.as_slice())
-}
-
-#[test]
-fn longest_line(rt: HostRuntime) -> Result<(), Fail> {
-    let fits = long_line(rt.alloc(), 4092)?;
-    holds(&rt, fits.len() == 4098);
-    let long = long_line(rt.alloc(), 4093)?;
-    same(&rt, &long.as_str(), &"TooLong\r\n");
-    Ok(())
-}
-
-/// What a new reader keeps of these octets.
-fn kept_of(alloc: Global, octets: &[u8]) -> Result<usize, Fail> {
-    let mut reader = LineReader::new(alloc);
-    let found = reader.feed(octets)?;
-    drop(found);
-    Ok(reader.kept())
-}
-
-/// What is kept after so many octets of a line.
-fn kept_after(alloc: Global, count: usize) -> Result<usize, Fail> {
-    let octets = many(alloc, b'x', count)?;
-    kept_of(alloc, octets.as_slice())
-}
-
-/// How many octets come, and how many of them are kept.
-static KEPT: [(usize, usize); 5] = [
-    (0, 0),
-    (4096, 4096),
-    (4097, 4097),
-    (4098, 0),
-    (1_000_000, 0),
+static FLOODS: [Flood; 9] = [
+    (b"", b'x', 0, 0, b"", b""),
+    (b"", b'x', 4096, 4096, b"", b""),
+    (b"", b'x', 4097, 4097, b"", b""),
+    (b"", b'x', 4098, 0, b"", b""),
+    (b"", b'x', 1_000_000, 0, b"", b""),
+    (b"CWD ", b'x', 4093, 4097, b"\r\n", b"500 Line too long\r\n"),
+    (b"", 255, 1_000_000, 0, b"\n", b"500 Line too long\r\n"),
+    (
+        b"CWD ",
+        b'x',
+        1_000_000,
+        0,
+        b"\r\nNOOP\r\n",
+        b"500 Line too long\r\nNOOP\r\n",
+    ),
+    (b"\xff\xfa", b'x', 1_000_000, 0, b"", b""),
 ];
 
-#[test]
-fn kept_octets(rt: HostRuntime) -> Result<(), Fail> {
-    for (count, kept) in &KEPT {
-        same(&rt, &kept_after(rt.alloc(), *count)?, kept);
-    }
-    Ok(())
-}
-
-/// Adds what comes of a piece of a million octets, and answers what is kept then.
-fn add_piece(
-    alloc: Global,
-    out: &mut String,
-    reader: &mut LineReader,
-    octet: u8,
-) -> Result<usize, Fail> {
-    let piece = many(alloc, octet, 1_000_000)?;
-    add_told(alloc, out, reader, piece.as_slice())?;
-    Ok(reader.kept())
-}
-
-/// What comes of a start, a piece of a million octets and an end, and what is kept before the end.
-fn flood(alloc: Global, start: &[u8], octet: u8, end: &[u8]) -> Result<(String, usize), Fail> {
+fn check_flood(rt: &impl Abort, alloc: Global, flood: &Flood) {
+    let (start, octet, count, kept, end, wanted) = *flood;
+    let many = vec![in alloc; octet; count].expect(rt, "memory");
     let mut reader = LineReader::new(alloc);
-    let mut out = String::new(alloc);
-    add_told(alloc, &mut out, &mut reader, start)?;
-    let kept = add_piece(alloc, &mut out, &mut reader, octet)?;
-    add_told(alloc, &mut out, &mut reader, end)?;
-    Ok((out, kept))
-}
-
-/// A start, the octet of the piece, an end, and what comes of them.
-static FLOODS: &[(&[u8], u8, &[u8], &str)] = &[
-    (b"", 255, b"\n", "TooLong\r\n"),
-    (b"CWD ", b'x', b"\r\nNOOP\r\n", "TooLong\r\nNOOP\r\n"),
-    (b"\xff\xfa", b'x', b"", ""),
-];
-
-fn check_flood(
-    rt: &impl Abort,
-    alloc: Global,
-    start: &[u8],
-    octet: u8,
-    end: &[u8],
-    wanted: &str,
-) -> Result<(), Fail> {
-    let (found, kept) = flood(alloc, start, octet, end)?;
-    same(rt, &found.as_str(), &wanted);
-    same(rt, &kept, &0);
-    Ok(())
+    let mut out = Vec::new(alloc);
+    add_told(rt, alloc, &mut out, &mut reader, start);
+    add_told(rt, alloc, &mut out, &mut reader, many.as_slice());
+    same(rt, &reader.kept(), &kept);
+    add_told(rt, alloc, &mut out, &mut reader, end);
+    same(rt, &out.as_slice(), &wanted);
 }
 
 #[test]
-fn nothing_is_kept_of_a_flood(rt: HostRuntime) -> Result<(), Fail> {
-    for (start, octet, end, wanted) in FLOODS {
-        check_flood(&rt, rt.alloc(), start, *octet, end, wanted)?;
+fn nothing_is_kept_of_a_flood(rt: HostRuntime) {
+    for flood in &FLOODS {
+        check_flood(&rt, rt.alloc(), flood);
     }
-    Ok(())
 }
 
 #[test]
-fn many_lines_in_one_piece(rt: HostRuntime) -> Result<(), Fail> {
+fn longest_line(rt: HostRuntime) {
     let alloc = rt.alloc();
-    let lines = many(alloc, b'\n', 10_000)?;
-    let mut reader = LineReader::new(alloc);
-    holds(&rt, reader.feed(lines.as_slice())?.len() == 10_000);
-    Ok(())
+    let name = "x".repeat(alloc, 4092).expect(&rt, "memory");
+    let line = format!(in alloc; "CWD {name}\r\n").expect(&rt, "memory");
+    let found = told(&rt, alloc, &[line.as_bytes()]);
+    same(&rt, &found.as_slice(), &line.as_bytes());
+    let long = format!(in alloc; "CWD {name}x\r\n").expect(&rt, "memory");
+    let found = told(&rt, alloc, &[long.as_bytes()]);
+    same(&rt, &found.as_slice(), &b"500 Line too long\r\n".as_slice());
+}
+
+#[test]
+fn many_lines_in_one_piece(rt: HostRuntime) {
+    let lines = vec![in rt.alloc(); b'\n'; 10_000].expect(&rt, "memory");
+    let mut reader = LineReader::new(rt.alloc());
+    let items = reader.feed(lines.as_slice()).expect(&rt, "memory");
+    same(&rt, &items.len(), &10_000);
 }

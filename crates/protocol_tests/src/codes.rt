@@ -1,105 +1,76 @@
 //! Each code that is known, without an argument and with one.
 
-use crate::told::check_row;
-use std::alloc::Global;
-use std::process::Abort;
-use std::test::Fail;
+use crate::told::check_line;
 
 /// A code, what it stands for alone, and what it stands for with the argument `x`.
-struct Row(&'static str, &'static str, &'static str);
-
-static BARE: &[Row] = &[
-    Row("CDUP", "CDUP", "ArgumentUnwanted"),
-    Row("QUIT", "QUIT", "ArgumentUnwanted"),
-    Row("REIN", "REIN", "ArgumentUnwanted"),
-    Row("PASV", "PASV", "ArgumentUnwanted"),
-    Row("ABOR", "ABOR", "ArgumentUnwanted"),
-    Row("PWD", "PWD", "ArgumentUnwanted"),
-    Row("SYST", "SYST", "ArgumentUnwanted"),
-    Row("FEAT", "FEAT", "ArgumentUnwanted"),
-    Row("NOOP", "NOOP", "ArgumentUnwanted"),
-    Row("XCUP", "CDUP", "ArgumentUnwanted"),
-    Row("XPWD", "PWD", "ArgumentUnwanted"),
+static CODES: &[(&str, &str, &str)] = &[
+    // without an argument
+    ("CDUP", "CDUP", "501 Argument not wanted"),
+    ("QUIT", "QUIT", "501 Argument not wanted"),
+    ("REIN", "REIN", "501 Argument not wanted"),
+    ("PASV", "PASV", "501 Argument not wanted"),
+    ("ABOR", "ABOR", "501 Argument not wanted"),
+    ("PWD", "PWD", "501 Argument not wanted"),
+    ("SYST", "SYST", "501 Argument not wanted"),
+    ("FEAT", "FEAT", "501 Argument not wanted"),
+    ("NOOP", "NOOP", "501 Argument not wanted"),
+    ("XCUP", "CDUP", "501 Argument not wanted"),
+    ("XPWD", "PWD", "501 Argument not wanted"),
+    // with a text
+    ("USER", "501 Argument missing", "USER x"),
+    ("CWD", "501 Argument missing", "CWD x"),
+    ("RETR", "501 Argument missing", "RETR x"),
+    ("STOR", "501 Argument missing", "STOR x"),
+    ("APPE", "501 Argument missing", "APPE x"),
+    ("RNFR", "501 Argument missing", "RNFR x"),
+    ("RNTO", "501 Argument missing", "RNTO x"),
+    ("DELE", "501 Argument missing", "DELE x"),
+    ("RMD", "501 Argument missing", "RMD x"),
+    ("MKD", "501 Argument missing", "MKD x"),
+    ("SIZE", "501 Argument missing", "SIZE x"),
+    ("MDTM", "501 Argument missing", "MDTM x"),
+    ("XCWD", "501 Argument missing", "CWD x"),
+    ("XRMD", "501 Argument missing", "RMD x"),
+    ("XMKD", "501 Argument missing", "MKD x"),
+    // with an argument of a form of its own, and those that can do without
+    ("TYPE", "501 Argument missing", "501 Bad argument"),
+    ("MODE", "501 Argument missing", "501 Bad argument"),
+    ("STRU", "501 Argument missing", "501 Bad argument"),
+    ("PORT", "501 Argument missing", "501 Bad argument"),
+    ("EPRT", "501 Argument missing", "501 Bad argument"),
+    ("REST", "501 Argument missing", "501 Bad argument"),
+    ("OPTS", "501 Argument missing", "501 Bad argument"),
+    ("EPSV", "EPSV", "501 Bad argument"),
+    ("PASS", "PASS", "PASS x"),
+    ("ALLO", "ALLO", "ALLO x"),
+    ("HELP", "HELP", "HELP x"),
+    ("MLSD", "MLSD", "MLSD x"),
+    ("MLST", "MLST", "MLST x"),
+    ("LIST", "LIST", "LIST x"),
+    ("NLST", "NLST", "NLST x"),
+    ("STAT", "STAT", "STAT x"),
+    // known and not served
+    ("ACCT", "502 Command not served", "502 Command not served"),
+    ("SMNT", "502 Command not served", "502 Command not served"),
+    ("STOU", "502 Command not served", "502 Command not served"),
+    ("SITE", "502 Command not served", "502 Command not served"),
+    ("LANG", "502 Command not served", "502 Command not served"),
+    ("HOST", "502 Command not served", "502 Command not served"),
+    ("AUTH", "502 Command not served", "502 Command not served"),
+    ("ADAT", "502 Command not served", "502 Command not served"),
+    ("PBSZ", "502 Command not served", "502 Command not served"),
+    ("PROT", "502 Command not served", "502 Command not served"),
+    ("CCC", "502 Command not served", "502 Command not served"),
+    ("MIC", "502 Command not served", "502 Command not served"),
+    ("CONF", "502 Command not served", "502 Command not served"),
+    ("ENC", "502 Command not served", "502 Command not served"),
+    ("MFMT", "502 Command not served", "502 Command not served"),
 ];
-
-static TEXT: &[Row] = &[
-    Row("USER", "ArgumentMissing", "USER x"),
-    Row("CWD", "ArgumentMissing", "CWD x"),
-    Row("RETR", "ArgumentMissing", "RETR x"),
-    Row("STOR", "ArgumentMissing", "STOR x"),
-    Row("APPE", "ArgumentMissing", "APPE x"),
-    Row("RNFR", "ArgumentMissing", "RNFR x"),
-    Row("RNTO", "ArgumentMissing", "RNTO x"),
-    Row("DELE", "ArgumentMissing", "DELE x"),
-    Row("RMD", "ArgumentMissing", "RMD x"),
-    Row("MKD", "ArgumentMissing", "MKD x"),
-    Row("SIZE", "ArgumentMissing", "SIZE x"),
-    Row("MDTM", "ArgumentMissing", "MDTM x"),
-    Row("XCWD", "ArgumentMissing", "CWD x"),
-    Row("XRMD", "ArgumentMissing", "RMD x"),
-    Row("XMKD", "ArgumentMissing", "MKD x"),
-];
-
-static OTHERS: &[Row] = &[
-    Row("TYPE", "ArgumentMissing", "BadArgument"),
-    Row("MODE", "ArgumentMissing", "BadArgument"),
-    Row("STRU", "ArgumentMissing", "BadArgument"),
-    Row("PORT", "ArgumentMissing", "BadArgument"),
-    Row("EPRT", "ArgumentMissing", "BadArgument"),
-    Row("REST", "ArgumentMissing", "BadArgument"),
-    Row("OPTS", "ArgumentMissing", "BadArgument"),
-    Row("EPSV", "EPSV", "BadArgument"),
-    Row("PASS", "PASS", "PASS x"),
-    Row("ALLO", "ALLO", "ALLO x"),
-    Row("HELP", "HELP", "HELP x"),
-    Row("MLSD", "MLSD", "MLSD x"),
-    Row("MLST", "MLST", "MLST x"),
-    Row("LIST", "LIST", "LIST x"),
-    Row("NLST", "NLST", "NLST x"),
-    Row("STAT", "STAT", "STAT x"),
-];
-
-static NOT_SERVED: &[Row] = &[
-    Row("ACCT", "NotServed", "NotServed"),
-    Row("SMNT", "NotServed", "NotServed"),
-    Row("STOU", "NotServed", "NotServed"),
-    Row("SITE", "NotServed", "NotServed"),
-    Row("LANG", "NotServed", "NotServed"),
-    Row("HOST", "NotServed", "NotServed"),
-    Row("AUTH", "NotServed", "NotServed"),
-    Row("ADAT", "NotServed", "NotServed"),
-    Row("PBSZ", "NotServed", "NotServed"),
-    Row("PROT", "NotServed", "NotServed"),
-    Row("CCC", "NotServed", "NotServed"),
-    Row("MIC", "NotServed", "NotServed"),
-    Row("CONF", "NotServed", "NotServed"),
-    Row("ENC", "NotServed", "NotServed"),
-    Row("MFMT", "NotServed", "NotServed"),
-];
-
-fn check_line(
-    rt: &impl Abort,
-    alloc: Global,
-    code: &str,
-    argument: &str,
-    item: &str,
-) -> Result<(), Fail> {
-    let line = format!(in alloc; "{code}{argument}")?;
-    check_row(rt, alloc, line.as_str(), item)
-}
-
-fn check_codes(rt: &impl Abort, alloc: Global, rows: &[Row]) -> Result<(), Fail> {
-    for row in rows {
-        check_line(rt, alloc, row.0, "", row.1)?;
-        check_line(rt, alloc, row.0, " x", row.2)?;
-    }
-    Ok(())
-}
 
 #[test]
-fn codes(rt: HostRuntime) -> Result<(), Fail> {
-    for rows in [BARE, TEXT, OTHERS, NOT_SERVED] {
-        check_codes(&rt, rt.alloc(), rows)?;
+fn codes(rt: HostRuntime) {
+    for (code, alone, with_argument) in CODES {
+        check_line(&rt, rt.alloc(), code, "", alone);
+        check_line(&rt, rt.alloc(), code, " x", with_argument);
     }
-    Ok(())
 }

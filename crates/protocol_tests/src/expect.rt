@@ -2,6 +2,8 @@
 
 ghost use Rattle.std.specs.Prelude.{IsTrue};
 
+use ftp_terms::LineText;
+use std::alloc::AllocError;
 use std::fmt::Debug;
 use std::process::Abort;
 
@@ -17,7 +19,14 @@ pub(crate) fn same<T: PartialEq + Debug>(rt: &impl Abort, found: &T, wanted: &T)
     assert_eq!(rt; found, wanted);
 }
 
-/// Stops the test where what a line tells is not what is wanted.
-pub(crate) fn same_line(rt: &impl Abort, found: &str, wanted: &str, line: &str) {
-    assert_eq!(rt; found, wanted, "{line}");
+/// Stops the test where what a line tells, with its end, is not the item that is wanted.
+pub(crate) fn same_line(rt: &impl Abort, found: &[u8], wanted: &str, line: &str) {
+    let found = std::str::from_utf8(found).expect(rt, "UTF-8");
+    assert_eq!(rt; found.strip_suffix("\r\n"), Some(wanted), "{line}");
+}
+
+/// A call has given this text.
+pub(crate) fn gives(rt: &impl Abort, text: Result<LineText, AllocError>, wanted: &str) {
+    let text = text.expect(rt, "memory");
+    assert_eq!(rt; text.as_str(), wanted);
 }

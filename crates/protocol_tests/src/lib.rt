@@ -14,8 +14,6 @@ mod listings;
 #[cfg(test)]
 mod refused;
 #[cfg(test)]
-mod refused_replies;
-#[cfg(test)]
 mod replies;
 #[cfg(test)]
 mod sessions;

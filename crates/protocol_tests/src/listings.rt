@@ -1,44 +1,30 @@
 //! Lines of listings, entries, moments and quoted paths.
 
-use crate::expect::{holds, same};
+use crate::expect::{gives, holds, same};
 use ftp_reply::{list_line, listings_have_one_text, mdtm_line, mdtm_text, mlst_entry, quoted_path};
 use ftp_terms::{Facts, Kind, LATEST, Letters, Meta};
-use std::alloc::Global;
-use std::process::Abort;
-use std::test::Fail;
 
 /// 2000-02-29 12:34:56.
 const LEAP_DAY: u64 = 951_827_696;
 
-static MOMENTS: [(u64, &[u8; 14]); 3] = [
-    (LEAP_DAY, b"20000229123456"),
-    (0, b"19700101000000"),
-    (LATEST, b"99991231235959"),
+static MOMENTS: [(u64, &str); 3] = [
+    (LEAP_DAY, "20000229123456"),
+    (0, "19700101000000"),
+    (LATEST, "99991231235959"),
 ];
 
-fn check_moment(rt: &impl Abort, alloc: Global, seconds: u64, text: &[u8; 14]) -> Result<(), Fail> {
-    holds(rt, seconds <= LATEST);
-    same(rt, &mdtm_text(seconds), text);
-    let line = mdtm_line(alloc, seconds)?;
-    same(rt, &line.as_str().as_bytes(), &text.as_slice());
-    Ok(())
-}
-
 #[test]
-fn moments_are_civil_dates(rt: HostRuntime) -> Result<(), Fail> {
+fn moments_are_civil_dates(rt: HostRuntime) {
     for (seconds, text) in &MOMENTS {
-        check_moment(&rt, rt.alloc(), *seconds, text)?;
+        holds(&rt, *seconds <= LATEST);
+        same(&rt, &mdtm_text(*seconds).as_slice(), &text.as_bytes());
+        gives(&rt, mdtm_line(rt.alloc(), *seconds), text);
     }
+    let late = Meta::new(Kind::File, 3, LATEST + 1); // told as the latest
+    same(&rt, &late.modified, &LATEST);
+    holds(&rt, late == Meta::new(Kind::File, 3, u64::MAX));
+    holds(&rt, late != Meta::new(Kind::Directory, 3, LATEST));
     listings_have_one_text();
-    Ok(())
-}
-
-#[test]
-fn later_moments_are_told_as_the_latest(rt: HostRuntime) {
-    let meta = Meta::new(Kind::File, 3, LATEST + 1);
-    same(&rt, &meta.modified, &LATEST);
-    holds(&rt, meta == Meta::new(Kind::File, 3, u64::MAX));
-    holds(&rt, meta != Meta::new(Kind::Directory, 3, LATEST));
 }
 
 static LISTED: [(Kind, u64, u64, &str); 4] = [
@@ -69,12 +55,11 @@ static LISTED: [(Kind, u64, u64, &str); 4] = [
 ];
 
 #[test]
-fn list_lines(rt: HostRuntime) -> Result<(), Fail> {
+fn list_lines(rt: HostRuntime) {
     for (kind, size, seconds, wanted) in &LISTED {
-        let line = list_line(rt.alloc(), &Meta::new(*kind, *size, *seconds), "x")?;
-        same(&rt, &line.as_str(), wanted);
+        let meta = Meta::new(*kind, *size, *seconds);
+        gives(&rt, list_line(rt.alloc(), &meta, "x"), wanted);
     }
-    Ok(())
 }
 
 const SIZE_ALONE: Facts = Facts {
@@ -155,13 +140,12 @@ static ENTRIES: [Entry; 10] = [
 ];
 
 #[test]
-fn entries(rt: HostRuntime) -> Result<(), Fail> {
+fn entries(rt: HostRuntime) {
     for ((kind, size, seconds), facts, letters, path, wanted) in &ENTRIES {
         let meta = Meta::new(*kind, *size, *seconds);
-        let entry = mlst_entry(rt.alloc(), &meta, *facts, *letters, path)?;
-        same(&rt, &entry.as_str(), wanted);
+        let entry = mlst_entry(rt.alloc(), &meta, *facts, *letters, path);
+        gives(&rt, entry, wanted);
     }
-    Ok(())
 }
 
 static QUOTED: [(&str, &str); 3] = [
@@ -171,10 +155,8 @@ static QUOTED: [(&str, &str); 3] = [
 ];
 
 #[test]
-fn paths_are_quoted(rt: HostRuntime) -> Result<(), Fail> {
+fn paths_are_quoted(rt: HostRuntime) {
     for (path, quoted) in &QUOTED {
-        let found = quoted_path(rt.alloc(), path)?;
-        same(&rt, &found.as_str(), quoted);
+        gives(&rt, quoted_path(rt.alloc(), path), quoted);
     }
-    Ok(())
 }

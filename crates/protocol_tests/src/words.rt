@@ -1,9 +1,8 @@
 //! The shared words.
 
-use crate::expect::{holds, same};
+use crate::expect::{gives, holds, same};
 use ftp_terms::{DataType, Facts, Letter, Letters, LineText, is_line_text, texts_of_one_line};
 use std::process::Abort;
-use std::test::Fail;
 
 static NAMED: [(&str, Letter); 8] = [
     ("e", Letter::ChangeDirectory),
@@ -37,13 +36,13 @@ fn letters_are_read(rt: HostRuntime) {
     for (text, letter) in &NAMED {
         check_letter(&rt, text, *letter);
     }
-    for (text, letters) in &TEXTS {
-        same(&rt, &Letters::read(text), letters);
-    }
 }
 
 #[test]
-fn constants_are_whole(rt: HostRuntime) {
+fn words_are_whole(rt: HostRuntime) {
+    for (text, letters) in &TEXTS {
+        same(&rt, &Letters::read(text), letters);
+    }
     let Facts {
         kind,
         size,
@@ -55,31 +54,23 @@ fn constants_are_whole(rt: HostRuntime) {
     holds(&rt, DataType::Ascii != DataType::Image);
 }
 
+static LINES: [(&str, bool); 4] = [("", true), ("a b", true), ("a\r", false), ("\na", false)];
+
 #[test]
-fn lines_are_told_from_texts(rt: HostRuntime) -> Result<(), Fail> {
-    for (text, answer) in &[("", true), ("a b", true), ("a\r", false), ("\na", false)] {
+fn texts_are_of_one_line(rt: HostRuntime) {
+    for (text, answer) in &LINES {
         same(&rt, &is_line_text(text), answer);
     }
-    let made = String::from_str(rt.alloc(), "made")?;
+    let made = String::from_str(rt.alloc(), "made").expect(&rt, "memory");
     holds(&rt, is_line_text(made.as_str()));
-    same(&rt, &LineText::made(made).as_str(), &"made");
-    Ok(())
-}
-
-#[test]
-fn texts_hold_numbers(rt: HostRuntime) -> Result<(), Fail> {
-    let alloc = rt.alloc();
-    let text = LineText::with_number(alloc, "Restarting at ", u64::MAX, ".")?;
-    same(&rt, &text.as_str(), &"Restarting at 18446744073709551615.");
-    let text = LineText::with_number(alloc, "", 0, "")?;
-    same(&rt, &text.as_str(), &"0");
-    Ok(())
-}
-
-#[test]
-fn texts_are_joined(rt: HostRuntime) -> Result<(), Fail> {
-    let joined = LineText::joined(rt.alloc(), "a", "", "\u{e9}b")?;
-    same(&rt, &joined.as_str(), &"a\u{e9}b");
+    gives(&rt, Ok(LineText::made(made)), "made");
+    let text = LineText::with_number(rt.alloc(), "Restarting at ", u64::MAX, ".");
+    gives(&rt, text, "Restarting at 18446744073709551615.");
+    gives(&rt, LineText::with_number(rt.alloc(), "", 0, ""), "0");
+    gives(
+        &rt,
+        LineText::joined(rt.alloc(), "a", "", "\u{e9}b"),
+        "a\u{e9}b",
+    );
     texts_of_one_line();
-    Ok(())
 }

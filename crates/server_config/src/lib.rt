@@ -1,14 +1,11 @@
 //! The configuration of a server: one TOML file, read whole.
 //!
 //! ```text
-//! match Config::read(rt.alloc(), SMALL.as_bytes()) {
-//!     Ok(config) => assert!(rt;
-//!         config.numbers.port == 2121 && config.settings.login_attempts == 3
-//!     ),
-//!     Err(fault) => panic!(rt; "{fault}: {}", fault.name()),
-//! }
-//! let text = migrate(rt.alloc(), SMALL.as_bytes())?; // the same in version 2
-//! assert!(rt; text.as_str().contains("version = 2"));
+//! let text = migrate(rt.alloc(), SMALL.as_bytes())?; // a server and the user `ann`
+//! holds(rt, text.as_str().contains("version = 2"));
+//! let config = Config::read(rt.alloc(), SMALL.as_bytes())?; // as it is, in version 1
+//! holds(rt, config.numbers.port == 2121);
+//! holds(rt, config.settings.login_attempts == 3);
 //! ```
 //!
 //! docs/configuration.md has each key with its kind, its range and its default, and the order of the faults.

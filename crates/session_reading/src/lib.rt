@@ -10,7 +10,7 @@
 //! };
 //! let mut reading = Reading::new(rt.alloc())?;
 //! reading.read(Said::Line(line, ""), 951_827_696_000)?;
-//! assert!(rt; reading.told() == "530 Log in first\r\n");
+//! holds(rt, reading.told() == "530 Log in first\r\n");
 //! ```
 #![tactic(auto)]
 

@@ -8,9 +8,7 @@
 //!
 //! ```text
 //! let answer: Answer = Answer::Refusal(Refusal::LogInFirst);
-//! let mut buffer = Vec::new(rt.alloc());
-//! answer.into_reply().write_to(&mut buffer)?;
-//! assert!(rt; buffer.as_slice() == b"530 Log in first\r\n".as_slice());
+//! says(rt, answer.into_reply(), b"530 Log in first\r\n");
 //! ```
 #![tactic(auto)]
 

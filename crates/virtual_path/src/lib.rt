@@ -4,10 +4,10 @@
 //! so no path leaves its root (compare RFC 3986, section 5.2.4).
 //!
 //! ```text
-//! let alloc = rt.alloc();
-//! let home = VPath::root(alloc).resolve(alloc, "/home/ann")?;
-//! let file = home.resolve(alloc, "../bob/./f")?;
-//! assert!(rt; file.text() == "/home/bob/f" && file.file_name() == Some("f"));
+//! let home = VPath::root(rt.alloc()).resolve(rt.alloc(), "/home/ann")?;
+//! let file = home.resolve(rt.alloc(), "../bob/./f")?;
+//! holds(rt, file.text() == "/home/bob/f");
+//! holds(rt, file.file_name() == Some("f"));
 //! ```
 #![tactic(auto)]
 

@@ -5,14 +5,12 @@
 //! one in memory, one over a folder of the machine, and one that fails once.
 //!
 //! ```text
-//! let mut store = MemStore::new(rt.alloc(), 1_000_000)?;
-//! let path = VPath::root(rt.alloc()).resolve(rt.alloc(), "/report")?;
-//! let mut sink = store.open_write(&path, WriteMode::New, 951_827_696_000)?;
+//! let mut sink = store.open_write(path, WriteMode::New, 951_827_696_000)?;
 //! sink.write(b"all is well")?;
 //! store.finish(sink, 951_827_696_000)?; // milliseconds since 1970
-//! let mut source = store.open_read(&path, 4)?;
+//! let mut source = store.open_read(path, 4)?; // from the fifth octet on
 //! let mut buffer = [0u8; 16];
-//! assert!(rt; source.read(&mut buffer)? == 7);
+//! holds(rt, source.read(&mut buffer) == Ok(7));
 //! ```
 #![tactic(auto)]
 

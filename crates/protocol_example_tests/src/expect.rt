@@ -1,0 +1,21 @@
+//! What tests expect. A call costs the prover less than an `assert!` in its place.
+
+use ftp_reply::Reply;
+use std::process::Abort;
+
+/// Stops the test where this does not hold.
+pub(crate) fn holds(rt: &impl Abort, fact: bool) {
+    assert!(rt; fact);
+}
+
+/// The octets are these.
+pub(crate) fn same(rt: &impl Abort, found: &[u8], wanted: &[u8]) {
+    assert_eq!(rt; found, wanted);
+}
+
+/// The reply is written as these octets.
+pub(crate) fn says(rt: &(impl Abort + AllocGlobal), reply: Reply, wanted: &[u8]) {
+    let mut octets = Vec::new(rt.alloc());
+    reply.write_to(&mut octets).expect(rt, "memory");
+    same(rt, &octets, wanted);
+}

@@ -54,8 +54,8 @@ pub fn limits_of(
     Limits::of(server, down, up, groups, users)
 }
 
-/// A rate down of 100; group 0 has 40 of it, with users 0 and 1; user 2 is in none and has no row. Each session of user 5 is
-/// guaranteed 80 of the 100 of group 4.
+/// A rate down of 100; group 0 has 40 of it, with users 0 and 1; user 2 is in none and has no row. Each session of
+/// user 5 is guaranteed 80 of the 100 of group 4.
 pub fn two_groups(rt: &(impl Abort + AllocGlobal)) -> Limits {
     let groups = [group(0, 40), group(4, 100)];
     let users = [

@@ -13,8 +13,8 @@ use script_session::{ScriptSide, StillClock};
 use session_table::Settings;
 use std::alloc::Global;
 use std::marker::Brand;
+use std::process::Abort;
 use std::sync::ledger::{Blank, Ledger};
-use std::test::Fail;
 use text_ends::TextReader;
 use virtual_path::VPath;
 use virtual_tree::{Sink, Store, WriteMode};
@@ -36,44 +36,44 @@ fn settings<'h>() -> Settings<&'h LocalHeap> {
     }
 }
 
-fn make_floors(global: Global) -> Result<Floors, Fail> {
-    let limits = Limits::of(0, 0, 0, Vec::new(global), Vec::new(global))?;
-    Ok(Floors::of(global, &limits)?)
+fn make_floors(rt: &impl Abort, global: Global) -> Floors {
+    let limits = Limits::of(0, 0, 0, Vec::new(global), Vec::new(global)).expect(rt, "no rates");
+    Floors::of(global, &limits).expect(rt, "memory")
 }
 
-fn make_users<'h>(heap: &'h LocalHeap) -> Result<Authorizer<&'h LocalHeap>, Fail> {
-    let mut users = Authorizer::new(heap)?;
-    users.add_user("ann", "secret", "/", "elradfmw")?;
-    users.add_user("bob", "b", "/", "elr")?;
-    users.override_perm("bob", "/in", "lw", true)?;
-    Ok(users)
+fn make_users<'h>(rt: &impl Abort, heap: &'h LocalHeap) -> Authorizer<&'h LocalHeap> {
+    let mut users = Authorizer::new(heap).expect(rt, "memory");
+    users
+        .add_user("ann", "secret", "/", "elradfmw")
+        .expect(rt, "a user");
+    users.add_user("bob", "b", "/", "elr").expect(rt, "a user");
+    users
+        .override_perm("bob", "/in", "lw", true)
+        .expect(rt, "letters");
+    users
 }
 
-/// Makes the directory in, and the file f of the octets a LF b.
-fn fill<'h>(
-    store: &mut MemStore<&'h LocalHeap>,
-    root: &VPath<&'h LocalHeap>,
-    heap: &'h LocalHeap,
-) -> Result<(), Fail> {
-    store.make_dir(&root.child(heap, "in")?)?;
-    let mut sink = store.open_write(&root.child(heap, "f")?, WriteMode::New, 0)?;
-    sink.write("a\nb".as_bytes())?;
-    store.finish(sink, 951_827_696_000)?;
-    Ok(())
+/// The directory in, and the file f of the octets a LF b.
+fn make_store<'h>(rt: &impl Abort, heap: &'h LocalHeap) -> MemStore<&'h LocalHeap> {
+    let mut store = MemStore::new(heap, 1000).expect(rt, "memory");
+    let root = VPath::root(heap);
+    let directory = root.child(heap, "in").expect(rt, "a name");
+    store.make_dir(&directory).expect(rt, "a directory");
+    let file = root.child(heap, "f").expect(rt, "a name");
+    let mut sink = store
+        .open_write(&file, WriteMode::New, 0)
+        .expect(rt, "a sink");
+    sink.write(b"a\nb").expect(rt, "a write");
+    store.finish(sink, 951_827_696_000).expect(rt, "an end");
+    store
 }
 
-fn make_store<'h>(heap: &'h LocalHeap) -> Result<MemStore<&'h LocalHeap>, Fail> {
-    let mut store = MemStore::new(heap, 1000)?;
-    fill(&mut store, &VPath::root(heap), heap)?;
-    Ok(store)
-}
-
-pub(crate) fn make_server<'h>(global: Global, heap: &'h LocalHeap) -> Result<Server<'h>, Fail> {
-    Ok(Server {
-        users: make_users(heap)?,
-        store: make_store(heap)?,
-        floors: make_floors(global)?,
-    })
+pub(crate) fn make_server<'h>(rt: &impl Abort, global: Global, heap: &'h LocalHeap) -> Server<'h> {
+    Server {
+        users: make_users(rt, heap),
+        store: make_store(rt, heap),
+        floors: make_floors(rt, global),
+    }
 }
 
 impl<'h> Server<'h> {

@@ -9,7 +9,6 @@ use control_session::ControlFault;
 use linked_list_allocator::LocalHeap;
 use scarce_memory::{HEAP, leave_hole};
 use std::process::Abort;
-use std::test::Fail;
 use text_ends::Outside;
 
 /// What a session has written, and how it ended.
@@ -19,20 +18,15 @@ struct Told {
     ended: Result<(), ControlFault>,
 }
 
-/// What the lines of some rows are told where there is memory.
-fn put_replies(output: &mut Vec<u8>, rows: &[Row<'_>]) -> Result<(), Fail> {
+/// The greeting, and what the lines of some rows are told where there is memory.
+fn replies(rt: &(impl Abort + AllocGlobal), rows: &[Row<'_>]) -> Vec<u8> {
+    let mut output = Vec::from_slice(rt.alloc(), GREETING.as_bytes()).expect(rt, "memory");
     for (_, reply, _) in rows {
-        output.extend_from_slice(reply.as_bytes())?;
+        output
+            .extend_from_slice(reply.as_bytes())
+            .expect(rt, "memory");
     }
-    Ok(())
-}
-
-/// The greeting, and what those lines are told.
-fn replies(rt: &impl AllocGlobal, rows: &[Row<'_>]) -> Result<Vec<u8>, Fail> {
-    let mut output = Vec::new(rt.alloc());
-    output.extend_from_slice(GREETING.as_bytes())?;
-    put_replies(&mut output, rows)?;
-    Ok(output)
+    output
 }
 
 /// A session in which memory is short at one line, or at the end, which is counted as one line more.
@@ -65,25 +59,19 @@ static REFUSALS: [&str; 2] = [
 ];
 
 /// Whether the store had no memory for a line, of which the client was told.
-fn was_told(
-    rt: &impl AllocGlobal,
-    output: &[u8],
-    rows: &[Row<'_>],
-    line: usize,
-) -> Result<bool, Fail> {
+fn was_told(rt: &(impl Abort + AllocGlobal), output: &[u8], rows: &[Row<'_>], line: usize) -> bool {
     let (before, others) = rows.split_at(line.min(rows.len()));
     let Some(((_, _, rest), _)) = others.split_first() else {
-        return Ok(false);
+        return false;
     };
-    for refusal in REFUSALS {
-        let mut told = replies(rt, before)?;
-        told.extend_from_slice(refusal.as_bytes())?;
-        told.extend_from_slice(rest.as_bytes())?;
-        if told.as_slice() == output {
-            return Ok(true);
-        }
-    }
-    Ok(false)
+    let told = replies(rt, before);
+    let Some(behind) = output.strip_prefix(told.as_slice()) else {
+        return false;
+    };
+    let Some(refusal) = behind.strip_suffix(rest.as_bytes()) else {
+        return false;
+    };
+    REFUSALS.iter().any(|it| it.as_bytes() == refusal)
 }
 
 fn front<'a>(rows: &'a [Row<'a>], count: usize) -> &'a [Row<'a>] {
@@ -92,17 +80,11 @@ fn front<'a>(rows: &'a [Row<'a>], count: usize) -> &'a [Row<'a>] {
 }
 
 /// A session that broke off at a line has told the lines before it all, and that line a part.
-fn check_broken(
-    rt: &(impl Abort + AllocGlobal),
-    output: &[u8],
-    rows: &[Row<'_>],
-    line: usize,
-) -> Result<(), Fail> {
-    let least = replies(rt, front(rows, line))?;
-    let most = replies(rt, front(rows, line.saturating_add(1)))?;
+fn check_broken(rt: &(impl Abort + AllocGlobal), output: &[u8], rows: &[Row<'_>], line: usize) {
+    let least = replies(rt, front(rows, line));
     holds(rt, output.starts_with(&least), "the lines before");
+    let most = replies(rt, front(rows, line.saturating_add(1)));
     holds(rt, most.starts_with(output), "no line behind");
-    Ok(())
 }
 
 /// Whether a session was refused memory at a line. What it wrote is as it should be.
@@ -111,18 +93,17 @@ fn was_refused(
     told: &Told,
     rows: &[Row<'_>],
     line: usize,
-) -> Result<bool, Fail> {
+) -> bool {
     if told.ended.is_err() {
         holds(rt, told.ended == Err(ControlFault::Memory), "memory");
-        check_broken(rt, &told.output, rows, line)?;
-        return Ok(true);
+        check_broken(rt, &told.output, rows, line);
+        return true;
     }
-    if was_told(rt, &told.output, rows, line)? {
-        return Ok(true);
+    if was_told(rt, &told.output, rows, line) {
+        return true;
     }
-    let whole = replies(rt, rows)?;
-    same(rt, &told.output, &whole);
-    Ok(false)
+    same(rt, &told.output, &replies(rt, rows));
+    false
 }
 
 /// The lines of a session, what it writes on a store which one has changed, and which line is the first that changes it.
@@ -139,17 +120,12 @@ fn check_later(
     later: &Told,
     script: Script<'_>,
     is_unchanged: bool,
-) -> Result<(), Fail> {
+) {
     holds(rt, later.ended.is_ok(), "a later session");
-    let fresh = replies(rt, script.rows)?;
-    if is_unchanged {
-        same(rt, &later.output, &fresh);
-        return Ok(());
-    }
+    let fresh = replies(rt, script.rows);
     let output = later.output.as_slice();
-    let is_either = output == script.again.as_bytes() || output == fresh.as_slice();
-    holds(rt, is_either, "what stands");
-    Ok(())
+    let is_again = !is_unchanged && output == script.again.as_bytes();
+    holds(rt, is_again || output == fresh.as_slice(), "what stands");
 }
 
 /// A session with memory, after another.
@@ -159,151 +135,118 @@ fn serve_later<'h>(
     server: &mut Server<'h>,
     script: Script<'h>,
     is_unchanged: bool,
-) -> Result<(), Fail> {
+) {
     let later = serve_rows(rt, heap, server, script.rows, usize::MAX, 0);
-    check_later(rt, &later, script, is_unchanged)
+    check_later(rt, &later, script, is_unchanged);
 }
 
-/// A session with one hole of some octets at a line, and one after it with memory.
-fn serve_short<'h>(
-    rt: &'h (impl Abort + AllocGlobal),
-    heap: &'h LocalHeap,
-    server: &mut Server<'h>,
-    script: Script<'h>,
-    line: usize,
-    room: usize,
-) -> Result<bool, Fail> {
-    let told = serve_rows(rt, heap, server, script.rows, line, room);
-    let refused = was_refused(rt, &told, script.rows, line)?;
+/// Whether a session with one hole of some octets at a line is refused; one after it, with memory, is not. They are on a server of
+/// their own.
+fn try_line(rt: &(impl Abort + AllocGlobal), script: Script<'_>, line: usize, room: usize) -> bool {
+    let heap = LocalHeap::new(rt.alloc(), HEAP).expect(rt, "a heap");
+    let mut server = make_server(rt, rt.alloc(), &heap);
+    let told = serve_rows(rt, &heap, &mut server, script.rows, line, room);
     let is_unchanged = told.ended.is_err() && line < script.change;
-    serve_later(rt, heap, server, script, is_unchanged)?;
-    Ok(refused)
-}
-
-/// The same on a server of its own.
-fn try_line(
-    rt: &(impl Abort + AllocGlobal),
-    script: Script<'_>,
-    line: usize,
-    room: usize,
-) -> Result<bool, Fail> {
-    let heap = LocalHeap::new(rt.alloc(), HEAP)?;
-    let mut server = make_server(rt.alloc(), &heap)?;
-    serve_short(rt, &heap, &mut server, script, line, room)
+    serve_later(rt, &heap, &mut server, script, is_unchanged);
+    was_refused(rt, &told, script.rows, line)
 }
 
 /// How many growths of a line are refused before it passes.
-fn count_refused(
-    rt: &(impl Abort + AllocGlobal),
-    script: Script<'_>,
-    line: usize,
-) -> Result<usize, Fail> {
+fn count_refused(rt: &(impl Abort + AllocGlobal), script: Script<'_>, line: usize) -> usize {
     for step in 0..512usize {
-        if !try_line(rt, script, line, 16 * step)? {
-            return Ok(step);
+        if !try_line(rt, script, line, 16 * step) {
+            return step;
         }
     }
-    Err(Fail::from("never enough memory"))
+    panic!(rt; "never enough memory")
 }
 
-/// At how many lines memory was refused, each in turn. The end is refused none: it has what the reads took.
-fn check_script(rt: &(impl Abort + AllocGlobal), script: Script<'_>) -> Result<usize, Fail> {
-    let mut refused = 0usize;
+/// Some growths of each line are refused, each in turn. The end is refused none: it has what the reads took.
+fn check_script(rt: &(impl Abort + AllocGlobal), script: Script<'_>) {
     for line in 0..script.rows.len() {
-        if 0 < count_refused(rt, script, line)? {
-            refused = refused.saturating_add(1);
-        }
+        holds(rt, 0 < count_refused(rt, script, line), "each line");
     }
-    let is_ended = !try_line(rt, script, script.rows.len(), 0)?;
+    let is_ended = !try_line(rt, script, script.rows.len(), 0);
     holds(rt, is_ended, "the end");
-    Ok(refused)
 }
 
 #[test]
-fn paths(rt: HostRuntime) -> Result<(), Fail> {
+fn paths(rt: HostRuntime) {
     let script = Script {
         rows: &PATHS,
         again: PATHS_AGAIN,
         change: 4,
     };
-    let refused = check_script(&rt, script)?;
-    holds(&rt, refused == PATHS.len(), "each line");
-    Ok(())
+    check_script(&rt, script);
 }
 
 #[test]
-fn transfers(rt: HostRuntime) -> Result<(), Fail> {
+fn transfers(rt: HostRuntime) {
     let script = Script {
         rows: &TRANSFERS,
         again: "",
         change: 3,
     };
-    let refused = check_script(&rt, script)?;
-    holds(&rt, refused == TRANSFERS.len(), "each line");
-    Ok(())
+    check_script(&rt, script);
 }
 
 /// A session that begins with one hole of some octets.
 fn begin_short<'h>(
-    rt: &'h impl AllocGlobal,
-    heap: &'h LocalHeap,
-    server: &mut Server<'h>,
-    room: usize,
-) -> Result<Told, Fail> {
-    let rest = leave_hole(rt, heap, room)?;
-    let told = serve_rows(rt, heap, server, &[], usize::MAX, 0);
-    drop(rest);
-    Ok(told)
-}
-
-/// Whether a beginning was refused: before all is got that it needs, nothing is said, and a session after it passes.
-fn was_refused_at_once<'h>(
     rt: &'h (impl Abort + AllocGlobal),
     heap: &'h LocalHeap,
     server: &mut Server<'h>,
-    told: &Told,
-) -> Result<bool, Fail> {
+    room: usize,
+) -> Told {
+    let rest = leave_hole(rt, heap, room).expect(rt, "a hole");
+    let told = serve_rows(rt, heap, server, &[], usize::MAX, 0);
+    drop(rest);
+    told
+}
+
+/// Whether a beginning was refused: before all is got that it needs, nothing is said.
+fn was_refused_at_once(rt: &impl Abort, told: &Told) -> bool {
     if told.ended.is_ok() {
         same(rt, &told.output, GREETING.as_bytes());
-        return Ok(false);
+        return false;
     }
     holds(rt, told.ended == Err(ControlFault::Memory), "memory");
     let is_front = GREETING.as_bytes().starts_with(&told.output);
     holds(rt, is_front, "greeting");
-    let script = Script {
-        rows: &PATHS,
-        again: "",
-        change: 0,
-    };
-    serve_later(rt, heap, server, script, true)?;
-    Ok(true)
+    true
 }
 
+/// Whether a session that begins with one hole of some octets is refused. One after it passes.
 fn begin_on<'h>(
     rt: &'h (impl Abort + AllocGlobal),
     heap: &'h LocalHeap,
     server: &mut Server<'h>,
     room: usize,
-) -> Result<bool, Fail> {
-    let told = begin_short(rt, heap, server, room)?;
-    was_refused_at_once(rt, heap, server, &told)
+) -> bool {
+    let told = begin_short(rt, heap, server, room);
+    let script = Script {
+        rows: &PATHS,
+        again: "",
+        change: 0,
+    };
+    serve_later(rt, heap, server, script, true);
+    was_refused_at_once(rt, &told)
 }
 
-fn try_beginning(rt: &(impl Abort + AllocGlobal), room: usize) -> Result<bool, Fail> {
-    let heap = LocalHeap::new(rt.alloc(), HEAP)?;
-    let mut server = make_server(rt.alloc(), &heap)?;
+/// The same on a server of its own.
+fn try_beginning(rt: &(impl Abort + AllocGlobal), room: usize) -> bool {
+    let heap = LocalHeap::new(rt.alloc(), HEAP).expect(rt, "a heap");
+    let mut server = make_server(rt, rt.alloc(), &heap);
     begin_on(rt, &heap, &mut server, room)
 }
 
 #[test]
-fn beginnings(rt: HostRuntime) -> Result<(), Fail> {
+fn beginnings(rt: HostRuntime) {
     let mut refused = 0usize;
     for step in 0..512usize {
-        if try_beginning(&rt, 16 * step)? {
+        if try_beginning(&rt, 16 * step) {
             refused = refused.saturating_add(1);
         }
     }
     // Some were refused, and some passed.
     holds(&rt, 0 < refused && refused < 512, "some");
-    Ok(())
 }

@@ -1,6 +1,6 @@
 //! A session with all that it needs, in a heap of its own.
 
-use crate::told::{Doings, Sink, put_doings};
+use crate::told::{Doings, Sink, put_doing};
 use authorizer::Authorizer;
 use ftp_terms::LineText;
 use ftp_wire::LineReader;
@@ -11,9 +11,8 @@ use rate_floors::Floors;
 use scarce_memory::leave_hole;
 use session_core::Session;
 use session_table::{End, Input, Settings};
-use std::alloc::{AllocError, Global};
+use std::alloc::AllocError;
 use std::process::Abort;
-use std::test::Fail;
 use virtual_path::VPath;
 use virtual_tree::{Sink as _, Store, WriteMode};
 
@@ -54,26 +53,18 @@ fn make_users<'h>(rt: &impl Abort, heap: &'h LocalHeap) -> Authorizer<&'h LocalH
     users
 }
 
-/// Makes the directory in, and the file f of the octets a LF b.
-fn fill<'h>(
-    rt: &impl Abort,
-    store: &mut MemStore<&'h LocalHeap>,
-    root: &VPath<&'h LocalHeap>,
-    heap: &'h LocalHeap,
-) {
+/// The directory in, and the file f of the octets a LF b.
+fn make_store<'h>(rt: &impl Abort, heap: &'h LocalHeap) -> MemStore<&'h LocalHeap> {
+    let mut store = MemStore::new(heap, 1000).expect(rt, "memory");
+    let root = VPath::root(heap);
     let inner = root.child(heap, "in").expect(rt, "a path");
     store.make_dir(&inner).expect(rt, "a directory");
     let path = root.child(heap, "f").expect(rt, "a path");
     let mut sink = store
         .open_write(&path, WriteMode::New, 0)
         .expect(rt, "a file");
-    sink.write("a\nb".as_bytes()).expect(rt, "memory");
+    sink.write(b"a\nb").expect(rt, "memory");
     store.finish(sink, 951_827_696_000).expect(rt, "a file");
-}
-
-fn make_store<'h>(rt: &impl Abort, heap: &'h LocalHeap) -> MemStore<&'h LocalHeap> {
-    let mut store = MemStore::new(heap, 1000).expect(rt, "memory");
-    fill(rt, &mut store, &VPath::root(heap), heap);
     store
 }
 
@@ -87,36 +78,30 @@ pub(crate) fn make_room<'h>(rt: &(impl Abort + AllocGlobal), heap: &'h LocalHeap
     }
 }
 
-fn read_line<'h>(heap: &'h LocalHeap, line: &str) -> Result<Input<&'h LocalHeap, Sink<'h>>, Fail> {
+fn read_line<'h>(
+    rt: &impl Abort,
+    heap: &'h LocalHeap,
+    line: &str,
+) -> Input<&'h LocalHeap, Sink<'h>> {
     let mut reader = LineReader::new(heap);
-    let mut items = reader.feed(line.as_bytes())?;
+    let mut items = reader.feed(line.as_bytes()).expect(rt, "memory");
     match items.pop() {
-        Some(item) => Ok(Input::Line(item)),
-        None => Err(Fail::from("no line")),
+        Some(item) => Input::Line(item),
+        None => rt.abort(),
     }
 }
 
 /// The words of what is to be done; a sink is kept.
 fn told<'h>(
-    global: Global,
+    rt: &(impl Abort + AllocGlobal),
     kept: &mut Option<Sink<'h>>,
     actions: Doings<'h>,
-) -> Result<Vec<u8>, Fail> {
-    let mut octets = Vec::new(global);
-    put_doings(&mut octets, kept, actions)?;
-    Ok(octets)
-}
-
-/// The same of actions, if any.
-fn told_of_any<'h>(
-    global: Global,
-    kept: &mut Option<Sink<'h>>,
-    actions: Option<Doings<'h>>,
-) -> Result<Option<Vec<u8>>, Fail> {
-    match actions {
-        Some(actions) => Ok(Some(told(global, kept, actions)?)),
-        None => Ok(None),
+) -> Vec<u8> {
+    let mut octets = Vec::new(rt.alloc());
+    for action in actions {
+        put_doing(&mut octets, kept, action).expect(rt, "memory");
     }
+    octets
 }
 
 impl<'h> Room<'h> {
@@ -130,16 +115,17 @@ impl<'h> Room<'h> {
     /// The input that a word stands for, or that of a line.
     fn input_of(
         &mut self,
+        rt: &impl Abort,
         heap: &'h LocalHeap,
         line: &str,
-    ) -> Result<Input<&'h LocalHeap, Sink<'h>>, Fail> {
+    ) -> Input<&'h LocalHeap, Sink<'h>> {
         match line {
-            "port" => Ok(Input::DataReady(Some(40000))),
-            "held" => Ok(Input::Held),
-            "closed" => Ok(Input::Closed),
-            "done" => Ok(self.ended(End::Done)),
-            "lost" => Ok(self.ended(End::Lost)),
-            _ => read_line(heap, line),
+            "port" => Input::DataReady(Some(40000)),
+            "held" => Input::Held,
+            "closed" => Input::Closed,
+            "done" => self.ended(End::Done),
+            "lost" => self.ended(End::Lost),
+            _ => read_line(rt, heap, line),
         }
     }
 
@@ -151,27 +137,13 @@ impl<'h> Room<'h> {
     /// What is done at an input.
     pub fn give(
         &mut self,
-        global: Global,
-        heap: &'h LocalHeap,
-        line: &str,
-    ) -> Result<Vec<u8>, Fail> {
-        let input = self.input_of(heap, line)?;
-        let actions = self.step(input)?;
-        told(global, &mut self.sink, actions)
-    }
-
-    /// A step while the heap has only one hole of some octets; nothing where memory ran out.
-    fn step_short(
-        &mut self,
         rt: &(impl Abort + AllocGlobal),
         heap: &'h LocalHeap,
-        input: Input<&'h LocalHeap, Sink<'h>>,
-        hole: usize,
-    ) -> Option<Doings<'h>> {
-        let rest = leave_hole(rt, heap, hole).expect(rt, "memory for the hole");
-        let answer = self.step(input);
-        drop(rest);
-        answer.ok()
+        line: &str,
+    ) -> Vec<u8> {
+        let input = self.input_of(rt, heap, line);
+        let actions = self.step(input).expect(rt, "memory");
+        told(rt, &mut self.sink, actions)
     }
 
     /// What is done at an input while the heap has only one hole of some octets; nothing where memory
@@ -182,9 +154,14 @@ impl<'h> Room<'h> {
         heap: &'h LocalHeap,
         line: &str,
         hole: usize,
-    ) -> Result<Option<Vec<u8>>, Fail> {
-        let input = self.input_of(heap, line)?;
-        let actions = self.step_short(rt, heap, input, hole);
-        told_of_any(rt.alloc(), &mut self.sink, actions)
+    ) -> Option<Vec<u8>> {
+        let input = self.input_of(rt, heap, line);
+        let rest = leave_hole(rt, heap, hole).expect(rt, "memory for the hole");
+        let answer = self.step(input);
+        drop(rest);
+        match answer {
+            Ok(actions) => Some(told(rt, &mut self.sink, actions)),
+            Err(_) => None,
+        }
     }
 }

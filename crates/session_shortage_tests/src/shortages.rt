@@ -11,19 +11,17 @@ use session_core::Session;
 use session_table::Action;
 use std::alloc::AllocError;
 use std::process::Abort;
-use std::test::Fail;
 
 fn follow<'h>(
     rt: &(impl Abort + AllocGlobal),
     heap: &'h LocalHeap,
     room: &mut Room<'h>,
     rows: &[(&str, &str)],
-) -> Result<(), Fail> {
+) {
     for (line, reply) in rows {
-        let octets = room.give(rt.alloc(), heap, line)?;
+        let octets = room.give(rt, heap, line);
         same(rt, octets.as_slice(), reply.as_bytes());
     }
-    Ok(())
 }
 
 /// What the store says where it had no memory, and what it says at the end of a file.
@@ -42,65 +40,42 @@ fn was_refused<'h>(
     room: &mut Room<'h>,
     told: &[u8],
     rows: &[(&str, &str)],
-) -> Result<bool, Fail> {
+) -> bool {
     if is_refusal(told) {
-        follow(rt, heap, room, rows)?;
-        return Ok(true);
+        follow(rt, heap, room, rows);
+        return true;
     }
     let Some(((_, reply), others)) = rows.split_first() else {
-        return Ok(false);
+        return false;
     };
-    follow(rt, heap, room, others)?;
+    follow(rt, heap, room, others);
     if is_lost_end(told) {
-        return Ok(true);
+        return true;
     }
     same(rt, told, reply.as_bytes());
-    Ok(false)
+    false
 }
 
-/// A row behind those before it, in a room whose heap has only one hole of some octets. Where memory ran out, the rows
-/// from it on pass then.
-fn try_short<'h>(
-    rt: &(impl Abort + AllocGlobal),
-    heap: &'h LocalHeap,
-    room: &mut Room<'h>,
-    before: &[(&str, &str)],
-    rows: &[(&str, &str)],
-    line: &str,
-    hole: usize,
-) -> Result<bool, Fail> {
-    follow(rt, heap, room, before)?;
-    match room.give_short(rt, heap, line, hole)? {
-        Some(told) => was_refused(rt, heap, room, told.as_slice(), rows),
-        None => {
-            follow(rt, heap, room, rows)?;
-            Ok(true)
-        }
-    }
-}
-
-/// The same in a room of its own, in this heap.
-fn try_in(
-    rt: &(impl Abort + AllocGlobal),
-    heap: &LocalHeap,
-    before: &[(&str, &str)],
-    rows: &[(&str, &str)],
-    line: &str,
-    hole: usize,
-) -> Result<bool, Fail> {
-    let mut room = make_room(rt, heap);
-    try_short(rt, heap, &mut room, before, rows, line, hole)
-}
-
+/// A row behind those before it, in a room of its own, whose heap has only one hole of some octets. Where memory ran out,
+/// the rows from it on pass then.
 fn try_row(
     rt: &(impl Abort + AllocGlobal),
     before: &[(&str, &str)],
     rows: &[(&str, &str)],
     line: &str,
     hole: usize,
-) -> Result<bool, Fail> {
-    let heap = LocalHeap::new(rt.alloc(), HEAP)?;
-    try_in(rt, &heap, before, rows, line, hole)
+) -> bool {
+    let heap = LocalHeap::new(rt.alloc(), HEAP).expect(rt, "a heap");
+    let mut room = make_room(rt, &heap);
+    follow(rt, &heap, &mut room, before);
+    let told = room.give_short(rt, &heap, line, hole);
+    match told {
+        Some(told) => was_refused(rt, &heap, &mut room, told.as_slice(), rows),
+        None => {
+            follow(rt, &heap, &mut room, rows);
+            true
+        }
+    }
 }
 
 /// How many growths of a row are refused before it passes.
@@ -109,54 +84,46 @@ fn count_refused(
     before: &[(&str, &str)],
     rows: &[(&str, &str)],
     line: &str,
-) -> Result<usize, Fail> {
+) -> usize {
     for step in 0..512usize {
-        if !try_row(rt, before, rows, line, 16 * step)? {
-            return Ok(step);
+        if !try_row(rt, before, rows, line, 16 * step) {
+            return step;
         }
     }
-    Err(Fail::from("never enough memory"))
+    panic!(rt; "never enough memory")
 }
 
 /// Each row of a script in turn. Answers how many rows were refused at least once.
-fn check_rows(rt: &(impl Abort + AllocGlobal), rows: &[(&str, &str)]) -> Result<u32, Fail> {
+fn check_rows(rt: &(impl Abort + AllocGlobal), rows: &[(&str, &str)]) -> u32 {
     let mut refused = 0u32;
     for (index, (line, _)) in rows.iter().enumerate() {
         let (before, others) = rows.split_at(index);
-        if 0 < count_refused(rt, before, others, line)? {
+        if 0 < count_refused(rt, before, others, line) {
             refused = refused.saturating_add(1);
         }
     }
-    Ok(refused)
+    refused
 }
 
 #[test]
-fn paths(rt: HostRuntime) -> Result<(), Fail> {
-    let refused = check_rows(&rt, &PATHS)?;
-    holds(&rt, refused == 6);
-    Ok(())
+fn paths(rt: HostRuntime) {
+    holds(&rt, check_rows(&rt, &PATHS) == 6);
 }
 
 #[test]
-fn uploads(rt: HostRuntime) -> Result<(), Fail> {
-    let refused = check_rows(&rt, &UPLOADS)?;
-    holds(&rt, refused == 9);
-    Ok(())
+fn uploads(rt: HostRuntime) {
+    holds(&rt, check_rows(&rt, &UPLOADS) == 9);
 }
 
 #[test]
-fn aborted_downloads(rt: HostRuntime) -> Result<(), Fail> {
-    let refused = check_rows(&rt, &ABORTED)?;
-    holds(&rt, refused == 10);
-    Ok(())
+fn aborted_downloads(rt: HostRuntime) {
+    holds(&rt, check_rows(&rt, &ABORTED) == 10);
 }
 
 /// A list that has room for a line more takes no memory.
 #[test]
-fn held_lines(rt: HostRuntime) -> Result<(), Fail> {
-    let refused = check_rows(&rt, &HELD)?;
-    holds(&rt, refused >= 9);
-    Ok(())
+fn held_lines(rt: HostRuntime) {
+    holds(&rt, check_rows(&rt, &HELD) >= 9);
 }
 
 type Greeting<'h> = Vec<
@@ -175,17 +142,16 @@ fn begin<'h>(heap: &'h LocalHeap) -> Result<usize, AllocError> {
     count_greeting(&session)
 }
 
-fn begin_short(rt: &impl AllocGlobal, hole: usize) -> Result<Option<usize>, Fail> {
-    let heap = LocalHeap::new(rt.alloc(), HEAP)?;
-    let rest = leave_hole(rt, &heap, hole)?;
+fn begin_short(rt: &(impl Abort + AllocGlobal), hole: usize) -> Option<usize> {
+    let heap = LocalHeap::new(rt.alloc(), HEAP).expect(rt, "a heap");
+    let rest = leave_hole(rt, &heap, hole).expect(rt, "a hole");
     let greeted = begin(&heap).ok();
     drop(rest);
-    Ok(greeted)
+    greeted
 }
 
 #[test]
-fn beginnings(rt: HostRuntime) -> Result<(), Fail> {
-    holds(&rt, begin_short(&rt, 0)?.is_none());
-    holds(&rt, begin_short(&rt, 2048)? == Some(2));
-    Ok(())
+fn beginnings(rt: HostRuntime) {
+    holds(&rt, begin_short(&rt, 0).is_none());
+    holds(&rt, begin_short(&rt, 2048) == Some(2));
 }

@@ -2,9 +2,8 @@
 
 use linked_list_allocator::LocalHeap;
 use memory_store::{MemSink, MemSource};
-use session_table::{Action, Answer, HookCall, Job};
-use std::alloc::Allocator;
-use std::test::Fail;
+use session_table::{Action, HookCall, Job};
+use std::alloc::{AllocError, Allocator};
 
 pub(crate) type Sink<'h> = MemSink<&'h LocalHeap>;
 
@@ -12,9 +11,8 @@ pub(crate) type Doing<'h> = Action<&'h LocalHeap, MemSource<&'h LocalHeap>, Sink
 
 pub(crate) type Doings<'h> = Vec<Doing<'h>, &'h LocalHeap>;
 
-fn put(octets: &mut Vec<u8>, text: &str) -> Result<(), Fail> {
-    octets.extend_from_slice(text.as_bytes())?;
-    Ok(())
+fn put(octets: &mut Vec<u8>, text: &str) -> Result<(), AllocError> {
+    octets.extend_from_slice(text.as_bytes())
 }
 
 fn hook_word<A: Allocator>(call: &HookCall<A>) -> &'static str {
@@ -36,7 +34,7 @@ fn put_job<'h>(
     octets: &mut Vec<u8>,
     kept: &mut Option<Sink<'h>>,
     job: Job<&'h LocalHeap, MemSource<&'h LocalHeap>, Sink<'h>>,
-) -> Result<(), Fail> {
+) -> Result<(), AllocError> {
     match job {
         Job::TakeFile(sink, _) => {
             *kept = Some(sink);
@@ -61,30 +59,15 @@ fn word_of<'h>(action: &Doing<'h>) -> &'static str {
     }
 }
 
-fn put_answer<'h>(octets: &mut Vec<u8>, answer: Answer<&'h LocalHeap>) -> Result<(), Fail> {
-    Ok(answer.into_reply().write_to(octets)?)
-}
-
-fn put_doing<'h>(
+/// What an action says or starts, or its word; a sink is kept.
+pub(crate) fn put_doing<'h>(
     octets: &mut Vec<u8>,
     kept: &mut Option<Sink<'h>>,
     action: Doing<'h>,
-) -> Result<(), Fail> {
+) -> Result<(), AllocError> {
     match action {
-        Action::Say(answer) => put_answer(octets, answer),
+        Action::Say(answer) => answer.into_reply().write_to(octets),
         Action::Start(job) => put_job(octets, kept, job),
         other => put(octets, word_of(&other)),
     }
-}
-
-/// Each of them in turn; a sink is kept.
-pub(crate) fn put_doings<'h>(
-    octets: &mut Vec<u8>,
-    kept: &mut Option<Sink<'h>>,
-    actions: Doings<'h>,
-) -> Result<(), Fail> {
-    for action in actions {
-        put_doing(octets, kept, action)?;
-    }
-    Ok(())
 }

@@ -9,9 +9,8 @@ use memory_store::{MemSink, MemSource, MemStore};
 use rate_floors::Floors;
 use session_core::Session;
 use session_table::{Action, End, HookCall, Input, Job, Settings};
-use std::alloc::Global;
+use std::alloc::{AllocError, Global};
 use std::process::Abort;
-use std::test::Fail;
 use virtual_path::VPath;
 use virtual_tree::{Sink, Store, WriteMode};
 
@@ -37,7 +36,7 @@ pub(crate) fn settings() -> Settings {
 }
 
 /// The server gives 15 octets a second, of which each session of a user is guaranteed 10.
-fn make_floors(alloc: Global, user: u32) -> Result<Floors, Fail> {
+fn make_floors(rt: &impl Abort, alloc: Global, user: u32) -> Floors {
     let mut rows = Vec::new(alloc);
     rows.push(UserRate {
         user,
@@ -48,51 +47,54 @@ fn make_floors(alloc: Global, user: u32) -> Result<Floors, Fail> {
         session_up: 0,
         session_down_floor: 10,
         session_up_floor: 0,
-    })?;
-    let limits = Limits::of(15, 0, 0, Vec::new(alloc), rows)?;
-    Ok(Floors::of(alloc, &limits)?)
+    })
+    .expect(rt, "memory");
+    let limits = Limits::of(15, 0, 0, Vec::new(alloc), rows).expect(rt, "rates without a fault");
+    Floors::of(alloc, &limits).expect(rt, "memory")
 }
 
 /// The users ann and bob.
-fn make_users(alloc: Global) -> Result<Authorizer, Fail> {
-    let mut users = Authorizer::new(alloc)?;
-    users.add_user("ann", "secret", "/", "elradfmw")?;
-    users.add_user("bob", "b", "/", "elr")?;
-    users.override_perm("bob", "/in", "w", true)?;
-    Ok(users)
+fn make_users(rt: &impl Abort, alloc: Global) -> Authorizer {
+    let mut users = Authorizer::new(alloc).expect(rt, "memory");
+    users
+        .add_user("ann", "secret", "/", "elradfmw")
+        .expect(rt, "a user");
+    users.add_user("bob", "b", "/", "elr").expect(rt, "a user");
+    users
+        .override_perm("bob", "/in", "w", true)
+        .expect(rt, "letters");
+    users
 }
 
-/// Makes the directory in, and the file f of the octets a LF b.
-fn fill(store: &mut MemStore, root: &VPath<Global>, alloc: Global) -> Result<(), Fail> {
-    store.make_dir(&root.child(alloc, "in")?)?;
-    let mut sink = store.open_write(&root.child(alloc, "f")?, WriteMode::New, 0)?;
-    sink.write("a\nb".as_bytes())?;
-    store.finish(sink, 951_827_696_000)?;
-    Ok(())
+/// The directory in, and the file f of the octets a LF b.
+fn make_store(rt: &impl Abort, alloc: Global) -> MemStore {
+    let mut store = MemStore::new(alloc, 1000).expect(rt, "memory");
+    let root = VPath::root(alloc);
+    let directory = root.child(alloc, "in").expect(rt, "a name");
+    store.make_dir(&directory).expect(rt, "a directory");
+    let file = root.child(alloc, "f").expect(rt, "a name");
+    let mut sink = store
+        .open_write(&file, WriteMode::New, 0)
+        .expect(rt, "a sink");
+    sink.write(b"a\nb").expect(rt, "a write");
+    store.finish(sink, 951_827_696_000).expect(rt, "an end");
+    store
 }
 
-fn make_store(alloc: Global) -> Result<MemStore, Fail> {
-    let mut store = MemStore::new(alloc, 1000)?;
-    fill(&mut store, &VPath::root(alloc), alloc)?;
-    Ok(store)
-}
-
-pub(crate) fn make_room(alloc: Global) -> Result<Room, Fail> {
-    let session = Session::new(alloc, settings(), [127, 0, 0, 1])?;
-    let users = make_users(alloc)?;
-    let floors = make_floors(alloc, users.number("ann").unwrap_or(0))?;
-    Ok(Room {
-        session,
+pub(crate) fn make_room(rt: &impl Abort, alloc: Global) -> Room {
+    let users = make_users(rt, alloc);
+    let ann = users.number("ann").unwrap_or(0);
+    Room {
+        session: Session::new(alloc, settings(), [127, 0, 0, 1]).expect(rt, "memory"),
         users,
-        store: make_store(alloc)?,
-        floors,
+        store: make_store(rt, alloc),
+        floors: make_floors(rt, alloc, ann),
         sink: None,
-    })
+    }
 }
 
-fn put(octets: &mut Vec<u8>, text: &str) -> Result<(), Fail> {
-    octets.extend_from_slice(text.as_bytes())?;
-    Ok(())
+fn put(octets: &mut Vec<u8>, text: &str) -> Result<(), AllocError> {
+    octets.extend_from_slice(text.as_bytes())
 }
 
 /// A transfer that starts; what is written through is kept.
@@ -100,18 +102,18 @@ fn put_job(
     octets: &mut Vec<u8>,
     kept: &mut Option<MemSink<Global>>,
     job: Job<Global, MemSource<Global>, MemSink<Global>>,
-) -> Result<(), Fail> {
+) -> Result<(), AllocError> {
     match job {
         Job::TakeFile(sink, _) => {
             *kept = Some(sink);
             put(octets, "[take]")
         }
         Job::SendFile(_, _) => put(octets, "[send]"),
-        Job::Text(text) => Ok(octets.extend_from_slice(text.as_slice())?),
+        Job::Text(text) => octets.extend_from_slice(text.as_slice()),
     }
 }
 
-fn put_release(octets: &mut Vec<u8>, floors: &mut Floors, user: u32) -> Result<(), Fail> {
+fn put_release(octets: &mut Vec<u8>, floors: &mut Floors, user: u32) -> Result<(), AllocError> {
     let _was_counted = floors.release(user);
     put(octets, "[release]")
 }
@@ -122,9 +124,9 @@ fn put_told(
     kept: &mut Option<MemSink<Global>>,
     floors: &mut Floors,
     action: Action<Global, MemSource<Global>, MemSink<Global>>,
-) -> Result<(), Fail> {
+) -> Result<(), AllocError> {
     match action {
-        Action::Say(answer) => Ok(answer.into_reply().write_to(octets)?),
+        Action::Say(answer) => answer.into_reply().write_to(octets),
         Action::Start(job) => put_job(octets, kept, job),
         Action::OpenPassive => put(octets, "[passive]"),
         Action::ConnectTo(_) => put(octets, "[connect]"),
@@ -136,12 +138,12 @@ fn put_told(
     }
 }
 
-pub(crate) fn told(alloc: Global, room: &mut Room, actions: Actions) -> Result<Vec<u8>, Fail> {
+pub(crate) fn told(rt: &impl Abort, alloc: Global, room: &mut Room, actions: Actions) -> Vec<u8> {
     let mut octets = Vec::new(alloc);
     for action in actions {
-        put_told(&mut octets, &mut room.sink, &mut room.floors, action)?;
+        put_told(&mut octets, &mut room.sink, &mut room.floors, action).expect(rt, "memory");
     }
-    Ok(octets)
+    octets
 }
 
 fn hook_word(call: &HookCall<Global>) -> &'static str {
@@ -158,12 +160,12 @@ fn hook_word(call: &HookCall<Global>) -> &'static str {
     }
 }
 
-fn read_line(alloc: Global, line: &str) -> Result<Input<Global, MemSink<Global>>, Fail> {
+fn read_line(rt: &impl Abort, alloc: Global, line: &str) -> Input<Global, MemSink<Global>> {
     let mut reader = LineReader::new(alloc);
-    let mut items = reader.feed(line.as_bytes())?;
+    let mut items = reader.feed(line.as_bytes()).expect(rt, "memory");
     match items.pop() {
-        Some(item) => Ok(Input::Line(item)),
-        None => Err(Fail::from("no line")),
+        Some(item) => Input::Line(item),
+        None => rt.abort(),
     }
 }
 
@@ -176,55 +178,40 @@ fn ended(sink: &mut Option<MemSink<Global>>, end: End) -> Input<Global, MemSink<
 
 /// The input that a word stands for, or that of a line.
 fn input_of(
+    rt: &impl Abort,
     alloc: Global,
     sink: &mut Option<MemSink<Global>>,
     line: &str,
-) -> Result<Input<Global, MemSink<Global>>, Fail> {
+) -> Input<Global, MemSink<Global>> {
     match line {
-        "port" => Ok(Input::DataReady(Some(40000))),
-        "no port" => Ok(Input::DataReady(None)),
-        "held" => Ok(Input::Held),
-        "closed" => Ok(Input::Closed),
-        "done" => Ok(ended(sink, End::Done)),
-        "lost" => Ok(ended(sink, End::Lost)),
-        _ => read_line(alloc, line),
+        "port" => Input::DataReady(Some(40000)),
+        "no port" => Input::DataReady(None),
+        "held" => Input::Held,
+        "closed" => Input::Closed,
+        "done" => ended(sink, End::Done),
+        "lost" => ended(sink, End::Lost),
+        _ => read_line(rt, alloc, line),
     }
 }
 
-/// What is done at an input.
-pub(crate) fn said(alloc: Global, room: &mut Room, line: &str) -> Result<Vec<u8>, Fail> {
-    let input = input_of(alloc, &mut room.sink, line)?;
+/// A line, or what a word stands for, leads to this.
+pub(crate) fn check_row(rt: &impl Abort, alloc: Global, room: &mut Room, line: &str, wanted: &str) {
+    let input = input_of(rt, alloc, &mut room.sink, line);
     let actions = room
         .session
-        .step(&room.users, &mut room.floors, &mut room.store, input, 0)?;
-    told(alloc, room, actions)
+        .step(&room.users, &mut room.floors, &mut room.store, input, 0)
+        .expect(rt, "memory");
+    let octets = told(rt, alloc, room, actions);
+    same(rt, octets.as_slice(), wanted.as_bytes());
 }
 
-pub(crate) fn check_rows(
-    rt: &impl Abort,
-    alloc: Global,
-    room: &mut Room,
-    rows: &[(&str, &str)],
-) -> Result<(), Fail> {
-    for (line, reply) in rows {
-        let octets = said(alloc, room, line)?;
-        same(rt, octets.as_slice(), reply.as_bytes());
+pub(crate) fn check_rows(rt: &impl Abort, alloc: Global, room: &mut Room, rows: &[(&str, &str)]) {
+    for (line, wanted) in rows {
+        check_row(rt, alloc, room, line, wanted);
     }
-    Ok(())
 }
 
 /// A new client's session, which takes the place of the one before.
-pub(crate) fn begin_anew(alloc: Global, room: &mut Room) -> Result<(), Fail> {
-    room.session = Session::new(alloc, settings(), [127, 0, 0, 1])?;
-    Ok(())
-}
-
-/// The rows of a session of its own.
-pub(crate) fn check_alone(
-    rt: &impl Abort,
-    alloc: Global,
-    rows: &[(&str, &str)],
-) -> Result<(), Fail> {
-    let mut room = make_room(alloc)?;
-    check_rows(rt, alloc, &mut room, rows)
+pub(crate) fn begin_anew(rt: &impl Abort, alloc: Global, room: &mut Room) {
+    room.session = Session::new(alloc, settings(), [127, 0, 0, 1]).expect(rt, "memory");
 }

@@ -1,7 +1,6 @@
 //! Rows over a store in memory, worked by hand.
 
-use crate::room::check_alone;
-use std::test::Fail;
+use crate::room::{check_rows, make_room};
 
 static LOGINS: [(&str, &str); 18] = [
     ("PWD\n", "530 Log in first\r\n"),
@@ -299,7 +298,7 @@ static HOSTILE: [(&str, &str); 25] = [
 
 /// Each script, in a session of its own.
 #[test]
-fn scripts(rt: HostRuntime) -> Result<(), Fail> {
+fn scripts(rt: HostRuntime) {
     let scripts: [&[(&str, &str)]; 13] = [
         &LOGINS,
         &ATTEMPTS,
@@ -316,7 +315,7 @@ fn scripts(rt: HostRuntime) -> Result<(), Fail> {
         &HOSTILE,
     ];
     for rows in scripts {
-        check_alone(&rt, rt.alloc(), rows)?;
+        let mut room = make_room(&rt, rt.alloc());
+        check_rows(&rt, rt.alloc(), &mut room, rows);
     }
-    Ok(())
 }

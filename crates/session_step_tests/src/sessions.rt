@@ -14,7 +14,6 @@ use session_table::Input;
 use std::alloc::Global;
 use std::mem;
 use std::process::Abort;
-use std::test::Fail;
 
 static SECOND: [(&str, &str); 4] = [
     ("USER ann\n", "331 Password required\r\n"),
@@ -35,96 +34,80 @@ static REMOVED: [(&str, &str); 2] = [
 
 /// What a new client is told.
 #[test]
-fn greeting(rt: HostRuntime) -> Result<(), Fail> {
-    let mut room = make_room(rt.alloc())?;
-    check_greeting(&rt, rt.alloc(), &mut room)
-}
-
-fn check_greeting(rt: &impl Abort, alloc: Global, room: &mut Room) -> Result<(), Fail> {
-    let actions = room.session.greet()?;
-    let octets = told(alloc, room, actions)?;
-    same(rt, octets.as_slice(), b"220 Ready\r\n[connected]");
-    Ok(())
+fn greeting(rt: HostRuntime) {
+    let mut room = make_room(&rt, rt.alloc());
+    let actions = room.session.greet().expect(&rt, "memory");
+    let octets = told(&rt, rt.alloc(), &mut room, actions);
+    same(&rt, octets.as_slice(), b"220 Ready\r\n[connected]");
 }
 
 /// Another session beside the one that is there.
-fn check_second(rt: &impl Abort, alloc: Global, room: &mut Room) -> Result<(), Fail> {
-    let second = Session::new(alloc, settings(), [127, 0, 0, 1])?;
+fn check_second(rt: &impl Abort, alloc: Global, room: &mut Room) {
+    let second = Session::new(alloc, settings(), [127, 0, 0, 1]).expect(rt, "memory");
     let first = mem::replace(&mut room.session, second);
-    let answer = check_rows(rt, alloc, room, &SECOND);
+    check_rows(rt, alloc, room, &SECOND);
     room.session = first;
-    answer
 }
 
 /// A second session of a user finds no guaranteed rate until the first has left.
 #[test]
-fn guaranteed_rates(rt: HostRuntime) -> Result<(), Fail> {
-    let mut room = make_room(rt.alloc())?;
-    check_guaranteed(&rt, rt.alloc(), &mut room)
-}
-
-fn check_guaranteed(rt: &impl Abort, alloc: Global, room: &mut Room) -> Result<(), Fail> {
-    check_rows(rt, alloc, room, &INSIDE)?;
-    check_second(rt, alloc, room)?;
-    check_rows(rt, alloc, room, &LEAVES)?;
-    begin_anew(alloc, room)?;
-    check_rows(rt, alloc, room, &INSIDE)
+fn guaranteed_rates(rt: HostRuntime) {
+    let mut room = make_room(&rt, rt.alloc());
+    check_rows(&rt, rt.alloc(), &mut room, &INSIDE);
+    check_second(&rt, rt.alloc(), &mut room);
+    check_rows(&rt, rt.alloc(), &mut room, &LEAVES);
+    begin_anew(&rt, rt.alloc(), &mut room);
+    check_rows(&rt, rt.alloc(), &mut room, &INSIDE);
 }
 
 /// Whoever is removed while logged in may do nothing more, and leaves as others do.
 #[test]
-fn removed_while_inside(rt: HostRuntime) -> Result<(), Fail> {
-    let mut room = make_room(rt.alloc())?;
-    check_removed(&rt, rt.alloc(), &mut room)
-}
-
-fn check_removed(rt: &impl Abort, alloc: Global, room: &mut Room) -> Result<(), Fail> {
-    check_rows(rt, alloc, room, &INSIDE)?;
-    room.users.remove_user("ann")?;
-    check_rows(rt, alloc, room, &REMOVED)
+fn removed_while_inside(rt: HostRuntime) {
+    let mut room = make_room(&rt, rt.alloc());
+    check_rows(&rt, rt.alloc(), &mut room, &INSIDE);
+    room.users.remove_user("ann").expect(&rt, "a user");
+    check_rows(&rt, rt.alloc(), &mut room, &REMOVED);
 }
 
 /// The line behind these octets, which give none.
-fn abort_behind(alloc: Global, octets: &[u8]) -> Result<LineItem<Global>, Fail> {
+fn abort_behind(rt: &impl Abort, alloc: Global, octets: &[u8]) -> LineItem<Global> {
     let mut reader = LineReader::new(alloc);
-    if !reader.feed(octets)?.is_empty() {
-        return Err(Fail::from("a line too many"));
-    }
-    match reader.feed(b"ABOR\r\n")?.pop() {
-        Some(item) => Ok(item),
-        None => Err(Fail::from("no line")),
+    let none = reader.feed(octets).expect(rt, "memory");
+    assert!(rt; none.is_empty());
+    let mut items = reader.feed(b"ABOR\r\n").expect(rt, "memory");
+    match items.pop() {
+        Some(item) => item,
+        None => rt.abort(),
     }
 }
 
-fn check_abort(rt: &impl Abort, alloc: Global, room: &mut Room, octets: &[u8]) -> Result<(), Fail> {
-    check_rows(rt, alloc, room, &INSIDE)?;
-    let input = Input::Line(abort_behind(alloc, octets)?);
+fn check_abort(rt: &impl Abort, alloc: Global, room: &mut Room, octets: &[u8]) {
+    let input = Input::Line(abort_behind(rt, alloc, octets));
     let actions = room
         .session
-        .step(&room.users, &mut room.floors, &mut room.store, input, 0)?;
-    let told = told(alloc, room, actions)?;
-    same(rt, told.as_slice(), b"225 No transfer\r\n");
-    Ok(())
+        .step(&room.users, &mut room.floors, &mut room.store, input, 0)
+        .expect(rt, "memory");
+    let octets = told(rt, alloc, room, actions);
+    same(rt, octets.as_slice(), b"225 No transfer\r\n");
 }
 
 /// The octets IAC IP IAC DM, also without the last, stand before ABOR (RFC 959, section 4.1.3).
 #[test]
-fn telnet_before_abor(rt: HostRuntime) -> Result<(), Fail> {
+fn telnet_before_abor(rt: HostRuntime) {
     for octets in [&[0xff, 0xf4, 0xff, 0xf2][..], &[0xff, 0xf4, 0xff][..]] {
-        let mut room = make_room(rt.alloc())?;
-        check_abort(&rt, rt.alloc(), &mut room, octets)?;
+        let mut room = make_room(&rt, rt.alloc());
+        check_rows(&rt, rt.alloc(), &mut room, &INSIDE);
+        check_abort(&rt, rt.alloc(), &mut room, octets);
     }
-    Ok(())
 }
 
 /// The laws of the table, at the types of a store in memory.
 #[test]
-fn laws(_rt: HostRuntime) -> Result<(), Fail> {
+fn laws(_rt: HostRuntime) {
     calls_are_rightful::<Global, MemSource<Global>, MemSink<Global>>();
     no_calls_outside::<Global, MemSource<Global>, MemSink<Global>>();
     no_transfer_unprepared::<Global, MemSource<Global>, MemSink<Global>>();
     few_lines_are_held::<Global, MemSource<Global>, MemSink<Global>>();
     floors_are_released_once::<Global, MemSource<Global>, MemSink<Global>>();
     one_thing_is_asked::<Global, MemSource<Global>, MemSink<Global>>();
-    Ok(())
 }

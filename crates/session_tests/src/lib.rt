@@ -1,5 +1,5 @@
-//! Tests of the session table: the octets of each fixed reply, rows of logins and parameters, and random inputs, given to a
-//! session over a store in memory and to a second reading of the table.
+//! Tests of the session table: the octets of each fixed reply, and random inputs, given to a session over a store in memory and
+//! to a second reading of the table.
 #![tactic(auto)]
 
 #[cfg(test)]
@@ -12,7 +12,5 @@ mod played;
 mod replies;
 #[cfg(test)]
 mod room;
-#[cfg(test)]
-mod rows;
 #[cfg(test)]
 mod told;

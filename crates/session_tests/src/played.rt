@@ -98,9 +98,12 @@ fn play(
 /// Both stores hold the same.
 fn compare(rt: &impl Abort, room: &mut Room, reading: &Reading) -> Result<(), Fail> {
     for index in 0..reading.count() {
-        let found = room.look(reading.path(index))?;
         let wanted = reading.look(reading.path(index))?;
-        same(rt, found.as_slice(), wanted.as_bytes());
+        same(
+            rt,
+            room.look(rt, reading.path(index)).as_slice(),
+            wanted.as_bytes(),
+        );
     }
     Ok(())
 }
@@ -128,20 +131,20 @@ fn check_seen(rt: &impl Abort, told: &str) {
     }
 }
 
-/// All inputs in turn, beside a second reading that begins with them.
-fn read_all(rt: &(impl Abort + AllocGlobal), room: &mut Room) -> Result<String, Fail> {
-    let mut reading = Reading::new(rt.alloc())?;
-    play_all(rt, room, &mut reading)
-}
-
-fn check_all(rt: &(impl Abort + AllocGlobal), room: &mut Room) -> Result<(), Fail> {
-    let told = read_all(rt, room)?;
+/// All inputs in turn, after which each reply was told at least once.
+fn check_all(
+    rt: &(impl Abort + AllocGlobal),
+    room: &mut Room,
+    reading: &mut Reading,
+) -> Result<(), Fail> {
+    let told = play_all(rt, room, reading)?;
     check_seen(rt, told.as_str());
     Ok(())
 }
 
 #[test]
 fn random_inputs(rt: HostRuntime) -> Result<(), Fail> {
-    let mut room = Room::new(rt.alloc())?;
-    check_all(&rt, &mut room)
+    let mut room = Room::new(&rt, rt.alloc());
+    let mut reading = Reading::new(rt.alloc()).expect(&rt, "memory");
+    check_all(&rt, &mut room, &mut reading)
 }

@@ -6,7 +6,6 @@ use ftp_wire::LineFault;
 use session_table::{Answer, Notice, Refusal};
 use std::alloc::Global;
 use std::process::Abort;
-use std::test::Fail;
 use virtual_path::PathFault;
 use virtual_tree::StoreFault;
 
@@ -116,37 +115,26 @@ static REFUSED_USERS: [(Refusal, &str); 5] = [
     (Refusal::SizeNeedsImage, "550 SIZE needs TYPE I\r\n"),
 ];
 
-fn tells(rt: &impl Abort, alloc: Global, answer: Answer<Global>, text: &str) -> Result<(), Fail> {
+fn tells(rt: &impl Abort, alloc: Global, answer: Answer<Global>, text: &str) {
     let mut octets = Vec::new(alloc);
-    answer.into_reply().write_to(&mut octets)?;
+    answer
+        .into_reply()
+        .write_to(&mut octets)
+        .expect(rt, "memory");
     same(rt, octets.as_slice(), text.as_bytes());
-    Ok(())
-}
-
-fn notes(rt: &impl Abort, alloc: Global, rows: &[(Notice, &str)]) -> Result<(), Fail> {
-    for (notice, text) in rows {
-        tells(rt, alloc, Answer::Notice(*notice), text)?;
-    }
-    Ok(())
-}
-
-fn refuses(rt: &impl Abort, alloc: Global, rows: &[(Refusal, &str)]) -> Result<(), Fail> {
-    for (refusal, text) in rows {
-        tells(rt, alloc, Answer::Refusal(*refusal), text)?;
-    }
-    Ok(())
 }
 
 #[test]
-fn notices(rt: HostRuntime) -> Result<(), Fail> {
+fn notices(rt: HostRuntime) {
     for rows in [&NOTICES[..], &STATES[..], &CHANGES[..]] {
-        notes(&rt, rt.alloc(), rows)?;
+        for (notice, text) in rows {
+            tells(&rt, rt.alloc(), Answer::Notice(*notice), text);
+        }
     }
-    Ok(())
 }
 
 #[test]
-fn refusals(rt: HostRuntime) -> Result<(), Fail> {
+fn refusals(rt: HostRuntime) {
     let tables: [&[(Refusal, &str)]; 4] = [
         &REFUSED_STORES,
         &REFUSED_CONNECTIONS,
@@ -154,9 +142,10 @@ fn refusals(rt: HostRuntime) -> Result<(), Fail> {
         &REFUSED_USERS,
     ];
     for rows in tables {
-        refuses(&rt, rt.alloc(), rows)?;
+        for (refusal, text) in rows {
+            tells(&rt, rt.alloc(), Answer::Refusal(*refusal), text);
+        }
     }
-    Ok(())
 }
 
 static FAULTS: [(LineFault, &str); 3] = [
@@ -166,9 +155,8 @@ static FAULTS: [(LineFault, &str); 3] = [
 ];
 
 #[test]
-fn line_faults(rt: HostRuntime) -> Result<(), Fail> {
+fn line_faults(rt: HostRuntime) {
     for (fault, text) in &FAULTS {
-        tells(&rt, rt.alloc(), Answer::Fault(*fault), text)?;
+        tells(&rt, rt.alloc(), Answer::Fault(*fault), text);
     }
-    Ok(())
 }

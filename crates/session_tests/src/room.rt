@@ -12,6 +12,7 @@ use session_core::Session;
 use session_reading::{Meaning, Said};
 use session_table::{Action, End, Input, Settings};
 use std::alloc::Global;
+use std::process::Abort;
 use std::test::Fail;
 use virtual_path::VPath;
 use virtual_tree::{Sink, Store, WriteMode};
@@ -41,7 +42,7 @@ fn settings() -> Settings {
 }
 
 /// The server gives 15 octets a second, of which each session of a user is guaranteed 10.
-fn make_floors(alloc: Global, user: u32) -> Result<Floors, Fail> {
+fn make_floors(rt: &impl Abort, alloc: Global, user: u32) -> Floors {
     let mut rows = Vec::new(alloc);
     rows.push(UserRate {
         user,
@@ -52,40 +53,46 @@ fn make_floors(alloc: Global, user: u32) -> Result<Floors, Fail> {
         session_up: 0,
         session_down_floor: 10,
         session_up_floor: 0,
-    })?;
-    let limits = Limits::of(15, 0, 0, Vec::new(alloc), rows)?;
-    Ok(Floors::of(alloc, &limits)?)
+    })
+    .expect(rt, "memory");
+    let limits = Limits::of(15, 0, 0, Vec::new(alloc), rows).expect(rt, "rates without a fault");
+    Floors::of(alloc, &limits).expect(rt, "memory")
 }
 
 /// The users ann and bob, with the letters that the second reading has.
-fn add_users(users: &mut Authorizer) -> Result<(), Fail> {
-    users.add_user("ann", "secret", "/", "elradfmw")?;
-    users.add_user("bob", "b", "/up", "elr")?;
-    users.override_perm("bob", "/b", "lwamfe", true)?;
-    users.override_perm("bob", "/b/a", "eld", false)?;
-    users.set_messages("bob", "Hello, bob", "So long")?;
-    Ok(())
+fn make_users(rt: &impl Abort, alloc: Global) -> Authorizer {
+    let mut users = Authorizer::new(alloc).expect(rt, "memory");
+    users
+        .add_user("ann", "secret", "/", "elradfmw")
+        .expect(rt, "a user");
+    users
+        .add_user("bob", "b", "/up", "elr")
+        .expect(rt, "a user");
+    users
+        .override_perm("bob", "/b", "lwamfe", true)
+        .expect(rt, "letters");
+    users
+        .override_perm("bob", "/b/a", "eld", false)
+        .expect(rt, "letters");
+    users
+        .set_messages("bob", "Hello, bob", "So long")
+        .expect(rt, "messages");
+    users
 }
 
-/// Makes the directory up, and the file f of the octets a LF b.
-fn fill(store: &mut MemStore, root: &VPath<Global>, alloc: Global) -> Result<(), Fail> {
-    store.make_dir(&root.child(alloc, "up")?)?;
-    let mut sink = store.open_write(&root.child(alloc, "f")?, WriteMode::New, 0)?;
-    sink.write("a\nb".as_bytes())?;
-    store.finish(sink, 951_827_696_000)?;
-    Ok(())
-}
-
-fn make_store(alloc: Global) -> Result<MemStore, Fail> {
-    let mut store = MemStore::new(alloc, 20)?;
-    fill(&mut store, &VPath::root(alloc), alloc)?;
-    Ok(store)
-}
-
-fn make_users(alloc: Global) -> Result<Authorizer, Fail> {
-    let mut users = Authorizer::new(alloc)?;
-    add_users(&mut users)?;
-    Ok(users)
+/// A store of 20 octets, with the directory up, and the file f of the octets a LF b.
+fn make_store(rt: &impl Abort, alloc: Global) -> MemStore {
+    let mut store = MemStore::new(alloc, 20).expect(rt, "memory");
+    let root = VPath::root(alloc);
+    let up = root.child(alloc, "up").expect(rt, "a name");
+    store.make_dir(&up).expect(rt, "a directory");
+    let file = root.child(alloc, "f").expect(rt, "a name");
+    let mut sink = store
+        .open_write(&file, WriteMode::New, 0)
+        .expect(rt, "a sink");
+    sink.write(b"a\nb").expect(rt, "a write");
+    store.finish(sink, 951_827_696_000).expect(rt, "an end");
+    store
 }
 
 fn end_of(reply: &str) -> End {
@@ -112,20 +119,20 @@ fn read_line(alloc: Global, octets: &[u8]) -> Result<Input<Global, MemSink<Globa
 }
 
 impl Room {
-    pub fn new(alloc: Global) -> Result<Room, Fail> {
-        let users = make_users(alloc)?;
+    pub fn new(rt: &impl Abort, alloc: Global) -> Room {
+        let users = make_users(rt, alloc);
         let ann = users.number("ann").unwrap_or(0);
-        Ok(Room {
+        Room {
             alloc,
-            session: Session::new(alloc, settings(), [127, 0, 0, 1])?,
+            session: Session::new(alloc, settings(), [127, 0, 0, 1]).expect(rt, "memory"),
             users,
-            store: make_store(alloc)?,
-            floors: make_floors(alloc, ann)?,
+            store: make_store(rt, alloc),
+            floors: make_floors(rt, alloc, ann),
             ann,
             sink: None,
             has_other: false,
             told: Vec::new(alloc),
-        })
+        }
     }
 
     pub fn begin_anew(&mut self) -> Result<(), Fail> {
@@ -214,33 +221,33 @@ impl Room {
     }
 
     /// What the store has at a path: for a directory its names, for a file its moment and octets.
-    pub fn look(&mut self, path: &str) -> Result<Vec<u8>, Fail> {
-        let path = VPath::root(self.alloc).resolve(self.alloc, path)?;
-        self.look_at(&path)
-    }
-
-    fn look_at(&mut self, path: &VPath<Global>) -> Result<Vec<u8>, Fail> {
-        let meta = self.store.stat(path)?;
+    pub fn look(&mut self, rt: &impl Abort, path: &str) -> Vec<u8> {
+        let path = VPath::root(self.alloc)
+            .resolve(self.alloc, path)
+            .expect(rt, "a path");
+        let meta = self.store.stat(&path).expect(rt, "what is there");
         match meta.kind {
-            Kind::File => self.look_into(path, meta.modified),
-            Kind::Directory => self.names(path),
+            Kind::File => self.look_into(rt, &path, meta.modified),
+            Kind::Directory => self.names(rt, &path),
         }
     }
 
-    fn names(&mut self, path: &VPath<Global>) -> Result<Vec<u8>, Fail> {
+    fn names(&mut self, rt: &impl Abort, path: &VPath<Global>) -> Vec<u8> {
         let mut octets = Vec::new(self.alloc);
-        for entry in self.store.list(path)? {
-            put(&mut octets, entry.name.as_str())?;
-            put(&mut octets, "\r\n")?;
+        for entry in &self.store.list(path).expect(rt, "a directory") {
+            let name = entry.name.as_str().as_bytes();
+            octets.extend_from_slice(name).expect(rt, "memory");
+            octets.extend_from_slice(b"\r\n").expect(rt, "memory");
         }
-        Ok(octets)
+        octets
     }
 
-    fn look_into(&mut self, path: &VPath<Global>, second: u64) -> Result<Vec<u8>, Fail> {
-        let text = format!(in self.alloc; "{second}: ")?;
-        let mut octets = Vec::from_slice(self.alloc, text.as_bytes())?;
-        put_file(&mut octets, self.store.open_read(path, 0)?)?;
-        Ok(octets)
+    fn look_into(&mut self, rt: &impl Abort, path: &VPath<Global>, second: u64) -> Vec<u8> {
+        let text = format!(in self.alloc; "{second}: ").expect(rt, "memory");
+        let mut octets = Vec::from_slice(self.alloc, text.as_bytes()).expect(rt, "memory");
+        let source = self.store.open_read(path, 0).expect(rt, "a file");
+        put_file(&mut octets, source).expect(rt, "a read");
+        octets
     }
 }
 

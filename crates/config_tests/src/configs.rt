@@ -1,208 +1,124 @@
 //! What no clause says of a configuration: that it is read, what its parts are, and that the same comes of it in version 2.
 
-use crate::expect::holds;
+use crate::documents::{FOLDER, MEMORY};
+use crate::expect::{holds, same};
 use authorizer::Authorizer;
 use config_store::ServedStore;
 use ftp_terms::Letter;
 use line_rates::{Limits, Name, Way};
-use server_config::{Config, migrate};
+use server_config::{Config, ServerNumbers, migrate};
 use std::alloc::Global;
 use std::process::Abort;
-use std::test::Fail;
 use virtual_path::VPath;
 use virtual_tree::{Source, Store};
 
-const SMALL: &str = "version = 1
-[server]
-root = \"memory\"
-passive_first = 40000
-passive_last = 40001
-[[user]]
-name = \"ann\"
-password = \"secret\"
-home = \"/\"
-perms = \"elradfmw\"
-[[user]]
-name = \"bob\"
-password = \"b\"
-home = \"/\"
-[[user.override]]
-path = \"/in\"
-perms = \"w\"
-recursive = true
-[[dir]]
-path = \"/in\"
-[[file]]
-path = \"/f\"
-text = \"a\\nb\"
-modified = 951827696
-";
-
-const GROUPED: &str = "version = 2
-[server]
-root = \"/srv/ftp\"
-address = \"0.0.0.0\"
-masquerade_address = \"203.0.113.7\"
-passive_first = 1
-passive_last = 1
-max_cons_per_address = 8
-lanes = 64
-rate = 100
-down_rate = 60
-[[group]]
-name = \"sales\"
-down_rate = 40
-[[group]]
-name = \"build\"
-up_rate = 30
-[[user]]
-name = \"ann\"
-password = \"a\"
-home = \"/\"
-group = \"build\"
-down_rate = 20
-session_up_rate = 15
-session_down_floor = 5
-msg_login = \"Hello\"
-[[user]]
-name = \"anonymous\"
-home = \"/pub\"
-";
+/// Ann and Bob have their numbers, passwords and messages, and Bob may store in `/in/a/b`, and not at the root.
+fn check_users(rt: &(impl Abort + AllocGlobal), users: &Authorizer) {
+    same(rt, &users.number("ann"), &Some(0));
+    same(rt, &users.number("bob"), &Some(1));
+    holds(rt, users.check_password("ann", "secret"));
+    holds(rt, !users.check_password("bob", "c"));
+    same(rt, &users.msg_login("bob"), &Some("Welcome"));
+    same(rt, &users.group("bob"), &None);
+    let root = VPath::root(rt.alloc());
+    let deep = root.resolve(rt.alloc(), "/in/a/b").expect(rt, "a path");
+    holds(rt, users.has_perm("bob", Letter::Store, &deep));
+    holds(rt, !users.has_perm("bob", Letter::Store, &root));
+}
 
 /// The store holds the file `/f` as it is stated.
-fn expect_file<S: Store<Global>>(
-    rt: &(impl Abort + Alloc<A = Global>),
-    store: &mut S,
-) -> Result<(), Fail> {
-    let path = VPath::root(rt.alloc()).resolve(rt.alloc(), "/f")?;
-    holds(rt, store.stat(&path)?.modified == 951_827_696);
-    let mut buffer = [0u8; 8];
-    let count = store.open_read(&path, 0)?.read(&mut buffer)?;
-    holds(rt, count == 3 && buffer.starts_with(b"a\nb"));
-    Ok(())
-}
-
-/// The configuration is that of the small file, but for its store.
-fn expect_small(rt: &impl Abort, config: &Config) {
-    let Config {
-        settings,
-        numbers,
-        users,
-        store: _,
-        limits: _,
-    } = config;
-    holds(
-        rt,
-        users.number("ann") == Some(0) && users.number("bob") == Some(1),
-    );
-    holds(
-        rt,
-        users.check_password("ann", "secret") && !users.check_password("bob", "c"),
-    );
-    holds(
-        rt,
-        users.msg_login("bob") == Some("Welcome") && users.group("bob").is_none(),
-    );
-    holds(
-        rt,
-        settings.banner.as_str() == "Ready" && settings.login_attempts == 3,
-    );
-    holds(
-        rt,
-        settings.address == [127, 0, 0, 1] && numbers.address == [127, 0, 0, 1],
-    );
-    holds(rt, numbers.port == 2121 && numbers.lanes == 16);
-    holds(
-        rt,
-        numbers.passive_first == 40000 && numbers.passive_last == 40001,
-    );
-}
-
-/// Bob may store in `/in/a/b`, and not at the root.
-fn expect_letters(rt: &(impl Abort + Alloc<A = Global>), users: &Authorizer) -> Result<(), Fail> {
+fn check_file<S: Store<Global>>(rt: &(impl Abort + AllocGlobal), store: &mut S) {
     let root = VPath::root(rt.alloc());
-    let deep = root.resolve(rt.alloc(), "/in/a/b")?;
-    holds(
-        rt,
-        users.has_perm("bob", Letter::Store, &deep) && !users.has_perm("bob", Letter::Store, &root),
-    );
-    Ok(())
+    let path = root.resolve(rt.alloc(), "/f").expect(rt, "a path");
+    let meta = store.stat(&path).expect(rt, "a file");
+    same(rt, &meta.modified, &951_827_696);
+    let mut source = store.open_read(&path, 0).expect(rt, "a file");
+    let mut buffer = [0u8; 8];
+    same(rt, &source.read(&mut buffer), &Ok(3));
+    holds(rt, buffer.starts_with(b"a\nb"));
 }
 
-/// The text is a configuration, and just what the small file is.
-fn is_small(rt: &(impl Abort + Alloc<A = Global>), text: &str) -> Result<(), Fail> {
-    let mut config = Config::read(rt.alloc(), text.as_bytes())?;
-    expect_small(rt, &config);
-    expect_letters(rt, &config.users)?;
+/// The configuration is that of `MEMORY`.
+fn check_memory(rt: &(impl Abort + AllocGlobal), config: &mut Config) {
+    check_users(rt, &config.users);
+    same(rt, &config.settings.banner.as_str(), &"Ready");
+    same(rt, &config.settings.login_attempts, &3);
+    same(rt, &config.settings.address, &[127, 0, 0, 1]);
+    let numbers = ServerNumbers {
+        address: [127, 0, 0, 1],
+        port: 2121,
+        max_cons: 64,
+        max_cons_per_address: 0,
+        passive_first: 40000,
+        passive_last: 40001,
+        lanes: 16,
+        sessions: 0,
+    };
+    same(rt, &config.numbers, &numbers);
     match &mut config.store {
-        ServedStore::Memory(files) => expect_file(rt, files),
-        ServedStore::Folder(_) => Err("a folder".into()),
+        ServedStore::Memory(files) => check_file(rt, files),
+        ServedStore::Folder(_) => panic!(rt; "a folder"),
     }
 }
 
 #[test]
-fn a_small_file_is_read(rt: HostRuntime) -> Result<(), Fail> {
-    is_small(&rt, SMALL)
-}
-
-#[test]
-fn in_version_2_it_is_the_same(rt: HostRuntime) -> Result<(), Fail> {
-    let text = migrate(rt.alloc(), SMALL.as_bytes())?;
+fn memory_in_both_versions(rt: HostRuntime) {
+    let text = migrate(rt.alloc(), MEMORY.as_bytes()).expect(&rt, "a configuration");
     holds(&rt, text.as_str().starts_with("version = 2"));
-    let again = migrate(rt.alloc(), text.as_bytes())?;
-    holds(&rt, again.as_str() == text.as_str());
-    is_small(&rt, text.as_str())
-}
-
-fn expect_limits(rt: &impl Abort, limits: &Limits) {
-    for (name, rate) in [
-        (Name::Server, 100),
-        (Name::Direction(Way::Down), 60),
-        (Name::Group(Way::Down, 0), 40),
-        (Name::Group(Way::Up, 1), 30),
-        (Name::User(Way::Down, 0), 20),
-        (Name::User(Way::Down, 1), 0),
-        (Name::Session(Way::Up, 0, 7), 15),
-    ] {
-        holds(rt, limits.rate(name) == rate);
+    let again = migrate(rt.alloc(), text.as_bytes()).expect(&rt, "a configuration");
+    same(&rt, &again, &text);
+    for text in [MEMORY, text.as_str()] {
+        let mut config = Config::read(rt.alloc(), text.as_bytes()).expect(&rt, text);
+        check_memory(&rt, &mut config);
     }
-    holds(
-        rt,
-        limits.group_of(0) == Some(1) && limits.group_of(1).is_none(),
-    );
 }
 
-fn expect_grouped(rt: &impl Abort, config: &Config) {
-    let Config {
-        settings,
-        numbers,
-        users,
-        store,
-        limits,
-    } = config;
-    expect_limits(rt, limits);
-    holds(
-        rt,
-        users.group("ann") == Some(1) && users.group("anonymous").is_none(),
-    );
-    holds(
-        rt,
-        users.check_password("anonymous", "whatever") && users.msg_login("ann") == Some("Hello"),
-    );
-    holds(
-        rt,
-        settings.address == [203, 0, 113, 7] && numbers.address == [0, 0, 0, 0],
-    );
-    holds(rt, numbers.max_cons_per_address == 8 && numbers.lanes == 64);
-    holds(
-        rt,
-        matches!(store, ServedStore::Folder(text) if text.as_str() == "/srv/ftp"),
-    );
+static RATES: [(Name, u64); 8] = [
+    (Name::Server, 1_099_511_627_776),
+    (Name::Direction(Way::Down), 8),
+    (Name::Direction(Way::Up), 9),
+    (Name::Group(Way::Down, 0), 40),
+    (Name::Group(Way::Up, 1), 4),
+    (Name::User(Way::Down, 0), 11),
+    (Name::User(Way::Down, 1), 0),
+    (Name::Session(Way::Up, 0, 7), 14),
+];
+
+fn check_limits(rt: &impl Abort, limits: &Limits) {
+    for (name, rate) in &RATES {
+        same(rt, &limits.rate(*name), rate);
+    }
+    same(rt, &limits.group_of(0), &Some(1));
+    same(rt, &limits.group_of(1), &None);
+}
+
+/// The configuration is that of `FOLDER`.
+fn check_folder(rt: &impl Abort, config: &Config) {
+    check_limits(rt, &config.limits);
+    same(rt, &config.users.group("ann"), &Some(1));
+    same(rt, &config.users.group("anonymous"), &None);
+    holds(rt, config.users.check_password("anonymous", "whatever"));
+    same(rt, &config.users.msg_login("ann"), &Some("Hi"));
+    same(rt, &config.settings.address, &[203, 0, 113, 7]);
+    let numbers = ServerNumbers {
+        address: [10, 0, 0, 1],
+        port: 21,
+        max_cons: 5,
+        max_cons_per_address: 4,
+        passive_first: 1,
+        passive_last: 65535,
+        lanes: 64,
+        sessions: 4_294_967_296,
+    };
+    same(rt, &config.numbers, &numbers);
+    match &config.store {
+        ServedStore::Memory(_) => panic!(rt; "files in memory"),
+        ServedStore::Folder(path) => same(rt, &path.as_str(), &"/srv/ftp"),
+    }
 }
 
 #[test]
-fn groups_set_limits(rt: HostRuntime) -> Result<(), Fail> {
-    let config = Config::read(rt.alloc(), GROUPED.as_bytes())?;
-    expect_grouped(&rt, &config);
-    Ok(())
+fn folder(rt: HostRuntime) {
+    let config = Config::read(rt.alloc(), FOLDER.as_bytes()).expect(&rt, "a configuration");
+    check_folder(&rt, &config);
 }

@@ -1,22 +1,42 @@
 //! What no clause says of keys: that each kind is read, at its bounds too, and each problem is told.
 
-use crate::expect::holds;
+use crate::expect::{holds, same};
 use config_keys::{
     KeyFault, Kind, Problem, address_at, flag_at, line_at, number_at, only_known, row_at, rows_at,
     table_at, text_at,
 };
 use std::net::Ipv4Addr;
 use std::process::Abort;
-use std::test::Fail;
 use toml::Table;
 
-const NUMBER: Kind = Kind::Number { low: 1, high: 9 };
+const DOCUMENT: &str = "one = 1
+nine = 9
+zero = 0
+ten = 10
+below = -1
+digit = \"1\"
+line = \"x y\"
+lines = \"x\\ny\"
+delete = \"\\u007f\"
+flag = true
+address = \"10.0.0.255\"
+no_address = \"10.0.0.256\"
+list = [1]
+[table]
+port = 1
+colour = 2
+banner = 3
+age = 4
+[[rows]]
+name = \"lunch\"
+[[rows]]
+";
 
-fn is_problem<T: Drop>(answer: Result<T, KeyFault>, problem: Problem) -> bool {
-    match answer {
-        Ok(_) => false,
-        Err(fault) => fault.problem == problem,
-    }
+fn config_keys<'a>(rt: &impl Abort, table: &'a Table) -> Result<(), KeyFault<'a>> {
+    only_known(table, &["name", "port"])?; // of a table with the line `name = "lunch"`
+    holds(rt, line_at(table, "name", None)? == "lunch");
+    holds(rt, number_at(table, "port", 1, 65535, Some(2121))? == 2121);
+    Ok(())
 }
 
 /// What is read, or what is wrong with it.
@@ -27,146 +47,128 @@ fn read<T: Drop>(answer: Result<T, KeyFault>) -> Result<T, Problem> {
     }
 }
 
-fn expect_numbers(rt: &impl Abort, table: &Table) {
-    for (key, default, wanted) in [
-        ("a", None, Ok(1)),
-        ("b", Some(3), Ok(9)),
-        ("c", Some(3), Err(Problem::OutOfRange(NUMBER))),
-        ("d", Some(3), Err(Problem::OutOfRange(NUMBER))),
-        ("e", None, Err(Problem::OutOfRange(NUMBER))),
-        ("f", None, Err(Problem::WrongKind(NUMBER))),
-        ("g", Some(3), Ok(3)),
-        ("g", None, Err(Problem::Missing(NUMBER))),
-    ] {
-        holds(rt, read(number_at(table, key, 1, 9, default)) == wanted);
+const NUMBER: Kind = Kind::Number { low: 1, high: 9 };
+
+/// A key, whether it has the default 3, and what is read.
+static NUMBERS: [(&str, bool, Result<u64, Problem>); 8] = [
+    ("one", false, Ok(1)),
+    ("nine", true, Ok(9)),
+    ("zero", true, Err(Problem::OutOfRange(NUMBER))),
+    ("ten", true, Err(Problem::OutOfRange(NUMBER))),
+    ("below", false, Err(Problem::OutOfRange(NUMBER))),
+    ("digit", false, Err(Problem::WrongKind(NUMBER))),
+    ("none", true, Ok(3)),
+    ("none", false, Err(Problem::Missing(NUMBER))),
+];
+
+fn check_numbers(rt: &impl Abort, table: &Table) {
+    for (key, has_default, wanted) in &NUMBERS {
+        let found = if *has_default {
+            number_at(table, key, 1, 9, Some(3))
+        } else {
+            number_at(table, key, 1, 9, None)
+        };
+        same(rt, &read(found), wanted);
     }
 }
 
-#[test]
-fn numbers_lie_within_their_range(rt: HostRuntime) -> Result<(), Fail> {
-    let table = toml::table_from_str(rt.alloc(), "a = 1\nb = 9\nc = 0\nd = 10\ne = -1\nf = \"1\"")?;
-    expect_numbers(&rt, &table);
-    Ok(())
-}
+/// A key, whether it has the default `z`, and what is read.
+static LINES: [(&str, bool, Result<&str, Problem>); 5] = [
+    ("line", false, Ok("x y")),
+    ("lines", true, Err(Problem::OutOfRange(Kind::Line))),
+    ("delete", false, Err(Problem::OutOfRange(Kind::Line))),
+    ("flag", false, Err(Problem::WrongKind(Kind::Line))),
+    ("none", true, Ok("z")),
+];
 
-fn expect_lines(rt: &impl Abort, table: &Table) {
-    for (key, default, wanted) in [
-        ("a", None, Ok("x y")),
-        ("b", Some("z"), Err(Problem::OutOfRange(Kind::Line))),
-        ("c", None, Err(Problem::OutOfRange(Kind::Line))),
-        ("d", None, Err(Problem::WrongKind(Kind::Line))),
-        ("e", Some("z"), Ok("z")),
-    ] {
-        holds(rt, read(line_at(table, key, default)) == wanted);
+fn check_lines(rt: &impl Abort, table: &Table) {
+    for (key, has_default, wanted) in &LINES {
+        let found = if *has_default {
+            line_at(table, key, Some("z"))
+        } else {
+            line_at(table, key, None)
+        };
+        same(rt, &read(found), wanted);
     }
 }
 
-fn expect_texts(rt: &impl Abort, table: &Table) {
-    for (key, default, wanted) in [
-        ("b", None, Ok("x\ny")),
-        ("d", None, Err(Problem::WrongKind(Kind::Text))),
-        ("e", None, Err(Problem::Missing(Kind::Text))),
-        ("e", Some("z"), Ok("z")),
-    ] {
-        holds(rt, read(text_at(table, key, default)) == wanted);
+/// A key, its default, and what is read.
+static TEXTS: [(&str, Option<&str>, Result<&str, Problem>); 4] = [
+    ("lines", None, Ok("x\ny")),
+    ("flag", None, Err(Problem::WrongKind(Kind::Text))),
+    ("none", None, Err(Problem::Missing(Kind::Text))),
+    ("none", Some("z"), Ok("z")),
+];
+
+fn check_texts(rt: &impl Abort, table: &Table) {
+    for (key, default, wanted) in &TEXTS {
+        same(rt, &read(text_at(table, key, *default)), wanted);
     }
 }
 
-#[test]
-fn lines_hold_no_control_octet(rt: HostRuntime) -> Result<(), Fail> {
-    let table = toml::table_from_str(
-        rt.alloc(),
-        "a = \"x y\"\nb = \"x\\ny\"\nc = \"\\u007f\"\nd = true",
-    )?;
-    expect_lines(&rt, &table);
-    expect_texts(&rt, &table);
-    Ok(())
-}
+/// A key, its default, and what is read.
+static FLAGS: [(&str, Option<bool>, Result<bool, Problem>); 3] = [
+    ("flag", Some(false), Ok(true)),
+    ("none", Some(false), Ok(false)),
+    ("one", None, Err(Problem::WrongKind(Kind::Flag))),
+];
 
-fn expect_flags(rt: &impl Abort, table: &Table) {
-    holds(rt, flag_at(table, "a", Some(false)).ok() == Some(true));
-    holds(rt, flag_at(table, "x", Some(false)).ok() == Some(false));
-    holds(
-        rt,
-        is_problem(flag_at(table, "d", None), Problem::WrongKind(Kind::Flag)),
-    );
-    holds(
-        rt,
-        address_at(table, "b").ok() == Some(Some(Ipv4Addr::new(10, 0, 0, 255))),
-    );
-    holds(
-        rt,
-        is_problem(address_at(table, "c"), Problem::OutOfRange(Kind::Address)),
-    );
-    holds(
-        rt,
-        is_problem(address_at(table, "d"), Problem::WrongKind(Kind::Address)),
-    );
-    holds(rt, address_at(table, "x").ok() == Some(None));
-}
-
-#[test]
-fn flags_and_addresses_are_read(rt: HostRuntime) -> Result<(), Fail> {
-    let table = toml::table_from_str(
-        rt.alloc(),
-        "a = true\nb = \"10.0.0.255\"\nc = \"10.0.0.256\"\nd = 1",
-    )?;
-    expect_flags(&rt, &table);
-    Ok(())
-}
-
-fn expect_tables(rt: &impl Abort, table: &Table) -> Result<(), Fail> {
-    let inner = table_at(table, "t").ok().ok_or("no table")?;
-    holds(rt, number_at(inner, "k", 1, 9, None).ok() == Some(2));
-    holds(
-        rt,
-        is_problem(table_at(table, "a"), Problem::WrongKind(Kind::Table)),
-    );
-    holds(
-        rt,
-        is_problem(table_at(table, "x"), Problem::Missing(Kind::Table)),
-    );
-    holds(rt, rows_at(table, "r").ok().ok_or("no rows")?.len() == 2);
-    holds(rt, rows_at(table, "x").ok().ok_or("rows")?.is_empty());
-    holds(
-        rt,
-        is_problem(rows_at(table, "t"), Problem::WrongKind(Kind::Rows)),
-    );
-    let numbers = rows_at(table, "c").ok().ok_or("no list")?;
-    let first = numbers.first().ok_or("an empty list")?;
-    holds(
-        rt,
-        is_problem(row_at(first, "c"), Problem::WrongKind(Kind::Rows)),
-    );
-    Ok(())
-}
-
-#[test]
-fn tables_and_rows_are_found(rt: HostRuntime) -> Result<(), Fail> {
-    let table = toml::table_from_str(
-        rt.alloc(),
-        "a = 1\nc = [1]\n[t]\nk = 2\n[[r]]\nk = 3\n[[r]]",
-    )?;
-    expect_tables(&rt, &table)
-}
-
-fn expect_unknown(rt: &impl Abort, table: &Table) {
-    holds(
-        rt,
-        only_known(table, &["age", "banner", "colour", "port"]).is_ok(),
-    );
-    match only_known(table, &["age", "port"]) {
-        Ok(()) => holds(rt, false),
-        Err(fault) => holds(
-            rt,
-            fault.key == "banner" && fault.problem == Problem::Unknown,
-        ),
+fn check_flags(rt: &impl Abort, table: &Table) {
+    for (key, default, wanted) in &FLAGS {
+        same(rt, &read(flag_at(table, key, *default)), wanted);
     }
 }
 
+fn check_addresses(rt: &impl Abort, table: &Table) {
+    let address = Ipv4Addr::new(10, 0, 0, 255);
+    same(rt, &read(address_at(table, "address")), &Ok(Some(address)));
+    let out_of_range = Err(Problem::OutOfRange(Kind::Address));
+    same(rt, &read(address_at(table, "no_address")), &out_of_range);
+    let wrong_kind = Err(Problem::WrongKind(Kind::Address));
+    same(rt, &read(address_at(table, "one")), &wrong_kind);
+    same(rt, &read(address_at(table, "none")), &Ok(None));
+}
+
+/// Tables, and lists of tables, are found.
+fn check_tables(rt: &impl Abort, table: &Table) {
+    let wrong = Some(Problem::WrongKind(Kind::Table));
+    same(rt, &read(table_at(table, "one")).err(), &wrong);
+    let missing = Some(Problem::Missing(Kind::Table));
+    same(rt, &read(table_at(table, "none")).err(), &missing);
+    let none = read(rows_at(table, "none")).expect(rt, "no rows");
+    holds(rt, none.is_empty());
+    let wrong = Some(Problem::WrongKind(Kind::Rows));
+    same(rt, &read(rows_at(table, "table")).err(), &wrong);
+    let list = read(rows_at(table, "list")).expect(rt, "a list");
+    let number = list.first().expect(rt, "a number");
+    same(rt, &read(row_at(number, "list")).err(), &wrong);
+    let rows = read(rows_at(table, "rows")).expect(rt, "rows");
+    holds(rt, rows.len() == 2);
+    let row = row_at(rows.first().expect(rt, "a row"), "rows");
+    config_keys(rt, row.expect(rt, "a table")).expect(rt, "its keys");
+}
+
+/// The least unknown key is told.
+fn check_unknown(rt: &impl Abort, table: &Table) {
+    let table = read(table_at(table, "table")).expect(rt, "a table");
+    same(rt, &read(number_at(table, "colour", 1, 9, None)), &Ok(2));
+    let all = ["age", "banner", "colour", "port"];
+    holds(rt, only_known(table, &all).is_ok());
+    let fault = only_known(table, &["age", "port"]).expect_err(rt, "an unknown key");
+    holds(
+        rt,
+        fault.key == "banner" && fault.problem == Problem::Unknown,
+    );
+}
+
 #[test]
-fn the_least_unknown_key_is_told(rt: HostRuntime) -> Result<(), Fail> {
-    let table = toml::table_from_str(rt.alloc(), "port = 1\ncolour = 2\nbanner = 3\nage = 4")?;
-    expect_unknown(&rt, &table);
-    Ok(())
+fn keys(rt: HostRuntime) {
+    let table = toml::table_from_str(rt.alloc(), DOCUMENT).expect(&rt, "a document");
+    check_numbers(&rt, &table);
+    check_lines(&rt, &table);
+    check_texts(&rt, &table);
+    check_flags(&rt, &table);
+    check_addresses(&rt, &table);
+    check_tables(&rt, &table);
+    check_unknown(&rt, &table);
 }

@@ -5,6 +5,10 @@
 #[cfg(test)]
 mod configs;
 #[cfg(test)]
+mod documents;
+#[cfg(test)]
+mod examples;
+#[cfg(test)]
 mod expect;
 #[cfg(test)]
 mod keys;

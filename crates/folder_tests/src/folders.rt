@@ -1,6 +1,6 @@
 //! Calls one after another on folders of the machine.
 
-use crate::expect::{comes_out_in, holds};
+use crate::expect::{comes_out_in, fresh_folder, holds, place_in, take_away};
 use crate::racing_machine::{Act, acting};
 use folder_store::DirStore;
 use std::env::Env;
@@ -8,8 +8,7 @@ use std::fs;
 use std::os::fd::AsRawFd;
 use std::process::Abort;
 use std::rt::Files;
-use std::test::Fail;
-use store_script::{DIRECTORIES, FILES, RENAMES, fresh, inside};
+use store_script::{DIRECTORIES, FILES, RENAMES};
 use virtual_tree::StoreFault;
 
 /// Where the machine opens no directory, or has no `/proc`, names are followed one by one.
@@ -38,61 +37,92 @@ faults = 2
 read /f = abc";
 
 /// Carries out a script in a fresh folder of a machine.
-fn comes_out_afresh<M>(
-    rt: &(impl Abort + Env + Files + AllocGlobal),
-    machine: M,
-    script: &str,
-) -> Result<(), Fail>
+fn comes_out_afresh<M>(rt: &(impl Abort + Env + Files + AllocGlobal), machine: M, script: &str)
 where
     M: Files + AllocGlobal + Clone + Drop,
     M::File: AsRawFd,
 {
-    let folder = fresh(rt, "scripts")?;
+    let folder = fresh_folder(rt, "scripts");
     comes_out_in(rt, machine, folder.as_str(), script);
-    Ok(fs::remove_dir_all(rt, folder.as_str())?)
+    take_away(rt, folder.as_str());
 }
 
-#[test]
-fn in_fresh_folders(rt: HostRuntime) -> Result<(), Fail> {
-    for script in [FILES, DIRECTORIES, RENAMES] {
-        comes_out_afresh(&rt, rt, script)?;
+static SCRIPTS: [&str; 3] = [FILES, DIRECTORIES, RENAMES];
+
+static ACTS: [(Act, &str); 3] = [
+    (Act::KeepDirectories, BY_NAMES),
+    (Act::HideProc, BY_NAMES),
+    (Act::KeepNames, KEPT_NAMES),
+];
+
+fn check_fresh_folders<R>(rt: &R)
+where
+    R: Abort + Env + Files + AllocGlobal + Copy + Drop,
+    R::File: AsRawFd,
+{
+    for script in &SCRIPTS {
+        comes_out_afresh(rt, *rt, script);
     }
-    for (act, script) in [
-        (Act::KeepDirectories, BY_NAMES),
-        (Act::HideProc, BY_NAMES),
-        (Act::KeepNames, KEPT_NAMES),
-    ] {
-        comes_out_afresh(&rt, acting(rt, act), script)?;
+    for (act, script) in &ACTS {
+        comes_out_afresh(rt, acting(*rt, *act), script);
     }
-    Ok(())
 }
 
 /// Two of these names no path names.
-const NAMES: [&str; 4] = ["b", "a", "t\tb", "x\u{7f}"];
+static NAMES: [&str; 4] = ["b", "a", "t\tb", "x\u{7f}"];
 
-#[test]
-fn names_that_no_path_names(rt: HostRuntime) -> Result<(), Fail> {
-    let folder = fresh(&rt, "names")?;
-    for name in NAMES {
-        fs::write(&rt, inside(&rt, folder.as_str(), name)?.as_str(), "abc")?;
+/// What is told of them, all and without the first.
+static TOLD: [(Act, &str); 2] = [
+    (Act::Nothing, "names / = a b\nfaults = 0"),
+    (Act::HideFirst, "names / = b\nfaults = 0"),
+];
+
+/// Makes a file in a folder.
+fn make_file(rt: &(impl Abort + Files + AllocGlobal), folder: &str, name: &str) {
+    fs::write(rt, place_in(rt, folder, name).as_str(), "abc").expect(rt, name);
+}
+
+fn check_names<R>(rt: &R)
+where
+    R: Abort + Env + Files + AllocGlobal + Copy + Drop,
+    R::File: AsRawFd,
+{
+    let folder = fresh_folder(rt, "names");
+    for name in &NAMES {
+        make_file(rt, folder.as_str(), name);
     }
-    comes_out_in(&rt, rt, folder.as_str(), "names / = a b");
-    for (act, script) in [
-        (Act::Nothing, "names / = a b\nfaults = 0"),
-        (Act::HideFirst, "names / = b\nfaults = 0"),
-    ] {
-        comes_out_in(&rt, acting(rt, act), folder.as_str(), script);
+    comes_out_in(rt, *rt, folder.as_str(), "names / = a b\nfaults = 0");
+    for (act, script) in &TOLD {
+        comes_out_in(rt, acting(*rt, *act), folder.as_str(), script);
     }
-    Ok(fs::remove_dir_all(&rt, folder.as_str())?)
+    take_away(rt, folder.as_str());
+}
+
+/// No store is made of an entry of a folder.
+fn check_refused<R>(rt: &R, folder: &str, name: &str, fault: StoreFault)
+where
+    R: Abort + Files + AllocGlobal + Copy + Drop,
+    R::File: AsRawFd,
+{
+    let place = place_in(rt, folder, name);
+    holds(rt, DirStore::new(*rt, place.as_str()).err() == Some(fault));
+}
+
+fn check_no_folder<R>(rt: &R)
+where
+    R: Abort + Env + Files + AllocGlobal + Copy + Drop,
+    R::File: AsRawFd,
+{
+    let folder = fresh_folder(rt, "none");
+    comes_out_in(rt, *rt, folder.as_str(), "new /f abc");
+    check_refused(rt, folder.as_str(), "f", StoreFault::NotDir);
+    check_refused(rt, folder.as_str(), "n", StoreFault::NotFound);
+    take_away(rt, folder.as_str());
 }
 
 #[test]
-fn what_is_no_folder(rt: HostRuntime) -> Result<(), Fail> {
-    let folder = fresh(&rt, "none")?;
-    comes_out_in(&rt, rt, folder.as_str(), "new /f abc");
-    for (name, fault) in [("f", StoreFault::NotDir), ("n", StoreFault::NotFound)] {
-        let place = inside(&rt, folder.as_str(), name)?;
-        holds(&rt, DirStore::new(rt, place.as_str()).err() == Some(fault));
-    }
-    Ok(fs::remove_dir_all(&rt, folder.as_str())?)
+fn scripts_and_names(rt: HostRuntime) {
+    check_fresh_folders(&rt);
+    check_names(&rt);
+    check_no_folder(&rt);
 }

@@ -1,24 +1,23 @@
 //! What the machine says of a folder: times, permissions, and files that are open twice.
 
-use crate::expect::comes_out;
+use crate::expect::{comes_out_in, fresh_folder, place_in, take_away};
 use folder_store::DirStore;
 use std::alloc::Global;
-use std::fs;
 use std::fs::Permissions;
+use std::os::fd::AsRawFd;
 use std::os::unix::fs::PermissionsExt;
 use std::process::Abort;
 use std::rt::Files;
-use std::test::Fail;
 use std::time::{Duration, UNIX_EPOCH};
-use store_script::{fresh, inside};
+use std::{fs, io};
 use virtual_path::VPath;
 use virtual_tree::{Sink, Store, WriteMode};
 
-/// Makes a file that was modified at a moment.
-fn make_modified(rt: &HostRuntime, place: &str, second: u64) -> Result<(), Fail> {
+/// Makes a file that was modified at a moment; where there is no such moment, at 0 seconds.
+fn make_modified(rt: &HostRuntime, place: &str, second: u64) -> io::Result<()> {
     let time = UNIX_EPOCH.checked_add(Duration::from_secs(second));
     let file = fs::create(rt, place)?;
-    Ok(file.set_modified(time.ok_or("no such time")?)?)
+    file.set_modified(time.unwrap_or(UNIX_EPOCH))
 }
 
 /// What is asked of a directory that may not be entered.
@@ -28,21 +27,22 @@ size /d/f = device fault
 faults = 2";
 
 /// A directory that may not be entered. One who may do everything is refused nothing.
-fn permissions<S: Store<Global>>(
-    rt: &(impl Abort + Files + AllocGlobal + Clone),
-    store: &mut S,
-    place: &str,
-) {
-    comes_out(rt, store, "make /d\nnew /d/f abc");
-    fs::set_permissions(rt, place, Permissions::from_mode(0)).expect(rt, "a lock");
-    if fs::read_dir(rt, place).is_err() {
-        comes_out(rt, store, LOCKED);
+fn check_permissions<R>(rt: &R, folder: &str)
+where
+    R: Abort + Files + AllocGlobal + Copy + Drop,
+    R::File: AsRawFd,
+{
+    comes_out_in(rt, *rt, folder, "make /d\nnew /d/f abc");
+    let place = place_in(rt, folder, "d");
+    fs::set_permissions(rt, place.as_str(), Permissions::from_mode(0)).expect(rt, "a lock");
+    if fs::read_dir(rt, place.as_str()).is_err() {
+        comes_out_in(rt, *rt, folder, LOCKED);
     }
-    fs::set_permissions(rt, place, Permissions::from_mode(0o755)).expect(rt, "no lock");
+    fs::set_permissions(rt, place.as_str(), Permissions::from_mode(0o755)).expect(rt, "no lock");
 }
 
 /// One file that two sinks append to, in turn.
-fn two_appends<S: Store<Global>>(rt: &(impl Abort + AllocGlobal), store: &mut S, file: &VPath) {
+fn append_twice<S: Store<Global>>(rt: &impl Abort, store: &mut S, file: &VPath) {
     let mode = WriteMode::Append;
     let mut first = store.open_write(file, mode, 5_000).expect(rt, "a sink");
     let mut second = store.open_write(file, mode, 5_000).expect(rt, "a sink");
@@ -51,20 +51,36 @@ fn two_appends<S: Store<Global>>(rt: &(impl Abort + AllocGlobal), store: &mut S,
     first.write(b"f").expect(rt, "a write");
     store.finish(first, 6_000).expect(rt, "an end");
     store.finish(second, 6_000).expect(rt, "an end");
-    comes_out(rt, store, "read /g = abcdef");
+}
+
+fn check_two_appends<R>(rt: &R, folder: &str)
+where
+    R: Abort + Files + AllocGlobal + Copy + Drop,
+    R::File: AsRawFd,
+{
+    let root = VPath::root(rt.alloc());
+    let file = root.child(rt.alloc(), "g").expect(rt, "a path");
+    let mut store = DirStore::new(*rt, folder).expect(rt, "a folder");
+    append_twice(rt, &mut store, &file);
+    comes_out_in(rt, *rt, folder, "read /g = abcdef");
+}
+
+/// The calls on one folder, in which a file `f` was modified at a moment.
+fn check_folder<R>(rt: &R, folder: &str)
+where
+    R: Abort + Files + AllocGlobal + Copy + Drop,
+    R::File: AsRawFd,
+{
+    comes_out_in(rt, *rt, folder, "modified /f = 951827696");
+    check_permissions(rt, folder);
+    check_two_appends(rt, folder);
+    take_away(rt, folder);
 }
 
 #[test]
-fn of_one_folder(rt: HostRuntime) -> Result<(), Fail> {
-    let folder = fresh(&rt, "machine")?;
-    let mut store = DirStore::new(rt, folder.as_str()).expect(&rt, "a folder");
-    let file = VPath::root(rt.alloc())
-        .resolve(rt.alloc(), "/g")
-        .expect(&rt, "a path");
-    let modified = inside(&rt, folder.as_str(), "f")?;
-    make_modified(&rt, modified.as_str(), 951_827_696)?;
-    comes_out(&rt, &mut store, "modified /f = 951827696");
-    permissions(&rt, &mut store, inside(&rt, folder.as_str(), "d")?.as_str());
-    two_appends(&rt, &mut store, &file);
-    Ok(fs::remove_dir_all(&rt, folder.as_str())?)
+fn of_one_folder(rt: HostRuntime) {
+    let folder = fresh_folder(&rt, "machine");
+    let modified = place_in(&rt, folder.as_str(), "f");
+    make_modified(&rt, modified.as_str(), 951_827_696).expect(&rt, "a file");
+    check_folder(&rt, folder.as_str());
 }

@@ -1,14 +1,13 @@
 //! What a store answers where links lead out of its folder, and where another process puts them there between its calls. What stands
 //! outside stays as it is.
 
-use crate::expect::{comes_out_in, holds};
+use crate::expect::{comes_out_in, fresh_folder, holds, place_in, take_away};
 use crate::racing_machine::{Act, Racing, acting};
+use std::env::Env;
 use std::fs;
 use std::os::fd::AsRawFd;
 use std::process::Abort;
 use std::rt::Files;
-use std::test::Fail;
-use store_script::{fresh, inside};
 
 /// What is asked of a folder that has a link to the folder above, `out`, and one to the file `kept`
 /// there, `k`.
@@ -28,15 +27,16 @@ make /out/x = not found
 names / =
 faults = 0";
 
-fn ask_of_links<R>(rt: &R, folder: &str) -> Result<(), Fail>
+fn ask_of_links<R>(rt: &R, folder: &str)
 where
     R: Abort + Files + AllocGlobal + Copy + Drop,
     R::File: AsRawFd,
 {
-    rt.symlink("..", inside(rt, folder, "out")?.as_str())?;
-    rt.symlink("../kept", inside(rt, folder, "k")?.as_str())?;
+    let out = place_in(rt, folder, "out");
+    rt.symlink("..", out.as_str()).expect(rt, "a link");
+    let kept = place_in(rt, folder, "k");
+    rt.symlink("../kept", kept.as_str()).expect(rt, "a link");
     comes_out_in(rt, *rt, folder, LINKS);
-    Ok(())
 }
 
 /// The calls that open the file `f`.
@@ -47,34 +47,44 @@ append /f x = not found";
 
 /// What another process leaves of the file `f` that it takes away, or puts a link in the place of, just
 /// before each call of `OPENINGS` opens it.
-fn open_late<R>(rt: &R, folder: &str, place: &str)
+fn open_late<R>(rt: &R, folder: &str, act: Act)
 where
     R: Abort + Files + AllocGlobal + Copy + Drop,
     R::File: AsRawFd,
 {
-    for act in [Act::Remove, Act::Link] {
-        for call in OPENINGS.split('\n') {
-            fs::write(rt, place, "abc").expect(rt, "a file");
-            comes_out_in(rt, acting(*rt, act), folder, call);
-            let _gone = fs::remove_file(rt, place);
-        }
+    let place = place_in(rt, folder, "f");
+    for call in OPENINGS.split('\n') {
+        fs::write(rt, place.as_str(), "abc").expect(rt, "a file");
+        comes_out_in(rt, acting(*rt, act), folder, call);
+        let _gone = fs::remove_file(rt, place.as_str());
     }
 }
 
-#[test]
-fn files_and_links(rt: HostRuntime) -> Result<(), Fail> {
-    let above = fresh(&rt, "links")?;
-    comes_out_in(&rt, rt, above.as_str(), "new /kept kept\nmake /served");
-    let folder = inside(&rt, above.as_str(), "served")?;
-    ask_of_links(&rt, folder.as_str())?;
-    open_late(
-        &rt,
-        folder.as_str(),
-        inside(&rt, folder.as_str(), "f")?.as_str(),
-    );
-    let kept = fs::read_to_string(&rt, inside(&rt, above.as_str(), "kept")?.as_str())?;
-    holds(&rt, kept.as_str() == "kept");
-    Ok(fs::remove_dir_all(&rt, above.as_str())?)
+/// A file of a folder holds this.
+fn holds_text(
+    rt: &(impl Abort + Files + AllocGlobal),
+    folder: &str,
+    name: &str,
+    text: &str,
+) -> bool {
+    let place = place_in(rt, folder, name);
+    let read = fs::read_to_string(rt, place.as_str()).expect(rt, name);
+    read.as_str() == text
+}
+
+fn check_links<R>(rt: &R)
+where
+    R: Abort + Env + Files + AllocGlobal + Copy + Drop,
+    R::File: AsRawFd,
+{
+    let above = fresh_folder(rt, "links");
+    comes_out_in(rt, *rt, above.as_str(), "new /kept kept\nmake /served");
+    let folder = place_in(rt, above.as_str(), "served");
+    ask_of_links(rt, folder.as_str());
+    open_late(rt, folder.as_str(), Act::Remove);
+    open_late(rt, folder.as_str(), Act::Link);
+    holds(rt, holds_text(rt, above.as_str(), "kept", "kept"));
+    take_away(rt, above.as_str());
 }
 
 /// Calls below a directory that is swapped for a link to another one while each of them runs. They
@@ -111,45 +121,62 @@ make /elsewhere
 make /elsewhere/b
 new /elsewhere/a elsewhere";
 
-/// Whether the directory that the link leads to is as it was laid out.
-fn is_as_laid_out(rt: &(impl Files + AllocGlobal), above: &str) -> Result<bool, Fail> {
-    let is_new = fs::symlink_metadata(rt, inside(rt, above, "elsewhere/n")?.as_str()).is_ok();
-    let is_there = fs::symlink_metadata(rt, inside(rt, above, "elsewhere/b")?.as_str()).is_ok();
-    let read = fs::read_to_string(rt, inside(rt, above, "elsewhere/a")?.as_str())?;
-    Ok(is_there && !is_new && read.as_str() == "elsewhere")
+/// Whether something stands in a folder.
+fn stands_in(rt: &(impl Abort + Files + AllocGlobal), folder: &str, name: &str) -> bool {
+    let place = place_in(rt, folder, name);
+    fs::symlink_metadata(rt, place.as_str()).is_ok()
+}
+
+/// The directory that the link leads to is as it was laid out.
+fn check_laid_out(rt: &(impl Abort + Files + AllocGlobal), above: &str) {
+    holds(rt, !stands_in(rt, above, "elsewhere/n"));
+    holds(rt, stands_in(rt, above, "elsewhere/b"));
+    holds(rt, holds_text(rt, above, "elsewhere/a", "elsewhere"));
 }
 
 /// Carries out one call while the directory is swapped for a link.
-fn call_while_swapped<R>(rt: &R, above: &str, call: &str, act: Act) -> Result<(), Fail>
+fn call_while_swapped<R>(rt: &R, above: &str, call: &str, act: Act)
 where
     R: Abort + Files + AllocGlobal + Copy + Drop,
     R::File: AsRawFd,
 {
-    let directory = inside(rt, above, "served/d")?;
-    let aside = inside(rt, above, "served/aside")?;
+    let directory = place_in(rt, above, "served/d");
+    let aside = place_in(rt, above, "served/aside");
     let machine = Racing {
         rt: *rt,
         act,
         swapped: (directory.as_str(), aside.as_str()),
     };
-    comes_out_in(rt, machine, inside(rt, above, "served")?.as_str(), call);
+    let folder = place_in(rt, above, "served");
+    comes_out_in(rt, machine, folder.as_str(), call);
     // The link came: the other process acted.
-    Ok(drop(fs::read_link(rt, directory.as_str())?))
+    holds(rt, fs::read_link(rt, directory.as_str()).is_ok());
 }
 
+/// The same in a fresh folder. The directory that the link leads to stays as it is.
+fn check_swapped<R>(rt: &R, call: &str, act: Act)
+where
+    R: Abort + Env + Files + AllocGlobal + Copy + Drop,
+    R::File: AsRawFd,
+{
+    let above = fresh_folder(rt, "directory_swapped");
+    comes_out_in(rt, *rt, above.as_str(), LAID_OUT);
+    call_while_swapped(rt, above.as_str(), call, act);
+    check_laid_out(rt, above.as_str());
+    take_away(rt, above.as_str());
+}
+
+static SWAPPED: [(Act, &str); 2] = [
+    (Act::SwapLate, BELOW_SWAPPED),
+    (Act::SwapAtOnce, INTO_SWAPPED),
+];
+
 #[test]
-fn a_link_comes_for_a_directory(rt: HostRuntime) -> Result<(), Fail> {
-    for (calls, act) in [
-        (BELOW_SWAPPED, Act::SwapLate),
-        (INTO_SWAPPED, Act::SwapAtOnce),
-    ] {
+fn links_and_swaps(rt: HostRuntime) {
+    check_links(&rt);
+    for (act, calls) in &SWAPPED {
         for call in calls.split('\n') {
-            let above = fresh(&rt, "directory_swapped")?;
-            comes_out_in(&rt, rt, above.as_str(), LAID_OUT);
-            call_while_swapped(&rt, above.as_str(), call, act)?;
-            holds(&rt, is_as_laid_out(&rt, above.as_str())?);
-            fs::remove_dir_all(&rt, above.as_str())?;
+            check_swapped(&rt, call, *act);
         }
     }
-    Ok(())
 }

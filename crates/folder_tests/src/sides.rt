@@ -1,14 +1,10 @@
-//! One random list of calls on both stores, side by side: each tells the same, and they hold the
-//! same.
+//! One random list of calls on both stores: what the one in memory tells is a script for the one over a folder. So they tell the
+//! same, and hold the same.
 
-use folder_store::DirStore;
+use crate::expect::{comes_out_in, fresh_folder, take_away};
 use memory_store::MemStore;
-use std::alloc::Global;
-use std::fs;
 use std::process::Abort;
-use std::test::Fail;
-use store_script::{first_unmet, fresh};
-use virtual_tree::Store;
+use store_script::{read_line, told};
 
 static CALLS: [&str; 11] = [
     "make",
@@ -41,51 +37,48 @@ fn one_of(number: &mut u64, words: &[&'static str]) -> &'static str {
 }
 
 /// A random call. What it writes, if it does, is the text of its other path.
-fn random_line(rt: &(impl Abort + AllocGlobal), number: &mut u64) -> String {
+fn random_call(rt: &(impl Abort + AllocGlobal), number: &mut u64) -> String {
     let call = one_of(number, &CALLS);
     let offset = one_of(number, &OFFSETS);
     let path = one_of(number, &PATHS);
     let to = one_of(number, &PATHS);
-    format!(in rt.alloc(); "{call}:{offset} {path} {to} = ?").expect(rt, "memory")
+    format!(in rt.alloc(); "{call}:{offset} {path} {to}").expect(rt, "memory")
 }
 
-/// Asks both stores for a line. Since none tells `?`, which the line wants, each answers what it told.
-fn ask_both<S: Store<Global>, T: Store<Global>>(
+/// Adds a line to a script: a call, and what a store in memory tells of it.
+fn add_line(
     rt: &(impl Abort + AllocGlobal),
-    one: &mut S,
-    other: &mut T,
-    line: &str,
+    store: &mut MemStore,
+    script: &mut String,
+    call: &str,
 ) {
-    let told = first_unmet(rt.alloc(), rt.alloc(), one, line).expect(rt, line);
-    let too = first_unmet(rt.alloc(), rt.alloc(), other, line).expect(rt, line);
-    if told.is_none() || told != too {
-        panic!(rt; "{line}")
-    }
+    let asked = read_line(rt.alloc(), rt.alloc(), call).expect(rt, call);
+    let told = told(rt.alloc(), store, &asked).expect(rt, call);
+    let line = format!(in rt.alloc(); "\n{call} = {told}").expect(rt, "memory");
+    script.push_str(line.as_str()).expect(rt, "memory");
 }
 
-/// Asks both stores for 4,000 random calls, and then for all that they hold.
-fn side_by_side<S: Store<Global>, T: Store<Global>>(
-    rt: &(impl Abort + AllocGlobal),
-    one: &mut S,
-    other: &mut T,
-) {
+/// Adds what a store in memory tells of 4,000 random calls, and then of all that it holds.
+fn add_lines(rt: &(impl Abort + AllocGlobal), store: &mut MemStore, script: &mut String) {
     let mut number = 88_172_645_463_325_252;
     for _ in 0..4000u32 {
-        ask_both(rt, one, other, random_line(rt, &mut number).as_str());
+        let call = random_call(rt, &mut number);
+        add_line(rt, store, script, call.as_str());
     }
     for path in &PATHS {
         for call in ["names", "read", "faults"] {
-            let line = format!(in rt.alloc(); "{call} {path} = ?").expect(rt, "memory");
-            ask_both(rt, one, other, line.as_str());
+            let call = format!(in rt.alloc(); "{call} {path}").expect(rt, "memory");
+            add_line(rt, store, script, call.as_str());
         }
     }
 }
 
 #[test]
-fn of_both_stores(rt: HostRuntime) -> Result<(), Fail> {
-    let folder = fresh(&rt, "sides")?;
-    let mut machine = DirStore::new(rt, folder.as_str()).expect(&rt, "a folder");
+fn of_both_stores(rt: HostRuntime) {
     let mut memory = MemStore::new(rt.alloc(), 1 << 20).expect(&rt, "memory");
-    side_by_side(&rt, &mut memory, &mut machine);
-    Ok(fs::remove_dir_all(&rt, folder.as_str())?)
+    let mut script = String::from_str(rt.alloc(), "faults = 0").expect(&rt, "memory");
+    add_lines(&rt, &mut memory, &mut script);
+    let folder = fresh_folder(&rt, "sides");
+    comes_out_in(&rt, rt, folder.as_str(), script.as_str());
+    take_away(&rt, folder.as_str());
 }

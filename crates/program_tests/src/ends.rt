@@ -5,20 +5,54 @@ use std::io;
 use std::io::{ErrorKind, Read, Write};
 use text_ends::Outside;
 
-/// Gives its octets, at most `step` and at least one at a time, and then ends or fails.
-#[derive(Clone, Copy, Drop)]
-pub(crate) struct Text<'t> {
-    pub rest: &'t [u8],
-    pub step: usize,
-    pub fails: bool,
+/// How an end gives its text.
+#[derive(Clone, Copy)]
+pub(crate) enum Given<'t> {
+    /// At once.
+    Whole(&'t str),
+    /// At most so many octets at a time, and then a fault.
+    Broken(&'t str, usize),
+    /// Octet by octet, each behind an interruption.
+    Interrupted(&'t str),
 }
 
-impl Read for Text<'_> {
+/// Gives its octets, at most `step` and at least one at a time, and then ends or fails.
+#[derive(Drop)]
+pub(crate) struct GivenReader<'t> {
+    pub rest: &'t [u8],
+    step: usize,
+    fails: bool,
+    interrupts: bool,
+    is_ready: bool,
+}
+
+impl<'t> Given<'t> {
+    pub fn reader(self) -> GivenReader<'t> {
+        let (text, step) = match self {
+            Given::Whole(text) => (text, 65_536),
+            Given::Broken(text, step) => (text, step),
+            Given::Interrupted(text) => (text, 1),
+        };
+        GivenReader {
+            rest: text.as_bytes(),
+            step,
+            fails: matches!(self, Given::Broken(_, _)),
+            interrupts: matches!(self, Given::Interrupted(_)),
+            is_ready: false,
+        }
+    }
+}
+
+impl Read for GivenReader<'_> {
     ghost use Rattle.std.specs.Prelude.{Some};
 
     ghost remaining = { λ r. Some r.rest.now };
 
     fn read(&mut self, buffer: &mut [u8]) -> io::Result<usize> {
+        self.is_ready = self.interrupts && !self.is_ready;
+        if self.is_ready {
+            return Err(io::Error::from(ErrorKind::Interrupted));
+        }
         let most = if self.step == 0 { 1 } else { self.step };
         let count = self.rest.len().min(most).min(buffer.len());
         if count == 0 && self.fails {
@@ -31,66 +65,23 @@ impl Read for Text<'_> {
     }
 }
 
-/// The text at once.
-pub(crate) fn whole(text: &[u8]) -> Option<Text<'_>> {
-    Some(Text {
-        rest: text,
-        step: 65_536,
-        fails: false,
-    })
-}
-
-/// The text, at most `step` octets at a time, and then a fault.
-pub(crate) fn broken(text: &[u8], step: usize) -> Text<'_> {
-    Text {
-        rest: text,
-        step,
-        fails: true,
-    }
-}
-
-/// The file `file`, and standard input.
-#[derive(Clone, Copy, Drop)]
+/// The file `file`, and standard input, where it can be opened.
+#[derive(Clone, Copy)]
 pub(crate) struct Files<'t> {
-    pub file: Option<Text<'t>>,
-    pub input: Option<Text<'t>>,
+    pub file: Given<'t>,
+    pub input: Option<Given<'t>>,
 }
 
 impl<'t> Openings for Files<'t> {
-    type End = Outside<Text<'t>>;
+    type End = Outside<GivenReader<'t>>;
 
-    fn open(&mut self, path: &str) -> Option<Outside<Text<'t>>> {
-        let text = match path {
-            "file" => self.file?,
+    fn open(&mut self, path: &str) -> Option<Outside<GivenReader<'t>>> {
+        let given = match path {
+            "file" => self.file,
             STANDARD_INPUT => self.input?,
             _ => return None,
         };
-        Some(Outside(text))
-    }
-}
-
-/// Gives its octets one at a time, and is interrupted before each.
-#[derive(Drop)]
-pub(crate) struct InterruptedReader<'a> {
-    pub rest: &'a [u8],
-    pub is_ready: bool,
-}
-
-impl Read for InterruptedReader<'_> {
-    ghost use Rattle.std.specs.Prelude.{Some};
-
-    ghost remaining = { λ r. Some r.rest.now };
-
-    fn read(&mut self, buffer: &mut [u8]) -> io::Result<usize> {
-        self.is_ready = !self.is_ready;
-        if self.is_ready {
-            return Err(io::Error::from(ErrorKind::Interrupted));
-        }
-        let count = self.rest.len().min(1).min(buffer.len());
-        let (front, rest) = self.rest.split_at(count);
-        buffer[..count].copy_from_slice(front);
-        self.rest = rest;
-        Ok(count)
+        Some(Outside(given.reader()))
     }
 }
 

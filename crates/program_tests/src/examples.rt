@@ -1,21 +1,54 @@
-//! The texts that tests speak of.
+//! Examples that bear the names of their crates: ends in memory, and words of programs.
 
-pub(crate) static LUNCH: &[u8] = b"limit / 10\nwant /a 10\nwant /b 10\nwant /c 10\n";
+use crate::expect::holds;
+use crate::texts::SMALL;
+use program::run_words;
+use sheet_program::{Openings, run_sheets};
+use std::test::Fail;
+use text_ends::{Outside, TextReader, TextWriter};
 
-pub(crate) static LUNCH_LINES: &[u8] =
-    b"/a 4 of 10 full /\n/b 3 of 10 full /\n/c 3 of 10 full /\ntotal 10\n";
+#[test]
+fn text_ends(rt: HostRuntime) -> Result<(), Fail> {
+    let mut reader: &[u8] = b"PWD\r\nQUIT\r\n"; // gives its octets, and never fails
+    let mut buffer = [0u8; 5];
+    let count = reader.read_front(&mut buffer)?;
+    let mut output: Vec<u8> = Vec::new(rt.alloc()); // takes octets, as long as memory lasts
+    output.write_text(&buffer[..count])?;
+    let mut other = Outside(output); // any other end, as a file: it may fail at each call
+    other.write_text(b"QUIT\r\n")?;
+    holds(&rt, other.0.as_slice() == b"PWD\r\nQUIT\r\n".as_slice());
+    Ok(())
+}
 
-pub(crate) static LUNCH_GRANTS: &[u8] = b"grant /a 4 /\ngrant /b 3 /\ngrant /c 3 /\n";
+/// One text, which each path names.
+#[derive(Clone, Copy)]
+struct Text(&'static str);
 
-/// A configuration of one user, and the same in version 2.
-pub(crate) static CONFIG: &[u8] =
-    b"version = 1\n[server]\nroot = \"memory\"\npassive_last = 40001\npassive_first = 40000\n[[user]]\nname = \"ann\"\npassword = \"secret\"\nhome = \"/\"\n";
+impl Openings for Text {
+    type End = &'static [u8];
 
-pub(crate) static MIGRATED: &[u8] =
-    b"version = 2\n\n[server]\npassive_first = 40000\npassive_last = 40001\nroot = \"memory\"\n\n[[user]]\nhome = \"/\"\nname = \"ann\"\npassword = \"secret\"\n";
+    fn open(&mut self, _path: &str) -> Option<&'static [u8]> {
+        Some(self.0.as_bytes())
+    }
+}
 
-pub(crate) static LOGIN: &[u8] = b"USER ann\r\nPASS secret\r\nPWD\r\n";
+#[test]
+fn sheet_program(rt: HostRuntime) {
+    let mut files = Text("limit / 10\nwant /a 8\nwant /b 5\n"); // opens what the words name
+    let mut output = Vec::new(rt.alloc());
+    let words = ["share", "lunch.sheet"];
+    let ending = run_sheets(rt.alloc(), &words, &mut files, &mut output);
+    holds(&rt, ending.status() == 0);
+    let shares = b"/a 5 of 8 full /\n/b 5 of 5\ntotal 10\n";
+    holds(&rt, output.as_slice() == shares.as_slice());
+}
 
-/// The replies to that login.
-pub(crate) static WELCOME: &[u8] =
-    b"220 Ready\r\n331 Password required\r\n230 Welcome\r\n257 \"/\"\r\n";
+#[test]
+fn program(rt: HostRuntime) {
+    let mut files = Text(SMALL); // opens what the words name
+    let mut output = Vec::new(rt.alloc());
+    let words = ["migrate", "ftpd.toml"];
+    let ending = run_words(rt.alloc(), &words, &mut files, &mut output);
+    holds(&rt, ending.status() == 0);
+    holds(&rt, output.starts_with(b"version = 2\n"));
+}

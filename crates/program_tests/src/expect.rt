@@ -2,7 +2,6 @@
 
 ghost use Rattle.std.specs.Prelude.{IsTrue};
 
-use std::alloc::Global;
 use std::fmt::Display;
 use std::process::Abort;
 
@@ -13,10 +12,13 @@ pub(crate) fn holds(rt: &impl Abort, fact: bool)
     assert!(rt; fact);
 }
 
+/// The octets are those of the text.
+pub(crate) fn same(rt: &impl Abort, found: &[u8], wanted: &str) {
+    assert_eq!(rt; found, wanted.as_bytes());
+}
+
 /// It prints as that.
-pub(crate) fn tells<T: Display>(rt: &impl Abort, alloc: Global, shown: &T, told: &str) {
-    match format!(in alloc; "{shown}") {
-        Ok(text) => assert!(rt; text.as_str() == told, "{text}"),
-        Err(_) => rt.abort(),
-    }
+pub(crate) fn tells<T: Display>(rt: &(impl Abort + AllocGlobal), shown: &T, told: &str) {
+    let text = format!(in rt.alloc(); "{shown}").expect(rt, "memory");
+    same(rt, text.as_str().as_bytes(), told);
 }

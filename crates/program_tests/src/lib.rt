@@ -3,8 +3,6 @@
 #![tactic(auto)]
 
 #[cfg(test)]
-mod broken;
-#[cfg(test)]
 mod calls;
 #[cfg(test)]
 mod ends;
@@ -13,8 +11,12 @@ mod examples;
 #[cfg(test)]
 mod expect;
 #[cfg(test)]
+mod runs;
+#[cfg(test)]
 mod shortages;
 #[cfg(test)]
 mod texts;
+#[cfg(test)]
+mod whole;
 #[cfg(test)]
 mod words;

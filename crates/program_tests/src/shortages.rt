@@ -1,120 +1,157 @@
 //! Commands for which memory runs out.
-ghost use Rattle.std.specs.Prelude.{◌≤◌};
 
-use crate::examples::{LUNCH, LUNCH_GRANTS, LUNCH_LINES};
-use crate::expect::holds;
+use crate::expect::{holds, same, tells};
+use crate::texts::{LUNCH, LUNCH_GRANTS, LUNCH_LINES};
 use linked_list_allocator::LocalHeap;
+use scarce_memory::leave_hole;
 use share_text::{Sheet, read_sheet};
-use sheet_commands::{ProgramFault, run_check, run_share, sharing_of, verdict_of};
-use std::alloc::{Allocator, Global};
+use sheet_commands::{
+    ProgramFault, Share, lines_of, read_whole, run_check, run_share, sharing_of, verdict_of,
+};
 use std::process::Abort;
-use std::test::Fail;
+
+// Room for the buffer of a read, and some more.
+const HEAP: usize = 131_072;
+
+const MET: Share = Share {
+    path: "/cy/1",
+    grant: 10,
+    want: 10,
+    full: None,
+};
+
+const UNMET: Share = Share {
+    path: "/ann/1",
+    grant: 15,
+    want: 50,
+    full: Some("/ann"),
+};
+
+/// What is asked for while memory is short.
+#[derive(Clone, Copy)]
+enum Asked {
+    NoLines,
+    Lines,
+    Sharing,
+    Verdict,
+    Text,
+}
+
+/// What is asked for, its text, the least room that is tried, and how many rooms are too small at least.
+type Row = (Asked, &'static str, usize, usize);
+
+/// A text is refused its buffer, then itself.
+static ROWS: [Row; 5] = [
+    (Asked::NoLines, "total 0\n", 0, 1),
+    (
+        Asked::Lines,
+        "/cy/1 10 of 10\n/ann/1 15 of 50 full /ann\ntotal 25\n",
+        0,
+        1,
+    ),
+    (Asked::Sharing, LUNCH_LINES, 0, 9),
+    (Asked::Verdict, "yes\n", 0, 5),
+    (Asked::Text, LUNCH, 65_280, 1),
+];
+
+/// What is asked for has this text.
+fn answer<'h>(
+    rt: &impl Abort,
+    heap: &'h LocalHeap,
+    sheet: &Sheet<'_, &'h LocalHeap>,
+    asked: Asked,
+    text: &str,
+) -> Result<(), ProgramFault> {
+    match asked {
+        Asked::NoLines => same(rt, lines_of(heap, &[])?.as_str().as_bytes(), text),
+        Asked::Lines => same(rt, lines_of(heap, &[MET, UNMET])?.as_str().as_bytes(), text),
+        Asked::Sharing => same(
+            rt,
+            sharing_of(heap, LUNCH.as_bytes())?.as_str().as_bytes(),
+            text,
+        ),
+        Asked::Verdict => same(
+            rt,
+            verdict_of(heap, sheet, LUNCH_GRANTS.as_bytes())?
+                .line
+                .as_str()
+                .as_bytes(),
+            text,
+        ),
+        Asked::Text => same(rt, &read_whole(heap, &mut LUNCH.as_bytes())?, text),
+    }
+    Ok(())
+}
+
+/// Whether one hole of some octets is too small; there is memory once the rest is given back.
+fn is_refused<'h>(
+    rt: &(impl Abort + AllocGlobal),
+    heap: &'h LocalHeap,
+    sheet: &Sheet<'_, &'h LocalHeap>,
+    row: &Row,
+    room: usize,
+) -> bool {
+    let (asked, text, _, _) = *row;
+    let rest = leave_hole(rt, heap, room).expect(rt, "a hole");
+    let first = answer(rt, heap, sheet, asked, text);
+    drop(rest);
+    holds(rt, answer(rt, heap, sheet, asked, text).is_ok());
+    holds(rt, matches!(first, Ok(()) | Err(ProgramFault::Memory)));
+    first.is_err()
+}
+
+/// How many rooms are too small before one is enough. They rise by less than the least growth, so that each growth is the first
+/// that is refused.
+fn count_refused<'h>(
+    rt: &(impl Abort + AllocGlobal),
+    heap: &'h LocalHeap,
+    sheet: &Sheet<'_, &'h LocalHeap>,
+    row: &Row,
+) -> usize {
+    for step in 0..512usize {
+        if !is_refused(rt, heap, sheet, row, row.2.saturating_add(16 * step)) {
+            return step;
+        }
+    }
+    panic!(rt; "never enough memory")
+}
+
+#[test]
+fn answers(rt: HostRuntime) {
+    let heap = LocalHeap::new(rt.alloc(), HEAP).expect(&rt, "a heap");
+    let sheet = read_sheet(&heap, LUNCH.as_bytes()).expect(&rt, "a sheet");
+    for row in &ROWS {
+        holds(&rt, row.3 <= count_refused(&rt, &heap, &sheet, row));
+    }
+}
 
 // What the output holds before the program runs.
-const BEFORE: &[u8] = b"before\n";
+const BEFORE: &str = "before\n";
 
-const HEAP: usize = 8192;
-
-// Whether there is memory to share the lunch in so small a room; where there is none, there is once it is given back.
-fn shares_in(rt: &impl Abort, alloc: Global, room: usize) -> Result<bool, Fail>
-    requires { room ≤ 8192 }
-{
-    let heap = LocalHeap::new(alloc, HEAP)?;
-    let hog = Vec::<u8, &LocalHeap>::with_capacity(&heap, HEAP - room)?;
-    let first = match sharing_of(&heap, LUNCH) {
-        Ok(lines) => lines.as_str().as_bytes() == LUNCH_LINES,
-        Err(fault) => {
-            holds(rt, fault == ProgramFault::Memory);
-            false
-        }
-    };
-    drop(hog);
-    let lines = sharing_of(&heap, LUNCH)?;
-    holds(rt, lines.as_str().as_bytes() == LUNCH_LINES);
-    Ok(first)
+/// The buffer of a read is refused.
+fn are_not_read(rt: &impl Abort, heap: &LocalHeap, output: &mut Vec<u8>) {
+    let shared = run_share(heap, &mut LUNCH.as_bytes(), output);
+    holds(rt, shared == Err(ProgramFault::Memory));
+    let (mut sheet, mut grants) = (LUNCH.as_bytes(), LUNCH_GRANTS.as_bytes());
+    let judged = run_check(heap, &mut sheet, &mut grants, output);
+    holds(rt, judged == Err(ProgramFault::Memory));
 }
 
-// Whether there is memory for a verdict; where there is, it is right.
-fn is_judged<A: Allocator + Clone>(rt: &impl Abort, alloc: A, sheet: &Sheet<'_, A>) -> bool {
-    match verdict_of(alloc, sheet, LUNCH_GRANTS) {
-        Ok(checked) => {
-            holds(rt, checked.line.as_str() == "yes\n");
-            true
-        }
-        Err(fault) => {
-            holds(rt, fault == ProgramFault::Memory);
-            false
-        }
-    }
+/// A list that cannot grow refuses the lines, and stays as it is.
+fn are_not_written(rt: &(impl Abort + AllocGlobal), heap: &LocalHeap) {
+    let mut output = Vec::new(heap);
+    let shared = run_share(rt.alloc(), &mut LUNCH.as_bytes(), &mut output);
+    holds(rt, shared == Err(ProgramFault::WriteFault));
+    holds(rt, output.is_empty());
 }
 
-// Room rises by less than the least growth, so that each growth is the first that is refused.
+/// Where memory runs out, nothing is written.
 #[test]
-fn verdicts_without_memory(rt: HostRuntime) -> Result<(), Fail> {
-    let heap = LocalHeap::new(rt.alloc(), HEAP)?;
-    let sheet = read_sheet(&heap, LUNCH)?;
-    let mut hogs = Vec::new(rt.alloc());
-    for _ in 0..512 {
-        if let Ok(hog) = Vec::<u8, &LocalHeap>::with_capacity(&heap, 16) {
-            hogs.push(hog)?;
-        }
-    }
-    let mut refusals = 0u32;
-    for _ in 0..64 {
-        if !is_judged(&rt, &heap, &sheet) {
-            refusals = refusals.saturating_add(1);
-        }
-        let hog = hogs.pop();
-        drop(hog);
-    }
-    holds(&rt, refusals > 4);
-    drop(hogs);
-    holds(&rt, is_judged(&rt, &heap, &sheet));
-    Ok(())
-}
-
-// Room rises by less than the least growth, so that each growth is the first that is refused.
-#[test]
-fn lines_without_memory(rt: HostRuntime) -> Result<(), Fail> {
-    let mut refusals = 0u32;
-    let mut last = false;
-    for step in 0..512usize {
-        last = shares_in(&rt, rt.alloc(), 16 * step)?;
-        if !last {
-            refusals = refusals.saturating_add(1);
-        }
-    }
-    assert!(rt; refusals > 8 && last, "{refusals}");
-    Ok(())
-}
-
-// Where the buffer of a read is refused, nothing is written.
-#[test]
-fn runs_without_memory(rt: HostRuntime) -> Result<(), Fail> {
-    let heap = LocalHeap::new(rt.alloc(), HEAP)?;
-    let mut out = Vec::from_slice(rt.alloc(), BEFORE)?;
-    let mut sheet = LUNCH;
-    holds(
-        &rt,
-        run_share(&heap, &mut sheet, &mut out) == Err(ProgramFault::Memory),
-    );
-    let mut sheet = LUNCH;
-    let mut grants = LUNCH_GRANTS;
-    let answer = run_check(&heap, &mut sheet, &mut grants, &mut out);
-    holds(&rt, answer == Err(ProgramFault::Memory));
-    holds(&rt, out.as_slice() == BEFORE);
-    Ok(())
-}
-
-// A list that cannot grow refuses the lines, and stays as it is.
-#[test]
-fn outputs_without_memory(rt: HostRuntime) -> Result<(), Fail> {
-    let heap = LocalHeap::new(rt.alloc(), 32)?;
-    let (mut sheet, mut out) = (LUNCH, Vec::new(&heap));
-    holds(
-        &rt,
-        run_share(rt.alloc(), &mut sheet, &mut out) == Err(ProgramFault::WriteFault),
-    );
-    holds(&rt, out.is_empty());
-    Ok(())
+fn runs(rt: HostRuntime) {
+    let heap = LocalHeap::new(rt.alloc(), 32).expect(&rt, "a heap");
+    let mut output = Vec::from_slice(rt.alloc(), BEFORE.as_bytes()).expect(&rt, "memory");
+    are_not_read(&rt, &heap, &mut output);
+    same(&rt, &output, BEFORE);
+    are_not_written(&rt, &heap);
+    tells(&rt, &ProgramFault::Memory, "Memory");
 }

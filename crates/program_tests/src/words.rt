@@ -1,42 +1,34 @@
 //! What the words of command lines are read as.
 
 use crate::expect::holds;
-use command_line::{SheetWords, Words, WordsFault, read_sheet_words, read_words};
-use std::alloc::Global;
+use command_line::{SheetWords, Words, read_sheet_words, read_words};
 use std::process::Abort;
 
 #[test]
-fn words_on_a_configuration(rt: HostRuntime) -> Result<(), WordsFault> {
+fn words_on_a_configuration(rt: HostRuntime) {
     let config = "office.toml";
-    let migrate = Words::Migrate { config };
-    let script = Words::Script { config };
-    holds(
-        &rt,
-        read_words(rt.alloc(), &["migrate", config])? == migrate,
-    );
-    holds(&rt, read_words(rt.alloc(), &["script", config])? == script);
-    Ok(())
+    let words = ["migrate", config];
+    let command = read_words(rt.alloc(), &words).expect(&rt, "a command");
+    holds(&rt, command == Words::Migrate { config });
+    let words = ["script", config];
+    let command = read_words(rt.alloc(), &words).expect(&rt, "a command");
+    holds(&rt, command == Words::Script { config });
 }
 
 /// Both programs take the words as that command.
-fn are_of_both(
-    rt: &impl Abort,
-    alloc: Global,
-    words: &[&str],
-    command: SheetWords<'_>,
-) -> Result<(), WordsFault> {
-    holds(rt, read_words(alloc, words)? == Words::Sheet(command));
-    holds(rt, read_sheet_words(alloc, words)? == command);
-    Ok(())
+fn are_of_both(rt: &(impl Abort + AllocGlobal), words: &[&str], wanted: SheetWords<'_>) {
+    let command = read_words(rt.alloc(), words).expect(rt, "a command of ftpd");
+    holds(rt, command == Words::Sheet(wanted));
+    let command = read_sheet_words(rt.alloc(), words).expect(rt, "a command of sheets");
+    holds(rt, command == wanted);
 }
 
 #[test]
-fn words_on_a_sheet(rt: HostRuntime) -> Result<(), WordsFault> {
+fn words_on_a_sheet(rt: HostRuntime) {
     for sheet in ["a", "lunch.sheet", "/dev/stdin", "a b"] {
-        let command = SheetWords::Share { sheet };
-        are_of_both(&rt, rt.alloc(), &["share", sheet], command)?;
+        are_of_both(&rt, &["share", sheet], SheetWords::Share { sheet });
     }
     let (sheet, grants) = ("office.sheet", "office.grants");
-    let command = SheetWords::Check { sheet, grants };
-    are_of_both(&rt, rt.alloc(), &["check", sheet, grants], command)
+    let words = ["check", sheet, grants];
+    are_of_both(&rt, &words, SheetWords::Check { sheet, grants });
 }

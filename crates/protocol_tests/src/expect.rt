@@ -2,8 +2,9 @@
 
 ghost use Rattle.std.specs.Prelude.{IsTrue};
 
+use ftp_reply::Reply;
 use ftp_terms::LineText;
-use std::alloc::AllocError;
+use std::alloc::{AllocError, Allocator};
 use std::fmt::Debug;
 use std::process::Abort;
 
@@ -19,6 +20,11 @@ pub(crate) fn same<T: PartialEq + Debug>(rt: &impl Abort, found: &T, wanted: &T)
     assert_eq!(rt; found, wanted);
 }
 
+/// The octets are these.
+pub(crate) fn same_octets(rt: &impl Abort, found: &[u8], wanted: &[u8]) {
+    assert_eq!(rt; found, wanted);
+}
+
 /// Stops the test where what a line tells, with its end, is not the item that is wanted.
 pub(crate) fn same_line(rt: &impl Abort, found: &[u8], wanted: &str, line: &str) {
     let found = std::str::from_utf8(found).expect(rt, "UTF-8");
@@ -26,7 +32,18 @@ pub(crate) fn same_line(rt: &impl Abort, found: &[u8], wanted: &str, line: &str)
 }
 
 /// A call has given this text.
-pub(crate) fn gives(rt: &impl Abort, text: Result<LineText, AllocError>, wanted: &str) {
+pub(crate) fn gives<A: Allocator>(
+    rt: &impl Abort,
+    text: Result<LineText<A>, AllocError>,
+    wanted: &str,
+) {
     let text = text.expect(rt, "memory");
     assert_eq!(rt; text.as_str(), wanted);
+}
+
+/// The reply is written as these octets, behind what a buffer holds.
+pub(crate) fn says(rt: &(impl Abort + AllocGlobal), reply: Reply, wanted: &[u8]) {
+    let mut octets = Vec::from_slice(rt.alloc(), b"before ").expect(rt, "memory");
+    reply.write_to(&mut octets).expect(rt, "memory");
+    assert_eq!(rt; octets.as_slice().strip_prefix(b"before "), Some(wanted));
 }

@@ -8,15 +8,17 @@ mod bounds;
 #[cfg(test)]
 mod codes;
 #[cfg(test)]
-mod expect;
+mod examples;
 #[cfg(test)]
-mod listings;
+mod expect;
 #[cfg(test)]
 mod refused;
 #[cfg(test)]
 mod replies;
 #[cfg(test)]
 mod sessions;
+#[cfg(test)]
+mod texts;
 #[cfg(test)]
 mod told;
 #[cfg(test)]

@@ -1,11 +1,10 @@
 //! Each call that gives a text, writes a reply or a command, or reads, with each of its growths refused in turn.
 
-use crate::expect::{holds, same};
-use ftp_reply::{Reply, ReplyCode, list_line, mdtm_line, mlst_entry, quoted_path};
-use ftp_terms::{Facts, Kind, Letters, LineText, Meta};
-use ftp_wire::{
-    Command, HostPort, LineReader, facts_text, port_text, starred_facts_text, write_command,
-};
+use crate::expect::{gives, holds, same};
+use crate::replies::{FEATURES, features};
+use crate::texts::{TEXTS, Text, given};
+use ftp_reply::Reply;
+use ftp_wire::{Command, LineReader, write_command};
 use linked_list_allocator::LocalHeap;
 use std::alloc::Global;
 use std::process::Abort;
@@ -15,42 +14,12 @@ const ROOM: usize = 16384;
 /// The calls that are refused.
 #[derive(Clone, Copy)]
 enum Call<'a> {
-    Text(Text),
+    /// With what is given.
+    Give(Text, &'static str),
     WriteReply(&'a Reply),
     WriteCommand(&'a Command<String>),
     Feed,
 }
-
-/// The calls that give a text of one line.
-#[derive(Clone, Copy)]
-enum Text {
-    ListLine,
-    MlstEntry,
-    QuotedPath,
-    MdtmLine,
-    WithNumber,
-    Joined,
-    PortText,
-    FactsText,
-    StarredFacts,
-}
-
-static TEXTS: [Text; 9] = [
-    Text::ListLine,
-    Text::MlstEntry,
-    Text::QuotedPath,
-    Text::MdtmLine,
-    Text::WithNumber,
-    Text::Joined,
-    Text::PortText,
-    Text::FactsText,
-    Text::StarredFacts,
-];
-
-const HOST: HostPort = HostPort {
-    address: [255, 255, 255, 255],
-    port: 65535,
-};
 
 /// All memory that a heap has left, but for so much.
 fn all_but<'h>(rt: &impl Abort, heap: &'h LocalHeap, room: usize) -> Vec<u8, &'h LocalHeap> {
@@ -58,29 +27,12 @@ fn all_but<'h>(rt: &impl Abort, heap: &'h LocalHeap, room: usize) -> Vec<u8, &'h
     Vec::with_capacity(heap, size).expect(rt, "one piece of memory")
 }
 
-/// Whether the call gives its text in the memory that is left.
-fn is_given(text: Text, heap: &LocalHeap) -> bool {
-    let meta = Meta::new(Kind::File, u64::MAX, 951_827_696);
-    let text = match text {
-        Text::ListLine => list_line(heap, &meta, "a.txt"),
-        Text::MlstEntry => mlst_entry(heap, &meta, Facts::ALL, Letters::ALL, "/a.txt"),
-        Text::QuotedPath => quoted_path(heap, "/a \"long\" name of a folder"),
-        Text::MdtmLine => mdtm_line(heap, 951_827_696),
-        Text::WithNumber => LineText::with_number(heap, "Restarting at ", u64::MAX, ", now"),
-        Text::Joined => LineText::joined(heap, "Entering Passive Mode (", "1,2,3,4,5,6", ")"),
-        Text::PortText => port_text(heap, &HOST),
-        Text::FactsText => facts_text(heap, Facts::ALL),
-        Text::StarredFacts => starred_facts_text(heap, Facts::ALL),
-    };
-    text.is_ok()
-}
-
 /// Whether the call gives its text in so little memory. With more it does.
-fn text_outcome(rt: &impl Abort, heap: &LocalHeap, room: usize, text: Text) -> bool {
+fn text_outcome(rt: &impl Abort, heap: &LocalHeap, room: usize, text: Text, wanted: &str) -> bool {
     let rest = all_but(rt, heap, room);
-    let first = is_given(text, heap);
+    let first = given(rt, heap, text).is_ok();
     drop(rest);
-    holds(rt, is_given(text, heap));
+    gives(rt, given(rt, heap, text), wanted);
     first
 }
 
@@ -94,8 +46,6 @@ fn line_outcome(rt: &impl Abort, heap: &LocalHeap, room: usize, command: &Comman
     first
 }
 
-const OCTETS: &[u8] = b"230-Welcome\r\n to\r\n230 you\r\n";
-
 /// Whether a reply is written behind what a buffer holds, which after a refusal holds what it held. With more memory
 /// it is written.
 fn reply_outcome(rt: &impl Abort, heap: &LocalHeap, room: usize, reply: &Reply) -> bool {
@@ -106,7 +56,7 @@ fn reply_outcome(rt: &impl Abort, heap: &LocalHeap, room: usize, reply: &Reply) 
     drop(rest);
     buffer.clear();
     holds(rt, reply.write_to(&mut buffer).is_ok());
-    same(rt, &buffer.as_slice(), &OCTETS);
+    same(rt, &buffer.as_slice(), &FEATURES);
     first
 }
 
@@ -137,15 +87,15 @@ fn feed_outcome(rt: &impl Abort, heap: &LocalHeap, room: usize) -> bool {
 fn outcome(rt: &impl Abort, alloc: Global, call: Call, room: usize) -> bool {
     let heap = LocalHeap::new(alloc, ROOM).expect(rt, "memory");
     match call {
-        Call::Text(text) => text_outcome(rt, &heap, room, text),
+        Call::Give(text, wanted) => text_outcome(rt, &heap, room, text, wanted),
         Call::WriteReply(reply) => reply_outcome(rt, &heap, room, reply),
         Call::WriteCommand(command) => line_outcome(rt, &heap, room, command),
         Call::Feed => feed_outcome(rt, &heap, room),
     }
 }
 
-/// With rising room the call is refused at first, and succeeds at last.
-fn check_call(rt: &impl Abort, alloc: Global, call: Call) {
+/// With rising room the call succeeds at last. Where it takes memory, it is refused at first.
+fn check_call(rt: &impl Abort, alloc: Global, call: Call, takes_memory: bool) {
     let mut refused = false;
     let mut answered = false;
     for step in 0..256usize {
@@ -155,23 +105,31 @@ fn check_call(rt: &impl Abort, alloc: Global, call: Call) {
             refused = true;
         }
     }
-    holds(rt, refused && answered);
-}
-
-fn welcome(rt: &impl Abort, alloc: Global) -> Reply {
-    let mut inner = Vec::new(alloc);
-    inner.push(LineText::fixed(" to")).expect(rt, "memory");
-    let last = LineText::fixed("you");
-    Reply::several_lines(ReplyCode::new(230), LineText::fixed("Welcome"), inner, last)
+    holds(rt, answered && refused == takes_memory);
 }
 
 #[test]
-fn calls_refused(rt: HostRuntime) {
-    for text in &TEXTS {
-        check_call(&rt, rt.alloc(), Call::Text(*text));
+fn texts(rt: HostRuntime) {
+    for (text, wanted) in TEXTS {
+        let takes_memory = !wanted.is_empty();
+        check_call(&rt, rt.alloc(), Call::Give(*text, wanted), takes_memory);
     }
-    check_call(&rt, rt.alloc(), Call::WriteReply(&welcome(&rt, rt.alloc())));
-    let name = "x".repeat(rt.alloc(), 1000).expect(&rt, "memory");
-    check_call(&rt, rt.alloc(), Call::WriteCommand(&Command::Retr(name)));
-    check_call(&rt, rt.alloc(), Call::Feed);
+}
+
+fn check_reply(rt: &impl Abort, alloc: Global) {
+    let reply = features(rt, alloc);
+    check_call(rt, alloc, Call::WriteReply(&reply), true);
+}
+
+fn check_command(rt: &impl Abort, alloc: Global) {
+    let name = "x".repeat(alloc, 1000).expect(rt, "memory");
+    let command = Command::Retr(name);
+    check_call(rt, alloc, Call::WriteCommand(&command), true);
+}
+
+#[test]
+fn replies_and_lines(rt: HostRuntime) {
+    check_reply(&rt, rt.alloc());
+    check_command(&rt, rt.alloc());
+    check_call(&rt, rt.alloc(), Call::Feed, true);
 }

@@ -42,22 +42,20 @@ static SESSION: [(&[u8], &str); 32] = [
     (b"NOO\xff\xfa\xff", ""),
 ];
 
-/// The octets of the session, and what they stand for.
-fn session(rt: &impl Abort, alloc: Global) -> (Vec<u8>, Vec<u8>) {
+/// The octets of the session, or what they stand for.
+fn session(rt: &impl Abort, alloc: Global, is_told: bool) -> Vec<u8> {
     let mut octets = Vec::new(alloc);
-    let mut items = Vec::new(alloc);
     for (line, item) in &SESSION {
-        octets.extend_from_slice(line).expect(rt, "memory");
-        items
-            .extend_from_slice(item.as_bytes())
-            .expect(rt, "memory");
+        let part = if is_told { item.as_bytes() } else { *line };
+        octets.extend_from_slice(part).expect(rt, "memory");
     }
-    (octets, items)
+    octets
 }
 
 #[test]
 fn session_however_cut(rt: HostRuntime) {
-    let (octets, items) = session(&rt, rt.alloc());
+    let octets = session(&rt, rt.alloc(), false);
+    let items = session(&rt, rt.alloc(), true);
     for at in 0..octets.len() {
         let (first, second) = octets.as_slice().split_at(at);
         same(&rt, &told(&rt, rt.alloc(), &[first, second]), &items);
@@ -66,7 +64,8 @@ fn session_however_cut(rt: HostRuntime) {
 
 #[test]
 fn session_by_octets(rt: HostRuntime) {
-    let (octets, items) = session(&rt, rt.alloc());
+    let octets = session(&rt, rt.alloc(), false);
+    let items = session(&rt, rt.alloc(), true);
     let mut reader = LineReader::new(rt.alloc());
     let mut told = Vec::new(rt.alloc());
     for octet in &octets {

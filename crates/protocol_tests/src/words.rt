@@ -1,7 +1,7 @@
 //! The shared words.
 
-use crate::expect::{gives, holds, same};
-use ftp_terms::{DataType, Facts, Letter, Letters, LineText, is_line_text, texts_of_one_line};
+use crate::expect::{holds, same};
+use ftp_terms::{DataType, Facts, Letter, Letters, is_line_text, texts_of_one_line};
 use std::process::Abort;
 
 static NAMED: [(&str, Letter); 8] = [
@@ -23,7 +23,7 @@ fn check_letter(rt: &impl Abort, text: &str, letter: Letter) {
     }
 }
 
-static TEXTS: [(&str, Option<Letters>); 5] = [
+static LETTERS: [(&str, Option<Letters>); 5] = [
     ("", Some(Letters::NONE)),
     ("elradfmw", Some(Letters::ALL)),
     ("wwmfdarle", Some(Letters::ALL)),
@@ -31,17 +31,18 @@ static TEXTS: [(&str, Option<Letters>); 5] = [
     ("E", None),
 ];
 
+static LINES: [(&str, bool); 4] = [("", true), ("a b", true), ("a\r", false), ("\na", false)];
+
 #[test]
-fn letters_are_read(rt: HostRuntime) {
+fn words(rt: HostRuntime) {
     for (text, letter) in &NAMED {
         check_letter(&rt, text, *letter);
     }
-}
-
-#[test]
-fn words_are_whole(rt: HostRuntime) {
-    for (text, letters) in &TEXTS {
+    for (text, letters) in &LETTERS {
         same(&rt, &Letters::read(text), letters);
+    }
+    for (text, answer) in &LINES {
+        same(&rt, &is_line_text(text), answer);
     }
     let Facts {
         kind,
@@ -52,25 +53,5 @@ fn words_are_whole(rt: HostRuntime) {
     holds(&rt, kind && size && modify && perm);
     holds(&rt, Facts::NONE != Facts::ALL);
     holds(&rt, DataType::Ascii != DataType::Image);
-}
-
-static LINES: [(&str, bool); 4] = [("", true), ("a b", true), ("a\r", false), ("\na", false)];
-
-#[test]
-fn texts_are_of_one_line(rt: HostRuntime) {
-    for (text, answer) in &LINES {
-        same(&rt, &is_line_text(text), answer);
-    }
-    let made = String::from_str(rt.alloc(), "made").expect(&rt, "memory");
-    holds(&rt, is_line_text(made.as_str()));
-    gives(&rt, Ok(LineText::made(made)), "made");
-    let text = LineText::with_number(rt.alloc(), "Restarting at ", u64::MAX, ".");
-    gives(&rt, text, "Restarting at 18446744073709551615.");
-    gives(&rt, LineText::with_number(rt.alloc(), "", 0, ""), "0");
-    gives(
-        &rt,
-        LineText::joined(rt.alloc(), "a", "", "\u{e9}b"),
-        "a\u{e9}b",
-    );
     texts_of_one_line();
 }

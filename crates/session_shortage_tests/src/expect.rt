@@ -3,11 +3,11 @@
 use std::process::Abort;
 
 /// Stops the test where this does not hold.
-pub(crate) fn holds(rt: &impl Abort, fact: bool) {
-    assert!(rt; fact);
+pub(crate) fn holds(rt: &impl Abort, fact: bool, why: &str) {
+    assert!(rt; fact, "{why}");
 }
 
 /// The octets are these.
-pub(crate) fn same(rt: &impl Abort, found: &[u8], wanted: &[u8]) {
-    assert_eq!(rt; found, wanted);
+pub(crate) fn same(rt: &impl Abort, found: &[u8], wanted: &str) {
+    assert_eq!(rt; found, wanted.as_bytes());
 }

@@ -1,13 +1,22 @@
-//! Tests of the session machine where memory is refused: each growth of each step in turn.
+//! Tests of sessions where memory is refused: each growth of each step of the machine, and of each line of whole control sessions,
+//! in turn.
 #![tactic(auto)]
 
 #[cfg(test)]
 mod expect;
 #[cfg(test)]
+mod reader;
+#[cfg(test)]
 mod room;
 #[cfg(test)]
 mod rows;
 #[cfg(test)]
+mod server;
+#[cfg(test)]
 mod shortages;
+#[cfg(test)]
+mod steps;
+#[cfg(test)]
+mod talks;
 #[cfg(test)]
 mod told;

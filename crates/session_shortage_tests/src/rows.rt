@@ -1,7 +1,11 @@
-//! What is said, line by line, where there is memory.
+//! What is said, line by line, where there is memory; and to control sessions where the store had none.
+
+/// A line, or a word that stands for an input, and what is done.
+pub(crate) type Row<'a> = (&'a str, &'a str);
 
 /// The root, quotes in a name, and a name that stands already.
-pub(crate) static PATHS: [(&str, &str); 6] = [
+pub(crate) static PATHS: [Row<'static>; 7] = [
+    ("begin", "220 Ready\r\n[connected]"),
     ("USER ann\n", "331 Password required\r\n"),
     ("PASS secret\n", "230 Welcome\r\n[login]"),
     ("CWD ../../..\n", "250 Directory changed\r\n"),
@@ -11,7 +15,8 @@ pub(crate) static PATHS: [(&str, &str); 6] = [
 ];
 
 /// A file that may not be stored, and one that may.
-pub(crate) static UPLOADS: [(&str, &str); 9] = [
+pub(crate) static UPLOADS: [Row<'static>; 10] = [
+    ("begin", "220 Ready\r\n[connected]"),
     ("USER bob\n", "331 Password required\r\n"),
     ("PASS b\n", "230 Welcome\r\n[login]"),
     ("STOR f\n", "550 Not permitted\r\n"),
@@ -27,7 +32,8 @@ pub(crate) static UPLOADS: [(&str, &str); 9] = [
 ];
 
 /// A download that is aborted.
-pub(crate) static ABORTED: [(&str, &str); 10] = [
+pub(crate) static ABORTED: [Row<'static>; 11] = [
+    ("begin", "220 Ready\r\n[connected]"),
     ("USER ann\n", "331 Password required\r\n"),
     ("PASS secret\n", "230 Welcome\r\n[login]"),
     ("PORT 127,0,0,1,20,0\n", "200 OK\r\n[connect]"),
@@ -44,7 +50,8 @@ pub(crate) static ABORTED: [(&str, &str); 10] = [
 ];
 
 /// A line too many.
-pub(crate) static HELD: [(&str, &str); 23] = [
+pub(crate) static HELD: [Row<'static>; 24] = [
+    ("begin", "220 Ready\r\n[connected]"),
     ("USER ann\n", "331 Password required\r\n"),
     ("PASS secret\n", "230 Welcome\r\n[login]"),
     ("PORT 127,0,0,1,20,0\n", "200 OK\r\n[connect]"),
@@ -68,4 +75,58 @@ pub(crate) static HELD: [(&str, &str); 23] = [
     ("PWD\n", "421 Too many held lines\r\n[abort][close]"),
     ("done", "[sent]"),
     ("closed", "[logout][release][disconnected]"),
+];
+
+/// A line of a control session and its reply, and what the lines after it are told where the store had no memory for it.
+pub(crate) type Reply<'a> = (&'a str, &'a str, &'a str);
+
+/// Of a line for which the store is not asked.
+const NEVER: &str = "";
+
+/// The same paths in a control session, behind its greeting.
+pub(crate) static TALK: [Reply<'static>; 7] = [
+    ("", "220 Ready\r\n", NEVER),
+    ("USER ann\r\n", "331 Password required\r\n", NEVER),
+    ("PASS secret\r\n", "230 Welcome\r\n", NEVER),
+    (
+        "CWD ../../..\r\n",
+        "250 Directory changed\r\n",
+        "257 \"/\"\r\n257 \"/a\"\"b\"\r\n550 Already exists\r\n",
+    ),
+    ("PWD\r\n", "257 \"/\"\r\n", NEVER),
+    ("MKD a\"b\r\n", "257 \"/a\"\"b\"\r\n", "257 \"/a\"\"b\"\r\n"),
+    ("MKD a\"b\r\n", "550 Already exists\r\n", ""),
+];
+
+/// The same where the name stands from the first.
+pub(crate) const PATHS_AGAIN: &str =
+    "220 Ready\r\n331 Password required\r\n230 Welcome\r\n250 Directory changed\r\n257 \"/\"\r\n550 Already exists\r\n550 Already exists\r\n";
+
+/// A passive port, an upload, a listing and a download.
+pub(crate) static TRANSFERS: [Reply<'static>; 9] = [
+    ("", "220 Ready\r\n", NEVER),
+    ("USER bob\r\n", "331 Password required\r\n", NEVER),
+    ("PASS b\r\n", "230 Welcome\r\n", NEVER),
+    (
+        "PASV\r\n",
+        "227 Entering Passive Mode (127,0,0,1,156,64)\r\n",
+        NEVER,
+    ),
+    (
+        "STOR /in/g\r\n",
+        "150 Opening data connection\r\n226 Transfer complete\r\n",
+        "200 OK\r\n150 Opening data connection\r\n226 Transfer complete\r\n200 OK\r\n150 Opening data connection\r\n226 Transfer complete\r\n",
+    ),
+    ("PORT 127,0,0,1,20,0\r\n", "200 OK\r\n", NEVER),
+    (
+        "LIST\r\n",
+        "150 Opening data connection\r\n226 Transfer complete\r\n",
+        "200 OK\r\n150 Opening data connection\r\n226 Transfer complete\r\n",
+    ),
+    ("PORT 127,0,0,1,20,0\r\n", "200 OK\r\n", NEVER),
+    (
+        "RETR f\r\n",
+        "150 Opening data connection\r\n226 Transfer complete\r\n",
+        "",
+    ),
 ];

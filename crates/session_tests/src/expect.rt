@@ -3,8 +3,8 @@
 use std::process::Abort;
 
 /// Stops the test where this does not hold.
-pub(crate) fn holds(rt: &impl Abort, fact: bool, why: &str) {
-    assert!(rt; fact, "{why}");
+pub(crate) fn holds(rt: &impl Abort, fact: bool) {
+    assert!(rt; fact);
 }
 
 /// The octets are these.

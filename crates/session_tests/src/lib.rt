@@ -1,16 +1,17 @@
-//! Tests of the session table: the octets of each fixed reply, and random inputs, given to a session over a store in memory and
-//! to a second reading of the table.
+//! Tests of sessions: what the head of each crate's `lib.rt` shows of its use, the octets of each fixed reply, and the laws of
+//! the table at a concrete type. `tools/examples` sees that the examples have the lines of those heads; what sessions do, line
+//! by line, stands in `runs/`.
 #![tactic(auto)]
 
 #[cfg(test)]
-mod dice;
-#[cfg(test)]
 mod expect;
 #[cfg(test)]
-mod played;
+mod laws;
 #[cfg(test)]
 mod replies;
 #[cfg(test)]
 mod room;
 #[cfg(test)]
-mod told;
+mod rows;
+#[cfg(test)]
+mod sessions;

@@ -1,15 +1,15 @@
-//! The octets of each fixed reply, worked by hand from the table.
+//! The octets of each fixed reply, worked by hand from the table; and the example that bears the name of the table's crate.
 
 use crate::expect::same;
+use ftp_reply::Reply;
 use ftp_terms::DataType;
 use ftp_wire::LineFault;
-use session_table::{Answer, Notice, Refusal};
-use std::alloc::Global;
+use session_table::{Answer, Notice, Octets, Refusal};
 use std::process::Abort;
 use virtual_path::PathFault;
 use virtual_tree::StoreFault;
 
-static NOTICES: [(Notice, &str); 10] = [
+static NOTICES: [(Notice, &str); 24] = [
     (Notice::Opening, "150 Opening data connection\r\n"),
     (Notice::Fine, "200 OK\r\n"),
     (Notice::Utf8IsOn, "200 UTF8 is on\r\n"),
@@ -20,9 +20,6 @@ static NOTICES: [(Notice, &str); 10] = [
     (Notice::StructureIsFile, "200 Structure is F\r\n"),
     (Notice::OnlyExtended, "200 EPSV ALL is in force\r\n"),
     (Notice::NoAllocation, "202 No storage allocation needed\r\n"),
-];
-
-static STATES: [(Notice, &str); 8] = [
     (Notice::TransferInProgress, "211 Transfer in progress\r\n"),
     (Notice::NoTransfer, "211 No transfer\r\n"),
     (
@@ -34,9 +31,6 @@ static STATES: [(Notice, &str); 8] = [
     (Notice::NothingToAbort, "225 No transfer\r\n"),
     (Notice::TransferComplete, "226 Transfer complete\r\n"),
     (Notice::AbortDone, "226 Abort done\r\n"),
-];
-
-static CHANGES: [(Notice, &str); 6] = [
     (Notice::DirectoryChanged, "250 Directory changed\r\n"),
     (Notice::DirectoryRemoved, "250 Directory removed\r\n"),
     (Notice::FileRemoved, "250 File removed\r\n"),
@@ -45,7 +39,7 @@ static CHANGES: [(Notice, &str); 6] = [
     (Notice::SendRnto, "350 Send RNTO\r\n"),
 ];
 
-static REFUSED_STORES: [(Refusal, &str); 12] = [
+static REFUSALS: [(Refusal, &str); 34] = [
     (
         Refusal::Store(StoreFault::NotFound),
         "550 No such file or directory\r\n",
@@ -73,9 +67,6 @@ static REFUSED_STORES: [(Refusal, &str); 12] = [
     ),
     (Refusal::Path(PathFault::BadName), "553 Bad name\r\n"),
     (Refusal::Path(PathFault::TooLong), "553 Name too long\r\n"),
-];
-
-static REFUSED_CONNECTIONS: [(Refusal, &str); 8] = [
     (Refusal::TooManyLogins, "421 Too many login attempts\r\n"),
     (Refusal::TooManyHeldLines, "421 Too many held lines\r\n"),
     (
@@ -90,9 +81,6 @@ static REFUSED_CONNECTIONS: [(Refusal, &str); 8] = [
     ),
     (Refusal::ConnectionLost, "426 Connection lost\r\n"),
     (Refusal::TransferAborted, "426 Transfer aborted\r\n"),
-];
-
-static REFUSED_COMMANDS: [(Refusal, &str); 9] = [
     (Refusal::OnlyExtended, "501 EPSV ALL is in force\r\n"),
     (Refusal::ForeignAddress, "501 Foreign address\r\n"),
     (Refusal::PrivilegedPort, "501 Privileged port\r\n"),
@@ -102,9 +90,6 @@ static REFUSED_COMMANDS: [(Refusal, &str); 9] = [
     (Refusal::OffsetBeforeAppend, "503 REST before APPE\r\n"),
     (Refusal::NoName, "503 Send USER first\r\n"),
     (Refusal::AlreadyInside, "503 Already logged in\r\n"),
-];
-
-static REFUSED_USERS: [(Refusal, &str); 5] = [
     (
         Refusal::OtherProtocol,
         "522 Network protocol not supported, use (1)\r\n",
@@ -115,36 +100,34 @@ static REFUSED_USERS: [(Refusal, &str); 5] = [
     (Refusal::SizeNeedsImage, "550 SIZE needs TYPE I\r\n"),
 ];
 
-fn tells(rt: &impl Abort, alloc: Global, answer: Answer<Global>, text: &str) {
-    let mut octets = Vec::new(alloc);
-    answer
-        .into_reply()
-        .write_to(&mut octets)
-        .expect(rt, "memory");
-    same(rt, octets.as_slice(), text.as_bytes());
+/// The reply is written as these octets.
+fn says(rt: &(impl Abort + AllocGlobal), reply: Reply, wanted: &[u8]) {
+    let mut octets = Vec::new(rt.alloc());
+    reply.write_to(&mut octets).expect(rt, "memory");
+    same(rt, &octets, wanted);
+}
+
+fn session_table(rt: &(impl Abort + AllocGlobal)) {
+    let answer: Answer = Answer::Refusal(Refusal::LogInFirst);
+    says(rt, answer.into_reply(), b"530 Log in first\r\n");
+}
+
+fn tells(rt: &(impl Abort + AllocGlobal), answer: Answer, text: &str) {
+    says(rt, answer.into_reply(), text.as_bytes());
 }
 
 #[test]
 fn notices(rt: HostRuntime) {
-    for rows in [&NOTICES[..], &STATES[..], &CHANGES[..]] {
-        for (notice, text) in rows {
-            tells(&rt, rt.alloc(), Answer::Notice(*notice), text);
-        }
+    for (notice, text) in &NOTICES {
+        tells(&rt, Answer::Notice(*notice), text);
     }
 }
 
 #[test]
 fn refusals(rt: HostRuntime) {
-    let tables: [&[(Refusal, &str)]; 4] = [
-        &REFUSED_STORES,
-        &REFUSED_CONNECTIONS,
-        &REFUSED_COMMANDS,
-        &REFUSED_USERS,
-    ];
-    for rows in tables {
-        for (refusal, text) in rows {
-            tells(&rt, rt.alloc(), Answer::Refusal(*refusal), text);
-        }
+    session_table(&rt);
+    for (refusal, text) in &REFUSALS {
+        tells(&rt, Answer::Refusal(*refusal), text);
     }
 }
 
@@ -157,6 +140,15 @@ static FAULTS: [(LineFault, &str); 3] = [
 #[test]
 fn line_faults(rt: HostRuntime) {
     for (fault, text) in &FAULTS {
-        tells(&rt, rt.alloc(), Answer::Fault(*fault), text);
+        tells(&rt, Answer::Fault(*fault), text);
     }
+}
+
+/// The octets of a listing are those of the list that it was made of.
+#[test]
+fn octets_of_a_listing(rt: HostRuntime) {
+    let list = Vec::from_slice(rt.alloc(), b"a\r\n").expect(&rt, "memory");
+    let octets: Octets = Octets::new(list);
+    same(&rt, octets.as_slice(), b"a\r\n");
+    same(&rt, &octets.into_list(), b"a\r\n");
 }

@@ -1,6 +1,7 @@
 //! The worked allotments, and those of random trees beside the plain rule's.
 use super::random_trees::{Numbers, Sizes, any_tree};
-use super::trees::{branch, leaf, three, tree, users};
+use super::trees::Shape::{Branch, Leaf};
+use super::trees::{FLOORED, Shape, THREE, USERS, tree};
 use crate::expect::holds;
 use grant_certificate::{Certificate, Verdict, check};
 use limit_tree::{MAX_WANT, Tree};
@@ -19,46 +20,69 @@ pub fn granted(rt: &(impl Abort + AllocGlobal), tree: &Tree) -> (Vec<u64>, Certi
     (grants, certificate, probes)
 }
 
-// The tree gets these grants; how many probes they took.
-fn expect_grants(rt: &(impl Abort + AllocGlobal), tree: &Tree, wanted: &[u64]) -> u64 {
+/// The tree gets these grants; how many probes they took.
+pub fn expect_grants(rt: &(impl Abort + AllocGlobal), tree: &Tree, wanted: &[u64]) -> u64 {
     let (grants, _certificate, probes) = granted(rt, tree);
     holds(rt, grants.as_slice() == wanted);
     probes
 }
 
-#[test]
-fn remainders_limits_and_floors(rt: HostRuntime) {
+/// A tree, its grants, and how many probes they take, where that was worked.
+type Row = (Shape, &'static [u64], Option<u64>);
+
+static ALLOTMENTS: [Row; 10] = [
     // Octets that are left over go to the first leaves, also past branches without a limit.
-    expect_grants(&rt, &three(&rt, 0), &[4, 3, 3]);
-    let inner = branch(&rt, Some(5), [leaf(9), leaf(9)]);
-    let nested = branch(&rt, Some(8), [inner, leaf(9)]);
-    expect_grants(&rt, &tree(&rt, nested), &[3, 2, 3]);
-    let inner = branch(&rt, None, [leaf(9), leaf(9)]);
-    let open = branch(&rt, Some(5), [inner, leaf(9)]);
-    expect_grants(&rt, &tree(&rt, open), &[2, 2, 1]);
+    (THREE, &[4, 3, 3], None),
+    (
+        Branch(
+            Some(8),
+            &[Branch(Some(5), &[Leaf(9, 0), Leaf(9, 0)]), Leaf(9, 0)],
+        ),
+        &[3, 2, 3],
+        None,
+    ),
+    (
+        Branch(
+            Some(5),
+            &[Branch(None, &[Leaf(9, 0), Leaf(9, 0)]), Leaf(9, 0)],
+        ),
+        &[2, 2, 1],
+        None,
+    ),
     // A user keeps its limit, and a floor comes first.
-    expect_grants(&rt, &users(&rt, 0), &[15, 15, 35, 10]);
-    expect_grants(&rt, &three(&rt, 6), &[6, 2, 2]);
+    (USERS, &[15, 15, 35, 10], None),
+    (FLOORED, &[6, 2, 2], None),
     // There is nobody who wants.
-    expect_grants(&rt, &tree(&rt, branch(&rt, Some(10), [])), &[]);
-}
+    (Branch(Some(10), &[]), &[], None),
+    // Large wants take few probes: one at the level from above, and one for each halving of the levels below it.
+    (
+        Branch(
+            Some(10_000_000_000),
+            &[Leaf(MAX_WANT, 0), Leaf(MAX_WANT, 0), Leaf(MAX_WANT, 0)],
+        ),
+        &[3_333_333_334, 3_333_333_333, 3_333_333_333],
+        Some(33),
+    ),
+    // So it is where there is nothing to share.
+    (Branch(Some(0), &[Leaf(5, 0)]), &[0], Some(32)),
+    // Where all fits there is one, and none where there is no limit.
+    (
+        Branch(
+            Some(100),
+            &[Branch(None, &[Leaf(9, 0), Leaf(9, 0)]), Leaf(7, 0)],
+        ),
+        &[9, 9, 7],
+        Some(1),
+    ),
+    (Branch(None, &[Leaf(9, 0)]), &[9], Some(0)),
+];
 
 #[test]
-fn probes(rt: HostRuntime) {
-    // Large wants take few: one at the level from above, and one for each halving of the levels below it.
-    let wants = [leaf(MAX_WANT), leaf(MAX_WANT), leaf(MAX_WANT)];
-    let large = tree(&rt, branch(&rt, Some(10_000_000_000), wants));
-    let thirds = [3_333_333_334, 3_333_333_333, 3_333_333_333];
-    holds(&rt, expect_grants(&rt, &large, &thirds) == 33);
-    // So it is where there is nothing to share.
-    let closed = tree(&rt, branch(&rt, Some(0), [leaf(5)]));
-    holds(&rt, expect_grants(&rt, &closed, &[0]) == 32);
-    // Where all fits there is one, and none where there is no limit.
-    let inner = branch(&rt, None, [leaf(9), leaf(9)]);
-    let roomy = tree(&rt, branch(&rt, Some(100), [inner, leaf(7)]));
-    holds(&rt, expect_grants(&rt, &roomy, &[9, 9, 7]) == 1);
-    let open = tree(&rt, branch(&rt, None, [leaf(9)]));
-    holds(&rt, expect_grants(&rt, &open, &[9]) == 0);
+fn worked_allotments(rt: HostRuntime) {
+    for (shape, wanted, few) in &ALLOTMENTS {
+        let probes = expect_grants(&rt, &tree(&rt, shape), wanted);
+        holds(&rt, few.is_none() || *few == Some(probes));
+    }
 }
 
 const LARGE: Sizes = Sizes {
@@ -75,8 +99,7 @@ fn expect_plain(rt: &(impl Abort + AllocGlobal), numbers: &mut Numbers) -> bool 
     match Tree::new(root) {
         Ok(tree) => {
             let plain = allot_plainly(rt.alloc(), &tree).expect(rt, "memory");
-            let (grants, _certificate, _probes) = granted(rt, &tree);
-            holds(rt, grants.as_slice() == plain.as_slice());
+            expect_grants(rt, &tree, &plain);
             tree.nodes() > 1
         }
         Err(_) => false,

@@ -1,18 +1,63 @@
 //! Trees of as many leaves, levels and nodes as there may be, and one more.
 use super::allotting::granted;
-use super::checking::expect_sealed;
+use super::checking::total;
 use super::limits::expect_fault;
-use super::trees::{below, leaf, row, tree, wide};
 use crate::expect::holds;
-use grant_certificate::{Certificate, Verdict, check};
-use limit_tree::{Flat, MAX_LEAVES, MAX_NODES, Tree, TreeFault};
-use plain_allotment::allot_plainly;
+use grant_certificate::Certificate;
+use limit_tree::{Flat, MAX_LEAVES, MAX_NODES, Node, Tree, TreeFault};
 use std::process::Abort;
+
+// A branch over one node.
+fn over(rt: &(impl Abort + AllocGlobal), limit: Option<u64>, node: Node) -> Node {
+    let mut kids = Vec::new(rt.alloc());
+    kids.push(node).expect(rt, "memory");
+    Node::Branch { limit, kids }
+}
+
+// A branch over so many leaves that want so many octets each.
+fn row(rt: &(impl Abort + AllocGlobal), limit: Option<u64>, leaves: usize, want: u64) -> Node {
+    let mut kids = Vec::new(rt.alloc());
+    for _ in 0..leaves {
+        kids.push(Node::Leaf { want, floor: 0 })
+            .expect(rt, "memory");
+    }
+    Node::Branch { limit, kids }
+}
+
+// A node below so many branches.
+fn below(rt: &(impl Abort + AllocGlobal), branches: u32, node: Node) -> Node {
+    let mut node = node;
+    for _ in 0..branches {
+        node = over(rt, None, node);
+    }
+    node
+}
+
+// A leaf below a branch with a limit of one octet, and beside that so many branches without kids.
+fn wide(rt: &(impl Abort + AllocGlobal), branches: usize) -> Node {
+    let mut kids = Vec::new(rt.alloc());
+    let leaf = Node::Leaf { want: 2, floor: 0 };
+    kids.push(over(rt, Some(1), leaf)).expect(rt, "memory");
+    for _ in 0..branches {
+        let none = Vec::new(rt.alloc());
+        let limit = None;
+        kids.push(Node::Branch { limit, kids: none })
+            .expect(rt, "memory");
+    }
+    Node::Branch { limit: None, kids }
+}
+
+// The tree of nodes that have no fault.
+fn tree(rt: &impl Abort, root: Node) -> Tree {
+    Tree::new(root).expect(rt, "a tree without a fault")
+}
 
 #[test]
 fn one_more_is_refused(rt: HostRuntime) {
-    expect_fault(&rt, below(&rt, 16, leaf(1)), None);
-    expect_fault(&rt, below(&rt, 17, leaf(1)), Some(TreeFault::TooDeep));
+    let leaf = Node::Leaf { want: 1, floor: 0 };
+    expect_fault(&rt, below(&rt, 16, leaf), None);
+    let leaf = Node::Leaf { want: 1, floor: 0 };
+    expect_fault(&rt, below(&rt, 17, leaf), Some(TreeFault::TooDeep));
     let leaves = row(&rt, None, MAX_LEAVES + 1, 1);
     expect_fault(&rt, leaves, Some(TreeFault::TooManyLeaves));
     let nodes = wide(&rt, MAX_NODES - 2);
@@ -35,7 +80,7 @@ fn as_many_leaves_as_there_may_be(rt: HostRuntime) {
     holds(&rt, tree.leaves() == 4096 && tree.nodes() == 16 + 4096);
     holds(&rt, tree.place(16).depth == 16);
     let (grants, certificate, _probes) = expect_all(&rt, &tree);
-    expect_sealed(&rt, tree, grants, certificate, 4096);
+    holds(&rt, total(&rt, tree, grants, certificate) == Ok(4096));
 }
 
 #[test]
@@ -45,20 +90,16 @@ fn as_many_nodes_as_there_may_be(rt: HostRuntime) {
     expect_all(&rt, &tree);
 }
 
-// Each leaf is held back by the one branch.
 #[test]
 fn as_many_leaves_as_are_held_back(rt: HostRuntime) {
-    let alloc = rt.alloc();
     let held_back = tree(&rt, row(&rt, Some(4096), MAX_LEAVES, 3));
-    let (grants, _certificate, _probes) = granted(&rt, &held_back);
-    let ones = vec![in alloc; 1u64; MAX_LEAVES].expect(&rt, "memory");
-    holds(&rt, grants.as_slice() == ones.as_slice());
-    let by_the_root = Certificate::new(vec![in alloc; Some(0); MAX_LEAVES].expect(&rt, "memory"));
-    holds(
-        &rt,
-        check(&held_back, &grants, &by_the_root) == Verdict::Yes,
-    );
-    let few = tree(&rt, row(&rt, None, 64, 1));
-    let grants = allot_plainly(alloc, &few).expect(&rt, "memory");
-    holds(&rt, grants.len() == 64);
+    let (grants, certificate, _probes) = granted(&rt, &held_back);
+    holds(&rt, grants.len() == MAX_LEAVES);
+    for grant in grants.iter() {
+        holds(&rt, *grant == 1);
+    }
+    // Each is held back by the one branch.
+    for entry in certificate.entries() {
+        holds(&rt, *entry == Some(0));
+    }
 }

@@ -1,5 +1,5 @@
 //! Worked verdicts.
-use super::trees::{three, users};
+use super::trees::{FLOORED, Shape, THREE, USERS, tree};
 use crate::expect::holds;
 use grant_certificate::{Certificate, Flaw, Verdict, check, seal};
 use limit_tree::Tree;
@@ -17,7 +17,7 @@ const ANN: Option<u32> = Some(1);
 /// Grants, what holds each leaf back, and the verdict.
 type Row = (&'static [u64], &'static [Option<u32>], Verdict);
 
-static THREE_LEAVES: [Row; 8] = [
+const THREE_LEAVES: &[Row] = &[
     (&[4, 3, 3], &[ROOT, ROOT, ROOT], Verdict::Yes),
     (
         &[11, 0, 0],
@@ -53,7 +53,7 @@ static THREE_LEAVES: [Row; 8] = [
     (&[4, 3], &[ROOT, ROOT], Verdict::No(Flaw::WrongLength)),
 ];
 
-static THREE_USERS: [Row; 3] = [
+const THREE_USERS: &[Row] = &[
     (&[15, 15, 35, 10], &[ANN, ANN, ROOT, NONE], Verdict::Yes),
     (
         &[15, 15, 35, 10],
@@ -68,7 +68,7 @@ static THREE_USERS: [Row; 3] = [
 ];
 
 /// The first leaf has a floor of 6.
-static FLOORS: [Row; 3] = [
+const FLOORS: &[Row] = &[
     (
         &[4, 3, 3],
         &[ROOT, ROOT, ROOT],
@@ -82,6 +82,12 @@ static FLOORS: [Row; 3] = [
     ),
 ];
 
+static VERDICTS: [(Shape, &[Row]); 3] = [
+    (THREE, THREE_LEAVES),
+    (USERS, THREE_USERS),
+    (FLOORED, FLOORS),
+];
+
 fn expect_verdicts(rt: &(impl Abort + AllocGlobal), tree: &Tree, rows: &[Row]) {
     for (grants, entries, verdict) in rows {
         let certificate = Certificate::new(entries.to_vec(rt.alloc()).expect(rt, "memory"));
@@ -91,59 +97,58 @@ fn expect_verdicts(rt: &(impl Abort + AllocGlobal), tree: &Tree, rows: &[Row]) {
 
 #[test]
 fn verdicts(rt: HostRuntime) {
-    expect_verdicts(&rt, &three(&rt, 0), &THREE_LEAVES);
-    expect_verdicts(&rt, &users(&rt, 0), &THREE_USERS);
-    expect_verdicts(&rt, &three(&rt, 6), &FLOORS);
+    for (shape, rows) in &VERDICTS {
+        expect_verdicts(&rt, &tree(&rt, shape), rows);
+    }
 }
 
-/// Grants that the checker accepts are sealed with their tree and certificate, and have so many octets together.
-pub fn expect_sealed<A: Allocator>(
+/// What becomes of grants that are to be sealed: the sum of all, or their flaw. Either way the tree, the grants and the
+/// certificate are still there.
+pub fn total<A: Allocator>(
     rt: &impl Abort,
     tree: Tree,
     grants: Vec<u64, A>,
     certificate: Certificate<A>,
-    total: u64,
-) {
-    let leaves = tree.leaves();
+) -> Result<u64, Flaw> {
+    let (nodes, leaves) = (tree.nodes(), tree.leaves());
     match seal(tree, grants, certificate) {
         Ok(sealed) => {
-            holds(rt, sealed.total() == total);
-            holds(rt, sealed.tree().leaves() == leaves);
-            holds(rt, sealed.grants().len() == leaves);
+            holds(
+                rt,
+                sealed.tree().nodes() == nodes && sealed.grants().len() == leaves,
+            );
             holds(rt, sealed.certificate().entries().len() == leaves);
+            Ok(sealed.total())
         }
-        Err(_) => panic!(rt; "what is best is refused"),
+        Err(refused) => {
+            holds(
+                rt,
+                refused.tree.nodes() == nodes && refused.grants.len() == leaves,
+            );
+            holds(rt, refused.certificate.into_entries().len() == leaves);
+            Err(refused.flaw)
+        }
     }
 }
 
-// The certificate of the best grants of three users.
-fn of_users(rt: &(impl Abort + AllocGlobal)) -> Certificate {
-    let entries = [ANN, ANN, ROOT, NONE].to_vec(rt.alloc());
-    Certificate::new(entries.expect(rt, "memory"))
-}
-
+// The answer may lie in another heap than the tree.
 #[test]
 fn seals(rt: HostRuntime) {
-    let grants = [15, 15, 35, 10].to_vec(rt.alloc()).expect(&rt, "memory");
-    expect_sealed(&rt, users(&rt, 0), grants, of_users(&rt), 75);
-    // The answer may lie in another heap than the tree.
     let heap = LocalHeap::new(rt.alloc(), 4096).expect(&rt, "memory");
-    let tree = users(&rt, 0);
+    let tree = tree(&rt, &USERS);
     let (grants, certificate) = allot(&heap, &tree).expect(&rt, "memory");
+    holds(&rt, grants.as_slice() == [15, 15, 35, 10].as_slice());
     holds(&rt, check(&tree, &grants, &certificate) == Verdict::Yes);
-    expect_sealed(&rt, tree, grants, certificate, 75);
+    holds(&rt, total(&rt, tree, grants, certificate) == Ok(75));
 }
 
 #[test]
 fn hands_back(rt: HostRuntime) {
     let grants = [15, 15, 36, 10].to_vec(rt.alloc()).expect(&rt, "memory");
-    match seal(users(&rt, 0), grants, of_users(&rt)) {
-        Ok(_) => panic!(rt; "what is over a limit is sealed"),
-        Err(refused) => {
-            holds(&rt, refused.flaw == Flaw::OverLimit { node: 0 });
-            holds(&rt, refused.grants.len() == 4);
-            holds(&rt, refused.tree.nodes() == 8);
-            holds(&rt, refused.certificate.into_entries().len() == 4);
-        }
-    }
+    let entries = [ANN, ANN, ROOT, NONE]
+        .to_vec(rt.alloc())
+        .expect(&rt, "memory");
+    let tree = tree(&rt, &USERS);
+    let refused = total(&rt, tree, grants, Certificate::new(entries));
+    holds(&rt, refused == Err(Flaw::OverLimit { node: 0 }));
 }

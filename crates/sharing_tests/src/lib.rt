@@ -1,5 +1,5 @@
-//! Tests of limit trees, of the allocator, of certificates and their checker, and of trees as large as may be, by public
-//! calls alone.
+//! Tests of limit trees, of the allocator, of certificates and their checker, of trees as large as may be, of rates, of the
+//! trees of ticks and of guaranteed rates, by public calls alone.
 #![tactic(auto)]
 
 #[cfg(test)]
@@ -9,14 +9,24 @@ mod bounds;
 #[cfg(test)]
 mod checking;
 #[cfg(test)]
+mod examples;
+#[cfg(test)]
 mod expect;
+#[cfg(test)]
+mod floors;
 #[cfg(test)]
 mod limits;
 #[cfg(test)]
+mod plans;
+#[cfg(test)]
 mod random_trees;
+#[cfg(test)]
+mod rates;
 #[cfg(test)]
 mod shortages;
 #[cfg(test)]
 mod small_trees;
+#[cfg(test)]
+mod ticks;
 #[cfg(test)]
 mod trees;

@@ -1,7 +1,8 @@
 //! One happy path of each call, and each refusal of a tree.
 ghost use Rattle.std.specs.Prelude.{◌≡◌};
 
-use super::trees::{branch, leaf, tree, users};
+use super::trees::Shape::{Branch, Leaf};
+use super::trees::{PROMISED, Shape, node, tree};
 use crate::expect::holds;
 use grant_certificate::{
     Leaves, backed_is_best, backed_is_largest_at_each_level, each_has_ascending,
@@ -15,21 +16,183 @@ use plain_allotment::runs_end_alike;
 use round_allocator::allot;
 use std::process::Abort;
 
-fn look_at_nodes(rt: &impl Abort, tree: &Tree) {
-    holds(rt, tree.leaves() == 4 && tree.nodes() == 8);
-    holds(rt, tree.want(1) == 50 && tree.want(3) == 10);
-    holds(rt, tree.floor(2) == 0 && tree.floor(3) == 6);
-    holds(rt, tree.limit(1) == Some(30) && tree.limit(4).is_none());
-    holds(rt, tree.place(1).nodes == 3);
-    holds(rt, tree.is_branch(4) && !tree.is_branch(5));
-    holds(
-        rt,
-        tree.under(1, 1) && !tree.under(1, 2) && tree.under(0, 2),
-    );
+/// A node of a tree: its place, whether the leaves 1 and 2 are under it, what it takes in up to the levels 0, 12 and 20,
+/// what its kids take in up to 12 and 20, the sum of the best grants under it, and whether they reach its limit.
+struct Row {
+    place: Place,
+    under: [bool; 2],
+    absorbed: [u64; 3],
+    below: [u64; 2],
+    sum: u64,
+    is_full: bool,
 }
 
-fn look_at_tables(rt: &impl Abort, tree: &Tree) {
-    holds(rt, tree.leaves() == 4);
+const LEAF: Place = Place {
+    depth: 2,
+    first: 0,
+    leaves: 1,
+    nodes: 1,
+    kids: 0,
+    floors: 0,
+    kind: Kind::Leaf { want: 50, floor: 0 },
+};
+
+const USER: Place = Place {
+    depth: 1,
+    first: 2,
+    leaves: 1,
+    nodes: 2,
+    kids: 1,
+    floors: 0,
+    kind: Kind::Branch { limit: None },
+};
+
+const ANN: Place = Place {
+    first: 0,
+    leaves: 2,
+    nodes: 3,
+    kids: 2,
+    kind: Kind::Branch { limit: Some(30) },
+    ..USER
+};
+
+const ROOT: Place = Place {
+    depth: 0,
+    first: 0,
+    leaves: 4,
+    nodes: 8,
+    kids: 3,
+    floors: 6,
+    kind: Kind::Branch { limit: Some(75) },
+};
+
+/// The nodes of ann, bob and cy, to whom 6 octets are guaranteed.
+static NODES: [Row; 8] = [
+    Row {
+        place: ROOT,
+        under: [true, true],
+        absorbed: [6, 46, 60],
+        below: [46, 60],
+        sum: 75,
+        is_full: true,
+    },
+    Row {
+        place: ANN,
+        under: [true, false],
+        absorbed: [0, 24, 30],
+        below: [24, 40],
+        sum: 30,
+        is_full: true,
+    },
+    Row {
+        place: LEAF,
+        under: [false, false],
+        absorbed: [0, 12, 20],
+        below: [0, 0],
+        sum: 15,
+        is_full: false,
+    },
+    Row {
+        place: Place { first: 1, ..LEAF },
+        under: [true, false],
+        absorbed: [0, 12, 20],
+        below: [0, 0],
+        sum: 15,
+        is_full: false,
+    },
+    Row {
+        place: USER,
+        under: [false, true],
+        absorbed: [0, 12, 20],
+        below: [12, 20],
+        sum: 35,
+        is_full: false,
+    },
+    Row {
+        place: Place { first: 2, ..LEAF },
+        under: [false, true],
+        absorbed: [0, 12, 20],
+        below: [0, 0],
+        sum: 35,
+        is_full: false,
+    },
+    Row {
+        place: Place {
+            first: 3,
+            floors: 6,
+            ..USER
+        },
+        under: [false, false],
+        absorbed: [6, 10, 10],
+        below: [10, 10],
+        sum: 10,
+        is_full: false,
+    },
+    Row {
+        place: Place {
+            first: 3,
+            floors: 6,
+            kind: Kind::Leaf { want: 10, floor: 6 },
+            ..LEAF
+        },
+        under: [false, false],
+        absorbed: [6, 10, 10],
+        below: [0, 0],
+        sum: 10,
+        is_full: false,
+    },
+];
+
+fn limit_of(kind: Kind) -> Option<u64> {
+    match kind {
+        Kind::Branch { limit } => limit,
+        Kind::Leaf { .. } => None,
+    }
+}
+
+fn look_at_node(rt: &impl Abort, tree: &Tree, node: usize, row: &Row) {
+    holds(rt, node < tree.nodes() && tree.place(node) == row.place);
+    holds(rt, tree.limit(node) == limit_of(row.place.kind));
+    holds(rt, tree.is_branch(node) == (row.place.kids > 0));
+    holds(rt, [tree.under(node, 1), tree.under(node, 2)] == row.under);
+    let absorbed = [
+        tree.absorb(node, 0),
+        tree.absorb(node, 12),
+        tree.absorb(node, 20),
+    ];
+    holds(rt, absorbed == row.absorbed);
+}
+
+// The flat copy tells the same.
+fn look_at_copy(rt: &impl Abort, flat: &Flat, node: usize, row: &Row) {
+    holds(rt, node < flat.nodes() && flat.place(node) == row.place);
+    holds(rt, flat.limit(node) == limit_of(row.place.kind));
+    holds(rt, [flat.under(node, 1), flat.under(node, 2)] == row.under);
+    let absorbed = [
+        flat.absorb(node, 0),
+        flat.absorb(node, 12),
+        flat.absorb(node, 20),
+    ];
+    holds(rt, absorbed == row.absorbed);
+    let below = [flat.absorb_below(node, 12), flat.absorb_below(node, 20)];
+    holds(rt, below == row.below);
+}
+
+/// What leaves want, their floors, and the deepest branch above each that the best grants fill.
+static LEAVES: [(u64, u64, Option<usize>); 4] = [
+    (50, 0, Some(1)),
+    (50, 0, Some(1)),
+    (50, 0, Some(0)),
+    (10, 6, Some(0)),
+];
+
+fn look_at_tables(rt: &impl Abort, tree: &Tree, flat: &Flat) {
+    holds(rt, tree.leaves() == 4 && flat.leaves() == 4);
+    for (leaf, (want, floor, _full)) in LEAVES.iter().enumerate() {
+        holds(rt, leaf < tree.leaves() && leaf < flat.leaves());
+        holds(rt, (tree.want(leaf), tree.floor(leaf)) == (*want, *floor));
+        holds(rt, (flat.want(leaf), flat.floor(leaf)) == (*want, *floor));
+    }
     let mut wants = [7; 5];
     let mut floors = [7; 5];
     tree.leaves_into(&mut wants, &mut floors);
@@ -48,80 +211,68 @@ fn look_at_grants(rt: &(impl Abort + AllocGlobal), tree: &Tree, flat: &Flat)
 {
     let (grants, _certificate) = allot(rt.alloc(), tree).expect(rt, "memory");
     holds(rt, grants.as_slice() == [15, 15, 35, 10].as_slice());
-    holds(
-        rt,
-        tree.nodes() == 8 && flat.nodes() == 8 && tree.leaves() == 4,
-    );
-    holds(
-        rt,
-        tree.sum_under(1, &grants) == 30 && tree.sum_under(0, &grants) == 75,
-    );
-    holds(rt, tree.is_full(1, &grants) && !tree.is_full(4, &grants));
-    holds(rt, flat.is_full(1, &grants) && !flat.is_full(4, &grants));
-    holds(rt, tree.full_above(0, &grants) == Some(1));
-    holds(rt, tree.full_above(2, &grants) == Some(0));
-}
-
-// A flat tree tells of each node and leaf what the tree tells.
-fn expect_same(rt: &impl Abort, tree: &Tree, flat: &Flat) {
-    holds(
-        rt,
-        flat.nodes() == tree.nodes() && flat.leaves() == tree.leaves(),
-    );
-    for node in 0..tree.nodes().min(flat.nodes()) {
-        holds(
-            rt,
-            flat.place(node) == tree.place(node) && flat.limit(node) == tree.limit(node),
-        );
-        holds(rt, flat.under(node, 2) == tree.under(node, 2));
-        holds(rt, flat.absorb(node, 0) == tree.absorb(node, 0));
-        holds(rt, flat.absorb(node, 12) == tree.absorb(node, 12));
+    for (node, row) in NODES.iter().enumerate() {
+        holds(rt, node < tree.nodes() && node < flat.nodes());
+        holds(rt, tree.sum_under(node, &grants) == row.sum);
+        holds(rt, tree.is_full(node, &grants) == row.is_full);
+        holds(rt, flat.is_full(node, &grants) == row.is_full);
     }
-    for leaf in 0..tree.leaves().min(flat.leaves()) {
+    for (leaf, (_want, _floor, full)) in LEAVES.iter().enumerate() {
         holds(
             rt,
-            flat.want(leaf) == tree.want(leaf) && flat.floor(leaf) == tree.floor(leaf),
+            leaf < tree.leaves() && tree.full_above(leaf, &grants) == *full,
         );
     }
 }
 
 #[test]
 fn tells_of_nodes_leaves_and_grants(rt: HostRuntime) {
-    let tree = users(&rt, 6);
-    look_at_nodes(&rt, &tree);
-    look_at_tables(&rt, &tree);
+    let tree = tree(&rt, &PROMISED);
     let flat = Flat::of(rt.alloc(), &tree).expect(&rt, "memory");
-    expect_same(&rt, &tree, &flat);
+    holds(&rt, tree.nodes() == 8 && flat.nodes() == 8);
+    for (node, row) in NODES.iter().enumerate() {
+        look_at_node(&rt, &tree, node, row);
+        look_at_copy(&rt, &flat, node, row);
+    }
+    look_at_tables(&rt, &tree, &flat);
     look_at_grants(&rt, &tree, &flat);
-    holds(&rt, flat.nodes() == 8);
-    holds(&rt, flat.absorb(0, 12) == 46 && flat.absorb(1, 20) == 30);
-    holds(
-        &rt,
-        flat.absorb_below(0, 12) == 46 && flat.absorb_below(1, 20) == 40,
-    );
-    holds(&rt, flat.absorb_below(3, 20) == 0);
 }
+
+const TWO_LIMITS: Shape = Branch(
+    Some(10),
+    &[
+        Leaf(5, 2),
+        Branch(Some(4), &[Leaf(3, 3), Leaf(7, 0)]),
+        Leaf(9, 1),
+    ],
+);
+
+/// A node, a level, and what it takes in.
+static TAKEN_IN: [(usize, u64, u64); 9] = [
+    // The floors,
+    (0, 0, 6),
+    (2, 0, 3),
+    (4, 0, 0),
+    // a level that the inner branch cuts,
+    (0, 1, 7),
+    (2, 1, 4),
+    (1, 1, 2),
+    // and one that the root cuts.
+    (0, 9, 10),
+    (2, 9, 4),
+    (5, 9, 9),
+];
 
 #[test]
 fn takes_in_up_to_a_level(rt: HostRuntime) {
-    let inner = branch(&rt, Some(4), [Node::Leaf { want: 3, floor: 3 }, leaf(7)]);
-    let first = Node::Leaf { want: 5, floor: 2 };
-    let last = Node::Leaf { want: 9, floor: 1 };
-    let tree = tree(&rt, branch(&rt, Some(10), [first, inner, last]));
+    let tree = tree(&rt, &TWO_LIMITS);
     holds(&rt, tree.nodes() == 6);
-    // The floors, then a level that the inner branch cuts, then one that the root cuts.
-    holds(
-        &rt,
-        tree.absorb(0, 0) == 6 && tree.absorb(2, 0) == 3 && tree.absorb(4, 0) == 0,
-    );
-    holds(
-        &rt,
-        tree.absorb(0, 1) == 7 && tree.absorb(2, 1) == 4 && tree.absorb(1, 1) == 2,
-    );
-    holds(
-        &rt,
-        tree.absorb(0, 9) == 10 && tree.absorb(2, 9) == 4 && tree.absorb(5, 9) == 9,
-    );
+    for (node, level, octets) in &TAKEN_IN {
+        holds(
+            &rt,
+            *node < tree.nodes() && tree.absorb(*node, *level) == *octets,
+        );
+    }
 }
 
 #[test]
@@ -149,29 +300,37 @@ pub fn expect_fault(rt: &impl Abort, root: Node, fault: Option<TreeFault>) {
     holds(rt, Tree::new(root).err() == fault);
 }
 
-#[test]
-fn refuses_numbers_that_are_too_large(rt: HostRuntime) {
-    expect_fault(&rt, leaf(MAX_WANT), None);
-    expect_fault(&rt, leaf(MAX_WANT + 1), Some(TreeFault::WantTooLarge));
-    let over_want = Node::Leaf { want: 5, floor: 6 };
-    expect_fault(&rt, over_want, Some(TreeFault::FloorTooLarge));
-    expect_fault(&rt, branch(&rt, Some(MAX_LIMIT), []), None);
-    let over_limit = branch(&rt, Some(MAX_LIMIT + 1), []);
-    expect_fault(&rt, over_limit, Some(TreeFault::LimitTooLarge));
-}
+const CROWDED: Shape = Branch(Some(5), &[Leaf(9, 6)]);
+
+static FAULTS: [(Shape, Option<TreeFault>); 8] = [
+    (Leaf(MAX_WANT, 0), None),
+    (Leaf(MAX_WANT + 1, 0), Some(TreeFault::WantTooLarge)),
+    (Leaf(5, 6), Some(TreeFault::FloorTooLarge)),
+    (Branch(Some(MAX_LIMIT), &[]), None),
+    (
+        Branch(Some(MAX_LIMIT + 1), &[]),
+        Some(TreeFault::LimitTooLarge),
+    ),
+    // The first fault in preorder decides, and floors come last.
+    (
+        Branch(None, &[Leaf(1, 0), CROWDED]),
+        Some(TreeFault::FloorsOverLimit(2)),
+    ),
+    (
+        Branch(Some(MAX_LIMIT + 1), &[CROWDED, Leaf(MAX_WANT + 1, 0)]),
+        Some(TreeFault::LimitTooLarge),
+    ),
+    (
+        Branch(None, &[CROWDED, Leaf(MAX_WANT + 1, 0)]),
+        Some(TreeFault::WantTooLarge),
+    ),
+];
 
 #[test]
-fn the_first_fault_in_preorder_decides(rt: HostRuntime) {
-    let crowded = branch(&rt, Some(5), [Node::Leaf { want: 9, floor: 6 }]);
-    let root = branch(&rt, None, [leaf(1), crowded]);
-    expect_fault(&rt, root, Some(TreeFault::FloorsOverLimit(2)));
-    let crowded = branch(&rt, Some(5), [Node::Leaf { want: 9, floor: 6 }]);
-    let limit = Some(MAX_LIMIT + 1);
-    let root = branch(&rt, limit, [crowded, leaf(MAX_WANT + 1)]);
-    expect_fault(&rt, root, Some(TreeFault::LimitTooLarge));
-    let crowded = branch(&rt, Some(5), [Node::Leaf { want: 9, floor: 6 }]);
-    let root = branch(&rt, None, [crowded, leaf(MAX_WANT + 1)]);
-    expect_fault(&rt, root, Some(TreeFault::WantTooLarge));
+fn faults_of_trees(rt: HostRuntime) {
+    for (shape, fault) in &FAULTS {
+        expect_fault(&rt, node(&rt, shape), *fault);
+    }
 }
 
 #[test]

@@ -1,98 +1,130 @@
 //! Memory that is refused, at each growth in turn, and there again.
-ghost use Rattle.std.specs.Prelude.{◌≤◌};
-ghost use Rattle.sharing_tests.specs.declared.shortages.TheConstants.{HEAP};
 
-use super::trees::{three, users};
+use super::plans::DOWN;
+use super::rates::{TWO_GROUPS, limits_of};
+use super::trees::{PROMISED, Shape, THREE, tree};
 use crate::expect::holds;
 use limit_tree::{Flat, Tree};
+use line_rates::{Ask, Limits, PlanFault, tree_of};
 use linked_list_allocator::LocalHeap;
 use plain_allotment::allot_plainly;
+use rate_floors::Floors;
 use round_allocator::{allot, allot_counted};
-use std::alloc::AllocError;
+use scarce_memory::{HEAP, leave_hole};
 use std::process::Abort;
 
-/// The calls that take memory.
-#[derive(Clone, Copy)]
-enum Call {
-    Flatten,
-    Plain,
-    Leveled,
-    Counted,
+// Whether grants were made; where they were, they are these.
+fn are_granted(rt: &impl Abort, granted: Option<Vec<u64, &LocalHeap>>, wanted: &[u64]) -> bool {
+    match granted {
+        Some(grants) => {
+            holds(rt, grants.as_slice() == wanted);
+            true
+        }
+        None => false,
+    }
 }
 
-// The grants that a call answers.
-fn grants_of<'h>(
-    heap: &'h LocalHeap,
-    tree: &Tree,
-    call: Call,
-) -> Result<Vec<u64, &'h LocalHeap>, AllocError> {
-    match call {
-        Call::Flatten => {
-            let _flat = Flat::of(heap, tree)?;
-            allot_plainly(heap, tree)
+fn by_levels<'h>(heap: &'h LocalHeap, tree: &Tree) -> Option<Vec<u64, &'h LocalHeap>> {
+    let (grants, _certificate) = allot(heap, tree).ok()?;
+    Some(grants)
+}
+
+fn by_counted_levels<'h>(heap: &'h LocalHeap, tree: &Tree) -> Option<Vec<u64, &'h LocalHeap>> {
+    let (grants, _certificate, _probes) = allot_counted(heap, tree).ok()?;
+    Some(grants)
+}
+
+static ASKS: [(u8, Ask); 3] = [
+    (4, DOWN),
+    (5, Ask { user: 2, ..DOWN }),
+    (
+        6,
+        Ask {
+            user: 1,
+            session: 3,
+            ..DOWN
+        },
+    ),
+];
+
+// Whether the tree of a tick has memory; where it has, it is right.
+fn has_plan(rt: &impl Abort, heap: &LocalHeap, limits: &Limits) -> bool {
+    match tree_of(heap, limits, 0, &ASKS) {
+        Ok(plan) => {
+            holds(rt, plan.lanes.as_slice() == [4, 6, 5].as_slice());
+            holds(rt, plan.tree.nodes() == 12);
+            true
         }
-        Call::Plain => allot_plainly(heap, tree),
-        Call::Leveled => {
-            let (grants, _certificate) = allot(heap, tree)?;
-            Ok(grants)
-        }
-        Call::Counted => {
-            let (grants, _certificate, _probes) = allot_counted(heap, tree)?;
-            Ok(grants)
+        Err(fault) => {
+            holds(rt, fault == PlanFault::Memory);
+            false
         }
     }
 }
 
-// Whether a call has memory; where it has, it answers these grants.
-fn answers(rt: &impl Abort, heap: &LocalHeap, tree: &Tree, call: Call, grants: &[u64]) -> bool {
-    match grants_of(heap, tree, call) {
-        Ok(granted) => {
-            holds(rt, granted.as_slice() == grants);
+// Whether the guarantees have memory; where they have, they are right.
+fn has_floors(rt: &impl Abort, heap: &LocalHeap, limits: &Limits) -> bool {
+    match Floors::of(heap, limits) {
+        Ok(floors) => {
+            let mut floors = floors;
+            holds(rt, floors.admit(5) && !floors.admit(5));
             true
         }
         Err(_) => false,
     }
 }
 
-const HEAP: usize = 4096;
+// Which of the calls that take memory have it.
+fn answers(
+    rt: &impl Abort,
+    heap: &LocalHeap,
+    tree: &Tree,
+    wanted: &[u64],
+    limits: &Limits,
+) -> [bool; 6] {
+    [
+        Flat::of(heap, tree).is_ok(),
+        are_granted(rt, allot_plainly(heap, tree).ok(), wanted),
+        are_granted(rt, by_levels(heap, tree), wanted),
+        are_granted(rt, by_counted_levels(heap, tree), wanted),
+        has_plan(rt, heap, limits),
+        has_floors(rt, heap, limits),
+    ]
+}
 
-// Whether a call has memory in so small a room; where it has none, it has once memory is there.
+// Which of them have it beside one hole of some octets. Once there is memory again, each has.
 fn answers_in(
     rt: &(impl Abort + AllocGlobal),
     room: usize,
     tree: &Tree,
-    call: Call,
-    grants: &[u64],
-) -> bool
-    requires { room ≤ HEAP }
-{
-    let heap = LocalHeap::new(rt.alloc(), HEAP).expect(rt, "memory");
-    let hog = Vec::<u8, &LocalHeap>::with_capacity(&heap, HEAP - room).expect(rt, "memory");
-    let first = answers(rt, &heap, tree, call, grants);
-    drop(hog);
-    holds(rt, answers(rt, &heap, tree, call, grants));
+    wanted: &[u64],
+    limits: &Limits,
+) -> [bool; 6] {
+    let heap = LocalHeap::new(rt.alloc(), HEAP).expect(rt, "a heap");
+    let rest = leave_hole(rt, &heap, room).expect(rt, "a hole");
+    let first = answers(rt, &heap, tree, wanted, limits);
+    drop(rest);
+    let again = answers(rt, &heap, tree, wanted, limits);
+    holds(rt, again == [true; 6]);
     first
 }
 
 // Room rises by less than the least growth, so that each growth is the first that is refused.
-fn expect_refusals(rt: &(impl Abort + AllocGlobal), tree: &Tree, call: Call, grants: &[u64]) {
-    let mut refusals = 0u32;
-    let mut last = false;
-    for step in 0..128usize {
-        last = answers_in(rt, 16 * step, tree, call, grants);
-        if !last {
-            refusals = refusals.saturating_add(1);
-        }
+fn expect_refusals(rt: &(impl Abort + AllocGlobal), tree: &Tree, wanted: &[u64], limits: &Limits) {
+    for step in 0..256usize {
+        let answers = answers_in(rt, 16 * step, tree, wanted, limits);
+        // With no room each is refused, and with much none.
+        holds(rt, step > 0 || answers == [false; 6]);
+        holds(rt, step < 255 || answers == [true; 6]);
     }
-    holds(rt, refusals > 0 && last);
 }
+
+static TREES: [(Shape, &[u64]); 2] = [(THREE, &[4, 3, 3]), (PROMISED, &[15, 15, 35, 10])];
 
 #[test]
 fn each_growth_of_each_call(rt: HostRuntime) {
-    let leaves = three(&rt, 0);
-    let users = users(&rt, 6);
-    for call in [Call::Flatten, Call::Plain, Call::Leveled, Call::Counted] {
-        expect_refusals(&rt, &leaves, call, &[4, 3, 3]);
-        expect_refusals(&rt, &users, call, &[15, 15, 35, 10]);
+    let limits = limits_of(&rt, &TWO_GROUPS);
+    for (shape, wanted) in &TREES {
+        expect_refusals(&rt, &tree(&rt, shape), wanted, &limits);
     }
 }

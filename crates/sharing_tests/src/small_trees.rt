@@ -12,6 +12,9 @@ const SMALL: Sizes = Sizes {
     levels: 3,
 };
 
+/// Grants of the leaves, and zeros behind them.
+type List = [u64; 5];
+
 // All lists of five grants below five.
 const LISTS: u32 = 3_125;
 
@@ -58,51 +61,55 @@ fn count_on(list: &mut [u64], wants: &[u64]) -> bool {
     false
 }
 
-fn sorted(rt: &(impl Abort + AllocGlobal), list: &[u64]) -> Vec<u64> {
-    let mut copy = list.to_vec(rt.alloc()).expect(rt, "memory");
-    copy.sort_unstable();
-    copy
+fn sorted(list: List) -> List {
+    let mut sorted = list;
+    sorted.sort_unstable();
+    sorted
 }
 
 // Whether some list within the limits is, sorted upwards, greater than a sorted one: larger at the first place where
 // they differ. Where there is no sorted one, whether any list is within. The lists are counted from one of zeros.
-fn is_surpassed(
-    rt: &(impl Abort + AllocGlobal),
-    made: &Made,
-    known: Option<&[u64]>,
-    list: &mut [u64],
-) -> bool {
+fn is_surpassed(rt: &impl Abort, made: &Made, known: Option<List>) -> bool {
+    let mut list = [0; 5];
+    let leaves = made.wants.len().min(5);
     for _ in 0..LISTS {
-        if is_within(made, list) {
+        if is_within(made, &list[..leaves]) {
             let is_greater = match known {
-                Some(known) => sorted(rt, list).as_slice() > known,
+                Some(known) => sorted(list) > known,
                 None => true,
             };
             if is_greater {
                 return true;
             }
         }
-        if !count_on(list, &made.wants) {
+        if !count_on(&mut list, &made.wants) {
             return false;
         }
     }
     panic!(rt; "there are no more lists than these")
 }
 
+fn list_of(grants: &[u64]) -> List {
+    let mut list = [0; 5];
+    for (place, grant) in list.iter_mut().zip(grants) {
+        *place = *grant;
+    }
+    list
+}
+
 // Holds the grants of a tree against all lists; whether the floors of the tree leave any list.
 fn expect_greatest(rt: &(impl Abort + AllocGlobal), numbers: &mut Numbers) -> bool {
     let (root, made) = any_tree(rt, numbers, &SMALL);
-    let mut list = vec![in rt.alloc(); 0u64; made.wants.len()].expect(rt, "memory");
     match Tree::new(root) {
         Ok(tree) => {
             let (grants, _certificate, _probes) = granted(rt, &tree);
             holds(rt, is_within(&made, &grants));
-            let known = sorted(rt, &grants);
-            holds(rt, !is_surpassed(rt, &made, Some(&known), &mut list));
+            let known = sorted(list_of(&grants));
+            holds(rt, !is_surpassed(rt, &made, Some(known)));
             true
         }
         Err(_) => {
-            holds(rt, !is_surpassed(rt, &made, None, &mut list));
+            holds(rt, !is_surpassed(rt, &made, None));
             false
         }
     }

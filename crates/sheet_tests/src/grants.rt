@@ -5,23 +5,41 @@ use crate::expect::holds;
 use linked_list_allocator::LocalHeap;
 use scarce_memory::{HEAP, leave_hole};
 use share_text::{GrantsFault, Sheet, read_grants, read_sheet};
-use std::alloc::Allocator;
 use std::process::Abort;
 
 /// The leaves of its tree are `/x/1`, `/x/2` and `/y`, so they stand in another order than the wants.
 const SHEET: &[u8] = b"limit / 5\nwant /x/1 9\nwant /y 9\nwant /x/2 9\n";
 
-const GRANTS: &[u8] = b"grant /x/1 2 /\n# a note\n\ngrant /y 1 /x/1\r\ngrant /x/2 3";
+/// A text, the grants that it gives, and what holds each back.
+type Row = (&'static [u8], &'static [u64], &'static [Option<u32>]);
+
+static WHOLE: Row = (
+    b"grant /x/1 2 /\n# a note\n\ngrant /y 1 /x/1\r\ngrant /x/2 3",
+    &[2, 3, 1],
+    &[Some(0), None, Some(2)],
+);
+
+/// Missing lines leave short lists.
+static SHORT: [Row; 2] = [
+    (
+        b"grant /x/1 2 /\ngrant /y 1 /x\n",
+        &[2, 1],
+        &[Some(0), Some(1)],
+    ),
+    (b"", &[], &[]),
+];
 
 /// Whether the grants have room; where they have, they are those of the text.
-fn have_room<A: Allocator + Clone>(rt: &impl Abort, alloc: A, sheet: &Sheet<'_, A>) -> bool {
-    match read_grants(alloc, GRANTS, sheet) {
+fn have_room<'h>(
+    rt: &impl Abort,
+    heap: &'h LocalHeap,
+    sheet: &Sheet<'_, &'h LocalHeap>,
+    row: &Row,
+) -> bool {
+    match read_grants(heap, row.0, sheet) {
         Ok((grants, certificate)) => {
-            holds(rt, grants.as_slice() == [2, 3, 1].as_slice());
-            holds(
-                rt,
-                certificate.entries() == [Some(0), None, Some(2)].as_slice(),
-            );
+            holds(rt, grants.as_slice() == row.1);
+            holds(rt, certificate.entries() == row.2);
             true
         }
         Err(fault) => {
@@ -31,54 +49,39 @@ fn have_room<A: Allocator + Clone>(rt: &impl Abort, alloc: A, sheet: &Sheet<'_, 
     }
 }
 
-#[test]
-fn grants_stand_by_leaf(rt: HostRuntime) {
-    let sheet = read_sheet(rt.alloc(), SHEET).expect(&rt, "a sheet");
-    holds(&rt, have_room(&rt, rt.alloc(), &sheet));
-}
-
-/// What lines give, of which some are missing.
-const SHORT: [(&[u8], &[u64], &[Option<u32>]); 2] = [
-    (
-        b"grant /x/1 2 /\ngrant /y 1 /x\n",
-        &[2, 1],
-        &[Some(0), Some(1)],
-    ),
-    (b"", &[], &[]),
-];
-
-#[test]
-fn missing_lines_leave_short_lists(rt: HostRuntime) {
-    let sheet = read_sheet(rt.alloc(), SHEET).expect(&rt, "a sheet");
-    for (text, wanted, entries) in &SHORT {
-        let (grants, certificate) = read_grants(rt.alloc(), text, &sheet).expect(&rt, "grants");
-        holds(&rt, grants.as_slice() == *wanted);
-        holds(&rt, certificate.entries() == *entries);
-    }
-}
-
 /// Whether the grants have room beside one hole of some octets. They have it once there is memory.
 fn have_room_in<'h>(
     rt: &(impl AllocGlobal + Abort),
     heap: &'h LocalHeap,
-    sheet: &Sheet<'static, &'h LocalHeap>,
+    sheet: &Sheet<'_, &'h LocalHeap>,
     room: usize,
 ) -> bool {
     let rest = leave_hole(rt, heap, room).expect(rt, "a hole");
-    let first = have_room(rt, heap, sheet);
+    let first = have_room(rt, heap, sheet, &WHOLE);
     drop(rest);
-    holds(rt, have_room(rt, heap, sheet));
+    holds(rt, have_room(rt, heap, sheet, &WHOLE));
     first
 }
 
+/// With no room they are refused, and with much they are taken.
+fn expect_refusals<'h>(
+    rt: &(impl AllocGlobal + Abort),
+    heap: &'h LocalHeap,
+    sheet: &Sheet<'_, &'h LocalHeap>,
+) {
+    for step in 0..64usize {
+        let first = have_room_in(rt, heap, sheet, 16 * step);
+        holds(rt, step > 0 || !first);
+        holds(rt, step < 63 || first);
+    }
+    for row in &SHORT {
+        holds(rt, have_room(rt, heap, sheet, row));
+    }
+}
+
 #[test]
-fn each_growth_may_be_refused(rt: HostRuntime) {
+fn grants_stand_by_leaf(rt: HostRuntime) {
     let heap = LocalHeap::new(rt.alloc(), HEAP).expect(&rt, "a heap");
     let sheet = read_sheet(&heap, SHEET).expect(&rt, "a sheet");
-    for step in 0..64usize {
-        let first = have_room_in(&rt, &heap, &sheet, 16 * step);
-        // With no room they are refused, and with much they are taken.
-        holds(&rt, step > 0 || !first);
-        holds(&rt, step < 63 || first);
-    }
+    expect_refusals(&rt, &heap, &sheet);
 }

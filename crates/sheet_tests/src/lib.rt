@@ -1,6 +1,9 @@
-//! Tests of the text of sheets and of grants files, by the public calls of `sheet_nodes` and `share_text` alone.
+//! Tests of the text of sheets and of grants files, by the public calls of `sheet_nodes`, `share_text` and `sheet_commands`
+//! alone.
 #![tactic(auto)]
 
+#[cfg(test)]
+mod examples;
 #[cfg(test)]
 mod expect;
 #[cfg(test)]

@@ -1,45 +1,51 @@
-//! What no clause says of the nodes of a sheet: that the calls succeed, and what texts give.
+//! What no clause says of the nodes of a sheet: that the calls succeed, and what lines give.
 
 ghost use Rattle.sheet_nodes.specs.Walks.{IsPathText};
 
-use crate::expect::{holds, same};
-use limit_tree::{Kind, Tree, TreeFault};
+use crate::expect::holds;
+use limit_tree::{Tree, TreeFault};
+use share_text::read_entry;
 use sheet_nodes::{Nodes, SheetFault, name_len, tree_is_of_lines};
-use std::alloc::Global;
+use std::alloc::{Allocator, Global};
 use std::process::Abort;
 
-const LIMIT: Kind = Kind::Branch { limit: Some(9) };
+/// A line of a sheet, and its fault beside those before it.
+pub type Line = (&'static [u8], Option<SheetFault>);
 
-/// A line of a sheet and its fault.
-const LINES: [(&str, Kind, Option<SheetFault>); 8] = [
-    ("/a/b", Kind::Leaf { want: 5, floor: 1 }, None),
-    ("", LIMIT, None),
-    ("", LIMIT, Some(SheetFault::Twice(3))),
+/// The nodes that these lines mention.
+pub fn nodes_of<A: Allocator + Clone>(
+    rt: &impl Abort,
+    alloc: A,
+    lines: &[Line],
+) -> Nodes<'static, A> {
+    let mut nodes = Nodes::new(alloc).expect(rt, "memory");
+    for (at, (line, fault)) in lines.iter().enumerate() {
+        let entry = read_entry(line).expect(rt, "an entry");
+        let taken = nodes.take(at + 1, entry.path, entry.kind);
+        holds(rt, taken.err() == *fault);
+    }
+    nodes
+}
+
+static LINES: [Line; 8] = [
+    (b"want /a/b 5 1", None),
+    (b"limit / 9", None),
+    (b"limit / 9", Some(SheetFault::Twice(3))),
+    (b"want /a/b/c 1", Some(SheetFault::LeafHasKids(4))),
+    (b"want /a 1", Some(SheetFault::LeafHasKids(5))),
     (
-        "/a/b/c",
-        Kind::Leaf { want: 1, floor: 0 },
-        Some(SheetFault::LeafHasKids(4)),
-    ),
-    (
-        "/a",
-        Kind::Leaf { want: 1, floor: 0 },
-        Some(SheetFault::LeafHasKids(5)),
-    ),
-    (
-        "/1/2/3/4/5/6/7/8/9/10/11/12/13/14/15/16/17",
-        LIMIT,
+        b"limit /1/2/3/4/5/6/7/8/9/10/11/12/13/14/15/16/17 9",
         Some(SheetFault::Tree(6, TreeFault::TooDeep)),
     ),
     (
-        "/d/e",
-        Kind::Leaf { want: 1, floor: 2 },
+        b"want /d/e 1 2",
         Some(SheetFault::Tree(7, TreeFault::FloorTooLarge)),
     ),
-    ("/a/c", LIMIT, None),
+    (b"limit /a/c 9", None),
 ];
 
 /// The paths that these lines mention, in that order: a line with a fault mentions nothing.
-const PATHS: [&str; 4] = ["", "/a", "/a/b", "/a/c"];
+static PATHS: [&str; 4] = ["", "/a", "/a/b", "/a/c"];
 
 /// The path's text may live shorter than those of the nodes.
 fn expect_place(rt: &impl Abort, nodes: &Nodes<'_, Global>, path: &str, wanted: Option<usize>)
@@ -51,10 +57,7 @@ fn expect_place(rt: &impl Abort, nodes: &Nodes<'_, Global>, path: &str, wanted: 
 fn expect_paths(rt: &impl Abort, nodes: &Nodes<'_, Global>) {
     holds(rt, nodes.len() == PATHS.len());
     for (place, path) in PATHS.iter().enumerate() {
-        if place >= nodes.len() {
-            rt.abort();
-        }
-        holds(rt, nodes.path(place) == *path);
+        holds(rt, place < nodes.len() && nodes.path(place) == *path);
     }
     expect_place(rt, nodes, "", Some(0));
     expect_place(rt, nodes, "/a/c", Some(3));
@@ -62,42 +65,30 @@ fn expect_paths(rt: &impl Abort, nodes: &Nodes<'_, Global>) {
     expect_place(rt, nodes, "/d", None);
 }
 
-#[test]
-fn lines_are_taken(rt: HostRuntime) {
-    let mut nodes = Nodes::new(rt.alloc()).expect(&rt, "memory");
-    for (at, (path, kind, fault)) in LINES.iter().enumerate() {
-        let taken = nodes.take(at + 1, path, *kind);
-        holds(&rt, taken.err() == *fault);
-    }
-    expect_paths(&rt, &nodes);
-}
-
 /// Lines whose tree has its nodes in another order than that of their first mention.
-const CROSSED: [(&str, Kind); 3] = [
-    ("/b/x", Kind::Leaf { want: 5, floor: 1 }),
-    ("/a", LIMIT),
-    ("/b/w", Kind::Leaf { want: 3, floor: 0 }),
+static CROSSED: [Line; 3] = [
+    (b"want /b/x 5 1", None),
+    (b"limit /a 9", None),
+    (b"want /b/w 3", None),
 ];
 
-fn expect_kids(rt: &impl Abort, alloc: Global, nodes: &Nodes<'_, Global>) {
-    let rows = nodes.kids(alloc).expect(rt, "memory");
-    holds(rt, nodes.len() == 5);
-    holds(rt, rows.len() == 5);
-    same(rt, &rows[0].as_slice(), &[1, 3].as_slice());
-    same(rt, &rows[1].as_slice(), &[2, 4].as_slice());
+fn expect_kids(rt: &(impl Abort + AllocGlobal), nodes: &Nodes<'_, Global>) {
+    let rows = nodes.kids(rt.alloc()).expect(rt, "memory");
+    holds(rt, nodes.len() == 5 && rows.len() == 5);
+    holds(rt, rows[0].as_slice() == [1, 3].as_slice());
+    holds(rt, rows[1].as_slice() == [2, 4].as_slice());
     holds(rt, nodes.parent(4) == 1);
 }
 
 /// The tree, and the whole tree, of the crossed lines.
 fn expect_tree(rt: &impl Abort, tree: &Tree, order: &[usize]) {
-    same(rt, &order, &[0, 1, 2, 4, 3].as_slice());
-    holds(rt, tree.nodes() == 5);
-    holds(rt, tree.leaves() == 2);
+    holds(rt, order == [0, 1, 2, 4, 3].as_slice());
+    holds(rt, tree.nodes() == 5 && tree.leaves() == 2);
     holds(rt, tree.want(1) == 3);
 }
 
-fn expect_trees(rt: &impl Abort, alloc: Global, nodes: &Nodes<'_, Global>) {
-    let mut order = Vec::new(alloc);
+fn expect_trees(rt: &(impl Abort + AllocGlobal), nodes: &Nodes<'_, Global>) {
+    let mut order = Vec::new(rt.alloc());
     let root = nodes.tree(&mut order).expect(rt, "memory");
     let tree = Tree::new(root).expect(rt, "a tree");
     expect_tree(rt, &tree, order.as_slice());
@@ -106,36 +97,32 @@ fn expect_trees(rt: &impl Abort, alloc: Global, nodes: &Nodes<'_, Global>) {
     expect_tree(rt, &whole, order.as_slice());
 }
 
-#[test]
-fn nodes_have_a_tree(rt: HostRuntime) {
-    tree_is_of_lines();
-    let mut nodes = Nodes::new(rt.alloc()).expect(&rt, "memory");
-    for (at, (path, kind)) in CROSSED.iter().enumerate() {
-        let _place = nodes.take(at + 1, path, *kind).expect(&rt, "no fault");
-    }
-    expect_kids(&rt, rt.alloc(), &nodes);
-    expect_trees(&rt, rt.alloc(), &nodes);
-}
-
 /// Lines whose last limit is below the floors beneath it: that of the node 1, which line 3 states.
-const CROWDED: [(&str, Kind); 3] = [
-    ("/a/b", Kind::Leaf { want: 5, floor: 4 }),
-    ("", LIMIT),
-    ("/a", Kind::Branch { limit: Some(3) }),
+static CROWDED: [Line; 3] = [
+    (b"want /a/b 5 4", None),
+    (b"limit / 9", None),
+    (b"limit /a 3", None),
 ];
 
-#[test]
-fn a_whole_tree_is_checked(rt: HostRuntime) {
-    let mut nodes = Nodes::new(rt.alloc()).expect(&rt, "memory");
-    for (at, (path, kind)) in CROWDED.iter().enumerate() {
-        let _place = nodes.take(at + 1, path, *kind).expect(&rt, "no fault");
-    }
+fn whole_fault(rt: &impl AllocGlobal, nodes: &Nodes<'_, Global>) -> Option<SheetFault> {
     let mut order = Vec::new(rt.alloc());
-    let fault = nodes.whole_tree(&mut order).err();
-    holds(
-        &rt,
-        fault == Some(SheetFault::Tree(3, TreeFault::FloorsOverLimit(1))),
-    );
+    nodes.whole_tree(&mut order).err()
+}
+
+#[test]
+fn lines_are_taken(rt: HostRuntime) {
+    tree_is_of_lines();
+    expect_paths(&rt, &nodes_of(&rt, rt.alloc(), &LINES));
+    let crowded = SheetFault::Tree(3, TreeFault::FloorsOverLimit(1));
+    let fault = whole_fault(&rt, &nodes_of(&rt, rt.alloc(), &CROWDED));
+    holds(&rt, fault == Some(crowded));
+}
+
+#[test]
+fn nodes_have_a_tree(rt: HostRuntime) {
+    let nodes = nodes_of(&rt, rt.alloc(), &CROSSED);
+    expect_kids(&rt, &nodes);
+    expect_trees(&rt, &nodes);
 }
 
 #[test]

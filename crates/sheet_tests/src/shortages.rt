@@ -2,6 +2,7 @@
 
 ghost use Rattle.std.specs.Prelude.{◌<◌, length};
 
+use super::nodes::{Line, nodes_of};
 use crate::expect::holds;
 use limit_tree::Kind;
 use linked_list_allocator::LocalHeap;
@@ -9,16 +10,7 @@ use scarce_memory::{HEAP, leave_hole};
 use sheet_nodes::{Nodes, SheetFault, is_leaf};
 use std::process::Abort;
 
-const WANT: Kind = Kind::Leaf { want: 5, floor: 1 };
-
-const LIMIT: Kind = Kind::Branch { limit: Some(9) };
-
-fn two_lines<'h>(rt: &impl Abort, heap: &'h LocalHeap) -> Nodes<'static, &'h LocalHeap> {
-    let mut nodes = Nodes::new(heap).expect(rt, "memory");
-    let _first = nodes.take(1, "/b/x", WANT).expect(rt, "a line");
-    let _second = nodes.take(2, "/a", LIMIT).expect(rt, "a line");
-    nodes
-}
+static TWO_LINES: [Line; 2] = [(b"want /b/x 5 1", None), (b"limit /a 9", None)];
 
 /// A third line stands at its place.
 fn expect_third(rt: &impl Abort, nodes: &Nodes<'static, &LocalHeap>, place: usize)
@@ -27,13 +19,12 @@ fn expect_third(rt: &impl Abort, nodes: &Nodes<'static, &LocalHeap>, place: usiz
     holds(rt, nodes.path(place) == "/b/c/d/e");
     holds(rt, nodes.line(place) == Some(3));
     holds(rt, is_leaf(nodes.kind(place)));
-    holds(rt, nodes.wants() == 2);
-    holds(rt, nodes.len() == 7);
+    holds(rt, nodes.wants() == 2 && nodes.len() == 7);
 }
 
 /// Whether a third line has room; where it has, what it states is there.
 fn is_taken(rt: &impl Abort, nodes: &mut Nodes<'static, &LocalHeap>) -> bool {
-    match nodes.take(3, "/b/c/d/e", WANT) {
+    match nodes.take(3, "/b/c/d/e", Kind::Leaf { want: 5, floor: 1 }) {
         Ok(place) => {
             expect_third(rt, nodes, place);
             true
@@ -49,7 +40,7 @@ fn is_taken(rt: &impl Abort, nodes: &mut Nodes<'static, &LocalHeap>) -> bool {
 /// path was mentioned before.
 fn is_refused(rt: &(impl AllocGlobal + Abort), room: usize) -> bool {
     let heap = LocalHeap::new(rt.alloc(), HEAP).expect(rt, "a heap");
-    let mut nodes = two_lines(rt, &heap);
+    let mut nodes = nodes_of(rt, &heap, &TWO_LINES);
     let rest = leave_hole(rt, &heap, room).expect(rt, "a hole");
     let first = is_taken(rt, &mut nodes);
     drop(rest);
@@ -71,29 +62,20 @@ fn each_growth_of_a_line(rt: HostRuntime) {
     holds(&rt, 0 < refusals && refusals < 255);
 }
 
+/// How many nodes the whole tree has, or its fault.
+fn whole_nodes<'h>(
+    heap: &'h LocalHeap,
+    nodes: &Nodes<'static, &'h LocalHeap>,
+) -> Result<usize, SheetFault> {
+    let mut order = Vec::new(heap);
+    let tree = nodes.whole_tree(&mut order)?;
+    Ok(tree.nodes())
+}
+
 /// Whether the tree of the nodes finds no memory.
 fn lacks_tree<'h>(heap: &'h LocalHeap, nodes: &Nodes<'static, &'h LocalHeap>) -> bool {
     let mut order = Vec::new(heap);
     nodes.tree(&mut order).is_err()
-}
-
-/// The same of the whole tree, which has no fault.
-fn lacks_whole<'h>(
-    rt: &impl Abort,
-    heap: &'h LocalHeap,
-    nodes: &Nodes<'static, &'h LocalHeap>,
-) -> bool {
-    let mut order = Vec::new(heap);
-    match nodes.whole_tree(&mut order) {
-        Ok(tree) => {
-            holds(rt, tree.nodes() == 4);
-            false
-        }
-        Err(fault) => {
-            holds(rt, fault == SheetFault::Memory);
-            true
-        }
-    }
 }
 
 /// Which of the calls that make something of nodes find no memory in a heap.
@@ -102,11 +84,13 @@ fn refusals<'h>(
     heap: &'h LocalHeap,
     nodes: &Nodes<'static, &'h LocalHeap>,
 ) -> [bool; 4] {
+    let whole = whole_nodes(heap, nodes);
+    holds(rt, whole == Ok(4) || whole == Err(SheetFault::Memory));
     [
         Nodes::<'static, &'h LocalHeap>::new(heap).is_err(),
         nodes.kids(heap).is_err(),
         lacks_tree(heap, nodes),
-        lacks_whole(rt, heap, nodes),
+        whole.is_err(),
     ]
 }
 
@@ -127,7 +111,7 @@ fn refusals_in<'h>(
 #[test]
 fn each_growth_of_a_tree(rt: HostRuntime) {
     let heap = LocalHeap::new(rt.alloc(), HEAP).expect(&rt, "a heap");
-    let nodes = two_lines(&rt, &heap);
+    let nodes = nodes_of(&rt, &heap, &TWO_LINES);
     for step in 0..128usize {
         let refused = refusals_in(&rt, &heap, &nodes, 16 * step);
         // With no room each is refused, and with much none.

@@ -2,13 +2,23 @@
 //! `?`, which drops all that is alive there.
 
 use std::alloc::Allocator;
+use std::env::Env;
 use std::process::Abort;
-use store_script::first_unmet;
+use std::rt::Files;
+use store_script::{first_unmet, fresh};
 use virtual_tree::Store;
 
 /// Stops the test where this does not hold.
 pub fn holds(rt: &impl Abort, fact: bool) {
     assert!(rt; fact);
+}
+
+/// A fresh empty folder of the machine.
+pub fn fresh_folder(rt: &(impl Abort + Env + Files + AllocGlobal), name: &str) -> String {
+    match fresh(rt, name) {
+        Ok(folder) => folder,
+        Err(_) => panic!(rt; "no fresh folder"),
+    }
 }
 
 /// Carries out a script. Stops the test at a line that tells something else than it should.

@@ -3,6 +3,7 @@
 use crate::expect::{comes_out, holds};
 use fail_store::FailStore;
 use memory_store::MemStore;
+use std::process::Abort;
 use store_script::first_unmet;
 
 /// Six calls of a store.
@@ -18,16 +19,24 @@ new /g xy
 read /g = xy
 faults = 1";
 
+/// A store of nine octets that passes so many calls.
+fn failing(rt: &(impl Abort + AllocGlobal), passes: u64) -> FailStore<MemStore> {
+    let memory = MemStore::new(rt.alloc(), 9).expect(rt, "memory");
+    FailStore::new(memory, passes)
+}
+
+/// One of the six calls fails, and none after it.
+fn check_failing(rt: &(impl Abort + AllocGlobal), store: &mut FailStore<MemStore>) {
+    let unmet = first_unmet(rt.alloc(), rt.alloc(), store, SIX).expect(rt, "memory");
+    let failed = unmet.expect(rt, "a call that fails");
+    holds(rt, failed.as_str().ends_with("(told device fault)"));
+    comes_out(rt, rt.alloc(), store, AFTERWARDS);
+}
+
 #[test]
 fn each_call_in_turn(rt: HostRuntime) {
     for passes in 0..6 {
-        let memory = MemStore::new(rt.alloc(), 9).expect(&rt, "memory");
-        let mut store = FailStore::new(memory, passes);
-        let unmet = first_unmet(rt.alloc(), rt.alloc(), &mut store, SIX).expect(&rt, "memory");
-        let failed = unmet.expect(&rt, "a call that fails");
-        holds(&rt, failed.as_str().ends_with("(told device fault)"));
-        comes_out(&rt, rt.alloc(), &mut store, AFTERWARDS);
+        check_failing(&rt, &mut failing(&rt, passes));
     }
-    let memory = MemStore::new(rt.alloc(), 9).expect(&rt, "memory");
-    comes_out(&rt, rt.alloc(), &mut FailStore::new(memory, 6), SIX);
+    comes_out(&rt, rt.alloc(), &mut failing(&rt, 6), SIX);
 }

@@ -1,17 +1,17 @@
 //! Each growth of each call of both stores refused in turn: the store is as before, and the call
 //! passes once there is memory.
 
-use crate::expect::{comes_out, holds};
+use crate::expect::{comes_out, fresh_folder, holds};
 use folder_store::DirStore;
 use linked_list_allocator::LocalHeap;
 use memory_store::MemStore;
 use scarce_memory::{HEAP, leave_hole};
 use std::env::Env;
 use std::fs;
+use std::os::fd::AsRawFd;
 use std::process::Abort;
 use std::rt::Files;
-use std::test::Fail;
-use store_script::{ask, fresh, read_line};
+use store_script::{Asked, ask, read_line};
 use virtual_tree::{Store, StoreFault};
 
 /// What a store is before each call.
@@ -39,8 +39,21 @@ remove-file /d/f
 rename /d/f /n
 rename /d /n";
 
-/// Makes a call in a heap that has only one hole of some octets, and answers whether it was
-/// refused.
+/// Makes a call in a heap that has only one hole of some octets.
+fn fault_in_hole<'h, S: Store<&'h LocalHeap>>(
+    rt: &(impl Abort + AllocGlobal),
+    heap: &'h LocalHeap,
+    store: &mut S,
+    asked: &Asked<&'h LocalHeap>,
+    room: usize,
+) -> Option<StoreFault> {
+    let rest = leave_hole(rt, heap, room).expect(rt, "memory for the hole");
+    let fault = ask(rt.alloc(), store, asked).err();
+    drop(rest);
+    fault
+}
+
+/// Makes a call of a filled store so, and again where it was refused. Answers whether it was.
 fn is_refused<'h, S: Store<&'h LocalHeap>>(
     rt: &(impl Abort + AllocGlobal),
     heap: &'h LocalHeap,
@@ -50,13 +63,11 @@ fn is_refused<'h, S: Store<&'h LocalHeap>>(
 ) -> bool {
     comes_out(rt, heap, store, FILLED);
     let asked = read_line(rt.alloc(), heap, line).expect(rt, line);
-    let rest = leave_hole(rt, heap, room).expect(rt, "memory for the hole");
-    let fault = ask(rt.alloc(), store, &asked).err();
-    drop(rest);
+    let fault = fault_in_hole(rt, heap, store, &asked, room);
     if fault.is_some() {
         holds(rt, fault == Some(StoreFault::Memory));
         comes_out(rt, heap, store, AS_BEFORE);
-        drop(ask(rt.alloc(), store, &asked).expect(rt, line));
+        holds(rt, ask(rt.alloc(), store, &asked).is_ok());
     }
     fault.is_some()
 }
@@ -69,42 +80,40 @@ fn is_refused_in_memory(rt: &(impl Abort + AllocGlobal), line: &str, room: usize
 }
 
 /// Whether a store over a folder of the machine refuses a call so.
-fn is_refused_in_a_folder(
-    rt: &(impl Abort + Env + Files + AllocGlobal),
-    machine: HostRuntime,
-    line: &str,
-    room: usize,
-) -> Result<bool, Fail> {
-    let folder = fresh(rt, "refused")?;
+fn is_refused_in_a_folder<R>(rt: &R, line: &str, room: usize) -> bool
+where
+    R: Abort + Env + Files + AllocGlobal + Copy + Drop,
+    R::File: AsRawFd,
+{
+    let folder = fresh_folder(rt, "refused");
     let heap = LocalHeap::new(rt.alloc(), HEAP).expect(rt, "memory");
-    let mut store = DirStore::new((machine, &heap), folder.as_str()).expect(rt, "a folder");
+    let mut store = DirStore::new((*rt, &heap), folder.as_str()).expect(rt, "a folder");
     let refused = is_refused(rt, &heap, &mut store, line, room);
     fs::remove_dir_all(rt, folder.as_str()).expect(rt, "a folder");
-    Ok(refused)
+    refused
 }
 
 /// Refuses each growth of a call in turn, until neither store needs another.
-fn refuse_in_turn(
-    rt: &(impl Abort + Env + Files + AllocGlobal),
-    machine: HostRuntime,
-    line: &str,
-) -> Result<(), Fail> {
+fn refuse_in_turn<R>(rt: &R, line: &str)
+where
+    R: Abort + Env + Files + AllocGlobal + Copy + Drop,
+    R::File: AsRawFd,
+{
     for step in 0..512usize {
         let in_memory = is_refused_in_memory(rt, line, 16 * step);
-        let in_a_folder = is_refused_in_a_folder(rt, machine, line, 16 * step)?;
+        let in_a_folder = is_refused_in_a_folder(rt, line, 16 * step);
         // With no room at all, both refuse.
         holds(rt, 0 < step || in_memory && in_a_folder);
         if !in_memory && !in_a_folder {
-            return Ok(());
+            return;
         }
     }
-    Err(Fail::from("never enough memory"))
+    panic!(rt; "never enough memory")
 }
 
 #[test]
-fn each_growth(rt: HostRuntime) -> Result<(), Fail> {
+fn each_growth(rt: HostRuntime) {
     for line in CALLS.split('\n') {
-        refuse_in_turn(&rt, rt, line)?;
+        refuse_in_turn(&rt, line);
     }
-    Ok(())
 }

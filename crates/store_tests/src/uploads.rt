@@ -11,9 +11,37 @@ use virtual_tree::{Sink, Store, StoreFault, WriteMode};
 /// Room enough for a write and for an end.
 const PLENTY: usize = 4096;
 
-/// Brings one octet more to a file of `abc`, and ends the file, each with only one hole of some
-/// octets. A refused write leaves what stays of the file, and a refused end leaves the file as it was
-/// opened. Answers whether the write was refused, and whether the end was.
+/// Whether a write of one octet more is refused where there is only a hole of some octets.
+fn is_write_refused<S: Sink>(
+    rt: &(impl Abort + AllocGlobal),
+    heap: &LocalHeap,
+    sink: &mut S,
+    room: usize,
+) -> bool {
+    let rest = leave_hole(rt, heap, room).expect(rt, "memory for the hole");
+    let refused = sink.write(b"d").is_err();
+    drop(rest);
+    refused
+}
+
+/// Whether the end of an upload is refused so, for want of memory.
+fn is_end_refused<'h, S: Store<&'h LocalHeap>>(
+    rt: &(impl Abort + AllocGlobal),
+    heap: &'h LocalHeap,
+    store: &mut S,
+    sink: S::Sink,
+    room: usize,
+) -> bool {
+    let rest = leave_hole(rt, heap, room).expect(rt, "memory for the hole");
+    let fault = store.finish(sink, 6_000).err();
+    drop(rest);
+    holds(rt, fault.is_none() || fault == Some(StoreFault::Memory));
+    fault.is_some()
+}
+
+/// Brings one octet more to a file of `abc`, and ends the file, each with only so much room. A refused write leaves what
+/// stays of the file, and a refused end leaves the file as it was opened. Answers whether the write was refused, and
+/// whether the end was.
 fn refused(rt: &(impl Abort + AllocGlobal), write_room: usize, end_room: usize) -> (bool, bool) {
     let heap = LocalHeap::new(rt.alloc(), HEAP).expect(rt, "memory");
     let mut store = MemStore::new(&heap, 99).expect(rt, "memory");
@@ -21,14 +49,8 @@ fn refused(rt: &(impl Abort + AllocGlobal), write_room: usize, end_room: usize) 
     let path = VPath::root(&heap).resolve(&heap, "/f").expect(rt, "a path");
     let mode = WriteMode::Append;
     let mut sink = store.open_write(&path, mode, 6_000).expect(rt, "a sink");
-    let rest = leave_hole(rt, &heap, write_room).expect(rt, "memory for the hole");
-    let no_write = sink.write(b"d").is_err();
-    drop(rest);
-    let rest = leave_hole(rt, &heap, end_room).expect(rt, "memory for the hole");
-    let fault = store.finish(sink, 6_000).err();
-    drop(rest);
-    holds(rt, fault.is_none() || fault == Some(StoreFault::Memory));
-    let no_end = fault.is_some();
+    let no_write = is_write_refused(rt, &heap, &mut sink, write_room);
+    let no_end = is_end_refused(rt, &heap, &mut store, sink, end_room);
     let script = if no_write || no_end {
         "read /f = abc"
     } else {

@@ -6,7 +6,7 @@ use super::expect::{holds, settles};
 use grant_certificate::Sealed;
 use grant_ledger::{Book, BookFault, Grant, MAX_ISSUED, Tally};
 use std::process::Abort;
-use transfer_ends::{FundsFault, sealed};
+use transfer_ends::sealed;
 
 fn spend(grant: Grant, moved: u64, tally: &mut Tally) {
     let most = grant.octets();
@@ -27,72 +27,70 @@ fn entered(book: &mut Book, sealed: &Sealed, tick: u64, tally: &mut Tally) -> Op
     }
 }
 
-// What a book that has issued so much says to one octet, or to none, entered at these ticks in turn.
-fn answers(
-    book: &mut Book,
-    sealed: &Sealed,
-    ticks: &[u64],
-    wanted: &[Option<BookFault>],
-    tally: &mut Tally,
-) -> bool {
-    let mut same = ticks.len() == wanted.len();
-    for (tick, answer) in ticks.iter().zip(wanted) {
-        same &= entered(book, sealed, *tick, tally) == *answer;
+/// Decided amounts, what a book has issued before, what it says to them at one tick after another, what it has issued
+/// then, and the tick of its last entry.
+type Row = (
+    &'static [u64],
+    u64,
+    &'static [(u64, Option<BookFault>)],
+    u64,
+    Option<u64>,
+);
+
+const FULL: Option<BookFault> = Some(BookFault::BookFull);
+
+const NOT_YET: Option<BookFault> = Some(BookFault::NotYet(5));
+
+static ENTRIES: [Row; 4] = [
+    // A full book takes no octet, but an entry of nothing.
+    (&[1], MAX_ISSUED, &[(5, FULL)], MAX_ISSUED, None),
+    (
+        &[0],
+        MAX_ISSUED,
+        &[(5, None), (5, NOT_YET)],
+        MAX_ISSUED,
+        Some(5),
+    ),
+    // Of its last three octets two are issued.
+    (
+        &[1, 1],
+        MAX_ISSUED - 3,
+        &[(0, None), (1, FULL)],
+        MAX_ISSUED - 1,
+        Some(0),
+    ),
+    // It takes one entry a tick.
+    (
+        &[3],
+        0,
+        &[(5, None), (5, NOT_YET), (4, NOT_YET), (6, None)],
+        6,
+        Some(6),
+    ),
+];
+
+fn expect_entries(rt: &impl Abort, decided: &Sealed, row: &Row) {
+    let (_amounts, carried, answers, issued, last_tick) = row;
+    let (mut book, mut tally) = Book::open((*carried).min(MAX_ISSUED));
+    for (tick, answer) in answers.iter() {
+        holds(
+            rt,
+            entered(&mut book, decided, *tick, &mut tally) == *answer,
+        );
     }
-    same
-}
-
-#[test]
-fn a_full_book_takes_no_octet(rt: HostRuntime) -> Result<(), FundsFault> {
-    let one = sealed(rt.alloc(), &[1])?;
-    let (mut book, mut tally) = Book::open(MAX_ISSUED);
-    holds(&rt, book.enter(&one, &[0], 5) == Err(BookFault::BookFull));
-    let full = [Some(BookFault::BookFull)];
-    holds(&rt, answers(&mut book, &one, &[5], &full, &mut tally));
     holds(
-        &rt,
-        book.issued() == MAX_ISSUED && book.last_tick().is_none(),
+        rt,
+        book.issued() == *issued && book.last_tick() == *last_tick,
     );
-    settles(&rt, book, tally, MAX_ISSUED, MAX_ISSUED, 0);
-    Ok(())
+    settles(rt, book, tally, *issued, *issued, 0);
 }
 
 #[test]
-fn an_entry_of_nothing_fits_in_a_full_book(rt: HostRuntime) -> Result<(), FundsFault> {
-    let none = sealed(rt.alloc(), &[0])?;
-    let (mut book, mut tally) = Book::open(MAX_ISSUED);
-    let first = [None, Some(BookFault::NotYet(5))];
-    holds(&rt, answers(&mut book, &none, &[5, 5], &first, &mut tally));
-    settles(&rt, book, tally, MAX_ISSUED, MAX_ISSUED, 0);
-    Ok(())
-}
-
-#[test]
-fn the_last_octets_of_a_book(rt: HostRuntime) -> Result<(), FundsFault> {
-    let two = sealed(rt.alloc(), &[1, 1])?;
-    let (mut book, mut tally) = Book::open(MAX_ISSUED - 3);
-    let answered = [None, Some(BookFault::BookFull)];
-    holds(
-        &rt,
-        answers(&mut book, &two, &[0, 1], &answered, &mut tally),
-    );
-    settles(&rt, book, tally, MAX_ISSUED - 1, MAX_ISSUED - 1, 0);
-    Ok(())
-}
-
-#[test]
-fn one_entry_a_tick(rt: HostRuntime) -> Result<(), FundsFault> {
-    let three = sealed(rt.alloc(), &[3])?;
-    let (mut book, mut tally) = Book::open(0);
-    let again = Some(BookFault::NotYet(5));
-    let answered = [None, again, again, None];
-    holds(
-        &rt,
-        answers(&mut book, &three, &[5, 5, 4, 6], &answered, &mut tally),
-    );
-    holds(&rt, book.last_tick() == Some(6) && book.issued() == 6);
-    settles(&rt, book, tally, 6, 6, 0);
-    Ok(())
+fn a_book_takes_entries(rt: HostRuntime) {
+    for row in &ENTRIES {
+        let decided = sealed(rt.alloc(), row.0).expect(&rt, "a decision");
+        expect_entries(&rt, &decided, row);
+    }
 }
 
 // Draws the lane's amount, if there is one, and has so many octets of it moved.
@@ -106,16 +104,39 @@ fn draw(book: &mut Book, lane: u8, moved: u64, tally: &mut Tally) -> Option<u64>
     drawn.then_some(amount)
 }
 
-#[test]
-fn each_lane_draws_its_amount_once(rt: HostRuntime) -> Result<(), FundsFault> {
-    let decided = sealed(rt.alloc(), &[4, 3, 2])?;
+/// A lane, how many octets of its amount are moved, and the amount.
+static DRAWS: [(u8, u64, Option<u64>); 5] = [
+    (63, 1, Some(3)),
+    (63, 1, None),
+    (1, 1, None),
+    (0, 2, Some(2)),
+    (7, 0, Some(4)),
+];
+
+fn expect_draws(rt: &impl Abort, decided: &Sealed) {
+    holds(rt, decided.grants().len() == 3);
     let (mut book, mut tally) = Book::open(0);
-    holds(&rt, book.enter(&decided, &[7, 63, 0], 7).is_ok());
-    holds(&rt, draw(&mut book, 63, 1, &mut tally) == Some(3));
-    holds(&rt, draw(&mut book, 63, 1, &mut tally).is_none());
-    holds(&rt, draw(&mut book, 1, 1, &mut tally).is_none());
-    holds(&rt, draw(&mut book, 0, 2, &mut tally) == Some(2));
-    holds(&rt, draw(&mut book, 7, 0, &mut tally) == Some(4));
-    settles(&rt, book, tally, 9, 3, 6);
-    Ok(())
+    holds(rt, book.enter(decided, &[7, 63, 0], 7).is_ok());
+    for (lane, moved, amount) in &DRAWS {
+        holds(
+            rt,
+            *lane < 64 && draw(&mut book, *lane, *moved, &mut tally) == *amount,
+        );
+    }
+    settles(rt, book, tally, 9, 3, 6);
+}
+
+fn expect_full(rt: &impl Abort, decided: &Sealed) {
+    holds(rt, decided.grants().len() == 3);
+    let (mut book, tally) = Book::open(MAX_ISSUED);
+    let refused = book.enter(decided, &[7, 63, 0], 5);
+    holds(rt, refused == Err(BookFault::BookFull));
+    settles(rt, book, tally, MAX_ISSUED, MAX_ISSUED, 0);
+}
+
+#[test]
+fn each_lane_draws_its_amount_once(rt: HostRuntime) {
+    let decided = sealed(rt.alloc(), &[4, 3, 2]).expect(&rt, "a decision");
+    expect_draws(&rt, &decided);
+    expect_full(&rt, &decided);
 }

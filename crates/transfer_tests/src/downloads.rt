@@ -1,12 +1,10 @@
-//! What goes out over a data connection.
+//! What goes out over a data connection. The function that bears a crate's name is the example at its head.
 
 use super::expect::holds;
-use data_pump::{OpenFault, PumpEnd};
+use data_pump::{DataOut, OpenFault, PumpEnd, pump_out};
 use ftp_terms::DataType;
-use std::alloc::{AllocError, Global};
 use std::process::Abort;
-use std::test::Fail;
-use transfer_ends::{Octets, Outlet, send, told};
+use transfer_ends::{Funds, Octets, Outlet, send, told};
 use virtual_tree::StoreFault;
 
 // A source that gives so many octets a read, and never fails.
@@ -19,206 +17,242 @@ fn octets(rest: &[u8], step: usize) -> Octets<'_> {
     }
 }
 
-// Sends a text under TYPE A over a connection that takes octet by octet and fails after `left`. Whether that wrote the
-// front of `wire`, moved so much at each pump, ended so, and gave the rest of the grants back.
-fn sends(
-    alloc: Global,
+fn data_pump(
+    rt: &(impl Abort + AllocGlobal),
     source: Octets<'_>,
+    funds: &mut Funds,
+) -> Result<(), OpenFault> {
+    let connection: Vec<u8> = Vec::new(rt.alloc());
+    let mut out = DataOut::open(rt.alloc(), source, connection, DataType::Ascii)?; // reads once
+    let pumped = pump_out(funds.grant(3), &mut out, &mut funds.tally); // at most so many octets
+    holds(rt, pumped.moved == 3 && pumped.end == PumpEnd::More);
+    let rest = funds.grant(out.waiting() as u64); // of all that is left to move
+    let pumped = pump_out(rest, &mut out, &mut funds.tally);
+    holds(rt, pumped.end == PumpEnd::Ended && out.ended());
+    Ok(())
+}
+
+#[test]
+fn a_download(rt: HostRuntime) {
+    let mut funds = Funds::new(rt.alloc(), &[100]).expect(&rt, "memory");
+    holds(
+        &rt,
+        data_pump(&rt, octets(b"a\nb", 100), &mut funds).is_ok(),
+    );
+    holds(&rt, funds.settle().moved == 4);
+}
+
+/// A download: a text, of which so many octets come by a read, and which fails after so many reads, by this fault; a
+/// connection that takes so many octets a write, and fails once it has taken so many; the type and the grants; and then
+/// what is on the wire, what each pump moved, and how the last one ended, or the refusal.
+#[derive(Clone, Copy)]
+struct Row {
+    text: &'static [u8],
+    step: usize,
+    reads: usize,
+    fault: StoreFault,
+    writes: usize,
     left: usize,
-    grants: &[u64],
-    wire: &[u8],
-    moved: &[u64],
-    end: PumpEnd,
-) -> bool {
-    let mut taken = Vec::new(alloc);
-    let outlet = Outlet {
-        taken: &mut taken,
+    data_type: DataType,
+    grants: &'static [u64],
+    wire: &'static [u8],
+    moved: &'static [u64],
+    end: Result<PumpEnd, OpenFault>,
+}
+
+/// A text that is read at once, over a connection that takes octet by octet.
+const TEXT: Row = Row {
+    text: b"a\nb",
+    step: 100,
+    reads: usize::MAX,
+    fault: StoreFault::Device,
+    writes: 1,
+    left: 100,
+    data_type: DataType::Ascii,
+    grants: &[4],
+    wire: b"a\r\nb",
+    moved: &[4],
+    end: Ok(PumpEnd::Ended),
+};
+
+/// A source that gives two octets and then fails.
+const FAILS: Row = Row {
+    text: b"abc",
+    step: 2,
+    reads: 1,
+    writes: 100,
+    data_type: DataType::Image,
+    grants: &[2],
+    wire: b"ab",
+    moved: &[2],
+    end: Ok(PumpEnd::ReadFault),
+    ..TEXT
+};
+
+const WRITE_FAULT: Result<PumpEnd, OpenFault> = Ok(PumpEnd::WriteFault);
+
+static DOWNLOADS: [Row; 14] = [
+    // Octet by octet: four pumps, the last of which ends.
+    Row {
+        grants: &[1, 1, 1, 1],
+        moved: &[1, 1, 1, 1],
+        ..TEXT
+    },
+    // A source that is read octet by octet: the text is the same.
+    Row {
+        text: b"\r\n\n\r",
         step: 1,
-        left,
-    };
-    let Ok(sent) = send(alloc, source, outlet, DataType::Ascii, grants) else {
-        return false;
-    };
-    let settled = sent.settled;
-    sent.is_sound
-        && told(&sent.pumps, moved, end)
-        && taken.as_slice() == wire
-        && settled.moved == wire.len() as u64
-        && settled.issued - settled.moved.min(settled.issued) == settled.back
-}
+        grants: &[3, 3, 3, 3],
+        wire: b"\r\r\n\r\n\r",
+        moved: &[1, 2, 2, 1],
+        ..TEXT
+    },
+    // The first, second, third or fourth write fails, or none.
+    Row {
+        left: 0,
+        wire: b"",
+        moved: &[0],
+        end: WRITE_FAULT,
+        ..TEXT
+    },
+    Row {
+        left: 1,
+        wire: b"a",
+        moved: &[1],
+        end: WRITE_FAULT,
+        ..TEXT
+    },
+    Row {
+        left: 2,
+        wire: b"a\r",
+        moved: &[2],
+        end: WRITE_FAULT,
+        ..TEXT
+    },
+    Row {
+        left: 3,
+        wire: b"a\r\n",
+        moved: &[3],
+        end: WRITE_FAULT,
+        ..TEXT
+    },
+    Row { left: 4, ..TEXT },
+    // A smaller grant, and a write that fails.
+    Row {
+        left: 2,
+        grants: &[3],
+        wire: b"a\r",
+        moved: &[2],
+        end: WRITE_FAULT,
+        ..TEXT
+    },
+    // Nothing makes no call: the connection would fail at any.
+    Row {
+        text: b"",
+        step: 1,
+        left: 0,
+        grants: &[0],
+        wire: b"",
+        moved: &[0],
+        ..TEXT
+    },
+    Row {
+        text: b"a",
+        step: 1,
+        left: 0,
+        grants: &[0],
+        wire: b"",
+        moved: &[0],
+        end: Ok(PumpEnd::More),
+        ..TEXT
+    },
+    // The source fails at its second read, or at its first.
+    FAILS,
+    Row {
+        fault: StoreFault::Memory,
+        end: Ok(PumpEnd::Memory),
+        ..FAILS
+    },
+    Row {
+        reads: 0,
+        wire: b"",
+        end: Err(OpenFault::ReadFault),
+        ..FAILS
+    },
+    Row {
+        reads: 0,
+        fault: StoreFault::Memory,
+        wire: b"",
+        end: Err(OpenFault::Memory),
+        ..FAILS
+    },
+];
 
-// Octet by octet: four pumps, the last of which ends.
-#[test]
-fn a_line_end_goes_as_two_octets(rt: HostRuntime) {
-    let source = octets(b"a\nb", 100);
-    let ones = [1, 1, 1, 1];
-    let wire = b"a\r\nb".as_slice();
-    holds(
-        &rt,
-        sends(rt.alloc(), source, 100, &ones, wire, &ones, PumpEnd::Ended),
-    );
-}
-
-// A source that is read octet by octet, and writes of one octet: the text is the same.
-#[test]
-fn pieces_change_nothing(rt: HostRuntime) {
-    let source = octets(b"\r\n\n\r", 1);
-    let wire = b"\r\r\n\r\n\r".as_slice();
-    let moved = [1, 2, 2, 1];
-    holds(
-        &rt,
-        sends(
-            rt.alloc(),
-            source,
-            100,
-            &[3, 3, 3, 3],
-            wire,
-            &moved,
-            PumpEnd::Ended,
-        ),
-    );
-}
-
-// The first, second, third or fourth write fails, or none.
-#[test]
-fn each_write_may_fail(rt: HostRuntime) {
-    let wire = b"a\r\nb".as_slice();
-    for left in 0..5usize {
-        let end = if left < 4 {
-            PumpEnd::WriteFault
-        } else {
-            PumpEnd::Ended
-        };
-        let front = &wire[..left.min(wire.len())];
-        let moved = [left as u64];
-        let source = octets(b"a\nb", 100);
-        holds(
-            &rt,
-            sends(rt.alloc(), source, left, &[4], front, &moved, end),
-        );
-    }
-}
-
-#[test]
-fn a_smaller_grant_and_a_write_that_fails(rt: HostRuntime) {
-    let source = octets(b"a\nb", 100);
-    let front = b"a\r".as_slice();
-    holds(
-        &rt,
-        sends(
-            rt.alloc(),
-            source,
-            2,
-            &[3],
-            front,
-            &[2],
-            PumpEnd::WriteFault,
-        ),
-    );
-}
-
-// The connection would fail at any call.
-#[test]
-fn nothing_makes_no_call(rt: HostRuntime) {
-    let nothing = b"".as_slice();
-    holds(
-        &rt,
-        sends(
-            rt.alloc(),
-            octets(b"", 1),
-            0,
-            &[0],
-            nothing,
-            &[0],
-            PumpEnd::Ended,
-        ),
-    );
-    holds(
-        &rt,
-        sends(
-            rt.alloc(),
-            octets(b"a", 1),
-            0,
-            &[0],
-            nothing,
-            &[0],
-            PumpEnd::More,
-        ),
-    );
-}
-
-// Sends "abc" from a source that gives two octets and then fails; or the refusal.
-fn failed(alloc: Global, reads: usize, fault: StoreFault, end: PumpEnd) -> Result<bool, OpenFault> {
-    let source = Octets {
-        rest: b"abc",
-        step: 2,
-        reads,
-        fault,
-    };
-    let mut taken = Vec::new(alloc);
+// What was not moved is given back.
+fn expect_sent(rt: &(impl Abort + AllocGlobal), row: &Row) {
+    let mut taken = Vec::new(rt.alloc());
     let outlet = Outlet {
         taken: &mut taken,
-        step: 100,
-        left: 100,
+        step: row.writes,
+        left: row.left,
     };
-    let sent = send(alloc, source, outlet, DataType::Image, &[2])?;
-    let same = sent.is_sound && told(&sent.pumps, &[2], end);
-    Ok(same && taken.as_slice() == b"ab".as_slice() && sent.settled.back == 0)
+    let source = Octets {
+        rest: row.text,
+        step: row.step,
+        reads: row.reads,
+        fault: row.fault,
+    };
+    match send(rt.alloc(), source, outlet, row.data_type, row.grants) {
+        Ok(sent) => {
+            let end = row.end.expect(rt, "no refusal");
+            holds(rt, sent.is_sound && told(&sent.pumps, row.moved, end));
+            let settled = sent.settled;
+            holds(rt, settled.moved == row.wire.len() as u64);
+            holds(
+                rt,
+                settled.moved.checked_add(settled.back) == Some(settled.issued),
+            );
+        }
+        Err(fault) => holds(rt, row.end == Err(fault)),
+    }
+    holds(rt, taken.as_slice() == row.wire);
 }
 
 #[test]
-fn a_source_may_fail(rt: HostRuntime) {
-    for (fault, end) in [
-        (StoreFault::Device, PumpEnd::ReadFault),
-        (StoreFault::Memory, PumpEnd::Memory),
-    ] {
-        holds(&rt, failed(rt.alloc(), 1, fault, end) == Ok(true));
+fn downloads(rt: HostRuntime) {
+    for row in &DOWNLOADS {
+        expect_sent(&rt, row);
     }
 }
 
-#[test]
-fn a_first_read_may_fail(rt: HostRuntime) {
-    for (fault, refusal) in [
-        (StoreFault::Device, OpenFault::ReadFault),
-        (StoreFault::Memory, OpenFault::Memory),
-    ] {
-        holds(
-            &rt,
-            failed(rt.alloc(), 0, fault, PumpEnd::More) == Err(refusal),
-        );
-    }
-}
-
-// So many line ends.
-fn line_ends(alloc: Global, count: usize) -> Result<Vec<u8>, AllocError> {
-    Ok(vec![in alloc; b'\n'; count]?)
-}
-
-// Sends so many line ends by grants of `most`, and tells what each pump moved.
-fn sent_by(alloc: Global, count: usize, data_type: DataType, most: u64) -> Result<Vec<u64>, Fail> {
-    let text = line_ends(alloc, count)?;
-    let mut taken = Vec::new(alloc);
+// Sends octets that are read at once, by grants of 80,000, of which the pumps move so many.
+fn expect_moved(
+    rt: &(impl Abort + AllocGlobal),
+    text: &[u8],
+    data_type: DataType,
+    moved: &[u64; 3],
+) {
+    let mut taken = Vec::new(rt.alloc());
     let outlet = Outlet {
         taken: &mut taken,
         step: 10_000,
         left: usize::MAX,
     };
-    let grants = [most, most, most];
-    let mut moved = Vec::new(alloc);
-    if let Ok(sent) = send(alloc, octets(&text, count), outlet, data_type, &grants) {
-        for pumped in sent.pumps.iter() {
-            moved.push(pumped.moved)?;
-        }
+    let source = octets(text, text.len());
+    let sent = send(rt.alloc(), source, outlet, data_type, &[80_000; 3]);
+    let sent = sent.expect(rt, "a download");
+    holds(rt, sent.pumps.len() == 3);
+    for (pumped, count) in sent.pumps.iter().zip(moved) {
+        holds(rt, pumped.moved == *count);
     }
-    Ok(moved)
 }
 
 // At most 65,536 wire octets wait, which are half as many line ends under TYPE A.
 #[test]
-fn a_full_buffer(rt: HostRuntime) -> Result<(), Fail> {
-    let image = sent_by(rt.alloc(), 70_000, DataType::Image, 80_000)?;
-    holds(&rt, image.as_slice() == [65_536, 4_464, 0].as_slice());
-    let text = sent_by(rt.alloc(), 40_000, DataType::Ascii, 80_000)?;
-    holds(&rt, text.as_slice() == [65_536, 14_464, 0].as_slice());
-    Ok(())
+fn a_full_buffer(rt: HostRuntime) {
+    let alloc = rt.alloc();
+    let ends = vec![in alloc; b'\n'; 70_000].expect(&rt, "memory");
+    expect_moved(&rt, &ends, DataType::Image, &[65_536, 4_464, 0]);
+    let fewer = &ends[..40_000];
+    expect_moved(&rt, fewer, DataType::Ascii, &[65_536, 14_464, 0]);
 }

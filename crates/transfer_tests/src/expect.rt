@@ -26,5 +26,5 @@ pub(crate) fn settles(
         moved,
         back,
     };
-    assert_eq!(rt; settle(book, tally), wanted);
+    holds(rt, settle(book, tally) == wanted);
 }

@@ -4,111 +4,97 @@ use super::expect::holds;
 use data_pump::PumpEnd;
 use ftp_terms::DataType;
 use memory_store::MemStore;
-use std::alloc::Global;
 use std::process::Abort;
-use std::test::Fail;
 use transfer_ends::{Inlet, Outlet, receive, send, told};
 use virtual_path::VPath;
-use virtual_tree::{Sink, Source, Store, StoreFault, WriteMode};
+use virtual_tree::{Sink, Source, Store, WriteMode};
 
-fn path(rt: &impl Abort, alloc: Global, text: &str) -> VPath {
-    match VPath::root(alloc).resolve(alloc, text) {
-        Ok(path) => path,
-        Err(_) => panic!(rt; "{text} is a path"),
-    }
+fn path(rt: &(impl Abort + AllocGlobal), text: &str) -> VPath {
+    VPath::root(rt.alloc())
+        .resolve(rt.alloc(), text)
+        .expect(rt, "a path")
 }
 
 // Writes a file of the store.
-fn put(store: &mut MemStore, path: &VPath, octets: &[u8]) -> Result<(), StoreFault> {
-    let mut sink = store.open_write(path, WriteMode::New, 0)?;
-    sink.write(octets)?;
-    store.finish(sink, 0)
+fn put(rt: &impl Abort, store: &mut MemStore, path: &VPath, octets: &[u8]) {
+    let mut sink = store
+        .open_write(path, WriteMode::New, 0)
+        .expect(rt, "a sink");
+    holds(rt, sink.write(octets).is_ok());
+    holds(rt, store.finish(sink, 0).is_ok());
 }
 
-// Sends a file of the store from an offset on, and tells what the connection took.
-fn sent(
-    alloc: Global,
+// Sends a file of the store from an offset on: these octets are on the wire.
+fn expect_sent(
+    rt: &(impl Abort + AllocGlobal),
     store: &mut MemStore,
     path: &VPath,
     offset: u64,
-) -> Result<Vec<u8>, StoreFault> {
-    let source = store.open_read(path, offset)?;
-    let mut taken = Vec::new(alloc);
+    wire: &[u8],
+) {
+    let source = store.open_read(path, offset).expect(rt, "a source");
+    let mut taken = Vec::new(rt.alloc());
     let outlet = Outlet {
         taken: &mut taken,
         step: 3,
         left: 100,
     };
-    match send(alloc, source, outlet, DataType::Ascii, &[4, 90]) {
-        Ok(told) if told.is_sound => Ok(taken),
-        _ => Err(StoreFault::Device),
-    }
+    let sent = send(rt.alloc(), source, outlet, DataType::Ascii, &[4, 90]);
+    holds(rt, sent.expect(rt, "a download").is_sound);
+    holds(rt, taken.as_slice() == wire);
 }
 
-// Receives octets into a file of the store.
-fn stored(
-    alloc: Global,
+// Receives octets behind those of a file of the store, by pumps that move so many.
+fn receive_more(
+    rt: &(impl Abort + AllocGlobal),
     store: &mut MemStore,
     path: &VPath,
     wire: &[u8],
-) -> Result<bool, StoreFault> {
-    let sink = store.open_write(path, WriteMode::Append, 0)?;
+    moved: &[u64],
+) {
+    let sink = store
+        .open_write(path, WriteMode::Append, 0)
+        .expect(rt, "a sink");
     let inlet = Inlet {
         rest: wire,
         step: 3,
         reads: 100,
     };
-    let grants = [4, 4, 4, 4];
-    match receive(alloc, inlet, sink, DataType::Ascii, &grants) {
-        Ok((came, sink)) => {
-            store.finish(sink, 0)?;
-            Ok(came.is_sound && told(&came.pumps, &[3, 3, 2, 0], PumpEnd::Ended))
-        }
-        Err(_) => Err(StoreFault::Memory),
-    }
-}
-
-// The first octets of a file, up to 16.
-fn front(alloc: Global, store: &mut MemStore, path: &VPath) -> Result<Vec<u8>, StoreFault> {
-    let mut source = store.open_read(path, 0)?;
-    let mut buffer = [0; 16];
-    let count = source.read(&mut buffer)?;
-    let mut octets = Vec::new(alloc);
-    if count <= buffer.len() {
-        octets.extend_from_slice(&buffer[..count])?;
-    }
-    Ok(octets)
-}
-
-#[test]
-fn a_file_goes_out_and_comes_back(rt: HostRuntime) -> Result<(), Fail> {
-    let mut store = MemStore::new(rt.alloc(), 1_000)?;
-    let (first, second) = (path(&rt, rt.alloc(), "/f"), path(&rt, rt.alloc(), "/g"));
-    holds(&rt, put(&mut store, &first, b"a\nb\n\rc").is_ok());
-    holds(&rt, put(&mut store, &second, b"x").is_ok());
-    let Ok(wire) = sent(rt.alloc(), &mut store, &first, 0) else {
-        panic!(rt; "the file was not sent");
-    };
-    holds(&rt, wire.as_slice() == b"a\r\nb\r\n\rc".as_slice());
+    let received = receive(rt.alloc(), inlet, sink, DataType::Ascii, &[4, 4, 4, 4]);
+    let (came, sink) = received.expect(rt, "an upload");
     holds(
-        &rt,
-        stored(rt.alloc(), &mut store, &second, &wire) == Ok(true),
+        rt,
+        came.is_sound && told(&came.pumps, moved, PumpEnd::Ended),
     );
-    let Ok(back) = front(rt.alloc(), &mut store, &second) else {
-        panic!(rt; "the file cannot be read");
-    };
-    holds(&rt, back.as_slice() == b"xa\nb\n\rc".as_slice());
-    Ok(())
+    holds(rt, store.finish(sink, 0).is_ok());
+}
+
+fn expect_file(rt: &impl Abort, store: &mut MemStore, path: &VPath, wanted: &[u8]) {
+    let mut source = store.open_read(path, 0).expect(rt, "a source");
+    let mut buffer = [0; 16];
+    let count = source.read(&mut buffer).expect(rt, "octets");
+    holds(rt, &buffer[..count] == wanted);
+}
+
+fn expect_copy(rt: &(impl Abort + AllocGlobal), store: &mut MemStore) {
+    let (first, second) = (path(rt, "/f"), path(rt, "/g"));
+    put(rt, store, &first, b"a\nb\n\rc");
+    put(rt, store, &second, b"x");
+    let wire = b"a\r\nb\r\n\rc".as_slice();
+    expect_sent(rt, store, &first, 0, wire);
+    receive_more(rt, store, &second, wire, &[3, 3, 2, 0]);
+    expect_file(rt, store, &second, b"xa\nb\n\rc");
+}
+
+fn expect_rest(rt: &(impl Abort + AllocGlobal), store: &mut MemStore) {
+    let file = path(rt, "/h");
+    put(rt, store, &file, b"abc\nd");
+    expect_sent(rt, store, &file, 2, b"c\r\nd");
 }
 
 #[test]
-fn a_file_goes_from_an_offset_on(rt: HostRuntime) -> Result<(), Fail> {
-    let mut store = MemStore::new(rt.alloc(), 1_000)?;
-    let file = path(&rt, rt.alloc(), "/f");
-    holds(&rt, put(&mut store, &file, b"abc\nd").is_ok());
-    let Ok(wire) = sent(rt.alloc(), &mut store, &file, 2) else {
-        panic!(rt; "the file was not sent");
-    };
-    holds(&rt, wire.as_slice() == b"c\r\nd".as_slice());
-    Ok(())
+fn files_go_out_and_come_back(rt: HostRuntime) {
+    let mut store = MemStore::new(rt.alloc(), 1_000).expect(&rt, "memory");
+    expect_copy(&rt, &mut store);
+    expect_rest(&rt, &mut store);
 }

@@ -1,9 +1,39 @@
-//! What becomes of grants, purses and tallies.
+//! What becomes of grants, purses and tallies. The functions that bear the names of crates are the examples at their heads.
 
 use super::expect::{holds, settles};
-use grant_ledger::{Book, Grant, MAX_ISSUED, Purse, Tally};
+use grant_ledger::{Book, Grant, MAX_ISSUED, Purse, Tally, settle};
 use std::process::Abort;
-use transfer_ends::{FundsFault, sealed};
+use transfer_ends::{Funds, FundsFault, sealed};
+
+#[test]
+fn grant_ledger(rt: HostRuntime) -> Result<(), FundsFault> {
+    let sealed = sealed(rt.alloc(), &[100])?;
+    let (mut book, mut tally) = Book::open(0);
+    match book.enter_out(&sealed, 7) {
+        Ok(mut purse) => {
+            let grant = purse.split(3, purse.left()); // its octets at tick 7, all for lane 3
+            purse.close(); // since nothing is left
+            let mut own = tally.split(); // a worker's own tally
+            let moved = grant.octets().min(60);
+            grant.spend(moved, &mut own); // the others are given back
+            tally.join(own);
+        }
+        Err(_) => panic!(rt; "a later tick than the last is taken"),
+    }
+    let settled = settle(book, tally);
+    assert!(rt; settled.issued == 100 && settled.moved == 60 && settled.back == 40);
+    Ok(())
+}
+
+#[test]
+fn transfer_ends(rt: HostRuntime) -> Result<(), FundsFault> {
+    // one round that granted one transfer 100 octets
+    let mut funds = Funds::new(rt.alloc(), &[100])?;
+    let grant = funds.grant(60); // at most what is left
+    grant.spend(0, &mut funds.tally);
+    assert!(rt; funds.settle().back == 100);
+    Ok(())
+}
 
 fn is_grant(grant: &Grant, octets: u64, lane: u8, tick: u64) -> bool {
     grant.octets() == octets && grant.lane() == lane && grant.tick() == tick
@@ -28,15 +58,14 @@ fn ten_octets(rt: &impl Abort, mut purse: Purse, tally: &mut Tally) {
 }
 
 #[test]
-fn a_purse_is_split_and_a_grant_cut(rt: HostRuntime) -> Result<(), FundsFault> {
-    let decided = sealed(rt.alloc(), &[6, 4])?;
+fn a_purse_is_split_and_a_grant_cut(rt: HostRuntime) {
+    let decided = sealed(rt.alloc(), &[6, 4]).expect(&rt, "a decision");
     let (mut book, mut tally) = Book::open(5);
     match book.enter_out(&decided, 3) {
         Ok(purse) => ten_octets(&rt, purse, &mut tally),
         Err(_) => panic!(rt; "the first entry was refused"),
     }
     settles(&rt, book, tally, 15, 9, 6);
-    Ok(())
 }
 
 #[test]

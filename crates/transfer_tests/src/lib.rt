@@ -1,5 +1,5 @@
-//! Tests of books, grants and tallies, of text on the wire, of pumps, and of transfers between data connections and the files of
-//! a store, by public calls alone.
+//! Tests of books, grants and tallies, of text on the wire, of pumps, of transfers between data connections and the files of
+//! a store, and of ports and registries, by public calls alone.
 #![tactic(auto)]
 
 #[cfg(test)]
@@ -9,11 +9,15 @@ mod downloads;
 #[cfg(test)]
 mod expect;
 #[cfg(test)]
-mod file_shortages;
-#[cfg(test)]
 mod files;
 #[cfg(test)]
 mod grants;
+#[cfg(test)]
+mod ports;
+#[cfg(test)]
+mod registries;
+#[cfg(test)]
+mod shortages;
 #[cfg(test)]
 mod uploads;
 #[cfg(test)]

@@ -3,114 +3,144 @@
 use super::expect::holds;
 use data_pump::PumpEnd;
 use ftp_terms::DataType;
-use std::alloc::{AllocError, Global};
 use std::process::Abort;
-use std::test::Fail;
 use transfer_ends::{Collected, Inlet, receive, told};
 use virtual_tree::StoreFault;
 
-// Receives a text under TYPE A by reads of at most `step` octets, with grants of 5. Whether the sink holds `text` then,
-// each pump moved so much, and the last of them ended.
-fn receives(alloc: Global, wire: &[u8], step: usize, text: &[u8], moved: &[u64]) -> bool {
-    let mut collected = Vec::new(alloc);
-    let sink = Collected {
-        octets: &mut collected,
-        writes: usize::MAX,
-        fault: StoreFault::Device,
-    };
-    let inlet = Inlet {
-        rest: wire,
-        step,
-        reads: usize::MAX,
-    };
-    let grants = [5, 5, 5, 5, 5, 5];
-    let grants = &grants[..moved.len().min(grants.len())];
-    let Ok((came, sink)) = receive(alloc, inlet, sink, DataType::Ascii, grants) else {
-        return false;
-    };
-    drop(sink);
-    let total = wire.len() as u64;
-    came.is_sound
-        && told(&came.pumps, moved, PumpEnd::Ended)
-        && collected.as_slice() == text
-        && came.settled.moved == total
-        && came.settled.issued - total.min(came.settled.issued) == came.settled.back
-}
-
-// A CR at the end of a piece is held back; a CR alone stays.
-#[test]
-fn a_line_end_comes_in_pieces(rt: HostRuntime) {
-    let (wire, text) = (b"a\r\nb\r".as_slice(), b"a\nb\r".as_slice());
-    holds(
-        &rt,
-        receives(rt.alloc(), wire, 1, text, &[1, 1, 1, 1, 1, 0]),
-    );
-    holds(&rt, receives(rt.alloc(), wire, 2, text, &[2, 2, 1, 0]));
-    holds(&rt, receives(rt.alloc(), wire, 9, text, &[5, 0]));
-}
-
-// One pump of a TYPE I upload with a grant of `most`: what it moved, its end, and what came back.
-fn pumped(
-    alloc: Global,
-    rest: &[u8],
-    writes: usize,
+/// An upload: what the connection gives, so many octets a read, and fails after so many reads; a sink that refuses after
+/// so many writes for want of memory; the type and the grants; and then what the sink holds, what each pump moved, how
+/// the last one ended, and how many of the granted octets were moved and came back.
+#[derive(Clone, Copy)]
+struct Row<'a> {
+    rest: &'a [u8],
+    step: usize,
     reads: usize,
-    most: u64,
-) -> Option<(u64, PumpEnd, u64)> {
-    let mut collected = Vec::new(alloc);
+    writes: usize,
+    data_type: DataType,
+    grants: &'static [u64],
+    text: &'a [u8],
+    moved: &'static [u64],
+    end: PumpEnd,
+    settled: (u64, u64),
+}
+
+/// A CR at the end of a piece is held back; a CR alone stays.
+const TEXT: Row<'static> = Row {
+    rest: b"a\r\nb\r",
+    step: 1,
+    reads: usize::MAX,
+    writes: usize::MAX,
+    data_type: DataType::Ascii,
+    grants: &[5, 5, 5, 5, 5, 5],
+    text: b"a\nb\r",
+    moved: &[1, 1, 1, 1, 1, 0],
+    end: PumpEnd::Ended,
+    settled: (5, 25),
+};
+
+/// One pump, which makes one read and one write.
+const IMAGE: Row<'static> = Row {
+    rest: b"abc",
+    step: 100_000,
+    reads: 1,
+    writes: 1,
+    data_type: DataType::Image,
+    grants: &[5],
+    text: b"abc",
+    moved: &[3],
+    end: PumpEnd::More,
+    settled: (3, 2),
+};
+
+static UPLOADS: [Row<'static>; 8] = [
+    TEXT,
+    Row {
+        step: 2,
+        grants: &[5, 5, 5, 5],
+        moved: &[2, 2, 1, 0],
+        settled: (5, 15),
+        ..TEXT
+    },
+    Row {
+        step: 9,
+        grants: &[5, 5],
+        moved: &[5, 0],
+        settled: (5, 5),
+        ..TEXT
+    },
+    IMAGE,
+    Row {
+        rest: b"",
+        text: b"",
+        moved: &[0],
+        end: PumpEnd::Ended,
+        settled: (0, 5),
+        ..IMAGE
+    },
+    Row {
+        writes: 0,
+        text: b"",
+        end: PumpEnd::Memory,
+        ..IMAGE
+    },
+    Row {
+        reads: 0,
+        text: b"",
+        moved: &[0],
+        end: PumpEnd::ReadFault,
+        settled: (0, 5),
+        ..IMAGE
+    },
+    // Nothing makes no read: the connection would fail at any.
+    Row {
+        reads: 0,
+        writes: 0,
+        grants: &[0],
+        text: b"",
+        moved: &[0],
+        settled: (0, 0),
+        ..IMAGE
+    },
+];
+
+fn expect_received(rt: &(impl Abort + AllocGlobal), row: &Row<'_>) {
+    let mut collected = Vec::new(rt.alloc());
     let sink = Collected {
         octets: &mut collected,
-        writes,
+        writes: row.writes,
         fault: StoreFault::Memory,
     };
     let inlet = Inlet {
-        rest,
-        step: 100_000,
-        reads,
+        rest: row.rest,
+        step: row.step,
+        reads: row.reads,
     };
-    let (came, sink) = receive(alloc, inlet, sink, DataType::Image, &[most]).ok()?;
-    drop(sink);
-    let pump = came.pumps.first().copied()?;
-    (came.is_sound && came.settled.moved == pump.moved).then_some((
-        pump.moved,
-        pump.end,
-        came.settled.back,
-    ))
+    let received = receive(rt.alloc(), inlet, sink, row.data_type, row.grants);
+    let (came, _sink) = received.expect(rt, "an upload");
+    holds(rt, came.is_sound && told(&came.pumps, row.moved, row.end));
+    holds(rt, (came.settled.moved, came.settled.back) == row.settled);
+    holds(rt, collected.as_slice() == row.text);
 }
 
 #[test]
-fn one_read_a_pump(rt: HostRuntime) {
-    let abc = b"abc".as_slice();
-    let nothing = b"".as_slice();
-    for (rest, writes, reads, wanted) in [
-        (abc, 1, 1, (3, PumpEnd::More, 2)),
-        (nothing, 1, 1, (0, PumpEnd::Ended, 5)),
-        (abc, 0, 1, (3, PumpEnd::Memory, 2)),
-        (abc, 1, 0, (0, PumpEnd::ReadFault, 5)),
-    ] {
-        holds(
-            &rt,
-            pumped(rt.alloc(), rest, writes, reads, 5) == Some(wanted),
-        );
+fn uploads(rt: HostRuntime) {
+    for row in &UPLOADS {
+        expect_received(&rt, row);
     }
-}
-
-// The connection would fail at any call.
-#[test]
-fn nothing_makes_no_read(rt: HostRuntime) {
-    let none = pumped(rt.alloc(), b"abc", 0, 0, 0);
-    holds(&rt, none == Some((0, PumpEnd::More, 0)));
-}
-
-fn zeros(alloc: Global, count: usize) -> Result<Vec<u8>, AllocError> {
-    Ok(vec![in alloc; 0u8; count]?)
 }
 
 // One pump reads at most 65,536 octets, whatever is granted.
 #[test]
-fn a_full_read(rt: HostRuntime) -> Result<(), Fail> {
-    let octets = zeros(rt.alloc(), 70_000)?;
-    let full = pumped(rt.alloc(), &octets, 1, 1, 80_000);
-    holds(&rt, full == Some((65_536, PumpEnd::More, 14_464)));
-    Ok(())
+fn a_full_read(rt: HostRuntime) {
+    let alloc = rt.alloc();
+    let zeros = vec![in alloc; 0u8; 70_000].expect(&rt, "memory");
+    let row = Row {
+        rest: &zeros,
+        text: &zeros[..65_536],
+        grants: &[80_000],
+        moved: &[65_536],
+        settled: (65_536, 14_464),
+        ..IMAGE
+    };
+    expect_received(&rt, &row);
 }

@@ -2,16 +2,12 @@
 #![tactic(auto)]
 
 #[cfg(test)]
-mod changes;
-#[cfg(test)]
-mod lines;
-#[cfg(test)]
-mod path_lines;
-#[cfg(test)]
-mod path_shortages;
+mod expect;
 #[cfg(test)]
 mod paths;
 #[cfg(test)]
 mod shortages;
+#[cfg(test)]
+mod steps;
 #[cfg(test)]
 mod users;

@@ -1,95 +1,190 @@
-//! The names that texts give, and the parts of paths.
+//! The paths that are made of one, the parts of paths, and their bounds.
 
-use crate::path_lines::{first_unmet, path};
-use std::alloc::Global;
-use std::test::Fail;
-use virtual_path::{LONGEST_NAME, LONGEST_PATH, PathFault, VPath, is_name};
+use crate::expect::{holds, reads, same};
+use std::alloc::{Allocator, Global};
+use std::process::Abort;
+use virtual_path::{LONGEST_NAME, LONGEST_PATH, PathFault, VPath, is_name, parent_text};
 
-const LINES: &str = "resolve /home/ann = /home/ann
-resolve /home/ann x = /home/ann/x
-resolve /home/ann ./x//y/ = /home/ann/x/y
-resolve /home/ann .. = /home
-resolve /home/ann ../../.. = /
-resolve /home/ann /a/../b/. = /b
-resolve /home/ann ... = /home/ann/...
-resolve / a\tb = a name holds a control octet
-resolve / a\u{7f} = a name holds a control octet
-child /a c = /a/c
-child / .. = a name holds a control octet
-joined /a /a/b = /a/a/b
-clone /a/b = /a/b
-parent /a/b = /a
-names /a/b = +a+b
-depth /a/b = 2
-depth / = 0
-name /a/b = b
-name / = none
-parent-text /a/b = /a
-parent-text /a = /
-parent-text / = none
-text-above /a = /
-text-above / = none
-root / = true
-root /a = false
-beneath /a/b /a = true
-beneath /a /a = true
-beneath /a /a/b = false
-beneath /ab /a = false
-is-name / a = true
-is-name / ... = true
-is-name / \u{e9} = true
-is-name /  = false
-is-name / . = false
-is-name / .. = false
-is-name / a/b = false
-is-name / a\tb = false
-is-name / \u{7f} = false";
-
-#[test]
-fn lines(rt: HostRuntime) -> Result<(), Fail> {
-    let unmet = first_unmet(rt.alloc(), LINES)?;
-    assert!(rt; unmet.is_none(), "{unmet:?}");
+fn virtual_path(rt: &(impl Abort + AllocGlobal)) -> Result<(), PathFault> {
+    let home = VPath::root(rt.alloc()).resolve(rt.alloc(), "/home/ann")?;
+    let file = home.resolve(rt.alloc(), "../bob/./f")?;
+    holds(rt, file.text() == "/home/bob/f");
+    holds(rt, file.file_name() == Some("f"));
     Ok(())
 }
 
-/// So many octets `a`.
-fn letters(alloc: Global, count: usize) -> Result<String, Fail> {
-    let mut name = String::new(alloc);
-    for _ in 0..count {
-        name.push('a')?;
-    }
-    Ok(name)
+/// What is made of a path.
+#[derive(Clone, Copy)]
+pub enum Making {
+    Resolve(&'static str),
+    Child(&'static str),
+    /// The path of a text below it.
+    Joined(&'static str),
+    /// Of the root, the root.
+    Parent,
+    Clone,
 }
 
-/// So many names, each as long as can be.
-fn longest(alloc: Global, count: u32) -> Result<VPath, Fail> {
-    let name = letters(alloc, LONGEST_NAME)?;
+/// The path of a text, from the root.
+pub fn path_of<A: Allocator + Copy>(rt: &impl Abort, alloc: A, text: &str) -> VPath<A> {
+    VPath::root(alloc).resolve(alloc, text).expect(rt, text)
+}
+
+/// What is made of a path.
+pub fn made<A: Allocator + Copy>(
+    rt: &impl Abort,
+    alloc: A,
+    from: &VPath<A>,
+    making: Making,
+) -> Result<VPath<A>, PathFault> {
+    match making {
+        Making::Resolve(text) => from.resolve(alloc, text),
+        Making::Child(name) => from.child(alloc, name),
+        Making::Joined(text) => from.joined(alloc, &path_of(rt, alloc, text)),
+        Making::Parent => Ok(from.parent(alloc)?.unwrap_or(VPath::root(alloc))),
+        Making::Clone => Ok(from.try_clone(alloc)?),
+    }
+}
+
+/// The path that was made, or the fault, has this text.
+fn tells(rt: &(impl Abort + AllocGlobal), found: Result<VPath, PathFault>, wanted: &str) {
+    match found {
+        Ok(path) => same(rt, &path.text(), &wanted),
+        Err(fault) => reads(rt, &fault, wanted),
+    }
+}
+
+/// A path, what is made of it, and the text of that or of the fault.
+static MADE: &[(&str, Making, &str)] = &[
+    ("/home/ann", Making::Resolve(""), "/home/ann"),
+    ("/home/ann", Making::Resolve("x"), "/home/ann/x"),
+    ("/home/ann", Making::Resolve("./x//y/"), "/home/ann/x/y"),
+    ("/home/ann", Making::Resolve(".."), "/home"),
+    ("/home/ann", Making::Resolve("../../.."), "/"),
+    ("/home/ann", Making::Resolve("/a/../b/."), "/b"),
+    ("/home/ann", Making::Resolve("..."), "/home/ann/..."),
+    ("/", Making::Resolve("a\tb"), "a name holds a control octet"),
+    (
+        "/",
+        Making::Resolve("a\u{7f}"),
+        "a name holds a control octet",
+    ),
+    ("/a", Making::Child("c"), "/a/c"),
+    ("/", Making::Child(".."), "a name holds a control octet"),
+    ("/a", Making::Joined("/a/b"), "/a/a/b"),
+    ("/a/b", Making::Clone, "/a/b"),
+    ("/a/b", Making::Parent, "/a"),
+    ("/", Making::Parent, "/"),
+];
+
+/// A path, its names with a `+` before each, how many they are, the last one, and the text of its parent.
+type Parts = (
+    &'static str,
+    &'static str,
+    usize,
+    Option<&'static str>,
+    Option<&'static str>,
+);
+
+static PARTS: &[Parts] = &[
+    ("/", "", 0, None, None),
+    ("/a", "+a", 1, Some("a"), Some("/")),
+    ("/a/b", "+a+b", 2, Some("b"), Some("/a")),
+];
+
+/// A path, another, and whether the first is the other or beneath it.
+static BENEATH: &[(&str, &str, bool)] = &[
+    ("/a/b", "/a", true),
+    ("/a", "/a", true),
+    ("/a", "/a/b", false),
+    ("/ab", "/a", false),
+];
+
+/// A text, and whether it is a name that a path may hold.
+static NAMES: &[(&str, bool)] = &[
+    ("a", true),
+    ("...", true),
+    ("\u{e9}", true),
+    ("", false),
+    (".", false),
+    ("..", false),
+    ("a/b", false),
+    ("a\tb", false),
+    ("\u{7f}", false),
+];
+
+fn check_made(rt: &(impl Abort + AllocGlobal), from: &str, making: Making, wanted: &str) {
+    let from = path_of(rt, rt.alloc(), from);
+    tells(rt, made(rt, rt.alloc(), &from, making), wanted);
+}
+
+/// Each of the names, a `+` before it.
+fn marked(rt: &(impl Abort + AllocGlobal), names: &[&str]) -> String {
+    let mut text = String::new(rt.alloc());
+    for name in names {
+        text.push('+').expect(rt, "memory");
+        text.push_str(name).expect(rt, "memory");
+    }
+    text
+}
+
+fn check_parts(rt: &(impl Abort + AllocGlobal), path: &VPath, parts: &Parts) {
+    let (_, names, depth, last, above) = *parts;
+    let found = path.names(rt.alloc()).expect(rt, "memory");
+    same(rt, &marked(rt, found.as_slice()).as_str(), &names);
+    same(rt, &path.depth(), &depth);
+    same(rt, &path.is_root(), &(depth == 0));
+    same(rt, &path.file_name(), &last);
+    same(rt, &path.parent_text(), &above);
+    same(rt, &parent_text(path.text()), &above);
+}
+
+fn check_beneath(rt: &(impl Abort + AllocGlobal), text: &str, above: &str, answer: bool) {
+    let above = path_of(rt, rt.alloc(), above);
+    let path = path_of(rt, rt.alloc(), text);
+    holds(rt, path.starts_with(&above) == answer);
+}
+
+#[test]
+fn paths(rt: HostRuntime) {
+    virtual_path(&rt).expect(&rt, "paths");
+    for (from, making, wanted) in MADE {
+        check_made(&rt, from, *making, wanted);
+    }
+    for parts in PARTS {
+        check_parts(&rt, &path_of(&rt, rt.alloc(), parts.0), parts);
+    }
+    for (text, above, answer) in BENEATH {
+        check_beneath(&rt, text, above, *answer);
+    }
+    for (name, answer) in NAMES {
+        same(&rt, &is_name(name), answer);
+    }
+}
+
+const TOO_LONG: &str = "a name or the path is too long";
+
+/// Sixteen names, each as long as can be.
+fn longest(rt: &impl Abort, alloc: Global) -> VPath {
+    let name = "a".repeat(alloc, LONGEST_NAME).expect(rt, "memory");
+    holds(rt, is_name(name.as_str()));
     let mut path = VPath::root(alloc);
-    for _ in 0..count {
-        path = path.child(alloc, name.as_str())?;
+    for _ in 0..16u32 {
+        path = path.child(alloc, name.as_str()).expect(rt, "a path");
     }
-    Ok(path)
-}
-
-fn is_too_long(found: Result<VPath, PathFault>) -> bool {
-    found.err() == Some(PathFault::TooLong)
+    path
 }
 
 #[test]
-fn bounds_of_names(rt: HostRuntime) -> Result<(), Fail> {
-    let fits = letters(rt.alloc(), LONGEST_NAME)?;
-    assert!(rt; is_name(fits.as_str()));
-    let long = letters(rt.alloc(), LONGEST_NAME + 1)?;
-    assert!(rt; !is_name(long.as_str()));
-    assert!(rt; is_too_long(path(rt.alloc(), long.as_str())));
-    Ok(())
-}
-
-#[test]
-fn bounds_of_paths(rt: HostRuntime) -> Result<(), Fail> {
-    let whole = longest(rt.alloc(), 16)?;
-    assert!(rt; whole.text().len() == LONGEST_PATH);
-    assert!(rt; is_too_long(whole.resolve(rt.alloc(), "b")));
-    assert!(rt; is_too_long(whole.joined(rt.alloc(), &whole)));
-    Ok(())
+fn bounds(rt: HostRuntime) {
+    let alloc = rt.alloc();
+    let long = "a".repeat(alloc, LONGEST_NAME + 1).expect(&rt, "memory");
+    holds(&rt, !is_name(long.as_str()));
+    let root = VPath::root(alloc);
+    tells(&rt, root.resolve(alloc, long.as_str()), TOO_LONG);
+    let whole = longest(&rt, alloc);
+    same(&rt, &whole.text().len(), &LONGEST_PATH);
+    tells(&rt, whole.resolve(alloc, "b"), TOO_LONG);
+    tells(&rt, whole.child(alloc, "b"), TOO_LONG);
+    tells(&rt, whole.joined(alloc, &whole), TOO_LONG);
 }

@@ -1,127 +1,204 @@
-//! Each growth of each call refused in turn: the users are as before, and the call passes once
-//! there is memory.
+//! Each growth of each call refused in turn: paths and users are as before, and the call passes once there is memory.
 
-use crate::changes::{change, words_of};
-use crate::lines::first_unmet;
+use crate::expect::holds;
+use crate::paths::{Making, made, path_of};
+use crate::steps::{Change, Known, Step, follow, make_change, take};
+use crate::users::{FIRST, NOBODY};
 use authorizer::{Authorizer, AuthorizerFault};
 use linked_list_allocator::LocalHeap;
 use scarce_memory::{HEAP, leave_hole};
-use std::test::Fail;
+use std::process::Abort;
+use virtual_path::VPath;
 
-/// The users before each call.
-const FILLED: &str = "add ann secret /home/ann elr
-override ann /in a";
+/// What is made of a path in memory; nothing stands for its names.
+static MADE: [Option<Making>; 6] = [
+    None,
+    Some(Making::Parent),
+    Some(Making::Clone),
+    Some(Making::Child("b")),
+    Some(Making::Joined("/")),
+    Some(Making::Resolve("a/rather/long/way/to/go")),
+];
 
-/// What still holds after a refused one.
-const AS_BEFORE: &str = "number ann = 0
-password ann secret = true
-holds ann a /in/f = true
-login ann = Welcome
-in-group ann = none
-has bob = false
-has anonymous = false";
-
-/// The calls that take memory.
-const CALLS: &str = "add bob hidden /home/bob elr
-add-anonymous /pub elr
-override ann /out w deep
-override ann /in d deep
-messages ann Hello-and-welcome-back So-long";
-
-/// Carries out lines, each of which tells what it should.
-fn follow<'h>(
-    rt: &impl AllocGlobal,
-    users: &mut Authorizer<&'h LocalHeap>,
-    lines: &str,
-) -> Result<(), Fail> {
-    match first_unmet(users, rt.alloc(), lines)? {
-        Some(line) => Err(Fail::from(line)),
-        None => Ok(()),
-    }
-}
-
-/// Carries out a call that was refused, now that there is memory.
-fn follow_refused(
-    rt: &impl AllocGlobal,
-    users: &mut Authorizer<&LocalHeap>,
-    line: &str,
-) -> Result<(), Fail> {
-    follow(rt, users, AS_BEFORE)?;
-    follow(rt, users, line)?;
-    // The refusals have used no number up.
-    if line.starts_with("add bob") {
-        follow(rt, users, "number bob = 1")?;
-    }
-    Ok(())
-}
-
-/// Whether memory was refused.
-fn is_refusal(answer: &Result<(), AuthorizerFault>) -> Result<bool, Fail> {
-    match answer {
-        Ok(()) => Ok(false),
-        Err(AuthorizerFault::Memory) => Ok(true),
-        Err(_) => Err(Fail::from("another fault")),
-    }
-}
-
-/// Makes a call in a heap that has only one hole of some octets, and answers whether it was refused.
-fn change_in_hole(
-    rt: &impl AllocGlobal,
-    heap: &LocalHeap,
-    users: &mut Authorizer<&LocalHeap>,
-    line: &str,
-    room: usize,
-) -> Result<bool, Fail> {
-    let rest = leave_hole(rt, heap, room)?;
-    let answer = change(users, words_of(line));
-    drop(rest);
-    is_refusal(&answer)
-}
-
-fn filled<'h>(
-    rt: &impl AllocGlobal,
+/// Whether a call finds no memory in a heap.
+fn is_lacking<'h>(
+    rt: &impl Abort,
     heap: &'h LocalHeap,
-) -> Result<Authorizer<&'h LocalHeap>, Fail> {
-    let mut users: Authorizer<&'h LocalHeap> = Authorizer::new(heap)?;
-    follow(rt, &mut users, FILLED)?;
-    Ok(users)
+    path: &VPath<&'h LocalHeap>,
+    making: Option<Making>,
+) -> bool {
+    match making {
+        Some(making) => made(rt, heap, path, making).is_err(),
+        None => path.names(heap).is_err(),
+    }
 }
 
-/// Makes a call in a heap that has only one hole of some octets, and answers whether it was
-/// refused.
-fn is_refused<'h>(
-    rt: &impl AllocGlobal,
+/// Refuses each growth of a call on a path in turn.
+fn refuse_in_turn<'h>(
+    rt: &(impl AllocGlobal + Abort),
     heap: &'h LocalHeap,
-    line: &str,
-    room: usize,
-) -> Result<bool, Fail> {
-    let mut users = filled(rt, heap)?;
-    let refused = change_in_hole(rt, heap, &mut users, line, room)?;
-    if refused {
-        follow_refused(rt, &mut users, line)?;
+    path: &VPath<&'h LocalHeap>,
+    making: Option<Making>,
+) {
+    for step in 0..32usize {
+        let rest = leave_hole(rt, heap, 16 * step).expect(rt, "memory");
+        let refused = is_lacking(rt, heap, path, making);
+        drop(rest);
+        // With no room it is refused, and with much not.
+        holds(rt, if refused { step < 31 } else { step > 0 });
+        // Once there is memory again, it passes.
+        holds(rt, !is_lacking(rt, heap, path, making));
+        holds(rt, path.text() == "/home/of/ann");
     }
-    Ok(refused)
-}
-
-/// How many growths of a call are refused before it passes.
-fn count_refused(rt: &impl AllocGlobal, line: &str) -> Result<usize, Fail> {
-    for step in 0..512usize {
-        let heap = LocalHeap::new(rt.alloc(), HEAP)?;
-        if !is_refused(rt, &heap, line, 16 * step)? {
-            return Ok(step);
-        }
-    }
-    Err(Fail::from("never enough memory"))
 }
 
 #[test]
-fn each_growth_of_each_call(rt: HostRuntime) -> Result<(), Fail> {
-    for line in CALLS.split('\n') {
-        assert!(rt; 0 < count_refused(&rt, line)?, "{line}");
+fn of_paths(rt: HostRuntime) {
+    let heap = LocalHeap::new(rt.alloc(), HEAP).expect(&rt, "memory");
+    let path = path_of(&rt, &heap, "/home/of/ann");
+    for making in &MADE {
+        refuse_in_turn(&rt, &heap, &path, *making);
     }
-    // These take no memory.
-    for line in ["remove ann", "group ann 7"] {
-        assert!(rt; count_refused(&rt, line)? == 0, "{line}");
+}
+
+/// The users before each call.
+static FILLED: &[Step] = &[
+    Step::Done(Change::Add("ann", "secret", "/home/ann", "elr")),
+    Step::Done(Change::Override("ann", "/in", "a", false)),
+];
+
+/// What still holds after a refused one.
+static AS_BEFORE: &[Step] = &[
+    Step::Is(FIRST),
+    Step::Password("ann", "secret", true),
+    Step::May("ann", "/in/f", Some("a")),
+    Step::May("ann", "/out/f", Some("elr")),
+    Step::Is(NOBODY),
+    Step::Is(Known {
+        name: "anonymous",
+        ..NOBODY
+    }),
+];
+
+/// The calls, whether they take memory, and what holds after them. Refusals have used no number up.
+static CALLS: &[(Change, bool, Step)] = &[
+    (
+        Change::Add("bob", "hidden", "/home/bob", "elr"),
+        true,
+        Step::Is(Known {
+            name: "bob",
+            number: Some(1),
+            home: Some("/home/bob"),
+            ..FIRST
+        }),
+    ),
+    (
+        Change::AddAnonymous("/pub", "elr"),
+        true,
+        Step::Is(Known {
+            name: "anonymous",
+            number: Some(1),
+            home: Some("/pub"),
+            ..FIRST
+        }),
+    ),
+    (
+        Change::Override("ann", "/out", "w", true),
+        true,
+        Step::May("ann", "/out/s/f", Some("w")),
+    ),
+    (
+        Change::Override("ann", "/in", "d", true),
+        true,
+        Step::May("ann", "/in/s/f", Some("d")),
+    ),
+    (
+        Change::Messages("ann", "Hello-and-welcome-back", "So-long"),
+        true,
+        Step::Is(Known {
+            login: Some("Hello-and-welcome-back"),
+            quit: Some("So-long"),
+            ..FIRST
+        }),
+    ),
+    (
+        Change::Remove("ann"),
+        false,
+        Step::Is(Known {
+            name: "ann",
+            ..NOBODY
+        }),
+    ),
+    (
+        Change::Group("ann", Some(7)),
+        false,
+        Step::Is(Known {
+            group: Some(7),
+            ..FIRST
+        }),
+    ),
+];
+
+/// Makes a call in a heap that has only one hole of some octets.
+fn fault_in_hole<'h>(
+    rt: &(impl Abort + AllocGlobal),
+    heap: &'h LocalHeap,
+    users: &mut Authorizer<&'h LocalHeap>,
+    call: Change,
+    room: usize,
+) -> Option<AuthorizerFault> {
+    let rest = leave_hole(rt, heap, room).expect(rt, "memory");
+    let fault = make_change(rt, users, call).err();
+    drop(rest);
+    fault
+}
+
+/// Makes a call so, and again where it was refused. Answers whether it was.
+fn is_refused_at_first<'h>(
+    rt: &(impl Abort + AllocGlobal),
+    heap: &'h LocalHeap,
+    users: &mut Authorizer<&'h LocalHeap>,
+    call: Change,
+    room: usize,
+) -> bool {
+    let Some(fault) = fault_in_hole(rt, heap, users, call, room) else {
+        return false;
+    };
+    holds(rt, fault == AuthorizerFault::Memory);
+    follow(rt, users, AS_BEFORE);
+    take(rt, users, &Step::Done(call));
+    true
+}
+
+/// Whether a call of new users is refused where there is only so little room.
+fn is_refused(
+    rt: &(impl Abort + AllocGlobal),
+    call: Change,
+    afterwards: &Step,
+    room: usize,
+) -> bool {
+    let heap = LocalHeap::new(rt.alloc(), HEAP).expect(rt, "memory");
+    let mut users = Authorizer::new(&heap).expect(rt, "memory");
+    follow(rt, &mut users, FILLED);
+    let refused = is_refused_at_first(rt, &heap, &mut users, call, room);
+    take(rt, &mut users, afterwards);
+    refused
+}
+
+/// How many growths of a call are refused before it passes.
+fn count_refused(rt: &(impl Abort + AllocGlobal), call: Change, afterwards: &Step) -> usize {
+    for step in 0..512usize {
+        if !is_refused(rt, call, afterwards, 16 * step) {
+            return step;
+        }
     }
-    Ok(())
+    panic!(rt; "never enough memory")
+}
+
+#[test]
+fn of_users(rt: HostRuntime) {
+    for (call, takes_memory, afterwards) in CALLS {
+        let count = count_refused(&rt, *call, afterwards);
+        holds(&rt, *takes_memory == (0 < count));
+    }
 }

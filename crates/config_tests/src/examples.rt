@@ -1,0 +1,106 @@
+//! What the heads of these crates show of their use. `tools/examples` sees that the two have the same lines.
+
+ghost use Rattle.std.specs.Prelude.{◌≡◌, length};
+
+use crate::expect::holds;
+use config_keys::{KeyFault, table_at};
+use config_rates::{RateRows, RowsFault, limits_of, read_rows};
+use config_server::read_server;
+use config_store::{ServedStore, StoreFaultAt, make_store};
+use config_tables::{TableFault, Tables, read_tables};
+use config_users::{UsersFault, make_users};
+use server_config::{Config, ConfigFault, migrate};
+use std::process::Abort;
+use toml::Table;
+
+/// A configuration of one user.
+const SMALL: &str = "version = 1
+[server]
+root = \"memory\"
+port = 2121
+passive_first = 40000
+passive_last = 40001
+[[user]]
+name = \"ann\"
+password = \"secret\"
+home = \"/\"
+perms = \"elr\"
+";
+
+fn config_server<'a>(rt: &impl Abort, document: &'a Table) -> Result<(), KeyFault<'a>> {
+    let server = read_server(table_at(document, "server")?)?; // of a file with `port = 2121`
+    holds(rt, server.port == 2121 && server.lanes == 16);
+    Ok(())
+}
+
+fn config_tables<'a>(
+    rt: &(impl Abort + AllocGlobal),
+    document: &'a Table,
+) -> Result<(), TableFault<'a>> {
+    let tables = read_tables(rt.alloc(), document)?; // else the first key that is at fault
+    holds(rt, tables.server.port == 2121 && tables.users.len() == 1);
+    Ok(())
+}
+
+fn config_rates<'a>(
+    rt: &(impl Abort + AllocGlobal),
+    tables: &Tables<'a>,
+) -> Result<(), RowsFault<'a>> {
+    let rows = read_rows(rt.alloc(), &tables.groups, &tables.users)?; // of a file
+    let limits = limits_of(&tables.server, rows);
+    holds(rt, limits.users().len() == 1); // of the one user, `ann`
+    Ok(())
+}
+
+fn config_users<'a>(
+    rt: &(impl Abort + AllocGlobal),
+    tables: &Tables<'a>,
+    rows: &RateRows,
+) -> Result<(), UsersFault<'a>>
+    requires overrides { length tables.now.overrides.items ≡ length tables.now.users.items }
+    requires rows { length rows.now.users.items ≡ length tables.now.users.items }
+{
+    // the tables of a file with a user `ann`, and the rows of rates that `config_rates` reads
+    let users = make_users(rt.alloc(), &tables.users, &tables.overrides, &rows.users)?;
+    holds(rt, users.check_password("ann", "secret"));
+    Ok(())
+}
+
+fn config_store<'a>(
+    rt: &(impl Abort + AllocGlobal),
+    tables: &Tables<'a>,
+) -> Result<(), StoreFaultAt<'a>> {
+    // the tables of a file with `root = "memory"`
+    let store = make_store(rt.alloc(), &tables.server, &tables.dirs, &tables.files)?;
+    holds(rt, matches!(store, ServedStore::Memory(_))); // else a folder, by its path
+    Ok(())
+}
+
+fn server_config(rt: &(impl Abort + AllocGlobal)) -> Result<(), ConfigFault> {
+    let text = migrate(rt.alloc(), SMALL.as_bytes())?; // a server and the user `ann`
+    holds(rt, text.as_str().contains("version = 2"));
+    let config = Config::read(rt.alloc(), SMALL.as_bytes())?; // as it is, in version 1
+    holds(rt, config.numbers.port == 2121);
+    holds(rt, config.settings.login_attempts == 3);
+    Ok(())
+}
+
+/// What is made of the tables of a document.
+fn of_tables<'a>(rt: &(impl Abort + AllocGlobal), tables: &Tables<'a>)
+    requires overrides { length tables.now.overrides.items ≡ length tables.now.users.items }
+{
+    config_rates(rt, tables).expect(rt, "rates");
+    config_store(rt, tables).expect(rt, "a store");
+    let rows = read_rows(rt.alloc(), &tables.groups, &tables.users).expect(rt, "rates");
+    config_users(rt, tables, &rows).expect(rt, "users");
+}
+
+#[test]
+fn examples(rt: HostRuntime) {
+    let document = toml::table_from_str(rt.alloc(), SMALL).expect(&rt, "a document");
+    config_server(&rt, &document).expect(&rt, "a server");
+    config_tables(&rt, &document).expect(&rt, "tables");
+    let tables = read_tables(rt.alloc(), &document).expect(&rt, "tables");
+    of_tables(&rt, &tables);
+    server_config(&rt).expect(&rt, "a configuration");
+}

@@ -1,0 +1,119 @@
+//! Runs whose ends fail in mid-stream: what is told, and what has then been written.
+
+use crate::ends::{FailingWriter, Files, Given};
+use crate::expect::{holds, same, tells};
+use crate::texts::{LOGIN, LUNCH, LUNCH_GRANTS, LUNCH_LINES, SMALL, WELCOME};
+use program::{STANDARD_INPUT, run_words};
+use sheet_commands::{ProgramFault, run_check};
+use std::process::Abort;
+use text_ends::Outside;
+
+/// What the file `file` and standard input give, how many octets the output takes, and what it would be given in all.
+type Run<'a> = (Given<'a>, Option<Given<'a>>, usize, &'a str);
+
+const READ_FAULT: &str = "ftpd: ReadFault\n";
+
+const WRITE_FAULT: &str = "ftpd: WriteFault\n";
+
+const ALL: usize = usize::MAX;
+
+/// By these words, such a run of `ftpd` tells a fault, and has written what the output takes.
+fn breaks_off(rt: &(impl Abort + AllocGlobal), words: &[&str], run: &Run<'_>) {
+    let (file, input, left, output) = *run;
+    let mut taken = Vec::new(rt.alloc());
+    let mut writer = Outside(FailingWriter {
+        taken: &mut taken,
+        left,
+    });
+    let mut files = Files { file, input };
+    let ending = run_words(rt.alloc(), words, &mut files, &mut writer);
+    let told = if left == ALL { READ_FAULT } else { WRITE_FAULT };
+    tells(rt, &ending, told);
+    holds(rt, ending.status() == 1);
+    let most = output.as_bytes();
+    holds(rt, taken.as_slice() == &most[..left.min(most.len())]);
+}
+
+static SHARINGS: [Run<'static>; 6] = [
+    (Given::Whole(LUNCH), None, 0, LUNCH_LINES),
+    (Given::Whole(LUNCH), None, 1, LUNCH_LINES),
+    (Given::Whole(LUNCH), None, 62, LUNCH_LINES),
+    (Given::Broken(LUNCH, 1), None, ALL, ""),
+    (Given::Broken(LUNCH, 20), None, ALL, ""),
+    (Given::Broken(LUNCH, 100), None, ALL, ""),
+];
+
+#[test]
+fn sharings(rt: HostRuntime) {
+    for run in &SHARINGS {
+        breaks_off(&rt, &["share", "file"], run);
+    }
+}
+
+const BEST: Option<Given<'static>> = Some(Given::Whole(LUNCH_GRANTS));
+
+static CHECKS: [Run<'static>; 6] = [
+    (Given::Whole(LUNCH), BEST, 0, "yes\n"),
+    (Given::Whole(LUNCH), BEST, 1, "yes\n"),
+    (Given::Whole(LUNCH), BEST, 2, "yes\n"),
+    (Given::Whole(LUNCH), BEST, 3, "yes\n"),
+    (Given::Broken(LUNCH, 20), BEST, ALL, ""),
+    (
+        Given::Whole(LUNCH),
+        Some(Given::Broken(LUNCH_GRANTS, 20)),
+        ALL,
+        "",
+    ),
+];
+
+#[test]
+fn checks(rt: HostRuntime) {
+    for run in &CHECKS {
+        breaks_off(&rt, &["check", "file", STANDARD_INPUT], run);
+    }
+}
+
+/// Where the sheet breaks off, nothing of the grants is read.
+#[test]
+fn grants_are_not_read(rt: HostRuntime) {
+    let mut output = Vec::new(rt.alloc());
+    let mut sheet = Outside(Given::Broken(LUNCH, 20).reader());
+    let mut grants = LUNCH_GRANTS.as_bytes();
+    let answer = run_check(rt.alloc(), &mut sheet, &mut grants, &mut output);
+    holds(&rt, answer == Err(ProgramFault::ReadFault));
+    same(&rt, grants, LUNCH_GRANTS);
+    holds(&rt, output.is_empty());
+}
+
+const TALK: Option<Given<'static>> = Some(Given::Whole(LOGIN));
+
+/// A session that cannot be opened, a configuration that breaks off, and sessions that do: their replies are written.
+static SESSIONS: [Run<'static>; 10] = [
+    (Given::Whole(SMALL), None, ALL, ""),
+    (Given::Broken(SMALL, 1), TALK, ALL, ""),
+    (
+        Given::Whole(SMALL),
+        Some(Given::Broken(LOGIN, 1)),
+        ALL,
+        WELCOME,
+    ),
+    (
+        Given::Whole(SMALL),
+        Some(Given::Broken(LOGIN, 5)),
+        ALL,
+        WELCOME,
+    ),
+    (Given::Whole(SMALL), TALK, 0, WELCOME),
+    (Given::Whole(SMALL), TALK, 5, WELCOME),
+    (Given::Whole(SMALL), TALK, 11, WELCOME),
+    (Given::Whole(SMALL), TALK, 12, WELCOME),
+    (Given::Whole(SMALL), TALK, 40, WELCOME),
+    (Given::Whole(SMALL), TALK, 55, WELCOME),
+];
+
+#[test]
+fn sessions(rt: HostRuntime) {
+    for run in &SESSIONS {
+        breaks_off(&rt, &["script", "file"], run);
+    }
+}

@@ -1,0 +1,101 @@
+//! What is done, in words: each action ends its line, replies as they are, others in brackets.
+
+use crate::fault::Fault;
+use ftp_terms::DataType;
+use ftp_wire::{HostPort, port_text};
+use memory_store::{MemSink, MemSource};
+use session_table::{Action, Answer, HookCall, Job, Octets};
+use std::alloc::Global;
+use virtual_tree::Source;
+
+pub(crate) type Actions = Vec<Action<Global, MemSource<Global>, MemSink<Global>>>;
+
+/// Of a file that is sent, at most so many pieces of so many octets are told.
+const PIECES: usize = 8;
+
+pub(crate) fn put(told: &mut Vec<u8>, text: &str) -> Result<(), Fault> {
+    Ok(told.extend_from_slice(text.as_bytes())?)
+}
+
+/// A word and a name, in brackets, on a line.
+fn put_named(told: &mut Vec<u8>, word: &str, name: &str) -> Result<(), Fault> {
+    put(told, word)?;
+    put(told, name)?;
+    put(told, "]\r\n")
+}
+
+pub(crate) fn put_answer(told: &mut Vec<u8>, answer: Answer<Global>) -> Result<(), Fault> {
+    Ok(answer.into_reply().write_to(told)?)
+}
+
+pub(crate) fn put_hook(told: &mut Vec<u8>, call: &HookCall<Global>) -> Result<(), Fault> {
+    match call {
+        HookCall::Connect => put(told, "[connected]\r\n"),
+        HookCall::Disconnect => put(told, "[disconnected]\r\n"),
+        HookCall::Login(name) => put_named(told, "[login ", name.as_str()),
+        HookCall::LoginFailed(name) => put_named(told, "[failed ", name.as_str()),
+        HookCall::Logout(name) => put_named(told, "[logout ", name.as_str()),
+        HookCall::FileSent(path) => put_named(told, "[sent ", path.text()),
+        HookCall::FileReceived(path) => put_named(told, "[received ", path.text()),
+        HookCall::IncompleteFileSent(path) => put_named(told, "[not sent ", path.text()),
+        HookCall::IncompleteFileReceived(path) => put_named(told, "[not received ", path.text()),
+    }
+}
+
+pub(crate) fn put_connect(told: &mut Vec<u8>, alloc: Global, to: HostPort) -> Result<(), Fault> {
+    let text = port_text(alloc, &to)?;
+    put_named(told, "[connect ", text.as_str())
+}
+
+/// The first octets of a file.
+pub(crate) fn put_octets(told: &mut Vec<u8>, source: &mut MemSource<Global>) -> Result<(), Fault> {
+    let mut buffer = [0; 8];
+    for _ in 0..PIECES {
+        let count = source.read(&mut buffer)?;
+        told.extend_from_slice(&buffer[..count])?;
+    }
+    Ok(())
+}
+
+fn put_sent(
+    told: &mut Vec<u8>,
+    source: &mut MemSource<Global>,
+    data_type: DataType,
+) -> Result<(), Fault> {
+    put(
+        told,
+        match data_type {
+            DataType::Ascii => "[send A ",
+            DataType::Image => "[send I ",
+        },
+    )?;
+    put_octets(told, source)?;
+    put(told, "]\r\n")
+}
+
+fn taken(data_type: DataType) -> &'static str {
+    match data_type {
+        DataType::Ascii => "[take A]\r\n",
+        DataType::Image => "[take I]\r\n",
+    }
+}
+
+fn put_listing(told: &mut Vec<u8>, listing: Octets<Global>) -> Result<(), Fault> {
+    Ok(told.extend_from_slice(listing.as_slice())?)
+}
+
+/// A transfer that starts. The sink of an upload is kept.
+pub(crate) fn put_job(
+    told: &mut Vec<u8>,
+    kept: &mut Option<MemSink<Global>>,
+    job: Job<Global, MemSource<Global>, MemSink<Global>>,
+) -> Result<(), Fault> {
+    match job {
+        Job::TakeFile(sink, data_type) => {
+            *kept = Some(sink);
+            put(told, taken(data_type))
+        }
+        Job::SendFile(mut source, data_type) => put_sent(told, &mut source, data_type),
+        Job::Text(listing) => put_listing(told, listing),
+    }
+}

@@ -1,0 +1,77 @@
+//! The words behind a colon.
+
+use session_table::End;
+
+/// The passive port that comes.
+pub(crate) const PORT: u16 = 40_000;
+
+/// What a line with a colon asks for.
+#[derive(Clone, Copy)]
+pub(crate) enum Word<'a> {
+    /// `:anew`: the next client's session, on the same store.
+    Anew,
+    /// `:other`: another session of ann logs in where its rate can be guaranteed, or leaves.
+    Other,
+    /// `:at N`: the moment of what follows, in milliseconds since 1970.
+    At(u64),
+    /// `:remove NAME`: the user goes.
+    Remove(&'a str),
+    /// `:look PATH`: what the store has there.
+    Look(&'a str),
+    /// `:held`: the input for a line that is held.
+    Held,
+    /// `:port`, `:no port`: the passive port comes, or none is free.
+    Port(Option<u16>),
+    /// `:closed`: the control connection is gone.
+    Closed,
+    /// `:end WORD`, `:end WORD +OCTETS`: a transfer's end; the sink of an upload comes back where there is a plus, with the octets
+    /// behind it.
+    End(End, Option<&'a str>),
+}
+
+fn end_of(word: &str) -> Option<End> {
+    match word {
+        "done" => Some(End::Done),
+        "lost" => Some(End::Lost),
+        "local" => Some(End::Local),
+        "full" => Some(End::Full),
+        "unconnected" => Some(End::NoConnection),
+        "forgotten" => Some(End::NoMemory),
+        "aborted" => Some(End::Aborted),
+        _ => None,
+    }
+}
+
+fn ended<'a>(how: &'a str) -> Option<Word<'a>> {
+    match how.split_once(" +") {
+        Some((word, octets)) => Some(Word::End(end_of(word)?, Some(octets))),
+        None => Some(Word::End(end_of(how)?, None)),
+    }
+}
+
+/// A word with others behind it.
+fn longer<'a>(word: &str, rest: &'a str) -> Option<Word<'a>> {
+    match word {
+        "at" => Some(Word::At(rest.parse().ok()?)),
+        "remove" => Some(Word::Remove(rest)),
+        "look" => Some(Word::Look(rest)),
+        "end" => ended(rest),
+        _ => None,
+    }
+}
+
+/// What the text behind a colon asks for.
+pub(crate) fn word_of<'a>(text: &'a str) -> Option<Word<'a>> {
+    match text {
+        "anew" => Some(Word::Anew),
+        "other" => Some(Word::Other),
+        "held" => Some(Word::Held),
+        "port" => Some(Word::Port(Some(PORT))),
+        "no port" => Some(Word::Port(None)),
+        "closed" => Some(Word::Closed),
+        _ => {
+            let (word, rest) = text.split_once(' ')?;
+            longer(word, rest)
+        }
+    }
+}

@@ -1,0 +1,18 @@
+//! The laws of the session table, at the types of a store in memory.
+
+use memory_store::{MemSink, MemSource};
+use session_laws::{
+    calls_are_rightful, few_lines_are_held, floors_are_released_once, no_calls_outside,
+    no_transfer_unprepared, one_thing_is_asked,
+};
+use std::alloc::Global;
+
+#[test]
+fn laws(_rt: HostRuntime) {
+    calls_are_rightful::<Global, MemSource<Global>, MemSink<Global>>();
+    no_calls_outside::<Global, MemSource<Global>, MemSink<Global>>();
+    no_transfer_unprepared::<Global, MemSource<Global>, MemSink<Global>>();
+    few_lines_are_held::<Global, MemSource<Global>, MemSink<Global>>();
+    floors_are_released_once::<Global, MemSource<Global>, MemSink<Global>>();
+    one_thing_is_asked::<Global, MemSource<Global>, MemSink<Global>>();
+}

@@ -1,0 +1,180 @@
+//! What a session knows, and the rows of its table: examples that bear the names of their crates, on one session.
+
+use crate::expect::holds;
+use crate::room::{Actions, Room, location, make_room, says};
+use authorizer::Authorizer;
+use ftp_terms::DataType;
+use ftp_wire::Command;
+use handler_hooks::{Hooks, run_hooks};
+use memory_store::MemStore;
+use rate_floors::Floors;
+use session_events::{close, end_transfer, take_port};
+use session_files::{make_directory, rename_from};
+use session_judge::judge;
+use session_listings::{Style, list};
+use session_login::{check_password, greet, name_user};
+use session_parameters::{open_passive, set_offset, set_type};
+use session_state::{Location, State};
+use session_table::{End, Notice, Passive};
+use session_transfers::{retrieve, store_file};
+use std::alloc::AllocError;
+use std::process::Abort;
+use virtual_path::VPath;
+
+fn session_state(rt: &(impl Abort + AllocGlobal), state: &mut State, path: VPath) {
+    state.change_directory(path); // each such call changes just what its name says
+    holds(rt, state.cwd().text() == "/in");
+    let told = state.note(Notice::DirectoryChanged); // actions, of which one is a reply
+    says(rt, told, "250 Directory changed\r\n");
+}
+
+fn session_judge(
+    rt: &(impl Abort + AllocGlobal),
+    state: &mut State,
+    users: &Authorizer,
+) -> Result<(), AllocError> {
+    match judge(state, users, &Command::Pwd)? {
+        Ok(location) => holds(rt, location.stored().is_root()), // where the command acts
+        Err(refusal) => says(rt, state.refuse(refusal), "530 Log in first\r\n"),
+    }
+    Ok(())
+}
+
+fn session_login(
+    rt: &(impl Abort + AllocGlobal),
+    state: &mut State,
+    users: &Authorizer,
+    floors: &mut Floors,
+) {
+    says(rt, name_user(state, "ann"), "331 Password required\r\n");
+    let told = check_password(state, users, floors, "secret");
+    says(rt, told, "230 Welcome\r\n"); // else 530
+}
+
+fn session_parameters(rt: &(impl Abort + AllocGlobal), state: &mut State) {
+    says(rt, set_type(state, DataType::Image), "200 Type is I\r\n");
+    says(rt, set_offset(state, 1000), "350 Restart at 1000\r\n");
+    let told = open_passive(state, Passive::Plain); // a port is asked for: the reply comes with it
+    says(rt, told, "");
+}
+
+fn session_files(
+    rt: &(impl Abort + AllocGlobal),
+    state: &mut State,
+    store: &mut MemStore,
+    place: Location,
+) {
+    let told = make_directory(state, store, &place); // or what the store refused
+    says(rt, told, "257 \"/in\"\r\n");
+    let told = rename_from(state, store, place); // the path is kept for RNTO
+    says(rt, told, "350 Send RNTO\r\n");
+}
+
+fn session_transfers(
+    rt: &(impl Abort + AllocGlobal),
+    state: &mut State,
+    store: &mut MemStore,
+    missing: Location,
+    place: Location,
+) {
+    let told = retrieve(state, store, missing);
+    says(rt, told, "550 No such file or directory\r\n");
+    let told = store_file(state, store, place, 951_827_696_000); // milliseconds since 1970
+    says(rt, told, "150 Opening data connection\r\n"); // and a job takes the file
+}
+
+fn session_listings(
+    rt: &(impl Abort + AllocGlobal),
+    state: &mut State,
+    users: &Authorizer,
+    store: &mut MemStore,
+    place: &Location,
+) {
+    let told = list(state, users, store, place, Style::Names);
+    says(rt, told, "150 Opening data connection\r\n"); // and a job sends the names
+}
+
+fn session_events(
+    rt: &(impl Abort + AllocGlobal),
+    state: &mut State,
+    users: &Authorizer,
+    store: &mut MemStore,
+) {
+    let told = end_transfer(state, users, store, End::Done, None, 0);
+    says(rt, told, "226 Transfer complete\r\n"); // and the replies to the lines that waited
+    state.await_port(Passive::Plain);
+    let told = take_port(state, users, Some(40_000));
+    says(rt, told, "227 Entering Passive Mode (127,0,0,1,156,64)\r\n");
+    says(rt, close(state), ""); // what is left to drop, and to tell the handler
+}
+
+/// Counts the clients that came and are there.
+#[derive(Drop)]
+struct Clients {
+    there: u32,
+}
+
+impl Hooks for Clients {
+    ghost Told = { λ _ _ _. Unit {0} };
+
+    fn on_connect(&mut self) {
+        self.there = self.there.saturating_add(1);
+    }
+
+    fn on_disconnect(&mut self) {
+        self.there = self.there.saturating_sub(1);
+    }
+
+    fn on_login(&mut self, _user: &str) {}
+
+    fn on_login_failed(&mut self, _user: &str) {}
+
+    fn on_logout(&mut self, _user: &str) {}
+
+    fn on_file_sent(&mut self, _path: &str) {}
+
+    fn on_file_received(&mut self, _path: &str) {}
+
+    fn on_incomplete_file_sent(&mut self, _path: &str) {}
+
+    fn on_incomplete_file_received(&mut self, _path: &str) {}
+}
+
+fn handler_hooks(rt: &(impl Abort + AllocGlobal), greeting: &Actions) {
+    let mut clients = Clients { there: 0 }; // a handler, with a callback for each event
+    run_hooks(&mut clients, greeting); // one call for each Hook among the actions, in order
+    holds(rt, clients.there == 1);
+}
+
+/// What a new client is told, and its handler.
+fn greeted(rt: &(impl Abort + AllocGlobal), state: &State) {
+    let greeting = greet(state).expect(rt, "memory");
+    handler_hooks(rt, &greeting);
+}
+
+/// A login, and what needs no transfer.
+fn in_session(rt: &(impl Abort + AllocGlobal), room: &mut Room) {
+    session_judge(rt, &mut room.state, &room.users).expect(rt, "memory");
+    greeted(rt, &room.state);
+    session_login(rt, &mut room.state, &room.users, &mut room.floors);
+    session_files(rt, &mut room.state, &mut room.store, location(rt, "/in"));
+    session_state(rt, &mut room.state, location(rt, "/in").into_path());
+}
+
+/// Transfers, and what prepares them.
+fn in_transfers(rt: &(impl Abort + AllocGlobal), room: &mut Room, root: &Location) {
+    let missing = location(rt, "/g");
+    let place = location(rt, "/f");
+    session_transfers(rt, &mut room.state, &mut room.store, missing, place);
+    session_parameters(rt, &mut room.state);
+    session_listings(rt, &mut room.state, &room.users, &mut room.store, root);
+    session_events(rt, &mut room.state, &room.users, &mut room.store);
+}
+
+#[test]
+fn a_session(rt: HostRuntime) {
+    let root = location(&rt, "/");
+    let mut room = make_room(&rt);
+    in_session(&rt, &mut room);
+    in_transfers(&rt, &mut room, &root);
+}

@@ -1,0 +1,87 @@
+//! What the heads of these crates show of their use. `tools/examples` sees that the two have the same lines.
+
+use crate::expect::holds;
+use fail_store::FailStore;
+use file_tree::{Entry, Files, Spot};
+use linked_list_allocator::LocalHeap;
+use memory_store::MemStore;
+use scarce_memory::{HEAP, leave_hole};
+use std::alloc::AllocError;
+use std::process::Abort;
+use virtual_path::VPath;
+use virtual_tree::{Sink, Source, Store, StoreFault, WriteMode};
+
+fn memory_store(rt: &(impl Abort + AllocGlobal), path: &VPath) -> Result<(), StoreFault> {
+    let mut store = MemStore::new(rt.alloc(), 1_000_000)?; // of so many octets at most
+    store.make_dir(path)?; // the path is `/in`
+    holds(rt, store.make_dir(path) == Err(StoreFault::Exists));
+    holds(rt, store.list(path)?.is_empty());
+    Ok(())
+}
+
+fn virtual_tree(rt: &impl Abort, store: &mut MemStore, path: &VPath) -> Result<(), StoreFault> {
+    // a store in memory, and the path `/f`
+    let mut sink = store.open_write(path, WriteMode::New, 951_827_696_000)?;
+    sink.write(b"all is well")?;
+    store.finish(sink, 951_827_696_000)?; // milliseconds since 1970
+    let mut source = store.open_read(path, 4)?; // from the fifth octet on
+    let mut buffer = [0u8; 16];
+    holds(rt, source.read(&mut buffer) == Ok(7));
+    Ok(())
+}
+
+fn fail_store(rt: &(impl Abort + AllocGlobal), path: &VPath) -> Result<(), AllocError> {
+    let mut store = FailStore::new(MemStore::new(rt.alloc(), 1000)?, 0);
+    // the first call fails, and no other, whatever the path
+    holds(rt, store.make_dir(path) == Err(StoreFault::Device));
+    holds(rt, store.make_dir(path) == Ok(()));
+    holds(rt, store.faults() == 1);
+    Ok(())
+}
+
+fn file_tree(
+    rt: &(impl Abort + AllocGlobal),
+    root: &VPath,
+    path: &VPath,
+) -> Result<(), AllocError> {
+    let mut files = Files::new(rt.alloc());
+    // the path `/in` has a spot, and the root has none
+    if let Some(spot) = Spot::of(&rt.alloc(), path)? {
+        files.put(spot, Entry::directory())?;
+    }
+    let listed = files.listing(&rt.alloc(), root)?;
+    holds(rt, listed.len() == 1);
+    Ok(())
+}
+
+fn scarce_memory(rt: impl Abort + AllocGlobal + Drop) -> Result<(), AllocError> {
+    let heap = LocalHeap::new(rt.alloc(), HEAP)?;
+    let rest = leave_hole(&rt, &heap, 48)?;
+    let more = Vec::<u8, &LocalHeap>::with_capacity(&heap, 64); // than the hole
+    holds(&rt, more.is_err());
+    drop(rest);
+    holds(&rt, Vec::<u8, &LocalHeap>::with_capacity(&heap, 64).is_ok());
+    Ok(())
+}
+
+fn of_a_directory(rt: &(impl Abort + AllocGlobal)) {
+    let root = VPath::root(rt.alloc());
+    let path = root.child(rt.alloc(), "in").expect(rt, "a path");
+    memory_store(rt, &path).expect(rt, "a store");
+    fail_store(rt, &path).expect(rt, "a store");
+    file_tree(rt, &root, &path).expect(rt, "memory");
+}
+
+fn of_a_file(rt: &(impl Abort + AllocGlobal)) {
+    let root = VPath::root(rt.alloc());
+    let path = root.child(rt.alloc(), "f").expect(rt, "a path");
+    let mut store = MemStore::new(rt.alloc(), 1_000_000).expect(rt, "memory");
+    virtual_tree(rt, &mut store, &path).expect(rt, "a file");
+}
+
+#[test]
+fn examples(rt: HostRuntime) {
+    of_a_directory(&rt);
+    of_a_file(&rt);
+    scarce_memory(rt).expect(&rt, "memory");
+}

@@ -8,7 +8,6 @@ use memory_store::MemStore;
 use scarce_memory::{HEAP, leave_hole};
 use std::env::Env;
 use std::fs;
-use std::os::fd::AsRawFd;
 use std::process::Abort;
 use std::rt::Files;
 use store_script::{Asked, ask, read_line};
@@ -80,28 +79,25 @@ fn is_refused_in_memory(rt: &(impl Abort + AllocGlobal), line: &str, room: usize
 }
 
 /// Whether a store over a folder of the machine refuses a call so.
-fn is_refused_in_a_folder<R>(rt: &R, line: &str, room: usize) -> bool
-where
-    R: Abort + Env + Files + AllocGlobal + Copy + Drop,
-    R::File: AsRawFd,
-{
+fn is_refused_in_a_folder(
+    rt: &(impl Abort + Env + Files + AllocGlobal),
+    machine: HostRuntime,
+    line: &str,
+    room: usize,
+) -> bool {
     let folder = fresh_folder(rt, "refused");
     let heap = LocalHeap::new(rt.alloc(), HEAP).expect(rt, "memory");
-    let mut store = DirStore::new((*rt, &heap), folder.as_str()).expect(rt, "a folder");
+    let mut store = DirStore::new((machine, &heap), folder.as_str()).expect(rt, "a folder");
     let refused = is_refused(rt, &heap, &mut store, line, room);
     fs::remove_dir_all(rt, folder.as_str()).expect(rt, "a folder");
     refused
 }
 
 /// Refuses each growth of a call in turn, until neither store needs another.
-fn refuse_in_turn<R>(rt: &R, line: &str)
-where
-    R: Abort + Env + Files + AllocGlobal + Copy + Drop,
-    R::File: AsRawFd,
-{
+fn refuse_in_turn(rt: &(impl Abort + Env + Files + AllocGlobal), machine: HostRuntime, line: &str) {
     for step in 0..512usize {
         let in_memory = is_refused_in_memory(rt, line, 16 * step);
-        let in_a_folder = is_refused_in_a_folder(rt, line, 16 * step);
+        let in_a_folder = is_refused_in_a_folder(rt, machine, line, 16 * step);
         // With no room at all, both refuse.
         holds(rt, 0 < step || in_memory && in_a_folder);
         if !in_memory && !in_a_folder {
@@ -114,6 +110,6 @@ where
 #[test]
 fn each_growth(rt: HostRuntime) {
     for line in CALLS.split('\n') {
-        refuse_in_turn(&rt, line);
+        refuse_in_turn(&rt, rt, line);
     }
 }

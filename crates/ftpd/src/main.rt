@@ -3,12 +3,12 @@
 #![tactic(auto)]
 
 use program::{Ending, run_words};
-use sheet_commands::Outside;
 use sheet_program::{Machine, as_words, line_words};
 use std::alloc::Global;
 use std::io;
 use std::process::ExitCode;
 use std::rt::{Env, Files};
+use whole_texts::Outside;
 
 fn run<R: Files + Input + Print + Alloc<A = Global>>(rt: &R, words: &[&str]) -> Ending {
     run_words(

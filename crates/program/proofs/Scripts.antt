@@ -3,7 +3,7 @@ use Rattle.std.proofs.Common.{◌≡◌, ◌∙◌, ℕ, List, Option, Some, Non
 use Rattle.std.specs.Io.KnownBytes.{Consumes, IsAtEnd}
 use Rattle.server_config.specs.Configs.{IsConfigText}
 use Rattle.server_config.specs.declared.config.Config.{Config}
-use Rattle.sheet_commands.specs.Faults.{IsReadingFault, IsTextOf}
+use Rattle.whole_texts.specs.Faults.{IsReadingFault, IsTextOf}
 use Rattle.program.proofs.WholeTexts.{whole}
 use Rattle.program.specs.Scripting.{IsConfigOf, IsJudgement, IsUnconfigured}
 use Rattle.program.specs.declared.scripting.ScriptFault.{ScriptFault}

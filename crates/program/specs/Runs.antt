@@ -3,7 +3,7 @@
 use Rattle.std.specs.Prelude.{◌≡◌, ℕ, List, Option}
 use Rattle.command_line.specs.declared.words.Words.{Words}
 use Rattle.command_line.specs.declared.words.Words.TheVariants.{Sheet, Migrate, Script}
-use Rattle.sheet_commands.specs.Faults.{IsReadingFault}
+use Rattle.whole_texts.specs.Faults.{IsReadingFault}
 use Rattle.sheet_program.specs.Runs.{IsSheetEnd, Octets}
 use Rattle.sheet_program.specs.declared.ending.Ending.TheVariants.{Done, Flawed, Refused, Fault}
 use Rattle.sheet_program.specs.declared.files.TheConstants.{STANDARD_INPUT}

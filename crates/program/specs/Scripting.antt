@@ -6,8 +6,8 @@ use Rattle.server_config.specs.Configs.{IsConfigText}
 use Rattle.server_config.specs.Refused.{IsFaultOfText}
 use Rattle.server_config.specs.declared.config.Config.{Config}
 use Rattle.server_config.specs.declared.fault.ConfigFault.{ConfigFault}
-use Rattle.sheet_commands.specs.Faults.{IsReadingFault, IsTextOf}
-use Rattle.sheet_commands.specs.declared.fault.ProgramFault.TheVariants.{Memory}
+use Rattle.whole_texts.specs.Faults.{IsReadingFault, IsTextOf}
+use Rattle.whole_texts.specs.declared.fault.ProgramFault.TheVariants.{Memory}
 use Rattle.program.specs.declared.scripting.ScriptFault.{ScriptFault}
 use Rattle.program.specs.declared.scripting.ScriptFault.TheVariants.{Config as Refused, Reading, Session}
 

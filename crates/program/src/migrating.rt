@@ -4,8 +4,8 @@ ghost use Rattle.std.specs.Prelude.{◌≡◌, ◌≢◌, IfErr, IfOk};
 ghost use Rattle.program.specs.Migrating.{Tells};
 
 use server_config::{ConfigFault, migrate};
-use sheet_commands::{ProgramFault, TextReader, TextWriter, read_whole, write_whole};
 use std::alloc::Global;
+use whole_texts::{ProgramFault, TextReader, TextWriter, read_whole, write_whole};
 
 /// Reads a configuration, and writes its text in version 2; or tells why the configuration is refused, and writes nothing.
 /// A fault other than the output's own comes before the first octet is written.

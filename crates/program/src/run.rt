@@ -5,7 +5,7 @@ ghost use Rattle.command_line.specs.Commands.{ftpd};
 ghost use Rattle.command_line.specs.Given.{IsFound, IsPlainWord, IsRefusal};
 ghost use Rattle.command_line.specs.declared.words.Words.{Words};
 ghost use Rattle.command_line.specs.declared.words.WordsFault.{WordsFault};
-ghost use Rattle.sheet_commands.specs.declared.fault.ProgramFault.{ProgramFault};
+ghost use Rattle.whole_texts.specs.declared.fault.ProgramFault.{ProgramFault};
 ghost use Rattle.sheet_program.specs.Endings.{IsToldEnd};
 ghost use Rattle.sheet_program.specs.Runs.{IsCheckEnd, IsShareEnd};
 ghost use Rattle.sheet_program.specs.declared.ending.Ending.TheVariants.{Fault};
@@ -16,9 +16,9 @@ use super::ending::Ending;
 use super::migrating::run_migrate;
 use super::scripting::{ScriptFault, run_script};
 use command_line::{Words, read_words};
-use sheet_commands::{ProgramFault, TextWriter};
 use sheet_program::{Ending as Common, Openings, STANDARD_INPUT, run_sheet_words, tell};
 use std::alloc::Global;
+use whole_texts::{ProgramFault, TextWriter};
 
 const NO_TEXT_LEFT: &str =
     "error: standard input cannot be both the configuration and the control text\n";

@@ -6,8 +6,8 @@ ghost use Rattle.program.specs.Scripting.{IsConfigOf, IsJudgement, IsNotBegun, I
 
 use configured_session::{ServeFault, serve_config};
 use server_config::{Config, ConfigFault};
-use sheet_commands::{MAX_TEXT, ProgramFault, TextReader, TextWriter, read_whole};
 use std::alloc::Global;
+use whole_texts::{MAX_TEXT, ProgramFault, TextReader, TextWriter, read_whole};
 
 /// Why a session is not served, or breaks off.
 #[derive(Debug, Drop)]

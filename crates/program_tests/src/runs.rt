@@ -4,9 +4,10 @@ use crate::ends::{FailingWriter, Files, Given};
 use crate::expect::{holds, same, tells};
 use crate::texts::{LOGIN, LUNCH, LUNCH_GRANTS, LUNCH_LINES, SMALL, WELCOME};
 use program::{STANDARD_INPUT, run_words};
-use sheet_commands::{ProgramFault, run_check};
+use sheet_check::run_check;
 use std::process::Abort;
 use text_ends::Outside;
+use whole_texts::ProgramFault;
 
 /// What the file `file` and standard input give, how many octets the output takes, and what it would be given in all.
 type Run<'a> = (Given<'a>, Option<Given<'a>>, usize, &'a str);

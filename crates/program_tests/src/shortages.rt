@@ -5,10 +5,10 @@ use crate::texts::{LUNCH, LUNCH_GRANTS, LUNCH_LINES};
 use linked_list_allocator::LocalHeap;
 use scarce_memory::leave_hole;
 use share_text::{Sheet, read_sheet};
-use sheet_commands::{
-    ProgramFault, Share, lines_of, read_whole, run_check, run_share, sharing_of, verdict_of,
-};
+use sheet_check::{run_check, verdict_of};
+use sheet_share::{Share, lines_of, run_share, sharing_of};
 use std::process::Abort;
+use whole_texts::{ProgramFault, read_whole};
 
 // Room for the buffer of a read, and some more.
 const HEAP: usize = 131_072;

@@ -3,9 +3,9 @@
 use crate::ends::{FailingWriter, Given};
 use crate::expect::{holds, same};
 use crate::texts::LUNCH_LINES;
-use sheet_commands::{ProgramFault, read_whole, write_whole};
 use std::process::Abort;
 use text_ends::Outside;
+use whole_texts::{ProgramFault, read_whole, write_whole};
 
 /// How a text is given, and what is read; none of one that breaks off.
 static READ: [(Given<'static>, Option<&str>); 8] = [

@@ -1,23 +1,23 @@
 -- Slots of the leaves that lines fill, in the order of the wants.
-use Rattle.std.proofs.Common.{◌≡◌, ◌∙◌, ◌≢◌, ℕ, zero, suc, ◌<◌, ◌≤◌, ◌+◌, ◌==◌, Bool, true, false, cond, List, [], ◌∷◌, ◌++◌, length, map, filter_map, get_or, set, slice_get, refl, sym, ap, subst, arith, true≢false, not, length-append, length-set, Option, Some, None, option_map, option_and_then, inl, inr, nat_eq, eqb-true, eq-eqb, take, drop}
+use Rattle.std.proofs.Common.{◌≡◌, ◌∙◌, ◌≢◌, ℕ, zero, suc, ◌<◌, ◌≤◌, ◌+◌, Bool, true, false, cond, List, [], ◌∷◌, ◌++◌, length, map, filter_map, get_or, set, slice_get, refl, sym, ap, subst, arith, true≢false, not, length-append, length-set, Option, Some, None, option_map, option_and_then, inl, inr, nat_eq, eqb-true, eq-eqb, take, drop}
 use Rattle.std.specs.List.{position_from, list_any, range_with_len, cons_option, AllByRecursion, IsDistinct}
 use Rattle.std.specs.Option.{is_some, option_to_list}
 use Rattle.std.proofs.lemmas.Bool.{cases_eq, cases_order}
 use Rattle.std.proofs.lemmas.List.{get_or-set_same, get_or-set_other, map-append, take_more, drop_more, drop_all}
 use Rattle.std.proofs.lemmas.List.Elements.{filter_map-append}
 use Rattle.std.proofs.lemmas.List.Folds.{list_any_at}
-use Rattle.std.proofs.lemmas.List.Splits.{length-slice_split}
 use Rattle.std.proofs.lemmas.List.FromFn.{fill_by_all}
 use Rattle.std.proofs.lemmas.Map.Keys.{apart_from_distinct}
 use Rattle.std.proofs.lemmas.Option.{slice_get_within, get_or_from_slice_get}
 use Rattle.std.proofs.lemmas.Simd.{map-map}
 use Rattle.share_text.specs.declared.grants.Given.{Given}
-use Rattle.share_text.specs.declared.grants.GrantsFault.TheVariants.{WrongPath, NoSuchNode}
+use Rattle.sheet_faults.specs.declared.grants.GrantsFault.TheVariants.{WrongPath, NoSuchNode}
 use Rattle.share_text.specs.declared.grants.Slots.{Slots}
 use Rattle.share_text.specs.Views.{SheetValue}
-use Rattle.sheet_tree.specs.Paths.{parts, same_path}
+use Rattle.sheet_tree.specs.Paths.{same_path}
 use Rattle.share_text.specs.Sheet.{is_skipped}
-use Rattle.share_text.specs.Grants.{GrantLine, grant_fault, grant_of, grant_of_words, grants_line_fault, is_path, line_grants, line_of_leaf, lines_by_leaf, names_no_node, read_grant_fault}
+use Rattle.share_text.specs.Grants.{grant_fault, grants_line_fault, is_path, line_grants, line_of_leaf, lines_by_leaf, names_no_node, read_grant_fault}
+use Rattle.sheet_lines.specs.Text.{GrantLine, grant_of}
 use Rattle.share_text.specs.Slots.{Filled, given_by}
 use Rattle.sheet_tree.proofs.Listing.{any_is_some}
 
@@ -138,14 +138,6 @@ slot_more part slots i slot d l is =
     ap (λ (ss : List (Option Given)). map part (filter_map (λ (s : Option Given). s) ss)) (take_more slots i d l ∙ ap (λ (s : Option Given). take i slots ++ s ∷ []) is)
     ∙ ap (map part) (filter_map-append (λ (s : Option Given). s) (take i slots) (slot ∷ []))
     ∙ map-append part (filter_map (λ (s : Option Given). s) (take i slots)) (cons_option slot [])
-
--- more than four words are no line
-pub many_grant_words : (word place amount name line rest : List ℕ) → parts 32 line ≡ word ∷ place ∷ amount ∷ name ∷ parts 32 rest → grant_of line ≡ None
-many_grant_words word place amount name line rest e = ap grant_of_words e ∙ go (parts 32 rest) (omega (arith, length-slice_split (λ octet. octet == 32) rest))
-  where
-    go : (ps : List (List ℕ)) → 0 < length ps → grant_of_words (word ∷ place ∷ amount ∷ name ∷ ps) ≡ None
-    go [] h = absurd (omega arith)
-    go (y ∷ ys) h = refl
 
 -- the want of a place has another path
 pub wrong_path : (sheet : SheetValue) (place number leaf : ℕ) (line : GrantLine) → slice_get sheet.wants place ≡ Some leaf → same_path (get_or sheet.leaves leaf []) line.path ≡ false → grant_fault sheet place number line ≡ Some (WrongPath number)

@@ -1,6 +1,6 @@
 -- Whether each leaf of a sheet that was read has its line in a grants file.
-use Rattle.std.proofs.Common.{◌≡◌, ◌∙◌, ℕ, zero, suc, ◌<◌, ◌≤◌, true, false, cond, subst, ◌||◌, Bool, List, [], ◌∷◌, length, map, filter, filter_map, get_or, slice_get, refl, sym, ap, arith, true≢false, Option, Some, None, option_and_then, nat_eq, eq-eqb, inl, inr}
-use Rattle.std.specs.List.{find, position_from, list_any, range_with_len, cons_option}
+use Rattle.std.proofs.Common.{◌≡◌, ◌∙◌, ℕ, zero, suc, ◌<◌, ◌≤◌, true, false, cond, subst, ◌||◌, Bool, List, [], ◌∷◌, length, map, filter, filter_map, get_or, slice_get, refl, sym, ap, arith, true≢false, Option, Some, None, option_and_then, nat_eq, eq-eqb}
+use Rattle.std.specs.List.{position_from, list_any, range_with_len, cons_option}
 use Rattle.std.specs.Option.{is_some}
 use Rattle.std.specs.Str.Lines.{lines}
 use Rattle.std.proofs.lemmas.Bool.{or_left, or_right}
@@ -8,19 +8,19 @@ use Rattle.std.proofs.lemmas.List.{get_or-map, length-map}
 use Rattle.std.proofs.lemmas.List.Folds.{list_any_at}
 use Rattle.std.proofs.lemmas.List.FromFn.{length-range_with_len, get_or-range_with_len}
 use Rattle.std.proofs.lemmas.Option.{slice_get-get_or, slice_get_past}
-use Rattle.limit_tree.specs.declared.place.Kind.TheVariants.{Branch}
 use Rattle.limit_tree.specs.Outline.{is_leaf_kind}
 use Rattle.sheet_tree.specs.Paths.{NoneTwice, Path, is_among, place_of, same_path}
 use Rattle.sheet_tree.proofs.Listing.{any_is_some, found_at}
 use Rattle.sheet_tree.proofs.Nodes.{each_passes, once_filter}
 use Rattle.sheet_tree.proofs.Within.{each_at, is_same}
-use Rattle.sheet_nodes.specs.Table.{Mention, Table, is_at}
+use Rattle.sheet_nodes.specs.Table.{Mention, Table}
 use Rattle.sheet_nodes.specs.Taken.{AreNoted, IsTreeOfLines, Stated, stated_paths}
 use Rattle.sheet_nodes.specs.Tree.{kind_in, kind_of, node_paths}
 use Rattle.sheet_nodes.proofs.Tables.{place_at}
 use Rattle.share_text.specs.Sheet.{leaf_paths, statements, states_want, want_paths}
 use Rattle.share_text.specs.Views.{SheetValue, IsSheetOf}
-use Rattle.share_text.specs.Grants.{GrantLine, line_of_leaf, lines_by_leaf}
+use Rattle.share_text.specs.Grants.{line_of_leaf, lines_by_leaf}
+use Rattle.sheet_lines.specs.Text.{GrantLine}
 use Rattle.share_text.proofs.Filling.{found, first_place}
 use Rattle.share_text.proofs.Taking.{text_tree}
 use Rattle.share_text.proofs.Wants.{place_there, wants_apart, wants_once}

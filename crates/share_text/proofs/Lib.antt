@@ -1,10 +1,7 @@
-mod Cuts
-mod Numbers
 mod Taking
 mod Placed
 mod Wants
 mod Readings
-mod PathText
 mod Numbered
 mod Filling
 mod Full

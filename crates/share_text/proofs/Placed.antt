@@ -1,13 +1,12 @@
 -- Paths and their places in a table.
-use Rattle.std.proofs.Common.{◌≡◌, ◌∙◌, ℕ, zero, suc, ◌<◌, ◌≤◌, ◌+◌, nat_eq, Bool, true, false, cond, List, [], ◌∷◌, length, map, filter, get_or, refl, sym, ap, arith, true≢false, Option, Some, None, eq-eqb, eqb-true}
-use Rattle.std.specs.List.{list_any, position_from}
-use Rattle.std.specs.Option.{is_some}
+use Rattle.std.proofs.Common.{◌≡◌, ◌∙◌, ℕ, zero, suc, ◌<◌, ◌≤◌, ◌+◌, nat_eq, Bool, true, false, cond, List, [], ◌∷◌, length, filter, get_or, refl, sym, ap, arith, true≢false, Option, Some, None, eq-eqb, eqb-true}
+use Rattle.std.specs.List.{position_from}
 use Rattle.std.proofs.lemmas.Bool.{false_from_ne_true}
 use Rattle.std.proofs.lemmas.List.{get_or-map}
 use Rattle.std.proofs.lemmas.Option.{none-some}
 use Rattle.limit_tree.specs.Outline.{is_leaf_kind}
-use Rattle.sheet_tree.specs.Paths.{NoneTwice, Path, is_among, place_of, same_path}
-use Rattle.sheet_tree.proofs.Listing.{any_is_some, found_at}
+use Rattle.sheet_tree.specs.Paths.{NoneTwice, Path, place_of, same_path}
+use Rattle.sheet_tree.proofs.Listing.{found_at}
 use Rattle.sheet_tree.proofs.Within.{is_same, same_self}
 use Rattle.sheet_nodes.specs.Rows.{AreBelow}
 use Rattle.sheet_nodes.specs.Table.{Table, mention_at, path_at, paths_in}

@@ -1,14 +1,13 @@
 -- A sheet that was read.
-use Rattle.std.proofs.Common.{◌≡◌, ◌∙◌, ℕ, ◌<◌, ◌≤◌, nat_eq, List, [], length, map, filter, get_or, sym, ap, subst, arith, true, ◌∷◌, inl, inr, eqb-true, Option, Some, None}
+use Rattle.std.proofs.Common.{◌≡◌, ◌∙◌, ℕ, ◌<◌, ◌≤◌, nat_eq, List, [], length, map, filter, get_or, sym, ap, arith, true, ◌∷◌, inl, inr, eqb-true, Option, Some, None}
 use Rattle.std.specs.List.{IsDistinct, AllByRecursion, list_any, position_from}
 use Rattle.std.specs.Option.{is_some}
 use Rattle.std.proofs.lemmas.Bool.{or_cases}
 use Rattle.std.proofs.lemmas.List.{get_or-map, length-map}
 use Rattle.std.proofs.lemmas.List.Folds.{list_any_at}
 use Rattle.std.proofs.lemmas.Map.Steps.{length-le_from_distinct_below}
-use Rattle.limit_tree.specs.declared.place.Kind.{Kind}
 use Rattle.limit_tree.specs.declared.place.Place.{Place}
-use Rattle.limit_tree.specs.declared.bounds.TheConstants.{MAX_LEAVES, MAX_NODES}
+use Rattle.limit_tree.specs.declared.bounds.TheConstants.{MAX_NODES}
 use Rattle.limit_tree.specs.Outline.{is_leaf_kind, leaf_count, limits}
 use Rattle.limit_tree.proofs.Leaves.{length-wants_in}
 use Rattle.sheet_tree.specs.Paths.{NoneTwice, Octets, Path, is_among, place_of, same_path}

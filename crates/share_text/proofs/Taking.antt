@@ -1,20 +1,21 @@
 -- What lines leave, one after another.
-use Rattle.std.proofs.Common.{◌≡◌, ◌∙◌, ℕ, ◌<◌, ◌≤◌, ◌+◌, Bool, true, false, cond, List, [], ◌∷◌, ◌++◌, length, map, filter, get_or, refl, sym, ap, arith, append_assoc, append-nil, Option, Some, None, Result, Ok, Err, suc, subst}
+use Rattle.std.proofs.Common.{◌≡◌, ◌∙◌, ℕ, ◌<◌, ◌≤◌, ◌+◌, Bool, true, false, cond, List, [], ◌∷◌, ◌++◌, length, map, filter, refl, sym, ap, arith, append-nil, Option, Some, None, Result, Ok, Err, suc, subst}
 use Rattle.std.specs.List.{fold}
 use Rattle.std.specs.Str.Lines.{lines}
 use Rattle.std.proofs.lemmas.List.{map-append}
 use Rattle.limit_tree.specs.declared.place.Kind.{Kind}
 use Rattle.limit_tree.specs.Outline.{is_leaf_kind}
 use Rattle.sheet_tree.specs.Paths.{Octets, Path}
-use Rattle.sheet_nodes.specs.declared.fault.SheetFault.{SheetFault}
+use Rattle.sheet_faults.specs.declared.sheet.SheetFault.{SheetFault}
 use Rattle.sheet_nodes.specs.Rows.{AreBelow}
-use Rattle.sheet_nodes.specs.Table.{Entry, Table, fresh, path_at}
+use Rattle.sheet_nodes.specs.Table.{Table, fresh, path_at}
+use Rattle.sheet_tree.specs.Mentions.{Entry}
 use Rattle.sheet_nodes.specs.Taken.{Stated, IsTreeOfLines, take_on, taken_all}
 use Rattle.sheet_nodes.specs.Tree.{paths_to}
 use Rattle.sheet_nodes.proofs.Together.{tree_of_lines}
 use Rattle.sheet_nodes.proofs.Trees.{below_push}
-use Rattle.share_text.specs.Text.{entry_of}
-use Rattle.share_text.specs.Entries.{wanted}
+use Rattle.sheet_lines.specs.Text.{entry_of}
+use Rattle.share_text.specs.Kept.{wanted}
 use Rattle.share_text.specs.Sheet.{and_then, entry_taken, is_skipped, line_states, line_taken, lines_taken, stated, statements, statements_from, states_want, text_taken, want_paths}
 
 -- a line's table is that of what it states

@@ -1,10 +1,8 @@
 -- The leaves of a sheet that was read, and its wants.
-use Rattle.std.proofs.Common.{◌≡◌, ◌∙◌, ℕ, suc, ◌<◌, ◌≤◌, ◌+◌, nat_eq, Bool, true, false, cond, List, [], ◌∷◌, ◌++◌, length, map, filter, count_by, get_or, refl, sym, ap, subst, arith, true≢false, Option, Some, None, inl, inr, eq-eqb, eqb-true}
-use Rattle.std.specs.List.{AllByRecursion, IsDistinct, find, list_any, position_from}
+use Rattle.std.proofs.Common.{◌≡◌, ◌∙◌, ℕ, suc, ◌<◌, ◌≤◌, ◌+◌, nat_eq, Bool, true, false, cond, List, [], ◌∷◌, ◌++◌, length, map, filter, count_by, get_or, refl, sym, ap, arith, true≢false, Option, Some, None, inl, inr, eqb-true}
+use Rattle.std.specs.List.{AllByRecursion, IsDistinct, find, position_from}
 use Rattle.std.specs.Option.{is_some}
 use Rattle.std.proofs.lemmas.Bool.{false_from_ne_true, or_cases, or_parts}
-use Rattle.std.proofs.lemmas.List.{get_or-map, length-map}
-use Rattle.std.proofs.lemmas.List.Folds.{list_any_at}
 use Rattle.std.proofs.lemmas.List.Sums.{sum_by-cons}
 use Rattle.std.proofs.lemmas.Map.Keys.{IsDistinct-cons, IsDistinct-from_apart}
 use Rattle.limit_tree.specs.declared.place.Kind.{Kind}
@@ -14,11 +12,12 @@ use Rattle.sheet_tree.specs.Paths.{NoneTwice, Octets, Path, is_among, place_of, 
 use Rattle.sheet_tree.proofs.Listing.{any_is_some, found_at}
 use Rattle.sheet_tree.proofs.Within.{is_same, same_self}
 use Rattle.sheet_nodes.specs.Rows.{AreBelow}
-use Rattle.sheet_nodes.specs.Table.{Entry, Mention, Table, is_at, path_at, paths_in}
+use Rattle.sheet_nodes.specs.Table.{Mention, Table, is_at, path_at, paths_in}
+use Rattle.sheet_tree.specs.Mentions.{Entry}
 use Rattle.sheet_nodes.specs.Taken.{AreNoted, Stated}
 use Rattle.sheet_nodes.specs.Tree.{kind_in, kind_of, line_in, line_of, paths_to}
-use Rattle.share_text.specs.Text.{entry_of}
-use Rattle.share_text.specs.Sheet.{is_skipped, line_states, stated, statements_from, states_want, want_paths}
+use Rattle.sheet_lines.specs.Text.{entry_of}
+use Rattle.share_text.specs.Sheet.{is_skipped, stated, statements_from, states_want, want_paths}
 use Rattle.share_text.proofs.Placed.{by_place}
 
 -- as many leaves as nodes that want

@@ -1,33 +1,15 @@
 -- What a grants file gives to the wants of a sheet, and its first fault.
-use Rattle.std.specs.Prelude.{ℕ, ◌+◌, nat_eq, Bool, false, not, if◌then◌else◌, List, [], ◌∷◌, length, map, filter_map, flat_map, slice_get, slice_index_or, Option, Some, None, bytes_eq, codes}
+use Rattle.std.specs.Prelude.{ℕ, ◌+◌, nat_eq, Bool, false, not, if◌then◌else◌, List, [], ◌∷◌, length, map, filter_map, flat_map, slice_get, slice_index_or, Option, Some, None}
 use Rattle.std.specs.List.{position_from, range_with_len}
 use Rattle.std.specs.Option.{option_map, option_and_then, option_to_list, is_none}
 use Rattle.std.specs.Str.Lines.{lines}
 use Rattle.limit_tree.specs.Faults.{or_else}
-use Rattle.share_text.specs.declared.grants.GrantsFault.{GrantsFault}
-use Rattle.share_text.specs.declared.grants.GrantsFault.TheVariants.{BadLine, WrongPath, NoSuchNode}
-use Rattle.sheet_tree.specs.Paths.{Octets, Path, parts, place_of, same_path}
-use Rattle.share_text.specs.Text.{path, number}
+use Rattle.sheet_faults.specs.declared.grants.GrantsFault.{GrantsFault}
+use Rattle.sheet_faults.specs.declared.grants.GrantsFault.TheVariants.{BadLine, WrongPath, NoSuchNode}
+use Rattle.sheet_tree.specs.Paths.{Octets, Path, place_of, same_path}
+use Rattle.sheet_lines.specs.Text.{GrantLine, grant_of}
 use Rattle.share_text.specs.Sheet.{is_skipped}
 use Rattle.share_text.specs.Views.{SheetValue}
-
--- what one line gives: octets to a want, by its path, and the path of the node that it names, if it names one
-pub record GrantLine : Type 0 where
-  pub path : Path
-  pub octets : ℕ
-  pub node : Option Path
-
-abbrev pub grant_at : Option Path → Option ℕ → Option (Option Path) → Option GrantLine
-grant_at place amount node = option_and_then (λ p. option_and_then (λ n. option_map (λ name. record { path = p; octets = n; node = name }) node) amount) place
-
--- `grant PATH N` or `grant PATH N NODE`, by the words between single spaces; NODE is a path too
-abbrev pub grant_of_words : List Octets → Option GrantLine
-grant_of_words (word ∷ place ∷ amount ∷ []) = if bytes_eq word (codes "grant") then grant_at (path place) (number amount) (Some None) else None
-grant_of_words (word ∷ place ∷ amount ∷ node ∷ []) = if bytes_eq word (codes "grant") then grant_at (path place) (number amount) (option_map Some (path node)) else None
-grant_of_words words = None
-
-abbrev pub grant_of : Octets → Option GrantLine
-grant_of line = grant_of_words (parts 32 line)
 
 -- the path of a want, by its place in the order of the sheet's lines
 abbrev pub want_path : SheetValue → ℕ → Option Path

@@ -1,15 +1,21 @@
 -- What the code knows of a text that was read, and what it keeps of its sheet.
-use Rattle.std.specs.Prelude.{◌≡◌, ℕ, ◌<◌, ◌≤◌, nat_eq, List, length, slice_index_or, Option, None, Ok}
+use Rattle.std.specs.Prelude.{◌≡◌, ℕ, ◌<◌, ◌≤◌, nat_eq, if◌then◌else◌, List, [], ◌∷◌, length, slice_index_or, Option, None, Ok}
 use Rattle.std.specs.List.{position_from}
+use Rattle.limit_tree.specs.declared.place.Kind.{Kind}
 use Rattle.limit_tree.specs.declared.place.Place.{Place}
 use Rattle.limit_tree.specs.declared.bounds.TheConstants.{MAX_LEAVES, MAX_NODES}
-use Rattle.limit_tree.specs.Outline.{limits}
+use Rattle.limit_tree.specs.Outline.{is_leaf_kind, limits}
 use Rattle.sheet_tree.specs.Paths.{NoneTwice, Octets}
 use Rattle.sheet_nodes.specs.Table.{Table, paths_in}
 use Rattle.sheet_nodes.specs.Rows.{AreBelow}
 use Rattle.sheet_nodes.specs.Tree.{node_paths, outline_of, paths_to}
 use Rattle.sheet_nodes.specs.Whole.{whole_fault}
 use Rattle.share_text.specs.Sheet.{statements, text_taken, want_paths}
+use Rattle.share_text.specs.Views.{IsSheet, IsSheetOf, SheetValue}
+
+-- the place of what is a want
+abbrev pub wanted : Kind → ℕ → List ℕ
+wanted kind place = if is_leaf_kind kind then place ∷ [] else []
 
 -- The lines of a text left a table, whose tree has no fault: the places of its nodes in preorder, and those of the wants
 -- in the order of their lines.
@@ -32,3 +38,13 @@ pub record IsKept (table : Table) (order leaves : List ℕ) (numbers : List (Opt
   pub leaves_below : AreBelow (length table) leaves
   pub numbers_length : length numbers ≡ length table
   pub numbers_are : (place : ℕ) → place < length table → slice_index_or numbers place None ≡ position_from (nat_eq place) 0 order
+
+-- what a sheet of a text keeps, by the order of its nodes' places
+abbrev pub kept_sheet : Table → List Place → List ℕ → List ℕ → List ℕ → SheetValue
+kept_sheet table outline order leaves wants = record { outline = outline; paths = paths_to table order; leaves = paths_to table leaves; wants = wants }
+
+-- the leaves and the numbers of the nodes and of the wants are those of the text's sheet
+pub record IsNumbered (text : Octets) (table : Table) (outline : List Place) (order leaves : List ℕ) (numbers : List (Option ℕ)) (wants : List ℕ) : Type 0 where
+  pub sheet_of : IsSheetOf text (kept_sheet table outline order leaves wants)
+  pub whole : IsSheet (kept_sheet table outline order leaves wants)
+  pub kept : IsKept table order leaves numbers

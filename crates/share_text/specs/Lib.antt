@@ -1,5 +1,3 @@
-pub mod Text
-pub mod Entries
 pub mod Sheet
 pub mod Law
 pub mod Views

@@ -1,15 +1,16 @@
 -- What the lines of a sheet leave, and its first fault.
-use Rattle.std.specs.Prelude.{ℕ, ◌+◌, nat_eq, Bool, ◌||◌, if◌then◌else◌, List, [], ◌∷◌, ◌++◌, length, map, filter, slice_index, Option, Some, None, Result, Ok, Err}
+use Rattle.std.specs.Prelude.{◌≡◌, ◌≢◌, ℕ, ◌+◌, nat_eq, Bool, ◌||◌, if◌then◌else◌, List, [], ◌∷◌, ◌++◌, length, map, filter, slice_index, Option, Some, None, Result, Ok, Err}
 use Rattle.std.specs.Str.Lines.{lines}
 use Rattle.limit_tree.specs.Outline.{is_leaf_kind}
 use Rattle.sheet_tree.specs.Paths.{Octets, Path}
-use Rattle.sheet_nodes.specs.declared.fault.SheetFault.{SheetFault}
-use Rattle.sheet_nodes.specs.declared.fault.SheetFault.TheVariants.{BadLine}
-use Rattle.sheet_nodes.specs.Table.{Entry, Table, fresh, taken}
+use Rattle.sheet_faults.specs.declared.sheet.SheetFault.{SheetFault}
+use Rattle.sheet_faults.specs.declared.sheet.SheetFault.TheVariants.{BadLine, Memory}
+use Rattle.sheet_nodes.specs.Table.{Table, fresh, taken}
+use Rattle.sheet_tree.specs.Mentions.{Entry}
 use Rattle.sheet_nodes.specs.Taken.{Stated}
 use Rattle.sheet_nodes.specs.Tree.{kind_in, node_paths}
 use Rattle.sheet_nodes.specs.Whole.{whole_fault}
-use Rattle.share_text.specs.Text.{entry_of}
+use Rattle.sheet_lines.specs.Text.{entry_of}
 
 -- an empty line, or one that begins with `#`
 abbrev pub is_skipped : Octets → Bool
@@ -70,3 +71,7 @@ fault_of (Err fault) = Some fault
 -- the fault of a text: that of its first faulty line; where no line has one, that of the whole tree
 abbrev pub sheet_fault : Octets → Option SheetFault
 sheet_fault text = fault_of (text_taken text)
+
+-- the fault is that of the text's sheet, and not want of memory
+abbrev pub IsSheetFaultOf : Octets → SheetFault → Type 0
+IsSheetFaultOf text fault = (fault ≢ Memory) × (sheet_fault text ≡ Some fault)

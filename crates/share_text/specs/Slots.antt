@@ -1,24 +1,11 @@
 -- What the code's slots know of the lines that were read.
-use Rattle.std.specs.Prelude.{◌≡◌, ℕ, ◌<◌, List, length, slice_index_or, Option, IfSome}
+use Rattle.std.specs.Prelude.{◌≡◌, ℕ, ◌<◌, List, length, slice_index_or, Option}
 use Rattle.std.specs.Option.{option_map}
-use Rattle.share_text.specs.declared.grants.Grant.{Grant}
 use Rattle.share_text.specs.declared.grants.Given.{Given}
 use Rattle.share_text.specs.declared.grants.Slots.{Slots}
-use Rattle.std.specs.Borrow.{Bor}
-use Rattle.sheet_tree.specs.Paths.{Octets, Path, names_of}
-use Rattle.sheet_nodes.specs.Walks.{IsPathText}
 use Rattle.share_text.specs.Views.{SheetValue}
-use Rattle.share_text.specs.Grants.{GrantLine, named_node, line_of_leaf}
-
-abbrev pub name_view : Option (Bor Octets) → Option Path
-name_view name = option_map (λ text. names_of text.now) name
-
-abbrev pub grant_view : Grant → GrantLine
-grant_view line = record { path = names_of line.path.now; octets = line.octets; node = name_view line.node }
-
--- the texts of the line's paths are empty, or begin with a slash
-abbrev pub ArePathTexts : Grant → Type 0
-ArePathTexts line = IsPathText line.path.now × IfSome line.node (λ name. IsPathText name.now)
+use Rattle.share_text.specs.Grants.{named_node, line_of_leaf}
+use Rattle.sheet_lines.specs.Text.{GrantLine}
 
 -- what a line gives, with the number of the node that it names
 abbrev pub given_by : SheetValue → GrantLine → Given

@@ -1,60 +1,22 @@
 //! Reading a grants file beside its sheet.
-ghost use Rattle.std.specs.Prelude.{◌≡◌, ◌<◌, ◌∷◌, ◌++◌, [], List, IfOk, IfSome, MatchResult, None, Some, filter_map, length, map, nat_eq, option_map, replicate, slice_get, true, false};
+ghost use Rattle.std.specs.Prelude.{◌≡◌, ◌<◌, ◌++◌, List, IfOk, IfSome, MatchResult, None, Some, filter_map, length, map, nat_eq, replicate, true, false};
 ghost use Rattle.std.specs.List.{position_from};
 ghost use Rattle.limit_tree.specs.declared.bounds.TheConstants.{MAX_LEAVES};
-ghost use Rattle.share_text.specs.Grants.{GrantLine, entries_in, grant_fault, grant_of, grant_of_words, grants_fault, grant_lines, grants_in, grants_line_fault, line_grants, named_node, names_no_node};
+ghost use Rattle.share_text.specs.Grants.{entries_in, grant_fault, grants_fault, grant_lines, grants_in, grants_line_fault, line_grants, named_node, names_no_node};
+ghost use Rattle.sheet_lines.specs.Text.{GrantLine};
 ghost use Rattle.std.specs.Str.Lines.{lines};
 ghost use Rattle.memory_terms.specs.Lack.{Unless};
-ghost use Rattle.sheet_tree.specs.Paths.{Octets};
-ghost use Rattle.sheet_nodes.specs.Walks.{IsPathText};
-ghost use Rattle.share_text.specs.Slots.{ArePathTexts, Filled, given_by, grant_view, name_view};
+ghost use Rattle.sheet_tree.specs.Paths.{Octets, IsPathText};
+ghost use Rattle.share_text.specs.Slots.{Filled, given_by};
+ghost use Rattle.sheet_lines.specs.Views.{ArePathTexts, grant_view, name_view};
 ghost use Rattle.share_text.specs.Views.{IsSheetOf};
 
-use crate::cut::{cut_at, cut_line};
-use crate::number::read_number;
-use crate::path::read_path;
 use crate::read::is_skipped;
 use crate::sheet::Sheet;
 use grant_certificate::Certificate;
+use sheet_faults::GrantsFault;
+use sheet_lines::{Grant, cut_line, read_grant};
 use std::alloc::{AllocError, Allocator};
-use thiserror::Error;
-
-/// Why a grants file is refused, with the number of the line; lines count from 1. The first faulty line decides,
-/// and at one line the order is that below.
-#[derive(Clone, Copy, Debug, PartialEq, Eq, Error)]
-pub enum GrantsFault {
-    /// The line is neither of the two forms.
-    #[error("line {0}: BadLine")]
-    BadLine(usize),
-    /// The path is not that of the sheet's next want, or each want has its line already.
-    #[error("line {0}: WrongPath")]
-    WrongPath(usize),
-    /// The sheet mentions no node of the path that is named.
-    #[error("line {0}: NoSuchNode")]
-    NoSuchNode(usize),
-    /// Memory ran out.
-    #[error("Memory")]
-    Memory,
-}
-
-impl From<AllocError> for GrantsFault {
-    ghost use Rattle.std.specs.Prelude.{◌≡◌};
-    ghost use Rattle.share_text.specs.declared.grants.GrantsFault.TheVariants.{Memory};
-
-    ghost from_gives = { λ e fault. fault ≡ Memory };
-
-    fn from(_error: AllocError) -> GrantsFault {
-        GrantsFault::Memory
-    }
-}
-
-/// What one line gives: octets to the want of a path, and the path of the node that it names, if it names one.
-#[derive(Clone, Copy)]
-struct Grant<'t> {
-    path: &'t str,
-    octets: u64,
-    node: Option<&'t str>,
-}
 
 /// What a leaf is given, with the number of the node that is named.
 #[derive(Clone, Copy)]
@@ -68,59 +30,6 @@ struct Given {
 struct Slots<A: Allocator> {
     lines: usize,
     slots: Vec<Option<Given>, A>,
-}
-
-fn three_words<'t>(word: &[u8], place: &'t [u8], amount: &[u8]) -> Option<Grant<'t>>
-    ensures line { option_map grant_view result
-        ≡ grant_of_words (word.now ∷ place.now ∷ amount.now ∷ []) }
-    ensures texts { IfSome result ArePathTexts }
-{
-    if word != b"grant".as_slice() {
-        return None;
-    }
-    let path = read_path(place)?;
-    let octets = read_number(amount)?;
-    Some(Grant {
-        path,
-        octets,
-        node: None,
-    })
-}
-
-fn four_words<'t>(word: &[u8], place: &'t [u8], amount: &[u8], name: &'t [u8]) -> Option<Grant<'t>>
-    ensures line { option_map grant_view result
-        ≡ grant_of_words (word.now ∷ place.now ∷ amount.now ∷ name.now ∷ []) }
-    ensures texts { IfSome result ArePathTexts }
-{
-    if word != b"grant".as_slice() {
-        return None;
-    }
-    let path = read_path(place)?;
-    let octets = read_number(amount)?;
-    let node = read_path(name)?;
-    Some(Grant {
-        path,
-        octets,
-        node: Some(node),
-    })
-}
-
-/// Reads `grant PATH N` or `grant PATH N NODE`.
-fn read_grant(line: &[u8]) -> Option<Grant<'_>>
-    ensures line { option_map grant_view result ≡ grant_of line.now }
-    ensures texts { IfSome result ArePathTexts }
-{
-    let (word, rest) = cut_at(line, b' ');
-    let (place, rest) = cut_at(rest?, b' ');
-    let (amount, rest) = cut_at(rest?, b' ');
-    let Some(rest) = rest else {
-        return three_words(word, place, amount);
-    };
-    let (name, rest) = cut_at(rest, b' ');
-    match rest {
-        Some(_) => None,
-        None => four_words(word, place, amount, name),
-    }
 }
 
 /// The number of the node that a line names, if it names one.

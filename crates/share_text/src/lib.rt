@@ -14,21 +14,13 @@
 //! ```
 #![tactic(auto)]
 
-mod cut;
-mod entry;
 mod grants;
 mod laws;
-mod number;
 mod numbering;
-mod path;
 mod read;
 mod sheet;
 
-pub use cut::{cut_at, cut_line};
-pub use entry::{Entry, read_entry};
-pub use grants::{GrantsFault, read_grants};
+pub use grants::read_grants;
 pub use laws::sheet_is_of_its_lines;
-pub use number::{MOST_DIGITS, read_number};
-pub use path::{LONGEST_NAME, read_named_path, read_path};
 pub use sheet::{Sheet, read_sheet};
-pub use sheet_nodes::SheetFault;
+pub use sheet_faults::{GrantsFault, SheetFault};

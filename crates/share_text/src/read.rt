@@ -4,14 +4,15 @@ ghost use Rattle.memory_terms.specs.Lack.{Unless};
 ghost use Rattle.sheet_nodes.specs.Rows.{AreBelow};
 ghost use Rattle.sheet_nodes.specs.Table.{taken};
 ghost use Rattle.sheet_nodes.specs.Tree.{paths_to};
-ghost use Rattle.sheet_nodes.specs.Walks.{IsPathText};
+ghost use Rattle.sheet_tree.specs.Paths.{IsPathText};
 ghost use Rattle.share_text.specs.Sheet.{is_skipped, line_states, line_taken, stated, statements, text_taken, want_paths};
-ghost use Rattle.share_text.specs.Entries.{entry_view, wanted};
+ghost use Rattle.sheet_lines.specs.Views.{entry_view};
+ghost use Rattle.share_text.specs.Kept.{wanted};
 
-use crate::cut::cut_line;
-use crate::entry::{Entry, read_entry};
 use limit_tree::Kind;
-use sheet_nodes::{Nodes, SheetFault, is_leaf};
+use sheet_faults::SheetFault;
+use sheet_lines::{Entry, cut_line, read_entry};
+use sheet_nodes::{Nodes, is_leaf};
 use std::alloc::{AllocError, Allocator};
 
 /// Whether a line is empty or a remark.

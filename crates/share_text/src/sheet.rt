@@ -1,22 +1,23 @@
 //! A sheet that was read.
-ghost use Rattle.std.specs.Prelude.{◌≡◌, ◌<◌, ◌≤◌, [], MatchResult, IfOk, length, nat_eq, slice_index_or, Some};
+ghost use Rattle.std.specs.Prelude.{◌≡◌, ◌<◌, ◌≤◌, [], List, MatchResult, IfOk, length, nat_eq, slice_index_or, Some};
 ghost use Rattle.std.specs.List.{AllByRecursion, IsDistinct};
 ghost use Rattle.std.specs.Option.{option_and_then};
 ghost use Rattle.limit_tree.specs.declared.bounds.TheConstants.{MAX_LEAVES};
 ghost use Rattle.limit_tree.specs.Outline.{limits};
+ghost use Rattle.limit_tree.specs.declared.place.Place.{Place};
 ghost use Rattle.memory_terms.specs.Lack.{Unless};
-ghost use Rattle.sheet_tree.specs.Paths.{Octets, names_of, place_of, same_path, text_of, written};
-ghost use Rattle.sheet_nodes.specs.Walks.{IsPathText};
-ghost use Rattle.share_text.specs.Kept.{IsRead};
+ghost use Rattle.sheet_tree.specs.Paths.{Octets, names_of, place_of, same_path, text_of, written, IsPathText};
+ghost use Rattle.share_text.specs.Kept.{IsNumbered, IsRead};
 ghost use Rattle.share_text.specs.Sheet.{sheet_fault};
-ghost use Rattle.share_text.specs.Text.{path};
+ghost use Rattle.sheet_lines.specs.Text.{path};
 ghost use Rattle.share_text.specs.Views.{IsSheetOf};
 
 use crate::numbering::{leaf_places, number_places, numbers_at};
-use crate::path::read_path;
 use crate::read::{Reading, read_lines};
 use limit_tree::Tree;
-use sheet_nodes::{Nodes, SheetFault};
+use sheet_faults::SheetFault;
+use sheet_lines::read_path;
+use sheet_nodes::Nodes;
 use std::alloc::{AllocError, Allocator, Global};
 use std::marker::Model;
 
@@ -115,6 +116,38 @@ impl<'t, A: Allocator> Sheet<'t, A> {
     }
 }
 
+/// The leaves of a sheet and its numbers, as it keeps them.
+#[derive(Drop)]
+struct Numbered<A: Allocator> {
+    leaves: Vec<usize, A>,
+    numbers: Vec<Option<u32>, A>,
+    wants: Vec<usize, A>,
+}
+
+/// Numbers the nodes of the tree over the nodes that lines mention, by their places in preorder, and the wants, by theirs.
+fn number_sheet<A: Allocator + Clone>(
+    alloc: A,
+    nodes: &Nodes<'_, A>,
+    order: &[usize],
+    places: &[usize],
+) -> Result<Numbered<A>, AllocError>
+    requires read { (text : Octets) × (outline : List Place)
+        × IsRead text nodes.now outline order.now places.now }
+    ensures numbered { IfOk result (λ kept. (text : Octets) (outline : List Place)
+        → IsRead text nodes.now outline order.now places.now
+        → IsNumbered text nodes.now outline order.now kept.leaves.items kept.numbers.items kept.wants.items) }
+{
+    let numbers = number_places(alloc.clone()?, order, nodes.len())?;
+    let leaves = leaf_places(alloc.clone()?, nodes, order)?;
+    let leaf_numbers = number_places(alloc.clone()?, &leaves, nodes.len())?;
+    let wants = numbers_at(alloc, places, &leaf_numbers)?;
+    Ok(Numbered {
+        leaves,
+        numbers,
+        wants,
+    })
+}
+
 impl<'t, A: Allocator + Clone> Sheet<'t, A> {
     /// The sheet of the nodes that lines mention, with their tree, the places of its nodes in preorder, and the places of
     /// the lines' wants.
@@ -130,17 +163,14 @@ impl<'t, A: Allocator + Clone> Sheet<'t, A> {
             → IsRead text nodes.entry tree order.items places.now
             → IsSheetOf text sheet) }
     {
-        let numbers = number_places(alloc.clone()?, &order, nodes.len())?;
-        let leaves = leaf_places(alloc.clone()?, &nodes, &order)?;
-        let leaf_numbers = number_places(alloc.clone()?, &leaves, nodes.len())?;
-        let wants = numbers_at(alloc, places, &leaf_numbers)?;
+        let kept = number_sheet(alloc, &nodes, &order, places)?;
         Ok(Sheet {
             tree,
             nodes,
             order,
-            leaves,
-            numbers,
-            wants,
+            leaves: kept.leaves,
+            numbers: kept.numbers,
+            wants: kept.wants,
         })
     }
 }

@@ -12,7 +12,7 @@ use Rattle.limit_tree.specs.declared.fault.TreeFault.TheVariants.{TooDeep, TooMa
 use Rattle.limit_tree.specs.Faults.{or_else, kind_fault, node_fault, first_fault, over_limit, first_over, tree_fault}
 use Rattle.limit_tree.specs.Outline.{is_leaf_kind}
 use Rattle.sheet_tree.specs.Paths.{NoneTwice, Path}
-use Rattle.sheet_nodes.specs.declared.fault.SheetFault.TheVariants.{Tree}
+use Rattle.sheet_faults.specs.declared.sheet.SheetFault.TheVariants.{Tree}
 use Rattle.sheet_nodes.specs.Table.{Table, is_at, mention_at, path_at, paths_in}
 use Rattle.sheet_nodes.specs.Tree.{kind_in, line_in, line_of, node_paths, outline_of, paths_to}
 use Rattle.sheet_nodes.specs.Whole.{fault_line, whole_fault}

@@ -7,7 +7,8 @@ use Rattle.limit_tree.specs.Outline.{is_leaf_kind}
 use Rattle.sheet_tree.specs.Paths.{Octets, Path, NoneTwice, is_among, names_of, same_path, text_of}
 use Rattle.sheet_tree.proofs.Within.{same_self}
 use Rattle.sheet_nodes.specs.declared.node.Node.{Node}
-use Rattle.sheet_nodes.specs.Table.{Entry, Mention, Table, mention_at, noted, path_at, paths_in, unstated, want_count}
+use Rattle.sheet_nodes.specs.Table.{Mention, Table, mention_at, noted, path_at, paths_in, unstated, want_count}
+use Rattle.sheet_tree.specs.Mentions.{Entry}
 use Rattle.sheet_nodes.specs.Inside.{AreBeneath, AreNames, AreNodes, Finds, IsTable, Names, mention_of, parents_of, paths_of, table_of, texts_of}
 use Rattle.std.proofs.lemmas.List.{get_or-map, length-map}
 use Rattle.sheet_nodes.proofs.Tables.{count, apart_from}

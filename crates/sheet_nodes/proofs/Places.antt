@@ -3,7 +3,8 @@ use Rattle.std.proofs.Common.{◌≡◌, ◌∙◌, ℕ, ◌<◌, ◌≤◌, Boo
 use Rattle.std.specs.List.{fold}
 use Rattle.std.proofs.lemmas.List.{get_or_append_left, map-append}
 use Rattle.sheet_tree.specs.Paths.{Path, way_to}
-use Rattle.sheet_nodes.specs.Table.{Entry, Mention, Table, is_mentioned, mention, mention_all, noted, path_at, paths_in, unstated}
+use Rattle.sheet_nodes.specs.Table.{Mention, Table, is_mentioned, mention, mention_all, noted, path_at, paths_in, unstated}
+use Rattle.sheet_tree.specs.Mentions.{Entry}
 use Rattle.sheet_nodes.proofs.Tables.{count}
 use Rattle.sheet_nodes.proofs.Taken.{after, paths_noted}
 

@@ -15,16 +15,17 @@ use Rattle.limit_tree.specs.declared.place.Kind.{Kind}
 use Rattle.limit_tree.specs.declared.fault.TreeFault.{TreeFault}
 use Rattle.limit_tree.specs.declared.fault.TreeFault.TheVariants.{TooDeep}
 use Rattle.limit_tree.specs.declared.bounds.TheConstants.{MAX_DEPTH}
-use Rattle.sheet_nodes.specs.declared.fault.SheetFault.{SheetFault}
-use Rattle.sheet_nodes.specs.declared.fault.SheetFault.TheVariants.{Twice, LeafHasKids, Tree}
+use Rattle.sheet_faults.specs.declared.sheet.SheetFault.{SheetFault}
+use Rattle.sheet_faults.specs.declared.sheet.SheetFault.TheVariants.{Twice, LeafHasKids, Tree}
 use Rattle.sheet_nodes.specs.declared.walk.Walk.{Walk}
-use Rattle.sheet_tree.specs.Paths.{Path, above, is_within, names_of, parts, place_of, same_path, text_of}
+use Rattle.sheet_tree.specs.Paths.{Path, above, is_within, names_of, parts, place_of, same_path, text_of, IsPathText}
 use Rattle.sheet_tree.proofs.Texts.{text_is}
 use Rattle.sheet_tree.proofs.Within.{is_same}
 use Rattle.sheet_tree.proofs.Listing.{found_at, place_some, place_none, not_among}
-use Rattle.sheet_nodes.specs.Table.{Entry, Mention, Table, has_line, is_at, is_mentioned, is_want, mention_all, mention_at, noted, path_at, paths_in, place_fault, size_fault, taken, taken_unless, unstated, want_count}
+use Rattle.sheet_nodes.specs.Table.{Mention, Table, has_line, is_at, is_mentioned, is_want, mention_all, mention_at, noted, path_at, paths_in, place_fault, size_fault, taken, taken_unless, unstated, want_count}
+use Rattle.sheet_tree.specs.Mentions.{Entry}
 use Rattle.sheet_nodes.specs.Inside.{IsTable}
-use Rattle.sheet_nodes.specs.Walks.{IsFresh, IsPathText, IsStand, IsWalk, fault_shown, grown, walked}
+use Rattle.sheet_nodes.specs.Walks.{IsFresh, IsStand, IsWalk, fault_shown, grown, walked}
 use Rattle.sheet_nodes.proofs.Cuts.{names_more}
 use Rattle.sheet_nodes.proofs.Tables.{count, none_at, only_at, place_at, there_at}
 use Rattle.sheet_nodes.proofs.Walked.{IsKnown, among_push, grown_length, longer, nothing_in, walk_known, within_more}

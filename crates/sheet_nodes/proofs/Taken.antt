@@ -12,13 +12,13 @@ use Rattle.limit_tree.specs.declared.fault.TreeFault.TheVariants.{TooDeep, TooMa
 use Rattle.limit_tree.specs.Outline.{is_leaf_kind}
 use Rattle.limit_tree.specs.Faults.{kind_fault, or_else}
 use Rattle.sheet_tree.specs.Paths.{NoneTwice, Path, above, is_among, is_within, same_path, way_to}
-use Rattle.sheet_tree.specs.Mentions.{mention as mention_path, mention_all as mention_way}
+use Rattle.sheet_tree.specs.Mentions.{mention as mention_path, mention_all as mention_way, Entry}
 use Rattle.sheet_tree.specs.Law.{AreMentions}
 use Rattle.sheet_tree.proofs.Within.{is_name, is_same, same_self, swapped, within_length, within_self, within_trans}
 use Rattle.sheet_tree.proofs.Mentioned.{among_fold, among_way, once_fold}
-use Rattle.sheet_nodes.specs.declared.fault.SheetFault.{SheetFault}
-use Rattle.sheet_nodes.specs.declared.fault.SheetFault.TheVariants.{Twice, LeafHasKids, Tree}
-use Rattle.sheet_nodes.specs.Table.{Entry, Mention, Table, has_line, is_at, is_mentioned, is_want, mention, mention_all, noted, noted_at, paths_in, place_fault, size_fault, taken, taken_unless, unstated, want_count}
+use Rattle.sheet_faults.specs.declared.sheet.SheetFault.{SheetFault}
+use Rattle.sheet_faults.specs.declared.sheet.SheetFault.TheVariants.{Twice, LeafHasKids, Tree}
+use Rattle.sheet_nodes.specs.Table.{Mention, Table, has_line, is_at, is_mentioned, is_want, mention, mention_all, noted, noted_at, paths_in, place_fault, size_fault, taken, taken_unless, unstated, want_count}
 use Rattle.sheet_nodes.specs.Tree.{kind_in, kind_of}
 
 either_false : (a b : Bool) → (a || b) ≡ false → (a ≡ false) × (b ≡ false)

@@ -13,15 +13,15 @@ use Rattle.limit_tree.specs.declared.fault.TreeFault.TheVariants.{FloorsOverLimi
 use Rattle.limit_tree.specs.Outline.{is_leaf_kind}
 use Rattle.limit_tree.specs.Faults.{first_fault, first_over, kind_fault, or_else}
 use Rattle.sheet_tree.specs.Paths.{NoneTwice, Path, is_among, same_path, way_to}
-use Rattle.sheet_tree.specs.Mentions.{mention_all as mention_way, mentions}
+use Rattle.sheet_tree.specs.Mentions.{mention_all as mention_way, mentions, Entry}
 use Rattle.sheet_tree.specs.Law.{IsTreeOf}
 use Rattle.sheet_tree.proofs.Within.{is_same}
 use Rattle.sheet_tree.proofs.Mentioned.{once_fold}
 use Rattle.sheet_tree.proofs.Stated.{are_mentions}
 use Rattle.sheet_tree.proofs.Whole.{tree_is}
-use Rattle.sheet_nodes.specs.declared.fault.SheetFault.{SheetFault}
-use Rattle.sheet_nodes.specs.declared.fault.SheetFault.TheVariants.{Tree}
-use Rattle.sheet_nodes.specs.Table.{Entry, Mention, Table, fresh, has_line, is_at, mention, mention_all, noted, paths_in, taken, unstated, want_count}
+use Rattle.sheet_faults.specs.declared.sheet.SheetFault.{SheetFault}
+use Rattle.sheet_faults.specs.declared.sheet.SheetFault.TheVariants.{Tree}
+use Rattle.sheet_nodes.specs.Table.{Mention, Table, fresh, has_line, is_at, mention, mention_all, noted, paths_in, taken, unstated, want_count}
 use Rattle.sheet_nodes.specs.Tree.{kind_in, line_in, node_paths, outline_of}
 use Rattle.sheet_nodes.specs.Whole.{fault_line, whole_fault}
 use Rattle.sheet_nodes.specs.Taken.{AreNoted, IsAboveLimit, IsTaken, IsTreeOfLines, Stated, stated_paths, take_on, taken_all}

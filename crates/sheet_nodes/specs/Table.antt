@@ -9,8 +9,9 @@ use Rattle.limit_tree.specs.declared.fault.TreeFault.TheVariants.{TooDeep, TooMa
 use Rattle.limit_tree.specs.declared.bounds.TheConstants.{MAX_DEPTH, MAX_NODES, MAX_LEAVES}
 use Rattle.limit_tree.specs.Outline.{is_leaf_kind}
 use Rattle.limit_tree.specs.Faults.{kind_fault, or_else}
-use Rattle.sheet_nodes.specs.declared.fault.SheetFault.{SheetFault}
-use Rattle.sheet_nodes.specs.declared.fault.SheetFault.TheVariants.{Twice, LeafHasKids, Tree}
+use Rattle.sheet_faults.specs.declared.sheet.SheetFault.{SheetFault}
+use Rattle.sheet_faults.specs.declared.sheet.SheetFault.TheVariants.{Twice, LeafHasKids, Tree}
+use Rattle.sheet_tree.specs.Mentions.{Entry}
 use Rattle.sheet_tree.specs.Paths.{Path, same_path, is_among, above, way_to}
 
 -- a path that is mentioned: what stands there, and the line that states it, if one does
@@ -22,11 +23,6 @@ pub record Mention : Type 0 where
 -- what is mentioned, in order of first mention
 abbrev pub Table : Type 0
 Table = List Mention
-
--- what a line says of a path
-pub record Entry : Type 0 where
-  pub path : Path
-  pub kind : Kind
 
 -- a branch that is only mentioned has no limit
 abbrev pub unstated : Path → Mention

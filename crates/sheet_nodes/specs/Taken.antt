@@ -7,11 +7,11 @@ use Rattle.limit_tree.specs.declared.bounds.TheConstants.{MAX_DEPTH, MAX_LEAVES,
 use Rattle.limit_tree.specs.declared.fault.TreeFault.TheVariants.{FloorsOverLimit}
 use Rattle.limit_tree.specs.Faults.{first_over, kind_fault, tree_fault}
 use Rattle.sheet_tree.specs.Paths.{Path, same_path}
-use Rattle.sheet_tree.specs.Mentions.{mentions}
+use Rattle.sheet_tree.specs.Mentions.{mentions, Entry}
 use Rattle.sheet_tree.specs.Law.{AreMentions, IsTreeOf}
-use Rattle.sheet_nodes.specs.declared.fault.SheetFault.{SheetFault}
-use Rattle.sheet_nodes.specs.declared.fault.SheetFault.TheVariants.{Tree}
-use Rattle.sheet_nodes.specs.Table.{Entry, Table, fresh, is_at, paths_in, taken, want_count}
+use Rattle.sheet_faults.specs.declared.sheet.SheetFault.{SheetFault}
+use Rattle.sheet_faults.specs.declared.sheet.SheetFault.TheVariants.{Tree}
+use Rattle.sheet_nodes.specs.Table.{Table, fresh, is_at, paths_in, taken, want_count}
 use Rattle.sheet_nodes.specs.Tree.{kind_in, line_in, node_paths, outline_of}
 use Rattle.sheet_nodes.specs.Whole.{whole_fault}
 

@@ -3,8 +3,8 @@ use Rattle.std.specs.Prelude.{◌≡◌, ℕ, ◌<◌, ◌≤◌, Bool, false, �
 use Rattle.sheet_tree.specs.Paths.{Octets, Path, names_of}
 use Rattle.sheet_nodes.specs.Table.{Table, is_mentioned, is_want, path_at, unstated}
 use Rattle.limit_tree.specs.declared.fault.TreeFault.TheVariants.{TooDeep}
-use Rattle.sheet_nodes.specs.declared.fault.SheetFault.{SheetFault}
-use Rattle.sheet_nodes.specs.declared.fault.SheetFault.TheVariants.{Twice, LeafHasKids, Tree}
+use Rattle.sheet_faults.specs.declared.sheet.SheetFault.{SheetFault}
+use Rattle.sheet_faults.specs.declared.sheet.SheetFault.TheVariants.{Twice, LeafHasKids, Tree}
 use Rattle.sheet_nodes.specs.declared.walk.Walk.{Walk}
 
 -- how far a walk comes: the path that it comes to, the names behind it, and whether it passed a want on its way
@@ -23,10 +23,6 @@ walked table front under (name ∷ names) =
 abbrev pub grown : Table → Path → Path → Table
 grown table front [] = table
 grown table front (name ∷ names) = grown (table ++ unstated (front ++ name ∷ []) ∷ []) (front ++ name ∷ []) names
-
--- a path's text is empty, or begins with a slash
-abbrev pub IsPathText : Octets → Type 0
-IsPathText text = 0 < length text → slice_index text 0 ≡ 47
 
 -- the first names of a path's text, up to some octet, lead to the place, and behind them ends the text or is a slash
 pub record IsStand (table : Table) (text : Octets) (place at : ℕ) : Type 0 where

@@ -4,8 +4,8 @@ use Rattle.std.specs.Option.{option_map, unwrap_or}
 use Rattle.limit_tree.specs.declared.fault.TreeFault.{TreeFault}
 use Rattle.limit_tree.specs.declared.fault.TreeFault.TheVariants.{FloorsOverLimit}
 use Rattle.limit_tree.specs.Faults.{tree_fault}
-use Rattle.sheet_nodes.specs.declared.fault.SheetFault.{SheetFault}
-use Rattle.sheet_nodes.specs.declared.fault.SheetFault.TheVariants.{Tree}
+use Rattle.sheet_faults.specs.declared.sheet.SheetFault.{SheetFault}
+use Rattle.sheet_faults.specs.declared.sheet.SheetFault.TheVariants.{Tree}
 use Rattle.sheet_nodes.specs.Table.{Table}
 use Rattle.sheet_nodes.specs.Tree.{line_in, node_paths, outline_of}
 

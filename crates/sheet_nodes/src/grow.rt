@@ -1,8 +1,8 @@
 //! Mentioning a path that is not there yet.
 ghost use Rattle.std.specs.Prelude.{◌≡◌, ◌<◌, OnOk, IfOk, drop, length};
-ghost use Rattle.sheet_tree.specs.Paths.{names_of};
+ghost use Rattle.sheet_tree.specs.Paths.{names_of, IsPathText};
 ghost use Rattle.sheet_nodes.specs.Table.{path_at};
-ghost use Rattle.sheet_nodes.specs.Walks.{IsPathText, IsStand, IsFresh, grown};
+ghost use Rattle.sheet_nodes.specs.Walks.{IsStand, IsFresh, grown};
 
 use crate::names::name_len;
 use crate::node::Nodes;

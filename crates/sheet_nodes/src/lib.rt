@@ -13,7 +13,6 @@
 //! ```
 #![tactic(auto)]
 
-mod fault;
 mod grow;
 mod kids;
 mod laws;
@@ -24,7 +23,7 @@ mod tree;
 mod walk;
 mod whole;
 
-pub use fault::SheetFault;
 pub use laws::tree_is_of_lines;
 pub use names::name_len;
 pub use node::{Nodes, is_leaf};
+pub use sheet_faults::SheetFault;

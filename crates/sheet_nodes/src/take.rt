@@ -1,15 +1,15 @@
 //! Taking what a line states.
 ghost use Rattle.std.specs.Prelude.{◌≡◌, ◌<◌, ◌≤◌, ℕ, IfOk, MatchResult, OnOk, Ok, Err, length};
 ghost use Rattle.memory_terms.specs.Lack.{Unless};
-ghost use Rattle.sheet_tree.specs.Paths.{names_of};
+ghost use Rattle.sheet_tree.specs.Paths.{names_of, IsPathText};
 ghost use Rattle.sheet_nodes.specs.Table.{path_at, place_fault, size_fault, taken};
-ghost use Rattle.sheet_nodes.specs.Walks.{IsPathText, IsWalk, fault_shown};
+ghost use Rattle.sheet_nodes.specs.Walks.{IsWalk, fault_shown};
 
-use crate::fault::SheetFault;
 use crate::names::count_slashes;
 use crate::node::{Nodes, is_leaf};
 use crate::walk::Walk;
 use limit_tree::{Kind, MAX_DEPTH, MAX_LEAVES, MAX_LIMIT, MAX_NODES, MAX_WANT, TreeFault};
+use sheet_faults::SheetFault;
 use std::alloc::Allocator;
 
 /// The fault of a tree with so many nodes, to which a want comes after so many.

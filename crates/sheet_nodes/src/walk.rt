@@ -1,9 +1,9 @@
 //! Walking along the names of a path as far as they are there.
 ghost use Rattle.std.specs.Prelude.{◌≡◌, ◌||◌};
 ghost use Rattle.limit_tree.specs.Outline.{is_leaf_kind};
-ghost use Rattle.sheet_tree.specs.Paths.{names_of, place_of};
+ghost use Rattle.sheet_tree.specs.Paths.{names_of, place_of, IsPathText};
 ghost use Rattle.sheet_nodes.specs.Table.{paths_in};
-ghost use Rattle.sheet_nodes.specs.Walks.{IsPathText, IsWalk};
+ghost use Rattle.sheet_nodes.specs.Walks.{IsWalk};
 
 use crate::names::name_len;
 use crate::node::{Nodes, is_leaf};

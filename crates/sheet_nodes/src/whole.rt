@@ -6,9 +6,9 @@ ghost use Rattle.sheet_nodes.specs.Rows.{AreBelow};
 ghost use Rattle.sheet_nodes.specs.Tree.{node_paths, outline_of, paths_to};
 ghost use Rattle.sheet_nodes.specs.Whole.{fault_line, whole_fault};
 
-use crate::fault::SheetFault;
 use crate::node::Nodes;
 use limit_tree::{Tree, TreeFault};
+use sheet_faults::SheetFault;
 use std::alloc::Allocator;
 
 impl<'t, A: Allocator + Clone> Nodes<'t, A> {

@@ -2,11 +2,11 @@
 use Rattle.std.proofs.Common.{◌≡◌, ◌<◌, ℕ, List, Option, Some, None, IfSome, length, refl, subst}
 use Rattle.std.specs.Io.KnownBytes.{Appends}
 use Rattle.grant_certificate.specs.declared.flaw.Verdict.{Verdict}
-use Rattle.sheet_commands.specs.Checking.{IsCheckOf, IsGrantsFaultOf}
-use Rattle.sheet_commands.specs.Sharing.{IsSheetFaultOf}
-use Rattle.sheet_commands.specs.declared.fault.ProgramFault.{ProgramFault}
-use Rattle.sheet_commands.specs.declared.fault.ProgramFault.TheVariants.{Memory, Sheet, Grants, TooLong, ReadFault, WriteFault}
-use Rattle.sheet_commands.specs.declared.whole.TheConstants.{MAX_TEXT}
+use Rattle.sheet_check.specs.Checking.{IsCheckOf, IsGrantsFaultOf}
+use Rattle.share_text.specs.Sheet.{IsSheetFaultOf}
+use Rattle.whole_texts.specs.declared.fault.ProgramFault.{ProgramFault}
+use Rattle.whole_texts.specs.declared.fault.ProgramFault.TheVariants.{Memory, Sheet, Grants, TooLong, ReadFault, WriteFault}
+use Rattle.whole_texts.specs.declared.read.TheConstants.{MAX_TEXT}
 use Rattle.sheet_program.specs.Runs.{IsCheckFault, IsGrantsFaultIn, IsJudged, IsShareFault, Octets}
 
 -- what holds of a text that is known

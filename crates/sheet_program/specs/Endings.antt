@@ -3,7 +3,7 @@ use Rattle.std.specs.Prelude.{◌≡◌, ◌≢◌, ℕ, List, Option, IsFalse, 
 use Rattle.std.specs.Io.KnownBytes.{Appends}
 use Rattle.command_line.specs.declared.words.WordsFault.{WordsFault}
 use Rattle.command_line.specs.declared.words.WordsFault.TheVariants.{Memory as NoMemory, Refused as NoCommand}
-use Rattle.sheet_commands.specs.declared.fault.ProgramFault.TheVariants.{Memory, WriteFault}
+use Rattle.whole_texts.specs.declared.fault.ProgramFault.TheVariants.{Memory, WriteFault}
 use Rattle.sheet_program.specs.declared.ending.Ending.{Ending}
 use Rattle.sheet_program.specs.declared.ending.Ending.TheVariants.{Done, Flawed, Refused, Fault}
 

@@ -7,11 +7,12 @@ use Rattle.command_line.specs.declared.words.SheetWords.TheVariants.{Share, Chec
 use Rattle.grant_certificate.specs.declared.flaw.Flaw.{Flaw}
 use Rattle.grant_certificate.specs.declared.flaw.Verdict.{Verdict}
 use Rattle.grant_certificate.specs.declared.flaw.Verdict.TheVariants.{Yes, No}
-use Rattle.sheet_commands.specs.Checking.{IsCheckOf, IsGrantsFaultOf}
-use Rattle.sheet_commands.specs.Sharing.{IsSharingOf, IsSheetFaultOf}
-use Rattle.sheet_commands.specs.declared.fault.ProgramFault.{ProgramFault}
-use Rattle.sheet_commands.specs.declared.fault.ProgramFault.TheVariants.{Memory, Sheet, Grants, TooLong, ReadFault, WriteFault}
-use Rattle.sheet_commands.specs.declared.whole.TheConstants.{MAX_TEXT}
+use Rattle.sheet_check.specs.Checking.{IsCheckOf, IsGrantsFaultOf}
+use Rattle.sheet_share.specs.Sharing.{IsSharingOf}
+use Rattle.share_text.specs.Sheet.{IsSheetFaultOf}
+use Rattle.whole_texts.specs.declared.fault.ProgramFault.{ProgramFault}
+use Rattle.whole_texts.specs.declared.fault.ProgramFault.TheVariants.{Memory, Sheet, Grants, TooLong, ReadFault, WriteFault}
+use Rattle.whole_texts.specs.declared.read.TheConstants.{MAX_TEXT}
 use Rattle.sheet_program.specs.declared.ending.Ending.{Ending}
 use Rattle.sheet_program.specs.declared.ending.Ending.TheVariants.{Done, Flawed, Refused, Fault}
 use Rattle.sheet_program.specs.declared.files.TheConstants.{STANDARD_INPUT}

@@ -3,9 +3,9 @@ ghost use Rattle.std.specs.Prelude.{◌≡◌};
 ghost use Rattle.sheet_program.specs.Endings.{IsRefusedAs, IsToldEnd, IsUnwritten, status_of};
 
 use command_line::WordsFault;
-use sheet_commands::{ProgramFault, TextWriter, write_whole};
 use std::alloc::Global;
 use std::fmt;
+use whole_texts::{ProgramFault, TextWriter, write_whole};
 
 /// How a run of the program ends.
 #[derive(Debug, Drop)]

@@ -1,7 +1,7 @@
 //! The files that words name.
 ghost use Rattle.std.specs.Prelude.{ℕ, List, Option, IfSome};
 
-use sheet_commands::TextReader;
+use whole_texts::TextReader;
 
 /// The path that names standard input. It can be read but once.
 pub const STANDARD_INPUT: &str = "/dev/stdin";

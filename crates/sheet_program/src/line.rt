@@ -3,11 +3,11 @@ ghost use Rattle.std.specs.Prelude.{◌≡◌, IfErr, IfOk, map, string_bytes};
 ghost use Rattle.sheet_program.specs.Endings.{IsNoLine};
 
 use crate::ending::Ending;
-use sheet_commands::ProgramFault;
 use std::alloc::{AllocError, Global};
 use std::env;
 use std::io::ErrorKind;
 use std::rt::Env;
+use whole_texts::ProgramFault;
 
 const NOT_A_TEXT: &str = "error: a word is not UTF-8\n";
 

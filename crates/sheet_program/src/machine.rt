@@ -1,10 +1,10 @@
 //! The files of the machine that a program runs on.
 
 use crate::files::{Openings, STANDARD_INPUT};
-use sheet_commands::Outside;
 use std::io::Read;
 use std::rt::Files;
 use std::{fs, io};
+use whole_texts::Outside;
 
 /// A file, or standard input.
 #[derive(Drop)]

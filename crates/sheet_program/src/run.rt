@@ -5,7 +5,7 @@ ghost use Rattle.command_line.specs.Commands.{sheets};
 ghost use Rattle.command_line.specs.Given.{IsPlainWord, IsRefusal, IsSheetFound};
 ghost use Rattle.command_line.specs.declared.words.SheetWords.{SheetWords};
 ghost use Rattle.command_line.specs.declared.words.WordsFault.{WordsFault};
-ghost use Rattle.sheet_commands.specs.declared.fault.ProgramFault.{ProgramFault};
+ghost use Rattle.whole_texts.specs.declared.fault.ProgramFault.{ProgramFault};
 ghost use Rattle.sheet_program.specs.Endings.{IsToldEnd, IsUnwritten};
 ghost use Rattle.sheet_program.specs.Runs.{IsCheckEnd, IsNamedTwice, IsShareEnd, IsSheetEnd};
 
@@ -13,8 +13,10 @@ use crate::ending::{Ending, tell};
 use crate::files::{Openings, STANDARD_INPUT};
 use command_line::{SheetWords, read_sheet_words};
 use grant_certificate::Verdict;
-use sheet_commands::{ProgramFault, TextWriter, run_check, run_share};
+use sheet_check::run_check;
+use sheet_share::run_share;
 use std::alloc::Global;
+use whole_texts::{ProgramFault, TextWriter};
 
 const READ_TWICE: &str = "error: standard input cannot be both the sheet and the grants\n";
 

@@ -2,7 +2,7 @@
 
 use crate::expect::holds;
 use limit_tree::Kind;
-use share_text::{cut_at, cut_line, read_entry, read_named_path, read_number, read_path};
+use sheet_lines::{cut_at, cut_line, read_entry, read_named_path, read_number, read_path};
 
 static LINES: [&[u8]; 4] = [b"a", b"", b"#b", b"c\r"];
 

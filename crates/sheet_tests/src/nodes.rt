@@ -1,10 +1,10 @@
 //! What no clause says of the nodes of a sheet: that the calls succeed, and what lines give.
 
-ghost use Rattle.sheet_nodes.specs.Walks.{IsPathText};
+ghost use Rattle.sheet_tree.specs.Paths.{IsPathText};
 
 use crate::expect::holds;
 use limit_tree::{Tree, TreeFault};
-use share_text::read_entry;
+use sheet_lines::read_entry;
 use sheet_nodes::{Nodes, SheetFault, name_len, tree_is_of_lines};
 use std::alloc::{Allocator, Global};
 use std::process::Abort;

@@ -5,6 +5,11 @@ use Rattle.std.specs.Prelude.{◌≡◌, ◌<◌, length, true, false, ◌||◌,
 use Rattle.std.specs.List.{fold, list_any}
 use Rattle.sheet_tree.specs.Paths.{Path, is_within, is_among, NoneTwice, way_to}
 
+-- what a line says of a path
+pub record Entry : Type 0 where
+  pub path : Path
+  pub kind : Kind
+
 -- one path more, unless it was mentioned
 abbrev pub mention : List Path → Path → List Path
 mention seen path = if is_among seen path then seen else seen ++ path ∷ []

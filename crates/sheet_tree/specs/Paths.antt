@@ -1,5 +1,5 @@
 -- Paths, as the lists of their names.
-use Rattle.std.specs.Prelude.{◌≡◌, ℕ, ◌==◌, Bool, true, false, ◌&&◌, List, [], ◌∷◌, map, flat_map, bytes_eq, codes, Option, Some, None}
+use Rattle.std.specs.Prelude.{◌≡◌, ◌<◌, ℕ, ◌==◌, Bool, true, false, ◌&&◌, List, [], ◌∷◌, map, flat_map, length, slice_index, bytes_eq, codes, Option, Some, None}
 use Rattle.std.specs.List.{list_any, position_from, slice_split}
 
 abbrev pub Octets : Type 0
@@ -22,6 +22,10 @@ parts_behind mark (Some rest) = parts mark rest
 abbrev pub names_of : Octets → Path
 names_of [] = []
 names_of (slash ∷ rest) = parts 47 rest
+
+-- a path's text is empty, or begins with a slash
+abbrev pub IsPathText : Octets → Type 0
+IsPathText text = 0 < length text → slice_index text 0 ≡ 47
 
 -- the text of a path: each name behind a `/`
 abbrev pub text_of : Path → Octets

@@ -2,12 +2,12 @@
 //! with its status.
 #![tactic(auto)]
 
-use sheet_commands::Outside;
 use sheet_program::{Ending, Machine, Told, as_words, line_words, run_sheets};
 use std::alloc::Global;
 use std::io;
 use std::process::ExitCode;
 use std::rt::{Env, Files};
+use whole_texts::Outside;
 
 const NAME: &str = "sheets";
 

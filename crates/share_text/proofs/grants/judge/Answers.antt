@@ -2,9 +2,9 @@ use Rattle.std.proofs.Common.{◌≡◌, ◌∙◌, sym, ap, cond, Option, Some,
 use Rattle.std.proofs.lemmas.Option.{slice_get-get_or}
 use Rattle.std.proofs.lemmas.Result.{err_from_is_err_and}
 use Rattle.sheet_tree.specs.Paths.{names_of, same_path}
-use Rattle.share_text.specs.declared.grants.GrantsFault.TheVariants.{NoSuchNode}
+use Rattle.sheet_faults.specs.declared.grants.GrantsFault.TheVariants.{NoSuchNode}
 use Rattle.share_text.specs.Grants.{grant_fault}
-use Rattle.share_text.specs.Slots.{grant_view}
+use Rattle.sheet_lines.specs.Views.{grant_view}
 use Rattle.share_text.proofs.Filling.{wrong_path, right_path, within_leaves, first_place}
 use Rattle.share_text.proofs.grants.judge.Goals as goal
 

@@ -5,7 +5,8 @@ use Rattle.limit_tree.specs.declared.place.Place.{Place}
 use Rattle.limit_tree.specs.Faults.{or_else}
 use Rattle.limit_tree.specs.Outline.{limits}
 use Rattle.share_text.specs.declared.grants.Given.{Given}
-use Rattle.share_text.specs.Grants.{GrantLine, first_grants_fault, grant_lines, line_grants, lines_by_leaf, named_node}
+use Rattle.share_text.specs.Grants.{first_grants_fault, grant_lines, line_grants, lines_by_leaf, named_node}
+use Rattle.sheet_lines.specs.Text.{GrantLine}
 use Rattle.share_text.proofs.Full.{full, short}
 use Rattle.share_text.proofs.Filling.{collected, filled_none}
 use Rattle.share_text.proofs.grants.read_grants.Goals as goal

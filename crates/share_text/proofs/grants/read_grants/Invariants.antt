@@ -1,6 +1,7 @@
 use Rattle.std.proofs.Common.{◌≡◌, ◌≤◌, ◌+◌, ◌++◌, List, length}
 use Rattle.std.specs.Str.Lines.{lines}
-use Rattle.share_text.specs.Grants.{GrantLine, first_grants_fault, grant_lines, grants_fault}
+use Rattle.share_text.specs.Grants.{first_grants_fault, grant_lines, grants_fault}
+use Rattle.sheet_lines.specs.Text.{GrantLine}
 use Rattle.share_text.specs.Slots.{Filled}
 use Rattle.share_text.proofs.grants.read_grants.Given as goal
 

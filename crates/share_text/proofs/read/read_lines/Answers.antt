@@ -2,7 +2,7 @@ use Rattle.std.proofs.Common.{◌≡◌, ◌∙◌, ◌+◌, ◌++◌, [], ap, s
 use Rattle.std.proofs.lemmas.List.{nil_from_length}
 use Rattle.std.specs.Str.Lines.{lines}
 use Rattle.sheet_tree.specs.Paths.{Octets, Path}
-use Rattle.sheet_nodes.specs.declared.fault.SheetFault.{SheetFault}
+use Rattle.sheet_faults.specs.declared.sheet.SheetFault.{SheetFault}
 use Rattle.sheet_nodes.specs.Rows.{AreBelow}
 use Rattle.sheet_nodes.specs.Table.{Table}
 use Rattle.sheet_nodes.specs.Tree.{paths_to}

@@ -1,7 +1,8 @@
 use Rattle.std.proofs.Common.{◌≡◌, ◌∙◌, sym, ap, refl, option_map, Some, length, ℕ, false, nat_eq}
 use Rattle.share_text.specs.Sheet.{is_skipped}
-use Rattle.share_text.specs.Grants.{grant_fault, grant_of}
-use Rattle.share_text.specs.Slots.{grant_view}
+use Rattle.share_text.specs.Grants.{grant_fault}
+use Rattle.sheet_lines.specs.Text.{grant_of}
+use Rattle.sheet_lines.specs.Views.{grant_view}
 use Rattle.std.specs.List.{position_from}
 use Rattle.std.proofs.Math.ListN.{set}
 use Rattle.share_text.proofs.Filling.{one_line, line_judged, filled_line}

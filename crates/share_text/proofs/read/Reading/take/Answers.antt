@@ -1,5 +1,4 @@
-use Rattle.std.proofs.Common.{◌∙◌, ap}
-use Rattle.share_text.specs.Entries.{entry_view}
+use Rattle.sheet_lines.specs.Views.{entry_view}
 use Rattle.share_text.proofs.Taking.{below_more, wants_more}
 use Rattle.share_text.proofs.read.Reading.take.Goals as goal
 

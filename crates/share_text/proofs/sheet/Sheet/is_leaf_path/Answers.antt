@@ -1,4 +1,4 @@
-use Rattle.std.proofs.Common.{◌≡◌, ◌∙◌, ◌<◌, ap, sym, arith, List, [], length, get_or, nat_eq, ℕ}
+use Rattle.std.proofs.Common.{◌≡◌, ◌∙◌, ◌<◌, ap, sym, arith, List, [], length, get_or, nat_eq}
 use Rattle.std.proofs.lemmas.List.{get_or_read, length-map}
 use Rattle.sheet_tree.specs.Paths.{Path, names_of, same_path}
 use Rattle.sheet_nodes.specs.Table.{path_at}

@@ -1,96 +1,28 @@
-use Rattle.std.proofs.Common.{◌≡◌, ◌∙◌, ◌<◌, ap, sym, subst, arith, ℕ, List, length, nat_eq, map, Some, None, Option, get_or}
-use Rattle.std.specs.List.{position_from}
-use Rattle.std.specs.Option.{is_some}
-use Rattle.limit_tree.specs.Outline.{is_leaf_kind}
-use Rattle.sheet_nodes.specs.Rows.{AreBelow}
-use Rattle.sheet_nodes.specs.Table.{mention_at}
-use Rattle.sheet_nodes.specs.Tree.{paths_to}
-use Rattle.share_text.specs.Kept.{IsKept}
-use Rattle.share_text.specs.Views.{IsSheet, IsSheetOf}
-use Rattle.share_text.proofs.Placed.{filter_short}
-use Rattle.share_text.proofs.Readings.{few, is_kept, is_sheet, is_sheet_of, leaf_places, leaves_below, numbered}
+use Rattle.std.proofs.Common.{List, ℕ, sym, subst}
+use Rattle.limit_tree.specs.declared.place.Place.{Place}
+use Rattle.sheet_tree.specs.Paths.{Octets}
+use Rattle.share_text.specs.Kept.{IsNumbered, IsRead}
 use Rattle.share_text.proofs.sheet.Sheet.new.Goals as goal
 
-pub number_places-requires-clause-below : goal.number_places-requires-clause-below
-number_places-requires-clause-below g c =
-    subst (AreBelow c.len.result) (sym c.deref.ensures.value) (subst (λ (n : ℕ). AreBelow n c.args.order.items) (sym c.len.ensures.len) c.requires.read.1.order_below)
-
-pub leaf_places-requires : goal.leaf_places-requires
-leaf_places-requires g c =
-    record { below = subst (AreBelow (length c.args.nodes)) (sym c.deref-2.ensures.value) c.requires.read.1.order_below }
-
-pub numbers_at-requires-clause-below : goal.numbers_at-requires-clause-below
-numbers_at-requires-clause-below g c =
-    let numbers = c.in_ok-leaf_numbers.leaf_numbers in
-    let many : length numbers.items ≡ length c.args.nodes = omega (arith, numbers.ok.0, c.in_ok-leaf_numbers.ensures.length, c.len-2.ensures.len) in
-    subst (λ (n : ℕ). AreBelow n c.args.places.now) (sym (ap length c.deref-4.ensures.value ∙ many)) c.requires.read.1.places_below
-
-pub number_places-requires-clause-few : goal.number_places-requires-clause-few
-number_places-requires-clause-few g c =
+pub number_sheet-requires : goal.number_sheet-requires
+number_sheet-requires g c =
     let read = c.requires.read in
-    omega (arith, few read.0 c.args.nodes c.args.tree c.args.order.items c.args.places.now read.1, ap length c.deref.ensures.value)
-
-pub number_places-requires-2-clause-below : goal.number_places-requires-2-clause-below
-number_places-requires-2-clause-below g c =
-    let read = c.requires.read in
-    let table = c.args.nodes in
-    let leaves_are = c.deref-3.ensures.value ∙ c.in_ok-leaves.ensures.leaves ∙ ap (leaf_places table) c.deref-2.ensures.value in
-    subst (λ (n : ℕ). AreBelow n c.deref-3.result.now) (sym c.len-2.ensures.len) (subst (AreBelow (length table)) (sym leaves_are) (leaves_below read.0 table c.args.tree c.args.order.items c.args.places.now read.1))
-
-pub number_places-requires-2-clause-few : goal.number_places-requires-2-clause-few
-number_places-requires-2-clause-few g c =
-    let read = c.requires.read in
-    let table = c.args.nodes in
-    let leaves_are = c.deref-3.ensures.value ∙ c.in_ok-leaves.ensures.leaves ∙ ap (leaf_places table) c.deref-2.ensures.value in
-    omega (
-      arith,
-      few read.0 table c.args.tree c.args.order.items c.args.places.now read.1,
-      ap length leaves_are,
-      filter_short (λ place. is_leaf_kind (mention_at table place).kind) c.args.order.items,
-    )
-
-pub numbers_at-requires-clause-there : goal.numbers_at-requires-clause-there
-numbers_at-requires-clause-there g c k less =
-    let read = c.requires.read in
-    let table = c.args.nodes in
-    let leaves_are = c.deref-3.ensures.value ∙ c.in_ok-leaves.ensures.leaves ∙ ap (leaf_places table) c.deref-2.ensures.value in
-    let places = c.args.places.now in
-    ap (λ (ns : List (Option ℕ)). is_some (get_or ns (get_or places k 0) None)) c.deref-4.ensures.value
-    ∙ numbered read.0 table c.args.tree c.args.order.items places read.1 c.in_ok-leaf_numbers.leaf_numbers.items
-    (λ place l. c.in_ok-leaf_numbers.ensures.numbers place (omega (arith, l, c.len-2.ensures.len)) ∙ ap (position_from (nat_eq place) 0) leaves_are) k less
+    record { read = (read.0, c.args.tree, subst (λ (order : List ℕ). IsRead read.0 c.args.nodes c.args.tree order c.args.places.now) (sym c.deref.ensures.value) read.1) }
 
 pub invariant_of-result : goal.invariant_of-result
 invariant_of-result g c =
     let read = c.requires.read in
-    let table = c.args.nodes in
-    let order = c.args.order.items in
-    let places = c.args.places.now in
-    let wants = c.in_ok-wants.wants.items in
-    let leaves_are : c.in_ok-leaves.leaves.items ≡ leaf_places table order = c.in_ok-leaves.ensures.leaves ∙ ap (leaf_places table) c.deref-2.ensures.value in
-    let leaf_numbers = c.in_ok-leaf_numbers.leaf_numbers.items in
-    let are : (place : ℕ) → place < length table → get_or leaf_numbers place None ≡ position_from (nat_eq place) 0 (leaf_places table order) =
-    λ place l. c.in_ok-leaf_numbers.ensures.numbers place (omega (arith, l, c.len-2.ensures.len)) ∙ ap (position_from (nat_eq place) 0) (c.deref-3.ensures.value ∙ leaves_are) in
-    let is : map Some wants ≡ map (λ place. get_or leaf_numbers place None) places = c.in_ok-wants.ensures.numbers ∙ ap (λ (ns : List (Option ℕ)). map (λ place. get_or ns place None) places) c.deref-4.ensures.value in
-    let numbers_many : length c.in_ok-numbers.numbers.items ≡ length table = omega (arith, c.in_ok-numbers.numbers.ok.0, c.in_ok-numbers.ensures.length, c.len.ensures.len) in (
-      subst (λ (ls : List ℕ). IsSheet (record { outline = c.args.tree; paths = paths_to table order; leaves = paths_to table ls; wants = wants })) (sym leaves_are)
-          (is_sheet read.0 table c.args.tree order places read.1 wants leaf_numbers are is),
-      subst (λ (ls : List ℕ). IsKept table order ls c.in_ok-numbers.numbers.items) (sym leaves_are)
-          (is_kept read.0 table c.args.tree order places read.1 c.in_ok-numbers.numbers.items numbers_many
-          (λ place l. c.in_ok-numbers.ensures.numbers place (omega (arith, l, c.len.ensures.len)) ∙ ap (position_from (nat_eq place) 0) c.deref.ensures.value)),
-    )
+    let kept = c.in_ok-kept.kept in
+    let All : List ℕ → Type 0 = λ order. (text : Octets) (outline : List Place) → IsRead text c.args.nodes outline order c.args.places.now
+    → IsNumbered text c.args.nodes outline order kept.leaves.items kept.numbers.items kept.wants.items in
+    let all = subst All c.deref.ensures.value c.in_ok-kept.ensures.numbered in
+    let is = all read.0 c.args.tree read.1 in
+    (is.whole, is.kept)
 
 pub returns : goal.returns
 returns g c =
-    let table = c.args.nodes in
-    let order = c.args.order.items in
-    let places = c.args.places.now in
-    let wants = c.in_ok-wants.wants.items in
-    let leaves_are : c.in_ok-leaves.leaves.items ≡ leaf_places table order = c.in_ok-leaves.ensures.leaves ∙ ap (leaf_places table) c.deref-2.ensures.value in
-    let leaf_numbers = c.in_ok-leaf_numbers.leaf_numbers.items in
-    let are : (place : ℕ) → place < length table → get_or leaf_numbers place None ≡ position_from (nat_eq place) 0 (leaf_places table order) =
-    λ place l. c.in_ok-leaf_numbers.ensures.numbers place (omega (arith, l, c.len-2.ensures.len)) ∙ ap (position_from (nat_eq place) 0) (c.deref-3.ensures.value ∙ leaves_are) in
-    let is : map Some wants ≡ map (λ place. get_or leaf_numbers place None) places = c.in_ok-wants.ensures.numbers ∙ ap (λ (ns : List (Option ℕ)). map (λ place. get_or ns place None) places) c.deref-4.ensures.value in
-    record {
-      sheet = λ text read. subst (λ (ls : List ℕ). IsSheetOf text (record { outline = c.args.tree; paths = paths_to table order; leaves = paths_to table ls; wants = wants })) (sym leaves_are)
-          (is_sheet_of text table c.args.tree order places read wants leaf_numbers are is);
-    }
+    let kept = c.in_ok-kept.kept in
+    let All : List ℕ → Type 0 = λ order. (text : Octets) (outline : List Place) → IsRead text c.args.nodes outline order c.args.places.now
+    → IsNumbered text c.args.nodes outline order kept.leaves.items kept.numbers.items kept.wants.items in
+    let all = subst All c.deref.ensures.value c.in_ok-kept.ensures.numbered in
+    record { sheet = λ text read. (all text c.args.tree read).sheet_of }

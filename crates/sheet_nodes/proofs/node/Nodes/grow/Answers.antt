@@ -1,7 +1,7 @@
 use Rattle.std.proofs.Common.{◌≡◌, ◌∙◌, ◌+◌, ◌-◌, ◌<◌, ◌++◌, ◌∷◌, [], ℕ, List, length, take, drop, ap, sym, subst, arith}
-use Rattle.sheet_tree.specs.Paths.{Path, names_of, place_of}
+use Rattle.sheet_tree.specs.Paths.{Path, names_of, place_of, IsPathText}
 use Rattle.sheet_nodes.specs.Table.{path_at, paths_in, unstated}
-use Rattle.sheet_nodes.specs.Walks.{IsFresh, IsPathText, IsStand, grown}
+use Rattle.sheet_nodes.specs.Walks.{IsFresh, IsStand, grown}
 use Rattle.sheet_nodes.proofs.Stands.{IsStep, next_absent, one_step, push_on, text_here, text_taken}
 use Rattle.sheet_nodes.proofs.node.Nodes.grow.Goals as goal
 

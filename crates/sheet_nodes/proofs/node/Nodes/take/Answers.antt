@@ -1,6 +1,7 @@
 use Rattle.std.proofs.Common.{◌≡◌, ◌∙◌, ap, sym, subst, arith, ℕ, List, None, Ok, count_by, length, ◌==◌}
 use Rattle.sheet_tree.specs.Paths.{Path, names_of}
-use Rattle.sheet_nodes.specs.Table.{Entry, Table, noted, mention_all, path_at, place_fault}
+use Rattle.sheet_nodes.specs.Table.{Table, noted, mention_all, path_at, place_fault}
+use Rattle.sheet_tree.specs.Mentions.{Entry}
 use Rattle.sheet_nodes.proofs.Places.{AreKept, kept_after, noted_count, noted_path}
 use Rattle.sheet_nodes.proofs.Stands.{behind_is, no_line_yet, nodes_behind, taken_size, taken_whole, unlined, walk_end}
 use Rattle.sheet_nodes.proofs.Taken.{after}

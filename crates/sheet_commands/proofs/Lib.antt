@@ -1,7 +1,0 @@
-mod Entries
-mod Reading
-mod Told
-mod Behind
-mod There
-mod Totals
-mod Checks

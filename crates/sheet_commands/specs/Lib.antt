@@ -1,5 +1,0 @@
-pub mod Lines
-pub mod Faults
-pub mod Sharing
-pub mod Checking
-pub mod Reading

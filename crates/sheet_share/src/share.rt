@@ -1,0 +1,146 @@
+//! Sharing the limits of a sheet.
+ghost use Rattle.std.specs.Prelude.{◌≡◌, ◌≢◌, ◌<◌, ◌*◌, ◌^◌, [], ℕ, List, Some, true, IfErr, IfOk, IfSome, IsErrAnd, IsErrOf, OnOk, length, option_map, sum, slice_index, slice_index_or, string_bytes};
+ghost use Rattle.std.specs.Io.KnownBytes.{Appends};
+ghost use Rattle.limit_tree.specs.Outline.{limits};
+ghost use Rattle.limit_tree.specs.declared.bounds.TheConstants.{MAX_LEAVES};
+ghost use Rattle.round_allocator.specs.Rounds.{IsNamed};
+ghost use Rattle.sheet_tree.specs.Paths.{written};
+ghost use Rattle.share_text.specs.Views.{IsSheetOf};
+ghost use Rattle.sheet_share.specs.Lines.{share_line, share_lines, total};
+ghost use Rattle.sheet_faults.specs.declared.sheet.SheetFault.{SheetFault};
+ghost use Rattle.whole_texts.specs.Faults.{IsReadingFault, IsSheetJudgement, IsTextOf};
+ghost use Rattle.sheet_share.specs.Sharing.{IsSharingOf, leaf_line, sharing_text};
+ghost use Rattle.share_text.specs.Sheet.{IsSheetFaultOf};
+
+use crate::lines::{Share, lines_of};
+use grant_certificate::Leaves;
+use round_allocator::allot;
+use share_text::{Sheet, read_sheet};
+use std::alloc::{AllocError, Allocator};
+use whole_texts::{MAX_TEXT, ProgramFault, TextReader, TextWriter, read_whole, write_whole};
+
+/// The path of the node that an entry names.
+fn path_of<'t, A: Allocator>(sheet: &Sheet<'t, A>, entry: Option<u32>) -> Option<&'t str>
+    requires node { IfSome entry (λ node. node < length sheet.now.outline) }
+    ensures path { option_map (λ path. path.now) result
+        ≡ option_map (λ node. written (slice_index_or sheet.now.paths node [])) entry }
+{
+    match entry {
+        Some(node) => Some(sheet.path(node as usize)),
+        None => None,
+    }
+}
+
+/// What a leaf wants and got.
+fn share_of<'t, A: Allocator>(
+    sheet: &Sheet<'t, A>,
+    wants: &[u64],
+    grants: &[u64],
+    entries: &[Option<u32>],
+    leaf: usize,
+) -> Share<'t>
+    requires wants { wants.now ≡ (limits sheet.now.outline).wants }
+    requires grants { length grants.now ≡ length wants.now }
+    requires leaves { length sheet.now.leaves ≡ length wants.now }
+    requires named { IsNamed (limits sheet.now.outline) grants.now entries.now }
+    requires leaf { leaf < length grants.now }
+    ensures line { share_line result ≡ leaf_line sheet.now grants.now entries.now leaf }
+    ensures grant { result.grant ≡ slice_index grants.now leaf }
+{
+    Share {
+        path: sheet.leaf_path(leaf),
+        grant: grants[leaf],
+        want: wants[leaf],
+        full: path_of(sheet, entries[leaf]),
+    }
+}
+
+/// What each want of a sheet got, in the order of their lines.
+fn shares_of<'t, A: Allocator, B: Allocator>(
+    alloc: B,
+    sheet: &Sheet<'t, A>,
+    wants: &[u64],
+    grants: &[u64],
+    entries: &[Option<u32>],
+) -> Result<Vec<Share<'t>, B>, AllocError>
+    requires wants { wants.now ≡ (limits sheet.now.outline).wants }
+    requires grants { length grants.now ≡ length wants.now }
+    requires leaves { length sheet.now.leaves ≡ length wants.now }
+    requires named { IsNamed (limits sheet.now.outline) grants.now entries.now }
+    requires few { MAX_LEAVES * sum grants.now < 2 ^ 64 }
+    ensures lines { IfOk result
+        (λ shares. share_lines shares.items ≡ sharing_text sheet.now grants.now entries.now) }
+    ensures fits { IfOk result (λ shares. total shares.items < 2 ^ 64) }
+{
+    let leaves = sheet.wants();
+    let mut shares = Vec::with_capacity(alloc, leaves.len())?;
+    for leaf in leaves {
+        let share = share_of(sheet, wants, grants, entries, *leaf);
+        shares.push(share)?;
+    }
+    Ok(shares)
+}
+
+/// The lines of the sharing of a sheet that was read.
+fn sharing_lines<A: Allocator + Clone>(
+    alloc: A,
+    sheet: &Sheet<'_, A>,
+) -> Result<String<A>, AllocError>
+    ensures shared { IfOk result (λ lines. (text : List ℕ) → IsSheetOf text sheet.now
+        → IsSharingOf text (string_bytes lines)) }
+{
+    let (grants, certificate) = allot(alloc.clone()?, sheet.tree())?;
+    let leaves = Leaves::of(sheet.tree());
+    let shares = shares_of(
+        alloc.clone()?,
+        sheet,
+        leaves.wants(),
+        &grants,
+        certificate.entries(),
+    )?;
+    let lines = lines_of(alloc, &shares)?;
+    Ok(lines)
+}
+
+/// The lines of the sharing of a sheet: one for each want, in the order of the sheet, and last the total. The grants
+/// are best, and each branch that a line names as full backs its leaf.
+pub fn sharing_of<A: Allocator + Clone>(alloc: A, text: &[u8]) -> Result<String<A>, ProgramFault>
+    ensures shared { IfOk result (λ lines. IsSharingOf text.now (string_bytes lines)) }
+    ensures sheet { (fault : SheetFault) → IsErrOf result (ProgramFault.Sheet fault)
+        → IsSheetFaultOf text.now fault }
+    ensures faults { IfErr result IsSheetJudgement }
+{
+    let sheet = read_sheet(alloc.clone()?, text)?;
+    let lines = sharing_lines(alloc, &sheet)?;
+    Ok(lines)
+}
+
+/// Reads a sheet, and writes the lines of its sharing. A text of more than `MAX_TEXT` octets is not read to its end.
+///
+/// `WriteFault` comes only where the writer refuses the very lines, and then nothing is claimed of how much went
+/// out; any other fault comes before the first octet is written.
+pub fn run_share<A: Allocator + Clone, R: TextReader, W: TextWriter>(
+    alloc: A,
+    reader: &mut R,
+    writer: &mut W,
+) -> Result<(), ProgramFault>
+    ensures written { OnOk result ((text : List ℕ) → R.remaining reader.old ≡ Some text
+        → (printed : List ℕ) × IsSharingOf text printed
+        × Appends (W.contents writer.old) (W.contents writer.new) printed) }
+    ensures sheet { (fault : SheetFault) → IsErrOf result (ProgramFault.Sheet fault)
+        → (text : List ℕ) → R.remaining reader.old ≡ Some text → IsSheetFaultOf text fault }
+    ensures too_long { IsErrOf result ProgramFault.TooLong
+        → IfSome (R.remaining reader.old) (λ text. MAX_TEXT < length text) }
+    ensures long { (text : List ℕ) → R.remaining reader.old ≡ Some text → MAX_TEXT < length text
+        → IsErrAnd result IsReadingFault }
+    ensures read_fault { IsErrOf result ProgramFault.ReadFault → R.may_fail reader.old ≡ true }
+    ensures write_fault { IsErrOf result ProgramFault.WriteFault → (text printed : List ℕ)
+        × IsTextOf text (R.remaining reader.old) × IsSharingOf text printed
+        × W.may_refuse writer.old printed }
+    ensures unwritten { IfErr result (λ fault. fault ≢ ProgramFault.WriteFault
+        → writer.new ≡ writer.old) }
+{
+    let text = read_whole(alloc.clone()?, reader)?;
+    let lines = sharing_of(alloc, &text)?;
+    write_whole(&lines, writer)
+}

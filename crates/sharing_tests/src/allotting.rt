@@ -1,7 +1,7 @@
 //! The worked allotments, and those of random trees beside the plain rule's.
 use super::random_trees::{Numbers, Sizes, any_tree};
 use super::trees::Shape::{Branch, Leaf};
-use super::trees::{FLOORED, Shape, THREE, USERS, tree};
+use super::trees::{Shape, tree};
 use crate::expect::holds;
 use grant_certificate::{Certificate, Verdict, check};
 use limit_tree::{MAX_WANT, Tree};
@@ -9,14 +9,28 @@ use plain_allotment::allot_plainly;
 use round_allocator::{allot, allot_counted};
 use std::process::Abort;
 
+// The other call of the allocator answers alike, and the checker finds that best; how many probes it took.
+fn expect_best(
+    rt: &(impl Abort + AllocGlobal),
+    tree: &Tree,
+    grants: &[u64],
+    certificate: &Certificate,
+) -> u64 {
+    holds(rt, check(tree, grants, certificate) == Verdict::Yes);
+    let (counted, marked, probes) = allot_counted(rt.alloc(), tree).expect(rt, "memory");
+    holds(rt, counted.as_slice() == grants);
+    holds(
+        rt,
+        marked.into_entries().as_slice() == certificate.entries(),
+    );
+    probes
+}
+
 /// What both calls of the allocator answer, which is alike, and which the checker finds best: grants, their
 /// certificate, and how many probes they took.
 pub fn granted(rt: &(impl Abort + AllocGlobal), tree: &Tree) -> (Vec<u64>, Certificate, u64) {
     let (grants, certificate) = allot(rt.alloc(), tree).expect(rt, "memory");
-    let (counted, marked, probes) = allot_counted(rt.alloc(), tree).expect(rt, "memory");
-    holds(rt, counted.as_slice() == grants.as_slice());
-    holds(rt, marked.entries() == certificate.entries());
-    holds(rt, check(tree, &grants, &certificate) == Verdict::Yes);
+    let probes = expect_best(rt, tree, &grants, &certificate);
     (grants, certificate, probes)
 }
 
@@ -27,33 +41,8 @@ pub fn expect_grants(rt: &(impl Abort + AllocGlobal), tree: &Tree, wanted: &[u64
     probes
 }
 
-/// A tree, its grants, and how many probes they take, where that was worked.
-type Row = (Shape, &'static [u64], Option<u64>);
-
-static ALLOTMENTS: [Row; 10] = [
-    // Octets that are left over go to the first leaves, also past branches without a limit.
-    (THREE, &[4, 3, 3], None),
-    (
-        Branch(
-            Some(8),
-            &[Branch(Some(5), &[Leaf(9, 0), Leaf(9, 0)]), Leaf(9, 0)],
-        ),
-        &[3, 2, 3],
-        None,
-    ),
-    (
-        Branch(
-            Some(5),
-            &[Branch(None, &[Leaf(9, 0), Leaf(9, 0)]), Leaf(9, 0)],
-        ),
-        &[2, 2, 1],
-        None,
-    ),
-    // A user keeps its limit, and a floor comes first.
-    (USERS, &[15, 15, 35, 10], None),
-    (FLOORED, &[6, 2, 2], None),
-    // There is nobody who wants.
-    (Branch(Some(10), &[]), &[], None),
+/// A tree, its grants, and how many probes they take. Other worked allotments stand in `runs/sheets.toml`.
+static ALLOTMENTS: [(Shape, &[u64], u64); 5] = [
     // Large wants take few probes: one at the level from above, and one for each halving of the levels below it.
     (
         Branch(
@@ -61,27 +50,28 @@ static ALLOTMENTS: [Row; 10] = [
             &[Leaf(MAX_WANT, 0), Leaf(MAX_WANT, 0), Leaf(MAX_WANT, 0)],
         ),
         &[3_333_333_334, 3_333_333_333, 3_333_333_333],
-        Some(33),
+        33,
     ),
     // So it is where there is nothing to share.
-    (Branch(Some(0), &[Leaf(5, 0)]), &[0], Some(32)),
-    // Where all fits there is one, and none where there is no limit.
+    (Branch(Some(0), &[Leaf(5, 0)]), &[0], 32),
+    // Where all fits there is one, and none where there is no limit, or nobody who wants.
     (
         Branch(
             Some(100),
             &[Branch(None, &[Leaf(9, 0), Leaf(9, 0)]), Leaf(7, 0)],
         ),
         &[9, 9, 7],
-        Some(1),
+        1,
     ),
-    (Branch(None, &[Leaf(9, 0)]), &[9], Some(0)),
+    (Branch(None, &[Leaf(9, 0)]), &[9], 0),
+    (Branch(None, &[]), &[], 0),
 ];
 
 #[test]
 fn worked_allotments(rt: HostRuntime) {
-    for (shape, wanted, few) in &ALLOTMENTS {
-        let probes = expect_grants(&rt, &tree(&rt, shape), wanted);
-        holds(&rt, few.is_none() || *few == Some(probes));
+    for (shape, wanted, probes) in &ALLOTMENTS {
+        let taken = expect_grants(&rt, &tree(&rt, shape), wanted);
+        holds(&rt, taken == *probes);
     }
 }
 

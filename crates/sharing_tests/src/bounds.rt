@@ -90,16 +90,20 @@ fn as_many_nodes_as_there_may_be(rt: HostRuntime) {
     expect_all(&rt, &tree);
 }
 
+// Each gets one octet, and is held back by the one branch.
+fn expect_ones(rt: &impl Abort, grants: &[u64], entries: &[Option<u32>]) {
+    holds(rt, grants.len() == MAX_LEAVES);
+    for grant in grants {
+        holds(rt, *grant == 1);
+    }
+    for entry in entries {
+        holds(rt, *entry == Some(0));
+    }
+}
+
 #[test]
 fn as_many_leaves_as_are_held_back(rt: HostRuntime) {
     let held_back = tree(&rt, row(&rt, Some(4096), MAX_LEAVES, 3));
     let (grants, certificate, _probes) = granted(&rt, &held_back);
-    holds(&rt, grants.len() == MAX_LEAVES);
-    for grant in grants.iter() {
-        holds(&rt, *grant == 1);
-    }
-    // Each is held back by the one branch.
-    for entry in certificate.entries() {
-        holds(&rt, *entry == Some(0));
-    }
+    expect_ones(&rt, &grants, certificate.entries());
 }

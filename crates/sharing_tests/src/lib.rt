@@ -1,4 +1,4 @@
-//! Tests of limit trees, of the allocator, of certificates and their checker, of trees as large as may be, of rates, of the
+//! Tests of limit trees, of the allocator, of certificates and their seal, of trees as large as may be, of rates, of the
 //! trees of ticks and of guaranteed rates, by public calls alone.
 #![tactic(auto)]
 

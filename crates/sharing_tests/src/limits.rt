@@ -1,5 +1,7 @@
 //! One happy path of each call, and each refusal of a tree.
 ghost use Rattle.std.specs.Prelude.{◌≡◌};
+ghost use Rattle.limit_tree.specs.Sharing.{IsWanted};
+ghost use Rattle.limit_tree.specs.Outline.{limits};
 
 use super::trees::Shape::{Branch, Leaf};
 use super::trees::{PROMISED, Shape, node, tree};
@@ -20,9 +22,9 @@ use std::process::Abort;
 /// what its kids take in up to 12 and 20, the sum of the best grants under it, and whether they reach its limit.
 struct Row {
     place: Place,
-    under: [bool; 2],
-    absorbed: [u64; 3],
-    below: [u64; 2],
+    under: (bool, bool),
+    absorbed: (u64, u64, u64),
+    below: (u64, u64),
     sum: u64,
     is_full: bool,
 }
@@ -70,49 +72,49 @@ const ROOT: Place = Place {
 static NODES: [Row; 8] = [
     Row {
         place: ROOT,
-        under: [true, true],
-        absorbed: [6, 46, 60],
-        below: [46, 60],
+        under: (true, true),
+        absorbed: (6, 46, 60),
+        below: (46, 60),
         sum: 75,
         is_full: true,
     },
     Row {
         place: ANN,
-        under: [true, false],
-        absorbed: [0, 24, 30],
-        below: [24, 40],
+        under: (true, false),
+        absorbed: (0, 24, 30),
+        below: (24, 40),
         sum: 30,
         is_full: true,
     },
     Row {
         place: LEAF,
-        under: [false, false],
-        absorbed: [0, 12, 20],
-        below: [0, 0],
+        under: (false, false),
+        absorbed: (0, 12, 20),
+        below: (0, 0),
         sum: 15,
         is_full: false,
     },
     Row {
         place: Place { first: 1, ..LEAF },
-        under: [true, false],
-        absorbed: [0, 12, 20],
-        below: [0, 0],
+        under: (true, false),
+        absorbed: (0, 12, 20),
+        below: (0, 0),
         sum: 15,
         is_full: false,
     },
     Row {
         place: USER,
-        under: [false, true],
-        absorbed: [0, 12, 20],
-        below: [12, 20],
+        under: (false, true),
+        absorbed: (0, 12, 20),
+        below: (12, 20),
         sum: 35,
         is_full: false,
     },
     Row {
         place: Place { first: 2, ..LEAF },
-        under: [false, true],
-        absorbed: [0, 12, 20],
-        below: [0, 0],
+        under: (false, true),
+        absorbed: (0, 12, 20),
+        below: (0, 0),
         sum: 35,
         is_full: false,
     },
@@ -122,9 +124,9 @@ static NODES: [Row; 8] = [
             floors: 6,
             ..USER
         },
-        under: [false, false],
-        absorbed: [6, 10, 10],
-        below: [10, 10],
+        under: (false, false),
+        absorbed: (6, 10, 10),
+        below: (10, 10),
         sum: 10,
         is_full: false,
     },
@@ -135,9 +137,9 @@ static NODES: [Row; 8] = [
             kind: Kind::Leaf { want: 10, floor: 6 },
             ..LEAF
         },
-        under: [false, false],
-        absorbed: [6, 10, 10],
-        below: [0, 0],
+        under: (false, false),
+        absorbed: (6, 10, 10),
+        below: (0, 0),
         sum: 10,
         is_full: false,
     },
@@ -154,28 +156,28 @@ fn look_at_node(rt: &impl Abort, tree: &Tree, node: usize, row: &Row) {
     holds(rt, node < tree.nodes() && tree.place(node) == row.place);
     holds(rt, tree.limit(node) == limit_of(row.place.kind));
     holds(rt, tree.is_branch(node) == (row.place.kids > 0));
-    holds(rt, [tree.under(node, 1), tree.under(node, 2)] == row.under);
-    let absorbed = [
-        tree.absorb(node, 0),
-        tree.absorb(node, 12),
-        tree.absorb(node, 20),
-    ];
-    holds(rt, absorbed == row.absorbed);
+    let (first, second) = row.under;
+    holds(rt, tree.under(node, 1) == first);
+    holds(rt, tree.under(node, 2) == second);
+    let (none, twelve, twenty) = row.absorbed;
+    holds(rt, tree.absorb(node, 0) == none);
+    holds(rt, tree.absorb(node, 12) == twelve);
+    holds(rt, tree.absorb(node, 20) == twenty);
 }
 
 // The flat copy tells the same.
 fn look_at_copy(rt: &impl Abort, flat: &Flat, node: usize, row: &Row) {
     holds(rt, node < flat.nodes() && flat.place(node) == row.place);
     holds(rt, flat.limit(node) == limit_of(row.place.kind));
-    holds(rt, [flat.under(node, 1), flat.under(node, 2)] == row.under);
-    let absorbed = [
-        flat.absorb(node, 0),
-        flat.absorb(node, 12),
-        flat.absorb(node, 20),
-    ];
-    holds(rt, absorbed == row.absorbed);
-    let below = [flat.absorb_below(node, 12), flat.absorb_below(node, 20)];
-    holds(rt, below == row.below);
+    let (first, second) = row.under;
+    holds(rt, flat.under(node, 1) == first);
+    holds(rt, flat.under(node, 2) == second);
+    let (_none, twelve, twenty) = row.absorbed;
+    holds(rt, flat.absorb(node, 12) == twelve);
+    holds(rt, flat.absorb(node, 20) == twenty);
+    let (twelve, twenty) = row.below;
+    holds(rt, flat.absorb_below(node, 12) == twelve);
+    holds(rt, flat.absorb_below(node, 20) == twenty);
 }
 
 /// What leaves want, their floors, and the deepest branch above each that the best grants fill.
@@ -186,56 +188,72 @@ static LEAVES: [(u64, u64, Option<usize>); 4] = [
     (10, 6, Some(0)),
 ];
 
-fn look_at_tables(rt: &impl Abort, tree: &Tree, flat: &Flat) {
+fn look_at_leaves(rt: &impl Abort, tree: &Tree, flat: &Flat, leaves: &Leaves) {
     holds(rt, tree.leaves() == 4 && flat.leaves() == 4);
+    let (wants, floors) = (leaves.wants(), leaves.floors());
+    holds(rt, wants.len() == 4 && floors.len() == 4);
     for (leaf, (want, floor, _full)) in LEAVES.iter().enumerate() {
         holds(rt, leaf < tree.leaves() && leaf < flat.leaves());
-        holds(rt, (tree.want(leaf), tree.floor(leaf)) == (*want, *floor));
-        holds(rt, (flat.want(leaf), flat.floor(leaf)) == (*want, *floor));
+        holds(rt, tree.want(leaf) == *want && tree.floor(leaf) == *floor);
+        holds(rt, flat.want(leaf) == *want && flat.floor(leaf) == *floor);
+        holds(rt, leaf < wants.len() && wants[leaf] == *want);
+        holds(rt, leaf < floors.len() && floors[leaf] == *floor);
     }
+}
+
+// Numbers behind those of the leaves stay.
+fn look_at_tables(rt: &impl Abort, tree: &Tree) {
     let mut wants = [7; 5];
     let mut floors = [7; 5];
+    holds(rt, tree.leaves() == 4);
     tree.leaves_into(&mut wants, &mut floors);
-    holds(
-        rt,
-        wants == [50, 50, 50, 10, 7] && floors == [0, 0, 0, 6, 7],
-    );
-    let leaves = Leaves::of(tree);
-    holds(rt, leaves.wants() == [50, 50, 50, 10].as_slice());
-    holds(rt, leaves.floors() == [0, 0, 0, 6].as_slice());
+    holds(rt, wants.as_slice() == [50, 50, 50, 10, 7].as_slice());
+    holds(rt, floors.as_slice() == [0, 0, 0, 6, 7].as_slice());
 }
 
 // Of the tree and of its flat copy.
-fn look_at_grants(rt: &(impl Abort + AllocGlobal), tree: &Tree, flat: &Flat)
+fn look_at_grants(rt: &impl Abort, tree: &Tree, flat: &Flat, grants: &[u64])
     requires same { flat.now ≡ tree.now }
+    requires wanted { IsWanted (limits tree.now) grants.now }
 {
-    let (grants, _certificate) = allot(rt.alloc(), tree).expect(rt, "memory");
-    holds(rt, grants.as_slice() == [15, 15, 35, 10].as_slice());
+    holds(rt, grants == [15, 15, 35, 10].as_slice());
     for (node, row) in NODES.iter().enumerate() {
         holds(rt, node < tree.nodes() && node < flat.nodes());
-        holds(rt, tree.sum_under(node, &grants) == row.sum);
-        holds(rt, tree.is_full(node, &grants) == row.is_full);
-        holds(rt, flat.is_full(node, &grants) == row.is_full);
+        holds(rt, tree.sum_under(node, grants) == row.sum);
+        holds(rt, tree.is_full(node, grants) == row.is_full);
+        holds(rt, flat.is_full(node, grants) == row.is_full);
     }
     for (leaf, (_want, _floor, full)) in LEAVES.iter().enumerate() {
         holds(
             rt,
-            leaf < tree.leaves() && tree.full_above(leaf, &grants) == *full,
+            leaf < tree.leaves() && tree.full_above(leaf, grants) == *full,
         );
     }
+}
+
+fn look_at_nodes(rt: &impl Abort, tree: &Tree, flat: &Flat) {
+    holds(rt, tree.nodes() == 8 && flat.nodes() == 8);
+    for (node, row) in NODES.iter().enumerate() {
+        look_at_node(rt, tree, node, row);
+        look_at_copy(rt, flat, node, row);
+    }
+}
+
+fn look_at_all(rt: &(impl Abort + AllocGlobal), tree: &Tree, flat: &Flat)
+    requires same { flat.now ≡ tree.now }
+{
+    look_at_nodes(rt, tree, flat);
+    look_at_leaves(rt, tree, flat, &Leaves::of(tree));
+    look_at_tables(rt, tree);
+    let (grants, _certificate) = allot(rt.alloc(), tree).expect(rt, "memory");
+    look_at_grants(rt, tree, flat, &grants);
 }
 
 #[test]
 fn tells_of_nodes_leaves_and_grants(rt: HostRuntime) {
     let tree = tree(&rt, &PROMISED);
     let flat = Flat::of(rt.alloc(), &tree).expect(&rt, "memory");
-    holds(&rt, tree.nodes() == 8 && flat.nodes() == 8);
-    for (node, row) in NODES.iter().enumerate() {
-        look_at_node(&rt, &tree, node, row);
-        look_at_copy(&rt, &flat, node, row);
-    }
-    look_at_tables(&rt, &tree, &flat);
-    look_at_grants(&rt, &tree, &flat);
+    look_at_all(&rt, &tree, &flat);
 }
 
 const TWO_LIMITS: Shape = Branch(
@@ -263,16 +281,19 @@ static TAKEN_IN: [(usize, u64, u64); 9] = [
     (5, 9, 9),
 ];
 
-#[test]
-fn takes_in_up_to_a_level(rt: HostRuntime) {
-    let tree = tree(&rt, &TWO_LIMITS);
-    holds(&rt, tree.nodes() == 6);
+fn expect_taken_in(rt: &impl Abort, tree: &Tree) {
+    holds(rt, tree.nodes() == 6);
     for (node, level, octets) in &TAKEN_IN {
         holds(
-            &rt,
+            rt,
             *node < tree.nodes() && tree.absorb(*node, *level) == *octets,
         );
     }
+}
+
+#[test]
+fn takes_in_up_to_a_level(rt: HostRuntime) {
+    expect_taken_in(&rt, &tree(&rt, &TWO_LIMITS));
 }
 
 #[test]

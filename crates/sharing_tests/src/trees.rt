@@ -16,9 +16,6 @@ use Shape::{Branch, Leaf};
 /// Three leaves that want 10 octets each under a limit of 10.
 pub const THREE: Shape = Branch(Some(10), &[Leaf(10, 0), Leaf(10, 0), Leaf(10, 0)]);
 
-/// The same, and the first has a floor.
-pub const FLOORED: Shape = Branch(Some(10), &[Leaf(10, 6), Leaf(10, 0), Leaf(10, 0)]);
-
 const ANN: Shape = Branch(Some(30), &[Leaf(50, 0), Leaf(50, 0)]);
 
 const BOB: Shape = Branch(None, &[Leaf(50, 0)]);

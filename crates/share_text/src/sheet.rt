@@ -135,7 +135,8 @@ fn number_sheet<A: Allocator + Clone>(
         × IsRead text nodes.now outline order.now places.now }
     ensures numbered { IfOk result (λ kept. (text : Octets) (outline : List Place)
         → IsRead text nodes.now outline order.now places.now
-        → IsNumbered text nodes.now outline order.now kept.leaves.items kept.numbers.items kept.wants.items) }
+        → IsNumbered text nodes.now outline order.now kept.leaves.items kept.numbers.items
+        kept.wants.items) }
 {
     let numbers = number_places(alloc.clone()?, order, nodes.len())?;
     let leaves = leaf_places(alloc.clone()?, nodes, order)?;

@@ -1,6 +1,6 @@
 -- How the commands on sheets end. What a file gives is said by a test of the octets that it may give; none stands for octets
 -- that are not known, and of those nothing is said. Old and new are what the output holds before and after.
-use Rattle.std.specs.Prelude.{◌≡◌, ◌<◌, ◌⊎◌, ℕ, List, Option, Some, None, IfSome, length, string_bytes}
+use Rattle.std.specs.Prelude.{◌≡◌, ◌<◌, ◌⊎◌, ℕ, List, Option, Some, None, IfSome, length}
 use Rattle.std.specs.Io.KnownBytes.{Appends}
 use Rattle.command_line.specs.declared.words.SheetWords.{SheetWords}
 use Rattle.command_line.specs.declared.words.SheetWords.TheVariants.{Share, Check}
@@ -11,7 +11,7 @@ use Rattle.sheet_check.specs.Checking.{IsCheckOf, IsGrantsFaultOf}
 use Rattle.sheet_share.specs.Sharing.{IsSharingOf}
 use Rattle.share_text.specs.Sheet.{IsSheetFaultOf}
 use Rattle.whole_texts.specs.declared.fault.ProgramFault.{ProgramFault}
-use Rattle.whole_texts.specs.declared.fault.ProgramFault.TheVariants.{Memory, Sheet, Grants, TooLong, ReadFault, WriteFault}
+use Rattle.whole_texts.specs.declared.fault.ProgramFault.TheVariants.{Sheet, Grants, TooLong}
 use Rattle.whole_texts.specs.declared.read.TheConstants.{MAX_TEXT}
 use Rattle.sheet_program.specs.declared.ending.Ending.{Ending}
 use Rattle.sheet_program.specs.declared.ending.Ending.TheVariants.{Done, Flawed, Refused, Fault}

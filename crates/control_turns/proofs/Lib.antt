@@ -1,3 +1,3 @@
-pub mod Leading
+pub mod Going
 pub mod Steps
-pub mod Writing
+pub mod Turning

@@ -1,4 +1,6 @@
-pub mod Runs
+pub mod Calls
+pub mod Rows
+pub mod Standing
 pub mod Turns
 pub use Rattle.data_side.specs.Sides
 pub use Rattle.data_side.specs.Told

@@ -1,94 +1,156 @@
--- One turn of a control session: an input, the step of the session, what it says, and what it asks of the data side.
-use Rattle.std.specs.Prelude.{ℕ, ◌≡◌, ◌<◌, ◌≤◌, List, [], ◌∷◌, ◌++◌, Bool, false, true, cond, length, Option, Some, None}
-use Rattle.authorizer.specs.Users.{Users}
-use Rattle.data_side.specs.Sides.{SideCall, Given, Serves, given_of}
-use Rattle.data_side.specs.Sides.Given.{Line, Held, Ended, Ready, Closed}
-use Rattle.data_side.specs.Told.{closes, released, texts}
+-- The moves of a control session: what it does, one thing after another, and what it asks of its host for it.
+use Rattle.std.specs.Prelude.{ℕ, ◌≡◌, ◌⊎◌, ◌+◌, ◌<◌, ◌≤◌, ◌||◌, List, [], ◌∷◌, ◌++◌, Bool, false, true, length, map, Option, Some, None}
+use Rattle.data_side.specs.Sides.{Given, SideCall}
+use Rattle.data_side.specs.Sides.Given.{Line, Held, Came, Closed}
+use Rattle.data_side.specs.Sides.SideCall.{Opens, Connects, Drops, Starts, Aborts, Looks, Settles}
+use Rattle.data_side.specs.Told.{closes}
+use Rattle.ftp_reply.specs.Replies.{reply_text}
 use Rattle.ftp_wire.specs.Items.{Item}
-use Rattle.rate_floors.specs.Promises.{Promises, admits}
-use Rattle.session_core.specs.Counted.{counted_by_step}
+use Rattle.handler_hooks.specs.Events.{event_of}
+use Rattle.rate_floors.specs.Promises.{Promises}
+use Rattle.session_core.specs.declared.events.DataEvent.{DataEvent}
 use Rattle.session_laws.specs.Laws.{releases}
 use Rattle.session_laws.specs.Steps.{Standing, is_due}
+use Rattle.session_table.specs.Answers.{answer_form}
 use Rattle.session_table.specs.declared.actions.Action.{Action}
-use Rattle.session_table.specs.declared.inputs.Input.{Input}
-use Rattle.session_table.specs.declared.inputs.Input.TheVariants as input
-use Rattle.session_table.specs.Table.{SessionStep}
-use Rattle.virtual_tree.specs.Calls.{Exchange}
+use Rattle.session_table.specs.declared.actions.Action.TheVariants.{Say, Hook, OpenPassive, ConnectTo, DropData, Start, Abort, CloseControl, ReleaseFloor}
+use Rattle.control_turns.specs.Calls.{HostCall, Chain}
+use Rattle.control_turns.specs.Calls.HostCall.{Lent, Tried, Released, Noted, Wrote, Broke, Read, ReadEnd, ReadFailed, Asked}
+use Rattle.control_turns.specs.declared.fault.TurnFault.{TurnFault}
+use Rattle.control_turns.specs.declared.fault.TurnFault.TheVariants.{Write, Memory}
 
--- Where a control session stands: the session, the floors, the store and the data side; the answers of the data side and the
--- lines that the session has not taken, where there are no lines once the control connection is closed; and what was said so far.
-pub record Situation (S D K : Type 0) : Type 0 where
+-- What was heard of the client so far: the octets, the lines that were found in them, how many reads there were, whether the
+-- end came, and whether a read failed.
+pub record Heard : Type 0 where
+  pub octets : List ℕ
+  pub items : List Item
+  pub reads : ℕ
+  pub ended : Bool
+  pub failed : Bool
+
+-- Where a control session is: what the session knows; what came of the data side and was not taken; the lines that were taken so
+-- far; what was heard; the users whose floors are still to be released; whether the control connection is to be closed; and why
+-- a reply could not be said, if one could not.
+pub record Situation (K : Type 0) : Type 0 where
   pub session : Standing
-  pub promises : Promises
-  pub store : S
-  pub side : D
-  pub answers : List (Given K)
-  pub lines : Option (List Item)
-  pub told : List ℕ
+  pub came : Option (DataEvent K)
+  pub taken : List Item
+  pub heard : Heard
+  pub owed : List ℕ
+  pub closed : Bool
+  pub lost : Option TurnFault
 
-abbrev pub at : {S D K : Type 0} → Standing → Promises → S → D → List (Given K) → Option (List Item) → List ℕ → Situation S D K
-at session promises store side answers lines told =
-    record { session = session; promises = promises; store = store; side = side; answers = answers; lines = lines; told = told }
+abbrev pub at : {K : Type 0} → Standing → Option (DataEvent K) → List Item → Heard → List ℕ → Bool → Option TurnFault → Situation K
+at session came taken heard owed closed lost =
+    record { session = session; came = came; taken = taken; heard = heard; owed = owed; closed = closed; lost = lost }
 
 -- a line that is held may be taken
 abbrev pub due : Standing → Bool
 due session = is_due session.view session.held
 
--- the next input, and what is left: an answer comes before a held line that is due, and that before the next line
-abbrev pub next : {K : Type 0} → List (Given K) → Bool → Option (List Item) → Option (Given K × List (Given K) × Option (List Item))
-next (answer ∷ answers) held lines = Some (answer, answers, lines)
-next [] true lines = Some (Held, [], lines)
-next [] false (Some (line ∷ lines)) = Some (Line line, [], Some lines)
-next [] false (Some []) = None
-next [] false None = None
+-- What may come next, what then is left of what came, and the lines that are taken then: what came of the data side; a held line
+-- that is due, where nothing came; the next line of those that were heard, where no held line is due; Closed at any time.
+abbrev pub Next : {K : Type 0} → Situation K → Given K → Option (DataEvent K) → List Item → Type 0
+Next now (Came event) came taken = (now.came ≡ Some event) × (came ≡ None) × (taken ≡ now.taken)
+Next now Held came taken = (now.came ≡ None) × (due now.session ≡ true) × (came ≡ None) × (taken ≡ now.taken)
+Next now (Line item) came taken = (now.came ≡ None) × (due now.session ≡ false) × (now.closed ≡ false)
+    × ((rest : List Item) × (now.heard.items ≡ now.taken ++ item ∷ rest)) × (came ≡ None) × (taken ≡ now.taken ++ item ∷ [])
+Next now Closed came taken = (came ≡ now.came) × (taken ≡ now.taken)
 
-module _ (A : Type 0) {S D R K : Type 0} (Step : S → Exchange R K → S → Type 0) (Asks : D → SideCall A R K → D → Type 0) (users : Users) where
-  -- What an input makes of a session, of the floors, of the store and of the data side: the row of the session table, the
-  -- sessions that it counts and releases, and the calls of its actions with their answers.
-  pub record Does (before : Situation S D K) (moment : ℕ) (told : Input A K) (actions : List (Action A R K)) (more : List (Given K)) (after : Situation S D K) : Type 0 where
-    pub stepped : SessionStep Step users (admits before.promises) before.session.view before.session.held moment told before.store after.store after.session.view after.session.held actions
-    pub promises_are : after.promises ≡ released (releases actions) (counted_by_step users before.session.view before.session.held told before.promises)
-    pub served : Serves Asks actions before.side more after.side
+module _ {A S R K : Type 0} where
+  -- a reply is written, or a part of it, or there is no memory for its text
+  abbrev pub Said : List ℕ → List (HostCall A S R K) → Option TurnFault → Type 0
+  Said text calls None = calls ≡ Wrote text ∷ []
+  Said text calls (Some Write) = calls ≡ Broke text ∷ []
+  Said text calls (Some Memory) = calls ≡ []
 
-  -- the next input is taken; after CloseControl there are no lines
-  pub record Turn (before : Situation S D K) (moment : ℕ) (after : Situation S D K) : Type 0 where
-    pub told : Input A K
-    pub answers : List (Given K)
-    pub lines : Option (List Item)
-    pub actions : List (Action A R K)
-    pub more : List (Given K)
-    pub is_next : next before.answers (due before.session) before.lines ≡ Some (given_of told, answers, lines)
-    pub does : Does before moment told actions more after
-    pub answers_are : after.answers ≡ answers ++ more
-    pub lines_are : after.lines ≡ cond (closes actions) None lines
-    pub told_is : after.told ≡ before.told ++ texts actions
+  -- what carrying out an action is; once a reply could not be said, no more are
+  abbrev pub Carried : Action A R K → Option TurnFault → List (HostCall A S R K) → Option TurnFault → Type 0
+  Carried (Say reply) None calls lost = Said (reply_text (answer_form reply)) calls lost
+  Carried (Say reply) (Some fault) calls lost = (calls ≡ []) × (lost ≡ Some fault)
+  Carried (Hook hook) before calls lost = (calls ≡ Noted (event_of hook) ∷ []) × (lost ≡ before)
+  Carried OpenPassive before calls lost = (calls ≡ Asked Opens ∷ []) × (lost ≡ before)
+  Carried (ConnectTo to) before calls lost = (calls ≡ Asked (Connects to) ∷ []) × (lost ≡ before)
+  Carried DropData before calls lost = (calls ≡ Asked Drops ∷ []) × (lost ≡ before)
+  Carried (Start job) before calls lost = (calls ≡ Asked (Starts job) ∷ []) × (lost ≡ before)
+  Carried Abort before calls lost = (calls ≡ Asked Aborts ∷ []) × (lost ≡ before)
+  Carried CloseControl before calls lost = (calls ≡ []) × (lost ≡ before)
+  Carried (ReleaseFloor user) before calls lost = (calls ≡ []) × (lost ≡ before)
 
-  -- the control connection is gone: nobody is there to be told
-  pub record Closes (before : Situation S D K) (moment : ℕ) (after : Situation S D K) : Type 0 where
-    pub actions : List (Action A R K)
-    pub does : Does before moment input.Closed actions [] after
-    pub answers_are : after.answers ≡ before.answers
-    pub lines_are : after.lines ≡ before.lines
-    pub told_is : after.told ≡ before.told
+  -- actions are carried out in order, but for the release of floors
+  abbrev pub Carries : List (Action A R K) → Option TurnFault → List (HostCall A S R K) → Option TurnFault → Type 0
+  Carries [] before calls lost = (calls ≡ []) × (lost ≡ before)
+  Carries (action ∷ actions) before calls lost =
+      (first rest : List (HostCall A S R K)) × (mid : Option TurnFault) × (calls ≡ first ++ rest) × Carried action before first mid × Carries actions mid rest lost
 
-  -- the step on the next input would say this; of its calls nothing is said
-  pub record Speaks (May : ℕ → Type 0) (before : Situation S D K) (text : List ℕ) : Type 0 where
-    pub told : Input A K
-    pub answers : List (Given K)
-    pub lines : Option (List Item)
-    pub actions : List (Action A R K)
+  abbrev pub release_calls : List ℕ → List (HostCall A S R K)
+  release_calls = map Released
+
+-- Row says which rows there are: session, input, moment, the store and the floors before and after, the session then, its actions.
+module _ {A S R K : Type 0} (Row : Standing → Given K → ℕ → S → S → Promises → Promises → Standing → List (Action A R K) → Type 0) where
+  -- a host lent what it has for one step
+  abbrev pub Stepped : {H : Type 0} → (H → HostCall A S R K → H → Type 0) → H → Standing → Given K → Standing → List (Action A R K) → H → Type 0
+  Stepped Does old session given session' actions new = (moment : ℕ) × (store store' : S) × (promises promises' : Promises)
+      × Does old (Lent moment store store' promises promises') new × Row session given moment store store' promises promises' session' actions
+
+  -- An input is taken: its row. Then floors are released, and then the other actions are carried out, in order.
+  pub record IsTurn (before : Situation K) (calls : List (HostCall A S R K)) (after : Situation K) : Type 0 where
+    pub given : Given K
     pub moment : ℕ
     pub store : S
-    pub session : Standing
-    pub is_next : next before.answers (due before.session) before.lines ≡ Some (given_of told, answers, lines)
-    pub may : May moment
-    pub stepped : SessionStep Step users (admits before.promises) before.session.view before.session.held moment told before.store store session.view session.held actions
-    pub says : text ≡ texts actions
+    pub store' : S
+    pub promises : Promises
+    pub promises' : Promises
+    pub actions : List (Action A R K)
+    pub paid : List ℕ
+    pub carried : List (HostCall A S R K)
+    pub next : Next before given after.came after.taken
+    pub row : Row before.session given moment store store' promises promises' after.session actions
+    pub owes : releases actions ++ before.owed ≡ paid ++ after.owed
+    pub carries : Carries actions before.lost carried after.lost
+    pub closed : after.closed ≡ (before.closed || closes actions)
+    pub heard : after.heard ≡ before.heard
+    pub trace : calls ≡ Lent moment store store' promises promises' ∷ (release_calls paid ++ carried)
 
--- how many lines are held behind an input: a held line that is due leaves them, and an answer leaves them as they were
+  -- what one thing is that a session does
+  pub data Move (before : Situation K) (calls : List (HostCall A S R K)) (after : Situation K) : Type 0 where
+    Takes : IsTurn before calls after → Move before calls after
+    -- there was no memory for a step
+    Tries : (moment : ℕ) (store store' : S) → after ≡ before → calls ≡ Tried moment store store' ∷ [] → Move before calls after
+    -- the data side was asked what has come
+    Asks : (event : Option (DataEvent K)) → before.came ≡ None → after ≡ record before { came = event }
+        → (calls ≡ Asked (Looks event) ∷ []) ⊎ (calls ≡ Asked (Settles event) ∷ []) → Move before calls after
+    -- something was read, and these lines were found
+    Reads : (octets : List ℕ) (items : List Item) → before.closed ≡ false
+        → after ≡ record before { heard = record { octets = before.heard.octets ++ octets; items = before.heard.items ++ items; reads = before.heard.reads + 1; ended = before.heard.ended; failed = before.heard.failed } }
+        → calls ≡ Read octets ∷ [] → Move before calls after
+    Ends : before.closed ≡ false → after ≡ record before { heard = record before.heard { reads = before.heard.reads + 1; ended = true } }
+        → calls ≡ ReadEnd ∷ [] → Move before calls after
+    Fails : before.closed ≡ false → after ≡ record before { heard = record before.heard { reads = before.heard.reads + 1; failed = true } }
+        → calls ≡ ReadFailed ∷ [] → Move before calls after
+    -- a floor that was owed is released
+    Pays : (user : ℕ) (owed : List ℕ) → before.owed ≡ user ∷ owed → after ≡ record before { owed = owed }
+        → calls ≡ Released user ∷ [] → Move before calls after
+
+  -- moves, one after another, each with its calls
+  abbrev pub Runs : List (List (HostCall A S R K)) → Situation K → Situation K → Type 0
+  Runs [] before after = after ≡ before
+  Runs (calls ∷ moves) before after = (mid : Situation K) × Move before calls mid × Runs moves mid after
+
+abbrev pub concat : {X : Type 0} → List (List X) → List X
+concat [] = []
+concat (xs ∷ xss) = xs ++ concat xss
+
+-- from a host and a situation to others, by moves whose calls the host was asked for, in this order
+pub record Went {H A S R K : Type 0} (Row : Standing → Given K → ℕ → S → S → Promises → Promises → Standing → List (Action A R K) → Type 0) (Does : H → HostCall A S R K → H → Type 0)
+    (host : H) (before : Situation K) (host' : H) (after : Situation K) : Type 0 where
+  pub moves : List (List (HostCall A S R K))
+  pub asked : Chain Does host (concat moves) host'
+  pub runs : Runs Row moves before after
+
+-- how many lines are held behind an input: a held line that is due leaves them, and what comes of the data side leaves them as they were
 abbrev pub HoldsFewer : {K : Type 0} → Given K → Standing → Standing → Type 0
 HoldsFewer (Line item) before after = Unit {0}
 HoldsFewer Held before after = due before ≡ true → length after.held < length before.held
-HoldsFewer (Ended end sink) before after = length after.held ≤ length before.held
-HoldsFewer (Ready port) before after = length after.held ≤ length before.held
+HoldsFewer (Came event) before after = length after.held ≤ length before.held
 HoldsFewer Closed before after = Unit {0}

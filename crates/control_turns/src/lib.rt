@@ -1,33 +1,19 @@
-//! The turns of a control session: each input is given to the session, what its step says is written at once, and what
-//! it asks of the data side is called, whose answer is the next input.
-//!
-//! ```text
-//! let (alloc, mut side) = (rt.alloc(), ScriptSide { port: 40_000 });
-//! let mut session = Session::new(alloc, settings(), PEER)?;
-//! let mut output: Vec<u8> = Vec::new(alloc);
-//! let is_closed = take_lines(
-//!     &alloc,
-//!     users,
-//!     &mut session,
-//!     floors,
-//!     store,
-//!     &mut side,
-//!     &mut output,
-//!     &StillClock,
-//!     items,
-//! );
-//! same(rt, &output, b"530 Log in first\r\n");
-//! holds(rt, is_closed == Ok(false));
-//! ```
-//!
-//! `specs/Runs.antt` has whole sessions as a relation of situations. It speaks of all the lines that come, so nothing in
-//! it depends on the pieces in which they come.
+//! The turns of a control session, whatever comes first: a line, the port or the end that the data side has to tell, or a line
+//! that was held. Each input is given to the session, and what its step asks for is done by the host.
 #![tactic(auto)]
 
+mod carrying;
+mod closing;
 mod fault;
+mod host;
+mod talk;
 mod turns;
 
-pub use data_side::{DataSide, Moments};
+pub use carrying::{carry_all, carry_out};
+pub use closing::close;
+pub use data_side::{DataEvent, DataSide, Moments};
 pub use fault::TurnFault;
-pub use session_core::Session;
-pub use turns::{close, speak, take_lines};
+pub use host::{Host, Piece};
+pub use session_core::{Leaving, Session};
+pub use talk::Talk;
+pub use turns::{catch_up, look, take_lines};

@@ -1,261 +1,162 @@
 //! The turns of a control session.
 
-ghost use Rattle.std.specs.Prelude.{◌≡◌, ◌≤◌, ◌∷◌, [], ℕ, List, Option, IfOk, OnErr, OnOk, MatchOption, cond, false, None, length};
-ghost use Rattle.std.specs.List.{AllByRecursion};
-ghost use Rattle.std.specs.Io.KnownBytes.{Appends};
+ghost use Rattle.std.specs.Prelude.{◌≡◌, ◌≤◌, ◌⊎◌, ◌++◌, ◌||◌, [], ◌∷◌, IfErr, List, MatchOption, None, OnErr, OnOk, Option, Some, false, length, true};
 ghost use Rattle.std.specs.Vec.Iter.{into_iter_items};
-ghost use Rattle.control_turns.specs.Runs.{BreaksAmong, BreaksNext, BreaksSettling, BreaksStaying, Follows, Passes, Settles, Stays};
-ghost use Rattle.control_turns.specs.Turns.{Closes, HoldsFewer, at, due};
-ghost use Rattle.data_side.specs.Sides.{IsAnswer, given_of, waiting};
-ghost use Rattle.data_side.specs.Told.{texts};
+ghost use Rattle.control_turns.specs.Rows.{IsRow};
+ghost use Rattle.control_turns.specs.Standing.{AllTaken, IsLost, stand};
+ghost use Rattle.control_turns.specs.Turns.{Heard, HoldsFewer, Next, Went, at, due};
+ghost use Rattle.data_side.specs.Sides.{Given, given_of};
 ghost use Rattle.ftp_wire.specs.Items.{Item};
 ghost use Rattle.ftp_wire.specs.Reading.{item_of, items_of};
-ghost use Rattle.session_laws.specs.Laws.{most_asked};
-ghost use Rattle.text_ends.specs.Parts.{AppendsPart};
+ghost use Rattle.session_core.specs.Events.{input_of};
+ghost use Rattle.session_core.specs.declared.events.DataEvent.{DataEvent};
+ghost use Rattle.data_side.specs.Sides.Given.{Closed};
+ghost use Rattle.std.specs.Prelude.{◌≢◌};
 
+use crate::carrying::carry_out;
 use crate::fault::TurnFault;
+use crate::host::Host;
+use crate::talk::Talk;
 use authorizer::Authorizer;
-use data_side::{DataSide, Moments, closes, release, said, serve};
+use data_side::{DataEvent, closes};
 use ftp_wire::LineItem;
-use rate_floors::Floors;
-use session_core::Session;
-use session_laws::one_thing_is_asked;
-use session_table::{Action, Input};
+use session_table::Input;
 use std::alloc::Allocator;
 use std::vec::IntoIter;
-use text_ends::TextWriter;
-use virtual_tree::Store;
 
-/// What came of a step.
-#[derive(Drop)]
-struct After<A: Allocator, K> {
-    answer: Option<Input<A, K>>,
-    is_closed: bool,
-}
-
-/// Writes a text in one write, where there is any.
-fn write_said<W: TextWriter>(writer: &mut W, text: &[u8]) -> Result<(), TurnFault>
-    ensures octets { OnOk result (
-        Appends (W.contents writer.old) (W.contents writer.new) text.now) }
-    ensures part { OnErr result (
-        AppendsPart (W.contents writer.old) (W.contents writer.new) text.now) }
+/// What came of the data side, as an input.
+fn as_input<A: Allocator, K>(event: DataEvent<K>) -> Input<A, K>
+    ensures input { result ≡ input_of event }
 {
-    if text.is_empty() {
-        return Ok(());
-    }
-    match writer.write_text(text) {
-        Ok(()) => Ok(()),
-        Err(_) => Err(TurnFault::Write),
+    match event {
+        DataEvent::Ready(port) => Input::DataReady(port),
+        DataEvent::Ended { end, sink } => Input::TransferEnded { end, sink },
     }
 }
 
-/// Writes what actions say, at once.
-pub fn speak<A: Allocator + Clone, R, K, W: TextWriter>(
-    alloc: &A,
-    writer: &mut W,
-    actions: &[Action<A, R, K>],
-) -> Result<(), TurnFault>
-    ensures octets { OnOk result (
-        Appends (W.contents writer.old) (W.contents writer.new) (texts actions.now)) }
-    ensures part { OnErr result (
-        AppendsPart (W.contents writer.old) (W.contents writer.new) (texts actions.now)) }
-{
-    let text = said(alloc.clone()?, actions)?;
-    write_said(writer, &text)
-}
-
-/// One step on an input, what it says and what it calls.
-fn one_step<
-    A: Allocator + Clone,
-    F: Allocator + Clone,
-    S: Store<A>,
-    D: DataSide<A, S::Source, S::Sink>,
-    W: TextWriter,
-    C: Moments,
->(
-    alloc: &A,
-    users: &Authorizer<A>,
-    session: &mut Session<A>,
-    floors: &mut Floors<F>,
-    store: &mut S,
-    side: &mut D,
-    writer: &mut W,
-    clock: &C,
-    input: Input<A, S::Sink>,
-) -> Result<After<A, S::Sink>, TurnFault>
-    ensures follows { IfOk result (λ after. (text : List ℕ)
-        × Appends (W.contents writer.old) (W.contents writer.new) text
-        × Follows A (C.may_answer clock.now) S.Step D.Asks users.now.users
-        session.old floors.old store.old side.old (given_of input)
-        (waiting after.answer) after.is_closed text
-        session.new floors.new store.new side.new) }
-    ensures breaks { OnErr result ((text : List ℕ)
-        × Appends (W.contents writer.old) (W.contents writer.new) text
-        × BreaksNext A (C.may_answer clock.now) S.Step D.Asks users.now.users
-        session.old floors.old store.old side.old (given_of input) text) }
-    ensures kind { IfOk result (λ after. AllByRecursion IsAnswer (waiting after.answer)) }
-    ensures asked { IfOk result (λ after. length (waiting after.answer) ≤ most_asked input) }
-    ensures held { OnOk result (HoldsFewer (given_of input) session.old session.new) }
-{
-    one_thing_is_asked::<A, S::Source, S::Sink>();
-    let moment = clock.moment();
-    let actions = session.step(users, floors, store, input, moment)?;
-    speak(alloc, writer, &actions)?;
-    release(floors, &actions);
-    let is_closed = closes(&actions);
-    let answer = serve(side, actions);
-    Ok(After { answer, is_closed })
-}
-
-/// Whether either closed the control connection.
-fn ends(first: bool, second: bool) -> bool
-    ensures closed { (lines : Option (List Item))
-        → cond result None lines ≡ cond second None (cond first None lines) }
+fn either(first: bool, second: bool) -> bool
+    ensures { result ≡ (first || second) }
 {
     first || second
 }
 
-// An answer's actions ask for nothing, so nothing is lost here.
-fn closed_of<A: Allocator, K: Drop>(after: After<A, K>) -> bool
-    requires none { length (waiting after.answer) ≡ 0 }
-    ensures closed { result ≡ after.is_closed }
+/// A turn was whole unless a reply could not be said.
+fn ended(lost: Option<TurnFault>) -> Result<(), TurnFault>
+    ensures whole { OnOk result (lost ≡ None) }
+    ensures lost { IfErr result (λ fault. lost ≡ Some fault) }
 {
-    after.is_closed
-}
-
-/// One input, and the answer that its actions have.
-fn take_input<
-    A: Allocator + Clone,
-    F: Allocator + Clone,
-    S: Store<A>,
-    D: DataSide<A, S::Source, S::Sink>,
-    W: TextWriter,
-    C: Moments,
->(
-    alloc: &A,
-    users: &Authorizer<A>,
-    session: &mut Session<A>,
-    floors: &mut Floors<F>,
-    store: &mut S,
-    side: &mut D,
-    writer: &mut W,
-    clock: &C,
-    input: Input<A, S::Sink>,
-) -> Result<bool, TurnFault>
-    ensures settles { IfOk result (λ is_closed. (text : List ℕ)
-        × Appends (W.contents writer.old) (W.contents writer.new) text
-        × Settles A (C.may_answer clock.now) S.Step D.Asks users.now.users
-        session.old floors.old store.old side.old (given_of input) is_closed text
-        session.new floors.new store.new side.new) }
-    ensures breaks { OnErr result ((text : List ℕ)
-        × Appends (W.contents writer.old) (W.contents writer.new) text
-        × BreaksSettling A (C.may_answer clock.now) S.Step D.Asks users.now.users
-        session.old floors.old store.old side.old (given_of input) text) }
-    ensures held { OnOk result (HoldsFewer (given_of input) session.old session.new) }
-{
-    let After { answer, is_closed } = one_step(
-        alloc, users, session, floors, store, side, writer, clock, input,
-    )?;
-    let Some(answer) = answer else {
-        return Ok(is_closed);
-    };
-    let last = one_step(
-        alloc, users, session, floors, store, side, writer, clock, answer,
-    )?;
-    Ok(ends(is_closed, closed_of(last)))
-}
-
-/// The held lines that are due.
-fn take_held<
-    A: Allocator + Clone,
-    F: Allocator + Clone,
-    S: Store<A>,
-    D: DataSide<A, S::Source, S::Sink>,
-    W: TextWriter,
-    C: Moments,
->(
-    alloc: &A,
-    users: &Authorizer<A>,
-    session: &mut Session<A>,
-    floors: &mut Floors<F>,
-    store: &mut S,
-    side: &mut D,
-    writer: &mut W,
-    clock: &C,
-) -> Result<bool, TurnFault>
-    ensures stays { IfOk result (λ is_closed. (text : List ℕ)
-        × Appends (W.contents writer.old) (W.contents writer.new) text
-        × Stays A (C.may_answer clock.now) S.Step D.Asks users.now.users
-        session.old floors.old store.old side.old is_closed text
-        session.new floors.new store.new side.new) }
-    ensures breaks { OnErr result ((text : List ℕ)
-        × Appends (W.contents writer.old) (W.contents writer.new) text
-        × BreaksStaying A (C.may_answer clock.now) S.Step D.Asks users.now.users
-        session.old floors.old store.old side.old text) }
-    ensures due { OnOk result (due session.new ≡ false) }
-{
-    let mut is_closed = false;
-    while session.held_due() {
-        let now = take_input(
-            alloc,
-            users,
-            session,
-            floors,
-            store,
-            side,
-            writer,
-            clock,
-            Input::Held,
-        )?;
-        is_closed = ends(is_closed, now);
+    match lost {
+        None => Ok(()),
+        Some(fault) => Err(fault),
     }
-    Ok(is_closed)
 }
 
-/// A line, and the held lines that are due after it.
-fn take_line<
-    A: Allocator + Clone,
-    F: Allocator + Clone,
-    S: Store<A>,
-    D: DataSide<A, S::Source, S::Sink>,
-    W: TextWriter,
-    C: Moments,
->(
+/// One turn: an input is given to the session, and its actions are carried out. Where memory runs out for the step, nothing is
+/// done, and what came of the data side stays.
+pub fn turn<A: Allocator + Clone, H: Host<A>>(
     alloc: &A,
+    host: &mut H,
     users: &Authorizer<A>,
-    session: &mut Session<A>,
-    floors: &mut Floors<F>,
-    store: &mut S,
-    side: &mut D,
-    writer: &mut W,
-    clock: &C,
-    item: LineItem<A>,
-) -> Result<bool, TurnFault>
-    requires due { due session.old ≡ false }
-    ensures passes { IfOk result (λ is_closed. (text : List ℕ)
-        × Appends (W.contents writer.old) (W.contents writer.new) text
-        × Passes A (C.may_answer clock.now) S.Step D.Asks users.now.users
-        session.old floors.old store.old side.old (item_of item ∷ []) is_closed text
-        session.new floors.new store.new side.new) }
-    ensures breaks { OnErr result ((text : List ℕ)
-        × Appends (W.contents writer.old) (W.contents writer.new) text
-        × BreaksAmong A (C.may_answer clock.now) S.Step D.Asks users.now.users
-        session.old floors.old store.old side.old (item_of item ∷ []) text) }
-    ensures due { OnOk result (due session.new ≡ false) }
+    talk: &mut Talk<A, H::Sink>,
+    input: Input<A, H::Sink>,
+) -> Result<(), TurnFault>
+    requires live { given_of input ≢ Closed }
+    ensures went { (came : Option (DataEvent H.Sink)) (taken : List Item) (heard : Heard) (taken' : List Item)
+        → Next (at talk.old.session came taken heard [] talk.old.closed talk.old.lost)
+        (given_of input) talk.old.came taken'
+        → (last : List Item) × Went (IsRow {A = A} {R = H.Source} H.Step users.now.users) H.Does
+        host.old (at talk.old.session came taken heard [] talk.old.closed talk.old.lost)
+        host.new (stand talk.new last heard)
+        × ((last ≡ taken) ⊎ (last ≡ taken')) × OnOk result (last ≡ taken') }
+    ensures none { OnOk result (talk.new.came ≡ talk.old.came) }
+    ensures whole { OnOk result (talk.new.lost ≡ None) }
+    ensures held { OnOk result (HoldsFewer (given_of input) talk.old.session talk.new.session) }
+    ensures lost { IfErr result (IsLost talk.new.lost) }
 {
-    let first = take_input(
-        alloc,
-        users,
-        session,
-        floors,
-        store,
-        side,
-        writer,
-        clock,
-        Input::Line(item),
-    )?;
-    let second = take_held(alloc, users, session, floors, store, side, writer, clock)?;
-    Ok(ends(first, second))
+    let actions = match host.step(users, &mut talk.session, input) {
+        Ok(actions) => actions,
+        Err(back) => {
+            talk.came = back;
+            return Err(TurnFault::Memory);
+        }
+    };
+    talk.closed = either(talk.closed, closes(&actions));
+    talk.lost = carry_out(alloc, host, talk.lost, actions);
+    ended(talk.lost)
+}
+
+/// Asks the data side what has come, and takes it.
+pub fn look<A: Allocator + Clone, H: Host<A>>(
+    alloc: &A,
+    host: &mut H,
+    users: &Authorizer<A>,
+    talk: &mut Talk<A, H::Sink>,
+) -> Result<(), TurnFault>
+    requires none { talk.old.came ≡ None }
+    requires whole { talk.old.lost ≡ None }
+    ensures went { (taken : List Item) (heard : Heard)
+        → Went (IsRow {A = A} {R = H.Source} H.Step users.now.users) H.Does
+        host.old (stand talk.old taken heard) host.new (stand talk.new taken heard) }
+    ensures none { OnOk result (talk.new.came ≡ None) }
+    ensures whole { OnOk result (talk.new.lost ≡ None) }
+    ensures held { OnOk result
+        (length talk.new.session.held ≤ length talk.old.session.held) }
+    ensures lost { IfErr result (IsLost talk.new.lost) }
+{
+    match host.look() {
+        None => Ok(()),
+        Some(event) => turn(alloc, host, users, talk, as_input(event)),
+    }
+}
+
+/// What came is taken, and then each held line that is due, with what came behind it.
+pub fn catch_up<A: Allocator + Clone, H: Host<A>>(
+    alloc: &A,
+    host: &mut H,
+    users: &Authorizer<A>,
+    talk: &mut Talk<A, H::Sink>,
+) -> Result<(), TurnFault>
+    requires none { talk.old.came ≡ None }
+    requires whole { talk.old.lost ≡ None }
+    ensures went { (taken : List Item) (heard : Heard)
+        → Went (IsRow {A = A} {R = H.Source} H.Step users.now.users) H.Does
+        host.old (stand talk.old taken heard) host.new (stand talk.new taken heard) }
+    ensures none { OnOk result (talk.new.came ≡ None) }
+    ensures whole { OnOk result (talk.new.lost ≡ None) }
+    ensures due { OnOk result (due talk.new.session ≡ false) }
+    ensures lost { IfErr result (IsLost talk.new.lost) }
+{
+    look(alloc, host, users, talk)?;
+    while talk.session.held_due() {
+        turn(alloc, host, users, talk, Input::Held)?;
+        look(alloc, host, users, talk)?;
+    }
+    Ok(())
+}
+
+/// A line is taken, with what came and what was held behind it.
+fn take_line<A: Allocator + Clone, H: Host<A>>(
+    alloc: &A,
+    host: &mut H,
+    users: &Authorizer<A>,
+    talk: &mut Talk<A, H::Sink>,
+    item: LineItem<A>,
+) -> Result<(), TurnFault>
+    requires none { talk.old.came ≡ None }
+    requires whole { talk.old.lost ≡ None }
+    requires live { talk.old.closed ≡ false }
+    requires due { due talk.old.session ≡ false }
+    ensures went { (taken rest : List Item) (heard : Heard) → heard.items ≡ taken ++ item_of item ∷ rest
+        → (last : List Item) × Went (IsRow {A = A} {R = H.Source} H.Step users.now.users) H.Does
+        host.old (stand talk.old taken heard) host.new (stand talk.new last heard)
+        × OnOk result (last ≡ taken ++ item_of item ∷ []) }
+    ensures none { OnOk result (talk.new.came ≡ None) }
+    ensures whole { OnOk result (talk.new.lost ≡ None) }
+    ensures due { OnOk result (due talk.new.session ≡ false) }
+    ensures lost { IfErr result (IsLost talk.new.lost) }
+{
+    turn(alloc, host, users, talk, Input::Line(item))?;
+    catch_up(alloc, host, users, talk)
 }
 
 fn next_of<T, A: Allocator>(left: &mut IntoIter<T, A>) -> Option<T>
@@ -265,75 +166,33 @@ fn next_of<T, A: Allocator>(left: &mut IntoIter<T, A>) -> Option<T>
     left.next()
 }
 
-/// Takes lines, up to one that closes the control connection, which it answers. No held line may be due before, and
-/// none is due then.
-pub fn take_lines<
-    A: Allocator + Clone,
-    F: Allocator + Clone,
-    S: Store<A>,
-    D: DataSide<A, S::Source, S::Sink>,
-    W: TextWriter,
-    C: Moments,
->(
+/// Lines are taken, each with what came and what was held behind it, up to one that closes the control connection.
+pub fn take_lines<A: Allocator + Clone, H: Host<A>>(
     alloc: &A,
+    host: &mut H,
     users: &Authorizer<A>,
-    session: &mut Session<A>,
-    floors: &mut Floors<F>,
-    store: &mut S,
-    side: &mut D,
-    writer: &mut W,
-    clock: &C,
+    talk: &mut Talk<A, H::Sink>,
     items: Vec<LineItem<A>, A>,
-) -> Result<bool, TurnFault>
-    requires due { due session.old ≡ false }
-    ensures passes { IfOk result (λ is_closed. (text : List ℕ)
-        × Appends (W.contents writer.old) (W.contents writer.new) text
-        × Passes A (C.may_answer clock.now) S.Step D.Asks users.now.users
-        session.old floors.old store.old side.old (items_of items.items) is_closed text
-        session.new floors.new store.new side.new) }
-    ensures breaks { OnErr result ((text : List ℕ)
-        × Appends (W.contents writer.old) (W.contents writer.new) text
-        × BreaksAmong A (C.may_answer clock.now) S.Step D.Asks users.now.users
-        session.old floors.old store.old side.old (items_of items.items) text) }
-    ensures due { OnOk result (due session.new ≡ false) }
+) -> Result<(), TurnFault>
+    requires none { talk.old.came ≡ None }
+    requires whole { talk.old.lost ≡ None }
+    requires live { talk.old.closed ≡ false }
+    requires due { due talk.old.session ≡ false }
+    ensures went { (taken : List Item) (heard : Heard) → heard.items ≡ taken ++ items_of items.items
+        → (last : List Item) × Went (IsRow {A = A} {R = H.Source} H.Step users.now.users) H.Does
+        host.old (stand talk.old taken heard) host.new (stand talk.new last heard)
+        × OnOk result ((talk.new.closed ≡ true) ⊎ AllTaken last heard) }
+    ensures none { OnOk result (talk.new.came ≡ None) }
+    ensures whole { OnOk result (talk.new.lost ≡ None) }
+    ensures due { OnOk result (due talk.new.session ≡ false) }
+    ensures lost { IfErr result (IsLost talk.new.lost) }
 {
     let mut left = items.into_iter();
     while let Some(item) = next_of(&mut left) {
-        let is_closed = take_line(
-            alloc, users, session, floors, store, side, writer, clock, item,
-        )?;
-        if is_closed {
-            return Ok(true);
+        take_line(alloc, host, users, talk, item)?;
+        if talk.closed {
+            return Ok(());
         }
     }
-    Ok(false)
-}
-
-/// The control connection is gone: the session is closed, and whoever is logged in is released.
-pub fn close<
-    A: Allocator + Clone,
-    F: Allocator + Clone,
-    S: Store<A>,
-    D: DataSide<A, S::Source, S::Sink>,
-    C: Moments,
->(
-    users: &Authorizer<A>,
-    session: &mut Session<A>,
-    floors: &mut Floors<F>,
-    store: &mut S,
-    side: &mut D,
-    clock: &C,
-) -> Result<(), TurnFault>
-    ensures closes { OnOk result ((moment : ℕ) × C.may_answer clock.now moment
-        × ((lines : Option (List Item)) (said : List ℕ)
-        → Closes A S.Step D.Asks users.now.users
-        (at session.old floors.old store.old side.old [] lines said) moment
-        (at session.new floors.new store.new side.new [] lines said))) }
-{
-    one_thing_is_asked::<A, S::Source, S::Sink>();
-    let moment = clock.moment();
-    let actions = session.step(users, floors, store, Input::Closed, moment)?;
-    release(floors, &actions);
-    drop(serve(side, actions));
     Ok(())
 }

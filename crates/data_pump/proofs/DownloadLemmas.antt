@@ -6,7 +6,7 @@ use Rattle.ftp_terms.specs.declared.data_type.DataType.TheVariants.{Ascii, Image
 use Rattle.data_pump.specs.declared.pumped.Pumped.{Pumped}
 use Rattle.data_pump.specs.WireText.{sent}
 use Rattle.data_pump.specs.Buffers.{Fills}
-use Rattle.data_pump.specs.Downloads.{OutView, MovesOut, IsSending, still_to_come, to_come}
+use Rattle.data_pump.specs.Downloads.{OutFlow, MovesOut, IsSending, still_to_come, to_come}
 use Rattle.data_pump.proofs.KnownLemmas.{known-appended, known-consumed, known-at_end}
 use Rattle.data_pump.proofs.WireLemmas.{sent-append}
 
@@ -46,7 +46,7 @@ on_true true h is = h
 on_true false h is = absurd (cc is)
 
 module _ {S K : Type 0} (remaining : S → Option (List ℕ)) (contents : K → Option (List ℕ)) where
-  pub sending_at_open : (before octets : List ℕ) (out : OutView S K) → contents out.connection ≡ Some before
+  pub sending_at_open : (before octets : List ℕ) (out : OutFlow S K) → contents out.connection ≡ Some before
       → to_come remaining out ≡ Some (sent out.data_type octets) → IsSending remaining contents before (sent out.data_type octets) out
   sending_at_open before octets out holds comes = record {
     written = [];
@@ -56,7 +56,7 @@ module _ {S K : Type 0} (remaining : S → Option (List ℕ)) (contents : K → 
     whole = refl;
   }
 
-  pub sending_moved : (octets : ℕ) (old new : OutView S K) (pumped : Pumped) (before text : List ℕ)
+  pub sending_moved : (octets : ℕ) (old new : OutFlow S K) (pumped : Pumped) (before text : List ℕ)
       → MovesOut remaining contents octets old new pumped → IsSending remaining contents before text old
       → IsSending remaining contents before text new
   sending_moved octets old new pumped before text moves sending =
@@ -72,7 +72,7 @@ module _ {S K : Type 0} (remaining : S → Option (List ℕ)) (contents : K → 
         whole = sending.whole ∙ (ap (λ l. sending.written ++ l) left.whole ∙ sym (append_assoc sending.written moved left.rest));
       }
 
-  pub sending_ended : (out : OutView S K) (before text : List ℕ) → IsSending remaining contents before text out
+  pub sending_ended : (out : OutFlow S K) (before text : List ℕ) → IsSending remaining contents before text out
       → IsAtEnd (to_come remaining out) → contents out.connection ≡ Some (before ++ text)
   sending_ended out before text sending ended =
       let none : sending.rest ≡ [] = known-at_end (to_come remaining out) sending.rest sending.comes ended in
@@ -80,6 +80,6 @@ module _ {S K : Type 0} (remaining : S → Option (List ℕ)) (contents : K → 
       sending.holds ∙ ap (λ l. Some (before ++ l)) (sym all)
 
   -- the same download under another name
-  pub moves_from : (octets : ℕ) (seen old new : OutView S K) (pumped : Pumped) → seen ≡ old
+  pub moves_from : (octets : ℕ) (seen old new : OutFlow S K) (pumped : Pumped) → seen ≡ old
       → MovesOut remaining contents octets seen new pumped → MovesOut remaining contents octets old new pumped
-  moves_from octets seen old new pumped same moves = subst (λ (d : OutView S K). MovesOut remaining contents octets d new pumped) same moves
+  moves_from octets seen old new pumped same moves = subst (λ (d : OutFlow S K). MovesOut remaining contents octets d new pumped) same moves

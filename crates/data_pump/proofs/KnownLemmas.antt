@@ -1,5 +1,5 @@
 -- Octets that are known, before and after.
-use Rattle.std.proofs.Common.{◌≡◌, ◌++◌, ℕ, List, [], ◌∷◌, length, Option, Some, None, refl, ap, subst}
+use Rattle.std.proofs.Common.{◌≡◌, ◌++◌, ℕ, List, [], ◌∷◌, length, take, Option, Some, None, refl, ap, ◌∙◌, subst, append-nil}
 use Rattle.std.specs.Io.KnownBytes.{Appends, Consumes, IsAtEnd, Keeps}
 
 pub known-appended : (a b : Option (List ℕ)) (xs more : List ℕ) → a ≡ Some xs → Appends a b more → b ≡ Some (xs ++ more)
@@ -26,3 +26,10 @@ known-at_end a xs e h = subst IsAtEnd e h
 pub no_octets : (xs : List ℕ) (n : ℕ) → length xs ≡ n → n ≡ 0 → xs ≡ []
 no_octets [] n e z = refl
 no_octets (x ∷ xs) n e z = absurd (let h : length (x ∷ xs) ≡ 0 = cc in cc)
+
+-- a write that took nothing
+pub appended_none : (a b c : Option (List ℕ)) (xs octets : List ℕ) (n : ℕ) → n ≡ 0 → Appends a b xs → Appends b c (take n octets) → Appends a c xs
+appended_none None b c xs octets n none h k = tt
+appended_none (Some x) None c xs octets n none h k = absurd h
+appended_none (Some x) (Some y) None xs octets n none h k = absurd k
+appended_none (Some x) (Some y) (Some z) xs octets n none h k = k ∙ (ap (λ m. y ++ take m octets) none ∙ (append-nil y ∙ h))

@@ -1,37 +1,54 @@
--- What is seen of a transfer, and what a pump makes of it.
+-- What is seen of a download, and what a pump makes of it.
 use Rattle.std.specs.Prelude.{◌≡◌, ◌⊎◌, ◌<◌, ◌≤◌, ◌++◌, ℕ, min, List, [], length, take, drop, Option, Some, Bool, IsTrue}
 use Rattle.std.specs.Option.{option_map}
 use Rattle.std.specs.Io.KnownBytes.{Appends, Consumes, IsAtEnd}
 use Rattle.ftp_terms.specs.declared.data_type.DataType.{DataType}
+use Rattle.line_rates.specs.declared.ask.Way.TheVariants.{Down}
 use Rattle.data_pump.specs.WireText.{sent}
+use Rattle.data_pump.specs.Counts.{CallCounts, IsOnceAtMost, FailsAsTold}
+use Rattle.data_pump.specs.declared.pumped.FailedPart.TheVariants.{Connection, Source}
 use Rattle.data_pump.specs.declared.pumped.PumpEnd.{PumpEnd}
 use Rattle.data_pump.specs.declared.pumped.PumpEnd.TheVariants.{Ended, More, ReadFault, WriteFault, Memory}
 use Rattle.data_pump.specs.declared.pumped.Pumped.{Pumped}
 
--- ---- downloads
-
--- a download: where it reads and writes, the wire octets that wait, whether the source has ended, the last pump's end
-pub record OutView (S K : Type 0) : Type 0 where
+-- what flows out: the source and the connection, each with its calls, the wire octets that wait, whether the source has ended
+pub record OutFlow (S K : Type 0) : Type 0 where
   pub source : S
+  pub reads : CallCounts
   pub connection : K
+  pub writes : CallCounts
   pub data_type : DataType
   pub waiting : List ℕ
   pub is_over : Bool
+
+-- a download: what flows, and the last pump's end
+pub record OutView (S K : Type 0) : Type 0 where
+  pub flow : OutFlow S K
   pub last : PumpEnd
 
 -- the wire octets that are still to be written, where those of the source are known
 abbrev pub still_to_come : DataType → List ℕ → Option (List ℕ) → Option (List ℕ)
 still_to_come data_type waiting known = option_map (λ octets. waiting ++ sent data_type octets) known
 
-abbrev pub to_come : {S K : Type 0} → (S → Option (List ℕ)) → OutView S K → Option (List ℕ)
-to_come remaining out = still_to_come out.data_type out.waiting (remaining out.source)
+abbrev pub to_come : {S K : Type 0} → (S → Option (List ℕ)) → OutFlow S K → Option (List ℕ)
+to_come remaining flow = still_to_come flow.data_type flow.waiting (remaining flow.source)
+
+-- the source has ended, and nothing waits
+abbrev pub HasEnded : {S K : Type 0} → OutFlow S K → Type 0
+HasEnded flow = IsTrue flow.is_over × (flow.waiting ≡ [])
 
 -- an end that tells of the source, or of its memory
 abbrev pub IsSourceFault : PumpEnd → Type 0
 IsSourceFault end = (end ≡ ReadFault) ⊎ (end ≡ Memory)
 
+-- Between two pumps: while there is more, something waits, unless the source had nothing from the start; and a pump told the
+-- end only of what has ended.
+pub record IsReady {S K : Type 0} (flow : OutFlow S K) (last : PumpEnd) : Type 0 where
+  pub more : last ≡ More → (0 < length flow.waiting) ⊎ HasEnded flow
+  pub ended : last ≡ Ended → HasEnded flow
+
 -- Of a grant of `octets`, `pumped` of a download were moved.
-pub record MovesOut {S K : Type 0} (remaining : S → Option (List ℕ)) (contents : K → Option (List ℕ)) (octets : ℕ) (old new : OutView S K) (pumped : Pumped) : Type 0 where
+pub record MovesOut {S K : Type 0} (remaining : S → Option (List ℕ)) (contents : K → Option (List ℕ)) (octets : ℕ) (old new : OutFlow S K) (pumped : Pumped) : Type 0 where
   -- no more than the grant, and than what waits; fewer only where a write failed
   pub most : pumped.moved ≤ min octets (length old.waiting)
   pub fewer : pumped.moved < min octets (length old.waiting) → pumped.end ≡ WriteFault
@@ -39,19 +56,24 @@ pub record MovesOut {S K : Type 0} (remaining : S → Option (List ℕ)) (conten
   -- they are what the connection's writes took, and the first of what was to come
   pub written : Appends (contents old.connection) (contents new.connection) (take pumped.moved old.waiting)
   pub come : Consumes (to_come remaining old) (to_come remaining new) (take pumped.moved old.waiting)
-  pub no_call : octets ≡ 0 → new.connection ≡ old.connection
-  -- the source is read only where nothing waits any more
-  pub left : pumped.moved < length old.waiting → (new.waiting ≡ drop pumped.moved old.waiting) × (new.source ≡ old.source)
+  pub no_call : octets ≡ 0 → (new.connection ≡ old.connection) × (new.writes ≡ old.writes)
+  -- the source is read once, and only where nothing waits any more
+  pub left : pumped.moved < length old.waiting → (new.waiting ≡ drop pumped.moved old.waiting) × (new.source ≡ old.source) × (new.reads ≡ old.reads)
+  pub once : IsOnceAtMost old.reads new.reads
+  -- a call failed where the end tells so, and only there
+  pub reads_failed : FailsAsTold Down pumped.end Source old.reads new.reads
+  pub writes_failed : FailsAsTold Down pumped.end Connection old.writes new.writes
   -- what the end says
   pub more : pumped.end ≡ More → 0 < length new.waiting
-  pub ended : pumped.end ≡ Ended → IsTrue new.is_over × (new.waiting ≡ []) × IsAtEnd (to_come remaining new)
+  pub ended : pumped.end ≡ Ended → HasEnded new
+  pub at_end : pumped.end ≡ Ended → IsAtEnd (to_come remaining new)
   pub fault : IsSourceFault pumped.end → new.waiting ≡ []
   pub data_type : new.data_type ≡ old.data_type
 
 -- Of a wire text, a part was written behind what the connection held before, and the rest is to come.
-pub record IsSending {S K : Type 0} (remaining : S → Option (List ℕ)) (contents : K → Option (List ℕ)) (before text : List ℕ) (out : OutView S K) : Type 0 where
+pub record IsSending {S K : Type 0} (remaining : S → Option (List ℕ)) (contents : K → Option (List ℕ)) (before text : List ℕ) (flow : OutFlow S K) : Type 0 where
   pub written : List ℕ
   pub rest : List ℕ
-  pub holds : contents out.connection ≡ Some (before ++ written)
-  pub comes : to_come remaining out ≡ Some rest
+  pub holds : contents flow.connection ≡ Some (before ++ written)
+  pub comes : to_come remaining flow ≡ Some rest
   pub whole : text ≡ written ++ rest

@@ -1,4 +1,5 @@
 pub mod Buffers
+pub mod Counts
 pub mod Downloads
 pub mod Runs
 pub mod Uploads

@@ -3,7 +3,9 @@
 ghost use Rattle.std.specs.Prelude.{◌≡◌, ◌+◌, ◌*◌, ◌<◌, ◌≤◌, [], length, take, drop, IfOk, OnErr};
 ghost use Rattle.std.specs.Io.KnownBytes.{Keeps};
 ghost use Rattle.data_pump.specs.Buffers.{Fills};
+ghost use Rattle.data_pump.specs.Counts.{Counts};
 
+use crate::counted::CountedEnd;
 use crate::runs::send_text;
 use ftp_terms::DataType;
 use std::alloc::{AllocError, Allocator};
@@ -86,14 +88,16 @@ impl<A: Allocator> WireBuffer<A> {
 
     /// Puts what one read of the source gives in their place, as wire octets, and tells how many those are. After a
     /// fault none wait.
-    pub fn fill<S: Source>(&mut self, source: &mut S) -> Result<usize, StoreFault>
+    pub fn fill<S: Source>(&mut self, source: &mut CountedEnd<S>) -> Result<usize, StoreFault>
         ensures data_type { self.new.data_type ≡ self.old.data_type }
         ensures count { IfOk result (λ count. count ≡ length self.new.octets) }
         ensures filled { IfOk result
-            (λ count. Fills self.old.data_type (S.remaining source.old)
-            (S.remaining source.new) count self.new.octets) }
+            (λ count. Fills self.old.data_type (S.remaining source.old.end)
+            (S.remaining source.new.end) count self.new.octets) }
         ensures empty { OnErr result (self.new.octets ≡ []) }
-        ensures kept { OnErr result (Keeps (S.remaining source.old) (S.remaining source.new)) }
+        ensures kept { OnErr result
+            (Keeps (S.remaining source.old.end) (S.remaining source.new.end)) }
+        ensures counts { Counts result source.old.calls source.new.calls }
     {
         self.from = 0;
         self.to = 0;
@@ -107,20 +111,25 @@ impl<A: Allocator> WireBuffer<A> {
 }
 
 // One read, right into the octets.
-fn read_octets<S: Source>(source: &mut S, octets: &mut [u8]) -> Result<usize, StoreFault>
+fn read_octets<S: Source>(
+    source: &mut CountedEnd<S>,
+    octets: &mut [u8],
+) -> Result<usize, StoreFault>
     requires room { 0 < length octets.old }
     ensures bound { IfOk result (λ count. count ≤ length octets.new) }
     ensures filled { IfOk result
-        (λ count. Fills DataType.Image (S.remaining source.old) (S.remaining source.new) count
-        (take count octets.new)) }
-    ensures kept { OnErr result (Keeps (S.remaining source.old) (S.remaining source.new)) }
+        (λ count. Fills DataType.Image (S.remaining source.old.end) (S.remaining source.new.end)
+        count (take count octets.new)) }
+    ensures kept { OnErr result
+        (Keeps (S.remaining source.old.end) (S.remaining source.new.end)) }
+    ensures counts { Counts result source.old.calls source.new.calls }
 {
-    source.read(octets)
+    source.fetch(octets)
 }
 
 // One read into the text, from which the wire octets are made.
 fn read_text<S: Source>(
-    source: &mut S,
+    source: &mut CountedEnd<S>,
     text: &mut [u8],
     octets: &mut [u8],
 ) -> Result<usize, StoreFault>
@@ -128,10 +137,12 @@ fn read_text<S: Source>(
     requires room { 2 * length text.old ≤ length octets.old }
     ensures bound { IfOk result (λ count. count ≤ length octets.new) }
     ensures filled { IfOk result
-        (λ count. Fills DataType.Ascii (S.remaining source.old) (S.remaining source.new) count
-        (take count octets.new)) }
-    ensures kept { OnErr result (Keeps (S.remaining source.old) (S.remaining source.new)) }
+        (λ count. Fills DataType.Ascii (S.remaining source.old.end) (S.remaining source.new.end)
+        count (take count octets.new)) }
+    ensures kept { OnErr result
+        (Keeps (S.remaining source.old.end) (S.remaining source.new.end)) }
+    ensures counts { Counts result source.old.calls source.new.calls }
 {
-    let count = source.read(text)?;
+    let count = source.fetch(text)?;
     Ok(send_text(&text[..count], octets))
 }

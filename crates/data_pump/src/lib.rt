@@ -15,8 +15,11 @@
 #![tactic(auto)]
 
 mod buffer;
+mod counted;
 mod download;
+mod inflow;
 mod laws;
+mod outflow;
 mod pumped;
 mod runs;
 mod upload;
@@ -25,7 +28,8 @@ mod writing;
 
 pub use buffer::MAX_WAITING;
 pub use download::{DataOut, pump_out};
+pub use inflow::MAX_READ;
 pub use laws::{sent_text_is_received, wire_text_in_pieces};
-pub use pumped::{OpenFault, PumpEnd, Pumped};
-pub use upload::{DataIn, MAX_READ, pump_in};
+pub use pumped::{FailedPart, OpenFault, PumpEnd, Pumped};
+pub use upload::{DataIn, pump_in};
 pub use wire::Wire;

@@ -1,17 +1,23 @@
 //! Writes to a connection.
 
-ghost use Rattle.std.specs.Prelude.{◌≡◌, ◌≤◌, [], length, take};
+ghost use Rattle.std.specs.Prelude.{◌≡◌, ◌<◌, ◌≤◌, [], length, take};
 ghost use Rattle.std.specs.Io.KnownBytes.{Appends};
+ghost use Rattle.data_pump.specs.Counts.{next};
 
+use crate::counted::CountedEnd;
 use std::io::Write;
 
 /// Writes the octets by as many writes as that takes, and tells how many the writes reported. Those are fewer than all
-/// only where a write failed; a write that reports none has failed.
-pub fn write_front<K: Write>(connection: &mut K, octets: &[u8]) -> usize
+/// only where a write failed, which is the last one then.
+pub fn write_front<K: Write>(connection: &mut CountedEnd<K>, octets: &[u8]) -> usize
     ensures bound { result ≤ length octets.now }
-    ensures written { Appends (K.contents connection.old) (K.contents connection.new)
+    ensures written { Appends (K.contents connection.old.end) (K.contents connection.new.end)
         (take result octets.now) }
     ensures no_call { octets.now ≡ [] → connection.new ≡ connection.old }
+    ensures passed { result ≡ length octets.now
+        → connection.new.calls.failed ≡ connection.old.calls.failed }
+    ensures failed { result < length octets.now
+        → connection.new.calls.failed ≡ next connection.old.calls.failed }
 {
     if octets.is_empty() {
         return 0;
@@ -19,18 +25,22 @@ pub fn write_front<K: Write>(connection: &mut K, octets: &[u8]) -> usize
     write_some(connection, octets)
 }
 
-fn write_some<K: Write>(connection: &mut K, octets: &[u8]) -> usize
+fn write_some<K: Write>(connection: &mut CountedEnd<K>, octets: &[u8]) -> usize
     ensures bound { result ≤ length octets.now }
-    ensures written { Appends (K.contents connection.old) (K.contents connection.new)
+    ensures written { Appends (K.contents connection.old.end) (K.contents connection.new.end)
         (take result octets.now) }
+    ensures passed { result ≡ length octets.now
+        → connection.new.calls.failed ≡ connection.old.calls.failed }
+    ensures failed { result < length octets.now
+        → connection.new.calls.failed ≡ next connection.old.calls.failed }
 {
     let mut moved = 0;
     'writes: while moved < octets.len() {
-        match connection.write(&octets[moved..]) {
-            Ok(0) => return moved,
-            Ok(count) => moved += count,
-            Err(_) => return moved,
+        let count = connection.write(&octets[moved..]);
+        if count == 0 {
+            return moved;
         }
+        moved += count;
     }
     moved
 }

@@ -1,18 +1,16 @@
-//! What a control session does beside its steps: what it says, what it asks of the side that opens data connections
-//! and runs transfers, and what it releases.
+//! What a control session is lent beside its text: a clock, and the side that opens data connections and runs transfers.
 //!
 //! ```text
-//! let text = said(rt.alloc(), &actions).expect(rt, "memory"); // the replies, to be written at once
-//! same(rt, &text, b"");
-//! release(floors, &actions); // what users who left were guaranteed
-//! let mut side = ScriptSide { port: 40_000 };
-//! let answer = serve(&mut side, actions); // one call for each action that asks for one, in order
-//! holds(rt, matches!(answer, Some(Input::DataReady(Some(40_000))))); // it is the next input
+//! let mut side = ScriptSide { port: 40_000, came: None };
+//! side.open_passive(); // begins
+//! holds(rt, matches!(side.look(), Some(DataEvent::Ready(Some(40_000))))); // what has come
+//! holds(rt, side.look().is_none()); // told once
 //! ```
 #![tactic(auto)]
 
 mod actions;
 mod side;
 
-pub use actions::{closes, release, said, serve};
+pub use actions::{closes, push_answer};
+pub use session_core::DataEvent;
 pub use side::{DataSide, Moments};

@@ -1,36 +1,37 @@
 //! What a control session is lent beside its text: a clock, and what opens data connections.
 
-ghost use Rattle.std.specs.Prelude.{ℕ, None};
+ghost use Rattle.std.specs.Prelude.{ℕ};
 ghost use Rattle.data_side.specs.Sides.{SideCall};
-ghost use Rattle.data_side.specs.Sides.SideCall.{Opens, Connects, Drops, Runs};
-ghost use Rattle.session_table.specs.declared.actions.Job.TheVariants.{Text, SendFile, TakeFile};
+ghost use Rattle.data_side.specs.Sides.SideCall.{Opens, Connects, Drops, Starts, Aborts, Looks, Settles};
 
-use ftp_terms::DataType;
 use ftp_wire::HostPort;
-use session_table::{End, Octets};
+use session_core::DataEvent;
+use session_table::Job;
 use std::alloc::Allocator;
 
 /// A clock.
 pub trait Moments {
-    /// The moments that it may answer.
-    ghost may_answer: { Self → ℕ → Type 0 };
+    /// The clock gives this moment, and is then that clock.
+    ghost Gives: { Self → ℕ → Self → Type 0 };
 
     /// The moment, in milliseconds since 1970.
-    fn moment(&self) -> u64
-        ensures { may_answer self.now result };
+    fn moment(&mut self) -> u64
+        ensures { Gives self.old result self.new };
 }
 
-/// What opens data connections and runs transfers, with a store's sources `R` and its sinks `K`.
+/// What opens data connections and runs transfers, with a store's sources `R` and its sinks `K`. It begins what it is asked
+/// for, and is asked later what has come of it: a session looks behind each of its turns, before a line that waits is
+/// taken, and before each read.
 ///
 /// `Asks` says what one call with its answer makes of it: it is the side's own meaning, so what is proved of the calls
-/// holds of each side.
+/// holds of each side. A side should tell the end of each transfer that began just once, aborted or not.
 pub trait DataSide<A: Allocator, R, K> {
     /// What one call with its answer makes of it.
     ghost Asks: { Self → SideCall A R K → Self → Type 0 };
 
-    /// Drops what was prepared, and opens a passive port, if one is free (RFC 959, section 4.1.2).
-    fn open_passive(&mut self) -> Option<u16>
-        ensures { Asks self.old (Opens result) self.new };
+    /// Drops what was prepared, and opens a passive port, if one is free (RFC 959, section 4.1.2): the next look tells it.
+    fn open_passive(&mut self)
+        ensures { Asks self.old Opens self.new };
 
     /// Drops what was prepared; a transfer then connects to this port (RFC 959, section 4.1.2).
     fn connect_to(&mut self, to: HostPort)
@@ -40,15 +41,19 @@ pub trait DataSide<A: Allocator, R, K> {
     fn drop_data(&mut self)
         ensures { Asks self.old Drops self.new };
 
-    /// Sends a listing as it is, and says how that ended.
-    fn send_text(&mut self, octets: &Octets<A>) -> End
-        ensures { Asks self.old (Runs (Text octets.now) result None) self.new };
+    /// Begins a transfer; its end is told by a later look, at once or not.
+    fn start(&mut self, job: Job<A, R, K>)
+        ensures { Asks self.old (Starts job) self.new };
 
-    /// Sends what is left of a file, and says how that ended.
-    fn send_file(&mut self, source: R, form: DataType) -> End
-        ensures { Asks self.old (Runs (SendFile source form) result None) self.new };
+    /// Aborts the transfer that runs. Its end is told all the same.
+    fn abort(&mut self)
+        ensures { Asks self.old Aborts self.new };
 
-    /// Receives a file, and says how that ended; the sink comes back unless it was lost.
-    fn take_file(&mut self, sink: K, form: DataType) -> (End, Option<K>)
-        ensures { Asks self.old (Runs (TakeFile sink form) result.0 result.1) self.new };
+    /// What has come: a port, the end of a transfer, or nothing yet. It does not wait.
+    fn look(&mut self) -> Option<DataEvent<K>>
+        ensures { Asks self.old (Looks result) self.new };
+
+    /// Waits for the end of what still runs, and tells it; nothing where nothing runs.
+    fn settle(&mut self) -> Option<DataEvent<K>>
+        ensures { Asks self.old (Settles result) self.new };
 }

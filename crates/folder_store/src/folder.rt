@@ -2,17 +2,15 @@
 
 ghost use Rattle.std.specs.Prelude.{◌≡◌, ◌⊎◌, ◌++◌, ◌∷◌, [], map, IfOk, OnOk, string_bytes};
 ghost use Rattle.machine_files.specs.MachinePaths.{IsOpenText};
-ghost use Rattle.machine_files.specs.Refusals.{NeverFull};
 ghost use Rattle.folder_store.specs.Places.{LeadsTo};
 
 use ftp_terms::{Kind, Meta};
-use machine_files::{MachinePath, enter, fault_of, meta_of};
+use machine_files::{MachineFault, MachinePath, enter, fault_of, meta_of};
 use std::fs::Metadata;
 use std::os::fd::AsRawFd;
 use std::rt::Files;
 use std::{fs, io};
 use virtual_path::VPath;
-use virtual_tree::StoreFault;
 
 /// A folder of the machine, by the machine's path of it.
 #[derive(Drop)]
@@ -22,17 +20,13 @@ pub struct Folder<R: Files + Alloc + Clone + Drop> {
 }
 
 /// What the machine tells of an entry, or why it tells nothing.
-fn told(answer: io::Result<Metadata>) -> Result<Metadata, StoreFault>
-    ensures full { NeverFull result }
-{
+fn told(answer: io::Result<Metadata>) -> Result<Metadata, MachineFault> {
     answer.map_err(|error| fault_of(&error))
 }
 
 /// What is known of a directory or a file; anything else is not found.
-fn known(metadata: &Metadata) -> Result<Meta, StoreFault>
-    ensures full { NeverFull result }
-{
-    meta_of(metadata).ok_or(StoreFault::NotFound)
+fn known(metadata: &Metadata) -> Result<Meta, MachineFault> {
+    meta_of(metadata).ok_or(MachineFault::NotFound)
 }
 
 impl<R: Files + Alloc + Clone + Drop> Folder<R>
@@ -40,22 +34,17 @@ where
     R::File: AsRawFd,
 {
     /// What the machine tells of the folder itself, which may be reached through a link.
-    fn itself(&self) -> Result<Metadata, StoreFault>
-        ensures full { NeverFull result }
-    {
+    fn itself(&self) -> Result<Metadata, MachineFault> {
         told(fs::metadata(&self.rt, self.path.as_str()))
     }
 
     /// What the machine tells of an entry, which is followed no further where it is a link.
-    fn tells(&self, place: &str) -> Result<Metadata, StoreFault>
-        ensures full { NeverFull result }
-    {
+    fn tells(&self, place: &str) -> Result<Metadata, MachineFault> {
         told(fs::symlink_metadata(&self.rt, place))
     }
 
     /// The folder, entered.
-    fn top(&self) -> Result<MachinePath<R::File, R::A>, StoreFault>
-        ensures full { NeverFull result }
+    fn top(&self) -> Result<MachinePath<R::File, R::A>, MachineFault>
         ensures place { IfOk result (LeadsTo (string_bytes self.now.path) []) }
     {
         let looked = self.itself()?;
@@ -66,8 +55,7 @@ where
 
     /// Goes one name further, and enters the directory that stands there. Answers whether a file
     /// stands there.
-    fn step(&self, place: &mut MachinePath<R::File, R::A>, name: &str) -> Result<bool, StoreFault>
-        ensures full { NeverFull result }
+    fn step(&self, place: &mut MachinePath<R::File, R::A>, name: &str) -> Result<bool, MachineFault>
         ensures place { OnOk result (IsOpenText place.new
             ⊎ (place.new ≡ place.old ++ 47 ∷ name.now)) }
     {
@@ -85,8 +73,7 @@ where
     /// link.
     ///
     /// Where the last is that of a file the fault is `NotDir`; where nothing can stand, `NotFound`.
-    pub fn directory(&self, names: &[&str]) -> Result<MachinePath<R::File, R::A>, StoreFault>
-        ensures full { NeverFull result }
+    pub fn directory(&self, names: &[&str]) -> Result<MachinePath<R::File, R::A>, MachineFault>
         ensures place { IfOk result
             (LeadsTo (string_bytes self.now.path) (map (λ name. name.now) names.now)) }
     {
@@ -94,19 +81,18 @@ where
         let mut is_file = false;
         for name in names {
             if is_file {
-                return Err(StoreFault::NotFound);
+                return Err(MachineFault::NotFound);
             }
             is_file = self.step(&mut place, name)?;
         }
         if is_file {
-            return Err(StoreFault::NotDir);
+            return Err(MachineFault::NotDir);
         }
         Ok(place)
     }
 
     /// Where an entry of this name stands or can stand, in the directory to which names lead.
-    fn below(&self, above: &[&str], last: &str) -> Result<MachinePath<R::File, R::A>, StoreFault>
-        ensures full { NeverFull result }
+    fn below(&self, above: &[&str], last: &str) -> Result<MachinePath<R::File, R::A>, MachineFault>
         ensures place { IfOk result
             (LeadsTo (string_bytes self.now.path)
             (map (λ name. name.now) above.now ++ last.now ∷ [])) }
@@ -117,8 +103,7 @@ where
     }
 
     /// Where an entry stands or can stand: below the directories above it, which are there.
-    pub fn place(&self, path: &VPath<R::A>) -> Result<MachinePath<R::File, R::A>, StoreFault>
-        ensures full { NeverFull result }
+    pub fn place(&self, path: &VPath<R::A>) -> Result<MachinePath<R::File, R::A>, MachineFault>
         ensures place { IfOk result (LeadsTo (string_bytes self.now.path) path.now) }
     {
         let mut names = path.names(self.rt.alloc())?;
@@ -129,28 +114,23 @@ where
     }
 
     /// Where an entry stands that is to be found, not made: nothing stands beneath a file.
-    pub fn found(&self, path: &VPath<R::A>) -> Result<MachinePath<R::File, R::A>, StoreFault>
-        ensures full { NeverFull result }
+    pub fn found(&self, path: &VPath<R::A>) -> Result<MachinePath<R::File, R::A>, MachineFault>
         ensures place { IfOk result (LeadsTo (string_bytes self.now.path) path.now) }
     {
         match self.place(path) {
-            Err(StoreFault::NotDir) => Err(StoreFault::NotFound),
+            Err(MachineFault::NotDir) => Err(MachineFault::NotFound),
             answer => answer,
         }
     }
 
     /// What is known of what stands at a machine's path.
-    pub fn look(&self, place: &str) -> Result<Meta, StoreFault>
-        ensures full { NeverFull result }
-    {
+    pub fn look(&self, place: &str) -> Result<Meta, MachineFault> {
         let metadata = self.tells(place)?;
         known(&metadata)
     }
 
     /// What stands at a path.
-    pub fn look_at(&self, path: &VPath<R::A>) -> Result<Meta, StoreFault>
-        ensures full { NeverFull result }
-    {
+    pub fn look_at(&self, path: &VPath<R::A>) -> Result<Meta, MachineFault> {
         if path.is_root() {
             let metadata = self.itself()?;
             return known(&metadata);
@@ -160,34 +140,29 @@ where
     }
 
     /// Where a file stands that is to be found. None stands at the root.
-    pub fn found_file(&self, path: &VPath<R::A>) -> Result<MachinePath<R::File, R::A>, StoreFault>
-        ensures full { NeverFull result }
+    pub fn found_file(&self, path: &VPath<R::A>) -> Result<MachinePath<R::File, R::A>, MachineFault>
         ensures place { IfOk result (LeadsTo (string_bytes self.now.path) path.now) }
     {
         if path.is_root() {
-            return Err(StoreFault::IsDir);
+            return Err(MachineFault::IsDir);
         }
         self.found(path)
     }
 
     /// What the machine tells of a file that stands at a machine's path.
-    pub fn look_file(&self, place: &str) -> Result<Metadata, StoreFault>
-        ensures full { NeverFull result }
-    {
+    pub fn look_file(&self, place: &str) -> Result<Metadata, MachineFault> {
         let looked = self.tells(place)?;
         match known(&looked)?.kind {
-            Kind::Directory => Err(StoreFault::IsDir),
+            Kind::Directory => Err(MachineFault::IsDir),
             Kind::File => Ok(looked),
         }
     }
 
     /// Refuses where anything stands, a link too.
-    pub fn nothing_at(&self, place: &str) -> Result<(), StoreFault>
-        ensures full { NeverFull result }
-    {
+    pub fn nothing_at(&self, place: &str) -> Result<(), MachineFault> {
         match self.tells(place) {
-            Ok(_) => Err(StoreFault::Exists),
-            Err(StoreFault::NotFound) => Ok(()),
+            Ok(_) => Err(MachineFault::Exists),
+            Err(MachineFault::NotFound) => Ok(()),
             Err(fault) => Err(fault),
         }
     }

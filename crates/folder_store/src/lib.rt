@@ -22,8 +22,9 @@
 //! or the machine has no `/proc`, it can put a symbolic link in the directory's place between the look
 //! at it and the call that goes through it, and the call then follows that link, which may lead out of
 //! the folder. What it writes into the empty entry of a rename is lost. A pipe that it puts in a file's
-//! place holds the call, where this process may only read or only write that pipe. So no other process
-//! may write below the folder that is not trusted with all that this one may reach.
+//! place holds a download's call, and an upload's where this process may only read or only write that
+//! pipe. So no other process may write below the folder that is not trusted with all that this one may
+//! reach.
 //!
 //! What a call that is refused for the device leaves is the machine's to say; a rename leaves the entry at
 //! one of its two places.

@@ -5,11 +5,10 @@ ghost use Rattle.std.specs.Cmp.Lexicographic.{slice_cmp};
 ghost use Rattle.std.specs.List.Sorted.{IsStrictlySortedBy};
 ghost use Rattle.std.specs.Ordering.{nat_cmp};
 ghost use Rattle.virtual_tree.specs.Calls.{names_of};
-ghost use Rattle.machine_files.specs.Refusals.{NeverFull};
 ghost use Rattle.folder_store.specs.Listings.{ComesLast};
 
 use crate::folder::Folder;
-use machine_files::fault_of;
+use machine_files::{MachineFault, fault_of};
 use std::alloc::Allocator;
 use std::fs::DirEntry;
 use std::io::ErrorKind;
@@ -17,15 +16,14 @@ use std::os::fd::AsRawFd;
 use std::rt::Files;
 use std::{fs, io};
 use virtual_path::{VPath, is_name};
-use virtual_tree::{Listed, StoreFault};
+use virtual_tree::Listed;
 
 impl<R: Files + Alloc + Clone + Drop> Folder<R>
 where
     R::File: AsRawFd,
 {
     /// The entries of a directory, in the order of their names' octets.
-    pub fn list(&self, path: &VPath<R::A>) -> Result<Vec<Listed<R::A>, R::A>, StoreFault>
-        ensures full { NeverFull result }
+    pub fn list(&self, path: &VPath<R::A>) -> Result<Vec<Listed<R::A>, R::A>, MachineFault>
         ensures rising { IfOk result
             (λ listed. IsStrictlySortedBy (slice_cmp nat_cmp) (names_of listed)) }
     {
@@ -36,8 +34,7 @@ where
 
     /// The entries in a folder of the machine that a path can name, each name once.
     #[tactic(auto, using(crate::proofs::Rising::rising_push))]
-    fn entries(&self, folder: &str) -> Result<Vec<Listed<R::A>, R::A>, StoreFault>
-        ensures full { NeverFull result }
+    fn entries(&self, folder: &str) -> Result<Vec<Listed<R::A>, R::A>, MachineFault>
         ensures rising { IfOk result
             (λ listed. IsStrictlySortedBy (slice_cmp nat_cmp) (names_of listed)) }
     {
@@ -47,7 +44,7 @@ where
             if comes_last(listed.as_slice(), name.as_str()) {
                 if let Some(entry) = self.entry(folder, name)? {
                     if listed.push(entry).is_err() {
-                        return Err(StoreFault::Memory);
+                        return Err(MachineFault::Memory);
                     }
                 }
             }
@@ -56,9 +53,7 @@ where
     }
 
     /// The names in a folder of the machine that are UTF-8, in the order of their octets.
-    fn names(&self, folder: &str) -> Result<Vec<String<R::A>, R::A>, StoreFault>
-        ensures full { NeverFull result }
-    {
+    fn names(&self, folder: &str) -> Result<Vec<String<R::A>, R::A>, MachineFault> {
         let entries = match fs::read_dir(&self.rt, folder) {
             Ok(entries) => entries,
             Err(error) => return Err(fault_of(&error)),
@@ -67,7 +62,7 @@ where
         for entry in entries {
             if let Some(name) = self.name_of(entry)? {
                 if names.push(name).is_err() {
-                    return Err(StoreFault::Memory);
+                    return Err(MachineFault::Memory);
                 }
             }
         }
@@ -79,9 +74,7 @@ where
     fn name_of(
         &self,
         entry: io::Result<DirEntry<R, R::A>>,
-    ) -> Result<Option<String<R::A>>, StoreFault>
-        ensures full { NeverFull result }
-    {
+    ) -> Result<Option<String<R::A>>, MachineFault> {
         match entry {
             Ok(entry) => Ok(Some(String::from_str(self.rt.alloc(), entry.file_name())?)),
             Err(error) => match error.kind() {
@@ -92,9 +85,9 @@ where
     }
 
     /// An entry of a folder of the machine. There is none to tell where no path can name it, where it is
-    /// neither a directory nor a file, and where the machine does not tell what it is.
-    fn entry(&self, folder: &str, name: String<R::A>) -> Result<Option<Listed<R::A>>, StoreFault>
-        ensures full { NeverFull result }
+    /// neither a directory nor a file, and where it is gone by now. What else the machine refuses is a fault
+    /// of the device: a listing that leaves an entry out would say that it is not there.
+    fn entry(&self, folder: &str, name: String<R::A>) -> Result<Option<Listed<R::A>>, MachineFault>
         ensures name { IfOk result
             (λ found. IfSome found (λ entry. string_bytes entry.name ≡ string_bytes name)) }
     {
@@ -106,8 +99,9 @@ where
         place.push_str(name.as_str())?;
         match self.look(place.as_str()) {
             Ok(meta) => Ok(Some(Listed { name, meta })),
-            Err(StoreFault::Memory) => Err(StoreFault::Memory),
-            Err(_) => Ok(None),
+            Err(MachineFault::NotFound) => Ok(None),
+            Err(MachineFault::Memory) => Err(MachineFault::Memory),
+            Err(_) => Err(MachineFault::Device),
         }
     }
 }

@@ -1,14 +1,14 @@
 //! The store.
 
-ghost use Rattle.std.specs.Prelude.{◌≡◌, ◌⊎◌, IfOk, IfErr};
+ghost use Rattle.std.specs.Prelude.{◌≡◌, ◌⊎◌, IfOk, IfErr, MatchResult};
 ghost use Rattle.std.specs.Result.{result_err};
 ghost use Rattle.folder_store.specs.Honest.{IsHonest};
-ghost use Rattle.machine_files.specs.Refusals.{NeverFull};
+ghost use Rattle.machine_files.specs.Refusals.{store_fault};
 
 use crate::count::FaultCount;
 use crate::folder::Folder;
 use ftp_terms::Meta;
-use machine_files::{DirSink, DirSource, flushed};
+use machine_files::{DirSink, DirSource, MachineFault, flushed};
 use std::fs;
 use std::io::ErrorKind;
 use std::marker::Model;
@@ -65,15 +65,16 @@ where
         })
     }
 
-    /// The answer, counted where it is a fault of the device.
-    fn answer<T>(&mut self, answer: Result<T, StoreFault>) -> Result<T, StoreFault>
-        requires { NeverFull answer }
-        ensures same { result ≡ answer }
-        ensures honest { IsHonest self.old.count self.new.count (result_err answer) }
+    /// The answer as a store gives it, counted where it is a fault of the device.
+    fn answer<T>(&mut self, answer: Result<T, MachineFault>) -> Result<T, StoreFault>
+        ensures same { MatchResult answer (λ told. result ≡ Ok told)
+            (λ fault. result ≡ Err (store_fault fault)) }
+        ensures honest { IsHonest self.old.count self.new.count (result_err result) }
     {
         match answer {
             Ok(told) => Ok(told),
             Err(fault) => {
+                let fault = fault.in_store();
                 if fault == StoreFault::Device {
                     self.faults = FaultCount {
                         count: self.faults.count.wrapping_add(1),

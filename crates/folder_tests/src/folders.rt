@@ -36,6 +36,13 @@ size /n = not found
 faults = 2
 read /f = abc";
 
+/// Where something comes to the new name of a rename once it was looked at, it stays.
+const LATE_COMERS: &str = "new /f abc
+rename /f /n = already exists
+size /n = 0
+read /f = abc
+faults = 0";
+
 /// Carries out a script in a fresh folder of a machine.
 fn comes_out_afresh<M>(rt: &(impl Abort + Env + Files + AllocGlobal), machine: M, script: &str)
 where
@@ -49,10 +56,11 @@ where
 
 static SCRIPTS: [&str; 3] = [FILES, DIRECTORIES, RENAMES];
 
-static ACTS: [(Act, &str); 3] = [
+static ACTS: [(Act, &str); 4] = [
     (Act::KeepDirectories, BY_NAMES),
     (Act::HideProc, BY_NAMES),
     (Act::KeepNames, KEPT_NAMES),
+    (Act::ComeLate, LATE_COMERS),
 ];
 
 fn check_fresh_folders<R>(rt: &R)
@@ -71,10 +79,10 @@ where
 /// Two of these names no path names.
 static NAMES: [&str; 4] = ["b", "a", "t\tb", "x\u{7f}"];
 
-/// What is told of them, all and without the first.
+/// What is told of them; a fault of one is a fault of the listing.
 static TOLD: [(Act, &str); 2] = [
     (Act::Nothing, "names / = a b\nfaults = 0"),
-    (Act::HideFirst, "names / = b\nfaults = 0"),
+    (Act::HideFirst, "names / = device fault\nfaults = 1"),
 ];
 
 /// Makes a file in a folder.

@@ -7,6 +7,8 @@ mod examples;
 #[cfg(test)]
 mod expect;
 #[cfg(test)]
+mod files;
+#[cfg(test)]
 mod folders;
 #[cfg(test)]
 mod machine;

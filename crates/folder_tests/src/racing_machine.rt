@@ -21,8 +21,10 @@ pub enum Act {
     SwapLate,
     /// The machine refuses each rename.
     KeepNames,
-    /// The machine tells nothing of what is called `a`.
+    /// The machine fails where it is asked what `a` is.
     HideFirst,
+    /// It makes a file called `n` just after that name was looked at.
+    ComeLate,
     /// The machine opens no directory.
     KeepDirectories,
     /// The machine has no `/proc`.
@@ -134,7 +136,13 @@ impl<R: Files> Files for Racing<'_, R> {
             return Err(io::Error::from(io::ErrorKind::StaleNetworkFileHandle));
         }
         self.before(path)?;
-        self.rt.symlink_metadata(path)
+        let told = self.rt.symlink_metadata(path);
+        if matches!(&self.act, Act::ComeLate) && path.ends_with("/n") && told.is_err() {
+            let mut how = OpenOptions::new();
+            how.write(true).create_new(true);
+            let _made = self.rt.open_file(&how, path)?;
+        }
+        told
     }
 
     fn copy(&self, from: &str, to: &str) -> io::Result<u64> {

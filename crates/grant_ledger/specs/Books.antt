@@ -1,11 +1,12 @@
 -- What is seen of a book, a grant, a purse and a tally.
 use Rattle.std.specs.Prelude.{◌≢◌, ◌+◌, ◌<◌, ℕ, List, [], ◌∷◌, replicate, slice_set, min, Option, Some, None}
 
--- the octets issued, the tick of the last entry, and for each lane the amount that is not yet drawn
+-- the octets issued, the tick of the last entry, for each lane the amount that is not yet drawn, and the tick of the entry that these are from
 pub record BookView : Type 0 where
   pub issued : ℕ
   pub last_tick : Option ℕ
   pub undrawn : List (Option ℕ)
+  pub entry_tick : Option ℕ
 
 pub record GrantView : Type 0 where
   pub octets : ℕ

@@ -10,7 +10,7 @@ ghost use Rattle.grant_ledger.specs.Faults.{refusal};
 use super::fault::BookFault;
 use grant_certificate::Sealed;
 use std::alloc::Allocator;
-use std::marker::Model;
+use std::marker::{Model, PhantomData};
 
 /// How many lanes an entry can name. They are numbered from 0.
 pub const MAX_LANES: usize = 64;
@@ -18,33 +18,40 @@ pub const MAX_LANES: usize = 64;
 /// The most octets that one book issues: 2^62.
 pub const MAX_ISSUED: u64 = 4_611_686_018_427_387_904;
 
-/// The octets issued, the tick of the last entry, and for each lane the amount that is not yet drawn. It has to be
-/// settled.
-pub struct Book {
+/// The name of a book that was given none.
+#[derive(Clone, Copy)]
+pub struct Plain;
+
+/// The octets issued, the tick of the last entry, and for each lane the amount that is not yet drawn, with the tick of
+/// the entry that it is from. It has to be settled. The type `N` is the name of the book, which its grants, purses and tallies have too.
+pub struct Book<N = Plain> {
+    name: PhantomData<N>,
     issued: u64,
     last_tick: Option<u64>,
     undrawn: [Option<u64>; MAX_LANES],
+    entry_tick: Option<u64>,
 }
 
-impl Model for Book {
+impl<N> Model for Book<N> {
     ghost use Rattle.std.specs.Prelude.{◌≡◌, ◌≤◌, ◌^◌, IfNone};
     ghost use Rattle.grant_ledger.specs.Books.{BookView, nothing_undrawn};
 
     ghost Value = { BookView };
 
-    ghost view = { λ b. record { issued = b.issued; last_tick = b.last_tick; undrawn = b.undrawn } };
+    ghost view = { λ b. record { issued = b.issued; last_tick = b.last_tick; undrawn = b.undrawn; entry_tick = b.entry_tick } };
 
-    ghost invariant = { λ b. (b.issued ≤ 2 ^ 62) × IfNone b.last_tick (b.undrawn ≡ nothing_undrawn) };
+    ghost invariant = { λ b. (b.issued ≤ 2 ^ 62) × IfNone b.entry_tick (b.undrawn ≡ nothing_undrawn) };
 }
 
 /// Leave to move octets on one lane, from the entry of one tick. It has to be spent.
-pub struct Grant {
+pub struct Grant<N = Plain> {
+    name: PhantomData<N>,
     octets: u64,
     lane: u8,
     tick: u64,
 }
 
-impl Model for Grant {
+impl<N> Model for Grant<N> {
     ghost use Rattle.grant_ledger.specs.Books.{GrantView};
 
     ghost Value = { GrantView };
@@ -53,12 +60,13 @@ impl Model for Grant {
 }
 
 /// Octets of one entry that no grant has yet. It has to be closed.
-pub struct Purse {
+pub struct Purse<N = Plain> {
+    name: PhantomData<N>,
     left: u64,
     tick: u64,
 }
 
-impl Model for Purse {
+impl<N> Model for Purse<N> {
     ghost use Rattle.grant_ledger.specs.Books.{PurseView};
 
     ghost Value = { PurseView };
@@ -67,12 +75,13 @@ impl Model for Purse {
 }
 
 /// What became of spent grants, in octets: moved, and given back. It has to be joined to another or settled.
-pub struct Tally {
+pub struct Tally<N = Plain> {
+    name: PhantomData<N>,
     moved: u64,
     back: u64,
 }
 
-impl Model for Tally {
+impl<N> Model for Tally<N> {
     ghost use Rattle.grant_ledger.specs.Books.{TallyView};
 
     ghost Value = { TallyView };
@@ -88,20 +97,28 @@ pub struct Settled {
     pub back: u64,
 }
 
-impl Book {
+impl<N> Book<N> {
     /// A book that has issued `carried` octets, and its tally, in which all of them were moved.
-    pub fn open(carried: u64) -> (Book, Tally)
+    pub fn open(carried: u64) -> (Book<N>, Tally<N>)
         requires few { carried ≤ MAX_ISSUED }
         ensures book { result.0
-            ≡ record { issued = carried; last_tick = None; undrawn = nothing_undrawn } }
+            ≡ record {
+              issued = carried;
+              last_tick = None;
+              undrawn = nothing_undrawn;
+              entry_tick = None;
+            } }
         ensures tally { result.1 ≡ record { moved = carried; back = 0 } }
     {
         let book = Book {
+            name: PhantomData,
             issued: carried,
             last_tick: None,
             undrawn: [None; MAX_LANES],
+            entry_tick: None,
         };
         let tally = Tally {
+            name: PhantomData,
             moved: carried,
             back: 0,
         };
@@ -123,7 +140,7 @@ impl Book {
         self.last_tick
     }
 
-    /// The amount of this lane in the last entry, where it is not yet drawn.
+    /// The amount of this lane in the last entry of `enter`, if it is not yet drawn.
     pub fn undrawn(&self, lane: u8) -> Option<u64>
         requires lane { lane < MAX_LANES }
         ensures undrawn { result ≡ slice_index_or self.now.undrawn lane None }
@@ -147,6 +164,7 @@ impl Book {
         ensures issued { OnOk result (self.new.issued ≡ self.old.issued + sum sealed.now.grants) }
         ensures last_tick { OnOk result (self.new.last_tick ≡ Some tick) }
         ensures undrawn { OnOk result (self.new.undrawn ≡ by_lane lanes.now sealed.now.grants) }
+        ensures entry_tick { OnOk result (self.new.entry_tick ≡ Some tick) }
         ensures best { IsBest (limits sealed.now.tree) sealed.now.grants }
         ensures refusal { MatchResult result
             (λ _. refusal self.old (sum sealed.now.grants) tick ≡ None)
@@ -155,20 +173,23 @@ impl Book {
     {
         self.admit(sealed.total(), tick)?;
         self.undrawn = amounts_by_lane(sealed.grants(), lanes);
+        self.entry_tick = Some(tick);
         Ok(())
     }
 
-    /// Issues the grants of a decision into a purse, with the refusals of `enter`.
+    /// Issues the grants of a decision into a purse, with the refusals of `enter`. Amounts of an earlier entry that are
+    /// not yet drawn stay, with the tick of that entry.
     pub fn enter_out<A: Allocator, B: Allocator>(
         &mut self,
         sealed: &Sealed<A, B>,
         tick: u64,
-    ) -> Result<Purse, BookFault>
+    ) -> Result<Purse<N>, BookFault>
         ensures purse { IfOk result
             (λ p. p ≡ record { left = sum sealed.now.grants; tick = tick }) }
         ensures issued { OnOk result (self.new.issued ≡ self.old.issued + sum sealed.now.grants) }
         ensures last_tick { OnOk result (self.new.last_tick ≡ Some tick) }
         ensures undrawn { self.new.undrawn ≡ self.old.undrawn }
+        ensures entry_tick { self.new.entry_tick ≡ self.old.entry_tick }
         ensures best { IsBest (limits sealed.now.tree) sealed.now.grants }
         ensures refusal { MatchResult result
             (λ _. refusal self.old (sum sealed.now.grants) tick ≡ None)
@@ -177,7 +198,11 @@ impl Book {
     {
         let total = sealed.total();
         self.admit(total, tick)?;
-        Ok(Purse { left: total, tick })
+        Ok(Purse {
+            name: PhantomData,
+            left: total,
+            tick,
+        })
     }
 
     // Issues this many octets, if the book takes them.
@@ -185,6 +210,7 @@ impl Book {
         ensures issued { OnOk result (self.new.issued ≡ self.old.issued + total) }
         ensures last_tick { OnOk result (self.new.last_tick ≡ Some tick) }
         ensures undrawn { self.new.undrawn ≡ self.old.undrawn }
+        ensures entry_tick { self.new.entry_tick ≡ self.old.entry_tick }
         ensures refusal { MatchResult result (λ _. refusal self.old total tick ≡ None)
             (λ e. refusal self.old total tick ≡ Some e) }
         ensures unchanged { OnErr result (self.new ≡ self.old) }
@@ -202,23 +228,26 @@ impl Book {
         Ok(())
     }
 
-    /// Hands out the amount of a lane in the last entry, which has to be there still (`undrawn` tells it).
-    pub fn draw(&mut self, lane: u8) -> Grant
+    /// Hands out the amount of a lane in the last entry of `enter`, which has to be there still (`undrawn` tells it). The
+    /// grant has the tick of that entry.
+    pub fn draw(&mut self, lane: u8) -> Grant<N>
         requires lane { lane < MAX_LANES }
         requires undrawn { IsSome (slice_index_or self.old.undrawn lane None) }
         ensures amount { slice_index_or self.old.undrawn lane None ≡ Some result.octets }
         ensures lane { result.lane ≡ lane }
-        ensures tick { self.old.last_tick ≡ Some result.tick }
+        ensures tick { self.old.entry_tick ≡ Some result.tick }
         ensures issued { self.new.issued ≡ self.old.issued }
         ensures last_tick { self.new.last_tick ≡ self.old.last_tick }
         ensures undrawn { self.new.undrawn ≡ slice_set self.old.undrawn lane None }
+        ensures entry_tick { self.new.entry_tick ≡ self.old.entry_tick }
     {
         let octets = self.undrawn[lane as usize].unwrap();
         self.undrawn[lane as usize] = None;
         Grant {
+            name: PhantomData,
             octets,
             lane,
-            tick: self.last_tick.unwrap(),
+            tick: self.entry_tick.unwrap(),
         }
     }
 }
@@ -236,12 +265,13 @@ fn amounts_by_lane(amounts: &[u64], lanes: &[u8]) -> [Option<u64>; MAX_LANES]
     undrawn
 }
 
-impl Grant {
+impl<N> Grant<N> {
     /// A grant of no octets, which needs no book.
-    pub fn none(lane: u8, tick: u64) -> Grant
+    pub fn none(lane: u8, tick: u64) -> Grant<N>
         ensures grant { result ≡ record { octets = 0; lane = lane; tick = tick } }
     {
         Grant {
+            name: PhantomData,
             octets: 0,
             lane,
             tick,
@@ -270,13 +300,14 @@ impl Grant {
     }
 
     /// Cuts off a grant of `n` of the octets.
-    pub fn cut(&mut self, n: u64) -> Grant
+    pub fn cut(&mut self, n: u64) -> Grant<N>
         requires enough { n ≤ self.old.octets }
         ensures cut { result ≡ record { octets = n; lane = self.old.lane; tick = self.old.tick } }
         ensures left { self.new ≡ record self.old { octets = self.old.octets - n } }
     {
         self.octets -= n;
         Grant {
+            name: PhantomData,
             octets: n,
             lane: self.lane,
             tick: self.tick,
@@ -285,12 +316,13 @@ impl Grant {
 
     /// Uses the grant up: so many octets were moved, and the rest is given back. The tally's sums stop at the
     /// greatest u64.
-    pub fn spend(self, moved: u64, tally: &mut Tally)
+    pub fn spend(self, moved: u64, tally: &mut Tally<N>)
         requires within { moved ≤ self.octets }
         ensures moved { tally.new.moved ≡ capped tally.old.moved moved }
         ensures back { tally.new.back ≡ capped tally.old.back (self.octets - moved) }
     {
         let Grant {
+            name: _,
             octets,
             lane: _,
             tick: _,
@@ -300,15 +332,16 @@ impl Grant {
     }
 }
 
-impl Purse {
+impl<N> Purse<N> {
     /// Takes a grant of `n` of the octets out, for a lane.
-    pub fn split(&mut self, lane: u8, n: u64) -> Grant
+    pub fn split(&mut self, lane: u8, n: u64) -> Grant<N>
         requires enough { n ≤ self.old.left }
         ensures grant { result ≡ record { octets = n; lane = lane; tick = self.old.tick } }
         ensures left { self.new ≡ record self.old { left = self.old.left - n } }
     {
         self.left -= n;
         Grant {
+            name: PhantomData,
             octets: n,
             lane,
             tick: self.tick,
@@ -326,25 +359,37 @@ impl Purse {
     pub fn close(self)
         requires empty { self.left ≡ 0 }
     {
-        let Purse { left: _, tick: _ } = self;
+        let Purse {
+            name: _,
+            left: _,
+            tick: _,
+        } = self;
     }
 }
 
-impl Tally {
+impl<N> Tally<N> {
     /// An empty tally, for a worker of its own. It is to be joined again.
-    pub fn split(&mut self) -> Tally
+    pub fn split(&mut self) -> Tally<N>
         ensures empty { result ≡ record { moved = 0; back = 0 } }
         ensures unchanged { self.new ≡ self.old }
     {
-        Tally { moved: 0, back: 0 }
+        Tally {
+            name: PhantomData,
+            moved: 0,
+            back: 0,
+        }
     }
 
     /// Adds what the other counted. Each sum stops at the greatest u64.
-    pub fn join(&mut self, other: Tally)
+    pub fn join(&mut self, other: Tally<N>)
         ensures moved { self.new.moved ≡ capped self.old.moved other.moved }
         ensures back { self.new.back ≡ capped self.old.back other.back }
     {
-        let Tally { moved, back } = other;
+        let Tally {
+            name: _,
+            moved,
+            back,
+        } = other;
         self.moved = self.moved.saturating_add(moved);
         self.back = self.back.saturating_add(back);
     }
@@ -365,17 +410,23 @@ impl Tally {
 }
 
 /// Ends a book and a tally, and tells the numbers of both as they stand.
-pub fn settle(book: Book, tally: Tally) -> Settled
+pub fn settle<N>(book: Book<N>, tally: Tally<N>) -> Settled
     ensures issued { result.issued ≡ book.issued }
     ensures moved { result.moved ≡ tally.moved }
     ensures back { result.back ≡ tally.back }
 {
     let Book {
+        name: _,
         issued,
         last_tick: _,
         undrawn: _,
+        entry_tick: _,
     } = book;
-    let Tally { moved, back } = tally;
+    let Tally {
+        name: _,
+        moved,
+        back,
+    } = tally;
     Settled {
         issued,
         moved,

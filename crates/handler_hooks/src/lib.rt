@@ -11,4 +11,4 @@ mod hooks;
 mod run;
 
 pub use hooks::Hooks;
-pub use run::run_hooks;
+pub use run::{run_hooks, tell};

@@ -6,7 +6,8 @@ use crate::hooks::Hooks;
 use session_table::{Action, HookCall};
 use std::alloc::Allocator;
 
-fn tell<H: Hooks, A: Allocator>(hooks: &mut H, call: &HookCall<A>)
+/// Makes the call of one `Hook`.
+pub fn tell<H: Hooks, A: Allocator>(hooks: &mut H, call: &HookCall<A>)
     ensures told { H.Told hooks.old (event_of call.now) hooks.new }
 {
     match call {

@@ -1,8 +1,16 @@
--- Why a call on files of the machine may be refused.
-use Rattle.std.specs.Prelude.{◌≢◌, Result, IfErr}
+-- What a store answers where the machine refuses.
 use Rattle.virtual_tree.specs.declared.fault.StoreFault.{StoreFault}
-use Rattle.virtual_tree.specs.declared.fault.StoreFault.TheVariants.{Full}
+use Rattle.virtual_tree.specs.declared.fault.StoreFault.TheVariants as store
+use Rattle.machine_files.specs.declared.fault.MachineFault.{MachineFault}
+use Rattle.machine_files.specs.declared.fault.MachineFault.TheVariants.{NotFound, NotDir, IsDir, Exists, NotEmpty, Inside, PastEnd, Device, Memory}
 
--- a full disk is a fault of the device
-abbrev pub NeverFull : {X : Type 0} → Result X StoreFault → Type 0
-NeverFull answer = IfErr answer (λ fault. fault ≢ Full)
+abbrev pub store_fault : MachineFault → StoreFault
+store_fault NotFound = store.NotFound
+store_fault NotDir = store.NotDir
+store_fault IsDir = store.IsDir
+store_fault Exists = store.Exists
+store_fault NotEmpty = store.NotEmpty
+store_fault Inside = store.Inside
+store_fault PastEnd = store.PastEnd
+store_fault Device = store.Device
+store_fault Memory = store.Memory

@@ -16,10 +16,12 @@
 //! ```
 #![tactic(auto)]
 
+mod fault;
 mod look;
 mod machine_path;
 mod open;
 
+pub use fault::MachineFault;
 pub use look::{fault_of, meta_of};
 pub use machine_path::{MachinePath, enter};
 pub use open::{DirSink, DirSource, flushed, read_behind, write_at_end, write_behind, write_new};

@@ -5,6 +5,7 @@ ghost use Rattle.std.specs.IoError.{error_kind};
 ghost use Rattle.machine_files.specs.Times.{shown};
 ghost use Rattle.machine_files.specs.Told.{IsTold, IsNeither};
 
+use crate::fault::MachineFault;
 use ftp_terms::{Kind, LATEST, Meta};
 use std::fs::Metadata;
 use std::io;
@@ -13,27 +14,26 @@ use std::os::unix::fs::MetadataExt;
 use virtual_tree::StoreFault;
 
 /// Why a call was refused, by the machine's own word for it. A full disk is a fault of the device.
-pub fn fault_of(error: &io::Error) -> StoreFault
-    ensures full { result ≢ StoreFault.Full }
-    ensures none { error_kind error.now ≡ ErrorKind.NotFound → result ≡ StoreFault.NotFound }
-    ensures file { error_kind error.now ≡ ErrorKind.NotADirectory → result ≡ StoreFault.NotDir }
-    ensures directory { error_kind error.now ≡ ErrorKind.IsADirectory → result ≡ StoreFault.IsDir }
-    ensures stands { error_kind error.now ≡ ErrorKind.AlreadyExists → result ≡ StoreFault.Exists }
+pub fn fault_of(error: &io::Error) -> MachineFault
+    ensures none { error_kind error.now ≡ ErrorKind.NotFound → result ≡ MachineFault.NotFound }
+    ensures file { error_kind error.now ≡ ErrorKind.NotADirectory → result ≡ MachineFault.NotDir }
+    ensures directory { error_kind error.now ≡ ErrorKind.IsADirectory → result ≡ MachineFault.IsDir }
+    ensures stands { error_kind error.now ≡ ErrorKind.AlreadyExists → result ≡ MachineFault.Exists }
     ensures bare { error_kind error.now ≡ ErrorKind.DirectoryNotEmpty
-        → result ≡ StoreFault.NotEmpty }
-    ensures memory { error_kind error.now ≡ ErrorKind.OutOfMemory → result ≡ StoreFault.Memory }
+        → result ≡ MachineFault.NotEmpty }
+    ensures memory { error_kind error.now ≡ ErrorKind.OutOfMemory → result ≡ MachineFault.Memory }
     ensures denied { error_kind error.now ≡ ErrorKind.PermissionDenied
-        → result ≡ StoreFault.Device }
-    ensures disk { error_kind error.now ≡ ErrorKind.StorageFull → result ≡ StoreFault.Device }
+        → result ≡ MachineFault.Device }
+    ensures disk { error_kind error.now ≡ ErrorKind.StorageFull → result ≡ MachineFault.Device }
 {
     match error.kind() {
-        ErrorKind::NotFound => StoreFault::NotFound,
-        ErrorKind::NotADirectory => StoreFault::NotDir,
-        ErrorKind::IsADirectory => StoreFault::IsDir,
-        ErrorKind::AlreadyExists => StoreFault::Exists,
-        ErrorKind::DirectoryNotEmpty => StoreFault::NotEmpty,
-        ErrorKind::OutOfMemory => StoreFault::Memory,
-        _ => StoreFault::Device,
+        ErrorKind::NotFound => MachineFault::NotFound,
+        ErrorKind::NotADirectory => MachineFault::NotDir,
+        ErrorKind::IsADirectory => MachineFault::IsDir,
+        ErrorKind::AlreadyExists => MachineFault::Exists,
+        ErrorKind::DirectoryNotEmpty => MachineFault::NotEmpty,
+        ErrorKind::OutOfMemory => MachineFault::Memory,
+        _ => MachineFault::Device,
     }
 }
 

@@ -2,8 +2,8 @@
 
 ghost use Rattle.std.specs.Prelude.{◌≡◌, ◌++◌, ◌∷◌, IfOk, IfSome, OnOk, string_bytes};
 ghost use Rattle.machine_files.specs.MachinePaths.{IsEntered, IsOpenText, open_text};
-ghost use Rattle.machine_files.specs.Refusals.{NeverFull};
 
+use crate::fault::MachineFault;
 use crate::look::{fault_of, identity_of, is_same};
 use std::alloc::{AllocError, Allocator};
 use std::fs::{Metadata, OpenFile};
@@ -12,7 +12,6 @@ use std::marker::Model;
 use std::os::fd::AsRawFd;
 use std::rt::Files;
 use std::{fs, io};
-use virtual_tree::StoreFault;
 
 /// A path of the machine. It may lead through a directory that is held open, and then to what stands
 /// in that very directory, whatever became of the directory's name.
@@ -76,10 +75,9 @@ pub fn enter<R: Files + Alloc>(
     rt: &R,
     path: &mut MachinePath<R::File, R::A>,
     looked: &Metadata,
-) -> Result<(), StoreFault>
+) -> Result<(), MachineFault>
 where
     R::File: AsRawFd,
-    ensures full { NeverFull result }
     ensures entered { OnOk result (IsEntered path.old path.new) }
 {
     let Some(file) = opened(rt, path.text(), looked)? else {
@@ -97,31 +95,30 @@ fn opened<R: Files + Alloc>(
     rt: &R,
     path: &str,
     looked: &Metadata,
-) -> Result<Option<R::File>, StoreFault>
-    ensures full { NeverFull result }
-{
+) -> Result<Option<R::File>, MachineFault> {
     // Behind a slash stands a directory alone, so no pipe can hold the call.
     let folder = format!(in rt.alloc(); "{path}/")?;
     match fs::open(rt, folder.as_str()) {
         Ok(file) => that_directory(file, looked),
         Err(error) => match error.kind() {
             ErrorKind::PermissionDenied => Ok(None),
-            ErrorKind::NotADirectory => Err(StoreFault::NotFound),
+            ErrorKind::NotADirectory => Err(MachineFault::NotFound),
             _ => Err(fault_of(&error)),
         },
     }
 }
 
 /// The directory that was opened, where it is the one that was looked at.
-fn that_directory<F: OpenFile + Drop>(file: F, looked: &Metadata) -> Result<Option<F>, StoreFault>
-    ensures full { NeverFull result }
-{
+fn that_directory<F: OpenFile + Drop>(
+    file: F,
+    looked: &Metadata,
+) -> Result<Option<F>, MachineFault> {
     match file.metadata() {
         Ok(metadata) => {
             if is_same(identity_of(looked), identity_of(&metadata)) {
                 Ok(Some(file))
             } else {
-                Err(StoreFault::NotFound)
+                Err(MachineFault::NotFound)
             }
         }
         Err(error) => Err(fault_of(&error)),
@@ -133,10 +130,9 @@ fn text_of<R: Files + Alloc>(
     rt: &R,
     file: &R::File,
     looked: &Metadata,
-) -> Result<Option<String<R::A>>, StoreFault>
+) -> Result<Option<String<R::A>>, MachineFault>
 where
     R::File: AsRawFd,
-    ensures full { NeverFull result }
     ensures open { IfOk result (λ found. IfSome found (λ text. IsOpenText (string_bytes text))) }
 {
     let text = open_text(rt.alloc(), file)?;
@@ -158,9 +154,7 @@ fn open_text<F: AsRawFd, A: Allocator>(alloc: A, file: &F) -> Result<String<A>, 
 
 /// Whether what stands at a path is the directory that was looked at; no, where the machine tells
 /// nothing of the path.
-fn leads_to(found: io::Result<Metadata>, looked: &Metadata) -> Result<bool, StoreFault>
-    ensures full { NeverFull result }
-{
+fn leads_to(found: io::Result<Metadata>, looked: &Metadata) -> Result<bool, MachineFault> {
     match found {
         Ok(metadata) => Ok(is_same(identity_of(looked), identity_of(&metadata))),
         Err(error) => match error.kind() {

@@ -1,17 +1,30 @@
 //! Open files of the machine.
 
-ghost use Rattle.std.specs.Prelude.{None};
-ghost use Rattle.machine_files.specs.Refusals.{NeverFull};
+ghost use Rattle.std.specs.Prelude.{◌≡◌, ◌-◌, ◌<◌, ◌≤◌, length, None, IfOk, IfErr, OnErr};
+ghost use Rattle.std.specs.Io.KnownBytes.{ReadConsumes};
+ghost use Rattle.virtual_tree.specs.Calls.{IsEndFault};
 
+use crate::fault::MachineFault;
 use crate::look::{end_fault, fault_of, identity_of, is_same};
 use std::fs::{Metadata, OpenFile};
 use std::io::{Read, Seek, SeekFrom, Write};
+use std::marker::Model;
 use virtual_tree::{Sink, Source, StoreFault};
 
-/// A file that is read. What it holds is the machine's to say.
+/// A file that is read. What it holds is the machine's to say; how much it is to give at least is known from its length
+/// when it was opened.
 #[derive(Drop)]
 pub struct DirSource<F: Read + Drop> {
     file: F,
+    left: u64,
+}
+
+impl<F: Read + Drop> Model for DirSource<F> {
+    ghost use Rattle.std.specs.Prelude.{ℕ};
+
+    ghost Value = { ℕ };
+
+    ghost view = { λ source. source.left };
 }
 
 /// A file that is written: the octets stand in it as they come.
@@ -23,9 +36,24 @@ pub struct DirSink<F: Write + Drop> {
 impl<F: Read + Drop> Source for DirSource<F> {
     ghost remaining = { λ _. None };
 
-    fn read(&mut self, buffer: &mut [u8]) -> Result<usize, StoreFault> {
+    // A file that ends before it has given what it was to give was cut off meanwhile: that is a fault of the device.
+    fn read(&mut self, buffer: &mut [u8]) -> Result<usize, StoreFault>
+        ensures bound { IfOk result (λ count. count ≤ length buffer.new) }
+        ensures octets { ReadConsumes None None result buffer.new }
+        ensures refusal { IfErr result (IsEndFault None) }
+        ensures left { IfOk result (λ count. self.new ≡ self.old - count) }
+        ensures whole { IfOk result
+            (λ count. count ≡ 0 → 0 < length buffer.old → self.old ≡ 0) }
+        ensures kept { OnErr result (self.new ≡ self.old) }
+    {
         match self.file.read(buffer) {
-            Ok(count) => Ok(count),
+            Ok(count) => {
+                if count == 0 && self.left > 0 && !buffer.is_empty() {
+                    return Err(StoreFault::Device);
+                }
+                self.left = self.left.saturating_sub(count as u64);
+                Ok(count)
+            }
             Err(error) => Err(end_fault(&error)),
         }
     }
@@ -46,9 +74,7 @@ impl<F: Write + Drop> Sink for DirSink<F> {
 
 /// The length of a file that was just opened. It has to be the one that was looked at before: else
 /// another entry came to its place, and the file that was looked at is not found there.
-fn length_of<F: OpenFile>(file: &F, looked: &Metadata) -> Result<u64, StoreFault>
-    ensures full { NeverFull result }
-{
+fn length_of<F: OpenFile>(file: &F, looked: &Metadata) -> Result<u64, MachineFault> {
     match file.metadata() {
         Ok(metadata) => {
             let is_same = is_same(identity_of(looked), identity_of(&metadata));
@@ -56,16 +82,14 @@ fn length_of<F: OpenFile>(file: &F, looked: &Metadata) -> Result<u64, StoreFault
             if is_that_file {
                 Ok(metadata.len())
             } else {
-                Err(StoreFault::NotFound)
+                Err(MachineFault::NotFound)
             }
         }
         Err(error) => Err(fault_of(&error)),
     }
 }
 
-fn seek_to<F: Seek + Drop>(mut file: F, to: SeekFrom) -> Result<F, StoreFault>
-    ensures full { NeverFull result }
-{
+fn seek_to<F: Seek + Drop>(mut file: F, to: SeekFrom) -> Result<F, MachineFault> {
     match file.seek(to) {
         Ok(_) => Ok(file),
         Err(error) => Err(fault_of(&error)),
@@ -77,15 +101,14 @@ pub fn read_behind<F: Read + Seek + OpenFile + Drop>(
     file: F,
     looked: &Metadata,
     offset: u64,
-) -> Result<DirSource<F>, StoreFault>
-    ensures full { NeverFull result }
-{
+) -> Result<DirSource<F>, MachineFault> {
     let length = length_of(&file, looked)?;
     if length < offset {
-        return Err(StoreFault::PastEnd);
+        return Err(MachineFault::PastEnd);
     }
     let file = seek_to(file, SeekFrom::Start(offset))?;
-    Ok(DirSource { file })
+    let left = length - offset;
+    Ok(DirSource { file, left })
 }
 
 /// A new file to write.
@@ -98,12 +121,10 @@ pub fn write_behind<F: Write + Seek + OpenFile + Drop>(
     file: F,
     looked: &Metadata,
     offset: u64,
-) -> Result<DirSink<F>, StoreFault>
-    ensures full { NeverFull result }
-{
+) -> Result<DirSink<F>, MachineFault> {
     let length = length_of(&file, looked)?;
     if length < offset {
-        return Err(StoreFault::PastEnd);
+        return Err(MachineFault::PastEnd);
     }
     file.set_len(offset).map_err(|error| fault_of(&error))?;
     let file = seek_to(file, SeekFrom::Start(offset))?;
@@ -114,17 +135,13 @@ pub fn write_behind<F: Write + Seek + OpenFile + Drop>(
 pub fn write_at_end<F: Write + OpenFile + Drop>(
     file: F,
     looked: &Metadata,
-) -> Result<DirSink<F>, StoreFault>
-    ensures full { NeverFull result }
-{
+) -> Result<DirSink<F>, MachineFault> {
     let _length = length_of(&file, looked)?;
     Ok(DirSink { file })
 }
 
 /// What came is handed to the machine.
-pub fn flushed<F: Write + Drop>(sink: DirSink<F>) -> Result<(), StoreFault>
-    ensures full { NeverFull result }
-{
+pub fn flushed<F: Write + Drop>(sink: DirSink<F>) -> Result<(), MachineFault> {
     let DirSink { mut file } = sink;
     file.flush().map_err(|error| fault_of(&error))
 }

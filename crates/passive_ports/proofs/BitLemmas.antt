@@ -1,10 +1,10 @@
 -- One bit of a list of words.
-use Rattle.std.proofs.Common.{◌≡◌, ◌≢◌, ℕ, ◌+◌, ◌-◌, ◌*◌, ◌/◌, ◌%◌, ◌^◌, ◌<◌, ◌≤◌, Bool, true, false, List, length, get_or, slice_set, nat_eq, refl, sym, ap, ◌∙◌, ⊎_elim, arith}
+use Rattle.std.proofs.Common.{◌≡◌, ◌≢◌, ℕ, ◌+◌, ◌-◌, ◌*◌, ◌/◌, ◌%◌, ◌^◌, ◌<◌, Bool, true, false, List, length, get_or, slice_set, nat_eq, refl, sym, ap, ◌∙◌, ⊎_elim, arith}
 use Rattle.std.specs.Int.{bit_at, w64, trailing_ones}
-use Rattle.std.proofs.lemmas.Bool.{cases_eq, cases_lt, eqb-true, eq-eqb, false≢true}
+use Rattle.std.proofs.lemmas.Bool.{cases_eq, cases_lt}
 use Rattle.std.proofs.lemmas.List.{get_or-set_same, get_or-set_other}
 use Rattle.std.proofs.lemmas.Nat.Bits.{bit_at_ones, bit_at-trailing_ones}
-use Rattle.passive_ports.specs.Bits.{has_bit, PutsBit, IsLowestClear, AreAllSet, Summarizes}
+use Rattle.passive_ports.specs.Bits.{has_bit, PutsBit, IsLowestClear}
 
 pub is_set : (words : List ℕ) (k w i : ℕ) → k / 64 ≡ w → k % 64 ≡ i → bit_at (get_or words w 0) i ≡ 1 → has_bit words k ≡ true
 is_set words k w i at_word at_bit one = ap (λ b. nat_eq b 1) ((λ j. bit_at (get_or words (at_word j) 0) (at_bit j)) ∙ one)
@@ -47,24 +47,3 @@ lowest_in_word words w within fits not_full full =
           (λ here. let at_word : other / 64 ≡ w = omega arith in is_set words other w (other % 64) at_word refl (bits.2 (other % 64) (omega arith)))
           (cases_lt (other / 64) w);
     }
-
-full_by_summary : (full words : List ℕ) (w : ℕ) → Summarizes full words → w < length words → has_bit full w ≡ true → get_or words w 0 ≡ 2 ^ 64 - 1
-full_by_summary full words w sums within set = eqb-true _ _ (sym (sums w within) ∙ set)
-
--- each word that there is has its bit set in the summary
-pub all_set : (full words : List ℕ) → Summarizes full words → ((w : ℕ) → w < length words → has_bit full w ≡ true) → AreAllSet words
-all_set full words sums each k within =
-    let there : k / 64 < length words = omega arith in full_word words k (full_by_summary full words (k / 64) sums there (each (k / 64) there))
-
-pub all_set_by_summary : (full words : List ℕ) → Summarizes full words → length words ≤ 64 * length full → AreAllSet full → AreAllSet words
-all_set_by_summary full words sums covers all = all_set full words sums (λ w within. all w (omega arith))
-
-pub all_set_below : (full words : List ℕ) (lowest : ℕ) → Summarizes full words → IsLowestClear full lowest → length words ≤ lowest → AreAllSet words
-all_set_below full words lowest sums is past = all_set full words sums (λ w within. is.below w (omega arith))
-
-pub lowest_by_summary : (full words : List ℕ) (w : ℕ) → Summarizes full words → IsLowestClear full w → w < length words → get_or words w 0 < 2 ^ 64
-    → IsLowestClear words (64 * w + trailing_ones w64 (get_or words w 0))
-lowest_by_summary full words w sums is within fits =
-    lowest_in_word words w within fits
-    (λ is_full. false≢true (sym is.is_clear ∙ sums w within ∙ eq-eqb _ _ is_full))
-    (λ v less. full_by_summary full words v sums (omega arith) (is.below v less))

@@ -1,7 +1,7 @@
-//! A row of bits whose lowest clear bit is found by reading a few words.
+//! A row of bits whose lowest clear bit is found word by word.
 
 ghost use Rattle.std.specs.Prelude.{◌≡◌, ℕ, ◌*◌, ◌/◌, ◌<◌, ◌≤◌, false, length, replicate, IfOk, MatchOption};
-ghost use Rattle.passive_ports.specs.Bits.{has_bit, PutsBit, KeepsOtherWords, IsLowestClear, AreAllSet, IsBitmap};
+ghost use Rattle.passive_ports.specs.Bits.{has_bit, PutsBit, IsLowestClear, AreAllSet};
 
 use std::alloc::{AllocError, Allocator, Global};
 use std::marker::Model;
@@ -13,35 +13,30 @@ pub const MAX_WORDS: usize = 1024;
 #[derive(Drop)]
 pub struct Bitmap<A: Allocator = Global> {
     words: Vec<u64, A>,
-    // one bit for each word: whether all of its bits are set
-    full: Vec<u64, A>,
 }
 
 impl<A: Allocator> Model for Bitmap<A> {
-    ghost use Rattle.std.specs.Prelude.{ℕ, List};
-    ghost use Rattle.passive_ports.specs.Bits.{IsBitmap};
+    ghost use Rattle.std.specs.Prelude.{ℕ, List, ◌≤◌, length};
+    ghost use Rattle.passive_ports.specs.declared.bitmap.TheConstants.{MAX_WORDS};
 
     ghost Value = { List ℕ };
 
     ghost view = { λ inside. inside.words.items };
 
-    ghost invariant = { λ inside. IsBitmap inside.words.items inside.full.items };
+    ghost invariant = { λ inside. length inside.words.items ≤ MAX_WORDS };
 }
 
-impl<A: Allocator + Clone> Bitmap<A> {
+impl<A: Allocator> Bitmap<A> {
     /// Clear bits, from 0 to at least `last`.
     pub fn new(alloc: A, last: u16) -> Result<Bitmap<A>, AllocError>
         ensures room { IfOk result (λ words. last < 64 * length words) }
         ensures clear { IfOk result (λ words. (k : ℕ) → has_bit words k ≡ false) }
     {
         let count = usize::from(last) / 64 + 1;
-        let words = zeros(alloc.clone()?, count)?;
-        let full = zeros(alloc, count.div_ceil(64))?;
-        Ok(Bitmap { words, full })
+        let words = zeros(alloc, count)?;
+        Ok(Bitmap { words })
     }
-}
 
-impl<A: Allocator> Bitmap<A> {
     pub fn is_set(&self, place: usize) -> bool
         requires { place < 64 * length self.now }
         ensures bit { result ≡ has_bit self.now place }
@@ -55,15 +50,13 @@ impl<A: Allocator> Bitmap<A> {
         ensures len { length self.new ≡ length self.old }
     {
         write_bit(&mut self.words, place, value);
-        let is_full = self.words[place / 64] == u64::MAX;
-        write_bit(&mut self.full, place / 64, is_full);
     }
 
-    /// The lowest clear bit, found by reading at most 17 words of 65,536 bits.
+    /// The lowest clear bit: of 65,536 bits, at most 1,024 words are read.
     pub fn lowest_clear(&self) -> Option<usize>
         ensures lowest { MatchOption result (AreAllSet self.now) (IsLowestClear self.now) }
     {
-        find_clear_by_summary(&self.words, &self.full)
+        find_clear(&self.words)
     }
 }
 
@@ -83,7 +76,6 @@ fn read_bit(words: &[u64], place: usize) -> bool
 fn write_bit(words: &mut [u64], place: usize, value: bool)
     requires { place / 64 < length words.old }
     ensures put { PutsBit words.old words.new place value }
-    ensures other_words { KeepsOtherWords words.old words.new place }
 {
     let mask = 1u64 << (place % 64);
     if value {
@@ -104,16 +96,4 @@ fn find_clear(words: &[u64]) -> Option<usize>
         }
     }
     None
-}
-
-/// The lowest clear bit, found in the first word that is not full.
-fn find_clear_by_summary(words: &[u64], full: &[u64]) -> Option<usize>
-    requires { IsBitmap words.now full.now }
-    ensures lowest { MatchOption result (AreAllSet words.now) (IsLowestClear words.now) }
-{
-    let index = find_clear(full)?;
-    if index >= words.len() {
-        return None;
-    }
-    Some(64 * index + words[index].trailing_ones() as usize)
 }

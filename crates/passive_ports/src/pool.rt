@@ -34,7 +34,7 @@ impl<A: Allocator> Model for PortPool<A> {
     ghost invariant = { λ inside. IsPool inside.first inside.last inside.leased };
 }
 
-impl<A: Allocator + Clone> PortPool<A> {
+impl<A: Allocator> PortPool<A> {
     /// The ports from `first` to `last`, all free. No later call takes memory.
     pub fn new(alloc: A, first: u16, last: u16) -> Result<PortPool<A>, PoolFault>
         ensures opened { IfOk result (λ ports. ports ≡ opened first last) }
@@ -50,9 +50,7 @@ impl<A: Allocator + Clone> PortPool<A> {
             leased,
         })
     }
-}
 
-impl<A: Allocator> PortPool<A> {
     /// Leases the lowest free port. All are leased: none.
     pub fn lease(&mut self) -> Option<u16>
         ensures lowest { IfSome result (IsLowestFree self.old) }

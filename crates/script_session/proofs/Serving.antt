@@ -1,11 +1,11 @@
 -- A session on the data side of a script.
 use Rattle.std.proofs.Common.{ℕ, List, Option, Result, Ok, Err, OnOk}
 use Rattle.authorizer.specs.Users.{Users}
-use Rattle.control_session.specs.Sessions.{IsSession}
-use Rattle.control_session.specs.declared.fault.ControlFault.{ControlFault}
-use Rattle.control_session.specs.Sides.{SideCall}
+use Rattle.script_control.specs.Sessions.{IsSession}
+use Rattle.script_control.specs.declared.fault.ControlFault.{ControlFault}
+use Rattle.script_control.specs.Sides.{SideCall}
 use Rattle.rate_floors.specs.Promises.{Promises}
-use Rattle.control_session.specs.Steps.{Standing}
+use Rattle.script_control.specs.Steps.{Standing}
 use Rattle.virtual_tree.specs.Calls.{Exchange}
 
 -- the data side that is left is some data side

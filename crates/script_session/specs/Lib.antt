@@ -1,3 +1,3 @@
 pub mod Scripts
-pub use Rattle.control_session.specs.Sessions
-pub use Rattle.control_session.specs.declared.fault.ControlFault
+pub use Rattle.script_control.specs.Sessions
+pub use Rattle.script_control.specs.declared.fault.ControlFault

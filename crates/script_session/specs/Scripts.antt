@@ -1,7 +1,7 @@
 -- The clock and the data side of a session without sockets.
 use Rattle.std.specs.Prelude.{ℕ, ◌≡◌, List, [], ◌∷◌, Option, Some, None}
-use Rattle.control_session.specs.Sides.{SideCall}
-use Rattle.control_session.specs.Sides.SideCall.{Opens, Connects, Drops, Runs}
+use Rattle.script_control.specs.Sides.{SideCall}
+use Rattle.script_control.specs.Sides.SideCall.{Opens, Connects, Drops, Runs}
 use Rattle.session_table.specs.declared.actions.Job.{Job}
 use Rattle.session_table.specs.declared.actions.Job.TheVariants.{Text, SendFile, TakeFile}
 use Rattle.session_table.specs.declared.inputs.End.{End}

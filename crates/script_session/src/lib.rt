@@ -24,6 +24,6 @@
 mod script;
 mod side;
 
-pub use control_session::ControlFault;
 pub use script::serve_text;
+pub use script_control::ControlFault;
 pub use side::{ScriptSide, StillClock};

@@ -1,7 +1,7 @@
 //! A control session without sockets.
 
 ghost use Rattle.std.specs.Prelude.{◌≡◌, ◌⊎◌, ◌<◌, OnErr, OnOk};
-ghost use Rattle.control_session.specs.Sessions.{IsBroken, IsSession, greeting_of, new_session};
+ghost use Rattle.script_control.specs.Sessions.{IsBroken, IsSession, greeting_of, new_session};
 ghost use Rattle.memory_store.specs.InMemory.{InMemory};
 ghost use Rattle.script_session.specs.Scripts.{AnswersScript, IsFirst, home_address};
 ghost use Rattle.script_session.specs.declared.side.ScriptSide.{ScriptSide};
@@ -10,9 +10,9 @@ ghost use Rattle.text_ends.specs.Parts.{AppendsPart};
 
 use crate::side::{ScriptSide, StillClock};
 use authorizer::Authorizer;
-use control_session::{ControlFault, Reads, run_control};
 use memory_store::MemStore;
 use rate_floors::Floors;
+use script_control::{ControlFault, Reads, run_control};
 use session_table::Settings;
 use std::alloc::{Allocator, Global};
 use std::marker::Brand;

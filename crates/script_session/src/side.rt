@@ -4,9 +4,9 @@ ghost use Rattle.std.specs.Prelude.{None};
 ghost use Rattle.session_table.specs.declared.actions.Job.TheVariants.{Text, SendFile, TakeFile};
 ghost use Rattle.script_session.specs.Scripts.{IsFirst, IsSent, AnswersScript};
 
-use control_session::{DataSide, Moments};
 use ftp_terms::DataType;
 use ftp_wire::HostPort;
+use script_control::{DataSide, Moments};
 use session_table::{End, Octets};
 use std::alloc::Allocator;
 use virtual_tree::{Source, StoreFault};
@@ -63,7 +63,7 @@ fn take_whole<R: Source>(source: R) -> End
 }
 
 impl<A: Allocator, R: Source, K: Drop> DataSide<A, R, K> for ScriptSide {
-    ghost use Rattle.control_session.specs.Sides.SideCall.{Runs};
+    ghost use Rattle.script_control.specs.Sides.SideCall.{Runs};
 
     ghost Asks = { AnswersScript };
 

@@ -11,9 +11,12 @@
 #![tactic(auto)]
 
 mod asking;
+mod events;
 mod served;
 mod session;
 mod settled;
 mod turns;
 
+pub use events::DataEvent;
 pub use session::{MOST_HELD, Session};
+pub use session_events::{Leaving, LoggedOut};

@@ -7,12 +7,13 @@ ghost use Rattle.session_core.specs.Turns.{IsTaken, closed_at, gives_up, ready_a
 ghost use Rattle.session_table.specs.declared.actions.Action.TheVariants.{Abort};
 ghost use Rattle.session_table.specs.declared.inputs.Input.TheVariants.{Held, Line};
 
+use crate::events::lacking;
 use crate::served::serve;
 use crate::turns::{Turn, turn_of};
 use authorizer::Authorizer;
 use ftp_wire::LineItem;
 use rate_floors::Floors;
-use session_events::{close, end_transfer, take_port};
+use session_events::{close, take_port};
 use session_login::greet;
 use session_state::{State, put, with_room};
 use session_table::{Action, Answer, Control, Input, Refusal, Settings, Stage};
@@ -26,8 +27,8 @@ pub const MOST_HELD: usize = 16;
 /// A control connection, from its greeting to its end.
 #[derive(Drop)]
 pub struct Session<A: Allocator = Global> {
-    state: State<A>,
-    held: Vec<LineItem<A>, A>,
+    pub(crate) state: State<A>,
+    pub(crate) held: Vec<LineItem<A>, A>,
 }
 
 impl<A: Allocator> Model for Session<A> {
@@ -78,7 +79,7 @@ impl<A: Allocator + Clone> Session<A> {
         greet(&self.state)
     }
 
-    fn is_closed(&self) -> bool
+    pub(crate) fn is_closed(&self) -> bool
         ensures closed { result ≡ is_closed self.now.view.stage }
     {
         self.state.stage() == Stage::Closed
@@ -256,7 +257,7 @@ impl<A: Allocator + Clone> Session<A> {
     }
 
     /// A passive port came, or none was free; behind CloseControl and Closed it counts no more.
-    fn take_port<R: Drop, K: Drop>(
+    pub(crate) fn take_port<R: Drop, K: Drop>(
         &mut self,
         users: &Authorizer<A>,
         port: Option<u16>,
@@ -289,8 +290,8 @@ impl<A: Allocator + Clone> Session<A> {
     /// What an input makes of the session, and what is to be done: the row of the session table. The
     /// moment is in milliseconds since 1970.
     ///
-    /// `Err` is want of memory: the session and the floors are then as they were, and the store is as
-    /// looks at it, if any, leave it.
+    /// `Err` is lack of memory: the session and the floors are then as they were, the store is as looks at it, if any,
+    /// leave it, and a sink that came back is dropped. `take_event` gives it back instead.
     pub fn step<F: Allocator + Clone, S: Store<A>>(
         &mut self,
         users: &Authorizer<A>,
@@ -316,7 +317,8 @@ impl<A: Allocator + Clone> Session<A> {
             Input::Line(item) => self.take_line(users, floors, store, item, moment),
             Input::Held => self.take_held(users, floors, store, moment),
             Input::TransferEnded { end, sink } => {
-                end_transfer(&mut self.state, users, store, end, sink, moment)
+                let answer = self.take_end(users, store, end, sink, moment);
+                lacking(answer)
             }
             Input::DataReady(port) => self.take_port(users, port),
             Input::Closed => self.close(),

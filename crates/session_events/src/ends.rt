@@ -1,11 +1,13 @@
 //! The end of a transfer (RFC 959, sections 4.2 and 5.4).
 
-ghost use Rattle.std.specs.Prelude.{◌≡◌, ◌≤◌, ◌<◌, ◌+◌, ◌++◌, [], IfOk, OnErr, vec_len, vec_capacity};
+ghost use Rattle.std.specs.Prelude.{◌≡◌, ◌≤◌, ◌<◌, ◌+◌, ◌++◌, [], IfOk, OnErr, true, vec_len, vec_capacity};
 ghost use Rattle.session_table.specs.Plans.{Ran};
 ghost use Rattle.session_table.specs.Plans.Plan.{Then};
 ghost use Rattle.session_table.specs.StateRows.{farewell};
 ghost use Rattle.session_table.specs.Table.{and_quits, end_hook, end_reply, end_row, end_told, ended_row, ended_with};
-ghost use Rattle.session_table.specs.Views.{carried};
+ghost use Rattle.session_table.specs.Views.{carried, is_closed};
+ghost use Rattle.authorizer.specs.Users.{Users};
+ghost use Rattle.session_table.specs.declared.inputs.End.{End};
 ghost use Rattle.session_table.specs.Views.Begun.{Idle};
 
 use authorizer::Authorizer;
@@ -221,33 +223,56 @@ fn end_within<A: Allocator + Clone, S: Store<A>>(
     }
 }
 
-/// The end of a transfer. A sink that came back is finished in every case. The moment is in
-/// milliseconds since 1970.
+/// The end of a transfer. A sink that came back is finished in every case; where memory runs out, it is left where it is,
+/// and nothing is done. The moment is in milliseconds since 1970.
 pub fn end_transfer<A: Allocator + Clone, S: Store<A>>(
     state: &mut State<A>,
     users: &Authorizer<A>,
     store: &mut S,
     end: End,
-    sink: Option<S::Sink>,
+    sink: &mut Option<S::Sink>,
     moment: u64,
 ) -> Result<Vec<Action<A, S::Source, S::Sink>, A>, AllocError>
     ensures row { IfOk result (λ actions.
-        Ran S.Step (ended_row users.now.users state.old moment end sink)
+        Ran S.Step (ended_row users.now.users state.old moment end sink.old)
         store.old store.new state.new actions.items) }
     ensures unchanged { OnErr result (state.new ≡ state.old) }
     ensures untouched { OnErr result (store.new ≡ store.old) }
+    ensures kept { OnErr result (sink.new ≡ sink.old) }
 {
     let mut actions = room(state, 6)?;
     let parting = Farewell::new(state, users)?;
+    let came = sink.take();
     end_within(
         state,
         users,
         store,
         parting,
         end,
-        sink,
+        came,
         moment,
         &mut actions,
     );
     Ok(actions)
+}
+
+/// The end of a transfer after the control connection has gone: a sink that came back is finished, and nothing is to be
+/// done. It takes no memory.
+pub fn finish<A: Allocator + Clone, S: Store<A>>(
+    state: &mut State<A>,
+    store: &mut S,
+    sink: Option<S::Sink>,
+    moment: u64,
+)
+    requires closed { is_closed state.old.stage ≡ true }
+    ensures row { (users : Users) (end : End) →
+        Ran {A = A} {R = S.Source} S.Step (ended_row users state.old moment end sink)
+        store.old store.new state.new [] }
+    ensures closed { is_closed state.new.stage ≡ true }
+{
+    if let Some(_errand) = state.end_transfer() {
+        if let Some(sink) = sink {
+            let _ = store.finish(sink, moment);
+        }
+    }
 }

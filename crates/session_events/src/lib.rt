@@ -2,7 +2,7 @@
 //! control connection.
 //!
 //! ```text
-//! let told = end_transfer(state, users, store, End::Done, None, 0);
+//! let told = end_transfer(state, users, store, End::Done, &mut None, 0);
 //! says(rt, told, "226 Transfer complete\r\n"); // and the replies to the lines that waited
 //! state.await_port(Passive::Plain);
 //! let told = take_port(state, users, Some(40_000));
@@ -15,6 +15,6 @@ mod closing;
 mod ends;
 mod ready;
 
-pub use closing::close;
-pub use ends::end_transfer;
+pub use closing::{Leaving, LoggedOut, close, leave};
+pub use ends::{end_transfer, finish};
 pub use ready::take_port;

@@ -10,9 +10,9 @@ use Rattle.virtual_tree.specs.Calls.{Exchange}
 use Rattle.virtual_tree.specs.Calls.Exchange.{Stat, Listing, OpenRead, OpenWrite, Finish, MakeDir, RemoveDir, RemoveFile, Rename}
 use Rattle.virtual_tree.specs.declared.fault.StoreFault.{StoreFault}
 use Rattle.session_laws.specs.Always.{Always}
-use Rattle.session_laws.specs.Laws.{CallsAreRightful, FewLinesAreHeld, FloorsAreReleasedOnce, NoCallsOutside, NoTransferUnprepared, OneThingIsAsked, IsAllowedCall, IsReturned, IsRightful, Releases, admitted_by, asking, logged_in, most_asked, releases, starting}
+use Rattle.session_laws.specs.Laws.{CallsAreRightful, FewLinesAreHeld, FloorsAreReleasedOnce, NoCallsOutside, NoTransferUnprepared, OneThingIsAsked, IsAllowedCall, IsReturned, IsRightful, Releases, admitted_by, admitted_in, asking, logged_in, most_asked, releases, starting}
 use Rattle.session_laws.proofs.Keeping.{always_cond, always_taken, always_to}
-use Rattle.session_laws.proofs.Rows.{CallFor, Fine, Quiet, parting, quiet_then, served_fine, stays}
+use Rattle.session_laws.proofs.Rows.{CallFor, Fine, Quiet, nobody, parting, quiet_then, served_fine, stays}
 use Rattle.session_table.specs.declared.actions.Action.{Action}
 use Rattle.session_table.specs.declared.actions.Action.TheVariants as action
 use Rattle.session_table.specs.declared.actions.HookCall.TheVariants as hook
@@ -34,6 +34,10 @@ use Rattle.session_table.specs.Commands.{Line}
 use Rattle.session_table.specs.Views.{View, Begun, Carried, awaited, is_aborted, is_busy, is_closed, is_inside, running, runs}
 use Rattle.session_table.specs.Views.Begun.{Idle}
 use Rattle.session_table.specs.Views.Carried.{Listing as listing, Sending, Taking}
+
+never : (b : Bool) → cond {A = Option ℕ} b None None ≡ None
+never true = refl
+never false = refl
 
 module _ (A R K : Type 0) where
   -- ---- lists of actions that start, ask for and release nothing
@@ -88,15 +92,15 @@ module _ (A R K : Type 0) where
 
   -- ---- inputs that are no lines
 
-  module _ (C : Exchange R K → Type 0) (users : Users) (view : View) (admitted : Bool) where
+  module _ (C : Exchange R K → Type 0) (users : Users) (view : View) (admitted : Option ℕ) (none_admitted : admitted ≡ None) where
     abbrev E : View → List (Action A R K) → Type 0
     E = Fine A R K view admitted 0
 
     quits : (begun : Begun) (prepared : Bool) (actions : List (Action A R K)) (control : Control) → Quiet A R K actions
         → Always C E (and_quits users (record view { begun = begun; prepared = prepared }) actions control)
-    quits begun prepared actions Open quiet = stays A R K view _ admitted 0 actions quiet refl
-    quits begun prepared actions Quitting quiet = parting A R K view _ admitted 0 _ actions quiet refl
-    quits begun prepared actions Closing quiet = stays A R K view _ admitted 0 actions quiet refl
+    quits begun prepared actions Open quiet = stays A R K view _ admitted 0 actions none_admitted quiet refl
+    quits begun prepared actions Quitting quiet = parting A R K view _ admitted 0 _ actions none_admitted quiet refl
+    quits begun prepared actions Closing quiet = stays A R K view _ admitted 0 actions none_admitted quiet refl
 
     ready_fine : (port : Option ℕ) → Always C E (ready_row users view port)
     ready_fine port = by (awaited view.begun)
@@ -106,60 +110,60 @@ module _ (A R K : Type 0) where
         at passive None = quits Idle view.prepared _ view.control (saying _)
 
         by : (passive : Option Passive) → Always C E (ready_by users view port passive)
-        by None = stays A R K view view admitted 0 [] none refl
+        by None = stays A R K view view admitted 0 [] none_admitted none refl
         by (Some passive) = at passive port
 
     closed_fine : Always C E (closed_row view)
     closed_fine = record {
       unprepared = λ _. gone_starts view (runs view.begun) (is_inside view.stage);
       asks = omega (arith, gone_asks view (runs view.begun) (is_inside view.stage));
-      floors = inr (inl (gone_releases view (runs view.begun) (is_inside view.stage), refl));
+      floors = nobody A R K admitted _ _ _ none_admitted (inr (gone_releases view (runs view.begun) (is_inside view.stage), refl));
     }
 
     end_fine : (errand : Carried) (aborted : Bool) (end : End) (finished : Result (Unit {0}) StoreFault) → Always C E (end_row users view errand aborted end finished)
-    end_fine errand aborted end finished = always_cond C E (is_closed view.stage) _ _ (stays A R K view _ admitted 0 [] none refl)
+    end_fine errand aborted end finished = always_cond C E (is_closed view.stage) _ _ (stays A R K view _ admitted 0 [] none_admitted none refl)
         (quits Idle view.prepared _ view.control (quiet_then A R K (end_reply view.control aborted (end_told end finished)) (end_hook errand end) (replying view.control aborted _) (hooking errand end)))
 
   abbrev over : End → Option K → Input A K
   over end sink = input.TransferEnded end sink
 
-  ended_fine : (users : Users) (view : View) (held : List Item) (moment : ℕ) (admitted : Bool) (end : End) (sink : Option K)
+  ended_fine : (users : Users) (view : View) (held : List Item) (moment : ℕ) (admitted : Option ℕ) (none_admitted : admitted ≡ None) (end : End) (sink : Option K)
       → Always (IsRightful users view held moment (over end sink)) (Fine A R K view admitted 0) (ended_row users view moment end sink)
-  ended_fine users view held moment admitted end sink = by sink (running view.begun)
+  ended_fine users view held moment admitted none_admitted end sink = by sink (running view.begun)
     where
       with : (sink : Option K) (errand : Carried)
           → Always (IsRightful users view held moment (over end sink)) (Fine A R K view admitted 0) (ended_with users view moment errand (is_aborted view.begun) end sink)
-      with (Some sink) errand = λ answer. (inl (refl, refl), end_fine (IsRightful users view held moment (over end (Some sink))) users view admitted errand (is_aborted view.begun) end answer)
-      with None errand = end_fine (IsRightful users view held moment (over end None)) users view admitted errand (is_aborted view.begun) end (Ok tt)
+      with (Some sink) errand = λ answer. (inl (refl, refl), end_fine (IsRightful users view held moment (over end (Some sink))) users view admitted none_admitted errand (is_aborted view.begun) end answer)
+      with None errand = end_fine (IsRightful users view held moment (over end None)) users view admitted none_admitted errand (is_aborted view.begun) end (Ok tt)
 
       by : (sink : Option K) (errand : Option Carried)
           → Always (IsRightful users view held moment (over end sink)) (Fine A R K view admitted 0) (ended_by users view moment end sink errand)
-      by sink None = stays A R K view view admitted 0 [] none refl
+      by sink None = stays A R K view view admitted 0 [] none_admitted none refl
       by sink (Some errand) = with sink errand
 
   -- ---- lines
 
   module _ (users : Users) (admits : ℕ → Bool) (view : View) (moment : ℕ) where
-    idle_fine : (C : Exchange R K → Type 0) (admitted : Bool) → Always C (Fine A R K view admitted 1) (idle view)
-    idle_fine C admitted = stays A R K view view admitted 1 [] none refl
+    idle_fine : (C : Exchange R K → Type 0) (admitted : Option ℕ) → admitted ≡ None → Always C (Fine A R K view admitted 1) (idle view)
+    idle_fine C admitted is = stays A R K view view admitted 1 [] is none refl
 
-    holds_fine : (C : Exchange R K → Type 0) (held : List Item) (item : Item) → Always C (Fine A R K view false 1) (holds {A = A} {R = R} {K = K} view held item).plan
-    holds_fine C held item = always_taken C (Fine A R K view false 1) (nat_lt (length held) most_held) _ _ (idle_fine C false)
-        (stays A R K view _ false 1 _ (quiet_then A R K ((action.Say (answer.Refusal refusal.TooManyHeldLines) ∷ []) ++ aborts view) (action.CloseControl ∷ [])
+    holds_fine : (C : Exchange R K → Type 0) (held : List Item) (item : Item) → Always C (Fine A R K view None 1) (holds {A = A} {R = R} {K = K} view held item).plan
+    holds_fine C held item = always_taken C (Fine A R K view None 1) (nat_lt (length held) most_held) _ _ (idle_fine C None refl)
+        (stays A R K view _ None 1 _ refl (quiet_then A R K ((action.Say (answer.Refusal refusal.TooManyHeldLines) ∷ []) ++ aborts view) (action.CloseControl ∷ [])
         (quiet_then A R K (action.Say (answer.Refusal refusal.TooManyHeldLines) ∷ []) (aborts view) (saying _) (aborting (runs view.begun)))
         (record { starts_none = refl; asks_none = refl; releases_none = refl })) refl)
 
-    meanwhile_fine : (held : List Item) (item : Item) → Always (CallFor A R K users admits view moment item) (Fine A R K view false 1) (meanwhile {A = A} {R = R} {K = K} users admits view held moment item).plan
+    meanwhile_fine : (held : List Item) (item : Item) → Always (CallFor A R K users admits view moment item) (Fine A R K view None 1) (meanwhile {A = A} {R = R} {K = K} users admits view held moment item).plan
     meanwhile_fine held (Ok command.Abor) = served_fine A R K users admits view moment (Ok command.Abor)
     meanwhile_fine held (Ok command.Noop) = served_fine A R K users admits view moment (Ok command.Noop)
     meanwhile_fine held (Ok (command.Stat None)) = served_fine A R K users admits view moment (Ok (command.Stat None))
-    meanwhile_fine held (Ok command.Quit) = stays A R K view _ false 1 [] none refl
+    meanwhile_fine held (Ok command.Quit) = stays A R K view _ None 1 [] refl none refl
     meanwhile_fine held item = holds_fine (CallFor A R K users admits view moment item) held item
 
     abbrev Rightful : List Item → Input A K → Exchange R K → Type 0
     Rightful held told = IsRightful users view held moment told
 
-    comes : (held : List Item) (item : LineItem A) (admitted : Bool) (plan : Plan A R K)
+    comes : (held : List Item) (item : LineItem A) (admitted : Option ℕ) (plan : Plan A R K)
         → Always (CallFor A R K users admits view moment (item_of item)) (Fine A R K view admitted 1) plan → Always (Rightful held (input.Line item)) (Fine A R K view admitted 1) plan
     comes held item admitted plan = always_to (CallFor A R K users admits view moment (item_of item)) (Rightful held (input.Line item)) (Fine A R K view admitted 1) (Fine A R K view admitted 1) (λ exchange call. inr call) (λ after actions end. end) plan
 
@@ -169,23 +173,23 @@ module _ (A R K : Type 0) where
     in_turn_fine item (first ∷ others) = holds_fine (Rightful (first ∷ others) (input.Line item)) (first ∷ others) (item_of item)
 
     line_fine : (item : LineItem A) (held : List Item) (busy : Bool)
-        → Always (Rightful held (input.Line item)) (Fine A R K view (cond ((true && true) && not busy) (admitted_by users admits view (in_its_turn {K = K} (input.Line item) held)) false) 1)
+        → Always (Rightful held (input.Line item)) (Fine A R K view (cond ((true && true) && not busy) (admitted_by users admits view (in_its_turn {K = K} (input.Line item) held)) None) 1)
         (cond busy (meanwhile {A = A} {R = R} {K = K} users admits view held moment (item_of item)) (in_turn users admits view moment (item_of item) held)).plan
-    line_fine item held true = comes held item false _ (meanwhile_fine held (item_of item))
+    line_fine item held true = comes held item None _ (meanwhile_fine held (item_of item))
     line_fine item held false = in_turn_fine item held
 
     held_fine : (held : List Item) (busy : Bool)
-        → Always (Rightful held input.Held) (Fine A R K view (cond ((true && true) && not busy) (admitted_by users admits view (in_its_turn {A = A} {K = K} input.Held held)) false) 1)
+        → Always (Rightful held input.Held) (Fine A R K view (cond ((true && true) && not busy) (admitted_by users admits view (in_its_turn {A = A} {K = K} input.Held held)) None) 1)
         (cond busy (beside held (idle view)) (held_row {A = A} {R = R} {K = K} users admits view moment held)).plan
-    held_fine held true = idle_fine (Rightful held input.Held) false
-    held_fine [] false = idle_fine (Rightful [] input.Held) false
+    held_fine held true = idle_fine (Rightful held input.Held) None refl
+    held_fine [] false = idle_fine (Rightful [] input.Held) None refl
     held_fine (first ∷ others) false = always_to (CallFor A R K users admits view moment first) (Rightful (first ∷ others) input.Held) (Fine A R K view (admitted_by users admits view (Some first)) 1) (Fine A R K view (admitted_by users admits view (Some first)) 1) (λ exchange call. inr call) (λ after actions end. end) _ (served_fine A R K users admits view moment first)
 
   -- ---- all inputs
 
   module _ (users : Users) (admits : ℕ → Bool) (view : View) (held : List Item) (moment : ℕ) where
     abbrev pub EndAt : Input A K → View → List (Action A R K) → Type 0
-    EndAt told = Fine A R K view (cond (serves_lines view) (admitted_by users admits view (in_its_turn told held)) false) (most_asked told)
+    EndAt told = Fine A R K view (cond (serves_lines view) (admitted_by users admits view (in_its_turn told held)) None) (most_asked told)
 
     abbrev pub CallAt : Input A K → Exchange R K → Type 0
     CallAt told = IsRightful users view held moment told
@@ -194,45 +198,45 @@ module _ (A R K : Type 0) where
     input_fine (input.Line item) = by (is_closed view.stage) view.control
       where
         by : (closed : Bool) (control : Control) → Always (CallAt (input.Line item))
-            (Fine A R K view (cond ((not closed && is_open control) && not (is_busy view.begun)) (admitted_by users admits view (in_its_turn {K = K} (input.Line item) held)) false) 1)
+            (Fine A R K view (cond ((not closed && is_open control) && not (is_busy view.begun)) (admitted_by users admits view (in_its_turn {K = K} (input.Line item) held)) None) 1)
             (cond closed (beside held (after_closed users view moment (input.Line item))) (controlled {A = A} {R = R} {K = K} users admits view held moment (input.Line item) control)).plan
-        by true control = idle_fine users admits view moment (CallAt (input.Line item)) false
+        by true control = idle_fine users admits view moment (CallAt (input.Line item)) None refl
         by false Open = line_fine users admits view moment item held (is_busy view.begun)
-        by false Quitting = idle_fine users admits view moment (CallAt (input.Line item)) false
-        by false Closing = idle_fine users admits view moment (CallAt (input.Line item)) false
+        by false Quitting = idle_fine users admits view moment (CallAt (input.Line item)) None refl
+        by false Closing = idle_fine users admits view moment (CallAt (input.Line item)) None refl
     input_fine input.Held = by (is_closed view.stage) view.control
       where
         by : (closed : Bool) (control : Control) → Always (CallAt input.Held)
-            (Fine A R K view (cond ((not closed && is_open control) && not (is_busy view.begun)) (admitted_by users admits view (in_its_turn {A = A} {K = K} input.Held held)) false) 1)
+            (Fine A R K view (cond ((not closed && is_open control) && not (is_busy view.begun)) (admitted_by users admits view (in_its_turn {A = A} {K = K} input.Held held)) None) 1)
             (cond closed (beside held (after_closed users view moment input.Held)) (controlled {A = A} {R = R} {K = K} users admits view held moment input.Held control)).plan
-        by true control = idle_fine users admits view moment (CallAt input.Held) false
+        by true control = idle_fine users admits view moment (CallAt input.Held) None refl
         by false Open = held_fine users admits view moment held (is_busy view.begun)
-        by false Quitting = idle_fine users admits view moment (CallAt input.Held) false
-        by false Closing = idle_fine users admits view moment (CallAt input.Held) false
+        by false Quitting = idle_fine users admits view moment (CallAt input.Held) None refl
+        by false Closing = idle_fine users admits view moment (CallAt input.Held) None refl
     input_fine (input.TransferEnded end sink) = by (is_closed view.stage) view.control
       where
         by : (closed : Bool) (control : Control) → Always (CallAt (input.TransferEnded end sink)) (EndAt (input.TransferEnded end sink))
             (cond closed (beside held (after_closed users view moment (input.TransferEnded end sink))) (controlled {A = A} {R = R} {K = K} users admits view held moment (input.TransferEnded end sink) control)).plan
-        by true control = ended_fine users view held moment _ end sink
-        by false Open = ended_fine users view held moment _ end sink
-        by false Quitting = ended_fine users view held moment _ end sink
-        by false Closing = ended_fine users view held moment _ end sink
+        by true control = ended_fine users view held moment _ (never (serves_lines view)) end sink
+        by false Open = ended_fine users view held moment _ (never (serves_lines view)) end sink
+        by false Quitting = ended_fine users view held moment _ (never (serves_lines view)) end sink
+        by false Closing = ended_fine users view held moment _ (never (serves_lines view)) end sink
     input_fine (input.DataReady port) = by (is_closed view.stage) view.control
       where
         by : (closed : Bool) (control : Control) → Always (CallAt (input.DataReady port)) (EndAt (input.DataReady port))
             (cond closed (beside held (after_closed users view moment (input.DataReady port))) (controlled {A = A} {R = R} {K = K} users admits view held moment (input.DataReady port) control)).plan
-        by true control = stays A R K view view _ 0 [] none refl
-        by false Open = ready_fine (CallAt (input.DataReady port)) users view _ port
-        by false Quitting = ready_fine (CallAt (input.DataReady port)) users view _ port
-        by false Closing = stays A R K view view _ 0 [] none refl
+        by true control = stays A R K view view _ 0 [] (never (serves_lines view)) none refl
+        by false Open = ready_fine (CallAt (input.DataReady port)) users view _ (never (serves_lines view)) port
+        by false Quitting = ready_fine (CallAt (input.DataReady port)) users view _ (never (serves_lines view)) port
+        by false Closing = stays A R K view view _ 0 [] (never (serves_lines view)) none refl
     input_fine input.Closed = by (is_closed view.stage) view.control
       where
         by : (closed : Bool) (control : Control) → Always (CallAt input.Closed) (EndAt input.Closed)
             (cond closed (beside held (after_closed users view moment input.Closed)) (controlled {A = A} {R = R} {K = K} users admits view held moment input.Closed control)).plan
-        by true control = stays A R K view view _ 0 [] none refl
-        by false Open = closed_fine (CallAt input.Closed) users view _
-        by false Quitting = closed_fine (CallAt input.Closed) users view _
-        by false Closing = closed_fine (CallAt input.Closed) users view _
+        by true control = stays A R K view view _ 0 [] (never (serves_lines view)) none refl
+        by false Open = closed_fine (CallAt input.Closed) users view _ (never (serves_lines view))
+        by false Quitting = closed_fine (CallAt input.Closed) users view _ (never (serves_lines view))
+        by false Closing = closed_fine (CallAt input.Closed) users view _ (never (serves_lines view))
 
 -- ---- calls while nobody is logged in
 
@@ -324,7 +328,7 @@ one_thing_is_asked A R K = λ users admits view held moment told.
 pub floors_are_released_once : (A R K : Type 0) → FloorsAreReleasedOnce A R K
 unfolding FloorsAreReleasedOnce
 floors_are_released_once A R K = λ users admits view held moment told.
-    always_to (CallAt A R K users admits view held moment told) (λ exchange. Unit {0}) (EndAt A R K users admits view held moment told) (λ after actions. Releases (cond (serves_lines view) (admitted_by users admits view (in_its_turn told held)) false) (logged_in view) (releases actions) (logged_in after)) (λ exchange call. tt) (λ after actions end. end.floors) _ (input_fine A R K users admits view held moment told)
+    always_to (CallAt A R K users admits view held moment told) (λ exchange. Unit {0}) (EndAt A R K users admits view held moment told) (λ after actions. Releases (admitted_in users admits view held told) (logged_in view) (releases actions) (logged_in after)) (λ exchange call. tt) (λ after actions end. end.floors) _ (input_fine A R K users admits view held moment told)
 
 pub few_lines_are_held : (A R K : Type 0) → FewLinesAreHeld A R K
 unfolding FewLinesAreHeld

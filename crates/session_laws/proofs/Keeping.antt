@@ -52,3 +52,19 @@ module _ {A R K : Type 0} where
       → Always C E p.plan → Always C E q.plan → Always C E (cond b p q).plan
   always_taken C E true p q is also = is
   always_taken C E false p q is also = also
+
+  -- whatever the store answers, a fact of each end
+  pub ends_all : (E : View → List (Action A R K) → Type 0) → ((view : View) (actions : List (Action A R K)) → E view actions)
+      → (plan : Plan A R K) → Always (λ exchange. Unit {0}) E plan
+  ends_all E all (Then view actions) = all view actions
+  ends_all E all (WithLine told next) = λ line. ends_all E all (next line)
+  ends_all E all (WithLines told next) = λ lines. ends_all E all (next lines)
+  ends_all E all (AskStat path next) = λ answer. (tt, ends_all E all (next answer))
+  ends_all E all (AskList path next) = λ answer. (tt, ends_all E all (next answer))
+  ends_all E all (AskOpenRead path offset next) = λ answer. (tt, ends_all E all (next answer))
+  ends_all E all (AskOpenWrite path mode moment next) = λ answer. (tt, ends_all E all (next answer))
+  ends_all E all (AskFinish sink moment next) = λ answer. (tt, ends_all E all (next answer))
+  ends_all E all (AskMakeDir path next) = λ answer. (tt, ends_all E all (next answer))
+  ends_all E all (AskRemoveDir path next) = λ answer. (tt, ends_all E all (next answer))
+  ends_all E all (AskRemoveFile path next) = λ answer. (tt, ends_all E all (next answer))
+  ends_all E all (AskRename from to next) = λ answer. (tt, ends_all E all (next answer))

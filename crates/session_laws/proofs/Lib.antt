@@ -1,3 +1,4 @@
 pub mod Inputs
 pub mod Keeping
 pub mod Rows
+pub mod Sources

@@ -38,7 +38,7 @@ use Rattle.session_table.specs.declared.stages.Stage.{Stage}
 use Rattle.session_table.specs.declared.stages.Stage.TheVariants as stage
 use Rattle.session_table.specs.Commands.{Line, asked, is_appe, is_rnto, needs_data, needs_login, needs_plain}
 use Rattle.session_table.specs.FileRows.{cwd_by, cwd_row, dele_row, goes_to, is_root, mdtm_by, mdtm_row, mkd_row, moment_of, rmd_row, rnfr_by, rnfr_row, rnto_from, size_by, size_of, size_row}
-use Rattle.session_table.specs.Judged.{Location, at_location, first_refusal, from_home, home_of, judged, judged_at, judged_path, located, stored_at, unless_refused}
+use Rattle.session_table.specs.Judged.{Location, at_location, nowhere, first_refusal, from_home, home_of, judged, judged_at, judged_path, located, stored_at, unless_refused}
 use Rattle.session_table.specs.Plans.{Plan}
 use Rattle.session_table.specs.Plans.Plan.{AskStat}
 use Rattle.session_table.specs.StateRows.{abor_row, enters, eprt_row, epsv_row, farewell, if_right_at, is_ascii, is_last_attempt, leaves, needs_image, number_of, opens, opts_row, pass_by, port_by, port_refusal, quit_row, refuses, rest_row, turned_away}
@@ -54,14 +54,14 @@ pub record IsJudged (users : Users) (view : View) (line : Line) (stored : Path) 
 
 module _ (A R K : Type 0) where
   -- what is said of the end of a row
-  pub record Fine (view : View) (admitted : Bool) (most : ℕ) (after : View) (actions : List (Action A R K)) : Type 0 where
+  pub record Fine (view : View) (admitted : Option ℕ) (most : ℕ) (after : View) (actions : List (Action A R K)) : Type 0 where
     pub unprepared : view.prepared ≡ false → starting actions ≡ 0
     pub asks : asking actions ≤ most
     pub floors : Releases admitted (logged_in view) (releases actions) (logged_in after)
 
   -- one reply, and whoever is there stays
-  told : (view after : View) (admitted : Bool) (reply : Answer A) → logged_in after ≡ logged_in view → Fine view admitted 1 after (action.Say reply ∷ [])
-  told view after admitted reply same = record { unprepared = λ _. refl; asks = omega arith; floors = inl (refl, same) }
+  told : (view after : View) (reply : Answer A) → logged_in after ≡ logged_in view → Fine view None 1 after (action.Say reply ∷ [])
+  told view after reply same = record { unprepared = λ _. refl; asks = omega arith; floors = inl (refl, same) }
 
   -- who leaves, what is told, and what is dropped
   abbrev leaving : View → Bool → Bool → Answer A → List (Action A R K)
@@ -86,11 +86,11 @@ module _ (A R K : Type 0) where
   leaving_releases view false false reply = refl
 
   restarting : (view : View) (name : List ℕ) (next : Stage) (reply : Answer A) → is_inside next ≡ false
-      → Fine view false 1 (record (anew view) { stage = next; name = name }) (leaving view (is_inside view.stage) view.prepared reply)
+      → Fine view None 1 (record (anew view) { stage = next; name = name }) (leaving view (is_inside view.stage) view.prepared reply)
   restarting view name next reply nobody = record {
     unprepared = λ _. leaving_starts view (is_inside view.stage) view.prepared reply;
     asks = omega (arith, leaving_asks view (is_inside view.stage) view.prepared reply);
-    floors = inr (inl (leaving_releases view (is_inside view.stage) view.prepared reply, ap (λ b. cond b (view.number ∷ []) []) nobody));
+    floors = inr (leaving_releases view (is_inside view.stage) view.prepared reply, ap (λ b. cond b (view.number ∷ []) []) nobody);
   }
 
   -- actions that start, ask for and release nothing
@@ -118,12 +118,16 @@ module _ (A R K : Type 0) where
     releases_none = releases_then first others ∙ ap (λ numbers. numbers ++ releases others) is.releases_none ∙ also.releases_none;
   }
 
+  -- nobody is admitted
+  pub nobody : (admitted : Option ℕ) (before released after : List ℕ) → admitted ≡ None → Releases None before released after → Releases admitted before released after
+  nobody admitted before released after none is = subst (λ (who : Option ℕ). Releases who before released after) (sym none) is
+
   -- behind such, whoever was there stays
-  pub stays : (view after : View) (admitted : Bool) (most : ℕ) (actions : List (Action A R K)) → Quiet actions → logged_in after ≡ logged_in view → Fine view admitted most after actions
-  stays view after admitted most actions is same = record {
+  pub stays : (view after : View) (admitted : Option ℕ) (most : ℕ) (actions : List (Action A R K)) → admitted ≡ None → Quiet actions → logged_in after ≡ logged_in view → Fine view admitted most after actions
+  stays view after admitted most actions none is same = record {
     unprepared = λ _. is.starts_none;
     asks = omega (arith, is.asks_none);
-    floors = inl (is.releases_none, same);
+    floors = nobody admitted _ _ _ none (inl (is.releases_none, same));
   }
 
   -- or leaves
@@ -148,12 +152,12 @@ module _ (A R K : Type 0) where
       ap (λ actions. actions ++ (action.CloseControl ∷ [])) (append_assoc before (action.Say reply ∷ []) (leaves view))
       ∙ append_assoc before ((action.Say reply ∷ []) ++ leaves view) (action.CloseControl ∷ [])
 
-  pub parting : (view after : View) (admitted : Bool) (most : ℕ) (reply : Answer A) (before : List (Action A R K)) → Quiet before → logged_in after ≡ []
+  pub parting : (view after : View) (admitted : Option ℕ) (most : ℕ) (reply : Answer A) (before : List (Action A R K)) → admitted ≡ None → Quiet before → logged_in after ≡ []
       → Fine view admitted most after (before ++ (action.Say reply ∷ []) ++ leaves view ++ (action.CloseControl ∷ []))
-  parting view after admitted most reply before is gone = subst (λ actions. Fine view admitted most after actions) (sym (apart view reply before)) (record {
+  parting view after admitted most reply before none is gone = subst (λ actions. Fine view admitted most after actions) (sym (apart view reply before)) (record {
     unprepared = λ _. omega (arith, starting_then before (goodbye view (is_inside view.stage) reply), is.starts_none, goodbye_starts view (is_inside view.stage) reply);
     asks = omega (arith, asking_then before (goodbye view (is_inside view.stage) reply), is.asks_none, goodbye_asks view (is_inside view.stage) reply);
-    floors = inr (inl (releases_then before (goodbye view (is_inside view.stage) reply) ∙ ap (λ numbers. numbers ++ releases (goodbye view (is_inside view.stage) reply)) is.releases_none ∙ goodbye_releases view (is_inside view.stage) reply, gone));
+    floors = nobody admitted _ _ _ none (inr (releases_then before (goodbye view (is_inside view.stage) reply) ∙ ap (λ numbers. numbers ++ releases (goodbye view (is_inside view.stage) reply)) is.releases_none ∙ goodbye_releases view (is_inside view.stage) reply, gone));
   })
 
   quiet_none : Quiet []
@@ -163,60 +167,65 @@ module _ (A R K : Type 0) where
 
   module _ (C : Exchange R K → Type 0) (view : View) where
     abbrev E : View → List (Action A R K) → Type 0
-    E = Fine view false 1
+    E = Fine view None 1
 
     rest_fine : (offset : ℕ) → Always C E (rest_row view offset)
-    rest_fine offset = always_cond C E (needs_image view offset) _ _ (told _ _ _ _ refl) (told _ _ _ _ refl)
+    rest_fine offset = always_cond C E (needs_image view offset) _ _ (told _ _ _ refl) (told _ _ _ refl)
 
     opts_fine : (wanted : FeatureOption) → Always C E (opts_row view wanted)
-    opts_fine option.Utf8On = told _ _ _ _ refl
-    opts_fine (option.Mlst facts) = told _ _ _ _ refl
+    opts_fine option.Utf8On = told _ _ _ refl
+    opts_fine (option.Mlst facts) = told _ _ _ refl
 
-    connecting : (to : HostPort) → Fine view false 1 (record view { prepared = true }) (action.Say (answer.Notice notice.Fine) ∷ action.ConnectTo to ∷ [])
+    connecting : (to : HostPort) → Fine view None 1 (record view { prepared = true }) (action.Say (answer.Notice notice.Fine) ∷ action.ConnectTo to ∷ [])
     connecting to = record { unprepared = λ _. refl; asks = omega arith; floors = inl (refl, refl) }
 
     port_fine : (to : HostPort) (why : Option Refusal) → Always C E (port_by view to why)
-    port_fine to (Some why) = told _ _ _ _ refl
+    port_fine to (Some why) = told _ _ _ refl
     port_fine to None = connecting to
 
     eprt_fine : (to : ExtendedPort) → Always C E (eprt_row view to)
     eprt_fine (port.Ipv4 to) = port_fine to (port_refusal view to)
-    eprt_fine (port.Unsupported protocol) = told _ _ _ _ refl
+    eprt_fine (port.Unsupported protocol) = told _ _ _ refl
 
     opens_fine : (passive : Passive) → Always C E (opens view passive)
     opens_fine passive = record { unprepared = λ _. refl; asks = omega arith; floors = inl (refl, refl) }
 
     epsv_fine : (wanted : ExtendedPassive) → Always C E (epsv_row view wanted)
     epsv_fine extended.Same = opens_fine Extended
-    epsv_fine extended.All = told _ _ _ _ refl
-    epsv_fine (extended.Protocol protocol) = always_cond C E (protocol == 1) _ _ (opens_fine Extended) (told _ _ _ _ refl)
+    epsv_fine extended.All = told _ _ _ refl
+    epsv_fine (extended.Protocol protocol) = always_cond C E (protocol == 1) _ _ (opens_fine Extended) (told _ _ _ refl)
 
     abor_fine : Always C E (abor_row view)
-    abor_fine = always_cond C E (has_transfer view.begun) _ _ (record { unprepared = λ _. refl; asks = omega arith; floors = inl (refl, refl) }) (told _ _ _ _ refl)
+    abor_fine = always_cond C E (has_transfer view.begun) _ _ (record { unprepared = λ _. refl; asks = omega arith; floors = inl (refl, refl) }) (told _ _ _ refl)
 
     quit_fine : (users : Users) → Always C E (quit_row users view)
-    quit_fine users = parting view _ false 1 (farewell users view) [] quiet_none refl
+    quit_fine users = parting view _ None 1 (farewell users view) [] refl quiet_none refl
 
     nobody_named : view.stage ≡ stage.Named → logged_in view ≡ []
     nobody_named is = ap (λ at. cond (is_inside at) (view.number ∷ []) []) is
 
     -- a wrong password of whoever is named
-    away_fine : (right : Bool) → view.stage ≡ stage.Named → Always C (Fine view (cond right false false) 1) (turned_away view)
-    away_fine right named = always_cond C (Fine view (cond right false false) 1) (is_last_attempt view) _ _
+    away_fine : view.stage ≡ stage.Named → Always C E (turned_away view)
+    away_fine named = always_cond C E (is_last_attempt view) _ _
         (record { unprepared = λ _. refl; asks = omega arith; floors = inl (refl, refl) })
         (record { unprepared = λ _. refl; asks = omega arith; floors = inl (refl, sym (nobody_named named)) })
 
-    named_fine : (users : Users) (right fits : Bool) → view.stage ≡ stage.Named → Always C (Fine view (cond right fits false) 1) (cond right (enters users view fits) (turned_away view))
-    named_fine users true true named = record { unprepared = λ _. refl; asks = omega arith; floors = inr (inr (refl, nobody_named named, refl)) }
+    -- who is admitted by a password
+    abbrev admitted : Users → Bool → Option ℕ
+    admitted users fits = cond fits (Some (number_of users view.name)) None
+
+    named_fine : (users : Users) (right fits : Bool) → view.stage ≡ stage.Named
+        → Always C (Fine view (cond right (admitted users fits) None) 1) (cond right (enters users view fits) (turned_away view))
+    named_fine users true true named = record { unprepared = λ _. refl; asks = omega arith; floors = (nobody_named named, refl, refl) }
     named_fine users true false named = record { unprepared = λ _. refl; asks = omega arith; floors = inl (refl, refl) }
-    named_fine users false fits named = away_fine false named
+    named_fine users false fits named = away_fine named
 
     pass_fine : (users : Users) (admits : ℕ → Bool) (password : List ℕ) (at : Stage) → view.stage ≡ at
-        → Always C (Fine view (if_right_at at (is_password users view.name password) (admits (number_of users view.name)) false) 1) (pass_by users admits view password at)
-    pass_fine users admits password stage.Greeted is = told _ _ _ _ refl
+        → Always C (Fine view (if_right_at at (is_password users view.name password) (admitted users (admits (number_of users view.name))) None) 1) (pass_by users admits view password at)
+    pass_fine users admits password stage.Greeted is = told _ _ _ refl
     pass_fine users admits password stage.Named is = named_fine users (is_password users view.name password) (admits (number_of users view.name)) is
-    pass_fine users admits password stage.Inside is = told _ _ _ _ refl
-    pass_fine users admits password stage.Closed is = told _ _ _ _ refl
+    pass_fine users admits password stage.Inside is = told _ _ _ refl
+    pass_fine users admits password stage.Closed is = told _ _ _ refl
 
   -- ---- rows that ask the store
 
@@ -225,70 +234,70 @@ module _ (A R K : Type 0) where
     Calls = IsAllowedCall users view line
 
     abbrev Ends : View → List (Action A R K) → Type 0
-    Ends = Fine view false 1
+    Ends = Fine view None 1
 
     refused : (why : Refusal) → Always Calls Ends (refuses view why)
-    refused why = told _ _ _ _ refl
+    refused why = told _ _ _ refl
 
     cwd_fine : Always Calls Ends (cwd_row view location)
     cwd_fine = λ answer. (allowed, by answer)
       where
         goes : (kind : Kind) → Always Calls Ends (goes_to view location.path kind)
-        goes kind.Directory = told _ _ _ _ refl
-        goes kind.File = told _ _ _ _ refl
+        goes kind.Directory = told _ _ _ refl
+        goes kind.File = told _ _ _ refl
 
         by : (answer : Result Meta StoreFault) → Always Calls Ends (cwd_by view location.path answer)
-        by (Err why) = told _ _ _ _ refl
+        by (Err why) = told _ _ _ refl
         by (Ok meta) = goes meta.kind
 
     mkd_fine : Always Calls Ends (mkd_row view location)
-    mkd_fine = λ answer. (allowed, told _ _ _ _ refl)
+    mkd_fine = λ answer. (allowed, told _ _ _ refl)
 
     rmd_fine : Always Calls Ends (rmd_row view location)
-    rmd_fine = always_cond Calls Ends (is_root location.path) _ _ (told _ _ _ _ refl) (λ answer. (allowed, told _ _ _ _ refl))
+    rmd_fine = always_cond Calls Ends (is_root location.path) _ _ (told _ _ _ refl) (λ answer. (allowed, told _ _ _ refl))
 
     dele_fine : Always Calls Ends (dele_row view location)
-    dele_fine = λ answer. (allowed, told _ _ _ _ refl)
+    dele_fine = λ answer. (allowed, told _ _ _ refl)
 
     rnfr_fine : Always Calls Ends (rnfr_row view location)
-    rnfr_fine = always_cond Calls Ends (is_root location.path) _ _ (told _ _ _ _ refl) (λ answer. (allowed, by answer))
+    rnfr_fine = always_cond Calls Ends (is_root location.path) _ _ (told _ _ _ refl) (λ answer. (allowed, by answer))
       where
         by : (answer : Result Meta StoreFault) → Always Calls Ends (rnfr_by view location.stored answer)
-        by (Err why) = told _ _ _ _ refl
-        by (Ok meta) = told _ _ _ _ refl
+        by (Err why) = told _ _ _ refl
+        by (Ok meta) = told _ _ _ refl
 
     rnto_fine : (source : Option Path) → view.source ≡ source → Always Calls Ends (rnto_from view location.stored source)
-    rnto_fine None is = told _ _ _ _ refl
-    rnto_fine (Some source) is = λ answer. ((is, allowed), told _ _ _ _ refl)
+    rnto_fine None is = told _ _ _ refl
+    rnto_fine (Some source) is = λ answer. ((is, allowed), told _ _ _ refl)
 
     size_fine : Always Calls Ends (size_row view location)
-    size_fine = always_cond Calls Ends (is_ascii view.data_type) _ _ (told _ _ _ _ refl) (λ answer. (allowed, by answer))
+    size_fine = always_cond Calls Ends (is_ascii view.data_type) _ _ (told _ _ _ refl) (λ answer. (allowed, by answer))
       where
         of_kind : (size : ℕ) (kind : Kind) → Always Calls Ends (size_of view size kind)
-        of_kind size kind.Directory = told _ _ _ _ refl
-        of_kind size kind.File = told _ _ _ _ refl
+        of_kind size kind.Directory = told _ _ _ refl
+        of_kind size kind.File = told _ _ _ refl
 
         by : (answer : Result Meta StoreFault) → Always Calls Ends (size_by view answer)
-        by (Err why) = told _ _ _ _ refl
+        by (Err why) = told _ _ _ refl
         by (Ok meta) = of_kind meta.size meta.kind
 
     mdtm_fine : Always Calls Ends (mdtm_row view location)
     mdtm_fine = λ answer. (allowed, by answer)
       where
         of_kind : (modified : ℕ) (kind : Kind) → Always Calls Ends (moment_of view modified kind)
-        of_kind modified kind.Directory = told _ _ _ _ refl
-        of_kind modified kind.File = λ line. told _ _ _ _ refl
+        of_kind modified kind.Directory = told _ _ _ refl
+        of_kind modified kind.File = λ line. told _ _ _ refl
 
         by : (answer : Result Meta StoreFault) → Always Calls Ends (mdtm_by view answer)
-        by (Err why) = told _ _ _ _ refl
+        by (Err why) = told _ _ _ refl
         by (Ok meta) = of_kind meta.modified meta.kind
 
     mlst_fine : Always Calls Ends (mlst_row users view location)
     mlst_fine = λ answer. (allowed, by answer)
       where
         by : (answer : Result Meta StoreFault) → Always Calls Ends (mlst_by users view location.path answer)
-        by (Err why) = told _ _ _ _ refl
-        by (Ok meta) = λ line. told _ _ _ _ refl
+        by (Err why) = told _ _ _ refl
+        by (Ok meta) = λ line. told _ _ _ refl
 
     -- a look at what stands there, and at a directory's entries
     looking : (next : List Entry → Plan A R K) (of_file : Meta → Plan A R K)
@@ -297,7 +306,7 @@ module _ (A R K : Type 0) where
     looking next of_file nexts files = λ answer. (allowed, by answer)
       where
         listed : (answer : Result (List Entry) StoreFault) → Always Calls Ends (listed_by view next answer)
-        listed (Err why) = told _ _ _ _ refl
+        listed (Err why) = told _ _ _ refl
         listed (Ok entries) = nexts entries
 
         of_kind : (meta : Meta) (kind : Kind) → Always Calls Ends (looked_in view location next of_file meta kind)
@@ -305,11 +314,11 @@ module _ (A R K : Type 0) where
         of_kind meta kind.File = files meta
 
         by : (answer : Result Meta StoreFault) → Always Calls Ends (looked_by view location next of_file answer)
-        by (Err why) = told _ _ _ _ refl
+        by (Err why) = told _ _ _ refl
         by (Ok meta) = of_kind meta meta.kind
 
     stat_fine : Always Calls Ends (stat_row users view location)
-    stat_fine = looking _ _ (λ entries lines. told _ _ _ _ refl) (λ meta lines. told _ _ _ _ refl)
+    stat_fine = looking _ _ (λ entries lines. told _ _ _ refl) (λ meta lines. told _ _ _ refl)
 
     -- ---- transfers
 
@@ -321,17 +330,17 @@ module _ (A R K : Type 0) where
       list_fine style = looking _ _ (λ entries lines. starting_fine _ _) (λ meta lines. starting_fine _ _)
 
       mlsd_fine : Always Calls Ends (mlsd_row users view location)
-      mlsd_fine = looking _ _ (λ entries lines. starting_fine _ _) (λ meta. told _ _ _ _ refl)
+      mlsd_fine = looking _ _ (λ entries lines. starting_fine _ _) (λ meta. told _ _ _ refl)
 
       retr_fine : Always Calls Ends (retr_row view location)
       retr_fine = λ answer. (allowed, by answer)
         where
           by : (answer : Result R StoreFault) → Always Calls Ends (sends view location.path answer)
-          by (Err why) = told _ _ _ _ refl
+          by (Err why) = told _ _ _ refl
           by (Ok source) = starting_fine _ _
 
       taking : (answer : Result K StoreFault) → Always Calls Ends (takes view location.path answer)
-      taking (Err why) = told _ _ _ _ refl
+      taking (Err why) = told _ _ _ refl
       taking (Ok sink) = starting_fine _ _
 
       stor_fine : (moment : ℕ) → Always Calls Ends (stor_row view moment location)
@@ -349,21 +358,21 @@ module _ (A R K : Type 0) where
     row_fine (command.Pass text) is = pass_fine (IsAllowedCall users view (command.Pass text)) view users admits (unwrap_or text []) view.stage refl
     row_fine command.Quit is = quit_fine (IsAllowedCall users view command.Quit) view users
     row_fine command.Rein is = restarting view [] stage.Greeted _ refl
-    row_fine command.Noop is = told _ _ _ _ refl
-    row_fine command.Syst is = told _ _ _ _ refl
-    row_fine (command.Help text) is = told _ _ _ _ refl
-    row_fine command.Feat is = told _ _ _ _ refl
+    row_fine command.Noop is = told _ _ _ refl
+    row_fine command.Syst is = told _ _ _ refl
+    row_fine (command.Help text) is = told _ _ _ refl
+    row_fine command.Feat is = told _ _ _ refl
     row_fine (command.Opts wanted) is = opts_fine (IsAllowedCall users view (command.Opts wanted)) view wanted
-    row_fine (command.Allo text) is = told _ _ _ _ refl
-    row_fine (command.SetType wanted) is = told _ _ _ _ refl
-    row_fine command.Mode is = told _ _ _ _ refl
-    row_fine command.Stru is = told _ _ _ _ refl
+    row_fine (command.Allo text) is = told _ _ _ refl
+    row_fine (command.SetType wanted) is = told _ _ _ refl
+    row_fine command.Mode is = told _ _ _ refl
+    row_fine command.Stru is = told _ _ _ refl
     row_fine (command.Rest offset) is = rest_fine (IsAllowedCall users view (command.Rest offset)) view offset
     row_fine (command.Port to) is = port_fine (IsAllowedCall users view (command.Port to)) view to (port_refusal view to)
     row_fine (command.Eprt to) is = eprt_fine (IsAllowedCall users view (command.Eprt to)) view to
     row_fine command.Pasv is = opens_fine (IsAllowedCall users view command.Pasv) view Plain
     row_fine (command.Epsv wanted) is = epsv_fine (IsAllowedCall users view (command.Epsv wanted)) view wanted
-    row_fine command.Pwd is = told _ _ _ _ refl
+    row_fine command.Pwd is = told _ _ _ refl
     row_fine (command.Cwd text) is = cwd_fine users view _ location (is.at _ refl)
     row_fine command.Cdup is = cwd_fine users view _ location (is.at _ refl)
     row_fine (command.Mkd text) is = mkd_fine users view _ location (is.at _ refl)
@@ -373,7 +382,7 @@ module _ (A R K : Type 0) where
     row_fine (command.Rnto text) is = rnto_fine users view _ location (is.at _ refl) view.source refl
     row_fine (command.Size text) is = size_fine users view _ location (is.at _ refl)
     row_fine (command.Mdtm text) is = mdtm_fine users view _ location (is.at _ refl)
-    row_fine (command.Stat None) is = told _ _ _ _ refl
+    row_fine (command.Stat None) is = told _ _ _ refl
     row_fine (command.Stat (Some text)) is = stat_fine users view _ location (is.at _ refl)
     row_fine (command.Mlst text) is = mlst_fine users view _ location (is.at _ refl)
     row_fine (command.List text) is = list_fine users view _ location (is.at _ refl) (is.prepared refl) LongLines
@@ -511,6 +520,15 @@ is_judged users view line location e = record { at = at; prepared = prepared }
     prepared : needs_data line ≡ true → view.prepared ≡ true
     prepared moves = from_and (needs_data line) view.prepared (of (data_asks line moves).0 (data_asks line moves).1).prepared moves
 
+-- PASS is never refused before its row, so a refused line admits nobody
+pass_judged : (users : Users) (view : View) (text : Option (List ℕ)) → judged users view (command.Pass text) ≡ Ok nowhere
+unfolding judged
+pass_judged users view text = refl
+
+refused_admits : (users : Users) (admits : ℕ → Bool) (view : View) (line : Line) (why : Refusal) → judged users view line ≡ Err why → admitted_by users admits view (Some (Ok line)) ≡ None
+refused_admits users admits view (command.Pass text) why is = absurd (true≢false (ap is_good (sym (pass_judged users view text) ∙ is)))
+refused_admits users admits view _ why is = refl
+
 -- ---- a line that is served
 
 module _ (A R K : Type 0) (users : Users) (admits : ℕ → Bool) (view : View) (moment : ℕ) where
@@ -526,10 +544,7 @@ module _ (A R K : Type 0) (users : Users) (admits : ℕ → Bool) (view : View) 
 
   judged_fine : (line : Line) (found : Result Location Refusal) → judged users view line ≡ found
       → Always (CallFor (Ok line)) (EndFor (Ok line)) (judged_row {A = A} {R = R} {K = K} users admits view moment line found)
-  judged_fine line (Err why) is = refusing line
-    where
-      refusing : (line : Line) → Always (CallFor (Ok line)) (EndFor (Ok line)) (refuses view why)
-      refusing line = record { unprepared = λ _. refl; asks = omega arith; floors = inl (refl, refl) }
+  judged_fine line (Err why) is = record { unprepared = λ _. refl; asks = omega arith; floors = nobody A R K _ _ _ _ (refused_admits users admits view line why is) (inl (refl, refl)) }
   judged_fine line (Ok location) is =
       always_to (IsAllowedCall users view line) (CallFor (Ok line)) (EndFor (Ok line)) (EndFor (Ok line)) (λ exchange call. (line, refl, call)) (λ after actions end. end) _
       (row_fine A R K users admits view moment location line (is_judged users view line location is))

@@ -146,19 +146,38 @@ FewLinesAreHeld A R K = (users : Users) (admits : ℕ → Bool) (view : View) (h
 abbrev pub logged_in : View → List ℕ
 logged_in view = cond (is_inside view.stage) (view.number ∷ []) []
 
--- What may become of who is logged in, by what a step releases: they stay and nothing is released; they leave and their
--- floor is released; nobody was there, and whoever then is was admitted in this step.
-abbrev pub Releases : Bool → List ℕ → List ℕ → List ℕ → Type 0
-Releases admitted before released after =
-    ((released ≡ []) × (after ≡ before))
-    ⊎ (((released ≡ before) × (after ≡ [])) ⊎ ((released ≡ []) × (before ≡ []) × (admitted ≡ true)))
+-- What may become of who is logged in, by what a step releases. Where a user of a number is admitted, nobody was there before
+-- and that user is then. Otherwise they stay and nothing is released, or they leave and their floor is released.
+abbrev pub Releases : Option ℕ → List ℕ → List ℕ → List ℕ → Type 0
+Releases (Some number) before released after = (before ≡ []) × (released ≡ []) × (after ≡ number ∷ [])
+Releases None before released after = ((released ≡ []) × (after ≡ before)) ⊎ ((released ≡ before) × (after ≡ []))
 
--- one more session is counted: a right password is given in its turn, and what is guaranteed fits
-abbrev pub admitted_by : Users → (ℕ → Bool) → View → Option Item → Bool
-admitted_by users admits view (Some (Ok (command.Pass text))) = if_right users view (unwrap_or text []) (admits (number_of users view.name)) false
-admitted_by users admits view _ = false
+-- the number of the user whose session is counted by a line: a right password is given, and what is guaranteed fits
+abbrev pub admitted_by : Users → (ℕ → Bool) → View → Option Item → Option ℕ
+admitted_by users admits view (Some (Ok (command.Pass text))) =
+    if_right users view (unwrap_or text []) (cond (admits (number_of users view.name)) (Some (number_of users view.name)) None) None
+admitted_by users admits view _ = None
+
+-- and by a step: the line is served in its turn
+abbrev pub admitted_in : {A K : Type 0} → Users → (ℕ → Bool) → View → List Item → Input A K → Option ℕ
+admitted_in users admits view held told = cond (serves_lines view) (admitted_by users admits view (in_its_turn told held)) None
 
 unfoldable pub FloorsAreReleasedOnce : (A R K : Type 0) → Type 0
 FloorsAreReleasedOnce A R K = (users : Users) (admits : ℕ → Bool) (view : View) (held : List Item) (moment : ℕ) (told : Input A K)
-    → EachEnd (λ after actions. Releases (cond (serves_lines view) (admitted_by users admits view (in_its_turn told held)) false) (logged_in view) (releases actions) (logged_in after))
+    → EachEnd (λ after actions. Releases (admitted_in users admits view held told) (logged_in view) (releases actions) (logged_in after))
+    (table {A = A} {R = R} {K = K} users admits view held moment told).plan
+
+-- ---- what RNFR named
+
+-- The path that RNFR named behind a line that is served, or behind a step in which none is: there is none, or that of an RNFR
+-- which is served and allowed, or, where no line is served, the one that there was.
+abbrev pub IsNamed : Users → View → Option Item → Option Path → Type 0
+IsNamed users view item None = Unit {0}
+IsNamed users view None (Some path) = view.source ≡ Some path
+IsNamed users view (Some (Ok (command.Rnfr text))) (Some path) = IsAllowedAt users view (command.Rnfr text) path
+IsNamed users view (Some _) (Some path) = ⊥
+
+unfoldable pub SourcesAreNamed : (A R K : Type 0) → Type 0
+SourcesAreNamed A R K = (users : Users) (admits : ℕ → Bool) (view : View) (held : List Item) (moment : ℕ) (told : Input A K)
+    → EachEnd (λ after actions. IsNamed users view (cond (serves_lines view) (in_its_turn told held) None) after.source)
     (table {A = A} {R = R} {K = K} users admits view held moment told).plan

@@ -1,6 +1,6 @@
 //! What holds of every step.
 
-ghost use Rattle.session_laws.specs.Laws.{CallsAreRightful, FewLinesAreHeld, FloorsAreReleasedOnce, NoCallsOutside, NoTransferUnprepared, OneThingIsAsked};
+ghost use Rattle.session_laws.specs.Laws.{CallsAreRightful, FewLinesAreHeld, FloorsAreReleasedOnce, NoCallsOutside, NoTransferUnprepared, OneThingIsAsked, SourcesAreNamed};
 
 use std::alloc::Allocator;
 
@@ -27,7 +27,8 @@ pub fn few_lines_are_held<A: Allocator, R, K>()
 {}
 
 /// What a user is guaranteed is released in the step in which the user leaves, under the number of the
-/// login, and in no other.
+/// login, and in no other. A user whose session is counted is logged in behind that step under the number
+/// that was counted, and nobody was before.
 pub fn floors_are_released_once<A: Allocator, R, K>()
     ensures once { FloorsAreReleasedOnce A R K }
 {}
@@ -35,4 +36,10 @@ pub fn floors_are_released_once<A: Allocator, R, K>()
 /// A step asks at most once for a passive port or a transfer, and only a line does.
 pub fn one_thing_is_asked<A: Allocator, R, K>()
     ensures one { OneThingIsAsked A R K }
+{}
+
+/// What RNFR named comes from an RNFR that is served and allowed, and from nothing else; any other line that
+/// is served forgets it.
+pub fn sources_are_named<A: Allocator, R, K>()
+    ensures named { SourcesAreNamed A R K }
 {}

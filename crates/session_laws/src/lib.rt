@@ -7,5 +7,5 @@ mod laws;
 
 pub use laws::{
     calls_are_rightful, few_lines_are_held, floors_are_released_once, no_calls_outside,
-    no_transfer_unprepared, one_thing_is_asked,
+    no_transfer_unprepared, one_thing_is_asked, sources_are_named,
 };

@@ -3,7 +3,7 @@
 use memory_store::{MemSink, MemSource};
 use session_laws::{
     calls_are_rightful, few_lines_are_held, floors_are_released_once, no_calls_outside,
-    no_transfer_unprepared, one_thing_is_asked,
+    no_transfer_unprepared, one_thing_is_asked, sources_are_named,
 };
 use std::alloc::Global;
 
@@ -15,4 +15,5 @@ fn laws(_rt: HostRuntime) {
     few_lines_are_held::<Global, MemSource<Global>, MemSink<Global>>();
     floors_are_released_once::<Global, MemSource<Global>, MemSink<Global>>();
     one_thing_is_asked::<Global, MemSource<Global>, MemSink<Global>>();
+    sources_are_named::<Global, MemSource<Global>, MemSink<Global>>();
 }

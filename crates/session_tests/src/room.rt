@@ -2,11 +2,11 @@
 
 use crate::expect::same;
 use authorizer::Authorizer;
-use data_side::said;
 use ftp_terms::LineText;
 use line_rates::Limits;
 use memory_store::{MemSink, MemSource, MemStore};
 use rate_floors::Floors;
+use script_side::said;
 use session_state::{Location, State};
 use session_table::{Action, Settings};
 use std::alloc::{AllocError, Global};

@@ -100,7 +100,7 @@ fn session_events(
     users: &Authorizer,
     store: &mut MemStore,
 ) {
-    let told = end_transfer(state, users, store, End::Done, None, 0);
+    let told = end_transfer(state, users, store, End::Done, &mut None, 0);
     says(rt, told, "226 Transfer complete\r\n"); // and the replies to the lines that waited
     state.await_port(Passive::Plain);
     let told = take_port(state, users, Some(40_000));

@@ -7,13 +7,13 @@ use crate::expect::{holds, same};
 use crate::room::{Actions, PEER, Room, make_floors, make_room, says, settings};
 use authorizer::Authorizer;
 use configured_session::serve_config;
-use control_session::{ControlFault, Reads, run_control};
-use control_turns::{TurnFault, take_lines};
-use data_side::{release, said, serve};
 use ftp_wire::{Command, LineItem};
 use memory_store::MemStore;
 use rate_floors::Floors;
+use script_control::{ControlFault, Reads, run_control};
 use script_session::{ScriptSide, StillClock, serve_text};
+use script_side::{release, said, serve};
+use script_turns::{TurnFault, take_lines};
 use server_config::Config;
 use session_core::Session;
 use session_table::{Action, Input};
@@ -52,7 +52,7 @@ fn session_core(
     Ok(())
 }
 
-fn control_turns(
+fn script_turns(
     rt: &(impl Abort + AllocGlobal),
     users: &Authorizer,
     floors: &mut Floors,
@@ -78,7 +78,7 @@ fn control_turns(
     Ok(())
 }
 
-fn control_session<L: Ledger>(
+fn script_control<L: Ledger>(
     rt: &(impl Abort + AllocGlobal),
     users: &Authorizer,
     floors: &mut Floors,
@@ -137,7 +137,7 @@ fn script_session(
 }
 
 /// Among these actions one at most asks for an answer, as a law says of those of a step.
-fn data_side(rt: &(impl Abort + AllocGlobal), floors: &mut Floors, actions: Actions)
+fn script_side(rt: &(impl Abort + AllocGlobal), floors: &mut Floors, actions: Actions)
     requires few { asking actions.items ≤ 1 }
 {
     let text = said(rt.alloc(), &actions).expect(rt, "memory"); // the replies, to be written at once
@@ -152,14 +152,14 @@ fn data_side(rt: &(impl Abort + AllocGlobal), floors: &mut Floors, actions: Acti
 fn a_passive_port(rt: HostRuntime) {
     let mut actions: Actions = Vec::new(rt.alloc());
     actions.push(Action::OpenPassive).expect(&rt, "memory");
-    data_side(&rt, &mut make_floors(&rt), actions);
+    script_side(&rt, &mut make_floors(&rt), actions);
 }
 
 fn in_room(rt: &(impl Abort + AllocGlobal), room: &mut Room, items: Vec<LineItem>) {
-    let taken = control_turns(rt, &room.users, &mut room.floors, &mut room.store, items);
+    let taken = script_turns(rt, &room.users, &mut room.floors, &mut room.store, items);
     taken.expect(rt, "memory");
     session_core(rt, &room.users, &mut room.floors, &mut room.store).expect(rt, "memory");
-    control_session::<Brand>(
+    script_control::<Brand>(
         rt,
         &room.users,
         &mut room.floors,

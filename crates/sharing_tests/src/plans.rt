@@ -58,7 +58,7 @@ const ALL_OF_IT: Rates = Rates {
     ..FREE
 };
 
-static PLANS: [Row; 6] = [
+static PLANS: [Row; 7] = [
     // Kids stand in the order of first ask.
     Row {
         rates: TWO_GROUPS,
@@ -89,6 +89,44 @@ static PLANS: [Row; 6] = [
             (NO, 1),
         ],
         grants: &[1, 1, 1, 1, 6],
+    },
+    // Users and sessions too, whatever their numbers are; the remainder goes to the first.
+    Row {
+        rates: Rates { server: 50, ..FREE },
+        tick: 0,
+        asks: &[
+            (
+                0,
+                Ask {
+                    user: 9,
+                    session: 5,
+                    ..DOWN
+                },
+            ),
+            (1, Ask { user: 3, ..DOWN }),
+            (
+                2,
+                Ask {
+                    user: 9,
+                    session: 2,
+                    ..DOWN
+                },
+            ),
+        ],
+        lanes: &[0, 2, 1],
+        nodes: &[
+            (Some(5), 3),
+            (NO, 3),
+            (NO, 2),
+            (NO, 1),
+            (NO, 1),
+            (NO, 1),
+            (NO, 1),
+            (NO, 1),
+            (NO, 1),
+            (NO, 1),
+        ],
+        grants: &[2, 2, 1],
     },
     // Both ways, and a number of a session that two users have.
     Row {

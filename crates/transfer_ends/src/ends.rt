@@ -1,28 +1,66 @@
-//! Ends in memory: connections, sources and sinks that move few octets at a time, and fail when they are told to.
+//! Ends in memory, which follow a schedule: what each call of them answers, one after another.
 
-ghost use Rattle.std.specs.Prelude.{◌≤◌, length};
+ghost use Rattle.std.specs.Prelude.{◌≤◌, length, None};
+ghost use Rattle.virtual_tree.specs.Calls.{IsEndFault};
 
 use std::io;
 use std::io::{ErrorKind, Read, Write};
 use virtual_tree::{Sink, Source, StoreFault};
 
-/// A connection that takes at most `step` octets a write, and fails once it has taken `left`.
+/// What one call of an end answers. Beyond the last step of a schedule each call moves all that it can.
+#[derive(Clone, Copy, Debug, PartialEq, Eq)]
+pub enum Scheduled {
+    /// It moves at most so many octets.
+    Move(usize),
+    /// It moves nothing, as at an end.
+    Nothing,
+    /// It fails: a connection is reset; a source or a sink has this fault.
+    Fail(StoreFault),
+}
+
+/// A fault of a device, which is also that of a connection.
+pub const FAULT: Scheduled = Scheduled::Fail(StoreFault::Device);
+
+/// Want of memory.
+pub const MEMORY: Scheduled = Scheduled::Fail(StoreFault::Memory);
+
+// Takes the first step off a schedule.
+fn next_of(schedule: &mut &[Scheduled]) -> Scheduled {
+    match schedule.split_first() {
+        Some((step, rest)) => {
+            *schedule = rest;
+            *step
+        }
+        None => Scheduled::Move(usize::MAX),
+    }
+}
+
+// How many octets a call moves at most, or why it fails.
+fn most_of(step: Scheduled) -> Result<usize, StoreFault> {
+    match step {
+        Scheduled::Move(most) => Ok(most),
+        Scheduled::Nothing => Ok(0),
+        Scheduled::Fail(fault) => Err(fault),
+    }
+}
+
+/// A connection that is written.
 #[derive(Drop)]
 pub struct Outlet<'a> {
     pub taken: &'a mut Vec<u8>,
-    pub step: usize,
-    pub left: usize,
+    pub schedule: &'a [Scheduled],
 }
 
 impl<'a> Write for Outlet<'a> {
     fn write(&mut self, octets: &[u8]) -> io::Result<usize> {
-        let count = octets.len().min(self.step).min(self.left);
-        if count == 0 {
-            return Err(io::Error::from(ErrorKind::ConnectionReset));
+        match most_of(next_of(&mut self.schedule)) {
+            Ok(most) => {
+                let count = octets.len().min(most);
+                self.taken.extend_from_slice(&octets[..count])?;
+                Ok(count)
+            }
+            Err(_) => Err(io::Error::from(ErrorKind::ConnectionReset)),
         }
-        self.taken.extend_from_slice(&octets[..count])?;
-        self.left -= count;
-        Ok(count)
     }
 
     fn flush(&mut self) -> io::Result<()> {
@@ -30,43 +68,51 @@ impl<'a> Write for Outlet<'a> {
     }
 }
 
-// Copies as many octets as fit and as `step` allows, and leaves the rest.
-fn give(rest: &[u8], step: usize, buffer: &mut [u8]) -> usize
+// Copies as many octets as there are, as fit and as a step allows.
+fn give(rest: &[u8], most: usize, buffer: &mut [u8]) -> usize
     ensures most { result ≤ length rest.now }
     ensures fits { result ≤ length buffer.new }
 {
-    let count = buffer.len().min(step).min(rest.len());
+    let count = buffer.len().min(most).min(rest.len());
     buffer[..count].copy_from_slice(&rest[..count]);
     count
 }
 
-/// A connection that gives at most `step` octets a read, and fails after `reads` of them.
+/// A connection that is read.
 #[derive(Drop)]
 pub struct Inlet<'a> {
     pub rest: &'a [u8],
-    pub step: usize,
-    pub reads: usize,
+    pub schedule: &'a [Scheduled],
 }
 
 impl<'a> Read for Inlet<'a> {
     fn read(&mut self, buffer: &mut [u8]) -> io::Result<usize> {
-        if self.reads == 0 {
-            return Err(io::Error::from(ErrorKind::ConnectionReset));
+        match most_of(next_of(&mut self.schedule)) {
+            Ok(most) => {
+                let count = give(self.rest, most, buffer);
+                self.rest = &self.rest[count..];
+                Ok(count)
+            }
+            Err(_) => Err(io::Error::from(ErrorKind::ConnectionReset)),
         }
-        self.reads -= 1;
-        let count = give(self.rest, self.step, buffer);
-        self.rest = &self.rest[count..];
-        Ok(count)
     }
 }
 
-/// A source that gives at most `step` octets a read, and fails after `reads` of them.
+// The fault of an end whose octets are not known beforehand.
+fn end_fault(fault: StoreFault) -> StoreFault
+    ensures either { IsEndFault None result }
+{
+    if fault == StoreFault::Memory {
+        return StoreFault::Memory;
+    }
+    StoreFault::Device
+}
+
+/// A source.
 #[derive(Drop)]
 pub struct Octets<'a> {
     pub rest: &'a [u8],
-    pub step: usize,
-    pub reads: usize,
-    pub fault: StoreFault,
+    pub schedule: &'a [Scheduled],
 }
 
 impl<'a> Source for Octets<'a> {
@@ -75,26 +121,22 @@ impl<'a> Source for Octets<'a> {
     ghost remaining = { λ _. None };
 
     fn read(&mut self, buffer: &mut [u8]) -> Result<usize, StoreFault> {
-        if self.reads == 0 {
-            return if self.fault == StoreFault::Memory {
-                Err(StoreFault::Memory)
-            } else {
-                Err(StoreFault::Device)
-            };
+        match most_of(next_of(&mut self.schedule)) {
+            Ok(most) => {
+                let count = give(self.rest, most, buffer);
+                self.rest = &self.rest[count..];
+                Ok(count)
+            }
+            Err(fault) => Err(end_fault(fault)),
         }
-        self.reads -= 1;
-        let count = give(self.rest, self.step, buffer);
-        self.rest = &self.rest[count..];
-        Ok(count)
     }
 }
 
-/// A sink that refuses after `writes` writes.
+/// A sink. A step that does not fail takes all octets, whatever it says.
 #[derive(Drop)]
 pub struct Collected<'a> {
     pub octets: &'a mut Vec<u8>,
-    pub writes: usize,
-    pub fault: StoreFault,
+    pub schedule: &'a [Scheduled],
 }
 
 impl<'a> Sink for Collected<'a> {
@@ -105,17 +147,12 @@ impl<'a> Sink for Collected<'a> {
     ghost target = { λ _. None };
 
     fn write(&mut self, octets: &[u8]) -> Result<(), StoreFault> {
-        if self.writes == 0 {
-            return if self.fault == StoreFault::Memory {
-                Err(StoreFault::Memory)
-            } else {
-                Err(StoreFault::Device)
-            };
-        }
-        self.writes -= 1;
-        match self.octets.extend_from_slice(octets) {
-            Ok(()) => Ok(()),
-            Err(_) => Err(StoreFault::Memory),
+        match most_of(next_of(&mut self.schedule)) {
+            Ok(_) => match self.octets.extend_from_slice(octets) {
+                Ok(()) => Ok(()),
+                Err(_) => Err(StoreFault::Memory),
+            },
+            Err(fault) => Err(end_fault(fault)),
         }
     }
 }

@@ -1,5 +1,5 @@
-//! What tests and measurements of transfers stand on: ends in memory that move few octets at a time and fail when they
-//! are told to, sealed decisions, funds of granted octets, and whole transfers by them.
+//! What tests and measurements of transfers stand on: ends in memory that answer each call by a schedule, sealed
+//! decisions, funds of granted octets, and whole transfers by them.
 //!
 //! ```text
 //! // one round that granted one transfer 100 octets
@@ -16,7 +16,7 @@ mod funds;
 mod sealing;
 mod transfers;
 
-pub use ends::{Collected, Inlet, Octets, Outlet};
+pub use ends::{Collected, FAULT, Inlet, MEMORY, Octets, Outlet, Scheduled};
 pub use fault::FundsFault;
 pub use funds::Funds;
 pub use sealing::sealed;

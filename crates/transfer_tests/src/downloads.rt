@@ -1,19 +1,17 @@
 //! What goes out over a data connection. The function that bears a crate's name is the example at its head.
 
 use super::expect::holds;
-use data_pump::{DataOut, OpenFault, PumpEnd, pump_out};
+use data_pump::{DataOut, FailedPart, OpenFault, PumpEnd, pump_out};
 use ftp_terms::DataType;
+use line_rates::Way;
 use std::process::Abort;
-use transfer_ends::{Funds, Octets, Outlet, send, told};
-use virtual_tree::StoreFault;
+use transfer_ends::{FAULT, Funds, MEMORY, Octets, Outlet, Scheduled, send, told};
 
-// A source that gives so many octets a read, and never fails.
-fn octets(rest: &[u8], step: usize) -> Octets<'_> {
+// A source whose calls give all that they can.
+fn octets(rest: &[u8]) -> Octets<'_> {
     Octets {
         rest,
-        step,
-        reads: usize::MAX,
-        fault: StoreFault::Device,
+        schedule: &[],
     }
 }
 
@@ -35,24 +33,17 @@ fn data_pump(
 #[test]
 fn a_download(rt: HostRuntime) {
     let mut funds = Funds::new(rt.alloc(), &[100]).expect(&rt, "memory");
-    holds(
-        &rt,
-        data_pump(&rt, octets(b"a\nb", 100), &mut funds).is_ok(),
-    );
+    holds(&rt, data_pump(&rt, octets(b"a\nb"), &mut funds).is_ok());
     holds(&rt, funds.settle().moved == 4);
 }
 
-/// A download: a text, of which so many octets come by a read, and which fails after so many reads, by this fault; a
-/// connection that takes so many octets a write, and fails once it has taken so many; the type and the grants; and then
-/// what is on the wire, what each pump moved, and how the last one ended, or the refusal.
+/// A download: a text, and what the source's reads and the connection's writes do, one after another; the type and the
+/// grants; and then what is on the wire, what each pump moved, and how the last one ended, or the refusal.
 #[derive(Clone, Copy)]
 struct Row {
     text: &'static [u8],
-    step: usize,
-    reads: usize,
-    fault: StoreFault,
-    writes: usize,
-    left: usize,
+    reads: &'static [Scheduled],
+    writes: &'static [Scheduled],
     data_type: DataType,
     grants: &'static [u64],
     wire: &'static [u8],
@@ -60,14 +51,13 @@ struct Row {
     end: Result<PumpEnd, OpenFault>,
 }
 
+const ONE_BY_ONE: [Scheduled; 8] = [Scheduled::Move(1); 8];
+
 /// A text that is read at once, over a connection that takes octet by octet.
 const TEXT: Row = Row {
     text: b"a\nb",
-    step: 100,
-    reads: usize::MAX,
-    fault: StoreFault::Device,
-    writes: 1,
-    left: 100,
+    reads: &[],
+    writes: &ONE_BY_ONE,
     data_type: DataType::Ascii,
     grants: &[4],
     wire: b"a\r\nb",
@@ -75,23 +65,29 @@ const TEXT: Row = Row {
     end: Ok(PumpEnd::Ended),
 };
 
-/// A source that gives two octets and then fails.
+/// A source that gives two octets, and then fails once.
 const FAILS: Row = Row {
     text: b"abc",
-    step: 2,
-    reads: 1,
-    writes: 100,
+    reads: &[Scheduled::Move(2), FAULT],
+    writes: &[],
     data_type: DataType::Image,
     grants: &[2],
     wire: b"ab",
     moved: &[2],
     end: Ok(PumpEnd::ReadFault),
+};
+
+/// A connection that fails once: whatever follows would pass.
+const RESET: Row = Row {
+    writes: &[FAULT],
+    wire: b"",
+    moved: &[0],
+    end: Ok(PumpEnd::WriteFault),
     ..TEXT
 };
 
-const WRITE_FAULT: Result<PumpEnd, OpenFault> = Ok(PumpEnd::WriteFault);
-
-static DOWNLOADS: [Row; 14] = [
+static DOWNLOADS: [Row; 15] = [
+    TEXT,
     // Octet by octet: four pumps, the last of which ends.
     Row {
         grants: &[1, 1, 1, 1],
@@ -101,87 +97,75 @@ static DOWNLOADS: [Row; 14] = [
     // A source that is read octet by octet: the text is the same.
     Row {
         text: b"\r\n\n\r",
-        step: 1,
+        reads: &ONE_BY_ONE,
         grants: &[3, 3, 3, 3],
         wire: b"\r\r\n\r\n\r",
         moved: &[1, 2, 2, 1],
         ..TEXT
     },
-    // The first, second, third or fourth write fails, or none.
+    // The first, second, third or fourth write fails.
+    RESET,
     Row {
-        left: 0,
-        wire: b"",
-        moved: &[0],
-        end: WRITE_FAULT,
-        ..TEXT
-    },
-    Row {
-        left: 1,
+        writes: &[Scheduled::Move(1), FAULT],
         wire: b"a",
         moved: &[1],
-        end: WRITE_FAULT,
-        ..TEXT
+        ..RESET
     },
     Row {
-        left: 2,
+        writes: &[Scheduled::Move(1), Scheduled::Move(1), FAULT],
         wire: b"a\r",
         moved: &[2],
-        end: WRITE_FAULT,
-        ..TEXT
+        ..RESET
     },
     Row {
-        left: 3,
+        writes: &[Scheduled::Move(2), Scheduled::Move(1), FAULT],
         wire: b"a\r\n",
         moved: &[3],
-        end: WRITE_FAULT,
-        ..TEXT
+        ..RESET
     },
-    Row { left: 4, ..TEXT },
+    // A write that takes nothing has failed.
+    Row {
+        writes: &[Scheduled::Move(3), Scheduled::Nothing],
+        wire: b"a\r\n",
+        moved: &[3],
+        ..RESET
+    },
     // A smaller grant, and a write that fails.
     Row {
-        left: 2,
+        writes: &[Scheduled::Move(2), FAULT],
         grants: &[3],
         wire: b"a\r",
         moved: &[2],
-        end: WRITE_FAULT,
-        ..TEXT
+        ..RESET
     },
     // Nothing makes no call: the connection would fail at any.
     Row {
         text: b"",
-        step: 1,
-        left: 0,
         grants: &[0],
-        wire: b"",
-        moved: &[0],
-        ..TEXT
+        end: Ok(PumpEnd::Ended),
+        ..RESET
     },
     Row {
         text: b"a",
-        step: 1,
-        left: 0,
         grants: &[0],
-        wire: b"",
-        moved: &[0],
         end: Ok(PumpEnd::More),
-        ..TEXT
+        ..RESET
     },
-    // The source fails at its second read, or at its first.
+    // The source fails at its second read, or at its first; the next would pass.
     FAILS,
     Row {
-        fault: StoreFault::Memory,
+        reads: &[Scheduled::Move(2), MEMORY],
         end: Ok(PumpEnd::Memory),
         ..FAILS
     },
     Row {
-        reads: 0,
+        reads: &[FAULT],
         wire: b"",
         end: Err(OpenFault::ReadFault),
         ..FAILS
     },
     Row {
-        reads: 0,
-        fault: StoreFault::Memory,
+        reads: &[MEMORY],
         wire: b"",
         end: Err(OpenFault::Memory),
         ..FAILS
@@ -193,14 +177,11 @@ fn expect_sent(rt: &(impl Abort + AllocGlobal), row: &Row) {
     let mut taken = Vec::new(rt.alloc());
     let outlet = Outlet {
         taken: &mut taken,
-        step: row.writes,
-        left: row.left,
+        schedule: row.writes,
     };
     let source = Octets {
         rest: row.text,
-        step: row.step,
-        reads: row.reads,
-        fault: row.fault,
+        schedule: row.reads,
     };
     match send(rt.alloc(), source, outlet, row.data_type, row.grants) {
         Ok(sent) => {
@@ -235,10 +216,9 @@ fn expect_moved(
     let mut taken = Vec::new(rt.alloc());
     let outlet = Outlet {
         taken: &mut taken,
-        step: 10_000,
-        left: usize::MAX,
+        schedule: &[Scheduled::Move(10_000); 20],
     };
-    let source = octets(text, text.len());
+    let source = octets(text);
     let sent = send(rt.alloc(), source, outlet, data_type, &[80_000; 3]);
     let sent = sent.expect(rt, "a download");
     holds(rt, sent.pumps.len() == 3);
@@ -255,4 +235,36 @@ fn a_full_buffer(rt: HostRuntime) {
     expect_moved(&rt, &ends, DataType::Image, &[65_536, 4_464, 0]);
     let fewer = &ends[..40_000];
     expect_moved(&rt, fewer, DataType::Ascii, &[65_536, 14_464, 0]);
+}
+
+const READER: (Option<FailedPart>, Option<FailedPart>) = (
+    Some(FailedPart::Source),
+    Some(FailedPart::Connection),
+);
+
+const STORE: (Option<FailedPart>, Option<FailedPart>) = (
+    Some(FailedPart::Source),
+    Some(FailedPart::Sink),
+);
+
+const WRITER: (Option<FailedPart>, Option<FailedPart>) = (
+    Some(FailedPart::Connection),
+    Some(FailedPart::Sink),
+);
+
+/// Whose fault an end is, in a download and in an upload.
+static FAULTS: [(PumpEnd, (Option<FailedPart>, Option<FailedPart>)); 5] = [
+    (PumpEnd::Ended, (None, None)),
+    (PumpEnd::More, (None, None)),
+    (PumpEnd::ReadFault, READER),
+    (PumpEnd::WriteFault, WRITER),
+    (PumpEnd::Memory, STORE),
+];
+
+#[test]
+fn whose_fault(rt: HostRuntime) {
+    for (end, (down, up)) in &FAULTS {
+        holds(&rt, end.failed_part(Way::Down) == *down);
+        holds(&rt, end.failed_part(Way::Up) == *up);
+    }
 }

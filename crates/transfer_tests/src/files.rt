@@ -5,7 +5,7 @@ use data_pump::PumpEnd;
 use ftp_terms::DataType;
 use memory_store::MemStore;
 use std::process::Abort;
-use transfer_ends::{Inlet, Outlet, receive, send, told};
+use transfer_ends::{Inlet, Outlet, Scheduled, receive, send, told};
 use virtual_path::VPath;
 use virtual_tree::{Sink, Source, Store, WriteMode};
 
@@ -36,8 +36,7 @@ fn expect_sent(
     let mut taken = Vec::new(rt.alloc());
     let outlet = Outlet {
         taken: &mut taken,
-        step: 3,
-        left: 100,
+        schedule: &[Scheduled::Move(3); 100],
     };
     let sent = send(rt.alloc(), source, outlet, DataType::Ascii, &[4, 90]);
     holds(rt, sent.expect(rt, "a download").is_sound);
@@ -57,8 +56,7 @@ fn receive_more(
         .expect(rt, "a sink");
     let inlet = Inlet {
         rest: wire,
-        step: 3,
-        reads: 100,
+        schedule: &[Scheduled::Move(3); 100],
     };
     let received = receive(rt.alloc(), inlet, sink, DataType::Ascii, &[4, 4, 4, 4]);
     let (came, sink) = received.expect(rt, "an upload");
@@ -92,9 +90,28 @@ fn expect_rest(rt: &(impl Abort + AllocGlobal), store: &mut MemStore) {
     expect_sent(rt, store, &file, 2, b"c\r\nd");
 }
 
+// A file that is longer than all that waits at once goes out whole.
+fn expect_large(rt: &(impl Abort + AllocGlobal), store: &mut MemStore) {
+    let alloc = rt.alloc();
+    let octets = vec![in alloc; b'x'; 70_000].expect(rt, "memory");
+    let file = path(rt, "/l");
+    put(rt, store, &file, &octets);
+    let source = store.open_read(&file, 0).expect(rt, "a source");
+    let mut taken = Vec::new(rt.alloc());
+    let outlet = Outlet {
+        taken: &mut taken,
+        schedule: &[],
+    };
+    let sent = send(rt.alloc(), source, outlet, DataType::Image, &[65_536; 2]);
+    let sent = sent.expect(rt, "a download");
+    holds(rt, told(&sent.pumps, &[65_536, 4_464], PumpEnd::Ended));
+    holds(rt, taken.as_slice() == octets.as_slice());
+}
+
 #[test]
 fn files_go_out_and_come_back(rt: HostRuntime) {
-    let mut store = MemStore::new(rt.alloc(), 1_000).expect(&rt, "memory");
+    let mut store = MemStore::new(rt.alloc(), 100_000).expect(&rt, "memory");
     expect_copy(&rt, &mut store);
     expect_rest(&rt, &mut store);
+    expect_large(&rt, &mut store);
 }

@@ -8,7 +8,7 @@ use transfer_ends::{Funds, FundsFault, sealed};
 #[test]
 fn grant_ledger(rt: HostRuntime) -> Result<(), FundsFault> {
     let sealed = sealed(rt.alloc(), &[100])?;
-    let (mut book, mut tally) = Book::open(0);
+    let (mut book, mut tally): (Book, Tally) = Book::open(0);
     match book.enter_out(&sealed, 7) {
         Ok(mut purse) => {
             let grant = purse.split(3, purse.left()); // its octets at tick 7, all for lane 3

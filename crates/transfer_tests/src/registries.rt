@@ -60,10 +60,10 @@ fn limits_and_keys(rt: HostRuntime) {
     expect_keys(&rt, &mut registry(&rt, 3, 2));
 }
 
-// Of a thousand connections from one address just so many are admitted; the others are refused for the limit of all.
+// Of two thousand connections from one address just so many are admitted; the others are refused for the limit of all.
 fn expect_admitted(rt: &impl Abort, registry: &mut Registry<Global>, wanted: usize) {
     let mut admitted = 0usize;
-    for _ in 0..1000u32 {
+    for _ in 0..2000u32 {
         match registry.admit(A) {
             Ok(_) => admitted = admitted.saturating_add(1),
             Err(fault) => holds(rt, fault == AdmitFault::TooMany),
@@ -74,20 +74,20 @@ fn expect_admitted(rt: &impl Abort, registry: &mut Registry<Global>, wanted: usi
         rt,
         registry.count() == wanted && registry.count_of_address(A) == wanted,
     );
-    holds(rt, !registry.leave(1000));
+    holds(rt, !registry.leave(2000));
 }
 
 /// The most of all, the most of an address, and how many are admitted.
-static THOUSANDS: [(usize, usize, usize); 4] = [
+static LIMITS: [(usize, usize, usize); 4] = [
     (0, 0, 0),
     (2, 2, 2),
     (512, 0, 512),
-    (usize::MAX, usize::MAX, 1000),
+    (usize::MAX, usize::MAX, 2000),
 ];
 
 #[test]
-fn a_thousand_connections_at_once(rt: HostRuntime) {
-    for (max, max_of_address, wanted) in &THOUSANDS {
+fn two_thousand_connections_at_once(rt: HostRuntime) {
+    for (max, max_of_address, wanted) in &LIMITS {
         expect_admitted(&rt, &mut registry(&rt, *max, *max_of_address), *wanted);
     }
 }

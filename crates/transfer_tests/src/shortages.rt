@@ -10,20 +10,16 @@ use scarce_memory::{HEAP, leave_hole};
 use std::alloc::Allocator;
 use std::process::Abort;
 use transfer_ends::{Collected, Inlet, Octets, Outlet};
-use virtual_tree::StoreFault;
 
 // Whether a download can be opened over this heap.
 fn opens_out(rt: &impl Abort, heap: &LocalHeap, octets: &mut Vec<u8>, data_type: DataType) -> bool {
     let connection = Outlet {
         taken: octets,
-        step: 1,
-        left: 1,
+        schedule: &[],
     };
     let source = Octets {
         rest: b"a",
-        step: 1,
-        reads: 1,
-        fault: StoreFault::Device,
+        schedule: &[],
     };
     match DataOut::open(heap, source, connection, data_type) {
         Ok(out) => {
@@ -41,13 +37,11 @@ fn opens_out(rt: &impl Abort, heap: &LocalHeap, octets: &mut Vec<u8>, data_type:
 fn opens_in(rt: &impl Abort, heap: &LocalHeap, octets: &mut Vec<u8>, data_type: DataType) -> bool {
     let sink = Collected {
         octets,
-        writes: 1,
-        fault: StoreFault::Device,
+        schedule: &[],
     };
     let connection = Inlet {
         rest: b"a",
-        step: 1,
-        reads: 1,
+        schedule: &[],
     };
     match DataIn::open(heap, connection, sink, data_type) {
         Ok(_) => true,

@@ -4,18 +4,16 @@ use super::expect::holds;
 use data_pump::PumpEnd;
 use ftp_terms::DataType;
 use std::process::Abort;
-use transfer_ends::{Collected, Inlet, receive, told};
-use virtual_tree::StoreFault;
+use transfer_ends::{Collected, FAULT, Inlet, MEMORY, Scheduled, receive, told};
 
-/// An upload: what the connection gives, so many octets a read, and fails after so many reads; a sink that refuses after
-/// so many writes for want of memory; the type and the grants; and then what the sink holds, what each pump moved, how
-/// the last one ended, and how many of the granted octets were moved and came back.
+/// An upload: what the connection gives, and what its reads and the sink's writes do, one after another; the type and the
+/// grants; and then what the sink holds, what each pump moved, how the last one ended, and how many of the granted octets
+/// were moved and came back.
 #[derive(Clone, Copy)]
 struct Row<'a> {
     rest: &'a [u8],
-    step: usize,
-    reads: usize,
-    writes: usize,
+    reads: &'static [Scheduled],
+    writes: &'static [Scheduled],
     data_type: DataType,
     grants: &'static [u64],
     text: &'a [u8],
@@ -27,9 +25,8 @@ struct Row<'a> {
 /// A CR at the end of a piece is held back; a CR alone stays.
 const TEXT: Row<'static> = Row {
     rest: b"a\r\nb\r",
-    step: 1,
-    reads: usize::MAX,
-    writes: usize::MAX,
+    reads: &[Scheduled::Move(1); 5],
+    writes: &[],
     data_type: DataType::Ascii,
     grants: &[5, 5, 5, 5, 5, 5],
     text: b"a\nb\r",
@@ -41,9 +38,8 @@ const TEXT: Row<'static> = Row {
 /// One pump, which makes one read and one write.
 const IMAGE: Row<'static> = Row {
     rest: b"abc",
-    step: 100_000,
-    reads: 1,
-    writes: 1,
+    reads: &[],
+    writes: &[],
     data_type: DataType::Image,
     grants: &[5],
     text: b"abc",
@@ -52,21 +48,40 @@ const IMAGE: Row<'static> = Row {
     settled: (3, 2),
 };
 
-static UPLOADS: [Row<'static>; 8] = [
+/// The sink refuses the CR that was held back, once the connection has ended.
+const LAST_CR: Row<'static> = Row {
+    rest: b"a\r",
+    reads: &[],
+    writes: &[Scheduled::Move(1), FAULT],
+    grants: &[5, 5],
+    text: b"a",
+    moved: &[2, 0],
+    end: PumpEnd::WriteFault,
+    settled: (2, 8),
+    ..TEXT
+};
+
+static UPLOADS: [Row<'static>; 12] = [
     TEXT,
     Row {
-        step: 2,
+        reads: &[Scheduled::Move(2); 3],
         grants: &[5, 5, 5, 5],
         moved: &[2, 2, 1, 0],
         settled: (5, 15),
         ..TEXT
     },
     Row {
-        step: 9,
+        reads: &[],
         grants: &[5, 5],
         moved: &[5, 0],
         settled: (5, 5),
         ..TEXT
+    },
+    LAST_CR,
+    Row {
+        writes: &[Scheduled::Move(1), MEMORY],
+        end: PumpEnd::Memory,
+        ..LAST_CR
     },
     IMAGE,
     Row {
@@ -77,14 +92,31 @@ static UPLOADS: [Row<'static>; 8] = [
         settled: (0, 5),
         ..IMAGE
     },
+    // A connection that gives nothing has ended, whatever it would give later.
     Row {
-        writes: 0,
+        reads: &[Scheduled::Nothing],
+        text: b"",
+        moved: &[0],
+        end: PumpEnd::Ended,
+        settled: (0, 5),
+        ..IMAGE
+    },
+    // The sink refuses once; the next write would pass.
+    Row {
+        writes: &[MEMORY],
         text: b"",
         end: PumpEnd::Memory,
         ..IMAGE
     },
     Row {
-        reads: 0,
+        writes: &[FAULT],
+        text: b"",
+        end: PumpEnd::WriteFault,
+        ..IMAGE
+    },
+    // The connection fails once; the next read would pass.
+    Row {
+        reads: &[FAULT],
         text: b"",
         moved: &[0],
         end: PumpEnd::ReadFault,
@@ -93,8 +125,8 @@ static UPLOADS: [Row<'static>; 8] = [
     },
     // Nothing makes no read: the connection would fail at any.
     Row {
-        reads: 0,
-        writes: 0,
+        reads: &[FAULT],
+        writes: &[FAULT],
         grants: &[0],
         text: b"",
         moved: &[0],
@@ -107,13 +139,11 @@ fn expect_received(rt: &(impl Abort + AllocGlobal), row: &Row<'_>) {
     let mut collected = Vec::new(rt.alloc());
     let sink = Collected {
         octets: &mut collected,
-        writes: row.writes,
-        fault: StoreFault::Memory,
+        schedule: row.writes,
     };
     let inlet = Inlet {
         rest: row.rest,
-        step: row.step,
-        reads: row.reads,
+        schedule: row.reads,
     };
     let received = receive(rt.alloc(), inlet, sink, row.data_type, row.grants);
     let (came, _sink) = received.expect(rt, "an upload");
@@ -143,4 +173,64 @@ fn a_full_read(rt: HostRuntime) {
         ..IMAGE
     };
     expect_received(&rt, &row);
+}
+
+/// What the reads and writes of an upload of `abcdef` do by pumps of two octets; what the sink holds, and what the first
+/// pump that did not tell `More` told, and how many were before it.
+type Failure = (
+    &'static [Scheduled],
+    &'static [Scheduled],
+    &'static [u8],
+    PumpEnd,
+    usize,
+);
+
+static FAILURES: [Failure; 4] = [
+    (&[], &[FAULT], b"", PumpEnd::WriteFault, 0),
+    (
+        &[],
+        &[Scheduled::Move(2), MEMORY],
+        b"ab",
+        PumpEnd::Memory,
+        1,
+    ),
+    (
+        &[Scheduled::Move(2), FAULT],
+        &[],
+        b"ab",
+        PumpEnd::ReadFault,
+        1,
+    ),
+    (&[Scheduled::Nothing], &[], b"", PumpEnd::Ended, 0),
+];
+
+// Each pump after that one tells the same, and moves nothing.
+fn expect_failed(rt: &(impl Abort + AllocGlobal), failure: &Failure) {
+    let (reads, writes, text, end, before) = *failure;
+    let mut collected = Vec::new(rt.alloc());
+    let sink = Collected {
+        octets: &mut collected,
+        schedule: writes,
+    };
+    let inlet = Inlet {
+        rest: b"abcdef",
+        schedule: reads,
+    };
+    let received = receive(rt.alloc(), inlet, sink, DataType::Image, &[2; 4]);
+    let (came, _sink) = received.expect(rt, "an upload");
+    holds(rt, came.is_sound && came.pumps.len() == 4);
+    for (place, pumped) in came.pumps.iter().enumerate() {
+        let is_before = place < before;
+        holds(rt, (pumped.end == PumpEnd::More) == is_before);
+        holds(rt, is_before || pumped.end == end);
+        holds(rt, place <= before || pumped.moved == 0);
+    }
+    holds(rt, collected.as_slice() == text);
+}
+
+#[test]
+fn a_failed_upload_stays_failed(rt: HostRuntime) {
+    for failure in &FAILURES {
+        expect_failed(&rt, failure);
+    }
 }

@@ -1,17 +1,22 @@
-use Rattle.std.proofs.Common.{ℕ, ◌≡◌, List, length, false}
-use Rattle.std.specs.Io.KnownBytes.{Appends}
+use Rattle.std.proofs.Common.{ℕ, ◌≡◌, ◌++◌, List, None, false, length}
 use Rattle.std.specs.Vec.Iter.{into_iter_items}
+use Rattle.ftp_wire.specs.Items.{Item}
 use Rattle.ftp_wire.specs.Reading.{items_of}
-use Rattle.control_turns.specs.Turns.{due}
-use Rattle.control_turns.proofs.Leading.{Passed}
+use Rattle.control_turns.specs.Rows.{IsRow}
+use Rattle.control_turns.specs.Standing.{stand}
+use Rattle.control_turns.specs.Turns.{Heard, Went, due}
 use Rattle.control_turns.proofs.turns.take_lines.Given as goal
 
--- whatever ends what is left ends all
 abbrev pub invariant-loop-item : goal.invariant-loop-item
-invariant-loop-item g l = (text : List ℕ) × Appends (g.W.TextWriter.contents l.fn.writer) (g.W.TextWriter.contents l.writer) text
-    × Passed g.row.A.Denot (g.C.Moments.may_answer l.fn.clock) g.S.Store.Step g.D.DataSide.Asks l.fn.users.users
-    l.fn.session l.fn.floors l.fn.store l.fn.side (items_of l.fn.items.items) (items_of (into_iter_items l.left)) text l.session l.floors l.store l.side
-    × (due l.session ≡ false)
+invariant-loop-item g l = record {
+  none : l.talk.came ≡ None;
+  whole : l.talk.lost ≡ None;
+  live : l.talk.closed ≡ false;
+  due : due l.talk.session ≡ false;
+  went : (taken : List Item) (heard : Heard) → heard.items ≡ taken ++ items_of l.fn.items.items
+      → (last : List Item) × (heard.items ≡ last ++ items_of (into_iter_items l.left)) × Went (IsRow {A = g.row.A.Denot} g.H.Host.Step l.fn.users.users) g.H.Host.Does
+      l.fn.host (stand l.fn.talk taken heard) l.host (stand l.talk last heard);
+}
 
 abbrev pub decreases-loop-item : goal.decreases-loop-item
 decreases-loop-item g l = length (into_iter_items l.left)

@@ -2,6 +2,8 @@ use Rattle.std.proofs.Common.{map, string_bytes}
 use Rattle.folder_store.proofs.Places.{leads_further}
 use Rattle.folder_store.proofs.folder.Folder.below.Goals as goal
 
-pub returns-clause-place : goal.returns-clause-place
-returns-clause-place g c =
-    leads_further (string_bytes c.args.self.now.path) _ _ c.args.last.now (map (λ name. name.now) c.args.above.now) c.in_ok-place.ensures.place c.in_ok-push.ensures.further
+pub returns : goal.returns
+returns g c = record {
+  place =
+      leads_further (string_bytes c.args.self.now.path) _ _ c.args.last.now (map (λ name. name.now) c.args.above.now) c.in_ok-place.ensures.place c.in_ok-push.ensures.further;
+}

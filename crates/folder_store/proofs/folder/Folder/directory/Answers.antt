@@ -9,5 +9,5 @@ pub loop-name-preserved : goal.loop-name-preserved
 loop-name-preserved g c =
     leads_next (λ name. name.now) c.args.names.now c.loop-name.name-index _ (string_bytes c.args.self.now.path) _ _ c.loop-name-test.true c.loop-name.invariant c.in_ok-is_file.ensures.place
 
-pub returns-clause-place : goal.returns-clause-place
-returns-clause-place g c = leads_by_all (λ name. name.now) c.args.names.now c.loop-name.name-index (string_bytes c.args.self.now.path) _ c.loop-name-test.false c.loop-name.invariant
+pub returns : goal.returns
+returns g c = record { place = leads_by_all (λ name. name.now) c.args.names.now c.loop-name.name-index (string_bytes c.args.self.now.path) _ c.loop-name-test.false c.loop-name.invariant }

@@ -1,4 +1,5 @@
-use Rattle.std.proofs.Common.{refl, sym, subst}
+use Rattle.std.proofs.Common.{IfOk, refl, sym, subst}
+use Rattle.session_core.proofs.DataRows.{err_through, ok_through}
 use Rattle.std.proofs.lemmas.Result.{IfOk-weaker}
 use Rattle.ftp_wire.specs.Reading.{items_of}
 use Rattle.rate_floors.specs.Promises.{admits}
@@ -13,19 +14,18 @@ use Rattle.session_core.proofs.session.Session.step.Goals as goal
 
 pub returns-in-TransferEnded-clause-row : goal.returns-in-TransferEnded-clause-row
 returns-in-TransferEnded-clause-row g c =
-    let held = items_of c.self.inside.held.items in
-    IfOk-weaker c.end_transfer.result _ _ (λ actions ran.
-    subst (λ (i : Input g.row.A.Denot g.row.S-Sink.Denot). SessionStep {A = g.row.A.Denot} {R = g.row.S-Source.Denot} {K = g.row.S-Sink.Denot} g.S.Store.Step c.args.users.now.users (admits c.args.floors.now) c.args.self.now.view c.args.self.now.held c.args.moment i c.args.store.now c.end_transfer.new.store c.end_transfer.new.state held actions.items) (sym c.in-TransferEnded.is)
-    (subst (λ (s : Standing). SessionStep {A = g.row.A.Denot} {R = g.row.S-Source.Denot} {K = g.row.S-Sink.Denot} g.S.Store.Step c.args.users.now.users (admits c.args.floors.now) s.view s.held c.args.moment (input.TransferEnded c.in-TransferEnded.end c.in-TransferEnded.sink) c.args.store.now c.end_transfer.new.store c.end_transfer.new.state held actions.items) c.self.view_is
-    (step_by g.S.Store.Step c.args.users.now.users (admits c.args.floors.now) c.self.inside.state held c.args.moment (input.TransferEnded c.in-TransferEnded.end c.in-TransferEnded.sink)
-    (beside held (ended_row c.args.users.now.users c.self.inside.state c.args.moment c.in-TransferEnded.end c.in-TransferEnded.sink)) c.args.store.now c.end_transfer.new.store c.end_transfer.new.state held actions.items
-    (at_end c.args.users.now.users (admits c.args.floors.now) c.self.inside.state held c.args.moment c.in-TransferEnded.end c.in-TransferEnded.sink) ran refl))) c.end_transfer.ensures.row
+    ok_through c.take_end-answer.result c.lacking.result _ c.lacking.ensures.ok
+    (subst (λ (i : Input g.row.A.Denot g.row.S-Sink.Denot). IfOk c.take_end-answer.result (λ actions. SessionStep {A = g.row.A.Denot} {R = g.row.S-Source.Denot} {K = g.row.S-Sink.Denot} g.S.Store.Step c.args.users.now.users (admits c.args.floors.now) c.args.self.now.view c.args.self.now.held c.args.moment i c.args.store.now c.take_end-answer.new.store c.take_end-answer.new.self.view c.take_end-answer.new.self.held actions.items)) (sym c.in-TransferEnded.is)
+    (c.take_end-answer.ensures.row (admits c.args.floors.now)))
+
+pub returns-in-TransferEnded-clause-unchanged : goal.returns-in-TransferEnded-clause-unchanged
+returns-in-TransferEnded-clause-unchanged g c = err_through _ c.take_end-answer.result c.lacking.result c.lacking.ensures.err c.take_end-answer.ensures.unchanged
 
 pub returns-in-TransferEnded-clause-stops : goal.returns-in-TransferEnded-clause-stops
-returns-in-TransferEnded-clause-stops g c =
-    on_err_from c.end_transfer.result (λ same.
+returns-in-TransferEnded-clause-stops g c = err_through _ c.take_end-answer.result c.lacking.result c.lacking.ensures.err
+    (on_err_from c.take_end-answer.result (λ same.
     subst (λ s. SessionStops {A = g.row.A.Denot} {R = g.row.S-Source.Denot} {K = g.row.S-Sink.Denot} g.S.Store.Step c.args.users.now.users (admits c.args.floors.now) c.args.self.now.view c.args.self.now.held c.args.moment c.args.input c.args.store.now s) (sym same)
-    (step_stops_here g.S.Store.Step c.args.users.now.users (admits c.args.floors.now) c.args.self.now.view c.args.self.now.held c.args.moment c.args.input c.args.store.now)) c.end_transfer.ensures.untouched
+    (step_stops_here g.S.Store.Step c.args.users.now.users (admits c.args.floors.now) c.args.self.now.view c.args.self.now.held c.args.moment c.args.input c.args.store.now)) c.take_end-answer.ensures.untouched)
 
 pub returns-in-DataReady-clause-row : goal.returns-in-DataReady-clause-row
 returns-in-DataReady-clause-row g c =

@@ -1,0 +1,130 @@
+//! The host of a control session: all that is outside of it.
+
+ghost use Rattle.std.specs.Prelude.{◌≡◌, ◌<◌, ℕ, IfErr, IfOk, OnErr, [], length, true};
+ghost use Rattle.control_turns.specs.Calls.{HostCall, read_call, reads_within, write_call};
+ghost use Rattle.control_turns.specs.Calls.HostCall.{Asked, Noted, Released};
+ghost use Rattle.control_turns.specs.Rows.{IsRow, StepTried};
+ghost use Rattle.control_turns.specs.Turns.{Stepped};
+ghost use Rattle.data_side.specs.Sides.{event_in, given_of};
+ghost use Rattle.data_side.specs.Sides.Given.{Came, Closed};
+ghost use Rattle.data_side.specs.Sides.SideCall.{Aborts, Connects, Drops, Looks, Opens, Settles, Starts};
+ghost use Rattle.handler_hooks.specs.Events.{event_of};
+ghost use Rattle.session_core.specs.Events.{leaving_by};
+ghost use Rattle.session_table.specs.Views.{is_closed};
+
+use authorizer::Authorizer;
+use data_side::DataEvent;
+use ftp_wire::HostPort;
+use session_core::{Leaving, Session};
+use session_table::{Action, HookCall, Input, Job, Text};
+use std::alloc::Allocator;
+use std::io;
+
+/// What a read gave.
+#[derive(Clone, Copy, Debug, PartialEq, Eq)]
+pub enum Piece {
+    /// So many octets, in front of the buffer: one at least.
+    Octets(usize),
+    /// Nothing has come yet. It is read again, and the data side is asked before.
+    Nothing,
+    /// The end: nothing will come any more.
+    AtEnd,
+}
+
+/// The host of a control session: the store, the floors, the clock, the data side, the client's text and the handler.
+///
+/// `Does` says what each call makes of it: it is the host's own meaning. As all calls go to one host, one after another, what
+/// is proved of a session speaks of their order too. A session is lent the store and the floors for a step alone, so other
+/// sessions may change them in between. Nothing here has to wait: a host that waits, in a read or for the end of a
+/// transfer, brings what it needs for that.
+pub trait Host<A: Allocator + Clone> {
+    /// The store.
+    type Store;
+
+    /// What the store's files are read from, and written through.
+    type Source: Drop;
+
+    type Sink: Drop;
+
+    ghost use Rattle.control_turns.specs.Calls.{HostCall};
+    ghost use Rattle.virtual_tree.specs.Calls.{Exchange};
+
+    /// What one call of the store with its answer makes of it.
+    ghost Step: { Self.Store → Exchange Self.Source Self.Sink → Self.Store → Type 0 };
+
+    /// What one call with its answer makes of the host.
+    ghost Does: { Self → HostCall A Self.Store Self.Source Self.Sink → Self → Type 0 };
+
+    /// Lends the store and the floors for one step of a session, at a moment for which the clock is asked once. Where memory
+    /// runs out, what came of the data side is given back.
+    fn step(
+        &mut self,
+        users: &Authorizer<A>,
+        session: &mut Session<A>,
+        input: Input<A, Self::Sink>,
+    ) -> Result<Vec<Action<A, Self::Source, Self::Sink>, A>, Option<DataEvent<Self::Sink>>>
+        ensures row { IfOk result (λ actions. Stepped (IsRow Step users.now.users) Does
+            self.old session.old (given_of input) session.new actions.items self.new) }
+        ensures unchanged { OnErr result (session.new ≡ session.old) }
+        ensures tried { OnErr result (StepTried Does self.old self.new) }
+        ensures back { IfErr result (λ back. back ≡ event_in input) };
+
+    /// Lends them for the end of the control connection.
+    fn close(
+        &mut self,
+        users: &Authorizer<A>,
+        session: &mut Session<A>,
+        nobody: Text<A>,
+    ) -> Option<Leaving<A>>
+        requires nobody { nobody ≡ [] }
+        ensures row { Stepped (IsRow Step users.now.users) Does
+            self.old session.old Closed session.new (leaving_by result) self.new }
+        ensures closed { is_closed session.new.view.stage ≡ true };
+
+    /// Lends them for what comes of the data side behind that.
+    fn end(&mut self, users: &Authorizer<A>, session: &mut Session<A>, event: DataEvent<Self::Sink>)
+        requires closed { is_closed session.old.view.stage ≡ true }
+        ensures row { Stepped (IsRow Step users.now.users) Does
+            self.old session.old (Came event) session.new [] self.new }
+        ensures closed { is_closed session.new.view.stage ≡ true };
+
+    /// Releases what the user of this number is guaranteed.
+    fn release(&mut self, user: u32)
+        ensures { Does self.old (Released user) self.new };
+
+    /// Tells the handler.
+    fn note(&mut self, call: HookCall<A>)
+        ensures { Does self.old (Noted (event_of call)) self.new };
+
+    /// Writes all of a reply. After an error some of it, from its front, may have gone out.
+    fn write(&mut self, reply: &[u8]) -> io::Result<()>
+        ensures { Does self.old (write_call result reply.now) self.new };
+
+    /// Reads what comes next of the client's text.
+    fn read(&mut self, buffer: &mut [u8]) -> io::Result<Piece>
+        requires room { 0 < length buffer.old }
+        ensures did { Does self.old (read_call result buffer.new) self.new }
+        ensures bound { IfOk result (λ piece. reads_within piece buffer.new) };
+
+    /// The data side, as `DataSide` has it.
+    fn open_passive(&mut self)
+        ensures { Does self.old (Asked Opens) self.new };
+
+    fn connect_to(&mut self, to: HostPort)
+        ensures { Does self.old (Asked (Connects to)) self.new };
+
+    fn drop_data(&mut self)
+        ensures { Does self.old (Asked Drops) self.new };
+
+    fn start(&mut self, job: Job<A, Self::Source, Self::Sink>)
+        ensures { Does self.old (Asked (Starts job)) self.new };
+
+    fn abort(&mut self)
+        ensures { Does self.old (Asked Aborts) self.new };
+
+    fn look(&mut self) -> Option<DataEvent<Self::Sink>>
+        ensures { Does self.old (Asked (Looks result)) self.new };
+
+    fn settle(&mut self) -> Option<DataEvent<Self::Sink>>
+        ensures { Does self.old (Asked (Settles result)) self.new };
+}

@@ -1,0 +1,141 @@
+//! What flows out of a source: wire octets that wait, written as they are granted, and read again once none wait.
+
+ghost use Rattle.std.specs.Prelude.{◌≡◌, ◌≢◌, ◌<◌, ◌≤◌, [], length, IsTrue, ◌↔◌, IfOk, false};
+ghost use Rattle.std.specs.Bool.{OnTrue};
+ghost use Rattle.std.specs.Io.KnownBytes.{Keeps, IsAtEnd};
+ghost use Rattle.line_rates.specs.declared.ask.Way.TheVariants.{Down};
+ghost use Rattle.data_pump.specs.Counts.{no_calls, next, IsOnceAtMost, FailsAsTold};
+ghost use Rattle.data_pump.specs.declared.pumped.FailedPart.TheVariants.{Connection, Source};
+ghost use Rattle.data_pump.specs.Downloads.{to_come, HasEnded, MovesOut, IsSourceFault};
+
+use crate::buffer::{MAX_WAITING, WireBuffer};
+use crate::counted::CountedEnd;
+use crate::pumped::{PumpEnd, Pumped};
+use crate::writing::write_front;
+use ftp_terms::DataType;
+use std::alloc::{AllocError, Allocator};
+use std::io::Write;
+use std::marker::Model;
+use virtual_tree::{Source, StoreFault};
+
+/// A source, the connection that it goes to, and the wire octets that wait between them.
+#[derive(Drop)]
+pub struct Outflow<S: Source, K: Write + Drop, A: Allocator> {
+    source: CountedEnd<S>,
+    connection: CountedEnd<K>,
+    buffer: WireBuffer<A>,
+    is_over: bool,
+}
+
+impl<S: Source, K: Write + Drop, A: Allocator> Model for Outflow<S, K, A> {
+    ghost use Rattle.std.specs.Bool.{OnTrue};
+    ghost use Rattle.std.specs.Io.KnownBytes.{IsAtEnd};
+    ghost use Rattle.data_pump.specs.Downloads.{OutFlow};
+
+    ghost Value = { OutFlow S K };
+
+    ghost view = { λ f. record { source = f.source.end; reads = f.source.calls; connection = f.connection.end; writes = f.connection.calls; data_type = f.buffer.data_type; waiting = f.buffer.octets; is_over = f.is_over } };
+
+    ghost invariant = { λ f. OnTrue f.is_over (IsAtEnd (S.remaining f.source.end)) };
+}
+
+impl<S: Source, K: Write + Drop, A: Allocator> Outflow<S, K, A> {
+    /// Reserves the buffer, and makes no call.
+    pub fn new(
+        alloc: A,
+        source: S,
+        connection: K,
+        data_type: DataType,
+    ) -> Result<Outflow<S, K, A>, AllocError>
+    where
+        A: Clone,
+        ensures flow { IfOk result
+            (λ flow. flow ≡ record {
+              source = source;
+              reads = no_calls;
+              connection = connection;
+              writes = no_calls;
+              data_type = data_type;
+              waiting = [];
+              is_over = false;
+            }) }
+    {
+        let buffer = WireBuffer::new(alloc, data_type, MAX_WAITING / 2)?;
+        Ok(Outflow {
+            source: CountedEnd::new(source),
+            connection: CountedEnd::new(connection),
+            buffer,
+            is_over: false,
+        })
+    }
+
+    /// How many wire octets wait.
+    pub fn waiting(&self) -> usize
+        ensures waiting { result ≡ length self.now.waiting }
+        ensures most { result ≤ MAX_WAITING }
+    {
+        self.buffer.len()
+    }
+
+    /// Whether the source has ended and nothing waits.
+    pub fn has_ended(&self) -> bool
+        ensures ended { IsTrue result ↔ HasEnded self.now }
+    {
+        self.is_over && self.buffer.len() == 0
+    }
+
+    /// Fills the buffer by one read of the source, where nothing waits and the source has not ended.
+    pub fn refill(&mut self) -> PumpEnd
+        ensures data_type { self.new.data_type ≡ self.old.data_type }
+        ensures connection { (self.new.connection ≡ self.old.connection)
+            × (self.new.writes ≡ self.old.writes) }
+        ensures come { Keeps (to_come S.remaining self.old) (to_come S.remaining self.new) }
+        ensures left { 0 < length self.old.waiting → self.new ≡ self.old }
+        ensures once { IsOnceAtMost self.old.reads self.new.reads }
+        ensures fetched { self.old.waiting ≡ [] → self.old.is_over ≡ false
+            → self.new.reads.made ≡ next self.old.reads.made }
+        ensures reads_failed { FailsAsTold Down result Source self.old.reads self.new.reads }
+        ensures more { result ≡ PumpEnd.More → 0 < length self.new.waiting }
+        ensures ended { result ≡ PumpEnd.Ended
+            → HasEnded self.new × IsAtEnd (to_come S.remaining self.new) }
+        ensures fault { IsSourceFault result → self.new.waiting ≡ [] }
+        ensures writes_failed { FailsAsTold Down result Connection self.old.writes
+            self.new.writes }
+        ensures own { result ≢ PumpEnd.WriteFault }
+    {
+        if self.buffer.len() > 0 {
+            return PumpEnd::More;
+        }
+        if self.is_over {
+            return PumpEnd::Ended;
+        }
+        match self.buffer.fill(&mut self.source) {
+            Ok(0) => {
+                self.is_over = true;
+                PumpEnd::Ended
+            }
+            Ok(_) => PumpEnd::More,
+            Err(StoreFault::Memory) => PumpEnd::Memory,
+            Err(_) => PumpEnd::ReadFault,
+        }
+    }
+
+    /// Writes at most so many of the octets that wait, and fills the buffer where none are left.
+    pub fn send(&mut self, most: u64) -> Pumped
+        ensures moved { MovesOut S.remaining K.contents most self.old self.new result }
+    {
+        let count = most.min(self.buffer.len() as u64) as usize;
+        let moved = write_front(&mut self.connection, self.buffer.front(count));
+        self.buffer.let_go(moved);
+        if moved < count {
+            return Pumped {
+                moved: moved as u64,
+                end: PumpEnd::WriteFault,
+            };
+        }
+        Pumped {
+            moved: moved as u64,
+            end: self.refill(),
+        }
+    }
+}

@@ -1,0 +1,5 @@
+use Rattle.round_desk.specs.Turns.{IsSameRound}
+use Rattle.desk_tests.proofs.threads.lead.Given as goal
+
+abbrev pub invariant-loop-tick : goal.invariant-loop-tick
+invariant-loop-tick l = IsSameRound l.fn.rounds.desk l.rounds.desk

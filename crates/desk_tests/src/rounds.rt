@@ -1,0 +1,230 @@
+//! What rounds post, row by row.
+
+use super::expect::{OfTest, down, holds, limits, session_down};
+use checked_desk::CheckedDesk;
+use grant_ledger::MAX_ISSUED;
+use lane_desk::RoundRefusal;
+use limit_tree::TreeFault;
+use line_rates::{Ask, Limits};
+use std::process::Abort;
+
+/// A desk of so many lanes, with a book that has issued so much.
+fn desk_of(rt: &(impl Abort + AllocGlobal), lanes: usize, full: bool) -> CheckedDesk<OfTest> {
+    let carried = if full { MAX_ISSUED } else { 0 };
+    CheckedDesk::open(rt.alloc(), lanes, carried).expect(rt, "a desk")
+}
+
+/// A worker sits down on each of the first lanes, and asks.
+fn ask_all(rt: &impl Abort, desk: &mut CheckedDesk<OfTest>, asks: &[Ask]) {
+    for lane in 0..asks.len() {
+        holds(rt, desk.sit(lane) && desk.ask(lane, asks[lane]));
+    }
+}
+
+/// The first lanes take these amounts, and move all.
+fn take_all(rt: &impl Abort, desk: &mut CheckedDesk<OfTest>, amounts: &[u64]) {
+    for lane in 0..amounts.len() {
+        holds(rt, desk.take(lane, u64::MAX) == Some(amounts[lane]));
+    }
+}
+
+/// Asks on the first lanes of a new desk, and what a round at moment 0 posts to them.
+fn first_round(
+    rt: &(impl Abort + AllocGlobal),
+    limits: &Limits,
+    asks: &[Ask],
+    amounts: &[u64],
+) -> CheckedDesk<OfTest> {
+    let mut desk = desk_of(rt, asks.len(), false);
+    ask_all(rt, &mut desk, asks);
+    match desk.round(rt.alloc(), limits, 0) {
+        Ok(record) => holds(rt, record.tick == 0 && record.sealed.grants() == amounts),
+        Err(_) => panic!(rt; "the first round was refused"),
+    }
+    take_all(rt, &mut desk, amounts);
+    desk
+}
+
+#[test]
+fn checked_desk(rt: HostRuntime) {
+    let limits = limits(&rt, 25, 0); // a server's rate of 25 octets a second: 2 in the first tick, and 3 in the next
+    let mut desk = CheckedDesk::<OfTest>::open(rt.alloc(), 2, 0).expect(&rt, "a desk");
+    holds(&rt, desk.sit(0) && desk.ask(0, down(7, 5))); // a worker on lane 0, for user 7
+    let record = desk.round(rt.alloc(), &limits, 0).expect(&rt, "a round");
+    holds(&rt, record.answered == 1 && record.sealed.total() == 2);
+    holds(&rt, desk.take(0, 1) == Some(2)); // it moves one octet, and gives one back
+    holds(&rt, desk.rise(0) && !desk.ask(0, down(7, 5)));
+    let settled = desk.close();
+    holds(
+        &rt,
+        settled.issued == 2 && settled.moved == 1 && settled.back == 1,
+    );
+}
+
+#[test]
+fn a_floor_comes_first(rt: HostRuntime) {
+    let limits = limits(&rt, 30, 30);
+    let desk = first_round(&rt, &limits, &[down(0, 5), down(1, 5)], &[3, 0]);
+    holds(&rt, desk.close().moved == 3);
+}
+
+#[test]
+fn without_limits_all_is_granted(rt: HostRuntime) {
+    let limits = limits(&rt, 0, 0);
+    let desk = first_round(
+        &rt,
+        &limits,
+        &[down(0, 5), down(1, 65536), down(2, 0)],
+        &[5, 65536, 0],
+    );
+    let settled = desk.close();
+    holds(
+        &rt,
+        settled.issued == 65541 && settled.moved == 65541 && settled.back == 0,
+    );
+}
+
+/// A round at a moment is refused for this reason, and answers these lanes by nothing.
+fn refused(
+    rt: &(impl Abort + AllocGlobal),
+    desk: &mut CheckedDesk<OfTest>,
+    limits: &Limits,
+    moment: u64,
+    reason: RoundRefusal,
+    answered: u64,
+) {
+    match desk.round(rt.alloc(), limits, moment) {
+        Ok(_) => panic!(rt; "the round was not refused"),
+        Err(fault) => holds(rt, fault.reason == reason && fault.answered == answered),
+    }
+    for lane in 0..2 {
+        let is_answered = answered >> (lane as u32) & 1 == 1;
+        holds(
+            rt,
+            desk.take(lane, 0) == if is_answered { Some(0) } else { None },
+        );
+    }
+}
+
+/// Two lanes ask, and a round at moment 0 is refused for this reason.
+fn first_is_refused(
+    rt: &(impl Abort + AllocGlobal),
+    limits: &Limits,
+    asks: &[Ask],
+    full: bool,
+    reason: RoundRefusal,
+) {
+    let mut desk = desk_of(rt, 2, full);
+    ask_all(rt, &mut desk, asks);
+    refused(rt, &mut desk, limits, 0, reason, 3);
+    let settled = desk.close();
+    holds(rt, settled.back == 0 && settled.issued == settled.moved);
+}
+
+#[test]
+fn two_floors_that_do_not_fit(rt: HostRuntime) {
+    let limits = limits(&rt, 30, 30);
+    let asks = [session_down(0, 0, 5), session_down(0, 1, 5)];
+    let fault = RoundRefusal::Plan(TreeFault::FloorsOverLimit(0));
+    first_is_refused(&rt, &limits, &asks, false, fault);
+}
+
+#[test]
+fn an_ask_above_the_largest_want(rt: HostRuntime) {
+    let limits = limits(&rt, 0, 0);
+    let fault = RoundRefusal::Plan(TreeFault::WantTooLarge);
+    first_is_refused(
+        &rt,
+        &limits,
+        &[down(0, 4294967296), down(1, 1)],
+        false,
+        fault,
+    );
+}
+
+#[test]
+fn a_book_that_is_full(rt: HostRuntime) {
+    let limits = limits(&rt, 0, 0);
+    first_is_refused(
+        &rt,
+        &limits,
+        &[down(0, 1), down(1, 0)],
+        true,
+        RoundRefusal::BookFull,
+    );
+}
+
+#[test]
+fn one_round_a_tick(rt: HostRuntime) {
+    let limits = limits(&rt, 30, 0);
+    let mut desk = first_round(&rt, &limits, &[down(0, 5), down(1, 5)], &[2, 1]);
+    holds(&rt, desk.rise(0) && desk.ask(1, down(1, 4)));
+    refused(&rt, &mut desk, &limits, 99, RoundRefusal::NotYet(0), 2);
+    holds(&rt, desk.ask(1, down(1, 4)));
+    match desk.round(rt.alloc(), &limits, 100) {
+        Ok(record) => holds(
+            &rt,
+            record.tick == 1 && record.answered == 2 && record.sealed.total() == 3,
+        ),
+        Err(_) => panic!(&rt; "a later tick was refused"),
+    }
+    // what was posted and not taken comes back
+    let settled = desk.close();
+    holds(
+        &rt,
+        settled.issued == 6 && settled.moved == 3 && settled.back == 3,
+    );
+}
+
+/// Lane 4 was granted 7 octets and has not taken them, lane 1 sits, lanes 2 and 3 have asked, and lane 3 was collected.
+#[test]
+fn five_lanes_in_different_states(rt: HostRuntime) {
+    let limits = limits(&rt, 0, 0);
+    let mut desk = desk_of(&rt, 5, false);
+    holds(&rt, desk.sit(4) && desk.ask(4, down(4, 7)));
+    match desk.round(rt.alloc(), &limits, 0) {
+        Ok(record) => holds(
+            &rt,
+            record.answered == 16 && record.lanes.as_slice() == [4].as_slice(),
+        ),
+        Err(_) => panic!(&rt; "the round was refused"),
+    }
+    holds(&rt, desk.sit(1) && desk.sit(2) && desk.ask(2, down(2, 1)));
+    holds(&rt, desk.sit(3) && desk.ask(3, down(3, 9)));
+    let (ask, settled) = desk.collect_and_close(3);
+    holds(&rt, ask == Some(down(3, 9)));
+    holds(
+        &rt,
+        settled.issued == 7 && settled.moved == 0 && settled.back == 7,
+    );
+}
+
+#[test]
+fn all_lanes_in_one_round(rt: HostRuntime) {
+    let limits = limits(&rt, 0, 0);
+    let mut desk = desk_of(&rt, 64, false);
+    for lane in 0..64 {
+        holds(
+            &rt,
+            desk.sit(lane) && desk.ask(lane, down(lane as u32, lane as u64)),
+        );
+    }
+    match desk.round(rt.alloc(), &limits, 0) {
+        Ok(record) => holds(
+            &rt,
+            record.answered == u64::MAX && record.sealed.total() == 2016,
+        ),
+        Err(_) => panic!(&rt; "the round was refused"),
+    }
+    for lane in 0..64 {
+        holds(
+            &rt,
+            desk.take(lane, 1) == Some(lane as u64) && desk.rise(lane),
+        );
+    }
+    let settled = desk.close();
+    holds(
+        &rt,
+        settled.issued == 2016 && settled.moved == 63 && settled.back == 1953,
+    );
+}

@@ -1,0 +1,132 @@
+//! Files that change while they are read, files that are long, machines that write little at a time, and directories that hold
+//! much.
+
+use crate::expect::{comes_out_in, fresh_folder, holds, place_in, take_away};
+use folder_store::DirStore;
+use machine_files::{flushed, write_new};
+use std::alloc::Global;
+use std::env::Env;
+use std::fs::OpenFile;
+use std::io::Write;
+use std::os::fd::AsRawFd;
+use std::process::Abort;
+use std::rt::Files;
+use std::{fs, io};
+use virtual_path::VPath;
+use virtual_tree::{Sink, Source, Store, StoreFault};
+
+/// Whether two octets more are read, or why not.
+fn reads<S: Source>(source: &mut S) -> Result<usize, StoreFault> {
+    let mut buffer = [0; 2];
+    source.read(&mut buffer)
+}
+
+/// A file of six octets that is cut off once two were read gives a fault each time, and no end. A read without room is no
+/// end either. What is written behind the length that it had is read too.
+fn check_changed<S: Store<Global>>(
+    rt: &(impl Abort + Files + AllocGlobal),
+    store: &mut S,
+    file: &VPath,
+    place: &str,
+) {
+    let mut source = store.open_read(file, 0).expect(rt, place);
+    holds(rt, reads(&mut source) == Ok(2));
+    fs::write(rt, place, "ab").expect(rt, place);
+    holds(rt, source.read(&mut []) == Ok(0));
+    holds(rt, reads(&mut source) == Err(StoreFault::Device));
+    holds(rt, reads(&mut source) == Err(StoreFault::Device));
+    let mut grows = store.open_read(file, 1).expect(rt, place);
+    fs::write(rt, place, "abcd").expect(rt, place);
+    holds(rt, reads(&mut grows) == Ok(2));
+    holds(rt, reads(&mut grows) == Ok(1));
+    holds(rt, reads(&mut grows) == Ok(0));
+}
+
+/// What is read behind the first 2^32 octets of a file.
+const FAR: &str = "append /s abc
+read:4294967296 /s = abc
+read:4294967298 /s = c";
+
+fn check_far<R>(rt: &R, folder: &str)
+where
+    R: Abort + Files + AllocGlobal + Copy + Drop,
+    R::File: AsRawFd,
+{
+    let place = place_in(rt, folder, "s");
+    let file = fs::create(rt, place.as_str()).expect(rt, "a file");
+    file.set_len(4_294_967_296).expect(rt, "a long file");
+    comes_out_in(rt, *rt, folder, FAR);
+}
+
+/// A thousand files are listed.
+fn check_many<R>(rt: &R, folder: &str)
+where
+    R: Abort + Files + AllocGlobal + Copy + Drop,
+    R::File: AsRawFd,
+{
+    for number in 0..1000u32 {
+        let name = format!(in rt.alloc(); "{number}").expect(rt, "memory");
+        fs::write(rt, place_in(rt, folder, name.as_str()).as_str(), "").expect(rt, "a file");
+    }
+    let mut store = DirStore::new(*rt, folder).expect(rt, folder);
+    let listed = store.list(&VPath::root(rt.alloc())).expect(rt, folder);
+    holds(rt, listed.len() == 1000);
+}
+
+fn check_files<R>(rt: &R, folder: &str)
+where
+    R: Abort + Files + AllocGlobal + Copy + Drop,
+    R::File: AsRawFd,
+{
+    comes_out_in(rt, *rt, folder, "new /c abcdef");
+    let root = VPath::root(rt.alloc());
+    let file = root.child(rt.alloc(), "c").expect(rt, "a path");
+    let place = place_in(rt, folder, "c");
+    let mut store = DirStore::new(*rt, folder).expect(rt, folder);
+    check_changed(rt, &mut store, &file, place.as_str());
+    check_far(rt, folder);
+}
+
+fn check<R>(rt: &R)
+where
+    R: Abort + Env + Files + AllocGlobal + Copy + Drop,
+    R::File: AsRawFd,
+{
+    let folder = fresh_folder(rt, "files");
+    check_files(rt, folder.as_str());
+    take_away(rt, folder.as_str());
+    let folder = fresh_folder(rt, "many");
+    check_many(rt, folder.as_str());
+    take_away(rt, folder.as_str());
+}
+
+/// A file of a machine that writes one octet a call.
+#[derive(Drop)]
+struct Slow<'a> {
+    written: &'a mut Vec<u8>,
+}
+
+impl<'a> Write for Slow<'a> {
+    fn write(&mut self, octets: &[u8]) -> io::Result<usize> {
+        if octets.is_empty() {
+            return Ok(0);
+        }
+        self.written.push(octets[0])?;
+        Ok(1)
+    }
+
+    fn flush(&mut self) -> io::Result<()> {
+        Ok(())
+    }
+}
+
+#[test]
+fn files_and_directories(rt: HostRuntime) {
+    check(&rt);
+    let mut written = Vec::new(rt.alloc());
+    let mut sink = write_new(Slow {
+        written: &mut written,
+    });
+    holds(&rt, sink.write(b"abc").is_ok() && flushed(sink).is_ok());
+    holds(&rt, written.as_slice() == b"abc".as_slice());
+}

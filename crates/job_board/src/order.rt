@@ -1,0 +1,64 @@
+//! The rule of a board, and its kinds of step.
+
+use crossbeam_queue::protocol::{Lesson, Outcome, Protocol, Split};
+use std::collections::LinkedList;
+
+/// What one pass did: the jobs that it pushed and those that it popped, in order. Contracts speak of it; no value is made.
+pub struct Hand<J> {
+    pub pushed: LinkedList<J>,
+    pub popped: LinkedList<J>,
+}
+
+/// Jobs come out in the order in which they went in, each once.
+pub struct InOrder;
+
+impl<J> Protocol<J, Hand<J>> for InOrder {
+    ghost use Rattle.std.specs.Prelude.{[]};
+    ghost use Rattle.job_board.specs.Order.{hand, Kept};
+
+    ghost holds = { Kept };
+
+    ghost first = { hand [] [] };
+}
+
+/// A new pass is cut from another. It has done nothing.
+pub(crate) struct Cut;
+
+impl<J> Split<Hand<J>> for Cut {
+    ghost use Rattle.std.specs.Prelude.{[]};
+    ghost use Rattle.job_board.specs.Order.{hand};
+
+    ghost left = { λ v. v };
+
+    ghost right = { λ v. hand [] [] };
+}
+
+/// A job is pushed, or the board is found full.
+pub(crate) struct Put;
+
+impl<J> Outcome<J, Hand<J>> for Put {
+    ghost use Rattle.job_board.specs.Order.{Pushed};
+
+    ghost then = { Pushed };
+}
+
+impl<J> Lesson<J, Hand<J>> for Put {
+    ghost use Rattle.job_board.specs.Order.{Shows};
+
+    ghost fact = { Shows };
+}
+
+/// A job is popped, or the board is found empty.
+pub(crate) struct Take;
+
+impl<J> Outcome<J, Hand<J>> for Take {
+    ghost use Rattle.job_board.specs.Order.{Popped};
+
+    ghost then = { Popped };
+}
+
+impl<J> Lesson<J, Hand<J>> for Take {
+    ghost use Rattle.job_board.specs.Order.{Shows};
+
+    ghost fact = { Shows };
+}

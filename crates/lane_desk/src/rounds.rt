@@ -1,0 +1,77 @@
+//! The round's seat with its book.
+
+ghost use Rattle.std.specs.Prelude.{◌≡◌, ◌+◌, ◌/◌, ◌≤◌, Some, sum, IfOk, IfErr, OnOk, OnErr};
+ghost use Rattle.limit_tree.specs.Outline.{limits as seen};
+ghost use Rattle.limit_tree.specs.Sharing.{IsBest};
+ghost use Rattle.desk_rule.specs.Lanes.{posted_in};
+ghost use Rattle.round_desk.specs.Turns.{turns, IsRoundOf, IsSameRound};
+ghost use Rattle.round_desk.specs.Posted.{AllAnswered};
+ghost use Rattle.round_desk.specs.Rounded.{IsRound, IsRefusedRound};
+
+use grant_ledger::{Book, Tally};
+use lane_seats::Desk;
+use line_rates::Limits;
+use round_desk::{RoundDesk, RoundFault, RoundRecord};
+use std::alloc::Allocator;
+
+/// The round's seat, with the book from which it posts and a tally: what was issued is what the tally tells and all amounts
+/// posted. Between rounds each ask that was collected is answered. It cannot be dropped.
+pub struct Rounds<N> {
+    pub(crate) desk: RoundDesk<N>,
+    pub(crate) book: Book<N>,
+    pub(crate) tally: Tally<N>,
+    ghost told: { book.issued ≡ tally.moved + tally.back + posted_in (turns desk) },
+    ghost answered: { AllAnswered (turns desk) },
+}
+
+impl<N> Rounds<N> {
+    /// The rounds of a desk, with a book that issued what the tally tells and what was posted. A desk just opened has posted
+    /// nothing, and a book just opened has issued what its tally tells.
+    pub fn new(desk: RoundDesk<N>, book: Book<N>, tally: Tally<N>) -> Rounds<N>
+        requires told { book.issued ≡ tally.moved + tally.back + posted_in (turns desk) }
+        requires answered { AllAnswered (turns desk) }
+        ensures parts { (result.desk ≡ desk) × (result.book ≡ book) × (result.tally ≡ tally) }
+    {
+        Rounds { desk, book, tally }
+    }
+
+    /// The octets issued so far.
+    pub fn issued(&self) -> u64
+        ensures issued { result ≡ self.now.book.issued }
+    {
+        self.book.issued()
+    }
+
+    /// The tick of the last round that was not refused, or none before the first.
+    pub fn last_tick(&self) -> Option<u64>
+        ensures last_tick { result ≡ self.now.book.last_tick }
+    {
+        self.book.last_tick()
+    }
+
+    /// A round of the desk, with its refusals: tries each lane once, decides of the asks that it has found at a moment in
+    /// milliseconds, and answers each.
+    pub fn round<L: Allocator, A: Allocator + Clone, D: Allocator>(
+        &mut self,
+        alloc: A,
+        desk: &Desk<N, D>,
+        limits: &Limits<L>,
+        moment: u64,
+    ) -> Result<RoundRecord<A>, RoundFault>
+        requires desk { IsRoundOf desk.now self.old.desk }
+        ensures same { IsSameRound self.old.desk self.new.desk }
+        ensures tally { self.new.tally ≡ self.old.tally }
+        ensures tick { IfOk result (λ r. r.tick ≡ moment / 100) }
+        ensures round { IfOk result (λ r. IsRound limits.now (moment / 100) (turns self.old.desk)
+            (turns self.new.desk) r.answered (seen r.sealed.tree) r.lanes.items r.sealed.grants) }
+        ensures best { IfOk result (λ r. IsBest (seen r.sealed.tree) r.sealed.grants) }
+        ensures issued { IfOk result
+            (λ r. self.new.book.issued ≡ self.old.book.issued + sum r.sealed.grants) }
+        ensures last_tick { OnOk result (self.new.book.last_tick ≡ Some (moment / 100)) }
+        ensures refused { IfErr result (λ f. IsRefusedRound A limits.now (moment / 100)
+            self.old.book (turns self.old.desk) (turns self.new.desk) f.answered f.reason) }
+        ensures unchanged { OnErr result (self.new.book ≡ self.old.book) }
+    {
+        self.desk.round(alloc, desk, limits, moment, &mut self.book)
+    }
+}

@@ -1,0 +1,34 @@
+//! A lane's seat with its tally.
+
+ghost use Rattle.std.specs.Prelude.{◌≡◌, ◌+◌, [], sum};
+ghost use Rattle.lane_seats.specs.Seats.{seat_view};
+
+use grant_ledger::Tally;
+use lane_seats::LaneSeat;
+
+/// A lane's seat, with the tally of all that it took: what was moved and what was given back add up to it. It cannot be
+/// dropped.
+pub struct Worked<N> {
+    seat: LaneSeat<N>,
+    tally: Tally<N>,
+    ghost told: { tally.moved + tally.back ≡ sum (seat_view seat).taken },
+}
+
+impl<N> Worked<N> {
+    /// A seat with a tally of all that it took.
+    pub fn new(seat: LaneSeat<N>, tally: Tally<N>) -> Worked<N>
+        requires told { tally.moved + tally.back ≡ sum (seat_view seat).taken }
+        ensures parts { (result.seat ≡ seat) × (result.tally ≡ tally) }
+    {
+        Worked { seat, tally }
+    }
+
+    /// The seat and the tally.
+    pub fn parts(self) -> (LaneSeat<N>, Tally<N>)
+        ensures parts { (result.0 ≡ self.seat) × (result.1 ≡ self.tally) }
+        ensures told { result.1.moved + result.1.back ≡ sum (seat_view result.0).taken }
+    {
+        let Worked { seat, tally } = self;
+        (seat, tally)
+    }
+}

@@ -1,0 +1,3 @@
+pub mod Leading
+pub mod Steps
+pub mod Writing

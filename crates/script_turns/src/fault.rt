@@ -1,0 +1,23 @@
+//! Why a turn breaks off.
+
+use std::alloc::AllocError;
+
+/// Why a turn breaks off.
+#[derive(Clone, Copy, Debug, PartialEq, Eq)]
+pub enum TurnFault {
+    /// A reply could not be written.
+    Write,
+    /// Memory ran out.
+    Memory,
+}
+
+impl From<AllocError> for TurnFault {
+    ghost use Rattle.std.specs.Prelude.{◌≡◌};
+    ghost use Rattle.script_turns.specs.declared.fault.TurnFault.TheVariants.{Memory};
+
+    ghost from_gives = { λ _ fault. fault ≡ Memory };
+
+    fn from(_error: AllocError) -> TurnFault {
+        TurnFault::Memory
+    }
+}

@@ -1,0 +1,72 @@
+-- What comes of the data side, and the end of the control connection, as rows of the table.
+use Rattle.std.proofs.Common.{◌≡◌, ◌∙◌, ℕ, Bool, true, false, cond, List, [], ◌∷◌, ◌++◌, IfOk, IsErr, OnErr, Option, Some, None, Result, Ok, Err, refl, sym, ap, subst}
+use Rattle.std.proofs.lemmas.Bool.{false≢true}
+use Rattle.authorizer.specs.Users.{Users}
+use Rattle.ftp_wire.specs.Items.{Item}
+use Rattle.virtual_tree.specs.Calls.{Exchange}
+use Rattle.session_events.specs.Leaving.{leaving_actions, left_by, logout_actions}
+use Rattle.session_events.specs.declared.closing.Leaving.{Leaving}
+use Rattle.session_events.specs.declared.closing.LoggedOut.{LoggedOut}
+use Rattle.session_table.specs.declared.actions.Action.{Action}
+use Rattle.session_table.specs.declared.actions.Action.TheVariants as action
+use Rattle.session_table.specs.declared.actions.HookCall.TheVariants as hook
+use Rattle.session_table.specs.declared.inputs.End.{End}
+use Rattle.session_table.specs.declared.inputs.Input.TheVariants as input
+use Rattle.session_table.specs.declared.stages.Stage.TheVariants as stage
+use Rattle.session_table.specs.Plans.{Ran}
+use Rattle.session_table.specs.Plans.Plan.{Then}
+use Rattle.session_table.specs.StateRows.{leaves}
+use Rattle.session_table.specs.Table.{SessionStep, aborts, beside, closed_row, ended_row, idle}
+use Rattle.session_table.specs.Views.{View, is_closed, is_inside, runs}
+use Rattle.session_core.specs.Turns.{closed_at, ready_at}
+use Rattle.session_core.proofs.Plans.{ran_then, step_by}
+use Rattle.session_core.proofs.Tables.{at_closed, at_end, at_ready}
+
+module _ {S A R K : Type 0} (Step : S → Exchange R K → S → Type 0) (users : Users) (admits : ℕ → Bool) (view after : View) (held : List Item) (moment : ℕ) where
+  pub end_step : (end : End) (sink : Option K) (old new : S) (actions : List (Action A R K)) → Ran Step (ended_row users view moment end sink) old new after actions
+      → SessionStep Step users admits view held moment (input.TransferEnded end sink) old new after held actions
+  end_step end sink old new actions ran = step_by Step users admits view held moment (input.TransferEnded end sink) (beside held (ended_row users view moment end sink)) old new after held actions
+      (at_end users admits view held moment end sink) ran refl
+
+  pub ready_step : (port : Option ℕ) (store : S) (kept : List Item) (actions : List (Action A R K)) → Then after actions ≡ ready_at users view port → kept ≡ held
+      → SessionStep Step users admits view held moment (input.DataReady port) store store after kept actions
+  ready_step port store kept actions is same = step_by Step users admits view held moment (input.DataReady port) (beside held (ready_at users view port)) store store after kept actions
+      (at_ready users admits view held moment port) (ran_then Step (ready_at users view port) after actions store is) same
+
+  pub closed_step : (store : S) (actions : List (Action A R K)) → Then after actions ≡ closed_at view
+      → SessionStep Step users admits view held moment input.Closed store store after held actions
+  closed_step store actions is = step_by Step users admits view held moment input.Closed (beside held (closed_at view)) store store after held actions
+      (at_closed users admits view held moment) (ran_then Step (closed_at view) after actions store is) refl
+
+module _ {A R K : Type 0} where
+  -- behind Closed nothing is to be done
+  pub gone_before : (view : View) → is_closed view.stage ≡ true → Then view [] ≡ closed_at {A = A} {R = R} {K = K} view
+  gone_before view is = sym (ap (λ (b : Bool). cond b (idle view) (closed_row view)) is)
+
+  pub ready_before : (users : Users) (view : View) (port : Option ℕ) → is_closed view.stage ≡ true → Then view [] ≡ ready_at {A = A} {R = R} {K = K} users view port
+  ready_before users view port is = sym (ap (λ (b : Bool). cond b (idle view) (Rattle.session_core.specs.Turns.ready_in users view port view.control)) is)
+
+  logout_is : (view : View) (inside : Bool)
+      → logout_actions {A = A} {R = R} {K = K} (cond inside (Some (record { name = view.name; number = view.number })) None)
+      ≡ cond inside (action.Hook (hook.Logout view.name) ∷ action.ReleaseFloor view.number ∷ []) []
+  logout_is view true = refl
+  logout_is view false = refl
+
+  -- what is left to be done is what the table says
+  pub leaves_now : (view after : View) (leaving : Leaving A) → is_closed view.stage ≡ false → after ≡ record view { stage = stage.Closed; name = [] }
+      → leaving.aborts ≡ runs view.begun → leaving.left ≡ left_by view → Then after (leaving_actions leaving) ≡ closed_at {A = A} {R = R} {K = K} view
+  leaves_now view after leaving shut after_is aborts_is left_is =
+      ap (λ (v : View). Then v (leaving_actions leaving)) after_is
+      ∙ (ap (λ (b : Bool). Then (record view { stage = stage.Closed; name = [] }) (cond b (action.Abort ∷ []) [] ++ logout_actions leaving.left ++ (action.Hook hook.Disconnect ∷ []))) aborts_is
+      ∙ (ap (λ (out : Option (LoggedOut A)). Then (record view { stage = stage.Closed; name = [] }) (aborts view ++ logout_actions out ++ (action.Hook hook.Disconnect ∷ []))) left_is
+      ∙ (ap (λ (out : List (Action A R K)). Then (record view { stage = stage.Closed; name = [] }) (aborts view ++ out ++ (action.Hook hook.Disconnect ∷ []))) (logout_is view (is_inside view.stage))
+      ∙ sym (ap (λ (b : Bool). cond b (idle view) (closed_row view)) shut))))
+
+pub ok_through : {T E F : Type 0} (inner : Result T E) (outer : Result T F) (P : T → Type 0) → IfOk outer (λ value. inner ≡ Ok value) → IfOk inner P → IfOk outer P
+ok_through inner (Ok value) P is has = subst (λ (r : Result _ _). IfOk r P) is has
+ok_through inner (Err fault) P is has = tt
+
+pub err_through : {T E F : Type 0} (P : Type 0) (inner : Result T E) (outer : Result T F) → OnErr outer (IsErr inner) → OnErr inner P → OnErr outer P
+err_through P inner (Ok value) is has = tt
+err_through P (Err fault) (Err other) is has = has
+err_through P (Ok value) (Err other) is has = absurd (false≢true is)

@@ -1,0 +1,4 @@
+pub mod Turns
+pub mod Limited
+pub mod Codes
+pub mod Shares

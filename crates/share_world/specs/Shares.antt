@@ -1,0 +1,45 @@
+-- Grants dealt to lanes, by the numbers of the lanes.
+use Rattle.std.specs.Prelude.{◌≡◌, ℕ, List, [], ◌∷◌, slice_get, slice_index_or, slice_set, Some, ⊤}
+use Rattle.grant_ledger.specs.Books.{NamesNot}
+use Rattle.limit_tree.specs.declared.fault.TreeFault.{TreeFault}
+use Rattle.limit_tree.specs.declared.fault.TreeFault.TheVariants as tree
+use Rattle.line_rates.specs.FloorSums.{FloorsFit}
+use Rattle.line_rates.specs.Rates.{Rates}
+use Rattle.line_rates.specs.TickTree.{Asker, ask_in}
+use Rattle.std.specs.Prelude.{map}
+use Rattle.world_terms.specs.declared.event.LaneState.TheVariants as state
+use Rattle.world_terms.specs.declared.fault.StepFault.{StepFault}
+use Rattle.world_terms.specs.declared.fault.StepFault.TheVariants as fault
+use Rattle.world_terms.specs.Decisions.{IsPosted, with_amount}
+use Rattle.world_terms.specs.Lanes.{Lane, new_lane}
+use Rattle.world_terms.specs.Steps.{HasOtherFault}
+
+-- each amount decided for its lane
+abbrev pub dealt : List ℕ → List ℕ → List Lane → List Lane
+dealt [] amounts ls = ls
+dealt (i ∷ numbers) [] ls = ls
+dealt (i ∷ numbers) (n ∷ amounts) ls = dealt numbers amounts (slice_set ls i (with_amount n (slice_index_or ls i new_lane)))
+
+-- lane i is in Round, and nothing is decided for it
+pub record IsOpen (i : ℕ) (ls : List Lane) : Type 0 where
+  pub lane : Lane
+  pub there : slice_get ls i ≡ Some lane
+  pub round : lane.shown.state ≡ state.Round
+  pub posted : IsPosted lane
+
+-- so are these lanes, each named once
+abbrev pub AreOpen : List ℕ → List Lane → Type 0
+AreOpen [] ls = ⊤
+AreOpen (i ∷ numbers) ls = IsOpen i ls × NamesNot i numbers × AreOpen numbers ls
+
+-- why no best grants were found for these asks in a tick
+abbrev pub IsUnshared : Rates → ℕ → List Asker → StepFault → Type 0
+IsUnshared rates tick asks fault.TooMuch = HasOtherFault rates tick asks
+IsUnshared rates tick asks fault.FloorsOver = FloorsFit rates tick (map ask_in asks) → ⊥
+IsUnshared rates tick asks fault.Memory = ⊤
+IsUnshared rates tick asks f = ⊥
+
+-- what a fault of the tree of a tick is told as
+abbrev pub fault_for : TreeFault → StepFault
+fault_for (tree.FloorsOverLimit branch) = fault.FloorsOver
+fault_for f = fault.TooMuch

@@ -1,0 +1,26 @@
+//! Why no world is made.
+
+use std::alloc::AllocError;
+use thiserror::Error;
+
+/// Why no world is made.
+#[derive(Clone, Copy, Debug, PartialEq, Eq, Error)]
+pub enum WorldFault {
+    /// There would be more than `grant_ledger::MAX_LANES` lanes.
+    #[error("TooMany")]
+    TooMany,
+    /// Memory ran out.
+    #[error("Memory")]
+    Memory,
+}
+
+impl From<AllocError> for WorldFault {
+    ghost use Rattle.std.specs.Prelude.{◌≡◌};
+    ghost use Rattle.share_world.specs.declared.fault.WorldFault.TheVariants.{Memory};
+
+    ghost from_gives = { λ e fault. fault ≡ Memory };
+
+    fn from(_error: AllocError) -> WorldFault {
+        WorldFault::Memory
+    }
+}

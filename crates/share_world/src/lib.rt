@@ -1,0 +1,46 @@
+//! The core of sharing, which runs: a world of lanes and rounds that takes one event at a time.
+//!
+//! [`World`] takes the events of `world_terms`, answers each, and keeps its books; what holds of every list of events are the
+//! laws of `world_laws`. Nothing of it runs in the server: the desk above is shown to make just these events, and tests
+//! compare the two.
+//!
+//! ```text
+//! let alloc = rt.alloc();
+//! // 30 octets a second, so 3 in a tick
+//! let limits = Limits::of(30, 0, 0, Vec::new(alloc), Vec::new(alloc))?;
+//! let mut world = World::new(alloc, 1, limits)?;
+//! let ask = Ask {
+//!     user: 0,
+//!     session: 0,
+//!     way: Way::Down,
+//!     want: 5,
+//! };
+//! let events = [
+//!     Event::Sit { lane: 0 },
+//!     Event::Asked { lane: 0, ask },
+//!     Event::Collect { lane: 0 },
+//!     Event::Decide { moment: 100 },
+//!     Event::Post { lane: 0 },
+//! ];
+//! let replies = world.run(&events)?;
+//! holds(&rt, replies.len() == 5);
+//! holds(&rt, replies.last() == Some(&Ok(EventAnswer::Posted(3))));
+//! holds(&rt, world.issued() == 3);
+//! ```
+#![tactic(auto)]
+
+mod deal;
+mod fault;
+mod lane;
+mod share;
+mod world;
+
+pub use fault::WorldFault;
+pub use world::World;
+pub use world_laws::{
+    decisions_are_best, decisions_keep_floors, decisions_keep_limits,
+    issued_is_the_sum_of_the_shares, moved_in_all_is_within_the_limits,
+    moved_under_a_name_is_within_its_limits, taken_answers_the_last_ask, taken_begins_posted,
+    taken_is_accounted_for,
+};
+pub use world_terms::{Event, EventAnswer, LaneState, StepFault};

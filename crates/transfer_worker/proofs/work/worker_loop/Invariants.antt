@@ -1,0 +1,16 @@
+use Rattle.std.proofs.Common.{◌≡◌, List, All}
+use Rattle.desk_rule.specs.declared.view.SeatState.TheVariants.{Free}
+use Rattle.lane_seats.specs.Seats.{seat_view, IsSameSeat}
+use Rattle.transfer_worker.specs.Turns.{IsTold}
+use Rattle.job_board.specs.Boards.{done_by, IsSameBoard}
+use Rattle.transfer_worker.specs.Works.{Work, NotStopped, Did}
+use Rattle.transfer_worker.proofs.work.worker_loop.Given as goal
+
+abbrev pub invariant-loop : goal.invariant-loop
+invariant-loop g l =
+    (goal.iterator-loop g).can_next l.iterator' × (goal.iterator-loop g).is_finite l.iterator'
+    × IsSameSeat l.initial.seat l.seat
+    × IsSameBoard l.fn.pass l.pass
+    × IsTold l.tally (seat_view l.seat)
+    × ((seat_view l.seat).state ≡ Free)
+    × ((works : List (Work g.row.R.Denot g.row.K.Denot g.row.C.Denot)) × All NotStopped works × Did works (seat_view l.initial.seat) (seat_view l.seat) (done_by l.fn.pass) (done_by l.pass) (g.G.Gate.heard l.fn.gate) (g.G.Gate.heard l.gate))

@@ -1,0 +1,37 @@
+-- Which end a job may be told to have.
+use Rattle.std.specs.Prelude.{◌≡◌, ◌⊎◌, ◌++◌, ℕ, List, [], ◌∷◌, Option, Some, None}
+use Rattle.data_pump.specs.declared.pumped.PumpEnd.{PumpEnd}
+use Rattle.data_pump.specs.declared.pumped.PumpEnd.TheVariants as pump
+use Rattle.data_pump.specs.declared.pumped.OpenFault.{OpenFault}
+use Rattle.data_pump.specs.declared.pumped.OpenFault.TheVariants as opening
+use Rattle.transfer_worker.specs.declared.end.JobEnd.{JobEnd}
+use Rattle.transfer_worker.specs.declared.end.JobEnd.TheVariants.{Ended, ReadFault, WriteFault, Memory, Stopped}
+use Rattle.transfer_worker.specs.declared.gate.Go.{Go}
+use Rattle.transfer_worker.specs.declared.gate.Go.TheVariants.{Stop}
+use Rattle.transfer_worker.specs.declared.job.Ran.{Ran}
+use Rattle.transfer_worker.specs.declared.job.Ran.TheVariants.{Out, In, Unopened}
+
+-- the end of a job that a pump's end is
+abbrev pub end_of : PumpEnd → Option JobEnd
+end_of pump.Ended = Some Ended
+end_of pump.More = None
+end_of pump.ReadFault = Some ReadFault
+end_of pump.WriteFault = Some WriteFault
+end_of pump.Memory = Some Memory
+
+abbrev pub fault_of : OpenFault → JobEnd
+fault_of opening.ReadFault = ReadFault
+fault_of opening.Memory = Memory
+
+-- a transfer whose last pump ended so may be told to have ended as its pump did; and to be stopped where the pump left more and the gate said Stop
+abbrev pub EndsAs : Go → PumpEnd → JobEnd → Type 0
+EndsAs go last end = (end_of last ≡ Some end) ⊎ ((end ≡ Stopped) × (last ≡ pump.More) × (go ≡ Stop))
+
+abbrev pub MayTell : {R K C A : Type 0} → Go → JobEnd → Ran R K C A → Type 0
+MayTell go end (Out out) = EndsAs go out.last end
+MayTell go end (In upload) = EndsAs go upload.last end
+MayTell go end Unopened = (end ≡ ReadFault) ⊎ (end ≡ Memory)
+
+-- a gate that keeps what it hears has heard this too, once
+abbrev pub Tells : Option (List (ℕ × JobEnd)) → Option (List (ℕ × JobEnd)) → ℕ → JobEnd → Type 0
+Tells old new session end = (before : List (ℕ × JobEnd)) → old ≡ Some before → new ≡ Some (before ++ (session, end) ∷ [])

@@ -1,0 +1,37 @@
+//! Jobs, and what is left of them.
+
+use data_pump::{DataIn, DataOut};
+use ftp_terms::DataType;
+use std::alloc::{Allocator, Global};
+use std::io::{Read, Write};
+use virtual_tree::{Sink, Source};
+
+/// A transfer that waits for a worker.
+#[derive(Drop)]
+pub enum LaneJob<R: Source, K: Sink, C: Read + Write + Drop> {
+    /// A file goes to the client.
+    Send {
+        user: u32,
+        session: u32,
+        source: R,
+        connection: C,
+        data_type: DataType,
+    },
+    /// A file comes from the client.
+    Take {
+        user: u32,
+        session: u32,
+        connection: C,
+        sink: K,
+        data_type: DataType,
+    },
+}
+
+/// What is left of a job.
+#[derive(Drop)]
+pub enum Ran<R: Source, K: Sink, C: Read + Write + Drop, A: Allocator = Global> {
+    Out(DataOut<R, C, A>),
+    In(DataIn<C, K, A>),
+    /// There was no memory for its buffer, or its source could not be read.
+    Unopened,
+}

@@ -1,0 +1,133 @@
+//! A transfer in progress, in either direction.
+
+ghost use Rattle.std.specs.Prelude.{◌≡◌, ℕ, IfSome, IfNone};
+ghost use Rattle.desk_rule.specs.declared.view.SeatState.TheVariants.{Asked};
+ghost use Rattle.desk_rule.specs.Lanes.{has_looked, has_taken};
+ghost use Rattle.lane_seats.specs.Seats.{seat_view, IsSeatOf, IsSameSeat};
+ghost use Rattle.transfer_worker.specs.declared.gate.Go.{Go};
+ghost use Rattle.transfer_worker.specs.Ends.{EndsAs, MayTell};
+ghost use Rattle.transfer_worker.specs.Turns.{IsTold};
+
+use crate::end::JobEnd;
+use crate::job::Ran;
+use crate::turns::{turn_in, turn_out};
+use data_pump::{DataIn, DataOut, PumpEnd, Pumped};
+use grant_ledger::Tally;
+use lane_seats::{Desk, LaneSeat};
+use line_rates::Ask;
+use std::alloc::Allocator;
+use std::io::{Read, Write};
+use virtual_tree::{Sink, Source};
+
+/// The pump of a transfer, opened.
+#[derive(Drop)]
+pub(crate) enum Running<R: Source, K: Sink, C: Read + Write + Drop, A: Allocator> {
+    Out(DataOut<R, C, A>),
+    In(DataIn<C, K, A>),
+}
+
+impl<R: Source, K: Sink, C: Read + Write + Drop, A: Allocator> Running<R, K, C, A> {
+    ghost use Rattle.transfer_worker.specs.Transfers.{way_in, last_in};
+
+    // What it asks a round for.
+    fn ask(&self, user: u32, session: u32) -> Ask
+        ensures user { result.user ≡ user }
+        ensures session { result.session ≡ session }
+        ensures way { result.way ≡ way_in self.now }
+    {
+        match self {
+            Running::Out(out) => out.ask(user, session),
+            Running::In(upload) => upload.ask(user, session),
+        }
+    }
+
+    // Takes the grant that answers the ask, and pumps and spends it.
+    fn turn<N, D: Allocator>(
+        &mut self,
+        desk: &Desk<N, D>,
+        seat: &mut LaneSeat<N>,
+        tally: &mut Tally<N>,
+    ) -> Option<Pumped>
+        requires desk { IsSeatOf desk.now seat.old }
+        requires state { (seat_view seat.old).state ≡ Asked }
+        requires told { IsTold tally.old (seat_view seat.old) }
+        ensures same { IsSameSeat seat.old seat.new }
+        ensures way { way_in self.new ≡ way_in self.old }
+        ensures told { IsTold tally.new (seat_view seat.new) }
+        ensures none { IfNone result ((seat_view seat.new ≡ has_looked (seat_view seat.old))
+            × (last_in self.new ≡ last_in self.old)) }
+        ensures some { IfSome result (λ pumped. (octets : ℕ)
+            × (seat_view seat.new ≡ has_taken octets (seat_view seat.old))
+            × (last_in self.new ≡ pumped.end)) }
+    {
+        match self {
+            Running::Out(out) => turn_out(desk, seat, out, tally),
+            Running::In(upload) => turn_in(desk, seat, upload, tally),
+        }
+    }
+
+    // What is left of it.
+    fn into_ran(self) -> Ran<R, K, C, A>
+        ensures ends { (go : Go) (end : JobEnd) → EndsAs go (last_in self) end
+            → MayTell go end result }
+    {
+        match self {
+            Running::Out(out) => Ran::Out(out),
+            Running::In(upload) => Ran::In(upload),
+        }
+    }
+}
+
+/// A transfer in progress: for whom it runs, and the octets that it has moved, at most 2^64 - 1.
+#[derive(Drop)]
+pub(crate) struct Transfer<R: Source, K: Sink, C: Read + Write + Drop, A: Allocator> {
+    pub(crate) user: u32,
+    pub(crate) session: u32,
+    pub(crate) moved: u64,
+    pub(crate) running: Running<R, K, C, A>,
+}
+
+impl<R: Source, K: Sink, C: Read + Write + Drop, A: Allocator> Transfer<R, K, C, A> {
+    ghost use Rattle.transfer_worker.specs.Transfers.{way_in, last_in, IsSameTransfer};
+
+    /// What it asks a round for.
+    pub(crate) fn ask(&self) -> Ask
+        ensures user { result.user ≡ self.now.user }
+        ensures session { result.session ≡ self.now.session }
+        ensures way { result.way ≡ way_in self.now.running }
+    {
+        self.running.ask(self.user, self.session)
+    }
+
+    /// Takes the grant that answers the ask, and pumps and spends it. Returns none if there is none yet.
+    pub(crate) fn turn<N, D: Allocator>(
+        &mut self,
+        desk: &Desk<N, D>,
+        seat: &mut LaneSeat<N>,
+        tally: &mut Tally<N>,
+    ) -> Option<Pumped>
+        requires desk { IsSeatOf desk.now seat.old }
+        requires state { (seat_view seat.old).state ≡ Asked }
+        requires told { IsTold tally.old (seat_view seat.old) }
+        ensures same { IsSameSeat seat.old seat.new }
+        ensures transfer { IsSameTransfer self.old self.new }
+        ensures told { IsTold tally.new (seat_view seat.new) }
+        ensures none { IfNone result ((seat_view seat.new ≡ has_looked (seat_view seat.old))
+            × (last_in self.new.running ≡ last_in self.old.running)) }
+        ensures some { IfSome result (λ pumped. (octets : ℕ)
+            × (seat_view seat.new ≡ has_taken octets (seat_view seat.old))
+            × (last_in self.new.running ≡ pumped.end)) }
+    {
+        let pumped = self.running.turn(desk, seat, tally)?;
+        self.moved = self.moved.saturating_add(pumped.moved);
+        Some(pumped)
+    }
+
+    /// What is left of it.
+    pub(crate) fn into_ran(self) -> Ran<R, K, C, A>
+        ensures ends { (go : Go) (end : JobEnd) → EndsAs go (last_in self.running) end
+            → MayTell go end result }
+    {
+        self.running.into_ran()
+    }
+}

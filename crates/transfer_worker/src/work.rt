@@ -1,0 +1,67 @@
+//! The loop of a worker.
+
+ghost use Rattle.std.specs.Prelude.{◌≡◌, ℕ, List};
+ghost use Rattle.desk_rule.specs.declared.view.SeatState.TheVariants.{Free};
+ghost use Rattle.job_board.specs.Boards.{done_by, IsOfBoard, IsSameBoard};
+ghost use Rattle.job_board.specs.Order.{ShowsHeld};
+ghost use Rattle.lane_seats.specs.Seats.{seat_view, IsSeatOf, IsSameSeat};
+ghost use Rattle.transfer_worker.specs.declared.end.LoopEnd.TheVariants.{Idle};
+ghost use Rattle.transfer_worker.specs.Works.{Works};
+
+use crate::end::LoopEnd;
+use crate::gate::Gate;
+use crate::job::LaneJob;
+use crate::transfer::run_job;
+use job_board::{BoardPass, JobBoard};
+use lane_desk::Worked;
+use lane_seats::Desk;
+use std::alloc::Allocator;
+use std::io::{Read, Write};
+use std::sync::Wait;
+use virtual_tree::{Sink, Source};
+
+/// Pops jobs and runs each to its end, until a pop gives nothing or the gate says `Stop`.
+///
+/// After `Stop` in the middle of a job the seat may have asked: it stays so for whoever closes the desk. A buffer of each
+/// transfer is the only memory that is taken; a job for which there is none ends as `Memory`.
+pub fn worker_loop<R, K, C, A, G, W, N, D, B>(
+    rt: &W,
+    alloc: A,
+    desk: &Desk<N, D>,
+    worked: Worked<N>,
+    board: &JobBoard<LaneJob<R, K, C>, B>,
+    pass: &mut BoardPass<LaneJob<R, K, C>>,
+    gate: &mut G,
+) -> (Worked<N>, LoopEnd)
+where
+    R: Source,
+    K: Sink,
+    C: Read + Write + Drop,
+    A: Allocator + Copy,
+    G: Gate<R, K, C, A>,
+    W: Wait,
+    D: Allocator,
+    B: Allocator,
+    requires desk { IsSeatOf desk.now worked.seat }
+    requires state { (seat_view worked.seat).state ≡ Free }
+    requires board { IsOfBoard board.now pass.old }
+    ensures same { IsSameSeat worked.seat result.0.seat }
+    ensures board { IsSameBoard pass.old pass.new }
+    ensures idle { result.1 ≡ Idle → ((seat_view result.0.seat).state ≡ Free)
+        × ShowsHeld 0 (done_by pass.new) }
+    ensures works { Works result.1 (seat_view worked.seat) (seat_view result.0.seat)
+        (done_by pass.old) (done_by pass.new) (G.heard gate.old) (G.heard gate.new) }
+{
+    let (mut seat, mut tally) = worked.parts();
+    for _ in rt.forever() {
+        match board.pop(rt, pass) {
+            None => return (Worked::new(seat, tally), LoopEnd::Idle),
+            Some(job) => {
+                if run_job(rt, alloc, desk, &mut seat, &mut tally, job, gate) {
+                    return (Worked::new(seat, tally), LoopEnd::Stopped);
+                }
+            }
+        }
+    }
+    unreachable!()
+}

@@ -1,0 +1,12 @@
+//! Tests of the core of sharing that no stored run shows: a whole run with its replies, and memory that is refused at each
+//! growth in turn.
+#![tactic(auto)]
+
+#[cfg(test)]
+mod examples;
+#[cfg(test)]
+mod expect;
+#[cfg(test)]
+mod rounds;
+#[cfg(test)]
+mod shortages;

@@ -13,3 +13,4 @@ mod TwiceLemmas
 mod WholeLemmas
 pub mod FloorLemmas
 pub mod PlainLemmas
+mod PutLemmas

@@ -23,7 +23,7 @@ first_row number q (x ∷ xs) = cond (nat_eq (number x) q) (Some x) (first_row n
 other_number : (n q : ℕ) → n ≢ q → nat_eq n q ≡ false
 other_number n q h = bool_same (nat_eq n q) false (λ e. absurd (h (eqb-true n q e))) (λ e. absurd (cc))
 
-same_test : (q n : ℕ) (r : Ordering) → r ≡ nat_cmp q n → is_eq r ≡ nat_eq n q
+pub same_test : (q n : ℕ) (r : Ordering) → r ≡ nat_cmp q n → is_eq r ≡ nat_eq n q
 same_test q n Less e = let h = ranked q n Less e in sym (other_number n q (λ same. omega arith))
 same_test q n Equal e = let h = ranked q n Equal e in sym (eq-eqb n q (sym h))
 same_test q n Greater e = let h = ranked q n Greater e in sym (other_number n q (λ same. omega arith))

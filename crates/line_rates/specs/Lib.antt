@@ -9,3 +9,4 @@ pub mod Refused
 pub mod Stated
 pub mod TickTree
 pub mod Ticks
+pub mod Put

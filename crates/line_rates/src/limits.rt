@@ -7,6 +7,7 @@ ghost use Rattle.line_rates.specs.Rates.{group_of, rate_of};
 ghost use Rattle.std.specs.List.{All};
 ghost use Rattle.line_rates.specs.Stated.{group_number, user_number, by_number, stated, limits_fault, has_large_rate, IsRising, FitsGroup, FitsUser};
 ghost use Rattle.line_rates.specs.Names.{floor_of};
+ghost use Rattle.line_rates.specs.Put.{with_line, with_group, with_user};
 
 use crate::ask::{Ask, Name};
 use crate::fault::LimitsFault;
@@ -14,7 +15,7 @@ use crate::rate::MAX_RATE;
 use crate::row::{GroupRate, UserRate, either};
 use crate::rows::{
     find_group, find_user, groups_rise, has_large_group, has_large_user, has_stray_user,
-    sort_groups, sort_users, users_rise,
+    replace_group, replace_user, sort_groups, sort_users, users_rise,
 };
 use std::alloc::{Allocator, Global};
 use std::marker::Model;
@@ -169,5 +170,34 @@ impl<A: Allocator> Limits<A> {
             ),
             None => 0,
         }
+    }
+
+    /// Puts other rates in place of those of the server and of its two ways.
+    pub fn put_line(&mut self, server: u64, down: u64, up: u64)
+        requires server { server ≤ MAX_RATE }
+        requires down { down ≤ MAX_RATE }
+        requires up { up ≤ MAX_RATE }
+        ensures put { self.new ≡ with_line self.old server down up }
+    {
+        self.server = server;
+        self.down = down;
+        self.up = up;
+    }
+
+    /// Puts other rates in place of those of a group, if it has a row. It takes no memory, and a binary search.
+    pub fn put_group(&mut self, row: GroupRate)
+        requires fits { FitsGroup row }
+        ensures put { self.new ≡ with_group self.old row }
+    {
+        replace_group(&mut self.groups, row);
+    }
+
+    /// Puts other rates in place of those of a user, if they have a row. It takes no memory, and a binary search. The row's group
+    /// is taken as it is given: a group without a row limits nobody.
+    pub fn put_user(&mut self, row: UserRate)
+        requires fits { FitsUser row }
+        ensures put { self.new ≡ with_user self.old row }
+    {
+        replace_user(&mut self.users, row);
     }
 }

@@ -2,9 +2,11 @@
 
 ghost use Rattle.std.specs.Prelude.{◌≡◌, ◌||◌, IfSome, IsPermutation};
 ghost use Rattle.std.specs.FinMap as finite;
-ghost use Rattle.std.specs.List.{Contains};
+ghost use Rattle.std.specs.List.{All, Contains};
 ghost use Rattle.std.specs.List.Sorted.{IsNonDecreasingBy};
-ghost use Rattle.line_rates.specs.Stated.{group_number, user_number, by_number, is_large_group, is_large_user, has_large_group, has_large_user, has_no_row, has_stray_user, IsRising, TellsRising};
+ghost use Rattle.line_rates.specs.Put.{put, FindsPlace};
+ghost use Rattle.std.specs.Option.{is_some};
+ghost use Rattle.line_rates.specs.Stated.{FitsGroup, FitsUser, group_number, user_number, by_number, is_large_group, is_large_user, has_large_group, has_large_user, has_no_row, has_stray_user, IsRising, TellsRising};
 
 use crate::rate::MAX_RATE;
 use crate::row::{GroupRate, UserRate};
@@ -139,4 +141,58 @@ pub fn has_stray_user(groups: &[GroupRate], users: &[UserRate]) -> bool
         }
     }
     false
+}
+
+/// Returns the place of a group's row, if it has one.
+fn place_of_group(groups: &[GroupRate], group: u32) -> Option<usize>
+    requires rising { IsRising group_number groups.now }
+    ensures place { FindsPlace group_number groups.now group result }
+{
+    match groups.binary_search_by_key(&group, |row| row.group) {
+        Ok(place) => Some(place),
+        Err(_) => None,
+    }
+}
+
+/// Returns the place of a user's row, if they have one.
+fn place_of_user(users: &[UserRate], user: u32) -> Option<usize>
+    requires rising { IsRising user_number users.now }
+    ensures place { FindsPlace user_number users.now user result }
+{
+    match users.binary_search_by_key(&user, |row| row.user) {
+        Ok(place) => Some(place),
+        Err(_) => None,
+    }
+}
+
+/// Puts a row in place of that of its group, if there is one.
+pub fn replace_group<A: Allocator>(groups: &mut Vec<GroupRate, A>, row: GroupRate)
+    requires rising { IsRising group_number groups.old.items }
+    requires all_fit { All FitsGroup groups.old.items }
+    requires fits { FitsGroup row }
+    ensures put { by_number group_number groups.new.items
+        ≡ put (by_number group_number groups.old.items) row.group row }
+    ensures rising { IsRising group_number groups.new.items }
+    ensures all_fit { All FitsGroup groups.new.items }
+{
+    match place_of_group(groups, row.group) {
+        Some(place) => groups[place] = row,
+        None => {}
+    }
+}
+
+/// Puts a row in place of that of its user, if there is one.
+pub fn replace_user<A: Allocator>(users: &mut Vec<UserRate, A>, row: UserRate)
+    requires rising { IsRising user_number users.old.items }
+    requires all_fit { All FitsUser users.old.items }
+    requires fits { FitsUser row }
+    ensures put { by_number user_number users.new.items
+        ≡ put (by_number user_number users.old.items) row.user row }
+    ensures rising { IsRising user_number users.new.items }
+    ensures all_fit { All FitsUser users.new.items }
+{
+    match place_of_user(users, row.user) {
+        Some(place) => users[place] = row,
+        None => {}
+    }
 }

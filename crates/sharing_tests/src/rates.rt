@@ -248,3 +248,43 @@ fn look_at_rows(rt: &impl Abort, limits: &Limits) {
 fn rows_are_found_by_their_numbers(rt: HostRuntime) {
     look_at_rows(&rt, &limits_of(&rt, &FOUND));
 }
+
+/// Puts other rates in place of those of the server, of group 2 and of user 40, and of a user and a group without a row.
+fn put_others(limits: &mut Limits) {
+    limits.put_line(100, 200, 300);
+    for group in [2, 3] {
+        limits.put_group(GroupRate {
+            group,
+            down: 21,
+            up: 22,
+        });
+    }
+    for user in [40, 41] {
+        limits.put_user(UserRate {
+            user,
+            group: Some(2),
+            down: 11,
+            ..USER
+        });
+    }
+}
+
+static PUT_NAMES: [(Name, u64); 8] = [
+    (Name::Server, 100),
+    (Name::Direction(Way::Up), 300),
+    (Name::Group(Way::Down, 1), 10),
+    (Name::Group(Way::Up, 2), 22),
+    (Name::Group(Way::Down, 3), 0),
+    (Name::User(Way::Down, 40), 11),
+    (Name::Session(Way::Up, 40, 6), 0),
+    (Name::User(Way::Down, 41), 0),
+];
+
+#[test]
+fn rates_are_put_in_place(rt: HostRuntime) {
+    let mut limits = limits_of(&rt, &FOUND);
+    put_others(&mut limits);
+    for (name, rate) in &PUT_NAMES {
+        holds(&rt, limits.rate(*name) == *rate);
+    }
+}

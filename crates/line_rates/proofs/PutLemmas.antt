@@ -1,0 +1,75 @@
+-- One row is put in place of another of its number.
+use Rattle.std.proofs.Common.{◌≡◌, ◌≢◌, ℕ, zero, suc, ◌+◌, ◌<◌, inl, inr, Bool, true, false, cond, List, [], ◌∷◌, length, get_or, set, sym, refl, ap, ◌∙◌, arith, Option, Some, None, Result, Ok, Err, get_or-set_same, get_or-set_other}
+use Rattle.std.specs.Prelude.{nat_eq}
+use Rattle.std.specs.FinMap as finite
+use Rattle.std.specs.FinMap.{get-insert, same_map, nat_cmp-IsAntisymmetric}
+use Rattle.std.specs.List.Sorted.{IsSearchInRange, IsBinarySearchResult}
+use Rattle.std.specs.Ordering.{nat_cmp}
+use Rattle.std.proofs.lemmas.Bool.{eqb-true, cases_eq}
+use Rattle.std.proofs.lemmas.Cmp.{nat_cmp_total}
+use Rattle.std.proofs.lemmas.List.{length-set}
+use Rattle.line_rates.specs.Put.{IsAt, put, put_over}
+use Rattle.line_rates.specs.Stated.{by_number, IsRising}
+use Rattle.line_rates.proofs.RowLemmas.{first_row, get-by_number, found, not_found, first_contains, rising_below, same_test}
+
+pub at_place : {X : Type 0} (number : X → ℕ) (xs : List X) (q i : ℕ) (r : Result ℕ ℕ) → r ≡ Ok i → IsRising number xs → IsSearchInRange r (length xs) → IsBinarySearchResult (λ x. nat_cmp (number x) q) xs r → IsAt number xs q i
+at_place number xs q i r e up range by =
+    let f = found number xs q i r e up range by in
+    (f.0, (λ d. get-by_number number q xs ∙ f.1 d), (λ d. (first_contains number q xs (get_or xs i d) (f.1 d)).1))
+
+pub at_none : {X : Type 0} (number : X → ℕ) (xs : List X) (q i : ℕ) (r : Result ℕ ℕ) → r ≡ Err i → IsRising number xs → IsSearchInRange r (length xs) → IsBinarySearchResult (λ x. nat_cmp (number x) q) xs r → finite.get (by_number number xs) q ≡ None
+at_none number xs q i r e up range by = get-by_number number q xs ∙ not_found number xs q i r e up range by
+
+two_tests : {X : Type 0} (m n q : ℕ) → m ≢ n → (x y : Option X) (z : Option X) → cond (nat_eq m q) x (cond (nat_eq n q) y z) ≡ cond (nat_eq n q) y (cond (nat_eq m q) x z)
+two_tests m n q apart x y z = go (nat_eq m q) (nat_eq n q) refl refl
+  where
+    go : (a b : Bool) → nat_eq m q ≡ a → nat_eq n q ≡ b → cond a x (cond b y z) ≡ cond b y (cond a x z)
+    go true true e f = absurd (apart (eqb-true m q e ∙ sym (eqb-true n q f)))
+    go true false e f = refl
+    go false true e f = refl
+    go false false e f = refl
+
+one_test : {X : Type 0} (b : Bool) (x y z : Option X) → cond b y z ≡ cond b y (cond b x z)
+one_test true x y z = refl
+one_test false x y z = refl
+
+first_put : {X : Type 0} (number : X → ℕ) (q : ℕ) (xs : List X) (i : ℕ) (y d : X) → i < length xs → number (get_or xs i d) ≡ number y → ((j : ℕ) (e : X) → j < i → number (get_or xs j e) ≢ number y)
+    → first_row number q (set xs i y) ≡ cond (nat_eq (number y) q) (Some y) (first_row number q xs)
+first_put number q [] i y d lt is before = absurd (omega arith)
+first_put number q (x ∷ xs) zero y d lt is before =
+    one_test (nat_eq (number y) q) (Some x) (Some y) (first_row number q xs)
+    ∙ ap (λ (n : ℕ). cond (nat_eq (number y) q) (Some y) (cond (nat_eq n q) (Some x) (first_row number q xs))) (sym is)
+first_put number q (x ∷ xs) (suc i) y d lt is before =
+    ap (cond (nat_eq (number x) q) (Some x)) (first_put number q xs i y d (omega arith) is (λ j e less. before (suc j) e (omega arith)))
+    ∙ two_tests (number x) (number y) q (before 0 x (omega arith)) (Some x) (Some y) (first_row number q xs)
+
+-- the map of the rows with one put in place of another
+pub put_at : {X : Type 0} (number : X → ℕ) (xs : List X) (i : ℕ) (y : X) → IsRising number xs → IsAt number xs (number y) i → by_number number (set xs i y) ≡ put (by_number number xs) (number y) y
+put_at {X} number xs i y up at =
+    let before : (j : ℕ) (e : X) → j < i → number (get_or xs j e) ≢ number y = λ j e less same. (let below : number (get_or xs j e) < number (get_or xs i e) = rising_below number xs up j i e less at.0 in let is : number (get_or xs i e) ≡ number y = at.2 e in let also : number (get_or xs j e) ≡ number y = same in absurd (omega arith)) in
+    let inserted : by_number number (set xs i y) ≡ finite.insert (by_number number xs) (number y) y =
+    same_map nat_cmp_total nat_cmp-IsAntisymmetric (by_number number (set xs i y)) (finite.insert (by_number number xs) (number y) y)
+    (λ q. get-by_number number q (set xs i y)
+    ∙ (first_put number q xs i y y at.0 (at.2 y) before
+    ∙ (ap (cond (nat_eq (number y) q) (Some y)) (sym (get-by_number number q xs))
+    ∙ (ap (λ b. cond b (Some y) (finite.get (by_number number xs) q)) (sym (same_test q (number y) (nat_cmp q (number y)) refl))
+    ∙ sym (get-insert nat_cmp_total (by_number number xs) (number y) y q))))) in
+    inserted ∙ ap (λ o. put_over o (by_number number xs) (number y) y) (sym (at.1 y))
+
+-- nothing is put where the number stands nowhere
+pub put_nowhere : {X : Type 0} (number : X → ℕ) (xs : List X) (y : X) → finite.get (by_number number xs) (number y) ≡ None → by_number number xs ≡ put (by_number number xs) (number y) y
+put_nowhere number xs y e = ap (λ o. put_over o (by_number number xs) (number y) y) (sym e)
+
+same_number : {X : Type 0} (number : X → ℕ) (xs : List X) (i : ℕ) (y : X) → i < length xs → ((d : X) → number (get_or xs i d) ≡ number y) → (k : ℕ) (d : X) → number (get_or (set xs i y) k d) ≡ number (get_or xs k d)
+same_number number xs i y lt is k d = elim (cases_eq k i) [
+  | inl e ↦ ap (λ (n : ℕ). number (get_or (set xs i y) n d)) e ∙ (ap number (get_or-set_same xs i y d lt) ∙ (sym (is d) ∙ ap (λ (n : ℕ). number (get_or xs n d)) (sym e)))
+  | inr e ↦ ap number (get_or-set_other xs i k y d (λ f. e f))
+]
+
+pub rising_put : {X : Type 0} (number : X → ℕ) (xs : List X) (i : ℕ) (y : X) → IsRising number xs → IsAt number xs (number y) i → IsRising number (set xs i y)
+rising_put number xs i y up at k d lt =
+    let many : length (set xs i y) ≡ length xs = length-set xs i y in
+    let below : number (get_or xs k d) < number (get_or xs (k + 1) d) = up k d (omega arith) in
+    let one : number (get_or (set xs i y) k d) ≡ number (get_or xs k d) = same_number number xs i y at.0 at.2 k d in
+    let two : number (get_or (set xs i y) (k + 1) d) ≡ number (get_or xs (k + 1) d) = same_number number xs i y at.0 at.2 (k + 1) d in
+    omega arith

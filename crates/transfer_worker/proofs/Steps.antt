@@ -1,134 +1,130 @@
--- What the steps of a seat add to a sitting.
-use Rattle.std.proofs.Common.{◌≡◌, ◌≢◌, ◌⊎◌, inl, inr, ℕ, ◌+◌, ◌<◌, ◌++◌, Bool, true, false, List, [], ◌∷◌, length, sym, refl, ap, ◌∙◌, subst, arith, append_assoc, append-nil, length-append, All}
-use Rattle.std.proofs.lemmas.List.Elements.{All-nil, All-push}
+-- What each step of a worker adds: a pass, a look, a grant that was pumped, an ask.
+use Rattle.std.proofs.Common.{◌≡◌, ℕ, ◌+◌, ◌++◌, length, List, [], ◌∷◌, sym, refl, ap, ◌∙◌, arith, append_assoc, append-nil, length-append}
+use Rattle.std.specs.Prelude.{Option, replicate}
+use Rattle.std.proofs.lemmas.List.{replicate_more}
+use Rattle.std.proofs.lemmas.Grind.{flat_map-append}
 use Rattle.line_rates.specs.declared.ask.Ask.{Ask}
-use Rattle.line_rates.specs.declared.ask.Way.{Way}
+use Rattle.grant_ledger.specs.Books.{TallyView, capped}
+use Rattle.data_pump.specs.declared.pumped.Pumped.{Pumped}
 use Rattle.desk_rule.specs.declared.view.LaneView.{LaneView}
-use Rattle.desk_rule.specs.declared.view.SeatState.TheVariants.{Worker}
-use Rattle.desk_rule.specs.Lanes.{sat_down, has_asked, has_taken, has_looked, has_risen}
-use Rattle.std.specs.Prelude.{Option, Some, None}
-use Rattle.std.proofs.lemmas.Bool.{true≢false}
-use Rattle.data_pump.specs.declared.pumped.PumpEnd.{PumpEnd}
-use Rattle.data_pump.specs.declared.pumped.PumpEnd.TheVariants as pump
+use Rattle.desk_rule.specs.Lanes.{has_asked, has_taken}
 use Rattle.transfer_worker.specs.declared.end.JobEnd.{JobEnd}
-use Rattle.transfer_worker.specs.declared.end.JobEnd.TheVariants.{Stopped}
-use Rattle.transfer_worker.specs.Ends.{Tells, end_of}
-use Rattle.transfer_worker.specs.Works.{HasWaited, HasTaken, Bears, Sits, RunsTransfer}
+use Rattle.transfer_worker.specs.declared.gate.Go.TheVariants.{On, Later, Stop}
+use Rattle.transfer_worker.specs.Passes.{PassCall, pass_call, Passes, calls_until, leaves}
+use Rattle.transfer_worker.specs.Transfers.{Flow, Known, Pumps}
+use Rattle.transfer_worker.specs.Runs.{WorkerView, worker, Adds}
+use Rattle.transfer_worker.specs.Works.{WaitsInVain, Takes}
+use Rattle.transfer_worker.proofs.Adding.{passes_then, passes_are}
 
-pub waits_none : (x : LaneView) → HasWaited x x
-waits_none x = record { state_is = refl; sittings_are = refl; asks_are = refl; taken_are = refl }
+abbrev pub Asked : Type 0
+Asked = Option (List PassCall)
 
-pub waits_more : (x y z : LaneView) → HasWaited x y → z ≡ has_looked y → HasWaited x z
-waits_more x y z w e = record {
-  state_is = ap (λ (v : LaneView). v.state) e ∙ w.state_is;
-  sittings_are = ap (λ (v : LaneView). v.sittings) e ∙ w.sittings_are;
-  asks_are = ap (λ (v : LaneView). v.asks) e ∙ w.asks_are;
-  taken_are = ap (λ (v : LaneView). v.taken) e ∙ w.taken_are;
-}
+abbrev pub Heard : Type 0
+Heard = Option (List (ℕ × JobEnd))
 
-pub takes_then : (x y z : LaneView) (n : ℕ) → HasWaited x y → z ≡ has_taken n y → HasTaken x z
-takes_then x y z n w e = record {
-  octets = n;
-  state_is = ap (λ (v : LaneView). v.state) e;
-  sittings_are = ap (λ (v : LaneView). v.sittings) e ∙ w.sittings_are;
-  asks_are = ap (λ (v : LaneView). v.asks) e ∙ w.asks_are;
-  taken_are = ap (λ (v : LaneView). v.taken) e ∙ ap (λ (l : List ℕ). l ++ n ∷ []) w.taken_are;
-}
+-- one answer Later more
+pub later : (session moved laters : ℕ) (t u w : Asked) → Passes t u (replicate laters (pass_call session moved Later)) → Passes u w (pass_call session moved Later ∷ [])
+    → Passes t w (replicate (laters + 1) (pass_call session moved Later))
+later session moved laters t u w p q =
+    passes_are t w (replicate laters (pass_call session moved Later) ++ pass_call session moved Later ∷ []) (replicate (laters + 1) (pass_call session moved Later)) (replicate_more laters (pass_call session moved Later))
+    (passes_then t u w (replicate laters (pass_call session moved Later)) (pass_call session moved Later ∷ []) p q)
 
-module _ (user session : ℕ) (way : Way) where
-  pub begins : (x y : LaneView) → y ≡ sat_down x → (s : Sits user session way x y) × (length s.asks ≡ length s.taken)
-  begins x y e = (
-    record {
-      asks = [];
-      taken = [];
-      sittings_are = ap (λ (v : LaneView). v.sittings) e;
-      asks_are = ap (λ (v : LaneView). v.asks) e ∙ sym (append-nil x.asks);
-      taken_are = ap (λ (v : LaneView). v.taken) e ∙ sym (append-nil x.taken);
-      bear = All-nil (Bears user session way);
-    },
-    refl,
-  )
+-- one leave more
+pub leaves_more : (session moved laters : ℕ) (between : List ℕ) → leaves session moved between ++ calls_until session moved On laters ≡ leaves session moved (between ++ laters ∷ [])
+leaves_more session moved laters between =
+    ap (λ (l : List PassCall). leaves session moved between ++ l) (sym (append-nil (calls_until session moved On laters)))
+    ∙ sym (flat_map-append (calls_until session moved On) between (laters ∷ []))
 
-  -- nothing but the state has changed
-  pub still : (x y z : LaneView) → (s : Sits user session way x y) → z.sittings ≡ y.sittings → z.asks ≡ y.asks → z.taken ≡ y.taken
-      → (r : Sits user session way x z) × (r.asks ≡ s.asks) × (r.taken ≡ s.taken)
-  still x y z s a b c = (
-    record {
-      asks = s.asks;
-      taken = s.taken;
-      sittings_are = a ∙ s.sittings_are;
-      asks_are = b ∙ s.asks_are;
-      taken_are = c ∙ s.taken_are;
-      bear = s.bear;
-    },
-    refl,
-    refl,
-  )
-
-  pub asks_more : (x y z : LaneView) (a : Ask) → (s : Sits user session way x y) → Bears user session way a → z ≡ has_asked a y
-      → (r : Sits user session way x z) × (r.asks ≡ s.asks ++ a ∷ []) × (r.taken ≡ s.taken)
-  asks_more x y z a s bears e = (
-    record {
-      asks = s.asks ++ a ∷ [];
-      taken = s.taken;
-      sittings_are = ap (λ (v : LaneView). v.sittings) e ∙ s.sittings_are;
-      asks_are = ap (λ (v : LaneView). v.asks) e ∙ ap (λ (l : List Ask). l ++ a ∷ []) s.asks_are ∙ append_assoc x.asks s.asks (a ∷ []);
-      taken_are = ap (λ (v : LaneView). v.taken) e ∙ s.taken_are;
-      bear = All-push (Bears user session way) s.asks a s.bear bears;
-    },
-    refl,
-    refl,
-  )
-
-  pub takes_more : (x y z : LaneView) → (s : Sits user session way x y) → (t : HasTaken y z)
-      → (r : Sits user session way x z) × (r.asks ≡ s.asks) × (r.taken ≡ s.taken ++ t.octets ∷ [])
-  takes_more x y z s t = (
-    record {
-      asks = s.asks;
-      taken = s.taken ++ t.octets ∷ [];
-      sittings_are = t.sittings_are ∙ s.sittings_are;
-      asks_are = t.asks_are ∙ s.asks_are;
-      taken_are = t.taken_are ∙ ap (λ (l : List ℕ). l ++ t.octets ∷ []) s.taken_are ∙ append_assoc x.taken s.taken (t.octets ∷ []);
-      bear = s.bear;
-    },
-    refl,
-    refl,
-  )
-
-  -- a sitting that was stopped, with its last ask open or not
-  pub stopped : (x z : LaneView) (t u t' : Option (List (ℕ × JobEnd))) → (s : Sits user session way x z) → (length s.asks ≡ length s.taken) ⊎ (length s.asks ≡ length s.taken + 1) → u ≡ t → Tells u t' session Stopped
-      → RunsTransfer user session way true x z t t'
-  stopped x z t u t' s few same tells = record {
-    end = Stopped;
-    stops = refl;
-    sits = s;
-    some = λ e. absurd (true≢false e);
-    few = few;
-    tells = λ before e. tells before (same ∙ e);
+module _ (session moved : ℕ) (v : WorkerView) where
+  -- a take that found nothing, and a leave
+  pub looks_again : (between : List ℕ) (laters : ℕ) (u w : WorkerView) → Adds [] [] (length between) [] (leaves session moved between) v u
+      → w.lane.asks ≡ u.lane.asks → w.lane.taken ≡ u.lane.taken → w.lane.looks ≡ u.lane.looks + 1 → w.tally.moved ≡ u.tally.moved
+      → Passes u.passed w.passed (calls_until session moved On laters)
+      → Adds [] [] (length (between ++ laters ∷ [])) [] (leaves session moved (between ++ laters ∷ [])) v w
+  looks_again between laters u w p asks taken looks tally q = record {
+    asks_are = asks ∙ p.asks_are;
+    taken_are = taken ∙ p.taken_are;
+    looks_are = omega (arith, looks, p.looks_are, length-append between (laters ∷ []));
+    moved_is = tally ∙ p.moved_is;
+    passes = passes_are v.passed w.passed (leaves session moved between ++ calls_until session moved On laters) (leaves session moved (between ++ laters ∷ [])) (leaves_more session moved laters between)
+        (passes_then v.passed u.passed w.passed (leaves session moved between) (calls_until session moved On laters) p.passes q);
   }
 
-  pub ended : (x z : LaneView) (t u t' : Option (List (ℕ × JobEnd))) (end : JobEnd) → (s : Sits user session way x z) → length s.asks ≡ length s.taken → 0 < length s.taken → end ≢ Stopped → u ≡ t → Tells u t' session end
-      → RunsTransfer user session way false x z t t'
-  ended x z t u t' end s even some apart same tells = record {
-    end = end;
-    stops = apart;
-    sits = s;
-    some = λ e. (some, even);
-    few = inl even;
-    tells = λ before e. tells before (same ∙ e);
+  -- a take that found nothing, and Stop
+  pub waits_in_vain : (between : List ℕ) (laters : ℕ) (u w : WorkerView) → Adds [] [] (length between) [] (leaves session moved between) v u
+      → w.lane.asks ≡ u.lane.asks → w.lane.taken ≡ u.lane.taken → w.lane.looks ≡ u.lane.looks + 1 → w.tally.moved ≡ u.tally.moved
+      → Passes u.passed w.passed (calls_until session moved Stop laters)
+      → w.lane.state ≡ v.lane.state → w.lane.sittings ≡ v.lane.sittings
+      → WaitsInVain session moved v w
+  waits_in_vain between laters u w p asks taken looks tally q state sittings = record {
+    between = between;
+    laters = laters;
+    state_is = state;
+    sittings_are = sittings;
+    adds = record {
+      asks_are = asks ∙ p.asks_are;
+      taken_are = taken ∙ p.taken_are;
+      looks_are = omega (arith, looks, p.looks_are);
+      moved_is = tally ∙ p.moved_is;
+      passes = passes_then v.passed u.passed w.passed (leaves session moved between) (calls_until session moved Stop laters) p.passes q;
+    };
   }
 
--- no pump's end is Stopped
-pub not_stopped : (p : PumpEnd) (end : JobEnd) → end_of p ≡ Some end → end ≢ Stopped
-not_stopped pump.Ended end e = λ f. absurd (cc)
-not_stopped pump.More end e = λ f. absurd (cc)
-not_stopped pump.ReadFault end e = λ f. absurd (cc)
-not_stopped pump.WriteFault end e = λ f. absurd (cc)
-not_stopped pump.Memory end e = λ f. absurd (cc)
+-- a take that found a grant, which was pumped
+pub takes_then : {R K C : Type 0} (k : Known R K C) (session moved : ℕ) (flow next : Flow R K C) (pumped : Pumped) (v : WorkerView) (between : List ℕ) (octets : ℕ) (x y : LaneView) (t s : TallyView) (h : Heard) (a : Asked)
+    → Adds [] [] (length between) [] (leaves session moved between) v (worker x t h a) → x.sittings ≡ v.lane.sittings
+    → y ≡ has_taken octets x → s.moved ≡ capped t.moved pumped.moved → Pumps k octets flow next pumped
+    → Takes k session moved flow next pumped v (worker y s h a)
+takes_then k session moved flow next pumped v between octets x y t s h a p sittings e tally pumps = record {
+  between = between;
+  octets = octets;
+  state_is = ap (λ (l : LaneView). l.state) e;
+  sittings_are = ap (λ (l : LaneView). l.sittings) e ∙ sittings;
+  adds = record {
+    asks_are = ap (λ (l : LaneView). l.asks) e ∙ p.asks_are;
+    taken_are = ap (λ (l : LaneView). l.taken) e ∙ ap (λ (l : List ℕ). l ++ octets ∷ []) (p.taken_are ∙ append-nil v.lane.taken);
+    looks_are = ap (λ (l : LaneView). l.looks) e ∙ p.looks_are;
+    moved_is = tally ∙ ap (λ (n : ℕ). capped n pumped.moved) p.moved_is;
+    passes = p.passes;
+  };
+  pumps = pumps;
+}
 
-pub only_more : (p : PumpEnd) → end_of p ≡ None → p ≡ pump.More
-only_more pump.Ended e = absurd (cc)
-only_more pump.More e = refl
-only_more pump.ReadFault e = absurd (cc)
-only_more pump.WriteFault e = absurd (cc)
-only_more pump.Memory e = absurd (cc)
+-- a turn: leave to ask, the ask, and the grant
+pub adds_turn : (session moved before : ℕ) (a : Ask) (between : List ℕ) (octets : ℕ) (pumped : Pumped) (x y : LaneView) (t : TallyView) (h g : Heard) (q r : Asked) (w : WorkerView)
+    → Passes q r (calls_until session moved On before) → y ≡ has_asked a x
+    → Adds [] (octets ∷ []) (length between) (pumped.moved ∷ []) (leaves session moved between) (worker y t h r) w
+    → Adds (a ∷ []) (octets ∷ []) (length between) (pumped.moved ∷ []) (calls_until session moved On before ++ leaves session moved between) (worker x t g q) w
+adds_turn session moved before a between octets pumped x y t h g q r w p e adds = record {
+  asks_are = adds.asks_are ∙ append-nil y.asks ∙ ap (λ (l : LaneView). l.asks) e;
+  taken_are = adds.taken_are ∙ ap (λ (l : LaneView). l.taken ++ octets ∷ []) e;
+  looks_are = adds.looks_are ∙ ap (λ (l : LaneView). l.looks + length between) e;
+  moved_is = adds.moved_is;
+  passes = passes_then q r w.passed (calls_until session moved On before) (leaves session moved between) p adds.passes;
+}
+
+-- a turn that was stopped after its ask
+pub adds_open : (session moved before : ℕ) (a : Ask) (between : List ℕ) (laters : ℕ) (x y : LaneView) (t : TallyView) (h g : Heard) (q r : Asked) (w : WorkerView)
+    → Passes q r (calls_until session moved On before) → y ≡ has_asked a x
+    → Adds [] [] (length between + 1) [] (leaves session moved between ++ calls_until session moved Stop laters) (worker y t h r) w
+    → Adds (a ∷ []) [] (length between + 1) [] (calls_until session moved On before ++ leaves session moved between ++ calls_until session moved Stop laters) (worker x t g q) w
+adds_open session moved before a between laters x y t h g q r w p e adds = record {
+  asks_are = adds.asks_are ∙ append-nil y.asks ∙ ap (λ (l : LaneView). l.asks) e;
+  taken_are = adds.taken_are ∙ ap (λ (l : LaneView). l.taken ++ []) e;
+  looks_are = adds.looks_are ∙ ap (λ (l : LaneView). l.looks + (length between + 1)) e;
+  moved_is = adds.moved_is;
+  passes = passes_are q w.passed (calls_until session moved On before ++ (leaves session moved between ++ calls_until session moved Stop laters)) (calls_until session moved On before ++ leaves session moved between ++ calls_until session moved Stop laters)
+      (sym (append_assoc (calls_until session moved On before) (leaves session moved between) (calls_until session moved Stop laters)))
+      (passes_then q r w.passed (calls_until session moved On before) (leaves session moved between ++ calls_until session moved Stop laters) p adds.passes);
+}
+
+-- a pass that said Stop
+pub adds_stop : (session moved laters : ℕ) (x : LaneView) (t : TallyView) (h g : Heard) (q r : Asked) → Passes q r (calls_until session moved Stop laters)
+    → Adds [] [] 0 [] (calls_until session moved Stop laters) (worker x t h q) (worker x t g r)
+adds_stop session moved laters x t h g q r p = record {
+  asks_are = sym (append-nil x.asks);
+  taken_are = sym (append-nil x.taken);
+  looks_are = omega arith;
+  moved_is = refl;
+  passes = p;
+}

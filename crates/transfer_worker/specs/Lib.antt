@@ -1,4 +1,6 @@
 pub mod Turns
 pub mod Ends
+pub mod Passes
 pub mod Transfers
+pub mod Runs
 pub mod Works

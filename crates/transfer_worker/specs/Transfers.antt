@@ -1,29 +1,55 @@
 -- What is seen of jobs and of transfers in progress.
-use Rattle.std.specs.Prelude.{◌≡◌, ℕ}
+use Rattle.std.specs.Prelude.{◌≡◌, ◌⊎◌, ◌<◌, ℕ, List, [], length, Option, Some}
+use Rattle.ftp_terms.specs.declared.data_type.DataType.{DataType}
 use Rattle.line_rates.specs.declared.ask.Way.{Way}
 use Rattle.line_rates.specs.declared.ask.Way.TheVariants.{Down, Up}
+use Rattle.virtual_tree.specs.Calls.{Target}
 use Rattle.data_pump.specs.declared.pumped.PumpEnd.{PumpEnd}
+use Rattle.data_pump.specs.declared.pumped.PumpEnd.TheVariants.{More}
+use Rattle.data_pump.specs.declared.pumped.Pumped.{Pumped}
+use Rattle.data_pump.specs.WireText.{sent}
+use Rattle.data_pump.specs.Downloads.{OutView, HasEnded, MovesOut, IsSending}
+use Rattle.data_pump.specs.Uploads.{InView, MovesIn}
 use Rattle.transfer_worker.specs.declared.job.LaneJob.{LaneJob}
 use Rattle.transfer_worker.specs.declared.job.LaneJob.TheVariants.{Send, Take}
 use Rattle.transfer_worker.specs.declared.running.Running.{Running}
-use Rattle.transfer_worker.specs.declared.running.Transfer.{Transfer}
 use Rattle.transfer_worker.specs.declared.running.Running.TheVariants.{Out, In}
 
-module _ {R K C A : Type 0} where
-  abbrev pub way_in : Running R K C A → Way
-  way_in (Out out) = Down
-  way_in (In upload) = Up
+-- a transfer in progress
+pub data Flow (R K C : Type 0) : Type 0 where
+  Sending : OutView R C → Flow R K C
+  Receiving : InView C K → Flow R K C
 
-  abbrev pub last_in : Running R K C A → PumpEnd
-  last_in (Out out) = out.last
-  last_in (In upload) = upload.last
-
-  -- for the same session, and in the same direction
-  abbrev pub IsSameTransfer : Transfer R K C A → Transfer R K C A → Type 0
-  IsSameTransfer old new = (new.user ≡ old.user) × (new.session ≡ old.session)
-      × (way_in new.running ≡ way_in old.running)
+-- what can be known of the octets of sources, sinks and connections
+pub record Known (R K C : Type 0) : Type 0 where
+  pub remaining : R → Option (List ℕ)
+  pub collected : K → Option (List ℕ)
+  pub target : K → Option Target
+  pub incoming : C → Option (List ℕ)
+  pub contents : C → Option (List ℕ)
 
 module _ {R K C : Type 0} where
+  abbrev pub known : (R → Option (List ℕ)) → (K → Option (List ℕ)) → (K → Option Target) → (C → Option (List ℕ)) → (C → Option (List ℕ)) → Known R K C
+  known remaining collected target incoming contents = record { remaining = remaining; collected = collected; target = target; incoming = incoming; contents = contents }
+
+  abbrev pub flow_of : {A : Type 0} → Running R K C A → Flow R K C
+  flow_of (Out out) = Sending out
+  flow_of (In upload) = Receiving upload
+
+  abbrev pub way_in : Flow R K C → Way
+  way_in (Sending out) = Down
+  way_in (Receiving upload) = Up
+
+  -- how its last pump ended
+  abbrev pub last_in : Flow R K C → PumpEnd
+  last_in (Sending out) = out.last
+  last_in (Receiving upload) = upload.last
+
+  -- what waits: the octets of a download that are to be written, and for an upload as much as one read can give
+  abbrev pub waiting_in : Flow R K C → ℕ
+  waiting_in (Sending out) = length out.flow.waiting
+  waiting_in (Receiving upload) = 65536
+
   abbrev pub user_of : LaneJob R K C → ℕ
   user_of (Send user session source connection data_type) = user
   user_of (Take user session connection sink data_type) = user
@@ -35,3 +61,33 @@ module _ {R K C : Type 0} where
   abbrev pub way_of : LaneJob R K C → Way
   way_of (Send user session source connection data_type) = Down
   way_of (Take user session connection sink data_type) = Up
+
+  -- a download as it was opened
+  pub record OpensOut (k : Known R K C) (source : R) (connection : C) (data_type : DataType) (out : OutView R C) : Type 0 where
+    pub connection_is : out.flow.connection ≡ connection
+    pub type_is : out.flow.data_type ≡ data_type
+    pub more : out.last ≡ More
+    pub filled : (0 < length out.flow.waiting) ⊎ HasEnded out.flow
+    pub sending : (before octets : List ℕ) → k.contents connection ≡ Some before → k.remaining source ≡ Some octets
+        → IsSending k.remaining k.contents before (sent data_type octets) out.flow
+
+  pub record OpensIn (k : Known R K C) (connection : C) (sink : K) (data_type : DataType) (upload : InView C K) : Type 0 where
+    pub connection_is : upload.flow.connection ≡ connection
+    pub sink_is : upload.flow.sink ≡ sink
+    pub type_is : upload.flow.data_type ≡ data_type
+    pub held_is : upload.flow.held ≡ []
+    pub more : upload.last ≡ More
+
+  -- the transfer is that of the job, as it was opened
+  abbrev pub Opens : Known R K C → LaneJob R K C → Flow R K C → Type 0
+  Opens k (Send user session source connection data_type) (Sending out) = OpensOut k source connection data_type out
+  Opens k (Send user session source connection data_type) (Receiving upload) = ⊥
+  Opens k (Take user session connection sink data_type) (Sending out) = ⊥
+  Opens k (Take user session connection sink data_type) (Receiving upload) = OpensIn k connection sink data_type upload
+
+  -- of a grant of `octets`, `pumped` of a transfer were moved
+  abbrev pub Pumps : Known R K C → ℕ → Flow R K C → Flow R K C → Pumped → Type 0
+  Pumps k octets (Sending old) (Sending new) pumped = MovesOut k.remaining k.contents octets old.flow new.flow pumped × (new.last ≡ pumped.end)
+  Pumps k octets (Sending old) (Receiving new) pumped = ⊥
+  Pumps k octets (Receiving old) (Sending new) pumped = ⊥
+  Pumps k octets (Receiving old) (Receiving new) pumped = MovesIn k.incoming k.collected k.target octets old.flow new.flow pumped × (new.last ≡ pumped.end)

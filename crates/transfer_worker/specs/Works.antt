@@ -1,100 +1,118 @@
 -- What a worker does.
-use Rattle.std.specs.Prelude.{◌≡◌, ◌≢◌, ◌⊎◌, ℕ, ◌+◌, ◌<◌, ◌++◌, Bool, true, false, List, [], ◌∷◌, length, map, Option, Some, All, if◌then◌else◌}
-use Rattle.std.specs.List.{flat_map}
+use Rattle.std.specs.Prelude.{◌≡◌, ◌≢◌, ◌⊎◌, ℕ, ◌+◌, ◌++◌, Bool, true, false, List, [], ◌∷◌, length, map, Option, Some, None, All}
+use Rattle.std.specs.List.{flat_map, sum_by}
 use Rattle.line_rates.specs.declared.ask.Ask.{Ask}
-use Rattle.line_rates.specs.declared.ask.Way.{Way}
-use Rattle.desk_rule.specs.declared.view.LaneView.{LaneView}
-use Rattle.desk_rule.specs.declared.view.SeatState.TheVariants.{Worker, Asked}
+use Rattle.data_pump.specs.declared.pumped.Pumped.{Pumped}
+use Rattle.desk_rule.specs.declared.view.SeatState.TheVariants.{Worker}
 use Rattle.job_board.specs.declared.order.Hand.{Hand}
 use Rattle.transfer_worker.specs.declared.end.JobEnd.{JobEnd}
 use Rattle.transfer_worker.specs.declared.end.JobEnd.TheVariants.{ReadFault, Memory, Stopped}
 use Rattle.transfer_worker.specs.declared.end.LoopEnd.{LoopEnd}
 use Rattle.transfer_worker.specs.declared.end.LoopEnd.TheVariants as work
+use Rattle.transfer_worker.specs.declared.gate.Go.TheVariants.{Stop}
 use Rattle.transfer_worker.specs.declared.job.LaneJob.{LaneJob}
 use Rattle.transfer_worker.specs.Ends.{Tells}
-use Rattle.transfer_worker.specs.Transfers.{user_of, session_of, way_of}
+use Rattle.transfer_worker.specs.Passes.{PassCall, calls_until, leaves}
+use Rattle.transfer_worker.specs.Transfers.{Flow, Known, way_in, user_of, session_of, way_of, Opens, Pumps}
+use Rattle.transfer_worker.specs.Runs.{WorkerView, counted, Turn, Halt, asks_at, looks_at, calls_at, calls_of, moves_of, looks_of, Adds, Bears, AreTurns, EndsAt}
 
--- the seat has looked, and done nothing else
-pub record HasWaited (x x' : LaneView) : Type 0 where
-  pub state_is : x'.state ≡ x.state
-  pub sittings_are : x'.sittings ≡ x.sittings
-  pub asks_are : x'.asks ≡ x.asks
-  pub taken_are : x'.taken ≡ x.taken
+-- The worker waited for a grant, which did not come before the gate said Stop.
+pub record WaitsInVain (session moved : ℕ) (v w : WorkerView) : Type 0 where
+  pub between : List ℕ
+  pub laters : ℕ
+  pub state_is : w.lane.state ≡ v.lane.state
+  pub sittings_are : w.lane.sittings ≡ v.lane.sittings
+  pub adds : Adds [] [] (length between + 1) [] (leaves session moved between ++ calls_until session moved Stop laters) v w
 
--- it has taken one amount too
-pub record HasTaken (x x' : LaneView) : Type 0 where
+-- The worker waited for a grant, took it and pumped it.
+pub record Takes {R K C : Type 0} (k : Known R K C) (session moved : ℕ) (flow next : Flow R K C) (pumped : Pumped) (v w : WorkerView) : Type 0 where
+  pub between : List ℕ
   pub octets : ℕ
-  pub state_is : x'.state ≡ Worker
-  pub sittings_are : x'.sittings ≡ x.sittings
-  pub asks_are : x'.asks ≡ x.asks
-  pub taken_are : x'.taken ≡ x.taken ++ octets ∷ []
-
--- the ask bears this user, session and way
-abbrev pub Bears : ℕ → ℕ → Way → Ask → Type 0
-Bears user session way ask = (ask.user ≡ user) × (ask.session ≡ session) × (ask.way ≡ way)
-
--- One sitting: it began before the asks that the seat has made since, each of which bears these names, and it took these
--- amounts.
-pub record Sits (user session : ℕ) (way : Way) (x x' : LaneView) : Type 0 where
-  pub asks : List Ask
-  pub taken : List ℕ
-  pub sittings_are : x'.sittings ≡ x.sittings ++ length x.asks ∷ []
-  pub asks_are : x'.asks ≡ x.asks ++ asks
-  pub taken_are : x'.taken ≡ x.taken ++ taken
-  pub bear : All (Bears user session way) asks
+  pub state_is : w.lane.state ≡ Worker
+  pub sittings_are : w.lane.sittings ≡ v.lane.sittings
+  pub adds : Adds [] (octets ∷ []) (length between) (pumped.moved ∷ []) (leaves session moved between) v w
+  pub pumps : Pumps k octets flow next pumped
 
 -- the answer says whether the end is Stopped
 abbrev pub IsStop : Bool → JobEnd → Type 0
 IsStop true end = end ≡ Stopped
 IsStop false end = end ≢ Stopped
 
--- A transfer was run in one sitting, and its end was told once. Each ask was answered by an amount that was taken, but
--- for the last where it was stopped.
-pub record RunsTransfer (user session : ℕ) (way : Way) (stop : Bool) (x x' : LaneView) (t t' : Option (List (ℕ × JobEnd))) : Type 0 where
+-- A transfer was run in one sitting, and its end was told once.
+pub record RunsTransfer {R K C : Type 0} (k : Known R K C) (user session : ℕ) (flow : Flow R K C) (stop : Bool) (v w : WorkerView) : Type 0 where
   pub end : JobEnd
+  pub turns : List Turn
+  pub halt : Option Halt
+  pub final : Flow R K C
   pub stops : IsStop stop end
-  pub sits : Sits user session way x x'
-  pub some : stop ≡ false → (0 < length sits.taken) × (length sits.asks ≡ length sits.taken)
-  pub few : (length sits.asks ≡ length sits.taken) ⊎ (length sits.asks ≡ length sits.taken + 1)
-  pub tells : Tells t t' session end
+  pub are_turns : AreTurns k flow turns final
+  pub ends : EndsAt final halt end
+  pub bear : All (Bears user session (way_in flow)) (map (λ t. t.ask) turns ++ asks_at halt)
+  pub sittings_are : w.lane.sittings ≡ v.lane.sittings ++ length v.lane.asks ∷ []
+  pub adds : Adds (map (λ t. t.ask) turns ++ asks_at halt) (map (λ t. t.octets) turns) (looks_of turns + looks_at halt) (moves_of turns) (calls_of session 0 turns ++ calls_at session (counted 0 (moves_of turns)) halt) v w
+  pub tells : Tells v.heard w.heard session end
 
--- a job that a worker has popped: whether it was opened, the asks that it made, the amounts that it took, and its end
+-- A job that a worker has popped: the transfer as it was opened, if it was; its turns; where it was stopped, if it was; and
+-- its end.
 pub record Work (R K C : Type 0) : Type 0 where
   pub job : LaneJob R K C
-  pub is_opened : Bool
-  pub asks : List Ask
-  pub taken : List ℕ
+  pub opening : Option (Flow R K C)
+  pub turns : List Turn
+  pub halt : Option Halt
   pub end : JobEnd
 
 module _ {R K C : Type 0} where
-  -- Its asks bear the names of the job. A job that was not opened has none, and its end is that of the opening. One that was
-  -- opened and not stopped took an amount for each of its asks, and one at least; where it was stopped, the last ask may be
-  -- left open.
-  pub record IsWork (w : Work R K C) : Type 0 where
-    pub bear : All (Bears (user_of w.job) (session_of w.job) (way_of w.job)) w.asks
-    pub unopened : w.is_opened ≡ false → (w.asks ≡ []) × (w.taken ≡ []) × ((w.end ≡ ReadFault) ⊎ (w.end ≡ Memory))
-    pub some : w.is_opened ≡ true → w.end ≢ Stopped → (0 < length w.taken) × (length w.asks ≡ length w.taken)
-    pub few : (length w.asks ≡ length w.taken) ⊎ (length w.asks ≡ length w.taken + 1)
+  -- what it made the worker do
+  abbrev pub asks_in : Work R K C → List Ask
+  asks_in w = map (λ t. t.ask) w.turns ++ asks_at w.halt
 
-  -- how many asks the seat had made before each sitting: one sitting for each job that was opened
+  abbrev pub taken_in : Work R K C → List ℕ
+  taken_in w = map (λ t. t.octets) w.turns
+
+  abbrev pub looks_in : Work R K C → ℕ
+  looks_in w = looks_of w.turns + looks_at w.halt
+
+  abbrev pub moves_in : Work R K C → List ℕ
+  moves_in w = moves_of w.turns
+
+  -- what its gate was asked: each time with its session, and with the octets that it had moved till then
+  abbrev pub passes_in : Work R K C → List PassCall
+  passes_in w = calls_of (session_of w.job) 0 w.turns ++ calls_at (session_of w.job) (counted 0 (moves_of w.turns)) w.halt
+
+  -- A job that was not opened has no turn, and its end is that of the opening. Another runs from its opening by its turns to
+  -- its end.
+  abbrev pub Runs : Known R K C → Option (Flow R K C) → Work R K C → Type 0
+  Runs k None w = (w.turns ≡ []) × (w.halt ≡ None) × ((w.end ≡ ReadFault) ⊎ (w.end ≡ Memory))
+  Runs k (Some flow) w = Opens k w.job flow × ((final : Flow R K C) × AreTurns k flow w.turns final × EndsAt final w.halt w.end)
+
+  -- its asks bear the names of the job
+  pub record IsWork (k : Known R K C) (w : Work R K C) : Type 0 where
+    pub bear : All (Bears (user_of w.job) (session_of w.job) (way_of w.job)) (asks_in w)
+    pub runs : Runs k w.opening w
+
+  -- the sittings of a job: one if it was opened, before which the seat had made so many asks
+  abbrev pub sitting_of : ℕ → Option (Flow R K C) → List ℕ
+  sitting_of n None = []
+  sitting_of n (Some flow) = n ∷ []
+
+  -- how many asks the seat had made before each sitting
   abbrev pub starts : ℕ → List (Work R K C) → List ℕ
   starts n [] = []
-  starts n (w ∷ works) = if w.is_opened then n ∷ starts (n + length w.asks) works else starts (n + length w.asks) works
+  starts n (w ∷ works) = sitting_of n w.opening ++ starts (n + length (asks_in w)) works
 
   -- what a gate is told of it
   abbrev pub told_of : Work R K C → ℕ × JobEnd
   told_of w = (session_of w.job, w.end)
 
-  pub record Does (w : Work R K C) (x x' : LaneView) (t t' : Option (List (ℕ × JobEnd))) : Type 0 where
-    pub is_work : IsWork w
-    pub sittings_are : x'.sittings ≡ x.sittings ++ starts (length x.asks) (w ∷ [])
-    pub asks_are : x'.asks ≡ x.asks ++ w.asks
-    pub taken_are : x'.taken ≡ x.taken ++ w.taken
-    pub tells : Tells t t' (session_of w.job) w.end
+  pub record Does (k : Known R K C) (job : Work R K C) (v w : WorkerView) : Type 0 where
+    pub is_work : IsWork k job
+    pub sittings_are : w.lane.sittings ≡ v.lane.sittings ++ sitting_of (length v.lane.asks) job.opening
+    pub adds : Adds (asks_in job) (taken_in job) (looks_in job) (moves_in job) (passes_in job) v w
+    pub tells : Tells v.heard w.heard (session_of job.job) job.end
 
   -- a job was run
-  abbrev pub RunsJob : LaneJob R K C → Bool → LaneView → LaneView → Option (List (ℕ × JobEnd)) → Option (List (ℕ × JobEnd)) → Type 0
-  RunsJob job stop x x' t t' = (w : Work R K C) × (w.job ≡ job) × IsStop stop w.end × Does w x x' t t'
+  abbrev pub RunsJob : Known R K C → LaneJob R K C → Bool → WorkerView → WorkerView → Type 0
+  RunsJob k job stop v w = (done : Work R K C) × (done.job ≡ job) × IsStop stop done.end × Does k done v w
 
   abbrev pub NotStopped : Work R K C → Type 0
   NotStopped w = w.end ≢ Stopped
@@ -105,15 +123,14 @@ module _ {R K C : Type 0} where
   EndsSo work.Stopped works = (before : List (Work R K C)) × (last : Work R K C) × (works ≡ before ++ last ∷ []) × All NotStopped before × (last.end ≡ Stopped)
 
   -- What a worker did, job by job: it popped these, in this order; its sittings are those of the jobs that were opened, each
-  -- with the asks of its job; it took these amounts; and its gate was told of each job once, in order.
-  pub record Did (works : List (Work R K C)) (x x' : LaneView) (h h' : Hand (LaneJob R K C)) (t t' : Option (List (ℕ × JobEnd))) : Type 0 where
-    pub each : All IsWork works
-    pub popped : h'.popped ≡ h.popped ++ map (λ w. w.job) works
+  -- with the asks of its job; it took and moved these amounts; and its gate was asked so, and told of each job once, in order.
+  pub record Did (k : Known R K C) (works : List (Work R K C)) (h h' : Hand (LaneJob R K C)) (v w : WorkerView) : Type 0 where
+    pub each : All (IsWork k) works
+    pub popped : h'.popped ≡ h.popped ++ map (λ job. job.job) works
     pub pushed : h'.pushed ≡ h.pushed
-    pub sittings_are : x'.sittings ≡ x.sittings ++ starts (length x.asks) works
-    pub asks_are : x'.asks ≡ x.asks ++ flat_map (λ w. w.asks) works
-    pub taken_are : x'.taken ≡ x.taken ++ flat_map (λ w. w.taken) works
-    pub tells : (before : List (ℕ × JobEnd)) → t ≡ Some before → t' ≡ Some (before ++ map told_of works)
+    pub sittings_are : w.lane.sittings ≡ v.lane.sittings ++ starts (length v.lane.asks) works
+    pub adds : Adds (flat_map asks_in works) (flat_map taken_in works) (sum_by looks_in works) (flat_map moves_in works) (flat_map passes_in works) v w
+    pub tells : (before : List (ℕ × JobEnd)) → v.heard ≡ Some before → w.heard ≡ Some (before ++ map told_of works)
 
-  abbrev pub Works : LoopEnd → LaneView → LaneView → Hand (LaneJob R K C) → Hand (LaneJob R K C) → Option (List (ℕ × JobEnd)) → Option (List (ℕ × JobEnd)) → Type 0
-  Works end x x' h h' t t' = (works : List (Work R K C)) × EndsSo end works × Did works x x' h h' t t'
+  abbrev pub Works : Known R K C → LoopEnd → Hand (LaneJob R K C) → Hand (LaneJob R K C) → WorkerView → WorkerView → Type 0
+  Works k end h h' v w = (works : List (Work R K C)) × EndsSo end works × Did k works h h' v w

@@ -1,14 +1,19 @@
 //! How a worker waits: for its gate, and for a grant.
 
 ghost use Rattle.std.specs.Prelude.{◌≡◌, ℕ, false, IfSome, IfNone};
+ghost use Rattle.data_pump.specs.declared.pumped.PumpEnd.TheVariants.{More};
 ghost use Rattle.desk_rule.specs.declared.view.SeatState.TheVariants.{Asked};
+ghost use Rattle.grant_ledger.specs.Books.{capped};
 ghost use Rattle.lane_seats.specs.Seats.{seat_view, IsSeatOf, IsSameSeat};
 ghost use Rattle.transfer_worker.specs.declared.gate.Go.TheVariants.{Stop};
-ghost use Rattle.transfer_worker.specs.Transfers.{last_in, IsSameTransfer};
+ghost use Rattle.transfer_worker.specs.Passes.{Passes, calls_until, go_of};
+ghost use Rattle.transfer_worker.specs.Runs.{worker};
+ghost use Rattle.transfer_worker.specs.Transfers.{known, flow_of, last_in};
 ghost use Rattle.transfer_worker.specs.Turns.{IsTold};
-ghost use Rattle.transfer_worker.specs.Works.{HasWaited, HasTaken};
+ghost use Rattle.transfer_worker.specs.Works.{WaitsInVain, Takes};
 
 use crate::gate::{Gate, Go};
+use crate::job::Ran;
 use crate::running::Transfer;
 use data_pump::Pumped;
 use grant_ledger::Tally;
@@ -29,10 +34,12 @@ where
     K: Sink,
     C: Read + Write + Drop,
     A: Allocator,
-    G: Gate<R, K, C, A>,
+    G: Gate<Ran<R, K, C, A>>,
     W: Wait,
     ensures heard { G.heard gate.new ≡ G.heard gate.old }
     ensures stop { result ≡ false → G.last_go gate.new ≡ Stop }
+    ensures passed { (laters : ℕ) × Passes (G.passed gate.old) (G.passed gate.new)
+        (calls_until transfer.now.session transfer.now.moved (go_of result) laters) }
 {
     for _ in rt.forever() {
         match gate.pass(transfer.session, transfer.moved) {
@@ -58,25 +65,35 @@ where
     K: Sink,
     C: Read + Write + Drop,
     A: Allocator,
-    G: Gate<R, K, C, A>,
+    G: Gate<Ran<R, K, C, A>>,
     W: Wait,
     D: Allocator,
     requires desk { IsSeatOf desk.now seat.old }
     requires state { (seat_view seat.old).state ≡ Asked }
     requires told { IsTold tally.old (seat_view seat.old) }
+    requires more { last_in (flow_of transfer.old.running) ≡ More }
     ensures same { IsSameSeat seat.old seat.new }
-    ensures transfer { IsSameTransfer transfer.old transfer.new }
+    ensures user { transfer.new.user ≡ transfer.old.user }
+    ensures session { transfer.new.session ≡ transfer.old.session }
     ensures told { IsTold tally.new (seat_view seat.new) }
     ensures heard { G.heard gate.new ≡ G.heard gate.old }
-    ensures none { IfNone result (HasWaited (seat_view seat.old) (seat_view seat.new)
-        × (last_in transfer.new.running ≡ last_in transfer.old.running)
+    ensures none { IfNone result (WaitsInVain transfer.old.session transfer.old.moved
+        (worker (seat_view seat.old) tally.old (G.heard gate.old) (G.passed gate.old))
+        (worker (seat_view seat.new) tally.new (G.heard gate.new) (G.passed gate.new))
+        × (flow_of transfer.new.running ≡ flow_of transfer.old.running)
         × (G.last_go gate.new ≡ Stop)) }
-    ensures some { IfSome result (λ pumped. HasTaken (seat_view seat.old) (seat_view seat.new)
-        × (last_in transfer.new.running ≡ pumped.end)) }
+    ensures some { IfSome result (λ pumped. Takes
+        (known R.remaining K.collected K.target C.remaining C.contents)
+        transfer.old.session transfer.old.moved (flow_of transfer.old.running)
+        (flow_of transfer.new.running) pumped
+        (worker (seat_view seat.old) tally.old (G.heard gate.old) (G.passed gate.old))
+        (worker (seat_view seat.new) tally.new (G.heard gate.new) (G.passed gate.new))
+        × (transfer.new.moved ≡ capped transfer.old.moved pumped.moved)) }
 {
     for _ in rt.forever() {
-        if let Some(pumped) = transfer.turn(desk, seat, tally) {
-            return Some(pumped);
+        match transfer.turn(desk, seat, tally) {
+            Some(pumped) => return Some(pumped),
+            None => {}
         }
         if !may_go_on(rt, gate, transfer) {
             return None;

@@ -1,5 +1,6 @@
 //! Jobs, and what is left of them.
 
+use crate::gate::Remnant;
 use data_pump::{DataIn, DataOut};
 use ftp_terms::DataType;
 use std::alloc::{Allocator, Global};
@@ -34,4 +35,10 @@ pub enum Ran<R: Source, K: Sink, C: Read + Write + Drop, A: Allocator = Global> 
     In(DataIn<C, K, A>),
     /// There was no memory for its buffer, or its source could not be read.
     Unopened,
+}
+
+impl<R: Source, K: Sink, C: Read + Write + Drop, A: Allocator> Remnant for Ran<R, K, C, A> {
+    ghost use Rattle.transfer_worker.specs.Ends.{MayTell};
+
+    ghost may_tell = { λ ran go end. MayTell go end ran };
 }

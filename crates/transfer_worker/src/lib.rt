@@ -15,7 +15,7 @@ mod turns;
 mod work;
 
 pub use end::{JobEnd, LoopEnd};
-pub use gate::{Gate, Go};
+pub use gate::{Gate, Go, Remnant};
 pub use job::{LaneJob, Ran};
 pub use turns::{turn_in, turn_out};
 pub use work::worker_loop;

@@ -1,8 +1,10 @@
 //! A transfer in progress, in either direction.
 
 ghost use Rattle.std.specs.Prelude.{◌≡◌, ℕ, IfSome, IfNone};
+ghost use Rattle.data_pump.specs.declared.pumped.PumpEnd.TheVariants.{More};
 ghost use Rattle.desk_rule.specs.declared.view.SeatState.TheVariants.{Asked};
 ghost use Rattle.desk_rule.specs.Lanes.{has_looked, has_taken};
+ghost use Rattle.grant_ledger.specs.Books.{capped};
 ghost use Rattle.lane_seats.specs.Seats.{seat_view, IsSeatOf, IsSameSeat};
 ghost use Rattle.transfer_worker.specs.declared.gate.Go.{Go};
 ghost use Rattle.transfer_worker.specs.Ends.{EndsAs, MayTell};
@@ -27,13 +29,14 @@ pub(crate) enum Running<R: Source, K: Sink, C: Read + Write + Drop, A: Allocator
 }
 
 impl<R: Source, K: Sink, C: Read + Write + Drop, A: Allocator> Running<R, K, C, A> {
-    ghost use Rattle.transfer_worker.specs.Transfers.{way_in, last_in};
+    ghost use Rattle.transfer_worker.specs.Transfers.{known, flow_of, way_in, last_in, waiting_in, Pumps};
 
     // What it asks a round for.
     fn ask(&self, user: u32, session: u32) -> Ask
         ensures user { result.user ≡ user }
         ensures session { result.session ≡ session }
-        ensures way { result.way ≡ way_in self.now }
+        ensures way { result.way ≡ way_in (flow_of self.now) }
+        ensures want { result.want ≡ waiting_in (flow_of self.now) }
     {
         match self {
             Running::Out(out) => out.ask(user, session),
@@ -51,14 +54,16 @@ impl<R: Source, K: Sink, C: Read + Write + Drop, A: Allocator> Running<R, K, C, 
         requires desk { IsSeatOf desk.now seat.old }
         requires state { (seat_view seat.old).state ≡ Asked }
         requires told { IsTold tally.old (seat_view seat.old) }
+        requires more { last_in (flow_of self.old) ≡ More }
         ensures same { IsSameSeat seat.old seat.new }
-        ensures way { way_in self.new ≡ way_in self.old }
         ensures told { IsTold tally.new (seat_view seat.new) }
         ensures none { IfNone result ((seat_view seat.new ≡ has_looked (seat_view seat.old))
-            × (last_in self.new ≡ last_in self.old)) }
+            × (flow_of self.new ≡ flow_of self.old) × (tally.new ≡ tally.old)) }
         ensures some { IfSome result (λ pumped. (octets : ℕ)
             × (seat_view seat.new ≡ has_taken octets (seat_view seat.old))
-            × (last_in self.new ≡ pumped.end)) }
+            × Pumps (known R.remaining K.collected K.target C.remaining C.contents) octets
+            (flow_of self.old) (flow_of self.new) pumped
+            × (tally.new.moved ≡ capped tally.old.moved pumped.moved)) }
     {
         match self {
             Running::Out(out) => turn_out(desk, seat, out, tally),
@@ -68,7 +73,7 @@ impl<R: Source, K: Sink, C: Read + Write + Drop, A: Allocator> Running<R, K, C, 
 
     // What is left of it.
     fn into_ran(self) -> Ran<R, K, C, A>
-        ensures ends { (go : Go) (end : JobEnd) → EndsAs go (last_in self) end
+        ensures ends { (go : Go) (end : JobEnd) → EndsAs go (last_in (flow_of self)) end
             → MayTell go end result }
     {
         match self {
@@ -88,13 +93,14 @@ pub(crate) struct Transfer<R: Source, K: Sink, C: Read + Write + Drop, A: Alloca
 }
 
 impl<R: Source, K: Sink, C: Read + Write + Drop, A: Allocator> Transfer<R, K, C, A> {
-    ghost use Rattle.transfer_worker.specs.Transfers.{way_in, last_in, IsSameTransfer};
+    ghost use Rattle.transfer_worker.specs.Transfers.{known, flow_of, way_in, last_in, waiting_in, Pumps};
 
     /// What it asks a round for.
     pub(crate) fn ask(&self) -> Ask
         ensures user { result.user ≡ self.now.user }
         ensures session { result.session ≡ self.now.session }
-        ensures way { result.way ≡ way_in self.now.running }
+        ensures way { result.way ≡ way_in (flow_of self.now.running) }
+        ensures want { result.want ≡ waiting_in (flow_of self.now.running) }
     {
         self.running.ask(self.user, self.session)
     }
@@ -109,14 +115,20 @@ impl<R: Source, K: Sink, C: Read + Write + Drop, A: Allocator> Transfer<R, K, C,
         requires desk { IsSeatOf desk.now seat.old }
         requires state { (seat_view seat.old).state ≡ Asked }
         requires told { IsTold tally.old (seat_view seat.old) }
+        requires more { last_in (flow_of self.old.running) ≡ More }
         ensures same { IsSameSeat seat.old seat.new }
-        ensures transfer { IsSameTransfer self.old self.new }
+        ensures user { self.new.user ≡ self.old.user }
+        ensures session { self.new.session ≡ self.old.session }
         ensures told { IsTold tally.new (seat_view seat.new) }
         ensures none { IfNone result ((seat_view seat.new ≡ has_looked (seat_view seat.old))
-            × (last_in self.new.running ≡ last_in self.old.running)) }
+            × (flow_of self.new.running ≡ flow_of self.old.running) × (tally.new ≡ tally.old)
+            × (self.new.moved ≡ self.old.moved)) }
         ensures some { IfSome result (λ pumped. (octets : ℕ)
             × (seat_view seat.new ≡ has_taken octets (seat_view seat.old))
-            × (last_in self.new.running ≡ pumped.end)) }
+            × Pumps (known R.remaining K.collected K.target C.remaining C.contents) octets
+            (flow_of self.old.running) (flow_of self.new.running) pumped
+            × (tally.new.moved ≡ capped tally.old.moved pumped.moved)
+            × (self.new.moved ≡ capped self.old.moved pumped.moved)) }
     {
         let pumped = self.running.turn(desk, seat, tally)?;
         self.moved = self.moved.saturating_add(pumped.moved);
@@ -125,7 +137,8 @@ impl<R: Source, K: Sink, C: Read + Write + Drop, A: Allocator> Transfer<R, K, C,
 
     /// What is left of it.
     pub(crate) fn into_ran(self) -> Ran<R, K, C, A>
-        ensures ends { (go : Go) (end : JobEnd) → EndsAs go (last_in self.running) end
+        ensures ends { (go : Go) (end : JobEnd) → EndsAs go
+            (last_in (flow_of self.running)) end
             → MayTell go end result }
     {
         self.running.into_ran()

@@ -4,7 +4,8 @@ ghost use Rattle.std.specs.Prelude.{◌≡◌, ℕ, true, false};
 ghost use Rattle.data_pump.specs.declared.pumped.PumpEnd.TheVariants.{More};
 ghost use Rattle.desk_rule.specs.declared.view.SeatState.TheVariants.{Free};
 ghost use Rattle.lane_seats.specs.Seats.{seat_view, IsSeatOf, IsSameSeat};
-ghost use Rattle.transfer_worker.specs.Transfers.{way_in, last_in};
+ghost use Rattle.transfer_worker.specs.Runs.{worker};
+ghost use Rattle.transfer_worker.specs.Transfers.{known, flow_of, last_in};
 ghost use Rattle.transfer_worker.specs.Turns.{IsTold};
 ghost use Rattle.transfer_worker.specs.Works.{RunsTransfer, RunsJob};
 
@@ -36,18 +37,21 @@ where
     K: Sink,
     C: Read + Write + Drop,
     A: Allocator,
-    G: Gate<R, K, C, A>,
+    G: Gate<Ran<R, K, C, A>>,
     W: Wait,
     D: Allocator,
     requires desk { IsSeatOf desk.now seat.old }
     requires state { (seat_view seat.old).state ≡ Free }
     requires told { IsTold tally.old (seat_view seat.old) }
-    requires begun { last_in transfer.running ≡ More }
+    requires more { last_in (flow_of transfer.running) ≡ More }
+    requires begun { transfer.moved ≡ 0 }
     ensures same { IsSameSeat seat.old seat.new }
     ensures told { IsTold tally.new (seat_view seat.new) }
     ensures free { result ≡ false → (seat_view seat.new).state ≡ Free }
-    ensures run { RunsTransfer transfer.user transfer.session (way_in transfer.running) result
-        (seat_view seat.old) (seat_view seat.new) (G.heard gate.old) (G.heard gate.new) }
+    ensures run { RunsTransfer (known R.remaining K.collected K.target C.remaining C.contents)
+        transfer.user transfer.session (flow_of transfer.running) result
+        (worker (seat_view seat.old) tally.old (G.heard gate.old) (G.passed gate.old))
+        (worker (seat_view seat.new) tally.new (G.heard gate.new) (G.passed gate.new)) }
 {
     let session = transfer.session;
     let mut transfer = transfer;
@@ -92,7 +96,7 @@ where
     K: Sink,
     C: Read + Write + Drop,
     A: Allocator + Clone,
-    G: Gate<R, K, C, A>,
+    G: Gate<Ran<R, K, C, A>>,
     W: Wait,
     D: Allocator,
     requires desk { IsSeatOf desk.now seat.old }
@@ -101,8 +105,9 @@ where
     ensures same { IsSameSeat seat.old seat.new }
     ensures told { IsTold tally.new (seat_view seat.new) }
     ensures free { result ≡ false → (seat_view seat.new).state ≡ Free }
-    ensures run { RunsJob job result (seat_view seat.old) (seat_view seat.new) (G.heard gate.old)
-        (G.heard gate.new) }
+    ensures run { RunsJob (known R.remaining K.collected K.target C.remaining C.contents) job result
+        (worker (seat_view seat.old) tally.old (G.heard gate.old) (G.passed gate.old))
+        (worker (seat_view seat.new) tally.new (G.heard gate.new) (G.passed gate.new)) }
 {
     match job {
         LaneJob::Send {

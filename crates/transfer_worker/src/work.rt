@@ -6,11 +6,13 @@ ghost use Rattle.job_board.specs.Boards.{done_by, IsOfBoard, IsSameBoard};
 ghost use Rattle.job_board.specs.Order.{ShowsHeld};
 ghost use Rattle.lane_seats.specs.Seats.{seat_view, IsSeatOf, IsSameSeat};
 ghost use Rattle.transfer_worker.specs.declared.end.LoopEnd.TheVariants.{Idle};
+ghost use Rattle.transfer_worker.specs.Runs.{worker};
+ghost use Rattle.transfer_worker.specs.Transfers.{known};
 ghost use Rattle.transfer_worker.specs.Works.{Works};
 
 use crate::end::LoopEnd;
 use crate::gate::Gate;
-use crate::job::LaneJob;
+use crate::job::{LaneJob, Ran};
 use crate::transfer::run_job;
 use job_board::{BoardPass, JobBoard};
 use lane_desk::Worked;
@@ -38,7 +40,7 @@ where
     K: Sink,
     C: Read + Write + Drop,
     A: Allocator + Copy,
-    G: Gate<R, K, C, A>,
+    G: Gate<Ran<R, K, C, A>>,
     W: Wait,
     D: Allocator,
     B: Allocator,
@@ -49,8 +51,11 @@ where
     ensures board { IsSameBoard pass.old pass.new }
     ensures idle { result.1 ≡ Idle → ((seat_view result.0.seat).state ≡ Free)
         × ShowsHeld 0 (done_by pass.new) }
-    ensures works { Works result.1 (seat_view worked.seat) (seat_view result.0.seat)
-        (done_by pass.old) (done_by pass.new) (G.heard gate.old) (G.heard gate.new) }
+    ensures works { Works (known R.remaining K.collected K.target C.remaining C.contents) result.1
+        (done_by pass.old) (done_by pass.new)
+        (worker (seat_view worked.seat) worked.tally (G.heard gate.old) (G.passed gate.old))
+        (worker (seat_view result.0.seat) result.0.tally (G.heard gate.new)
+        (G.passed gate.new)) }
 {
     let (mut seat, mut tally) = worked.parts();
     for _ in rt.forever() {

@@ -10,3 +10,7 @@ pub(crate) fn holds(rt: &impl Abort, fact: bool)
 {
     assert!(rt; fact);
 }
+
+/// The name of the tests' books.
+#[derive(Clone, Copy)]
+pub struct OfTest;

@@ -1,101 +1,163 @@
-use Rattle.std.proofs.Common.{rules, ◌≡◌, ℕ, ◌+◌, ◌<◌, length, List, [], ◌∷◌, ◌++◌, sum, inl, inr, refl, sym, ap, ◌∙◌, arith, length-append}
-use Rattle.data_pump.specs.declared.pumped.PumpEnd.TheVariants.{More}
+use Rattle.std.proofs.Common.{rules, ℕ, [], ◌∷◌, length, sum, inl, inr, refl, sym, ap, ◌∙◌, subst}
+use Rattle.std.specs.Prelude.{Some}
+use Rattle.std.proofs.lemmas.List.Elements.{All-nil, All-push}
 use Rattle.lane_seats.specs.Seats.{seat_view}
-use Rattle.transfer_worker.specs.declared.end.JobEnd.TheVariants.{Stopped}
+use Rattle.transfer_worker.specs.declared.gate.Go.TheVariants.{Stop}
 use Rattle.transfer_worker.specs.Ends.{end_of}
-use Rattle.transfer_worker.specs.Transfers.{way_in, last_in}
-use Rattle.transfer_worker.proofs.Steps.{begins, still, asks_more, takes_more, stopped, ended, not_stopped, only_more}
+use Rattle.transfer_worker.specs.Passes.{calls_until}
+use Rattle.transfer_worker.specs.Transfers.{known, flow_of, way_in}
+use Rattle.transfer_worker.specs.Runs.{worker, Turn, Halt, calls_in, calls_at, looks_at, Adds, Bears}
+use Rattle.transfer_worker.specs.Runs.Halt.{BeforeAsk, AfterAsk}
+use Rattle.transfer_worker.proofs.Adding.{passes_are, adds_still}
+use Rattle.transfer_worker.proofs.Steps.{adds_turn, adds_open, adds_stop}
+use Rattle.transfer_worker.proofs.Sittings.{Sits, begins, turn_more, ended, stopped, only_more, pumps_last}
 use Rattle.transfer_worker.proofs.transfer.run_transfer.Goals as goal
 
 pub loop-init : goal.loop-init
 loop-init g c =
+    let k = known g.R.Source.remaining g.K.Sink.collected g.K.Sink.target g.C.Read.remaining g.C.Write.contents in
     let x = seat_view c.args.seat.now in
     let y = seat_view c.sit.new.self in (
       tt,
       tt,
       c.sit.ensures.same,
-      (refl, refl, refl),
-      c.requires.begun,
+      refl,
+      refl,
+      c.requires.more,
       c.requires.told ∙ sym (ap (λ v. sum v.taken) c.sit.ensures.view),
       refl,
       ap (λ v. v.state) c.sit.ensures.view,
-      begins c.args.transfer.user c.args.transfer.session (way_in c.args.transfer.running) x y c.sit.ensures.view,
+      begins k c.args.transfer.user c.args.transfer.session (flow_of c.args.transfer.running) x y c.args.tally.now (g.G.Gate.heard c.args.gate.now) (g.G.Gate.passed c.args.gate.now) c.args.transfer.moved c.sit.ensures.view c.requires.begun,
     )
 
 pub done-requires : goal.done-requires
-done-requires g c = record { condition = c.into_ran.ensures.ends _ _ (inr (refl, c.loop.invariant.4, search rules)) }
+done-requires g c = record { condition = c.into_ran.ensures.ends _ _ (inr (refl, c.loop.invariant.5, search rules)) }
 
 pub returns-then-not-may_go_on-clause-run : goal.returns-then-not-may_go_on-clause-run
 returns-then-not-may_go_on-clause-run g c =
-    let user = c.args.transfer.user in let session = c.args.transfer.session in let way = way_in c.args.transfer.running in
-    let x = seat_view c.args.seat.now in
-    let s = c.loop.invariant.8 in
+    let k = known g.R.Source.remaining g.K.Sink.collected g.K.Sink.target g.C.Read.remaining g.C.Write.contents in
+    let user = c.args.transfer.user in let session = c.args.transfer.session in let start = flow_of c.args.transfer.running in
+    let v = worker (seat_view c.args.seat.now) c.args.tally.now (g.G.Gate.heard c.args.gate.now) (g.G.Gate.passed c.args.gate.now) in
+    let i = c.loop.invariant in
+    let now = flow_of c.loop.transfer.running in
+    let moved = c.loop.transfer.moved in
+    let m = c.if-not-may_go_on.ensures.passed in
     let e = c.rise.ensures.view in
-    let r = still user session way x _ (seat_view c.rise.new.self) s.0 (ap (λ v. v.sittings) e) (ap (λ v. v.asks) e) (ap (λ v. v.taken) e) in
-    stopped user session way x (seat_view c.rise.new.self) _ _ _ r.0 (inl (ap length r.1 ∙ s.1 ∙ sym (ap length r.2))) (c.may_go_on.ensures.heard ∙ c.loop.invariant.6) c.done.ensures.heard
+    let q = g.G.Gate.passed c.loop.gate in
+    let r = g.G.Gate.passed c.may_go_on.new.gate in
+    let x = seat_view c.loop.seat in
+    let w = worker x c.loop.tally (g.G.Gate.heard c.loop.gate) q in
+    let u = worker x c.loop.tally (g.G.Gate.heard c.may_go_on.new.gate) r in
+    let z = worker (seat_view c.rise.new.self) c.loop.tally (g.G.Gate.heard c.done.new.self) (g.G.Gate.passed c.done.new.self) in
+    let p = passes_are q r (calls_until c.loop.transfer.session moved Stop m.0) (calls_until session moved Stop m.0) (ap (λ (n : ℕ). calls_until n moved Stop m.0) i.4) m.1 in
+    stopped k user session start v now moved w z (BeforeAsk m.0) i.9 (refl, i.5, tt) (All-nil (Bears user session (way_in now))) (ap (λ l. l.sittings) e)
+    (adds_still [] [] 0 [] (calls_until session moved Stop m.0) w u z (adds_stop session moved m.0 x c.loop.tally w.heard u.heard q r p) (ap (λ l. l.asks) e) (ap (λ l. l.taken) e) (ap (λ l. l.looks) e) refl c.done.ensures.passed)
+    (λ before f. c.done.ensures.heard before (c.may_go_on.ensures.heard ∙ i.7 ∙ f))
 
 pub done-requires-in-None-pump_next : goal.done-requires-in-None-pump_next
 done-requires-in-None-pump_next g c =
     let n = c.in-None-pump_next.ensures.none in
-    record { condition = c.into_ran-in-None-pump_next.ensures.ends _ _ (inr (refl, n.1 ∙ c.loop.invariant.4, n.2)) }
+    record { condition = c.into_ran-in-None-pump_next.ensures.ends _ _ (inr (refl, search rules, n.2)) }
 
 pub returns-in-None-pump_next-clause-run : goal.returns-in-None-pump_next-clause-run
 returns-in-None-pump_next-clause-run g c =
-    let user = c.args.transfer.user in let session = c.args.transfer.session in let way = way_in c.args.transfer.running in
-    let x = seat_view c.args.seat.now in
+    let k = known g.R.Source.remaining g.K.Sink.collected g.K.Sink.target g.C.Read.remaining g.C.Write.contents in
+    let user = c.args.transfer.user in let session = c.args.transfer.session in let start = flow_of c.args.transfer.running in
+    let v = worker (seat_view c.args.seat.now) c.args.tally.now (g.G.Gate.heard c.args.gate.now) (g.G.Gate.passed c.args.gate.now) in
+    let i = c.loop.invariant in
+    let now = flow_of c.loop.transfer.running in
+    let moved = c.loop.transfer.moved in
+    let m = c.if-not-may_go_on.ensures.passed in
+    let n = c.in-None-pump_next.ensures.none.0 in
+    let a = c.ask.result in
+    let q = g.G.Gate.passed c.loop.gate in
+    let r = g.G.Gate.passed c.may_go_on.new.gate in
+    let x = seat_view c.loop.seat in
     let y = seat_view c.ask-in-loop.new.self in
-    let z = seat_view c.pump_next.new.seat in
-    let s = c.loop.invariant.8 in
-    let w = c.in-None-pump_next.ensures.none.0 in
-    let a = asks_more user session way x _ y c.ask.result s.0 (c.ask.ensures.user ∙ c.loop.invariant.3.0, c.ask.ensures.session ∙ c.loop.invariant.3.1, c.ask.ensures.way ∙ c.loop.invariant.3.2) c.ask-in-loop.ensures.view in
-    let r = still user session way x y z a.0 w.sittings_are w.asks_are w.taken_are in
-    let more : length r.0.asks ≡ length r.0.taken + 1 = omega (arith, ap length r.1, ap length a.1, length-append s.0.asks (c.ask.result ∷ []), ap length r.2, ap length a.2, s.1) in
-    stopped user session way x z _ _ _ r.0 (inr more) (c.pump_next.ensures.heard ∙ c.may_go_on.ensures.heard ∙ c.loop.invariant.6) c.done-in-None-pump_next.ensures.heard
+    let w = worker x c.loop.tally (g.G.Gate.heard c.loop.gate) q in
+    let u = worker (seat_view c.pump_next.new.seat) c.pump_next.new.tally (g.G.Gate.heard c.pump_next.new.gate) (g.G.Gate.passed c.pump_next.new.gate) in
+    let z = worker (seat_view c.pump_next.new.seat) c.pump_next.new.tally (g.G.Gate.heard c.done-in-None-pump_next.new.self) (g.G.Gate.passed c.done-in-None-pump_next.new.self) in
+    let halt : Halt = AfterAsk m.0 a n.between n.laters in
+    let adds = adds_open c.loop.transfer.session moved m.0 a n.between n.laters x y c.loop.tally (g.G.Gate.heard c.may_go_on.new.gate) w.heard q r u m.1 c.ask-in-loop.ensures.view n.adds in
+    stopped k user session start v now moved w z halt i.9 (refl, i.5, c.ask.ensures.want)
+    (All-push (Bears user session (way_in now)) [] a (All-nil (Bears user session (way_in now))) (c.ask.ensures.user ∙ i.3, c.ask.ensures.session ∙ i.4, c.ask.ensures.way))
+    (n.sittings_are ∙ ap (λ l. l.sittings) c.ask-in-loop.ensures.view)
+    (adds_still (a ∷ []) [] (looks_at (Some halt)) [] (calls_at session moved (Some halt)) w u z
+    (subst (λ (s : ℕ). Adds (a ∷ []) [] (looks_at (Some halt)) [] (calls_at s moved (Some halt)) w u) i.4 adds)
+    refl refl refl refl c.done-in-None-pump_next.ensures.passed)
+    (λ before f. c.done-in-None-pump_next.ensures.heard before (c.pump_next.ensures.heard ∙ c.may_go_on.ensures.heard ∙ i.7 ∙ f))
 
 pub done-requires-in-Some-job_end : goal.done-requires-in-Some-job_end
 done-requires-in-Some-job_end g c =
-    record { condition = c.into_ran-in-Some-job_end.ensures.ends _ _ (inl (ap end_of c.in-Some-pump_next.ensures.some.1 ∙ sym c.in-Some-job_end.ensures.end)) }
+    let k = known g.R.Source.remaining g.K.Sink.collected g.K.Sink.target g.C.Read.remaining g.C.Write.contents in
+    let some = c.in-Some-pump_next.ensures.some.0 in
+    record { condition = c.into_ran-in-Some-job_end.ensures.ends _ _ (inl (ap end_of (pumps_last k some.octets (flow_of c.loop.transfer.running) (flow_of c.pump_next.new.transfer.running) c.in-Some-pump_next.pumped some.pumps) ∙ sym c.in-Some-job_end.ensures.end)) }
 
 pub returns-in-Some-job_end-clause-run : goal.returns-in-Some-job_end-clause-run
 returns-in-Some-job_end-clause-run g c =
-    let user = c.args.transfer.user in let session = c.args.transfer.session in let way = way_in c.args.transfer.running in
-    let x = seat_view c.args.seat.now in
+    let k = known g.R.Source.remaining g.K.Sink.collected g.K.Sink.target g.C.Read.remaining g.C.Write.contents in
+    let user = c.args.transfer.user in let session = c.args.transfer.session in let start = flow_of c.args.transfer.running in
+    let v = worker (seat_view c.args.seat.now) c.args.tally.now (g.G.Gate.heard c.args.gate.now) (g.G.Gate.passed c.args.gate.now) in
+    let i = c.loop.invariant in
+    let now = flow_of c.loop.transfer.running in
+    let next = flow_of c.pump_next.new.transfer.running in
+    let moved = c.loop.transfer.moved in
+    let m = c.if-not-may_go_on.ensures.passed in
+    let p = c.in-Some-pump_next.ensures.some.0 in
+    let a = c.ask.result in
+    let q = g.G.Gate.passed c.loop.gate in
+    let r = g.G.Gate.passed c.may_go_on.new.gate in
+    let x = seat_view c.loop.seat in
     let y = seat_view c.ask-in-loop.new.self in
-    let v = seat_view c.pump_next.new.seat in
-    let z = seat_view c.rise-in-Some-job_end.new.self in
-    let s = c.loop.invariant.8 in
-    let took = c.in-Some-pump_next.ensures.some.0 in
+    let w = worker x c.loop.tally (g.G.Gate.heard c.loop.gate) q in
+    let u = worker (seat_view c.pump_next.new.seat) c.pump_next.new.tally (g.G.Gate.heard c.pump_next.new.gate) (g.G.Gate.passed c.pump_next.new.gate) in
+    let z = worker (seat_view c.rise-in-Some-job_end.new.self) c.pump_next.new.tally (g.G.Gate.heard c.done-in-Some-job_end.new.self) (g.G.Gate.passed c.done-in-Some-job_end.new.self) in
     let e = c.rise-in-Some-job_end.ensures.view in
-    let a = asks_more user session way x _ y c.ask.result s.0 (c.ask.ensures.user ∙ c.loop.invariant.3.0, c.ask.ensures.session ∙ c.loop.invariant.3.1, c.ask.ensures.way ∙ c.loop.invariant.3.2) c.ask-in-loop.ensures.view in
-    let t = takes_more user session way x y v a.0 took in
-    let r = still user session way x v z t.0 (ap (λ u. u.sittings) e) (ap (λ u. u.asks) e) (ap (λ u. u.taken) e) in
-    let asked : length r.0.asks ≡ length s.0.asks + 1 = omega (arith, ap length r.1, ap length t.1, ap length a.1, length-append s.0.asks (c.ask.result ∷ [])) in
-    let taken : length r.0.taken ≡ length s.0.taken + 1 = omega (arith, ap length r.2, ap length t.2, ap length a.2, length-append a.0.taken (took.octets ∷ [])) in
-    ended user session way x z _ _ _ c.in-Some-job_end.end r.0 (omega (arith, asked, taken, s.1)) (omega (arith, taken)) (not_stopped c.in-Some-pump_next.pumped.end c.in-Some-job_end.end (sym c.in-Some-job_end.ensures.end))
-    (c.pump_next.ensures.heard ∙ c.may_go_on.ensures.heard ∙ c.loop.invariant.6) c.done-in-Some-job_end.ensures.heard
+    let t : Turn = record { before = m.0; ask = a; between = p.between; octets = p.octets; pumped = c.in-Some-pump_next.pumped } in
+    let adds = adds_turn c.loop.transfer.session moved m.0 a p.between p.octets t.pumped x y c.loop.tally (g.G.Gate.heard c.may_go_on.new.gate) w.heard q r u m.1 c.ask-in-loop.ensures.view p.adds in
+    let s = turn_more k user session start v now next moved w u t i.9 (record { more = i.5; want = c.ask.ensures.want; pumps = p.pumps })
+    (c.ask.ensures.user ∙ i.3, c.ask.ensures.session ∙ i.4, c.ask.ensures.way)
+    (p.sittings_are ∙ ap (λ l. l.sittings) c.ask-in-loop.ensures.view)
+    (subst (λ (n : ℕ). Adds (a ∷ []) (p.octets ∷ []) (length p.between) (t.pumped.moved ∷ []) (calls_in n moved t) w u) i.4 adds) in
+    ended k user session start v next _ u z c.in-Some-job_end.end s
+    (ap end_of (pumps_last k p.octets now next t.pumped p.pumps) ∙ sym c.in-Some-job_end.ensures.end)
+    (ap (λ l. l.sittings) e) (ap (λ l. l.asks) e) (ap (λ l. l.taken) e) (ap (λ l. l.looks) e) refl c.done-in-Some-job_end.ensures.passed
+    (λ before f. c.done-in-Some-job_end.ensures.heard before (c.pump_next.ensures.heard ∙ c.may_go_on.ensures.heard ∙ i.7 ∙ f))
 
 pub loop-preserved : goal.loop-preserved
 loop-preserved g c =
-    let user = c.args.transfer.user in let session = c.args.transfer.session in let way = way_in c.args.transfer.running in
-    let x = seat_view c.args.seat.now in
-    let y = seat_view c.ask-in-loop.new.self in
-    let v = seat_view c.pump_next.new.seat in
-    let k = c.loop.invariant in
-    let s = k.8 in
-    let p = c.pump_next.ensures in
+    let k = known g.R.Source.remaining g.K.Sink.collected g.K.Sink.target g.C.Read.remaining g.C.Write.contents in
+    let user = c.args.transfer.user in let session = c.args.transfer.session in let start = flow_of c.args.transfer.running in
+    let v = worker (seat_view c.args.seat.now) c.args.tally.now (g.G.Gate.heard c.args.gate.now) (g.G.Gate.passed c.args.gate.now) in
+    let i = c.loop.invariant in
+    let now = flow_of c.loop.transfer.running in
+    let next = flow_of c.pump_next.new.transfer.running in
+    let moved = c.loop.transfer.moved in
+    let m = c.if-not-may_go_on.ensures.passed in
     let some = c.in-Some-pump_next.ensures.some in
-    let took = some.0 in
-    let a = asks_more user session way x _ y c.ask.result s.0 (c.ask.ensures.user ∙ k.3.0, c.ask.ensures.session ∙ k.3.1, c.ask.ensures.way ∙ k.3.2) c.ask-in-loop.ensures.view in
-    let t = takes_more user session way x y v a.0 took in
-    let asked : length t.0.asks ≡ length s.0.asks + 1 = omega (arith, ap length t.1, ap length a.1, length-append s.0.asks (c.ask.result ∷ [])) in
-    let taken : length t.0.taken ≡ length s.0.taken + 1 = omega (arith, ap length t.2, ap length a.2, length-append a.0.taken (took.octets ∷ [])) in (
+    let p = some.0 in
+    let n = c.pump_next.ensures in
+    let a = c.ask.result in
+    let q = g.G.Gate.passed c.loop.gate in
+    let r = g.G.Gate.passed c.may_go_on.new.gate in
+    let x = seat_view c.loop.seat in
+    let y = seat_view c.ask-in-loop.new.self in
+    let w = worker x c.loop.tally (g.G.Gate.heard c.loop.gate) q in
+    let u = worker (seat_view c.pump_next.new.seat) c.pump_next.new.tally (g.G.Gate.heard c.pump_next.new.gate) (g.G.Gate.passed c.pump_next.new.gate) in
+    let t : Turn = record { before = m.0; ask = a; between = p.between; octets = p.octets; pumped = c.in-Some-pump_next.pumped } in
+    let adds = adds_turn c.loop.transfer.session moved m.0 a p.between p.octets t.pumped x y c.loop.tally (g.G.Gate.heard c.may_go_on.new.gate) w.heard q r u m.1 c.ask-in-loop.ensures.view p.adds in
+    let s = turn_more k user session start v now next moved w u t i.9 (record { more = i.5; want = c.ask.ensures.want; pumps = p.pumps })
+    (c.ask.ensures.user ∙ i.3, c.ask.ensures.session ∙ i.4, c.ask.ensures.way)
+    (p.sittings_are ∙ ap (λ l. l.sittings) c.ask-in-loop.ensures.view)
+    (subst (λ (j : ℕ). Adds (a ∷ []) (p.octets ∷ []) (length p.between) (t.pumped.moved ∷ []) (calls_in j moved t) w u) i.4 adds) in (
       tt,
       tt,
-      (p.same.0 ∙ c.ask-in-loop.ensures.same.0 ∙ k.2.0, p.same.1 ∙ c.ask-in-loop.ensures.same.1 ∙ k.2.1),
-      (p.transfer.0 ∙ k.3.0, p.transfer.1 ∙ k.3.1, p.transfer.2 ∙ k.3.2),
-      some.1 ∙ only_more c.in-Some-pump_next.pumped.end (sym c.in-None-job_end.ensures.end),
-      p.told,
-      p.heard ∙ c.may_go_on.ensures.heard ∙ k.6,
-      took.state_is,
-      (t.0, omega (arith, asked, taken, s.1)),
+      (n.same.0 ∙ c.ask-in-loop.ensures.same.0 ∙ i.2.0, n.same.1 ∙ c.ask-in-loop.ensures.same.1 ∙ i.2.1),
+      n.user ∙ i.3,
+      n.session ∙ i.4,
+      pumps_last k p.octets now next t.pumped p.pumps ∙ only_more t.pumped.end (sym c.in-None-job_end.ensures.end),
+      n.told,
+      n.heard ∙ c.may_go_on.ensures.heard ∙ i.7,
+      p.state_is,
+      subst (λ (j : ℕ). Sits k user session start v next j u) (sym some.1) s,
     )

@@ -1,8 +1,10 @@
 use Rattle.std.proofs.Common.{◌≡◌, List, All}
 use Rattle.desk_rule.specs.declared.view.SeatState.TheVariants.{Free}
 use Rattle.lane_seats.specs.Seats.{seat_view, IsSameSeat}
-use Rattle.transfer_worker.specs.Turns.{IsTold}
 use Rattle.job_board.specs.Boards.{done_by, IsSameBoard}
+use Rattle.transfer_worker.specs.Transfers.{known}
+use Rattle.transfer_worker.specs.Runs.{worker}
+use Rattle.transfer_worker.specs.Turns.{IsTold}
 use Rattle.transfer_worker.specs.Works.{Work, NotStopped, Did}
 use Rattle.transfer_worker.proofs.work.worker_loop.Given as goal
 
@@ -13,4 +15,7 @@ invariant-loop g l =
     × IsSameBoard l.fn.pass l.pass
     × IsTold l.tally (seat_view l.seat)
     × ((seat_view l.seat).state ≡ Free)
-    × ((works : List (Work g.row.R.Denot g.row.K.Denot g.row.C.Denot)) × All NotStopped works × Did works (seat_view l.initial.seat) (seat_view l.seat) (done_by l.fn.pass) (done_by l.pass) (g.G.Gate.heard l.fn.gate) (g.G.Gate.heard l.gate))
+    × ((works : List (Work g.row.R.Denot g.row.K.Denot g.row.C.Denot)) × All NotStopped works
+    × Did (known g.R.Source.remaining g.K.Sink.collected g.K.Sink.target g.C.Read.remaining g.C.Write.contents) works (done_by l.fn.pass) (done_by l.pass)
+    (worker (seat_view l.initial.seat) l.initial.tally (g.G.Gate.heard l.fn.gate) (g.G.Gate.passed l.fn.gate))
+    (worker (seat_view l.seat) l.tally (g.G.Gate.heard l.gate) (g.G.Gate.passed l.gate)))

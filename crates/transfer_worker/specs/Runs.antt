@@ -1,0 +1,113 @@
+-- How a transfer is run: turn by turn, between a gate and a lane.
+use Rattle.std.specs.Prelude.{◌≡◌, ℕ, ◌+◌, ◌++◌, List, [], ◌∷◌, length, map, Option, Some, None}
+use Rattle.std.specs.List.{sum_by}
+use Rattle.line_rates.specs.declared.ask.Ask.{Ask}
+use Rattle.line_rates.specs.declared.ask.Way.{Way}
+use Rattle.grant_ledger.specs.Books.{TallyView, capped}
+use Rattle.data_pump.specs.declared.pumped.PumpEnd.TheVariants.{More}
+use Rattle.data_pump.specs.declared.pumped.Pumped.{Pumped}
+use Rattle.desk_rule.specs.declared.view.LaneView.{LaneView}
+use Rattle.transfer_worker.specs.declared.end.JobEnd.{JobEnd}
+use Rattle.transfer_worker.specs.declared.end.JobEnd.TheVariants.{Stopped}
+use Rattle.transfer_worker.specs.declared.gate.Go.TheVariants.{On, Stop}
+use Rattle.transfer_worker.specs.Ends.{end_of}
+use Rattle.transfer_worker.specs.Passes.{PassCall, Passes, calls_until, leaves}
+use Rattle.transfer_worker.specs.Transfers.{Flow, Known, last_in, waiting_in, Pumps}
+
+-- what is seen of a worker: its lane, its tally, and what its gate was told and asked
+pub record WorkerView : Type 0 where
+  pub lane : LaneView
+  pub tally : TallyView
+  pub heard : Option (List (ℕ × JobEnd))
+  pub passed : Option (List PassCall)
+
+abbrev pub worker : LaneView → TallyView → Option (List (ℕ × JobEnd)) → Option (List PassCall) → WorkerView
+worker lane tally heard passed = record { lane = lane; tally = tally; heard = heard; passed = passed }
+
+-- a count after these amounts; it stops at 2^64 - 1
+abbrev pub counted : ℕ → List ℕ → ℕ
+counted count [] = count
+counted count (n ∷ amounts) = counted (capped count n) amounts
+
+-- One turn: leave to ask, the ask, a leave for each take that found nothing, and the grant, which was pumped.
+pub record Turn : Type 0 where
+  -- how often the gate answered Later before it let the worker ask
+  pub before : ℕ
+  pub ask : Ask
+  -- for each take that found nothing, how often it answered Later before it let the worker look again
+  pub between : List ℕ
+  -- what the worker took
+  pub octets : ℕ
+  -- what the pump told
+  pub pumped : Pumped
+
+-- Where the gate said Stop.
+pub data Halt : Type 0 where
+  -- it was asked for leave to ask, and answered Later so often before
+  BeforeAsk : ℕ → Halt
+  -- it let the worker ask after so many answers Later, let it look again after these, and answered Later so often before it said Stop
+  AfterAsk : ℕ → Ask → List ℕ → ℕ → Halt
+
+abbrev pub asks_at : Option Halt → List Ask
+asks_at None = []
+asks_at (Some (BeforeAsk laters)) = []
+asks_at (Some (AfterAsk before ask between laters)) = ask ∷ []
+
+abbrev pub looks_at : Option Halt → ℕ
+looks_at None = 0
+looks_at (Some (BeforeAsk laters)) = 0
+looks_at (Some (AfterAsk before ask between laters)) = length between + 1
+
+abbrev pub calls_at : ℕ → ℕ → Option Halt → List PassCall
+calls_at session moved None = []
+calls_at session moved (Some (BeforeAsk laters)) = calls_until session moved Stop laters
+calls_at session moved (Some (AfterAsk before ask between laters)) = calls_until session moved On before ++ leaves session moved between ++ calls_until session moved Stop laters
+
+-- what the gate is asked in a turn, and in all turns: each time with the session and the octets moved till then
+abbrev pub calls_in : ℕ → ℕ → Turn → List PassCall
+calls_in session moved t = calls_until session moved On t.before ++ leaves session moved t.between
+
+abbrev pub calls_of : ℕ → ℕ → List Turn → List PassCall
+calls_of session moved [] = []
+calls_of session moved (t ∷ turns) = calls_in session moved t ++ calls_of session (capped moved t.pumped.moved) turns
+
+abbrev pub moves_of : List Turn → List ℕ
+moves_of turns = map (λ t. t.pumped.moved) turns
+
+abbrev pub looks_of : List Turn → ℕ
+looks_of turns = sum_by (λ t. length t.between) turns
+
+-- A worker has done so much more: it made these asks, took these amounts, found nothing so often, moved these octets, and
+-- asked its gate so. It sat down and rose where its lane's other parts say so.
+pub record Adds (asks : List Ask) (taken : List ℕ) (looks : ℕ) (moves : List ℕ) (calls : List PassCall) (v w : WorkerView) : Type 0 where
+  pub asks_are : w.lane.asks ≡ v.lane.asks ++ asks
+  pub taken_are : w.lane.taken ≡ v.lane.taken ++ taken
+  pub looks_are : w.lane.looks ≡ v.lane.looks + looks
+  pub moved_is : w.tally.moved ≡ counted v.tally.moved moves
+  pub passes : Passes v.passed w.passed calls
+
+-- the ask bears this user, session and way
+abbrev pub Bears : ℕ → ℕ → Way → Ask → Type 0
+Bears user session way ask = (ask.user ≡ user) × (ask.session ≡ session) × (ask.way ≡ way)
+
+-- the open ask wants what waits
+abbrev pub WantsAt : Halt → ℕ → Type 0
+WantsAt (BeforeAsk laters) waiting = Unit {0}
+WantsAt (AfterAsk before ask between laters) waiting = ask.want ≡ waiting
+
+module _ {R K C : Type 0} where
+  -- In a turn the worker asks for what waits, and what it took is pumped.
+  pub record IsTurn (k : Known R K C) (flow : Flow R K C) (t : Turn) (next : Flow R K C) : Type 0 where
+    pub more : last_in flow ≡ More
+    pub want : t.ask.want ≡ waiting_in flow
+    pub pumps : Pumps k t.octets flow next t.pumped
+
+  -- the turns lead from one state of the transfer to the other
+  abbrev pub AreTurns : Known R K C → Flow R K C → List Turn → Flow R K C → Type 0
+  AreTurns k flow [] end = end ≡ flow
+  AreTurns k flow (t ∷ turns) end = (next : Flow R K C) × IsTurn k flow t next × AreTurns k next turns end
+
+  -- a transfer ends as its last pump did, or is stopped between two pumps
+  abbrev pub EndsAt : Flow R K C → Option Halt → JobEnd → Type 0
+  EndsAt flow None end = end_of (last_in flow) ≡ Some end
+  EndsAt flow (Some halt) end = (end ≡ Stopped) × (last_in flow ≡ More) × WantsAt halt (waiting_in flow)

@@ -81,23 +81,23 @@ module _ {H A S R K : Type 0} (Row : Standing → Given K → ℕ → S → S �
   pays_went host host' v came taken heard user owes closed lost did =
       went_one Row Does host host' (Released user ∷ []) _ _ (chain_one Does host host' (Released user) did) (Pays user owes refl refl refl)
 
-  pub reads_went : (host host' : H) (v : Standing) (came : Option (DataEvent K)) (taken : List Item) (heard : Heard) (owes : List ℕ) (closed : Bool) (lost : Option TurnFault) (octets : List ℕ) (items : List Item) → closed ≡ false → Does host (Read octets) host'
+  pub reads_went : (host host' : H) (v : Standing) (came : Option (DataEvent K)) (taken : List Item) (heard : Heard) (owes : List ℕ) (closed : Bool) (lost : Option TurnFault) (octets : List ℕ) (items : List Item) → closed ≡ false → heard.ended ≡ false → Does host (Read octets) host'
       → Went Row Does host (at v came taken heard owes closed lost) host'
       (at v came taken (record { octets = heard.octets ++ octets; items = heard.items ++ items; reads = heard.reads + 1; ended = heard.ended; failed = heard.failed }) owes closed lost)
-  reads_went host host' v came taken heard owes closed lost octets items live did =
-      went_one Row Does host host' (Read octets ∷ []) _ _ (chain_one Does host host' (Read octets) did) (Reads octets items live refl refl)
+  reads_went host host' v came taken heard owes closed lost octets items live unended did =
+      went_one Row Does host host' (Read octets ∷ []) _ _ (chain_one Does host host' (Read octets) did) (Reads octets items live unended refl refl)
 
-  pub ends_went : (host host' : H) (v : Standing) (came : Option (DataEvent K)) (taken : List Item) (heard : Heard) (owes : List ℕ) (closed : Bool) (lost : Option TurnFault) → closed ≡ false → Does host ReadEnd host'
+  pub ends_went : (host host' : H) (v : Standing) (came : Option (DataEvent K)) (taken : List Item) (heard : Heard) (owes : List ℕ) (closed : Bool) (lost : Option TurnFault) → closed ≡ false → heard.ended ≡ false → Does host ReadEnd host'
       → Went Row Does host (at v came taken heard owes closed lost) host'
       (at v came taken (record heard { reads = heard.reads + 1; ended = true }) owes closed lost)
-  ends_went host host' v came taken heard owes closed lost live did =
-      went_one Row Does host host' (ReadEnd ∷ []) _ _ (chain_one Does host host' ReadEnd did) (Ends live refl refl)
+  ends_went host host' v came taken heard owes closed lost live unended did =
+      went_one Row Does host host' (ReadEnd ∷ []) _ _ (chain_one Does host host' ReadEnd did) (Ends live unended refl refl)
 
-  pub fails_went : (host host' : H) (v : Standing) (came : Option (DataEvent K)) (taken : List Item) (heard : Heard) (owes : List ℕ) (closed : Bool) (lost : Option TurnFault) → closed ≡ false → Does host ReadFailed host'
+  pub fails_went : (host host' : H) (v : Standing) (came : Option (DataEvent K)) (taken : List Item) (heard : Heard) (owes : List ℕ) (closed : Bool) (lost : Option TurnFault) → closed ≡ false → heard.ended ≡ false → Does host ReadFailed host'
       → Went Row Does host (at v came taken heard owes closed lost) host'
       (at v came taken (record heard { reads = heard.reads + 1; failed = true }) owes closed lost)
-  fails_went host host' v came taken heard owes closed lost live did =
-      went_one Row Does host host' (ReadFailed ∷ []) _ _ (chain_one Does host host' ReadFailed did) (Fails live refl refl)
+  fails_went host host' v came taken heard owes closed lost live unended did =
+      went_one Row Does host host' (ReadFailed ∷ []) _ _ (chain_one Does host host' ReadFailed did) (Fails live unended refl refl)
 
   -- what comes behind Closed
   pub end_went : (host host' : H) (v v' : Standing) (came : Option (DataEvent K)) (event : DataEvent K) (taken : List Item) (heard : Heard) (owes : List ℕ) (closed : Bool) (lost : Option TurnFault)
@@ -208,7 +208,7 @@ module _ {H A S R K : Type 0} (Row : Standing → Given K → ℕ → S → S �
       → Went Row Does host (at v x taken heard owes closed lost) host' after → Went Row Does host (at v y taken heard owes closed lost) host' after
   came_as host host' v x y taken heard owes closed lost after same went = subst (λ (came : Option (DataEvent K)). Went Row Does host (at v came taken heard owes closed lost) host' after) same went
 
-given_input : (I : Type 0) {K : Type 0} (event : DataEvent K) → given_of {A = I} (input_of event) ≡ Came event
+pub given_input : (I : Type 0) {K : Type 0} (event : DataEvent K) → given_of {A = I} (input_of event) ≡ Came event
 given_input I (Ready port) = refl
 given_input I (Ended end sink) = refl
 

@@ -120,13 +120,13 @@ module _ {A S R K : Type 0} (Row : Standing → Given K → ℕ → S → S → 
     -- the data side was asked what has come
     Asks : (event : Option (DataEvent K)) → before.came ≡ None → after ≡ record before { came = event }
         → (calls ≡ Asked (Looks event) ∷ []) ⊎ (calls ≡ Asked (Settles event) ∷ []) → Move before calls after
-    -- something was read, and these lines were found
-    Reads : (octets : List ℕ) (items : List Item) → before.closed ≡ false
+    -- something was read, and these lines were found; nothing is read behind the end
+    Reads : (octets : List ℕ) (items : List Item) → before.closed ≡ false → before.heard.ended ≡ false
         → after ≡ record before { heard = record { octets = before.heard.octets ++ octets; items = before.heard.items ++ items; reads = before.heard.reads + 1; ended = before.heard.ended; failed = before.heard.failed } }
         → calls ≡ Read octets ∷ [] → Move before calls after
-    Ends : before.closed ≡ false → after ≡ record before { heard = record before.heard { reads = before.heard.reads + 1; ended = true } }
+    Ends : before.closed ≡ false → before.heard.ended ≡ false → after ≡ record before { heard = record before.heard { reads = before.heard.reads + 1; ended = true } }
         → calls ≡ ReadEnd ∷ [] → Move before calls after
-    Fails : before.closed ≡ false → after ≡ record before { heard = record before.heard { reads = before.heard.reads + 1; failed = true } }
+    Fails : before.closed ≡ false → before.heard.ended ≡ false → after ≡ record before { heard = record before.heard { reads = before.heard.reads + 1; failed = true } }
         → calls ≡ ReadFailed ∷ [] → Move before calls after
     -- a floor that was owed is released
     Pays : (user : ℕ) (owed : List ℕ) → before.owed ≡ user ∷ owed → after ≡ record before { owed = owed }

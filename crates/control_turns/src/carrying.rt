@@ -80,11 +80,11 @@ fn carry<A: Allocator + Clone, H: Host<A>>(
 {
     match action {
         Action::Say(answer) => return say_unless(alloc, host, lost, answer),
-        Action::Hook(call) => host.note(call),
+        Action::Hook(call) => host.note(&call),
         Action::OpenPassive => host.open_passive(),
         Action::ConnectTo(to) => host.connect_to(to),
         Action::DropData => host.drop_data(),
-        Action::Start(job) => host.start(job),
+        Action::Start(job) => host.start(&mut Some(job)),
         Action::Abort => host.abort(),
         Action::CloseControl | Action::ReleaseFloor(_) => {}
     }

@@ -41,8 +41,9 @@ fn note_logout<A: Allocator + Clone, H: Host<A>>(
     match left {
         None => None,
         Some(left) => {
-            host.note(HookCall::Logout(left.name));
-            Some(left.number)
+            let number = left.number;
+            host.note(&HookCall::Logout(left.name));
+            Some(number)
         }
     }
 }
@@ -58,7 +59,7 @@ fn leave<A: Allocator + Clone, H: Host<A>>(host: &mut H, leaving: Option<Leaving
         Some(leaving) => {
             abort_if(host, leaving.aborts);
             let left = note_logout(host, leaving.left);
-            host.note(HookCall::Disconnect);
+            host.note(&HookCall::Disconnect);
             left
         }
     }
@@ -114,7 +115,7 @@ pub fn close<A: Allocator + Clone, H: Host<A>>(
     ensures kept { talk.new.closed ≡ talk.old.closed }
     ensures lost { talk.new.lost ≡ talk.old.lost }
 {
-    let leaving = host.close(users, &mut talk.session, nobody);
+    let leaving = host.close(users, &mut talk.session, &mut Some(nobody));
     let left = leave(host, leaving);
     let came = mem::replace(&mut talk.came, None);
     end(host, users, &mut talk.session, came);

@@ -1,6 +1,6 @@
 //! The host of a control session: all that is outside of it.
 
-ghost use Rattle.std.specs.Prelude.{◌≡◌, ◌<◌, ℕ, IfErr, IfOk, OnErr, [], length, true};
+ghost use Rattle.std.specs.Prelude.{◌≡◌, ◌<◌, ℕ, IfErr, IfOk, IfSome, OnErr, Some, [], length, true};
 ghost use Rattle.control_turns.specs.Calls.{HostCall, read_call, reads_within, write_call};
 ghost use Rattle.control_turns.specs.Calls.HostCall.{Asked, Noted, Released};
 ghost use Rattle.control_turns.specs.Rows.{IsRow, StepTried};
@@ -36,7 +36,7 @@ pub enum Piece {
 /// `Does` says what each call makes of it: it is the host's own meaning. As all calls go to one host, one after another, what
 /// is proved of a session speaks of their order too. A session is lent the store and the floors for a step alone, so other
 /// sessions may change them in between. Nothing here has to wait: a host that waits, in a read or for the end of a
-/// transfer, brings what it needs for that.
+/// transfer, brings what it needs for that. What owns memory of the session is handed over in an `Option`, to be taken out.
 pub trait Host<A: Allocator + Clone> {
     /// The store.
     type Store;
@@ -61,22 +61,24 @@ pub trait Host<A: Allocator + Clone> {
         &mut self,
         users: &Authorizer<A>,
         session: &mut Session<A>,
-        input: Input<A, Self::Sink>,
+        input: &mut Option<Input<A, Self::Sink>>,
     ) -> Result<Vec<Action<A, Self::Source, Self::Sink>, A>, Option<DataEvent<Self::Sink>>>
-        ensures row { IfOk result (λ actions. Stepped (IsRow Step users.now.users) Does
-            self.old session.old (given_of input) session.new actions.items self.new) }
+        ensures row { IfSome input.old (λ input. IfOk result (λ actions.
+            Stepped (IsRow Step users.now.users) Does
+            self.old session.old (given_of input) session.new actions.items self.new)) }
         ensures unchanged { OnErr result (session.new ≡ session.old) }
-        ensures tried { OnErr result (StepTried Does self.old self.new) }
-        ensures back { IfErr result (λ back. back ≡ event_in input) };
+        ensures tried { IfSome input.old (λ input.
+            OnErr result (StepTried Does self.old self.new)) }
+        ensures back { IfSome input.old (λ input. IfErr result (λ back. back ≡ event_in input)) };
 
     /// Lends them for the end of the control connection.
     fn close(
         &mut self,
         users: &Authorizer<A>,
         session: &mut Session<A>,
-        nobody: Text<A>,
+        nobody: &mut Option<Text<A>>,
     ) -> Option<Leaving<A>>
-        requires nobody { nobody ≡ [] }
+        requires nobody { nobody.old ≡ Some [] }
         ensures row { Stepped (IsRow Step users.now.users) Does
             self.old session.old Closed session.new (leaving_by result) self.new }
         ensures closed { is_closed session.new.view.stage ≡ true };
@@ -93,8 +95,8 @@ pub trait Host<A: Allocator + Clone> {
         ensures { Does self.old (Released user) self.new };
 
     /// Tells the handler.
-    fn note(&mut self, call: HookCall<A>)
-        ensures { Does self.old (Noted (event_of call)) self.new };
+    fn note(&mut self, call: &HookCall<A>)
+        ensures { Does self.old (Noted (event_of call.now)) self.new };
 
     /// Writes all of a reply. After an error some of it, from its front, may have gone out.
     fn write(&mut self, reply: &[u8]) -> io::Result<()>
@@ -116,8 +118,8 @@ pub trait Host<A: Allocator + Clone> {
     fn drop_data(&mut self)
         ensures { Does self.old (Asked Drops) self.new };
 
-    fn start(&mut self, job: Job<A, Self::Source, Self::Sink>)
-        ensures { Does self.old (Asked (Starts job)) self.new };
+    fn start(&mut self, job: &mut Option<Job<A, Self::Source, Self::Sink>>)
+        ensures { IfSome job.old (λ job. Does self.old (Asked (Starts job)) self.new) };
 
     fn abort(&mut self)
         ensures { Does self.old (Asked Aborts) self.new };

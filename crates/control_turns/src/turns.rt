@@ -73,7 +73,7 @@ pub fn turn<A: Allocator + Clone, H: Host<A>>(
     ensures held { OnOk result (HoldsFewer (given_of input) talk.old.session talk.new.session) }
     ensures lost { IfErr result (IsLost talk.new.lost) }
 {
-    let actions = match host.step(users, &mut talk.session, input) {
+    let actions = match host.step(users, &mut talk.session, &mut Some(input)) {
         Ok(actions) => actions,
         Err(back) => {
             talk.came = back;

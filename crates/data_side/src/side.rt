@@ -1,6 +1,6 @@
 //! What a control session is lent beside its text: a clock, and what opens data connections.
 
-ghost use Rattle.std.specs.Prelude.{ℕ};
+ghost use Rattle.std.specs.Prelude.{ℕ, IfSome};
 ghost use Rattle.data_side.specs.Sides.{SideCall};
 ghost use Rattle.data_side.specs.Sides.SideCall.{Opens, Connects, Drops, Starts, Aborts, Looks, Settles};
 
@@ -41,9 +41,9 @@ pub trait DataSide<A: Allocator, R, K> {
     fn drop_data(&mut self)
         ensures { Asks self.old Drops self.new };
 
-    /// Begins a transfer; its end is told by a later look, at once or not.
-    fn start(&mut self, job: Job<A, R, K>)
-        ensures { Asks self.old (Starts job) self.new };
+    /// Begins a transfer, which is taken out; its end is told by a later look, at once or not.
+    fn start(&mut self, job: &mut Option<Job<A, R, K>>)
+        ensures { IfSome job.old (λ job. Asks self.old (Starts job) self.new) };
 
     /// Aborts the transfer that runs. Its end is told all the same.
     fn abort(&mut self)

@@ -1,0 +1,269 @@
+-- The floors that a step counts and asks to release.
+use Rattle.std.proofs.Common.{ℕ, ◌≡◌, ◌+◌, ◌-◌, ◌⊎◌, inl, inr, List, [], ◌∷◌, ◌++◌, map, Bool, true, false, cond, Option, Some, None, Ok, Err, refl, sym, ap, subst, ◌∙◌, arith}
+use Rattle.std.proofs.lemmas.Bool.{false≢true}
+use Rattle.std.proofs.lemmas.Bool.Decides.{nat_tests}
+use Rattle.std.proofs.lemmas.List.{append-nil}
+use Rattle.std.specs.FinMap as finite
+use Rattle.std.specs.Prelude.{nat_eq, nat_lt, unwrap_or}
+use Rattle.authorizer.specs.Changes.{is_password}
+use Rattle.authorizer.specs.Users.{Users}
+use Rattle.data_side.specs.Sides.{Given}
+use Rattle.ftp_wire.specs.Items.{Item}
+use Rattle.ftp_wire.specs.declared.commands.Command.TheVariants as command
+use Rattle.line_rates.proofs.RowLemmas.{first_row, get-by_number}
+use Rattle.rate_floors.specs.Promises.{Promises, admits, after_release, changed, counted, has_counted, has_session, one_less, one_more, released, user_key, user_of, with_sessions}
+use Rattle.rate_floors.specs.declared.find.UserSessions.{UserSessions}
+use Rattle.session_core.specs.Counted.{counted_by_command, counted_by_item, counted_by_step, counted_by_turn}
+use Rattle.session_laws.proofs.Inputs.{floors_are_released_once}
+use Rattle.session_laws.specs.Always.{Always}
+use Rattle.session_laws.specs.Laws.{FloorsAreReleasedOnce, Releases, admitted_by, admitted_in, logged_in, releases}
+use Rattle.session_laws.specs.Steps.{Standing, in_its_turn, serves_lines}
+use Rattle.session_login.specs.Counted.{counted_once}
+use Rattle.session_table.specs.Commands.{Line}
+use Rattle.session_table.specs.Plans.{Plan, Ran}
+use Rattle.session_table.specs.Plans.Plan.{Then, WithLine, WithLines, AskStat, AskList, AskOpenRead, AskOpenWrite, AskFinish, AskMakeDir, AskRemoveDir, AskRemoveFile, AskRename}
+use Rattle.session_table.specs.StateRows.{if_right_at, number_of}
+use Rattle.session_table.specs.Table.{SessionStep}
+use Rattle.session_table.specs.Views.{View, is_closed, is_inside}
+use Rattle.session_table.specs.declared.actions.Action.{Action}
+use Rattle.session_table.specs.declared.inputs.Input.{Input}
+use Rattle.session_table.specs.declared.stages.Stage.{Stage}
+use Rattle.session_table.specs.declared.stages.Stage.TheVariants as stage
+use Rattle.virtual_tree.specs.Calls.{Exchange}
+use Rattle.control_turns.specs.Rows.{IsRow}
+
+-- ---- one more session of a user, and one less
+
+-- an entry changed, or not
+abbrev entry_if : (ℕ → ℕ) → Bool → UserSessions → UserSessions
+entry_if change b entry = cond b (record { row = entry.row; sessions = change entry.sessions }) entry
+
+key_stays : (change : ℕ → ℕ) (b : Bool) (entry : UserSessions) → user_key (entry_if change b entry) ≡ user_key entry
+key_stays change true entry = refl
+key_stays change false entry = refl
+
+with_as : (change : ℕ → ℕ) (user : ℕ) (c b : Bool) (change' : ℕ → ℕ) (entry : UserSessions) → nat_eq (user_key entry) user ≡ c
+    → with_sessions change user (entry_if change' b entry) ≡ entry_if change c (entry_if change' b entry)
+with_as change user c b change' entry is =
+    ap (λ (k : ℕ). entry_if change (nat_eq k user) (entry_if change' b entry)) (key_stays change' b entry) ∙ ap (λ (t : Bool). entry_if change t (entry_if change' b entry)) is
+
+less_more : (n : ℕ) → (n + 1) - 1 ≡ n
+less_more n = omega arith
+
+undone : (b : Bool) (entry : UserSessions) → entry_if one_less b (entry_if one_more b entry) ≡ entry
+undone true entry = ap (λ (n : ℕ). record { row = entry.row; sessions = n }) (less_more entry.sessions)
+undone false entry = refl
+
+swapped : (b c : Bool) (entry : UserSessions) → entry_if one_more b (entry_if one_more c entry) ≡ entry_if one_more c (entry_if one_more b entry)
+swapped true true entry = refl
+swapped true false entry = refl
+swapped false true entry = refl
+swapped false false entry = refl
+
+entries_back : (user : ℕ) (entries : List UserSessions) → map (with_sessions one_less user) (map (with_sessions one_more user) entries) ≡ entries
+entries_back user [] = refl
+entries_back user (entry ∷ entries) =
+    let b = nat_eq (user_key entry) user in
+    ap (λ (x : UserSessions). x ∷ map (with_sessions one_less user) (map (with_sessions one_more user) entries)) (with_as one_less user b b one_more entry refl ∙ undone b entry)
+    ∙ ap (λ (xs : List UserSessions). entry ∷ xs) (entries_back user entries)
+
+entries_swap : (first second : ℕ) (entries : List UserSessions)
+    → map (with_sessions one_more first) (map (with_sessions one_more second) entries) ≡ map (with_sessions one_more second) (map (with_sessions one_more first) entries)
+entries_swap first second [] = refl
+entries_swap first second (entry ∷ entries) =
+    let b = nat_eq (user_key entry) first in
+    let c = nat_eq (user_key entry) second in
+    ap (λ (x : UserSessions). x ∷ map (with_sessions one_more first) (map (with_sessions one_more second) entries))
+    (with_as one_more first b c one_more entry refl ∙ (swapped b c entry ∙ sym (with_as one_more second c b one_more entry refl)))
+    ∙ ap (λ (xs : List UserSessions). with_sessions one_more second (with_sessions one_more first entry) ∷ xs) (entries_swap first second entries)
+
+pub counted_swap : (first second : ℕ) (p : Promises) → counted (counted p second) first ≡ counted (counted p first) second
+counted_swap first second p = ap (λ (us : List UserSessions). record { rates = p.rates; users = us }) (entries_swap first second p.users)
+
+has_one : (n : ℕ) → nat_lt 0 (n + 1) ≡ true
+has_one n = grind (arith, nat_tests)
+
+-- the first entry of a user has a session more
+more_stands : (user : ℕ) (entries : List UserSessions) (entry : UserSessions) → first_row user_key user entries ≡ Some entry
+    → has_session (first_row user_key user (map (with_sessions one_more user) entries)) ≡ true
+more_stands user [] entry is = absurd (cc)
+more_stands user (x ∷ xs) entry is = by (λ f. more_stands user xs entry f) (nat_eq (user_key x) user) refl is
+  where
+    rest : Option UserSessions
+    rest = first_row user_key user (map (with_sessions one_more user) xs)
+
+    shape : Bool → Bool → Bool
+    shape b c = has_session (cond c (Some (entry_if one_more b x)) rest)
+
+    at : (b : Bool) → nat_eq (user_key x) user ≡ b → has_session (first_row user_key user (map (with_sessions one_more user) (x ∷ xs))) ≡ shape b b
+    at b t = ap (λ (c : Bool). has_session (cond (nat_eq (user_key (entry_if one_more c x)) user) (Some (entry_if one_more c x)) rest)) t
+        ∙ (ap (λ (k : ℕ). shape b (nat_eq k user)) (key_stays one_more b x) ∙ ap (shape b) t)
+
+    by : (first_row user_key user xs ≡ Some entry → has_session rest ≡ true)
+        → (b : Bool) → nat_eq (user_key x) user ≡ b → cond b (Some x) (first_row user_key user xs) ≡ Some entry → has_session (first_row user_key user (map (with_sessions one_more user) (x ∷ xs))) ≡ true
+    by more true t f = at true t ∙ has_one x.sessions
+    by more false t f = at false t ∙ more f
+
+-- where a user has no entry, nothing changes
+entries_same : (user : ℕ) (entries : List UserSessions) → first_row user_key user entries ≡ None → map (with_sessions one_more user) entries ≡ entries
+entries_same user [] is = refl
+entries_same user (x ∷ xs) is = by (λ f. entries_same user xs f) (nat_eq (user_key x) user) refl is
+  where
+    by : (first_row user_key user xs ≡ None → map (with_sessions one_more user) xs ≡ xs)
+        → (b : Bool) → nat_eq (user_key x) user ≡ b → cond b (Some x) (first_row user_key user xs) ≡ None → map (with_sessions one_more user) (x ∷ xs) ≡ x ∷ xs
+    by more true t f = absurd (cc)
+    by more false t f = ap (λ (y : UserSessions). y ∷ map (with_sessions one_more user) xs) (ap (λ (b : Bool). entry_if one_more b x) t) ∙ ap (λ (ys : List UserSessions). x ∷ ys) (more f)
+
+-- a session that is counted, and then released
+pub released_back : (user : ℕ) (p : Promises) → after_release (counted p user) user ≡ p
+released_back user p = by (first_row user_key user p.users) refl
+  where
+    back : released (counted p user) user ≡ p
+    back = ap (λ (us : List UserSessions). record { rates = p.rates; users = us }) (entries_back user p.users)
+
+    by : (found : Option UserSessions) → first_row user_key user p.users ≡ found → after_release (counted p user) user ≡ p
+    by None is =
+        let none = get-by_number user_key user p.users ∙ is in
+        let same = ap (λ (us : List UserSessions). record { rates = p.rates; users = us }) (entries_same user p.users is) in
+        ap (λ (q : Promises). after_release q user) same ∙ ap (λ (o : Option UserSessions). cond (has_session o) (released p user) p) none
+    by (Some entry) is =
+        ap (λ (b : Bool). cond b (released (counted p user) user) (counted p user))
+        (ap has_session (get-by_number user_key user (counted p user).users) ∙ more_stands user p.users entry is)
+        ∙ back
+
+-- one more session of each of these users
+abbrev pub counts : List ℕ → Promises → Promises
+counts [] p = p
+counts (user ∷ users) p = counted (counts users p) user
+
+-- ---- what a step counts
+
+abbrev count_of : Option ℕ → Promises → Promises
+count_of None p = p
+count_of (Some user) p = counted p user
+
+once : (b : Bool) (user : ℕ) (p : Promises) → cond b (counted p user) p ≡ count_of (cond b (Some user) None) p
+once true user p = refl
+once false user p = refl
+
+module _ (users : Users) (view : View) (p : Promises) where
+  abbrev user : ℕ
+  user = number_of users view.name
+
+  pass_counts : (password : List ℕ) → counted_by_command users view (command.Pass (Some password)) p ≡ count_of (admitted_by users (admits p) view (Some (Ok (command.Pass (Some password))))) p
+  pass_counts password = by view.stage (is_password users view.name password)
+    where
+      by : (now : Stage) (right : Bool) → if_right_at now right (counted_once p user) p ≡ count_of (if_right_at now right (cond (admits p user) (Some user) None) None) p
+      by stage.Greeted right = refl
+      by stage.Named true = once (admits p user) user p
+      by stage.Named false = refl
+      by stage.Inside right = refl
+      by stage.Closed right = refl
+
+  command_counts : (line : Line) → counted_by_command users view line p ≡ count_of (admitted_by users (admits p) view (Some (Ok line))) p
+  command_counts (command.User text) = refl
+  command_counts (command.Pass (Some text)) = pass_counts text
+  command_counts (command.Pass None) = pass_counts []
+  command_counts (command.Cwd text) = refl
+  command_counts command.Cdup = refl
+  command_counts command.Quit = refl
+  command_counts command.Rein = refl
+  command_counts (command.SetType wanted) = refl
+  command_counts command.Mode = refl
+  command_counts command.Stru = refl
+  command_counts (command.Port to) = refl
+  command_counts (command.Eprt to) = refl
+  command_counts command.Pasv = refl
+  command_counts (command.Epsv wanted) = refl
+  command_counts (command.Retr text) = refl
+  command_counts (command.Stor text) = refl
+  command_counts (command.Appe text) = refl
+  command_counts (command.Rest offset) = refl
+  command_counts (command.Rnfr text) = refl
+  command_counts (command.Rnto text) = refl
+  command_counts command.Abor = refl
+  command_counts (command.Dele text) = refl
+  command_counts (command.Rmd text) = refl
+  command_counts (command.Mkd text) = refl
+  command_counts command.Pwd = refl
+  command_counts (command.Size text) = refl
+  command_counts (command.Mdtm text) = refl
+  command_counts (command.List text) = refl
+  command_counts (command.Nlst text) = refl
+  command_counts (command.Mlsd text) = refl
+  command_counts (command.Mlst text) = refl
+  command_counts (command.Stat text) = refl
+  command_counts (command.Opts option) = refl
+  command_counts command.Feat = refl
+  command_counts (command.Allo text) = refl
+  command_counts command.Syst = refl
+  command_counts (command.Help text) = refl
+  command_counts command.Noop = refl
+
+  turn_counts : (item : Option Item) → counted_by_turn users view item p ≡ count_of (admitted_by users (admits p) view item) p
+  turn_counts None = refl
+  turn_counts (Some (Err why)) = refl
+  turn_counts (Some (Ok line)) = command_counts line
+
+  step_counts : {A K : Type 0} (held : List Item) (told : Input A K) → counted_by_step users view held told p ≡ count_of (admitted_in users (admits p) view held told) p
+  step_counts held told = by (serves_lines view)
+    where
+      by : (serves : Bool) → cond serves (counted_by_turn users view (in_its_turn told held) p) p ≡ count_of (cond serves (admitted_by users (admits p) view (in_its_turn told held)) None) p
+      by true = turn_counts (in_its_turn told held)
+      by false = refl
+
+-- ---- what a row counts and asks to release
+
+-- a plan that ran has ended in one of its ways
+ran_ends : {S A R K : Type 0} (Step : S → Exchange R K → S → Type 0) (Calls : Exchange R K → Type 0) (Ends : View → List (Action A R K) → Type 0)
+    (plan : Plan A R K) (old new : S) (view : View) (actions : List (Action A R K))
+    → Always Calls Ends plan → Ran Step plan old new view actions → Ends view actions
+ran_ends Step Calls Ends (Then v ways) old new view actions is (same, v_is, same_actions) =
+    subst (λ (x : View). Ends x actions) (sym v_is) (subst (λ (x : List (Action _ _ _)). Ends v x) (sym same_actions) is)
+ran_ends Step Calls Ends (WithLine told next) old new view actions is (line, telling, ran) = ran_ends Step Calls Ends (next line) old new view actions (is line) ran
+ran_ends Step Calls Ends (WithLines told next) old new view actions is (lines, telling, ran) = ran_ends Step Calls Ends (next lines) old new view actions (is lines) ran
+ran_ends Step Calls Ends (AskStat path next) old new view actions is (answer, mid, step, ran) = ran_ends Step Calls Ends (next answer) mid new view actions (is answer).1 ran
+ran_ends Step Calls Ends (AskList path next) old new view actions is (answer, mid, step, ran) = ran_ends Step Calls Ends (next answer) mid new view actions (is answer).1 ran
+ran_ends Step Calls Ends (AskOpenRead path offset next) old new view actions is (answer, mid, step, ran) = ran_ends Step Calls Ends (next answer) mid new view actions (is answer).1 ran
+ran_ends Step Calls Ends (AskOpenWrite path mode moment next) old new view actions is (answer, mid, step, ran) = ran_ends Step Calls Ends (next answer) mid new view actions (is answer).1 ran
+ran_ends Step Calls Ends (AskFinish sink moment next) old new view actions is (answer, mid, step, ran) = ran_ends Step Calls Ends (next answer) mid new view actions (is answer).1 ran
+ran_ends Step Calls Ends (AskMakeDir path next) old new view actions is (answer, mid, step, ran) = ran_ends Step Calls Ends (next answer) mid new view actions (is answer).1 ran
+ran_ends Step Calls Ends (AskRemoveDir path next) old new view actions is (answer, mid, step, ran) = ran_ends Step Calls Ends (next answer) mid new view actions (is answer).1 ran
+ran_ends Step Calls Ends (AskRemoveFile path next) old new view actions is (answer, mid, step, ran) = ran_ends Step Calls Ends (next answer) mid new view actions (is answer).1 ran
+ran_ends Step Calls Ends (AskRename from to next) old new view actions is (answer, mid, step, ran) = ran_ends Step Calls Ends (next answer) mid new view actions (is answer).1 ran
+
+-- more users are counted; they and those who were logged in are those that are released and those who are logged in then
+abbrev pub Balanced : List ℕ → Promises → Promises → List ℕ → List ℕ → Type 0
+Balanced before p p' released after = (more : List ℕ) × (p' ≡ counts more p) × (more ++ before ≡ released ++ after)
+
+balanced : (admitted : Option ℕ) (before released after : List ℕ) (p p' : Promises) → Releases admitted before released after → p' ≡ count_of admitted p → Balanced before p p' released after
+balanced (Some user) before released after p p' (nobody, none, only) is =
+    (user ∷ [], is, ap (λ (l : List ℕ). user ∷ l) nobody ∙ sym (ap (λ (l : List ℕ). l ++ after) none ∙ only))
+balanced None before released after p p' (inl (none, same)) is = ([], is, sym (ap (λ (l : List ℕ). l ++ after) none ∙ same))
+balanced None before released after p p' (inr (all, gone)) is = ([], is, sym (ap (λ (l : List ℕ). released ++ l) gone ∙ (append-nil released ∙ all)))
+
+module _ {S A R K : Type 0} (Step : S → Exchange R K → S → Type 0) (users : Users) where
+  step_releases : (law : FloorsAreReleasedOnce A R K) (admits' : ℕ → Bool) (before after : Standing) (moment : ℕ) (told : Input A K) (old new : S) (actions : List (Action A R K))
+      → SessionStep Step users admits' before.view before.held moment told old new after.view after.held actions
+      → Releases (admitted_in users admits' before.view before.held told) (logged_in before.view) (releases actions) (logged_in after.view)
+  unfolding SessionStep FloorsAreReleasedOnce
+  step_releases law admits' before after moment told old new actions (ran, held_is) =
+      ran_ends Step (λ exchange. Unit {0}) (λ then actions. Releases (admitted_in users admits' before.view before.held told) (logged_in before.view) (releases actions) (logged_in then))
+      _ old new after.view actions (law users admits' before.view before.held moment told) ran
+
+  pub row_balances : (before after : Standing) (given : Given K) (moment : ℕ) (store store' : S) (p p' : Promises) (actions : List (Action A R K))
+      → IsRow Step users before given moment store store' p p' after actions → Balanced (logged_in before.view) p p' (releases actions) (logged_in after.view)
+  row_balances before after given moment store store' p p' actions row =
+      balanced (admitted_in users (admits p) before.view before.held row.told) _ _ _ p p'
+      (step_releases (floors_are_released_once A R K) (admits p) before after moment row.told store store' actions row.stepped)
+      (row.counted ∙ step_counts users before.view p before.held row.told)
+
+-- nobody is logged in where the control connection is gone
+pub gone_counts : (view : View) → is_closed view.stage ≡ true → logged_in view ≡ []
+gone_counts view closed = by view.stage closed
+  where
+    by : (now : Stage) → is_closed now ≡ true → cond (is_inside now) (view.number ∷ []) [] ≡ []
+    by stage.Greeted is = refl
+    by stage.Named is = refl
+    by stage.Inside is = absurd (false≢true is)
+    by stage.Closed is = refl

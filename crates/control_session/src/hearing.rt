@@ -1,0 +1,106 @@
+//! What a client says is heard and taken.
+
+ghost use Rattle.std.specs.Prelude.{◌≡◌, ◌⊎◌, ◌<◌, ◌≤◌, ◌+◌, ◌++◌, [], ℕ, List, IfErr, IfOk, IsErrOf, None, OnErr, OnOk, length, true, false};
+ghost use Rattle.control_session.specs.Sessions.{IsLostTo, nothing};
+ghost use Rattle.control_turns.specs.Rows.{IsRow};
+ghost use Rattle.control_turns.specs.Standing.{AllTaken, stand};
+ghost use Rattle.control_turns.specs.Turns.{Heard, Went, due};
+ghost use Rattle.ftp_wire.specs.Items.{Item};
+ghost use Rattle.ftp_wire.specs.Reading.{HasRead};
+
+use crate::fault::{ControlFault, unless_lost};
+use authorizer::Authorizer;
+use control_turns::{Host, Piece, Talk, catch_up, take_lines};
+use ftp_wire::LineReader;
+use std::alloc::Allocator;
+
+/// One read, and the lines that it completes. It answers whether the end was read.
+fn hear<A: Allocator + Clone, H: Host<A>>(
+    alloc: &A,
+    host: &mut H,
+    users: &Authorizer<A>,
+    talk: &mut Talk<A, H::Sink>,
+    lines: &mut LineReader<A>,
+    buffer: &mut [u8],
+) -> Result<bool, ControlFault>
+    requires room { 0 < length buffer.old }
+    requires none { talk.old.came ≡ None }
+    requires whole { talk.old.lost ≡ None }
+    requires live { talk.old.closed ≡ false }
+    requires due { due talk.old.session ≡ false }
+    ensures went { (taken : List Item) (heard : Heard) → AllTaken taken heard
+        → HasRead heard.octets heard.items lines.old → heard.ended ≡ false
+        → (last : List Item) × (heard' : Heard)
+        × Went (IsRow {A = A} {R = H.Source} H.Step users.now.users) H.Does
+        host.old (stand talk.old taken heard) host.new (stand talk.new last heard')
+        × (heard'.reads ≡ heard.reads + 1)
+        × (IsErrOf result ControlFault.ReadFault → heard'.failed ≡ true)
+        × IfOk result (λ ended. (heard'.ended ≡ ended)
+        × HasRead heard'.octets heard'.items lines.new
+        × ((talk.new.closed ≡ true) ⊎ AllTaken last heard'))
+        × OnErr result ((fed unfed : List ℕ) × (heard'.octets ≡ fed ++ unfed)
+        × HasRead fed heard'.items lines.new) }
+    ensures none { OnOk result (talk.new.came ≡ None) }
+    ensures whole { OnOk result (talk.new.lost ≡ None) }
+    ensures due { OnOk result (due talk.new.session ≡ false) }
+    ensures lost { IfErr result (IsLostTo talk.new.lost) }
+    ensures buffer { length buffer.new ≡ length buffer.old }
+{
+    let piece = match host.read(buffer) {
+        Ok(piece) => piece,
+        Err(_) => return Err(ControlFault::ReadFault),
+    };
+    match piece {
+        Piece::Octets(count) => {
+            let items = lines.feed(&buffer[..count])?;
+            take_lines(alloc, host, users, talk, items)?;
+            Ok(false)
+        }
+        Piece::Nothing => Ok(false),
+        Piece::AtEnd => Ok(true),
+    }
+}
+
+/// Takes what comes, up to a line that closes the control connection or to the end, by so many reads at most.
+pub(crate) fn converse<A: Allocator + Clone, H: Host<A>>(
+    alloc: &A,
+    host: &mut H,
+    users: &Authorizer<A>,
+    talk: &mut Talk<A, H::Sink>,
+    lines: &mut LineReader<A>,
+    buffer: &mut [u8],
+    turns: u32,
+) -> Result<(), ControlFault>
+    requires room { 0 < length buffer.old }
+    requires none { talk.old.came ≡ None }
+    requires start { HasRead [] [] lines.old }
+    ensures went { (last : List Item) × (heard : Heard)
+        × Went (IsRow {A = A} {R = H.Source} H.Step users.now.users) H.Does
+        host.old (stand talk.old [] nothing) host.new (stand talk.new last heard)
+        × (heard.reads ≤ turns)
+        × (IsErrOf result ControlFault.ReadFault
+        → (heard.failed ≡ true) ⊎ (heard.reads ≡ turns))
+        × OnOk result (HasRead heard.octets heard.items lines.new
+        × ((talk.new.closed ≡ true) ⊎ ((heard.ended ≡ true) × AllTaken last heard)))
+        × OnErr result ((fed unfed : List ℕ) × (heard.octets ≡ fed ++ unfed)
+        × HasRead fed heard.items lines.new) }
+    ensures whole { OnOk result (talk.new.lost ≡ None) }
+    ensures lost { IfErr result (IsLostTo talk.new.lost) }
+{
+    unless_lost(talk.lost)?;
+    catch_up(alloc, host, users, talk)?;
+    for _turn in 0..turns {
+        if talk.closed {
+            return Ok(());
+        }
+        let ended = hear(alloc, host, users, talk, lines, buffer)?;
+        if ended {
+            return Ok(());
+        }
+        if talk.closed {
+            return Ok(());
+        }
+        catch_up(alloc, host, users, talk)?;
+    }
+    Err(ControlFault::ReadFault)
+}

@@ -1,0 +1,108 @@
+//! A whole control session.
+
+ghost use Rattle.std.specs.Prelude.{◌≡◌, ◌<◌, [], IfOk, vec_len};
+ghost use Rattle.control_session.specs.Floors.{HasFloors};
+ghost use Rattle.control_session.specs.Sessions.{IsServed, IsSession, new_session};
+ghost use Rattle.control_turns.specs.Rows.{IsRow};
+ghost use Rattle.ftp_wire.specs.Reading.{HasRead};
+ghost use Rattle.rate_floors.specs.Promises.{Promises};
+ghost use Rattle.session_table.specs.Plans.Plan.{Then};
+ghost use Rattle.session_table.specs.StateRows.{greeting};
+
+use crate::fault::ControlFault;
+use crate::hearing::converse;
+use authorizer::Authorizer;
+use control_turns::{Host, Session, Talk, carry_all, close};
+use ftp_wire::LineReader;
+use session_table::{Action, Settings, Text};
+use std::alloc::{AllocError, Allocator};
+
+/// How many octets are read at once at most.
+const PIECE: usize = 4096;
+
+/// What a session needs of memory beside itself, which is got before it greets.
+#[derive(Drop)]
+struct Room<A: Allocator> {
+    lines: LineReader<A>,
+    buffer: Vec<u8, A>,
+    nobody: Text<A>,
+}
+
+impl<A: Allocator + Clone> Room<A> {
+    // The size is a parameter, so that no proof computes a list that long.
+    fn new(alloc: &A, size: usize) -> Result<Room<A>, AllocError>
+        ensures start { IfOk result (λ room. HasRead [] [] room.lines) }
+        ensures size { IfOk result (λ room. vec_len room.buffer ≡ size) }
+        ensures nobody { IfOk result (λ room. room.nobody ≡ []) }
+    {
+        let lines = LineReader::new(alloc.clone()?);
+        let nobody = Text::empty(alloc.clone()?);
+        let buffer = vec![in alloc.clone()?; 0u8; size]?;
+        Ok(Room {
+            lines,
+            buffer,
+            nobody,
+        })
+    }
+}
+
+/// A session greets, takes what comes, and is closed however it ends.
+fn run_session<A: Allocator + Clone, H: Host<A>>(
+    alloc: &A,
+    host: &mut H,
+    users: &Authorizer<A>,
+    session: Session<A>,
+    actions: Vec<Action<A, H::Source, H::Sink>, A>,
+    room: Room<A>,
+    turns: u32,
+) -> Result<(), ControlFault>
+    requires greeting { Then session.view actions.items ≡ greeting session.view }
+    requires start { HasRead [] [] room.lines }
+    requires size { 0 < vec_len room.buffer }
+    requires nobody { room.nobody ≡ [] }
+    ensures whole { IsSession (IsRow {A = A} {R = H.Source} H.Step users.now.users) H.Does
+        turns result session host.old host.new }
+{
+    let Room {
+        mut lines,
+        mut buffer,
+        nobody,
+    } = room;
+    let lost = carry_all(alloc, host, None, actions);
+    let mut talk = Talk {
+        session,
+        came: None,
+        closed: false,
+        lost,
+    };
+    let piece = buffer.as_mut_slice();
+    let outcome = converse(alloc, host, users, &mut talk, &mut lines, piece, turns);
+    lines.reads_as();
+    close(host, users, &mut talk, nobody);
+    outcome
+}
+
+/// A whole control session of a client at this address: it greets, takes what comes, up to a line that closes the control
+/// connection or to the end of the client's text, and is closed however it ends. The banner of the settings holds no
+/// line's end.
+///
+/// `ReadFault` comes where a read failed, or after so many reads as there are turns, each of at most 4,096 octets; `WriteFault`
+/// where a reply could not be written. Nothing is asked of the host before the memory to begin is there.
+pub fn run_control<A: Allocator + Clone, H: Host<A>>(
+    alloc: &A,
+    host: &mut H,
+    users: &Authorizer<A>,
+    settings: Settings<A>,
+    peer: [u8; 4],
+    turns: u32,
+) -> Result<(), ControlFault>
+    ensures whole { IsServed (IsRow {A = A} {R = H.Source} H.Step users.now.users) H.Does
+        turns result (new_session settings peer) host.old host.new }
+    ensures floors { (floors : H → Promises) → HasFloors H.Does floors
+        → floors host.new ≡ floors host.old }
+{
+    let session = Session::new(alloc.clone()?, settings, peer)?;
+    let greeting = session.greet()?;
+    let room = Room::new(alloc, PIECE)?;
+    run_session(alloc, host, users, session, greeting, room, turns)
+}

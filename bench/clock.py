@@ -1,7 +1,10 @@
-"""Runs programs and tells the time of the processor that they took."""
+"""Runs programs and tells the time of the processor that they took, and what `valgrind` counts."""
 
 import os
+import re
+import shutil
 import statistics
+import subprocess
 import sys
 
 
@@ -30,6 +33,19 @@ def least(words, output, runs):
 def median(words, output, runs):
     """The median of the milliseconds of so many runs."""
     return statistics.median(run(words, output)[0] for _ in range(runs))
+
+
+def counted(words, output, tool, what):
+    """The number that `valgrind` tells behind these words, as the instructions of a run, or nothing where there is none."""
+    if not shutil.which("valgrind"):
+        return None
+    more = ["--cache-sim=no", "--cachegrind-out-file=/dev/null"] if tool == "cachegrind" else []
+    with open(output, "wb") as to:
+        ran = subprocess.run(["valgrind", f"--tool={tool}", *more, *words], stdout=to, stderr=subprocess.PIPE, text=True)
+    found = re.search(rf"{what}: +([0-9,]+)", ran.stderr)
+    if ran.returncode or not found:
+        sys.exit(f"bench: valgrind {' '.join(words)}: {ran.stderr[-500:]}")
+    return int(found.group(1).replace(",", ""))
 
 
 def tell(head, rows):

@@ -80,7 +80,8 @@ impl<A: Allocator> PortPool<A> {
         true
     }
 
-    fn is_leased(&self, port: u16) -> bool
+    /// Whether a port is leased.
+    pub fn is_leased(&self, port: u16) -> bool
         ensures leased { result ≡ set.contains self.now.leased port }
         ensures within { OnTrue result (IsWithin self.now port) }
     {

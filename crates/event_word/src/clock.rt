@@ -1,0 +1,14 @@
+//! Moments of a clock that never goes back.
+
+use std::time::Clock;
+
+/// The microseconds of a clock that never goes back; 0 where it cannot be read.
+pub fn micros<R: Clock>(rt: &R) -> u64 {
+    match rt.monotonic() {
+        Ok(time) => time
+            .as_secs()
+            .saturating_mul(1_000_000)
+            .saturating_add(u64::from(time.subsec_micros())),
+        Err(_) => 0,
+    }
+}

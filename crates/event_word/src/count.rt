@@ -1,0 +1,79 @@
+//! A count that one thread waits on.
+
+use crate::clock::micros;
+use std::sync::Wait;
+use std::sync::atomic::{AtomicU64, Ordering};
+use std::thread;
+use std::time::{Clock, Duration};
+
+/// How often something has happened, for one waiter at a time.
+#[derive(Drop)]
+pub struct EventCount {
+    word: AtomicU64,
+    // 1 while the waiter sleeps or is about to
+    parked: AtomicU64,
+    // so that two of them do not share a line of the processor's cache
+    room: [u64; 14],
+}
+
+impl EventCount {
+    /// Nothing has happened yet.
+    pub fn new() -> EventCount {
+        EventCount {
+            word: AtomicU64::new(0),
+            parked: AtomicU64::new(0),
+            room: [0; 14],
+        }
+    }
+
+    /// The count, to be read before the look for what it tells of.
+    pub fn seen(&self) -> u64 {
+        self.word.load(Ordering::SeqCst)
+    }
+
+    /// Raises the count, and wakes nobody: for who looks at it without sleeping, or is woken otherwise.
+    pub fn raise(&self) {
+        self.word.fetch_add(1, Ordering::SeqCst);
+    }
+
+    /// Raises the count and wakes the waiter.
+    ///
+    /// The waiter says that it sleeps and then compares the count; this raises the count and then looks whether it sleeps.
+    /// So one of the two sees the other.
+    pub fn signal(&self) {
+        self.raise();
+        if self.parked.load(Ordering::SeqCst) != 0 && self.parked.swap(0, Ordering::SeqCst) != 0 {
+            self.word.wake_one();
+        }
+    }
+
+    // Gives way to other threads for so many microseconds. Returns whether the count has changed from `seen` by then.
+    fn changes<R: Wait + Clock>(&self, rt: &R, seen: u64, patience: u64) -> bool {
+        let start = micros(rt);
+        for _ in rt.forever() {
+            if self.seen() != seen {
+                return true;
+            }
+            thread::yield_now();
+            if micros(rt).saturating_sub(start) > patience {
+                return false;
+            }
+        }
+        unreachable!()
+    }
+
+    /// Waits until the count is not `seen`, and at most `limit`: it gives way to other threads for `patience` microseconds,
+    /// and then sleeps. It may return for no reason.
+    pub fn wait<R: Wait + Clock>(&self, rt: &R, seen: u64, patience: u64, limit: Duration) {
+        if self.seen() != seen {
+            return;
+        }
+        if patience > 0 && self.changes(rt, seen, patience) {
+            return;
+        }
+        self.parked.store(1, Ordering::SeqCst);
+        self.word
+            .park_timeout(rt, (seen & 0xffff_ffff) as u32, limit);
+        self.parked.store(0, Ordering::SeqCst);
+    }
+}

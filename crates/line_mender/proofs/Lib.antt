@@ -1,0 +1,3 @@
+mod Taking
+mod Passing
+mod Aborting

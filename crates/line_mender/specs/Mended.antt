@@ -1,0 +1,76 @@
+-- Control text as it comes, and with the octets that urgent data took.
+use Rattle.std.specs.Prelude.{ℕ, ◌+◌, Bool, true, false, not, ◌&&◌, ◌||◌, nat_eq, nat_le, nat_lt, if◌then◌else◌, List, [], ◌∷◌, ◌++◌, refl}
+use Rattle.std.specs.Char.{to_ascii_uppercase}
+use Rattle.std.specs.Coded.{Coded, code_by, coded×, coded_ℕ, coded_bool}
+use Rattle.std.specs.List.{fold}
+
+-- What a reader meets: an octet, or that for a while none came.
+pub data Met : Type 0 where
+  Octet : ℕ → Met
+  Silence : Met
+
+-- What is known of the open line: how many octets of ABOR CR it is, or 6 where it is another; whether the octet before was
+-- IAC (255); and whether the LF of a line that was ended without it may still come.
+pub record Open : Type 0 where
+  pub line : ℕ
+  pub behind_iac : Bool
+  pub is_late : Bool
+
+abbrev pub at_start : Open
+at_start = record { line = 0; behind_iac = false; is_late = false }
+
+-- the octets of ABOR CR
+abbrev pub letter_at : ℕ → ℕ
+letter_at place =
+    if nat_eq place 0 then 65 else if nat_eq place 1 then 66 else if nat_eq place 2 then 79 else if nat_eq place 3 then 82 else 13
+
+-- How much of ABOR CR the open line is with one octet more. Octets of 128 and above, as those of Telnet commands, are not
+-- counted.
+abbrev pub line_after : ℕ → ℕ → ℕ
+line_after line octet =
+    if nat_eq octet 10 then 0
+    else if nat_le 128 octet then line
+    else if nat_lt line 5 && nat_eq (to_ascii_uppercase octet) (letter_at line) then line + 1
+    else 6
+
+abbrev pub after : Open → ℕ → Open
+after known octet = record { line = line_after known.line octet; behind_iac = nat_eq octet 255; is_late = false }
+
+-- A DM (242) where a line begins, and not behind an IAC: the IAC before it was urgent. And the late LF of a line that was
+-- ended without it.
+abbrev pub is_stray : Open → ℕ → Bool
+is_stray known octet =
+    (known.is_late && nat_eq octet 10) || (nat_eq octet 242 && nat_eq known.line 0 && not known.behind_iac)
+
+abbrev pub kept_of : Open → ℕ → List ℕ
+kept_of known octet = if is_stray known octet then [] else octet ∷ []
+
+abbrev pub after_all : Open → List ℕ → Open
+after_all known octets = fold after known octets
+
+-- octets without those that are stray
+abbrev pub kept : Open → List ℕ → List ℕ
+kept known [] = []
+kept known (octet ∷ octets) = kept_of known octet ++ kept (after known octet) octets
+
+-- the open line is ABOR CR, whose LF was urgent where none comes
+abbrev pub is_cut : Open → Bool
+is_cut known = nat_eq known.line 5
+
+-- a silence ends such a line
+abbrev pub after_silence : Open → Open
+after_silence known = if is_cut known then record { line = 0; behind_iac = known.behind_iac; is_late = true } else known
+
+abbrev pub ending_of : Open → List ℕ
+ending_of known = if is_cut known then 10 ∷ [] else []
+
+-- what is handed on of what is met
+abbrev pub mended : Open → List Met → List ℕ
+mended known [] = []
+mended known (Octet octet ∷ all) = kept_of known octet ++ mended (after known octet) all
+mended known (Silence ∷ all) = ending_of known ++ mended (after_silence known) all
+
+-- a code, by which proofs tell values apart
+abbrev pub open_code : Coded Open
+open_code = code_by (ℕ × (Bool × Bool)) (coded× coded_ℕ (coded× coded_bool coded_bool))
+    (λ o. (o.line, (o.behind_iac, o.is_late))) (λ p. record { line = p.0; behind_iac = p.1.0; is_late = p.1.1 }) (λ _. refl)

@@ -1,0 +1,24 @@
+//! The octets of a control text that urgent data took.
+//!
+//! A client that aborts a transfer may send a part of its line as urgent data (RFC 854, the Synch of Telnet; RFC 959, section
+//! 4.1.3). A socket that does not read urgent data among the rest loses one octet then: the LF of `ABOR CR LF`, or the second
+//! IAC of `IAC IP IAC DM`. A [`Mender`] stands between what is read and the reader of lines. It ends an open line that is
+//! just `ABOR CR` once nothing more has come for a while, and takes out a DM that stands where a line begins, and not behind
+//! an IAC. All else passes as it is: octet for octet, however the text is cut.
+//!
+//! ```text
+//! let mut mender = Mender::new();
+//! let mut read = *b"ABOR\r"; // the LF was urgent
+//! assert!(rt; mender.mend(&mut read) == 5);
+//! assert!(rt; mender.silence()); // an LF is to be handed on
+//! let mut late = *b"\nNOOP\r\n"; // should it come yet, it is taken out
+//! assert!(rt; mender.mend(&mut late) == 6);
+//! assert!(rt; &late[..6] == b"NOOP\r\n".as_slice());
+//! ```
+#![tactic(auto)]
+
+mod laws;
+mod mender;
+
+pub use laws::{aborts_are_ended, marks_are_taken_out, text_passes};
+pub use mender::Mender;

@@ -1,0 +1,3 @@
+mod Unleased
+mod Leasing
+mod Givings

@@ -1,0 +1,15 @@
+mod Shares
+mod Offers
+mod Kept
+mod Lost
+mod Floors
+mod Sessions
+mod Mapped
+mod Promised
+mod Keys
+mod Places
+mod NewPaces
+mod GroupsIn
+mod UsersIn
+mod HandedIn
+mod Keeping

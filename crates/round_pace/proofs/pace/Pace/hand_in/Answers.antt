@@ -1,0 +1,51 @@
+use Rattle.std.proofs.Common.{◌≡◌, ◌∙◌}
+use Rattle.round_pace.specs.Offered.{left_rates}
+use Rattle.round_pace.specs.Paced.{Paced}
+use Rattle.round_pace.proofs.HandedIn.{hands_rows_in}
+use Rattle.round_pace.proofs.Keeping.{offered_all, groups_offered, users_offered}
+use Rattle.round_pace.proofs.pace.Pace.hand_in.Goals as goal
+
+pub invariant_of-self : goal.invariant_of-self
+invariant_of-self g c =
+    let kept = c.self.invariant in
+    let p : Paced = record {
+      begun = c.self.inside.begun;
+      moment = c.self.inside.moment;
+      server = c.self.inside.server;
+      down = c.self.inside.down;
+      up = c.self.inside.up;
+      groups = c.self.inside.groups.items;
+      users = c.self.inside.users.items;
+      offered = c.self.inside.offered;
+    } in
+    let put = offered_all c.args.begun c.args.tick p c.credit_rate.result c.credit_rate-2.result c.credit_rate-3.result c.put_line.new.self c.put_groups.new.offered c.put_users.new.offered c.deref.result.now c.deref-2.result.now
+    c.credit_rate.ensures.rate c.credit_rate-2.ensures.rate c.credit_rate-3.ensures.rate c.put_line.ensures.put c.deref.ensures.value c.put_groups.ensures.put c.deref-2.ensures.value c.put_users.ensures.put in
+    let rates : c.put_users.new.offered ≡ left_rates c.args.begun c.args.tick p = put ∙ hands_rows_in c.args.begun c.args.tick p kept.groups_rise kept.users_rise kept.are_groups kept.are_users in
+    record {
+      server_fits = kept.server_fits;
+      down_fits = kept.down_fits;
+      up_fits = kept.up_fits;
+      groups_fit = kept.groups_fit;
+      users_fit = kept.users_fit;
+      groups_rise = kept.groups_rise;
+      users_rise = kept.users_rise;
+      are_groups = groups_offered c.args.begun c.args.tick p c.put_users.new.offered rates;
+      are_users = users_offered c.args.begun c.args.tick p c.put_users.new.offered rates;
+    }
+
+pub returns-clause-handed : goal.returns-clause-handed
+returns-clause-handed g c =
+    let kept = c.self.invariant in
+    let p : Paced = record {
+      begun = c.self.inside.begun;
+      moment = c.self.inside.moment;
+      server = c.self.inside.server;
+      down = c.self.inside.down;
+      up = c.self.inside.up;
+      groups = c.self.inside.groups.items;
+      users = c.self.inside.users.items;
+      offered = c.self.inside.offered;
+    } in
+    let put = offered_all c.args.begun c.args.tick p c.credit_rate.result c.credit_rate-2.result c.credit_rate-3.result c.put_line.new.self c.put_groups.new.offered c.put_users.new.offered c.deref.result.now c.deref-2.result.now
+    c.credit_rate.ensures.rate c.credit_rate-2.ensures.rate c.credit_rate-3.ensures.rate c.put_line.ensures.put c.deref.ensures.value c.put_groups.ensures.put c.deref-2.ensures.value c.put_users.ensures.put in
+    put ∙ hands_rows_in c.args.begun c.args.tick p kept.groups_rise kept.users_rise kept.are_groups kept.are_users

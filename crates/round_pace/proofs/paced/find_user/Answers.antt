@@ -1,0 +1,17 @@
+use Rattle.std.proofs.Common.{rules}
+use Rattle.std.proofs.lemmas.List.Sorted.{answers_always}
+use Rattle.round_pace.specs.Paced.{pace_number}
+use Rattle.round_pace.proofs.Places.{at_place, at_none}
+use Rattle.round_pace.proofs.paced.find_user.Goals as goal
+
+pub returns-in-Ok : goal.returns-in-Ok
+returns-in-Ok c = record {
+  place = at_place pace_number c.args.users.now c.args.user c.in-Ok.place c.binary_search_by_key.result c.in-Ok.is c.requires.rising c.binary_search_by_key.ensures.bound
+      (c.binary_search_by_key.ensures.position pace_number (answers_always _ _ _ (λ f a r g called. search rules)));
+}
+
+pub returns-in-Err : goal.returns-in-Err
+returns-in-Err c = record {
+  place = at_none pace_number c.args.users.now c.args.user c.in-Err.field-0 c.binary_search_by_key.result c.in-Err.is c.requires.rising c.binary_search_by_key.ensures.bound
+      (c.binary_search_by_key.ensures.position pace_number (answers_always _ _ _ (λ f a r g called. search rules)));
+}

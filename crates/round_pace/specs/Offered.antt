@@ -1,0 +1,113 @@
+-- What a round is handed, and when the next one may be held.
+use Rattle.std.specs.Prelude.{◌≡◌, ℕ, ◌+◌, ◌-◌, ◌*◌, ◌^◌, ◌&&◌, ◌||◌, min, nat_le, if◌then◌else◌, List, map}
+use Rattle.std.specs.List.{fold}
+use Rattle.line_rates.specs.declared.row.GroupRate.{GroupRate}
+use Rattle.line_rates.specs.declared.row.UserRate.{UserRate}
+use Rattle.line_rates.specs.Put.{with_user, with_group, with_line}
+use Rattle.line_rates.specs.Rates.{Rates}
+use Rattle.line_rates.specs.Stated.{stated, IsRising}
+use Rattle.round_pace.specs.declared.credit.Credit.{Credit}
+use Rattle.round_pace.specs.declared.due.Due.{Due}
+use Rattle.round_pace.specs.declared.due.Due.TheVariants.{Now, At}
+use Rattle.round_pace.specs.declared.paced.GroupPace.{GroupPace}
+use Rattle.round_pace.specs.declared.paced.UserPace.{UserPace}
+use Rattle.round_pace.specs.Credits.{refill_row, is_dry}
+use Rattle.round_pace.specs.Earned.{tick_of, as_rate, session_offered}
+use Rattle.round_pace.specs.FloorsFit.{floor_in}
+use Rattle.round_pace.specs.Paced.{Paced, group_key, pace_number, AreTheGroups, AreTheUsers}
+
+abbrev pub refill_group : ℕ → ℕ → GroupPace → GroupPace
+refill_group begun tick g =
+    record { group = g.group; down = refill_row begun tick g.down; up = refill_row begun tick g.up }
+
+abbrev pub refill_user : ℕ → ℕ → UserPace → UserPace
+refill_user begun tick u =
+    record { row = u.row; down = refill_row begun tick u.down; up = refill_row begun tick u.up }
+
+-- all rows after the refill, at the first round of a tick
+abbrev pub refill_all : ℕ → Paced → Paced
+refill_all tick p = if nat_le p.begun tick then record {
+  begun = tick + 1;
+  moment = p.moment;
+  server = refill_row p.begun tick p.server;
+  down = refill_row p.begun tick p.down;
+  up = refill_row p.begun tick p.up;
+  groups = map (refill_group p.begun tick) p.groups;
+  users = map (refill_user p.begun tick) p.users;
+  offered = p.offered;
+} else p
+
+abbrev pub credit_rate : Credit → ℕ
+credit_rate c = as_rate c.rate c.left
+
+abbrev pub session_rate : ℕ → ℕ → ℕ → ℕ
+session_rate rate begun tick = as_rate rate (session_offered rate begun tick)
+
+-- what a session is guaranteed in a round, in the first round of a tick
+abbrev pub floor_rate : ℕ → ℕ → ℕ → ℕ
+floor_rate floor begun tick = if nat_le begun tick then 10 * floor_in begun tick floor else 0
+
+abbrev pub offer_group : GroupPace → GroupRate
+offer_group g = record { group = g.group; down = credit_rate g.down; up = credit_rate g.up }
+
+-- a user's row for a round in a tick, where so many ticks had begun before it
+abbrev pub offer_user : ℕ → ℕ → UserPace → UserRate
+offer_user begun tick u = record {
+  user = u.row.user;
+  group = u.row.group;
+  down = credit_rate u.down;
+  up = credit_rate u.up;
+  session_down = session_rate u.row.session_down begun tick;
+  session_up = session_rate u.row.session_up begun tick;
+  session_down_floor = floor_rate u.row.session_down_floor begun tick;
+  session_up_floor = floor_rate u.row.session_up_floor begun tick;
+}
+
+abbrev pub put_groups : Rates → List GroupPace → Rates
+put_groups rates groups = fold (λ r g. with_group r (offer_group g)) rates groups
+
+abbrev pub put_users : ℕ → ℕ → Rates → List UserPace → Rates
+put_users begun tick rates users = fold (λ r u. with_user r (offer_user begun tick u)) rates users
+
+abbrev pub put_line : Rates → Paced → Rates
+put_line rates p = with_line rates (credit_rate p.server) (credit_rate p.down) (credit_rate p.up)
+
+-- the rates that a round is handed, as they are put over those of the round before
+abbrev pub offer_all : ℕ → ℕ → Paced → Rates
+offer_all begun tick p = put_users begun tick (put_groups (put_line p.offered p) p.groups) p.users
+
+abbrev pub with_offered : Rates → Paced → Paced
+with_offered rates p = record {
+  begun = p.begun;
+  moment = min (p.moment + 1000) (2 ^ 64 - 1);
+  server = p.server;
+  down = p.down;
+  up = p.up;
+  groups = p.groups;
+  users = p.users;
+  offered = rates;
+}
+
+-- The pace after a round was offered in a tick: the rows are filled if it is the first of the tick, the moment is a
+-- second later, and the rates are those of the rows.
+abbrev pub offer_round : ℕ → Paced → Paced
+offer_round tick p = with_offered (offer_all p.begun tick (refill_all tick p)) (refill_all tick p)
+
+-- the rates of the rows: what is left under each rate
+abbrev pub left_rates : ℕ → ℕ → Paced → Rates
+left_rates begun tick p = stated (credit_rate p.server) (credit_rate p.down) (credit_rate p.up)
+    (map offer_group p.groups) (map (offer_user begun tick) p.users)
+
+-- What is handed in are the rates of the rows, and no other row.
+abbrev pub HandsRowsIn : Type 0
+HandsRowsIn = (begun tick : ℕ) (p : Paced) → IsRising group_key p.groups → IsRising pace_number p.users
+    → AreTheGroups p.offered p.groups → AreTheUsers p.offered p.users
+    → offer_all begun tick p ≡ left_rates begun tick p
+
+-- when the next round may be held: now in a tick that has not begun and while something can be granted, and else as the
+-- next tick begins
+abbrev pub due_in : Paced → ℕ → Due
+due_in p now =
+    if nat_le p.begun (tick_of now) then Now
+    else if is_dry p.server || (is_dry p.down && is_dry p.up) then At (min (p.begun * 2000) (2 ^ 64 - 1))
+    else Now

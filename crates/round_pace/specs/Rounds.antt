@@ -1,0 +1,110 @@
+-- Rounds under a rate, and what they grant in a second.
+use Rattle.std.specs.Prelude.{◌≡◌, ℕ, ◌+◌, ◌-◌, ◌*◌, ◌/◌, ◌<◌, ◌≤◌, Bool, ◌&&◌, nat_eq, nat_le, nat_lt, if◌then◌else◌, List, [], ◌∷◌, sum_by}
+use Rattle.line_rates.specs.declared.rate.TheConstants.{MAX_RATE}
+use Rattle.round_pace.specs.Earned.{tick_of, offered, session_offered, uncut, most_kept, share}
+
+-- a round: its real moment in microseconds, and what it granted under the rate
+pub record Round : Type 0 where
+  pub now : ℕ
+  pub granted : ℕ
+
+-- what is left after a round
+abbrev pub left_after : ℕ → ℕ → ℕ → Round → ℕ
+left_after rate left begun r = offered rate left begun (tick_of r.now) - r.granted
+
+-- so many ticks have begun after a round
+abbrev pub begun_after : Round → ℕ
+begun_after r = tick_of r.now + 1
+
+-- Rounds from where so much is left and so many ticks have begun: none comes in an earlier tick than the one before it,
+-- and each grants at most what it is offered.
+abbrev pub AreRounds : ℕ → ℕ → ℕ → List Round → Type 0
+AreRounds rate left begun [] = Unit {0}
+AreRounds rate left begun (r ∷ rs) = (begun ≤ begun_after r)
+    × (r.granted ≤ offered rate left begun (tick_of r.now))
+    × AreRounds rate (left_after rate left begun r) (begun_after r) rs
+
+-- what those rounds grant that a test tells
+abbrev pub granted_where : (Round → Bool) → List Round → ℕ
+granted_where test rounds = sum_by (λ r. if test r then r.granted else 0) rounds
+
+-- the round is in a second of the clock
+abbrev pub is_in : ℕ → Round → Bool
+is_in second r = nat_eq (r.now / 1000000) second
+
+-- the round is in the second that begins at a moment
+abbrev pub is_from : ℕ → Round → Bool
+is_from start r = nat_le start r.now && nat_lt r.now (start + 1000000)
+
+-- In each second of the clock at most the rate is granted,
+abbrev pub KeepsSeconds : Type 0
+KeepsSeconds = (rate begun : ℕ) (rounds : List Round) → AreRounds rate 0 begun rounds
+    → (second : ℕ) → granted_where (is_in second) rounds ≤ rate
+
+-- and in a second that begins at any microsecond at most the rate and what is kept.
+abbrev pub KeepsWindows : Type 0
+KeepsWindows = (rate begun : ℕ) (rounds : List Round) → AreRounds rate 0 begun rounds
+    → (start : ℕ) → granted_where (is_from start) rounds ≤ rate + most_kept rate
+
+-- the rounds are all in one second
+abbrev pub AreIn : ℕ → List Round → Type 0
+AreIn second [] = Unit {0}
+AreIn second (r ∷ rs) = (r.now / 1000000 ≡ second) × AreIn second rs
+
+-- no refill comes to more than what is kept
+abbrev pub AreUncut : ℕ → ℕ → ℕ → List Round → Type 0
+AreUncut rate left begun [] = Unit {0}
+AreUncut rate left begun (r ∷ rs) =
+    (begun ≤ tick_of r.now → uncut rate left begun (tick_of r.now) ≤ most_kept rate)
+    × AreUncut rate (left_after rate left begun r) (begun_after r) rs
+
+-- what is left after all rounds, and how many ticks have begun then
+abbrev pub left_last : ℕ → ℕ → ℕ → List Round → ℕ
+left_last rate left begun [] = left
+left_last rate left begun (r ∷ rs) = left_last rate (left_after rate left begun r) (begun_after r) rs
+
+abbrev pub begun_last : ℕ → List Round → ℕ
+begun_last begun [] = begun
+begun_last begun (r ∷ rs) = begun_last (begun_after r) rs
+
+abbrev pub granted_of : Round → ℕ
+granted_of r = r.granted
+
+-- What the rounds of a second have granted, and what is left then, is what was earned in the second.
+abbrev pub LosesNothing : Type 0
+LosesNothing = (rate left begun second : ℕ) (r : Round) (rs : List Round) → begun ≤ 500 * second
+    → AreRounds rate left begun (r ∷ rs) → AreIn second (r ∷ rs) → AreUncut rate left begun (r ∷ rs)
+    → sum_by granted_of (r ∷ rs) + left_last rate left begun (r ∷ rs)
+    ≡ share rate (begun_last begun (r ∷ rs) - 500 * second)
+
+-- whenever a tick begins nothing is left of the one before it, nor is at the end
+abbrev pub AreDrained : ℕ → ℕ → ℕ → List Round → Type 0
+AreDrained rate left begun [] = left ≡ 0
+AreDrained rate left begun (r ∷ rs) = (begun ≤ tick_of r.now → left ≡ 0)
+    × AreDrained rate (left_after rate left begun r) (begun_after r) rs
+
+-- each round comes at most 49 ticks after the one before it
+abbrev pub ArePrompt : ℕ → List Round → Type 0
+ArePrompt begun [] = Unit {0}
+ArePrompt begun (r ∷ rs) = (tick_of r.now < begun + 49) × ArePrompt (begun_after r) rs
+
+-- Rounds of a second that come in time from its beginning to its last tick, and leave nothing of a tick to the next,
+-- grant just the rate. A tick may have many rounds, of which some grant less than they are offered.
+abbrev pub ReachesRates : Type 0
+ReachesRates = (rate left begun second : ℕ) (r : Round) (rs : List Round) → rate ≤ MAX_RATE → begun ≤ 500 * second
+    → AreRounds rate left begun (r ∷ rs) → AreIn second (r ∷ rs)
+    → AreDrained rate (left_after rate left begun r) (begun_after r) rs
+    → ArePrompt (500 * second) (r ∷ rs) → begun_last begun (r ∷ rs) ≡ 500 * second + 500
+    → sum_by granted_of (r ∷ rs) ≡ rate
+
+-- Rounds under a session's rate: in those in which the session does not ask it is granted nothing.
+abbrev pub AreSessionRounds : ℕ → ℕ → List Round → Type 0
+AreSessionRounds rate begun [] = Unit {0}
+AreSessionRounds rate begun (r ∷ rs) = (begun ≤ begun_after r)
+    × (r.granted ≤ session_offered rate begun (tick_of r.now))
+    × AreSessionRounds rate (begun_after r) rs
+
+-- They are rounds as under any other rate, so a session's rate is kept as others are.
+abbrev pub SessionsAreRounds : Type 0
+SessionsAreRounds = (rate left begun : ℕ) (rounds : List Round) → AreSessionRounds rate begun rounds
+    → AreRounds rate left begun rounds

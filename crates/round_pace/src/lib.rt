@@ -1,0 +1,32 @@
+//! The pace of rounds: which moment and which limits each round is handed.
+//!
+//! Rounds may be held as often as someone asks. A [`Pace`] counts real ticks, 500 in a second. As a tick begins, each rate earns
+//! what falls into it; a round is offered what its rates have earned and no round has granted, and what it grants is taken
+//! from that. So the rounds of any second of the clock grant at most the rate, however many they are, and however late.
+//!
+//! ```text
+//! let alloc = rt.alloc();
+//! // 1,000 octets a second
+//! let limits = Limits::of(1_000, 0, 0, Vec::new(alloc), Vec::new(alloc))?;
+//! let mut pace = Pace::of(alloc, limits, 0)?;
+//! assert!(rt; pace.offer(0) == 1_000); // the moment of the first round
+//! assert!(rt; pace.limits().rate(Name::Server) == 21); // which lets 2 octets through then
+//! pace.took(Way::Down, 7, 2); // granted to user 7
+//! assert!(rt; pace.due(1_999) == Due::At(2_000)); // when the next tick begins
+//! ```
+#![tactic(auto)]
+
+mod credit;
+mod due;
+mod laws;
+mod pace;
+mod paced;
+
+pub use credit::{Credit, MOST_OFFERED, TICK_MICROS, TICKS};
+pub use due::Due;
+pub use laws::{
+    credits_are_offered, floors_fit_what_is_offered, nothing_is_lost, rates_are_kept,
+    rates_are_reached, rows_are_handed_in,
+};
+pub use pace::Pace;
+pub use paced::{GroupPace, UserPace};

@@ -1,0 +1,195 @@
+//! The pace of rounds over the rates of a line.
+
+ghost use Rattle.std.specs.Prelude.{◌≡◌, ◌<◌, ◌^◌, IfOk, map};
+ghost use Rattle.std.specs.List.{All};
+ghost use Rattle.line_rates.specs.Stated.{FitsGroup, FitsUser};
+ghost use Rattle.round_pace.specs.Earned.{tick_of};
+ghost use Rattle.round_pace.specs.Offered.{refill_all, offer_all, with_offered, offer_round, left_rates, due_in};
+ghost use Rattle.round_pace.specs.Paced.{Paced, IsGroupPace, IsUserPace, new_group, new_user, IsPacedFrom};
+ghost use Rattle.round_pace.specs.Taken.{take_octets};
+
+use crate::credit::{Credit, TICK_MICROS, is_dry, refill_row, take_row};
+use crate::due::Due;
+use crate::paced::{
+    GroupPace, UserPace, credit_rate, group_of, put_groups, put_users, refill_groups, refill_users,
+    take_groups, take_if_down, take_if_up, take_users,
+};
+use line_rates::{GroupRate, Limits, Name, UserRate, Way};
+use std::alloc::{AllocError, Allocator, Global};
+use std::marker::Model;
+
+/// What rates have earned and no round has granted, and the limits that a round is handed.
+#[derive(Drop)]
+pub struct Pace<A: Allocator = Global> {
+    begun: u64,
+    moment: u64,
+    server: Credit,
+    down: Credit,
+    up: Credit,
+    groups: Vec<GroupPace, A>,
+    users: Vec<UserPace, A>,
+    offered: Limits<A>,
+}
+
+impl<A: Allocator> Model for Pace<A> {
+    ghost use Rattle.round_pace.specs.Paced.{Paced, IsPaced, paced_code};
+
+    ghost Value = { Paced };
+
+    ghost coded = { paced_code };
+
+    ghost view = { λ p. record { begun = p.begun; moment = p.moment; server = p.server; down = p.down; up = p.up; groups = p.groups.items; users = p.users.items; offered = p.offered } };
+
+    ghost invariant = { λ p. IsPaced p.server p.down p.up p.groups.items p.users.items p.offered };
+}
+
+fn new_groups<A: Allocator>(alloc: A, rows: &[GroupRate]) -> Result<Vec<GroupPace, A>, AllocError>
+    ensures groups { IfOk result (λ groups. groups.items ≡ map new_group rows.now) }
+{
+    let mut groups = Vec::new(alloc);
+    for row in rows {
+        groups.push(GroupPace {
+            group: row.group,
+            down: Credit {
+                rate: row.down,
+                left: 0,
+            },
+            up: Credit {
+                rate: row.up,
+                left: 0,
+            },
+        })?;
+    }
+    Ok(groups)
+}
+
+fn new_users<A: Allocator>(alloc: A, rows: &[UserRate]) -> Result<Vec<UserPace, A>, AllocError>
+    ensures users { IfOk result (λ users. users.items ≡ map new_user rows.now) }
+{
+    let mut users = Vec::new(alloc);
+    for row in rows {
+        users.push(UserPace {
+            row: *row,
+            down: Credit {
+                rate: row.down,
+                left: 0,
+            },
+            up: Credit {
+                rate: row.up,
+                left: 0,
+            },
+        })?;
+    }
+    Ok(users)
+}
+
+impl<A: Allocator + Clone> Pace<A> {
+    /// The pace of the rates of limits, with nothing earned, from a moment on in microseconds.
+    pub fn of(alloc: A, limits: Limits<A>, now: u64) -> Result<Pace<A>, AllocError>
+        ensures rates { IfOk result (λ p. IsPacedFrom (tick_of now) limits p) }
+    {
+        let groups = new_groups(alloc.clone()?, limits.groups())?;
+        let users = new_users(alloc, limits.users())?;
+        let server = limits.rate(Name::Server);
+        let down = limits.rate(Name::Direction(Way::Down));
+        let up = limits.rate(Name::Direction(Way::Up));
+        Ok(Pace {
+            begun: now / TICK_MICROS,
+            moment: 0,
+            server: Credit {
+                rate: server,
+                left: 0,
+            },
+            down: Credit {
+                rate: down,
+                left: 0,
+            },
+            up: Credit { rate: up, left: 0 },
+            groups,
+            users,
+            offered: limits,
+        })
+    }
+}
+
+impl<A: Allocator> Pace<A> {
+    // Fills the rows where a tick begins.
+    fn begin(&mut self, tick: u64)
+        requires tick { tick < 2 ^ 63 }
+        ensures begun { self.new ≡ refill_all tick self.old }
+    {
+        let begun = self.begun;
+        if tick < begun {
+            return;
+        }
+        self.server = refill_row(self.server, begun, tick);
+        self.down = refill_row(self.down, begun, tick);
+        self.up = refill_row(self.up, begun, tick);
+        refill_groups(&mut self.groups, begun, tick);
+        refill_users(&mut self.users, begun, tick);
+        self.begun = tick + 1;
+    }
+
+    // Writes what is left into the limits.
+    fn hand_in(&mut self, begun: u64, tick: u64)
+        ensures offered { self.new ≡ with_offered (offer_all begun tick self.old) self.old }
+        ensures handed { self.new.offered ≡ left_rates begun tick self.new }
+    {
+        self.offered.put_line(
+            credit_rate(self.server),
+            credit_rate(self.down),
+            credit_rate(self.up),
+        );
+        put_groups(&mut self.offered, &self.groups);
+        put_users(&mut self.offered, &self.users, begun, tick);
+        self.moment = self.moment.saturating_add(1_000);
+    }
+
+    /// The moment of a round that is held now, in milliseconds of its own count; `limits` tells its limits. Takes no
+    /// memory.
+    pub fn offer(&mut self, now: u64) -> u64
+        ensures round { self.new ≡ offer_round (tick_of now) self.old }
+        ensures handed { self.new.offered ≡ left_rates self.old.begun (tick_of now) self.new }
+        ensures moment { result ≡ self.new.moment }
+    {
+        let tick = now / TICK_MICROS;
+        let begun = self.begun;
+        self.begin(tick);
+        self.hand_in(begun, tick);
+        self.moment
+    }
+
+    /// The limits of the round that was offered last.
+    pub fn limits(&self) -> &Limits<A>
+        ensures limits { result.now ≡ self.now.offered }
+    {
+        &self.offered
+    }
+
+    /// Takes octets that a round granted to a user: from what is left under the rates of the server, of the way, of the
+    /// user and of their group.
+    pub fn took(&mut self, way: Way, user: u32, octets: u64)
+        ensures taken { self.new ≡ take_octets way user octets self.old }
+    {
+        let group = group_of(&self.users, user);
+        self.server = take_row(self.server, octets);
+        self.down = take_if_down(self.down, way, octets);
+        self.up = take_if_up(self.up, way, octets);
+        take_groups(&mut self.groups, group, way, octets);
+        take_users(&mut self.users, user, way, octets);
+    }
+
+    /// When the next round may be held: at once where it is the first of its tick or something can be granted, and else
+    /// as the next tick begins.
+    pub fn due(&self, now: u64) -> Due
+        ensures due { result ≡ due_in self.now now }
+    {
+        if self.begun <= now / TICK_MICROS {
+            return Due::Now;
+        }
+        if is_dry(self.server) || is_dry(self.down) && is_dry(self.up) {
+            return Due::At(self.begun.saturating_mul(TICK_MICROS));
+        }
+        Due::Now
+    }
+}

@@ -1,0 +1,293 @@
+//! The rates of groups and users, paced.
+
+ghost use Rattle.std.specs.Prelude.{◌≡◌, ◌≤◌, map, Some};
+ghost use Rattle.std.specs.List.{All};
+ghost use Rattle.line_rates.specs.Put.{FindsPlace};
+ghost use Rattle.line_rates.specs.Stated.{FitsGroup, FitsUser, IsRising};
+ghost use Rattle.round_pace.specs.Credits.{IsCredit};
+ghost use Rattle.round_pace.specs.Offered.{refill_group, refill_user, credit_rate, session_rate, floor_rate, offer_group, offer_user, put_groups, put_users};
+ghost use Rattle.round_pace.specs.Paced.{group_key, pace_number, IsGroupPace, IsUserPace};
+ghost use Rattle.round_pace.specs.Taken.{take_if_down, take_if_up, take_group, take_user, group_of, take_users, take_groups};
+
+use crate::credit::{Credit, as_rate, floor_in, refill_row, session_left, take_row};
+use line_rates::{GroupRate, Limits, MAX_RATE, UserRate, Way};
+use std::alloc::Allocator;
+
+/// A group's rates with what is left under each.
+#[derive(Clone, Copy, Debug, PartialEq, Eq)]
+pub struct GroupPace {
+    /// The number of the group.
+    pub group: u32,
+    /// What its users get down.
+    pub down: Credit,
+    /// What they get up.
+    pub up: Credit,
+}
+
+/// A user's rates with what is left under each.
+#[derive(Clone, Copy, Debug, PartialEq, Eq)]
+pub struct UserPace {
+    /// The rates.
+    pub row: UserRate,
+    /// What the user gets down.
+    pub down: Credit,
+    /// What the user gets up.
+    pub up: Credit,
+}
+
+/// The rate that is handed in for what is left of a credit.
+pub fn credit_rate(credit: Credit) -> u64
+    requires credit { IsCredit credit }
+    ensures rate { result ≡ credit_rate credit }
+    ensures most { result ≤ MAX_RATE }
+{
+    as_rate(credit)
+}
+
+fn session_rate(rate: u64, begun: u64, tick: u64) -> u64
+    requires rate { rate ≤ MAX_RATE }
+    ensures rate { result ≡ session_rate rate begun tick }
+    ensures most { result ≤ MAX_RATE }
+{
+    if tick < begun {
+        return as_rate(Credit { rate, left: 0 });
+    }
+    as_rate(Credit {
+        rate,
+        left: session_left(rate, begun, tick),
+    })
+}
+
+fn floor_rate(floor: u64, begun: u64, tick: u64) -> u64
+    requires rate { floor ≤ MAX_RATE }
+    ensures floor { result ≡ floor_rate floor begun tick }
+    ensures most { result ≤ MAX_RATE }
+{
+    if tick < begun {
+        return 0;
+    }
+    10 * floor_in(floor, begun, tick)
+}
+
+fn offer_group(group: GroupPace) -> GroupRate
+    requires group { IsGroupPace group }
+    ensures row { result ≡ offer_group group }
+    ensures fits { FitsGroup result }
+{
+    GroupRate {
+        group: group.group,
+        down: credit_rate(group.down),
+        up: credit_rate(group.up),
+    }
+}
+
+fn offer_user(user: UserPace, begun: u64, tick: u64) -> UserRate
+    requires user { IsUserPace user }
+    ensures row { result ≡ offer_user begun tick user }
+    ensures fits { FitsUser result }
+{
+    UserRate {
+        user: user.row.user,
+        group: user.row.group,
+        down: credit_rate(user.down),
+        up: credit_rate(user.up),
+        session_down: session_rate(user.row.session_down, begun, tick),
+        session_up: session_rate(user.row.session_up, begun, tick),
+        session_down_floor: floor_rate(user.row.session_down_floor, begun, tick),
+        session_up_floor: floor_rate(user.row.session_up_floor, begun, tick),
+    }
+}
+
+fn refill_group(group: GroupPace, begun: u64, tick: u64) -> GroupPace
+    requires group { IsGroupPace group }
+    requires later { begun ≤ tick }
+    ensures group { result ≡ refill_group begun tick group }
+    ensures fits { IsGroupPace result }
+{
+    GroupPace {
+        group: group.group,
+        down: refill_row(group.down, begun, tick),
+        up: refill_row(group.up, begun, tick),
+    }
+}
+
+fn refill_user(user: UserPace, begun: u64, tick: u64) -> UserPace
+    requires user { IsUserPace user }
+    requires later { begun ≤ tick }
+    ensures user { result ≡ refill_user begun tick user }
+    ensures fits { IsUserPace result }
+{
+    UserPace {
+        row: user.row,
+        down: refill_row(user.down, begun, tick),
+        up: refill_row(user.up, begun, tick),
+    }
+}
+
+/// Fills the rows of groups as a tick begins.
+pub fn refill_groups<A: Allocator>(groups: &mut Vec<GroupPace, A>, begun: u64, tick: u64)
+    requires paces { All IsGroupPace groups.old.items }
+    requires later { begun ≤ tick }
+    ensures rows { groups.new.items ≡ map (refill_group begun tick) groups.old.items }
+    ensures paces { All IsGroupPace groups.new.items }
+{
+    for place in 0..groups.len() {
+        groups[place] = refill_group(groups[place], begun, tick);
+    }
+}
+
+/// Fills the rows of users as a tick begins.
+pub fn refill_users<A: Allocator>(users: &mut Vec<UserPace, A>, begun: u64, tick: u64)
+    requires paces { All IsUserPace users.old.items }
+    requires later { begun ≤ tick }
+    ensures rows { users.new.items ≡ map (refill_user begun tick) users.old.items }
+    ensures paces { All IsUserPace users.new.items }
+{
+    for place in 0..users.len() {
+        users[place] = refill_user(users[place], begun, tick);
+    }
+}
+
+/// Hands the rows of groups in.
+pub fn put_groups<L: Allocator>(offered: &mut Limits<L>, groups: &[GroupPace])
+    requires paces { All IsGroupPace groups.now }
+    ensures put { offered.new ≡ put_groups offered.old groups.now }
+{
+    for group in groups {
+        offered.put_group(offer_group(*group));
+    }
+}
+
+/// Hands the rows of users in.
+pub fn put_users<L: Allocator>(offered: &mut Limits<L>, users: &[UserPace], begun: u64, tick: u64)
+    requires paces { All IsUserPace users.now }
+    ensures put { offered.new ≡ put_users begun tick offered.old users.now }
+{
+    for user in users {
+        offered.put_user(offer_user(*user, begun, tick));
+    }
+}
+
+/// The credit of what goes down, less octets that went a way.
+pub fn take_if_down(credit: Credit, way: Way, octets: u64) -> Credit
+    requires credit { IsCredit credit }
+    ensures row { result ≡ take_if_down way octets credit }
+    ensures fits { IsCredit result }
+{
+    match way {
+        Way::Down => take_row(credit, octets),
+        Way::Up => credit,
+    }
+}
+
+/// The credit of what goes up, less octets that went a way.
+pub fn take_if_up(credit: Credit, way: Way, octets: u64) -> Credit
+    requires credit { IsCredit credit }
+    ensures row { result ≡ take_if_up way octets credit }
+    ensures fits { IsCredit result }
+{
+    match way {
+        Way::Down => credit,
+        Way::Up => take_row(credit, octets),
+    }
+}
+
+fn take_group(group: GroupPace, way: Way, octets: u64) -> GroupPace
+    requires group { IsGroupPace group }
+    ensures group { result ≡ take_group way octets group }
+    ensures fits { IsGroupPace result }
+{
+    GroupPace {
+        group: group.group,
+        down: take_if_down(group.down, way, octets),
+        up: take_if_up(group.up, way, octets),
+    }
+}
+
+fn take_user(user: UserPace, way: Way, octets: u64) -> UserPace
+    requires user { IsUserPace user }
+    ensures user { result ≡ take_user way octets user }
+    ensures fits { IsUserPace result }
+{
+    UserPace {
+        row: user.row,
+        down: take_if_down(user.down, way, octets),
+        up: take_if_up(user.up, way, octets),
+    }
+}
+
+// The place of a user's row, by binary search.
+fn find_user(users: &[UserPace], user: u32) -> Option<usize>
+    requires rising { IsRising pace_number users.now }
+    ensures place { FindsPlace pace_number users.now user result }
+{
+    match users.binary_search_by_key(&user, |it| it.row.user) {
+        Ok(place) => Some(place),
+        Err(_) => None,
+    }
+}
+
+// The place of a group's row, by binary search.
+fn find_group(groups: &[GroupPace], group: u32) -> Option<usize>
+    requires rising { IsRising group_key groups.now }
+    ensures place { FindsPlace group_key groups.now group result }
+{
+    match groups.binary_search_by_key(&group, |it| it.group) {
+        Ok(place) => Some(place),
+        Err(_) => None,
+    }
+}
+
+/// The group of a user that has a row.
+pub fn group_of(users: &[UserPace], user: u32) -> Option<u32>
+    requires rising { IsRising pace_number users.now }
+    ensures group { result ≡ group_of users.now user }
+{
+    match find_user(users, user) {
+        Some(place) => users[place].row.group,
+        None => None,
+    }
+}
+
+/// Takes octets from the row of a user, if they have one.
+pub fn take_users<A: Allocator>(users: &mut Vec<UserPace, A>, user: u32, way: Way, octets: u64)
+    requires paces { All IsUserPace users.old.items }
+    requires rising { IsRising pace_number users.old.items }
+    ensures taken { users.new.items ≡ take_users way user octets users.old.items }
+    ensures paces { All IsUserPace users.new.items }
+{
+    match find_user(users, user) {
+        Some(place) => users[place] = take_user(users[place], way, octets),
+        None => {}
+    }
+}
+
+fn take_from_group<A: Allocator>(groups: &mut Vec<GroupPace, A>, group: u32, way: Way, octets: u64)
+    requires paces { All IsGroupPace groups.old.items }
+    requires rising { IsRising group_key groups.old.items }
+    ensures taken { groups.new.items ≡ take_groups way (Some group) octets groups.old.items }
+    ensures paces { All IsGroupPace groups.new.items }
+{
+    match find_group(groups, group) {
+        Some(place) => groups[place] = take_group(groups[place], way, octets),
+        None => {}
+    }
+}
+
+/// Takes octets from the row of a group, if there is one.
+pub fn take_groups<A: Allocator>(
+    groups: &mut Vec<GroupPace, A>,
+    group: Option<u32>,
+    way: Way,
+    octets: u64,
+)
+    requires paces { All IsGroupPace groups.old.items }
+    requires rising { IsRising group_key groups.old.items }
+    ensures taken { groups.new.items ≡ take_groups way group octets groups.old.items }
+    ensures paces { All IsGroupPace groups.new.items }
+{
+    match group {
+        Some(group) => take_from_group(groups, group, way, octets),
+        None => {}
+    }
+}

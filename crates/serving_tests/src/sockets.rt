@@ -1,0 +1,94 @@
+//! Data connections over the loopback address, and what a session and a lane hand each other.
+
+use crate::expect::holds;
+use data_sockets::{
+    DataConnection, Listing, Served, Told, TransferCell, accept_from, listen, socket_address,
+};
+use line_rates::Way;
+use session_table::{End, Octets};
+use std::alloc::Global;
+use std::io::{Read, Write};
+use std::net::{Net, SocketAddr, TcpListener, TcpStream};
+use std::process::Abort;
+use std::time::Duration;
+use virtual_tree::Source;
+
+const LOOPBACK: [u8; 4] = [127, 0, 0, 1];
+
+#[test]
+fn data_sockets(rt: HostRuntime) {
+    let cell = TransferCell::<u32>::new();
+    cell.name().set(Way::Up, 7);
+    let seen = cell.seen(); // before the transfer is handed over
+    cell.tell(&rt, End::Done, Some(3)); // by the lane
+    cell.wait(&rt, seen, 0, Duration::from_secs(60)); // returns at once
+    let told = cell.take(&rt);
+    holds(
+        &rt,
+        matches!(
+            told,
+            Some(Told {
+                end: End::Done,
+                sink: Some(3)
+            })
+        ),
+    );
+    holds(&rt, cell.take(&rt).is_none()); // told once
+    holds(&rt, cell.name().get() == (Way::Up, 7));
+}
+
+/// A connection to a listener of this machine, and the other end of it.
+fn connected<R>(rt: &R, listener: &TcpListener) -> Option<(TcpStream, TcpStream)>
+where
+    R: Net<Listener = TcpListener, Stream = TcpStream>,
+{
+    let address = listener.local_addr().ok()?;
+    let near = TcpStream::connect(rt, address).ok()?;
+    for _ in 0..1_000_000 {
+        match accept_from(listener, Some(LOOPBACK)) {
+            Some(far) => return Some((near, far)),
+            None => {}
+        }
+    }
+    None
+}
+
+fn talk<R>(rt: &R, listener: &TcpListener)
+where
+    R: Abort + AllocGlobal + Net<Listener = TcpListener, Stream = TcpStream>,
+{
+    let (near, far) = connected(rt, listener).expect(rt, "a connection");
+    let mut connection = DataConnection::new(rt.alloc(), far).expect(rt, "memory");
+    let other = connection.another().expect(rt, "memory");
+    holds(rt, connection.write(b"abc").ok() == Some(3));
+    other.finish();
+    let mut near = near;
+    let mut buffer = [0u8; 8];
+    holds(rt, near.read(&mut buffer).ok() == Some(3));
+    holds(rt, near.read(&mut buffer).ok() == Some(0)); // nothing more is sent
+    other.abort();
+    holds(rt, connection.read(&mut buffer).ok() == Some(0));
+}
+
+#[test]
+fn octets_go_over_the_loopback(rt: HostRuntime) {
+    let listener = listen(&rt, LOOPBACK, 0).expect(&rt, "a port");
+    talk(&rt, &listener);
+    match socket_address(LOOPBACK, 21) {
+        SocketAddr::V4(at) => holds(&rt, at.port() == 21),
+        SocketAddr::V6(_) => holds(&rt, false),
+    }
+}
+
+#[test]
+fn a_listing_is_read_to_its_end(rt: HostRuntime) {
+    let octets = b"ab".to_vec(rt.alloc()).expect(&rt, "memory");
+    let listing = Listing::new(Octets::new(octets));
+    let mut source: Served<Global, Listing<Global>> = Served::Listing(listing);
+    let mut buffer = [0u8; 8];
+    holds(
+        &rt,
+        source.read(&mut buffer).ok() == Some(2) && buffer[1] == b'b',
+    );
+    holds(&rt, source.read(&mut buffer).ok() == Some(0));
+}

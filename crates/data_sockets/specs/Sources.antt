@@ -1,0 +1,8 @@
+-- What is still to be read of a listing or of a file.
+use Rattle.std.specs.Prelude.{ℕ, List, Option, Some}
+use Rattle.data_sockets.specs.declared.served.Served.{Served}
+use Rattle.data_sockets.specs.declared.served.Served.TheVariants.{Listing, File}
+
+abbrev pub left_of : {A R : Type 0} → (R → Option (List ℕ)) → Served A R → Option (List ℕ)
+left_of remaining (Listing listing) = Some listing
+left_of remaining (File source) = remaining source

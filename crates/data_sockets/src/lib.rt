@@ -1,0 +1,39 @@
+//! Data connections over sockets, and what a session and a lane hand each other of a transfer.
+//!
+//! A session listens on a port or connects, and hands the [`DataConnection`] to a lane, which moves octets on it. Both hold
+//! the socket, so the session can shut it down while the lane waits on it. The lane tells the end in a [`TransferCell`], which the
+//! session waits on. What a listing or a file is read from is one type, [`Served`], so that one board takes both.
+//!
+//! ```text
+//! let cell = TransferCell::<u32>::new();
+//! cell.name().set(Way::Up, 7);
+//! let seen = cell.seen(); // before the transfer is handed over
+//! cell.tell(&rt, End::Done, Some(3)); // by the lane
+//! cell.wait(&rt, seen, 0, Duration::from_secs(60)); // returns at once
+//! let told = cell.take(&rt);
+//! holds(
+//!     &rt,
+//!     matches!(
+//!         told,
+//!         Some(Told {
+//!             end: End::Done,
+//!             sink: Some(3)
+//!         })
+//!     ),
+//! );
+//! holds(&rt, cell.take(&rt).is_none()); // told once
+//! holds(&rt, cell.name().get() == (Way::Up, 7));
+//! ```
+#![tactic(auto)]
+
+mod cell;
+mod connection;
+mod name;
+mod passive;
+mod served;
+
+pub use cell::{Told, TransferCell};
+pub use connection::DataConnection;
+pub use name::TransferName;
+pub use passive::{accept_from, listen, socket_address};
+pub use served::{Listing, Served};

@@ -1,0 +1,55 @@
+//! Passive ports: listening, and who may come.
+
+ghost use Rattle.std.specs.Prelude.{◌≡◌};
+
+use std::net::{Ipv4Addr, Net, SocketAddr, SocketAddrV4, TcpListener, TcpStream};
+
+/// How many connections are looked at in one call, before the others have to wait for the next.
+const MOST_STRANGERS: usize = 16;
+
+/// A socket's address.
+pub fn socket_address(address: [u8; 4], port: u16) -> SocketAddr {
+    let [a, b, c, d] = address;
+    SocketAddr::V4(SocketAddrV4::new(Ipv4Addr::new(a, b, c, d), port))
+}
+
+/// Listens on a port, so that `accept_from` does not wait. None if the port cannot be bound.
+pub fn listen<R>(rt: &R, address: [u8; 4], port: u16) -> Option<TcpListener>
+where
+    R: Net<Listener = TcpListener, Stream = TcpStream>,
+{
+    match TcpListener::bind(rt, socket_address(address, port)) {
+        Ok(listener) => match listener.set_nonblocking(true) {
+            Ok(()) => Some(listener),
+            Err(_) => None,
+        },
+        Err(_) => None,
+    }
+}
+
+fn is_from(address: SocketAddr, peer: [u8; 4]) -> bool {
+    match address {
+        SocketAddr::V4(from) => from.ip().octets() == peer,
+        SocketAddr::V6(_) => false,
+    }
+}
+
+/// Returns a connection that has come from this peer, or from anybody if no peer is given. Those of others are closed. None
+/// if no other has come yet.
+pub fn accept_from(listener: &TcpListener, peer: Option<[u8; 4]>) -> Option<TcpStream> {
+    for _ in 0..MOST_STRANGERS {
+        match listener.accept() {
+            Ok((stream, from)) => {
+                let is_wanted = match peer {
+                    Some(peer) => is_from(from, peer),
+                    None => true,
+                };
+                if is_wanted {
+                    return Some(stream);
+                }
+            }
+            Err(_) => return None,
+        }
+    }
+    None
+}

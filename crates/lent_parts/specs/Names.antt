@@ -1,0 +1,34 @@
+-- Parts of the server of a name.
+use Rattle.std.specs.Prelude.{◌≡◌, ℕ, ◌<◌, List, []}
+use Rattle.atomic_table.specs.Seated.{TableId}
+use Rattle.lane_seats.specs.declared.desk.Desk.{Desk}
+use Rattle.lane_seats.specs.declared.seat.LaneSeat.{LaneSeat}
+use Rattle.lane_seats.specs.Seats.{desk_id}
+use Rattle.round_desk.specs.declared.round.RoundDesk.{RoundDesk}
+use Rattle.round_desk.specs.Turns.{back}
+use Rattle.job_board.specs.Boards.{board_id}
+use Rattle.job_board.specs.declared.board.BoardPass.{BoardPass}
+use Rattle.job_board.specs.declared.board.JobBoard.{JobBoard}
+
+-- stands for a table where no desk is named
+abbrev pub no_table : TableId
+no_table = record { words = 0; slots = 0; views_name = 0; atom = 0; block = 0; offset = 0; slot_names = [] }
+
+module _ {N : Type 0} where
+  abbrev pub IsNamed : {A : Type 0} → TableId → ℕ → Desk N A → Type 0
+  IsNamed table lanes desk = (desk_id desk ≡ table) × (desk.lanes ≡ lanes)
+
+  -- a seat of that desk
+  abbrev pub SitsAt : TableId → ℕ → LaneSeat N → Type 0
+  SitsAt table lanes seat = (seat.seat.table_id ≡ table) × (seat.lane < lanes)
+
+  -- the round's seat of that desk, before any seat has come back
+  abbrev pub RoundsAt : TableId → ℕ → RoundDesk N → Type 0
+  RoundsAt table lanes round = (round.seat.table_id ≡ table) × (round.lanes ≡ lanes) × (back round ≡ [])
+
+module _ {J : Type 0} where
+  abbrev pub IsBoardOf : {A : Type 0} → TableId → JobBoard J A → Type 0
+  IsBoardOf table board = board_id board ≡ table
+
+  abbrev pub IsPassOf : TableId → BoardPass J → Type 0
+  IsPassOf table pass = pass.pass.table_id ≡ table

@@ -1,0 +1,82 @@
+//! A board and its passes, as threads are lent them.
+
+ghost use Rattle.std.specs.Prelude.{◌≡◌, MatchOption, MatchResult};
+ghost use Rattle.job_board.specs.Boards.{done_by, places};
+ghost use Rattle.job_board.specs.Order.{Popped, Pushed, ShowsHeld};
+ghost use Rattle.lent_parts.specs.Names.{IsBoardOf, IsPassOf};
+
+use crate::name::PartsName;
+use job_board::{BoardPass, JobBoard};
+use std::alloc::{Allocator, Global};
+use std::marker::PhantomData;
+use std::sync::Wait;
+
+/// The board of a name.
+#[derive(Drop)]
+pub struct LentBoard<B: PartsName, J, A: Allocator = Global> {
+    board: JobBoard<J, A>,
+    name: PhantomData<B>,
+    ghost named: { IsBoardOf B.board board },
+}
+
+/// A pass of the board of a name.
+#[derive(Drop)]
+pub struct LentPass<B: PartsName, J> {
+    pub(crate) pass: BoardPass<J>,
+    name: PhantomData<B>,
+    ghost named: { IsPassOf B.board pass },
+}
+
+impl<B: PartsName, J> LentPass<B, J> {
+    /// A pass of the board that the name names.
+    pub fn new(pass: BoardPass<J>) -> LentPass<B, J>
+        requires named { IsPassOf B.board pass }
+        ensures pass { result.pass ≡ pass }
+    {
+        LentPass {
+            pass,
+            name: PhantomData,
+        }
+    }
+}
+
+impl<B: PartsName, J, A: Allocator> LentBoard<B, J, A> {
+    /// The board that the name names.
+    pub fn new(board: JobBoard<J, A>) -> LentBoard<B, J, A>
+        requires named { IsBoardOf B.board board }
+        ensures board { result.board ≡ board }
+    {
+        LentBoard {
+            board,
+            name: PhantomData,
+        }
+    }
+
+    /// The board, for calls with passes of it.
+    pub fn board(&self) -> &JobBoard<J, A>
+        ensures board { result.now ≡ self.now.board }
+        ensures named { IsBoardOf B.board result.now }
+    {
+        &self.board
+    }
+
+    /// Puts a job behind those that wait, as `JobBoard::push`.
+    pub fn push<R: Wait>(&self, rt: &R, pass: &mut LentPass<B, J>, job: J) -> Result<(), J>
+        ensures pushed { MatchResult result
+            (λ _. Pushed (done_by pass.old.pass) job (done_by pass.new.pass))
+            (λ back. (back ≡ job) × (done_by pass.new.pass ≡ done_by pass.old.pass)
+            × ShowsHeld (places self.now.board) (done_by pass.old.pass)) }
+    {
+        self.board.push(rt, &mut pass.pass, job)
+    }
+
+    /// Takes the oldest job, as `JobBoard::pop`.
+    pub fn pop<R: Wait>(&self, rt: &R, pass: &mut LentPass<B, J>) -> Option<J>
+        ensures popped { MatchOption result
+            ((done_by pass.new.pass ≡ done_by pass.old.pass)
+            × ShowsHeld 0 (done_by pass.old.pass))
+            (λ job. Popped (done_by pass.old.pass) job (done_by pass.new.pass)) }
+    {
+        self.board.pop(rt, &mut pass.pass)
+    }
+}

@@ -1,0 +1,64 @@
+//! How all parts of a desk that were lent are settled.
+
+ghost use Rattle.std.specs.Prelude.{◌≡◌, ◌+◌, ◌≤◌, [], length, vec_capacity};
+ghost use Rattle.lane_desk.specs.Workers.{AreWorkers};
+
+use crate::desk::LentDesk;
+use crate::name::PartsName;
+use crate::rounds::LentRounds;
+use crate::worker::LentWorker;
+use grant_ledger::Settled;
+use lane_desk::{Worked, settle_all};
+use std::alloc::Allocator;
+use std::sync::Wait;
+
+// Gathers workers that stand in the order of their lanes. The type of a worker does not say in which place it stands: it waits
+// for ever where one stands in another than its lane's.
+fn gather<R: Wait, B: PartsName, N, A: Allocator>(
+    rt: &R,
+    mut workers: Vec<LentWorker<B, N>, A>,
+    gathered: &mut Vec<Worked<N>, A>,
+)
+    requires room { length workers.items ≤ vec_capacity gathered.old }
+    requires none { gathered.old.items ≡ [] }
+    ensures workers { AreWorkers B.desk (length gathered.new.items) gathered.new.items }
+{
+    workers.reverse();
+    while let Some(worker) = workers.pop() {
+        if worker.lane() == gathered.len() {
+            gathered.push_reserved(worker.into_worked());
+        } else {
+            for _ in rt.forever() {}
+            unreachable!()
+        }
+    }
+    workers.destroy_empty();
+}
+
+/// Gathers all that was lent of a desk, closes it, and settles the book: the octets issued are those moved and those given
+/// back. The workers stand in the order of their lanes, and there is room for as many.
+///
+/// That they are of this desk is known of their types. That each lane's worker is there, and in its place, is looked at: if it
+/// were not so, this would wait for ever.
+pub fn settle_lent<R: Wait, B: PartsName, N, A: Allocator, D: Allocator>(
+    rt: &R,
+    desk: LentDesk<B, N, D>,
+    rounds: LentRounds<B, N>,
+    workers: Vec<LentWorker<B, N>, A>,
+    room: Vec<Worked<N>, A>,
+) -> Settled
+    requires room { length workers.items ≤ vec_capacity room }
+    requires none { room.items ≡ [] }
+    ensures issued { result.issued ≡ rounds.rounds.book.issued }
+    ensures sum { result.issued ≡ result.moved + result.back }
+{
+    let mut gathered = room;
+    gather(rt, workers, &mut gathered);
+    let desk = desk.into_desk();
+    if gathered.len() == desk.lanes() {
+        settle_all(desk, rounds.into_rounds(), gathered)
+    } else {
+        for _ in rt.forever() {}
+        unreachable!()
+    }
+}

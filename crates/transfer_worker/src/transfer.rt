@@ -81,8 +81,10 @@ where
     unreachable!()
 }
 
-/// Opens a job and runs it. Returns true if the gate said `Stop`.
-pub(crate) fn run_job<R, K, C, A, G, W, N, D>(
+/// Opens one job and runs it to its end over a seat that is lent with its tally, as `worker_loop` runs each that it pops.
+/// Returns true if the gate said `Stop`: the seat may then have asked, and stays so for whoever closes the desk. A job that
+/// cannot be opened is told to have ended, and the seat does not sit down for it.
+pub fn run_job<R, K, C, A, G, W, N, D>(
     rt: &W,
     alloc: A,
     desk: &Desk<N, D>,

@@ -1,9 +1,13 @@
 -- How workers are gathered, one behind another.
-use Rattle.std.proofs.Common.{◌≡◌, ℕ, zero, suc, ◌+◌, ◌<◌, ◌≤◌, ◌⊎◌, inl, inr, ⊎_elim, List, [], ◌∷◌, ◌++◌, length, sym, refl, ap, ◌∙◌, subst, arith, length-append}
+use Rattle.std.proofs.Common.{◌≡◌, ℕ, zero, suc, ◌+◌, ◌⊎◌, inl, inr, ⊎_elim, List, [], ◌∷◌, ◌++◌, length, sym, refl, ap, ◌∙◌, subst, arith}
 use Rattle.std.specs.Prelude.{Option, Some, None, slice_get}
 use Rattle.atomic_table.specs.Seated.{TableId}
-use Rattle.lane_desk.specs.Workers.{AreWorkers}
+use Rattle.std.proofs.lemmas.List.Sums.{sum_by_push}
+use Rattle.lane_desk.specs.Workers.{AreWorkers, moved_by_all}
 use Rattle.lane_desk.specs.declared.worked.Worked.{Worked}
+use Rattle.lent_parts.specs.declared.name.PartsName.{Ghosts}
+use Rattle.lent_parts.specs.declared.worker.LentWorker.{LentWorker}
+use Rattle.lent_parts.specs.Told.{moved_by_lent}
 
 get_end : {A : Type 0} (l : List A) (a b : A) (j : ℕ) → slice_get (l ++ a ∷ []) j ≡ Some b → (slice_get l j ≡ Some b) ⊎ ((j ≡ length l) × (a ≡ b))
 get_end [] a b zero e = inr (refl, some_is a b e)
@@ -31,3 +35,10 @@ module _ {N : Type 0} where
       never : (i : ℕ) (x : (Worked N)) → slice_get {X = Worked N} [] i ≡ Some x → ⊥
       never zero x e = cc
       never (suc i) x e = cc
+
+-- what they tell as moved is passed on with them
+module _ {B N : Type 0} {names : Ghosts B} where
+  pub moved_passed : (gs gs' : List (Worked N)) (g : Worked N) (ws ws' : List (LentWorker B N names)) (w : LentWorker B N names) (all : ℕ)
+      → gs' ≡ gs ++ g ∷ [] → ws ≡ ws' ++ w ∷ [] → g.tally.moved ≡ w.tally.moved → moved_by_all gs + moved_by_lent ws ≡ all → moved_by_all gs' + moved_by_lent ws' ≡ all
+  moved_passed gs gs' g ws ws' w all more fewer same before =
+      omega (arith, ap moved_by_all more, sum_by_push (λ (x : Worked N). x.tally.moved) gs g, ap moved_by_lent fewer, sum_by_push (λ (x : LentWorker B N names). x.tally.moved) ws' w, same, before)

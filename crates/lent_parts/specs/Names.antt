@@ -1,5 +1,5 @@
 -- Parts of the server of a name.
-use Rattle.std.specs.Prelude.{◌≡◌, ℕ, ◌<◌, List, []}
+use Rattle.std.specs.Prelude.{◌≡◌, ℕ, ◌<◌, []}
 use Rattle.atomic_table.specs.Seated.{TableId}
 use Rattle.lane_seats.specs.declared.desk.Desk.{Desk}
 use Rattle.lane_seats.specs.declared.seat.LaneSeat.{LaneSeat}

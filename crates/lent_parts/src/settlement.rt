@@ -1,7 +1,8 @@
 //! How all parts of a desk that were lent are settled.
 
 ghost use Rattle.std.specs.Prelude.{◌≡◌, ◌+◌, ◌≤◌, [], length, vec_capacity};
-ghost use Rattle.lane_desk.specs.Workers.{AreWorkers};
+ghost use Rattle.lane_desk.specs.Workers.{AreWorkers, moved_by_all};
+ghost use Rattle.lent_parts.specs.Told.{moved_by_lent};
 
 use crate::desk::LentDesk;
 use crate::name::PartsName;
@@ -22,6 +23,7 @@ fn gather<R: Wait, B: PartsName, N, A: Allocator>(
     requires room { length workers.items ≤ vec_capacity gathered.old }
     requires none { gathered.old.items ≡ [] }
     ensures workers { AreWorkers B.desk (length gathered.new.items) gathered.new.items }
+    ensures moved { moved_by_all gathered.new.items ≡ moved_by_lent workers.items }
 {
     workers.reverse();
     while let Some(worker) = workers.pop() {
@@ -35,8 +37,8 @@ fn gather<R: Wait, B: PartsName, N, A: Allocator>(
     workers.destroy_empty();
 }
 
-/// Gathers all that was lent of a desk, closes it, and settles the book: the octets issued are those moved and those given
-/// back. The workers stand in the order of their lanes, and there is room for as many.
+/// Gathers all that was lent of a desk, closes it, and settles the book: the octets issued are those that the tallies tell as
+/// moved and those given back. The workers stand in the order of their lanes, and there is room for as many.
 ///
 /// That they are of this desk is known of their types. That each lane's worker is there, and in its place, is looked at: if it
 /// were not so, this would wait for ever.
@@ -50,6 +52,7 @@ pub fn settle_lent<R: Wait, B: PartsName, N, A: Allocator, D: Allocator>(
     requires room { length workers.items ≤ vec_capacity room }
     requires none { room.items ≡ [] }
     ensures issued { result.issued ≡ rounds.rounds.book.issued }
+    ensures moved { result.moved ≡ rounds.rounds.tally.moved + moved_by_lent workers.items }
     ensures sum { result.issued ≡ result.moved + result.back }
 {
     let mut gathered = room;

@@ -7,14 +7,13 @@ ghost use Rattle.lent_parts.specs.Names.{IsBoardOf, IsPassOf};
 
 use crate::name::PartsName;
 use job_board::{BoardPass, JobBoard};
-use std::alloc::{Allocator, Global};
 use std::marker::PhantomData;
 use std::sync::Wait;
 
-/// The board of a name.
+/// The board of a name, in the memory of the process.
 #[derive(Drop)]
-pub struct LentBoard<B: PartsName, J, A: Allocator = Global> {
-    board: JobBoard<J, A>,
+pub struct LentBoard<B: PartsName, J> {
+    board: JobBoard<J>,
     name: PhantomData<B>,
     ghost named: { IsBoardOf B.board board },
 }
@@ -40,9 +39,9 @@ impl<B: PartsName, J> LentPass<B, J> {
     }
 }
 
-impl<B: PartsName, J, A: Allocator> LentBoard<B, J, A> {
+impl<B: PartsName, J> LentBoard<B, J> {
     /// The board that the name names.
-    pub fn new(board: JobBoard<J, A>) -> LentBoard<B, J, A>
+    pub fn new(board: JobBoard<J>) -> LentBoard<B, J>
         requires named { IsBoardOf B.board board }
         ensures board { result.board ≡ board }
     {
@@ -53,7 +52,7 @@ impl<B: PartsName, J, A: Allocator> LentBoard<B, J, A> {
     }
 
     /// The board, for calls with passes of it.
-    pub fn board(&self) -> &JobBoard<J, A>
+    pub fn board(&self) -> &JobBoard<J>
         ensures board { result.now ≡ self.now.board }
         ensures named { IsBoardOf B.board result.now }
     {

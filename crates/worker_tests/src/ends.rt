@@ -18,12 +18,12 @@ fn give(rest: &[u8], buffer: &mut [u8]) -> usize
 
 /// A file that is read: all that is left at once, and with a fault once so many reads were made.
 #[derive(Drop)]
-pub(crate) struct File<'a> {
-    pub(crate) rest: &'a [u8],
+pub(crate) struct File {
+    pub(crate) rest: &'static [u8],
     pub(crate) reads: usize,
 }
 
-impl<'a> Source for File<'a> {
+impl Source for File {
     ghost use Rattle.std.specs.Prelude.{None};
 
     ghost remaining = { λ _. None };
@@ -41,12 +41,12 @@ impl<'a> Source for File<'a> {
 
 /// A sink that takes just these octets, and refuses once so many writes were made.
 #[derive(Drop)]
-pub(crate) struct Kept<'a> {
-    pub(crate) wanted: &'a [u8],
+pub(crate) struct Kept {
+    pub(crate) wanted: &'static [u8],
     pub(crate) writes: usize,
 }
 
-impl<'a> Sink for Kept<'a> {
+impl Sink for Kept {
     ghost use Rattle.std.specs.Prelude.{None};
 
     ghost collected = { λ _. None };
@@ -65,13 +65,13 @@ impl<'a> Sink for Kept<'a> {
 
 /// A connection that gives octets, and takes just those that are wanted. It fails once so many writes were made.
 #[derive(Drop)]
-pub(crate) struct Line<'a> {
-    pub(crate) rest: &'a [u8],
-    pub(crate) wanted: &'a [u8],
+pub(crate) struct Line {
+    pub(crate) rest: &'static [u8],
+    pub(crate) wanted: &'static [u8],
     pub(crate) writes: usize,
 }
 
-impl<'a> Read for Line<'a> {
+impl Read for Line {
     fn read(&mut self, buffer: &mut [u8]) -> io::Result<usize> {
         let count = give(self.rest, buffer);
         self.rest = &self.rest[count..];
@@ -79,7 +79,7 @@ impl<'a> Read for Line<'a> {
     }
 }
 
-impl<'a> Write for Line<'a> {
+impl Write for Line {
     fn write(&mut self, octets: &[u8]) -> io::Result<usize> {
         if self.writes == 0 || !self.wanted.starts_with(octets) {
             return Err(io::Error::from(ErrorKind::ConnectionReset));

@@ -1,11 +1,18 @@
 //! Each growth of each call refused in turn: the call passes once there is memory.
 
-use super::expect::holds;
+use super::counted::End;
+use super::expect::{OfTest, holds};
+use super::house::{House, Job};
+use ftp_terms::DataType;
 use job_board::{BoardFault, open_board};
+use lent_parts::{LentWorker, PartsName};
+use line_rates::Way;
 use linked_list_allocator::LocalHeap;
 use scarce_memory::{HEAP, leave_hole};
 use std::process::Abort;
+use std::sync::Wait;
 use std::test::Fail;
+use transfer_worker::{Gate, Go, JobEnd, LaneJob, Remnant};
 
 // Returns whether a board opens over this heap. If not, memory ran out.
 fn opens(rt: &impl Abort, heap: &LocalHeap) -> bool {
@@ -33,4 +40,118 @@ fn boards_open_once_there_is_memory(rt: HostRuntime) -> Result<(), Fail> {
     }
     holds(&rt, 3 <= refused && refused < 63);
     Ok(())
+}
+
+/// A gate that never gives leave.
+#[derive(Drop)]
+struct Shut {
+    last: Go,
+    heard: Option<JobEnd>,
+}
+
+impl<Q: Remnant> Gate<Q> for Shut {
+    ghost use Rattle.std.specs.Prelude.{None};
+
+    ghost last_go = { λ shut. shut.last };
+
+    ghost heard = { λ _. None };
+
+    ghost passed = { λ _. None };
+
+    fn pass(&mut self, _session: u32, _moved: u64) -> Go {
+        self.last = Go::Stop;
+        Go::Stop
+    }
+
+    fn last(&self) -> Go {
+        self.last
+    }
+
+    fn done(&mut self, _session: u32, end: JobEnd, _ran: Q) {
+        self.heard = Some(end);
+    }
+}
+
+/// Which way a job goes, its type, room in octets, and whether its buffers have it. Under TYPE A there are two, the smaller
+/// one first.
+type Buffers = (Way, DataType, usize, bool);
+
+static BUFFERS: [Buffers; 10] = [
+    (Way::Down, DataType::Ascii, 1_000, false),
+    (Way::Down, DataType::Ascii, 40_000, false),
+    (Way::Down, DataType::Ascii, 110_000, true),
+    (Way::Down, DataType::Image, 1_000, false),
+    (Way::Down, DataType::Image, 70_000, true),
+    (Way::Up, DataType::Ascii, 40_000, false),
+    (Way::Up, DataType::Ascii, 110_000, false),
+    (Way::Up, DataType::Ascii, 150_000, true),
+    (Way::Up, DataType::Image, 1_000, false),
+    (Way::Up, DataType::Image, 70_000, true),
+];
+
+fn job_of(row: &Buffers) -> Job {
+    let end = End {
+        left: 10,
+        taken: 0,
+        calls: 10,
+    };
+    match row.0 {
+        Way::Down => LaneJob::Send {
+            user: 0,
+            session: 5,
+            source: end,
+            connection: end,
+            data_type: row.1,
+        },
+        Way::Up => LaneJob::Take {
+            user: 0,
+            session: 5,
+            connection: end,
+            sink: end,
+            data_type: row.1,
+        },
+    }
+}
+
+// Returns whether a job is opened over this heap, and then stopped. If not, it ends for want of memory.
+fn is_opened<B: PartsName>(
+    rt: &(impl Abort + Wait),
+    heap: &LocalHeap,
+    house: &House<B>,
+    worker: &mut LentWorker<B, OfTest>,
+    job: Job,
+) -> bool {
+    let mut gate = Shut {
+        last: Go::On,
+        heard: None,
+    };
+    if !worker.is_free() {
+        panic!(rt; "somebody sits there");
+    }
+    let was_stopped = worker.work(rt, heap, house.desk(), job, &mut gate);
+    let end = if was_stopped {
+        JobEnd::Stopped
+    } else {
+        JobEnd::Memory
+    };
+    holds(rt, gate.heard == Some(end) && worker.is_free());
+    was_stopped
+}
+
+/// Each buffer of each job may be refused: the job ends so, and the next one is run as ever.
+pub(crate) fn refuse_buffers<B: PartsName>(
+    rt: &(impl Abort + AllocGlobal + Wait),
+    house: &House<B>,
+    worker: &mut LentWorker<B, OfTest>,
+) {
+    let heap = LocalHeap::new(rt.alloc(), 200_000).expect(rt, "a heap");
+    for row in &BUFFERS {
+        let rest = leave_hole(rt, &heap, row.2).expect(rt, "a hole");
+        holds(
+            rt,
+            is_opened(rt, &heap, house, worker, job_of(row)) == row.3,
+        );
+        drop(rest);
+        holds(rt, is_opened(rt, &heap, house, worker, job_of(row)));
+    }
 }

@@ -1,105 +1,138 @@
 //! Turns of one transfer on one lane: grants of one octet and of two, under a rate of the server.
 
-ghost use Rattle.std.specs.Prelude.{◌≡◌};
-ghost use Rattle.lane_seats.specs.Seats.{seat_view, IsSeatOf, IsSameSeat};
-ghost use Rattle.round_desk.specs.Turns.{IsRoundOf, IsSameRound};
+ghost use Rattle.std.specs.Prelude.{◌≡◌, IfNone};
+ghost use Rattle.desk_rule.specs.declared.view.SeatState.TheVariants.{Asked};
+ghost use Rattle.desk_rule.specs.Lanes.{has_looked};
+ghost use Rattle.lane_seats.specs.Seats.{desk_id, seat_view, IsSeatOf, IsSameSeat};
+ghost use Rattle.lent_parts.specs.Names.{SitsAt};
 ghost use Rattle.transfer_worker.specs.Turns.{IsTold};
 
-use super::desks::settle_both;
 use super::ends::{File, Kept, Line};
-use super::expect::{OfTest, holds};
-use checked_desk::{OwnSeat, two_seats};
+use super::expect::{OfTest, holds, limits};
+use super::house::House;
+use super::parts::{Lent, Opened};
 use data_pump::{DataIn, DataOut, PumpEnd, Pumped};
 use ftp_terms::DataType;
-use grant_ledger::{Book, Tally};
-use lane_desk::{Desk, LaneSeat, Rounds, SeatState, Worked, open_desk};
-use line_rates::Limits;
+use grant_ledger::{Settled, Tally};
+use lane_desk::{Desk, LaneSeat, SeatState};
+use lent_parts::{LentWorker, PartsName};
+use line_rates::{Ask, Limits};
+use std::marker::{Brand, PhantomData};
 use std::process::Abort;
+use std::sync::Wait;
 use transfer_worker::{turn_in, turn_out};
 
-/// A lane's seat, with the tally of what it took.
-struct OneLane {
-    seat: LaneSeat<OfTest>,
-    tally: Tally<OfTest>,
+/// A transfer in either direction.
+#[derive(Drop)]
+enum Moving {
+    Out(DataOut<File, Line>),
+    In(DataIn<Line, Kept>),
 }
 
-// An ask, a round that answers it, and the turn of a download.
-fn sent<'a>(
-    rt: &(impl Abort + AllocGlobal),
-    desk: &Desk<OfTest>,
-    lane: &mut OneLane,
-    rounds: &mut Rounds<OfTest>,
-    limits: &Limits,
-    out: &mut DataOut<File<'a>, Line<'a>>,
-    moment: u64,
-) -> Pumped
-    requires seat { IsSeatOf desk.now lane.old.seat }
-    requires told { IsTold lane.old.tally (seat_view lane.old.seat) }
-    requires round { IsRoundOf desk.now rounds.old.desk }
-    ensures seat { IsSameSeat lane.old.seat lane.new.seat }
-    ensures told { IsTold lane.new.tally (seat_view lane.new.seat) }
-    ensures round { IsSameRound rounds.old.desk rounds.new.desk }
-{
-    match lane.seat.state() {
-        SeatState::Worker => {
-            lane.seat.ask(desk, out.ask(0, 7));
-            let looked = turn_out(desk, &mut lane.seat, out, &mut lane.tally);
-            holds(rt, looked.is_none());
-            holds(rt, rounds.round(rt.alloc(), desk, limits, moment).is_ok());
-            match turn_out(desk, &mut lane.seat, out, &mut lane.tally) {
-                Some(pumped) => pumped,
-                None => panic!(rt; "no grant"),
-            }
+impl Moving {
+    fn ask(&self) -> Ask {
+        match self {
+            Moving::Out(out) => out.ask(0, 7),
+            Moving::In(upload) => upload.ask(0, 7),
         }
-        _ => panic!(rt; "no worker sits"),
+    }
+
+    fn turn(
+        &mut self,
+        desk: &Desk<OfTest>,
+        seat: &mut LaneSeat<OfTest>,
+        tally: &mut Tally<OfTest>,
+    ) -> Option<Pumped>
+        requires desk { IsSeatOf desk.now seat.old }
+        requires state { (seat_view seat.old).state ≡ Asked }
+        requires told { IsTold tally.old (seat_view seat.old) }
+        ensures same { IsSameSeat seat.old seat.new }
+        ensures told { IsTold tally.new (seat_view seat.new) }
+        ensures none { IfNone result (seat_view seat.new ≡ has_looked (seat_view seat.old)) }
+    {
+        match self {
+            Moving::Out(out) => turn_out(desk, seat, out, tally),
+            Moving::In(upload) => turn_in(desk, seat, upload, tally),
+        }
+    }
+
+    // The sink of an upload.
+    fn into_sink(self) -> Option<Kept> {
+        match self {
+            Moving::Out(_out) => None,
+            Moving::In(upload) => Some(upload.into_sink()),
+        }
     }
 }
 
-// The same of an upload.
-fn received<'a>(
-    rt: &(impl Abort + AllocGlobal),
-    desk: &Desk<OfTest>,
-    lane: &mut OneLane,
-    rounds: &mut Rounds<OfTest>,
-    limits: &Limits,
-    upload: &mut DataIn<Line<'a>, Kept<'a>>,
-    moment: u64,
-) -> Pumped
-    requires seat { IsSeatOf desk.now lane.old.seat }
-    requires told { IsTold lane.old.tally (seat_view lane.old.seat) }
-    requires round { IsRoundOf desk.now rounds.old.desk }
-    ensures seat { IsSameSeat lane.old.seat lane.new.seat }
-    ensures told { IsTold lane.new.tally (seat_view lane.new.seat) }
-    ensures round { IsSameRound rounds.old.desk rounds.new.desk }
-{
-    match lane.seat.state() {
-        SeatState::Worker => {
-            lane.seat.ask(desk, upload.ask(0, 7));
-            holds(rt, rounds.round(rt.alloc(), desk, limits, moment).is_ok());
-            match turn_in(desk, &mut lane.seat, upload, &mut lane.tally) {
-                Some(pumped) => pumped,
-                None => panic!(rt; "no grant"),
-            }
+/// A lane's seat with its tally, of the desk of a name.
+struct Lane<B: PartsName> {
+    seat: LaneSeat<OfTest>,
+    tally: Tally<OfTest>,
+    name: PhantomData<B>,
+    ghost named: { SitsAt B.desk B.lanes seat },
+    ghost told: { IsTold tally (seat_view seat) },
+}
+
+impl<B: PartsName> Lane<B> {
+    fn new(worker: LentWorker<B, OfTest>) -> Lane<B> {
+        let (seat, tally) = worker.into_worked().parts();
+        Lane {
+            seat,
+            tally,
+            name: PhantomData,
         }
-        _ => panic!(rt; "no worker sits"),
+    }
+
+    fn into_worker(self) -> LentWorker<B, OfTest> {
+        let Lane {
+            seat,
+            tally,
+            name: _,
+        } = self;
+        LentWorker::new(seat, tally)
+    }
+
+    // A worker sits down.
+    fn sit(&mut self, rt: &impl Abort, house: &House<B>) {
+        match self.seat.state() {
+            SeatState::Free => self.seat.sit(house.desk().desk()),
+            _ => panic!(rt; "somebody sits there"),
+        }
+    }
+
+    // An ask, a turn that finds nothing, a round, and the turn of its grant: whether it moved so much and ended so.
+    fn moves(
+        &mut self,
+        rt: &(impl Abort + AllocGlobal),
+        house: &House<B>,
+        limits: &Limits,
+        moving: &mut Moving,
+        moved: u64,
+        end: PumpEnd,
+    ) -> bool {
+        match self.seat.state() {
+            SeatState::Worker => {
+                let desk = house.desk().desk();
+                self.seat.ask(desk, moving.ask());
+                let looked = moving.turn(desk, &mut self.seat, &mut self.tally);
+                holds(rt, looked.is_none());
+                house.serve_under(rt.alloc(), limits);
+                let pumped = moving.turn(desk, &mut self.seat, &mut self.tally);
+                pumped == Some(Pumped { moved, end })
+            }
+            _ => panic!(rt; "no worker sits"),
+        }
     }
 }
 
 // Under a rate of one octet a tick: a CR LF for the LF of a text, octet by octet.
-fn sends_a_text(
+fn sends_a_text<B: PartsName>(
     rt: &(impl Abort + AllocGlobal),
-    desk: &Desk<OfTest>,
-    lane: &mut OneLane,
-    rounds: &mut Rounds<OfTest>,
-)
-    requires seat { IsSeatOf desk.now lane.old.seat }
-    requires told { IsTold lane.old.tally (seat_view lane.old.seat) }
-    requires round { IsRoundOf desk.now rounds.old.desk }
-    ensures seat { IsSameSeat lane.old.seat lane.new.seat }
-    ensures told { IsTold lane.new.tally (seat_view lane.new.seat) }
-    ensures round { IsSameRound rounds.old.desk rounds.new.desk }
-{
-    let limits = server_rate(rt, 10);
+    house: &House<B>,
+    lane: &mut Lane<B>,
+) {
+    let rate = limits(rt, 10);
     let source = File {
         rest: b"a\nb",
         reads: 2,
@@ -110,32 +143,19 @@ fn sends_a_text(
         writes: 4,
     };
     let opened = DataOut::open(rt.alloc(), source, connection, DataType::Ascii);
-    let mut out = opened.expect(rt, "a download");
-    let first = sent(rt, desk, lane, rounds, &limits, &mut out, 0);
-    holds(rt, first.moved == 1 && first.end == PumpEnd::More);
-    let second = sent(rt, desk, lane, rounds, &limits, &mut out, 100);
-    holds(rt, second.moved == 1 && second.end == PumpEnd::More);
-    let third = sent(rt, desk, lane, rounds, &limits, &mut out, 200);
-    holds(rt, third.moved == 1 && third.end == PumpEnd::More);
-    let last = sent(rt, desk, lane, rounds, &limits, &mut out, 300);
-    holds(rt, last.moved == 1 && last.end == PumpEnd::Ended);
+    let mut out = Moving::Out(opened.expect(rt, "a download"));
+    for end in [PumpEnd::More, PumpEnd::More, PumpEnd::More, PumpEnd::Ended] {
+        holds(rt, lane.moves(rt, house, &rate, &mut out, 1, end));
+    }
 }
 
 // Under a rate of two octets a tick: pieces `a CR`, `LF b`, `CR`, of which the last CR is a text's own.
-fn receives_a_text(
+fn receives_a_text<B: PartsName>(
     rt: &(impl Abort + AllocGlobal),
-    desk: &Desk<OfTest>,
-    lane: &mut OneLane,
-    rounds: &mut Rounds<OfTest>,
-)
-    requires seat { IsSeatOf desk.now lane.old.seat }
-    requires told { IsTold lane.old.tally (seat_view lane.old.seat) }
-    requires round { IsRoundOf desk.now rounds.old.desk }
-    ensures seat { IsSameSeat lane.old.seat lane.new.seat }
-    ensures told { IsTold lane.new.tally (seat_view lane.new.seat) }
-    ensures round { IsSameRound rounds.old.desk rounds.new.desk }
-{
-    let limits = server_rate(rt, 20);
+    house: &House<B>,
+    lane: &mut Lane<B>,
+) {
+    let rate = limits(rt, 20);
     let connection = Line {
         rest: b"a\r\nb\r",
         wanted: b"",
@@ -146,42 +166,48 @@ fn receives_a_text(
         writes: 4,
     };
     let opened = DataIn::open(rt.alloc(), connection, sink, DataType::Ascii);
-    let mut upload = opened.expect(rt, "an upload");
-    let first = received(rt, desk, lane, rounds, &limits, &mut upload, 400);
-    holds(rt, first.moved == 2 && first.end == PumpEnd::More);
-    let second = received(rt, desk, lane, rounds, &limits, &mut upload, 500);
-    holds(rt, second.moved == 2 && second.end == PumpEnd::More);
-    let third = received(rt, desk, lane, rounds, &limits, &mut upload, 600);
-    holds(rt, third.moved == 1 && third.end == PumpEnd::More);
-    let last = received(rt, desk, lane, rounds, &limits, &mut upload, 700);
-    holds(rt, last.moved == 0 && last.end == PumpEnd::Ended);
-    holds(rt, upload.into_sink().wanted.is_empty());
+    let mut moving = Moving::In(opened.expect(rt, "an upload"));
+    for moved in [2, 2, 1] {
+        holds(
+            rt,
+            lane.moves(rt, house, &rate, &mut moving, moved, PumpEnd::More),
+        );
+    }
+    holds(
+        rt,
+        lane.moves(rt, house, &rate, &mut moving, 0, PumpEnd::Ended),
+    );
+    match moving.into_sink() {
+        Some(sink) => holds(rt, sink.wanted.is_empty()),
+        None => panic!(rt; "a download"),
+    }
 }
 
-fn server_rate(rt: &(impl Abort + AllocGlobal), rate: u64) -> Limits {
-    Limits::of(rate, 0, 0, Vec::new(rt.alloc()), Vec::new(rt.alloc())).expect(rt, "limits")
+// Both over the desk that the name names.
+fn move_texts<B: PartsName>(rt: &(impl Abort + AllocGlobal + Wait), opened: Opened) -> Settled
+    requires desk { desk_id opened.desk ≡ B.desk }
+    requires lanes { opened.desk.lanes ≡ B.lanes }
+{
+    let Lent {
+        house,
+        first,
+        second,
+    } = Lent::<B>::new(opened, limits(rt, 0));
+    let mut lane = Lane::new(first);
+    lane.sit(rt, &house);
+    sends_a_text(rt, &house, &mut lane);
+    receives_a_text(rt, &house, &mut lane);
+    let first = lane.into_worker();
+    let lent = Lent {
+        house,
+        first,
+        second,
+    };
+    lent.settle(rt)
 }
 
 #[test]
 fn texts_go_by_one_and_by_two_octets(rt: HostRuntime) {
-    let (book, mut tally) = Book::<OfTest>::open(0);
-    match open_desk(rt.alloc(), 2, &book) {
-        Ok((desk, round, seats)) => {
-            let room = Vec::with_capacity(rt.alloc(), 2).expect(&rt, "memory");
-            let Some((first, second)) = two_seats(&desk, seats) else {
-                panic!(&rt; "no seats")
-            };
-            let (seat, told) = OwnSeat::new(first, &mut tally).into_worked().parts();
-            let second = OwnSeat::new(second, &mut tally);
-            let mut lane = OneLane { seat, tally: told };
-            let mut rounds = Rounds::new(round, book, tally);
-            lane.seat.sit(&desk);
-            sends_a_text(&rt, &desk, &mut lane, &mut rounds);
-            receives_a_text(&rt, &desk, &mut lane, &mut rounds);
-            let OneLane { seat, tally } = lane;
-            let settled = settle_both(desk, rounds, Worked::new(seat, tally), second, room);
-            holds(&rt, settled.moved == 4 + 5 && settled.issued == 4 + 8);
-        }
-        Err(_) => panic!(&rt; "no desk"),
-    }
+    let settled = move_texts::<Brand>(&rt, Opened::new(&rt));
+    holds(&rt, settled.moved == 4 + 5 && settled.issued == 4 + 8);
 }

@@ -1,0 +1,6 @@
+use Rattle.lane_seats.specs.Seats.{desk_id}
+use Rattle.lent_parts.specs.Names.{no_table}
+use Rattle.worker_tests.proofs.jobs.jobs_of_each_end.Given as goal
+
+abbrev pub ghosts-run_named : goal.ghosts-run_named
+ghosts-run_named g a = record { desk = desk_id a.opened.desk; lanes = 2; board = no_table }

@@ -1,0 +1,6 @@
+use Rattle.lane_seats.specs.Seats.{desk_id}
+use Rattle.job_board.specs.Boards.{board_id}
+use Rattle.worker_tests.proofs.threads.one_transfer_waits_for_the_other.Given as goal
+
+abbrev pub ghosts-work_both : goal.ghosts-work_both
+ghosts-work_both g a = record { desk = desk_id a.opened.desk; lanes = 2; board = board_id a.board.board }

@@ -1,0 +1,161 @@
+//! What the workers of these tests share, and a gate of theirs, which makes the rounds itself.
+
+use super::counted::End;
+use super::expect::OfTest;
+use lent_parts::{LentDesk, LentRounds, PartsName};
+use line_rates::Limits;
+use std::alloc::Global;
+use std::sync::Mutex;
+use std::sync::atomic::{AtomicU64, Ordering};
+use std::thread;
+use transfer_worker::{Gate, Go, JobEnd, LaneJob, Ran};
+
+/// A job of these tests.
+pub(crate) type Job = LaneJob<End, End, End>;
+
+/// The session whose transfer is held until that of `SECOND` has moved an octet.
+pub(crate) const FIRST: u32 = 1;
+
+pub(crate) const SECOND: u32 = 2;
+
+/// How often a thread that is held yields in each turn.
+const YIELDS: u32 = 100;
+
+/// The rounds, of which there is one a tick.
+pub(crate) struct Turns<B: PartsName> {
+    rounds: LentRounds<B, OfTest>,
+    moment: u64,
+}
+
+impl<B: PartsName> Turns<B> {
+    fn round(&mut self, alloc: Global, desk: &LentDesk<B, OfTest>, limits: &Limits) {
+        let moment = self.moment;
+        self.moment = moment.saturating_add(100);
+        let _ = self.rounds.round(alloc, desk, limits, moment);
+    }
+}
+
+/// A desk with its rounds, and whether the transfer of `SECOND` has moved an octet.
+pub(crate) struct House<B: PartsName> {
+    desk: LentDesk<B, OfTest>,
+    turns: Mutex<Turns<B>>,
+    limits: Limits,
+    has_moved: AtomicU64,
+}
+
+impl<B: PartsName> House<B> {
+    pub(crate) fn new(
+        desk: LentDesk<B, OfTest>,
+        rounds: LentRounds<B, OfTest>,
+        limits: Limits,
+    ) -> House<B> {
+        let moment = 0;
+        House {
+            desk,
+            turns: Mutex::new(Turns { rounds, moment }),
+            limits,
+            has_moved: AtomicU64::new(0),
+        }
+    }
+
+    pub(crate) fn desk(&self) -> &LentDesk<B, OfTest> {
+        &self.desk
+    }
+
+    /// A round, unless another thread makes one.
+    pub(crate) fn serve(&self, alloc: Global) {
+        self.serve_under(alloc, &self.limits);
+    }
+
+    /// A round under other limits, unless another thread makes one.
+    pub(crate) fn serve_under(&self, alloc: Global, limits: &Limits) {
+        match self.turns.try_lock() {
+            Some(mut turns) => turns.round(alloc, &self.desk, limits),
+            None => thread::yield_now(),
+        }
+    }
+
+    pub(crate) fn into_parts(self) -> (LentDesk<B, OfTest>, LentRounds<B, OfTest>) {
+        let House {
+            desk,
+            turns,
+            limits: _limits,
+            has_moved: _has_moved,
+        } = self;
+        let Turns { rounds, moment: _ } = turns.into_inner();
+        (desk, rounds)
+    }
+}
+
+/// The gate of a worker. It gives leave so many times, then says `Stop`, and keeps the last end that it was told.
+#[derive(Drop)]
+pub(crate) struct Keeper<'h, B: PartsName> {
+    house: &'h House<B>,
+    alloc: Global,
+    passes: u64,
+    last: Go,
+    /// How many jobs ended.
+    pub(crate) ended: u64,
+    /// The session of the last of them, its end, and the octets that its sink took.
+    pub(crate) heard: (u32, JobEnd, usize),
+}
+
+impl<'h, B: PartsName> Keeper<'h, B> {
+    pub(crate) fn new(house: &'h House<B>, alloc: Global, passes: u64) -> Keeper<'h, B> {
+        Keeper {
+            house,
+            alloc,
+            passes,
+            last: Go::On,
+            ended: 0,
+            heard: (0, JobEnd::Stopped, 0),
+        }
+    }
+
+    // Holds the transfer of `FIRST`, and makes a round for another.
+    fn answer(&mut self, session: u32, moved: u64) -> Go {
+        if self.passes == 0 {
+            return Go::Stop;
+        }
+        self.passes -= 1;
+        if session == SECOND && moved > 0 {
+            self.house.has_moved.store(1, Ordering::SeqCst);
+        }
+        if session == FIRST && self.house.has_moved.load(Ordering::SeqCst) == 0 {
+            for _ in 0..YIELDS {
+                thread::yield_now();
+            }
+            return Go::Later;
+        }
+        self.house.serve(self.alloc);
+        Go::On
+    }
+}
+
+impl<'h, B: PartsName> Gate<Ran<End, End, End>> for Keeper<'h, B> {
+    ghost use Rattle.std.specs.Prelude.{None};
+
+    ghost last_go = { λ keeper. keeper.last };
+
+    ghost heard = { λ _. None };
+
+    ghost passed = { λ _. None };
+
+    fn pass(&mut self, session: u32, moved: u64) -> Go {
+        self.last = self.answer(session, moved);
+        self.last
+    }
+
+    fn last(&self) -> Go {
+        self.last
+    }
+
+    fn done(&mut self, session: u32, end: JobEnd, ran: Ran<End, End, End>) {
+        self.ended = self.ended.saturating_add(1);
+        let taken = match ran {
+            Ran::In(upload) => upload.into_sink().taken,
+            _ => 0,
+        };
+        self.heard = (session, end, taken);
+    }
+}

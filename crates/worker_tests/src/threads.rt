@@ -1,0 +1,208 @@
+//! Two workers at once: the transfer of one is held until that of the other has moved an octet.
+
+ghost use Rattle.std.specs.Prelude.{◌≡◌};
+ghost use Rattle.lane_seats.specs.Seats.{desk_id};
+ghost use Rattle.lent_parts.specs.Names.{IsPassOf};
+ghost use Rattle.job_board.specs.Boards.{board_id};
+
+use super::counted::End;
+use super::expect::{OfTest, holds, limits};
+use super::house::{FIRST, House, Job, Keeper, SECOND};
+use super::parts::{Lent, Opened, settle_house};
+use ftp_terms::DataType;
+use grant_ledger::Settled;
+use job_board::{BoardPass, JobBoard, open_board};
+use lent_parts::{LentBoard, LentPass, LentWorker, PartsName};
+use std::alloc::Global;
+use std::marker::Brand;
+use std::process::Abort;
+use std::sync::Wait;
+use std::thread;
+use std::thread::Threads;
+use transfer_worker::LaneJob;
+
+/// How often a transfer is held before its worker gives up.
+const MOST_TURNS: u64 = 100_000;
+
+// A file of 140,000 octets for a session.
+fn file_for(session: u32) -> Job {
+    let source = End {
+        left: 140_000,
+        taken: 0,
+        calls: 100,
+    };
+    let connection = End {
+        left: 0,
+        taken: 0,
+        calls: 100,
+    };
+    LaneJob::Send {
+        user: 0,
+        session,
+        source,
+        connection,
+        data_type: DataType::Image,
+    }
+}
+
+/// A worker with a pass, and what it did: how many of its jobs ended, and whether it left off for want of jobs.
+struct Hand<B: PartsName> {
+    worker: LentWorker<B, OfTest>,
+    pass: LentPass<B, Job>,
+    did: (u64, bool),
+}
+
+impl<B: PartsName> Hand<B> {
+    // Runs jobs while there are any, and none is stopped.
+    fn work<R: Wait>(
+        &mut self,
+        rt: &R,
+        alloc: Global,
+        house: &House<B>,
+        board: &LentBoard<B, Job>,
+    ) {
+        let mut gate = Keeper::new(house, alloc, MOST_TURNS);
+        for _ in rt.forever() {
+            if !self.worker.is_free() {
+                return;
+            }
+            match board.pop(rt, &mut self.pass) {
+                None => {
+                    self.did = (gate.ended, true);
+                    return;
+                }
+                Some(job) => {
+                    self.worker.work(rt, alloc, house.desk(), job, &mut gate);
+                }
+            }
+        }
+    }
+}
+
+/// A board of two jobs, and a pass for each thread.
+#[derive(Drop)]
+struct Board {
+    board: JobBoard<Job>,
+    one: BoardPass<Job>,
+    two: BoardPass<Job>,
+    ghost passes: { (one.pass.table_id ≡ board_id board) × (two.pass.table_id ≡ board_id board) },
+}
+
+impl Board {
+    // A board on which both transfers wait.
+    fn new(rt: &(impl Abort + AllocGlobal + Wait)) -> Board {
+        let (board, mut passes) = open_board(rt.alloc(), 2, 2).expect(rt, "a board");
+        let (Some(mut one), Some(two)) = (passes.pop(), passes.pop()) else {
+            panic!(rt; "two passes");
+        };
+        holds(rt, board.push(rt, &mut one, file_for(FIRST)).is_ok());
+        holds(rt, board.push(rt, &mut one, file_for(SECOND)).is_ok());
+        Board { board, one, two }
+    }
+}
+
+// Each hand in a thread of its own.
+fn work_all<B, R>(
+    rt: &R,
+    alloc: Global,
+    house: &House<B>,
+    board: &LentBoard<B, Job>,
+    hands: &mut Vec<Hand<B>>,
+)
+where
+    B: PartsName + Send + Sync + 'static,
+    R: Threads + Wait + Sync,
+{
+    thread::scope(thread::scope_env(), rt, |scope| {
+        for hand in hands.iter_mut() {
+            let _ = scope.spawn(move || hand.work(rt, alloc, house, board));
+        }
+    });
+}
+
+// The workers of hands, in their order, and whether each ran one job.
+fn gather<B: PartsName>(
+    rt: &(impl Abort + AllocGlobal),
+    mut hands: Vec<Hand<B>>,
+) -> (Vec<LentWorker<B, OfTest>>, bool) {
+    let mut workers = Vec::new(rt.alloc());
+    let mut did_one_each = true;
+    while let Some(hand) = hands.pop() {
+        let Hand {
+            worker,
+            pass: _pass,
+            did,
+        } = hand;
+        workers.push(worker).expect(rt, "memory");
+        did_one_each &= did == (1, true);
+    }
+    hands.destroy_empty();
+    workers.reverse();
+    (workers, did_one_each)
+}
+
+// All hands over a house and a board: whether each ran one job, and the settlement.
+fn work_and_settle<B, R>(
+    rt: &R,
+    house: House<B>,
+    board: LentBoard<B, Job>,
+    mut hands: Vec<Hand<B>>,
+) -> (bool, Settled)
+where
+    B: PartsName + Send + Sync + 'static,
+    R: Abort + AllocGlobal + Threads + Wait + Sync,
+{
+    work_all(rt, rt.alloc(), &house, &board, &mut hands);
+    let (workers, did_one_each) = gather(rt, hands);
+    (did_one_each, settle_house(rt, house, workers))
+}
+
+// A worker with a pass of the board that the name names.
+fn hand_of<B: PartsName>(worker: LentWorker<B, OfTest>, pass: BoardPass<Job>) -> Hand<B>
+    requires pass { IsPassOf B.board pass }
+{
+    Hand {
+        worker,
+        pass: LentPass::new(pass),
+        did: (0, false),
+    }
+}
+
+// Both hands.
+fn both<B: PartsName>(
+    rt: &(impl Abort + AllocGlobal),
+    first: Hand<B>,
+    second: Hand<B>,
+) -> Vec<Hand<B>> {
+    let mut hands = Vec::with_capacity(rt.alloc(), 2).expect(rt, "memory");
+    hands.push_reserved(first);
+    hands.push_reserved(second);
+    hands
+}
+
+// Both workers over the desk and the board that the name names: whether each ran one job, and the settlement.
+fn work_both<B, R>(rt: &R, opened: Opened, board: Board) -> (bool, Settled)
+where
+    B: PartsName + Send + Sync + 'static,
+    R: Abort + AllocGlobal + Threads + Wait + Sync,
+    requires desk { desk_id opened.desk ≡ B.desk }
+    requires lanes { opened.desk.lanes ≡ B.lanes }
+    requires board { board_id board.board ≡ B.board }
+{
+    let Lent {
+        house,
+        first,
+        second,
+    } = Lent::<B>::new(opened, limits(rt, 0));
+    let Board { board, one, two } = board;
+    let hands = both(rt, hand_of(first, one), hand_of(second, two));
+    work_and_settle(rt, house, LentBoard::new(board), hands)
+}
+
+#[test]
+fn one_transfer_waits_for_the_other(rt: HostRuntime) {
+    let opened = Opened::new(&rt);
+    let board = Board::new(&rt);
+    let (did_one_each, settled) = work_both::<Brand, _>(&rt, opened, board);
+    holds(&rt, did_one_each && settled.moved == 280_000);
+}

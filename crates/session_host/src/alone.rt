@@ -3,7 +3,7 @@
 ghost use Rattle.std.specs.Prelude.{◌≡◌};
 ghost use Rattle.control_session.specs.Rows.{IsRow};
 ghost use Rattle.control_session.specs.Sessions.{IsServed, new_session};
-ghost use Rattle.session_host.specs.Alone.{AloneDoes, SameLent, parts};
+ghost use Rattle.session_host.specs.Alone.{AloneDoes, parts};
 ghost use Rattle.session_host.specs.Told.{IsTold};
 
 use crate::host::SoleHost;
@@ -19,7 +19,6 @@ use virtual_tree::Store;
 ///
 /// However it ends, the floors are as they were.
 pub fn run_alone<
-    'a,
     S: Store<Global>,
     F: Allocator + Clone,
     C: Moments,
@@ -29,7 +28,7 @@ pub fn run_alone<
     H: Hooks,
 >(
     alloc: &Global,
-    host: &mut SoleHost<'a, S, F, C, D, R, W, H>,
+    host: &mut SoleHost<S, F, C, D, R, W, H>,
     users: &Authorizer,
     settings: Settings,
     peer: [u8; 4],
@@ -40,8 +39,7 @@ pub fn run_alone<
         turns result (new_session settings peer) (parts host.old) (parts host.new) }
     ensures told { IsTold (IsRow S.Step users.now.users) C.Gives D.Asks H.Told R.remaining W.contents
         result (new_session settings peer) (parts host.old) (parts host.new) }
-    ensures floors { host.new.floors.now ≡ host.old.floors.now }
-    ensures same { SameLent host.old host.new }
+    ensures floors { host.new.floors ≡ host.old.floors }
 {
     run_control(alloc, host, users, settings, peer, turns)
 }

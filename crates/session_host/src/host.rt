@@ -16,21 +16,21 @@ use virtual_tree::Store;
 
 /// What is outside of a control session, for this session alone: nobody else changes any of it while the session lasts.
 #[derive(Drop)]
-pub struct SoleHost<'a, S, F: Allocator, C, D, R, W, H> {
-    pub store: &'a mut S,
-    pub floors: &'a mut Floors<F>,
+pub struct SoleHost<S, F: Allocator, C, D, R, W, H> {
+    pub store: S,
+    pub floors: Floors<F>,
     /// Asked once for each step.
-    pub clock: &'a mut C,
-    pub side: &'a mut D,
+    pub clock: C,
+    pub side: D,
     /// Gives the client's text. A read waits until something has come.
-    pub reader: &'a mut R,
+    pub reader: R,
     /// Takes the replies.
-    pub writer: &'a mut W,
-    pub hooks: &'a mut H,
+    pub writer: W,
+    pub hooks: H,
 }
 
-/// What a read gave.
-fn piece_of(count: usize) -> Piece
+/// What a read gave that gave so many octets.
+pub fn piece_of(count: usize) -> Piece
     ensures end { count ≡ 0 → result ≡ Piece.AtEnd }
     ensures octets { 0 < count → result ≡ Piece.Octets count }
 {
@@ -41,7 +41,6 @@ fn piece_of(count: usize) -> Piece
 }
 
 impl<
-    'a,
     S: Store<Global>,
     F: Allocator + Clone,
     C: Moments,
@@ -49,7 +48,7 @@ impl<
     R: TextReader,
     W: TextWriter,
     H: Hooks,
-> Host<Global> for SoleHost<'a, S, F, C, D, R, W, H> {
+> Host<Global> for SoleHost<S, F, C, D, R, W, H> {
     type Store = S;
 
     type Source = S::Source;
@@ -72,7 +71,14 @@ impl<
         let Some(input) = mem::replace(input, None) else {
             return Err(None);
         };
-        match step_lent(users, session, self.floors, self.store, input, moment) {
+        match step_lent(
+            users,
+            session,
+            &mut self.floors,
+            &mut self.store,
+            input,
+            moment,
+        ) {
             Ok(actions) => Ok(actions),
             Err(back) => Err(back),
         }
@@ -99,7 +105,7 @@ impl<
     ) {
         let moment = self.clock.moment();
         if let Some(event) = mem::replace(event, None) {
-            session.take_event_silently(self.store, event, moment);
+            session.take_event_silently(&mut self.store, event, moment);
         }
     }
 
@@ -108,7 +114,7 @@ impl<
     }
 
     fn note(&mut self, call: &HookCall<Global>) {
-        tell(self.hooks, call);
+        tell(&mut self.hooks, call);
     }
 
     fn write(&mut self, reply: &[u8]) -> io::Result<()> {

@@ -13,6 +13,6 @@ pub use control_session::{
     ControlFault, DataEvent, DataSide, Host, Leaving, Moments, Piece, Session,
 };
 pub use handler_hooks::Hooks;
-pub use host::SoleHost;
+pub use host::{SoleHost, piece_of};
 pub use silent::Silent;
 pub use stepping::step_lent;

@@ -80,7 +80,7 @@ fn end<A: Allocator + Clone, H: Host<A>>(
         host.new (at session.new None taken heard owed closed lost) }
 {
     if let Some(event) = came {
-        host.end(users, session, event);
+        host.end(users, session, &mut Some(event));
     }
 }
 

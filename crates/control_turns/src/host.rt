@@ -84,10 +84,15 @@ pub trait Host<A: Allocator + Clone> {
         ensures closed { is_closed session.new.view.stage ≡ true };
 
     /// Lends them for what comes of the data side behind that.
-    fn end(&mut self, users: &Authorizer<A>, session: &mut Session<A>, event: DataEvent<Self::Sink>)
+    fn end(
+        &mut self,
+        users: &Authorizer<A>,
+        session: &mut Session<A>,
+        event: &mut Option<DataEvent<Self::Sink>>,
+    )
         requires closed { is_closed session.old.view.stage ≡ true }
-        ensures row { Stepped (IsRow Step users.now.users) Does
-            self.old session.old (Came event) session.new [] self.new }
+        ensures row { IfSome event.old (λ event. Stepped (IsRow Step users.now.users) Does
+            self.old session.old (Came event) session.new [] self.new) }
         ensures closed { is_closed session.new.view.stage ≡ true };
 
     /// Releases what the user of this number is guaranteed.

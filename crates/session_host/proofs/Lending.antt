@@ -1,0 +1,39 @@
+-- What a host that has all for itself makes of its floors and of what was lent to it.
+use Rattle.std.proofs.Common.{ℕ, Bool, List, Option, ap}
+use Rattle.handler_hooks.specs.Events.{Event}
+use Rattle.control_session.specs.Calls.{HostCall}
+use Rattle.control_session.specs.Calls.HostCall.{Lent, Tried, Released, Noted, Wrote, Broke, Read, ReadEnd, ReadFailed, Asked}
+use Rattle.control_session.specs.Floors.{FloorsBy}
+use Rattle.data_side.specs.Sides.{SideCall}
+use Rattle.session_host.specs.Alone.{AloneDoes, Parts, SoleDoes, parts}
+use Rattle.session_host.specs.declared.host.SoleHost.{SoleHost}
+
+module _ {A S C D R W H Q K : Type 0} (Gives : C → ℕ → C → Type 0) (Asks : D → SideCall A Q K → D → Type 0) (Told : H → Event → H → Type 0)
+    (remaining : R → Option (List ℕ)) (may_fail : R → Bool) (contents : W → Option (List ℕ)) (may_refuse : W → List ℕ → Type 0) where
+  -- the floors change by what is lent and by releases
+  pub alone_floors : (old new : Parts S C D R W H) (call : HostCall A S Q K) → AloneDoes Gives Asks Told remaining may_fail contents may_refuse old call new
+      → FloorsBy (λ (host : Parts S C D R W H). host.promises) old call new
+  alone_floors old new (Lent moment store store' promises promises') did = (did.promises_lent, ap (λ (host : Parts S C D R W H). host.promises) did.rest)
+  alone_floors old new (Tried moment store store') did = ap (λ (host : Parts S C D R W H). host.promises) did.rest
+  alone_floors old new (Released user) did = ap (λ (host : Parts S C D R W H). host.promises) did
+  alone_floors old new (Noted event) did = ap (λ (host : Parts S C D R W H). host.promises) did.1
+  alone_floors old new (Wrote text) did = ap (λ (host : Parts S C D R W H). host.promises) did.1
+  alone_floors old new (Broke text) did = ap (λ (host : Parts S C D R W H). host.promises) did.2
+  alone_floors old new (Read octets) did = ap (λ (host : Parts S C D R W H). host.promises) did.rest
+  alone_floors old new ReadEnd did = ap (λ (host : Parts S C D R W H). host.promises) did.0.rest
+  alone_floors old new ReadFailed did = ap (λ (host : Parts S C D R W H). host.promises) did.0.rest
+  alone_floors old new (Asked call) did = ap (λ (host : Parts S C D R W H). host.promises) did.1
+
+  module _ {F : Type 0} where
+    pub sole_floors : (old new : SoleHost S F C D R W H) (call : HostCall A S Q K) → SoleDoes Gives Asks Told remaining may_fail contents may_refuse old call new
+        → FloorsBy (λ (host : SoleHost S F C D R W H). host.floors) old call new
+    sole_floors old new (Lent moment store store' promises promises') did = alone_floors (parts old) (parts new) (Lent moment store store' promises promises') did
+    sole_floors old new (Tried moment store store') did = alone_floors (parts old) (parts new) (Tried moment store store') did
+    sole_floors old new (Released user) did = alone_floors (parts old) (parts new) (Released user) did
+    sole_floors old new (Noted event) did = alone_floors (parts old) (parts new) (Noted event) did
+    sole_floors old new (Wrote text) did = alone_floors (parts old) (parts new) (Wrote text) did
+    sole_floors old new (Broke text) did = alone_floors (parts old) (parts new) (Broke text) did
+    sole_floors old new (Read octets) did = alone_floors (parts old) (parts new) (Read octets) did
+    sole_floors old new ReadEnd did = alone_floors (parts old) (parts new) ReadEnd did
+    sole_floors old new ReadFailed did = alone_floors (parts old) (parts new) ReadFailed did
+    sole_floors old new (Asked call) did = alone_floors (parts old) (parts new) (Asked call) did

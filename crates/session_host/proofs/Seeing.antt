@@ -1,0 +1,95 @@
+-- A session on a host is one on what is seen of it, and what each call keeps of a host, a session keeps.
+use Rattle.std.proofs.Common.{ℕ, inl, inr, List, [], ◌∷◌, Result, sym, ap, subst}
+use Rattle.control_session.specs.Calls.{Chain, HostCall}
+use Rattle.control_session.specs.Calls.HostCall.{Asked}
+use Rattle.control_session.specs.Sessions.{IsServed, IsSession}
+use Rattle.data_side.specs.Sides.{Given}
+use Rattle.data_side.specs.Sides.SideCall.{Settles}
+use Rattle.control_session.specs.Standing.{Closing}
+use Rattle.control_session.specs.Turns.{Situation, Went, concat}
+use Rattle.control_session.specs.declared.fault.ControlFault.{ControlFault}
+use Rattle.rate_floors.specs.Promises.{Promises}
+use Rattle.session_laws.specs.Steps.{Standing}
+use Rattle.session_table.specs.declared.actions.Action.{Action}
+
+module _ {G H A S R K : Type 0} (Does : G → HostCall A S R K → G → Type 0) (Sees : H → HostCall A S R K → H → Type 0) (see : G → H)
+    (seen : (old new : G) (call : HostCall A S R K) → Does old call new → Sees (see old) call (see new))
+    (Row : Standing → Given K → ℕ → S → S → Promises → Promises → Standing → List (Action A R K) → Type 0) where
+  chain_seen : (old new : G) (calls : List (HostCall A S R K)) → Chain Does old calls new → Chain Sees (see old) calls (see new)
+  chain_seen old new [] same = ap see same
+  chain_seen old new (call ∷ calls) (mid, did, more) = (see mid, seen old mid call did, chain_seen mid new calls more)
+
+  went_seen : (old new : G) (before after : Situation K) → Went Row Does old before new after → Went Row Sees (see old) before (see new) after
+  went_seen old new before after went = record {
+    moves = went.moves;
+    asked = chain_seen old new (concat went.moves) went.asked;
+    runs = went.runs;
+  }
+
+  closing_seen : (old new : G) (before after : Situation K) → Closing Row Does old before new after → Closing Row Sees (see old) before (see new) after
+  closing_seen old new before after closing = record {
+    mid = see closing.mid;
+    mid' = see closing.mid';
+    session = closing.session;
+    owes = closing.owes;
+    event = closing.event;
+    first = went_seen old closing.mid before _ closing.first;
+    closed_then = closing.closed_then;
+    settled = seen closing.mid closing.mid' (Asked (Settles closing.event)) closing.settled;
+    rest = went_seen closing.mid' new _ after closing.rest;
+  }
+
+  session_seen : {T : Type 0} (turns : ℕ) (result : Result T ControlFault) (session : Standing) (old new : G)
+      → IsSession Row Does turns result session old new → IsSession Row Sees turns result session (see old) (see new)
+  session_seen turns result session old new is = record {
+    actions = is.actions;
+    said = is.said;
+    lost = is.lost;
+    mid = see is.mid;
+    turned = see is.turned;
+    stood = is.stood;
+    last = is.last;
+    row = is.row;
+    greets = is.greets;
+    greeted = chain_seen old is.mid is.said is.greeted;
+    went = went_seen is.mid is.turned _ is.stood is.went;
+    closing = closing_seen is.turned new is.stood is.last is.closing;
+    closed_then = is.closed_then;
+    answered = is.answered;
+    paid = is.paid;
+    heard = is.heard;
+    cut = is.cut;
+    all = is.all;
+    whole = is.whole;
+    reads = is.reads;
+    read_fault = is.read_fault;
+    lost_to = is.lost_to;
+  }
+
+  pub served_seen : {T : Type 0} (turns : ℕ) (result : Result T ControlFault) (session : Standing) (old new : G)
+      → IsServed Row Does turns result session old new → IsServed Row Sees turns result session (see old) (see new)
+  served_seen turns result session old new (inl (memory, same)) = inl (memory, ap see same)
+  served_seen turns result session old new (inr is) = inr (session_seen turns result session old new is)
+
+module _ {H A S R K : Type 0} (Does : H → HostCall A S R K → H → Type 0)
+    (Row : Standing → Given K → ℕ → S → S → Promises → Promises → Standing → List (Action A R K) → Type 0)
+    (Keeps : H → H → Type 0) (none : (host : H) → Keeps host host) (then : (a b c : H) → Keeps a b → Keeps b c → Keeps a c)
+    (kept : (old new : H) (call : HostCall A S R K) → Does old call new → Keeps old new) where
+  chain_keeps : (old new : H) (calls : List (HostCall A S R K)) → Chain Does old calls new → Keeps old new
+  chain_keeps old new [] same = subst (λ (x : H). Keeps old x) (sym same) (none old)
+  chain_keeps old new (call ∷ calls) (mid, did, more) = then old mid new (kept old mid call did) (chain_keeps mid new calls more)
+
+  session_keeps : {T : Type 0} (turns : ℕ) (result : Result T ControlFault) (session : Standing) (old new : H)
+      → IsSession Row Does turns result session old new → Keeps old new
+  session_keeps turns result session old new is =
+      let closing = is.closing in
+      then old is.mid new (chain_keeps old is.mid is.said is.greeted)
+      (then is.mid is.turned new (chain_keeps is.mid is.turned (concat is.went.moves) is.went.asked)
+      (then is.turned closing.mid new (chain_keeps is.turned closing.mid (concat closing.first.moves) closing.first.asked)
+      (then closing.mid closing.mid' new (kept closing.mid closing.mid' (Asked (Settles closing.event)) closing.settled)
+      (chain_keeps closing.mid' new (concat closing.rest.moves) closing.rest.asked))))
+
+  pub served_keeps : {T : Type 0} (turns : ℕ) (result : Result T ControlFault) (session : Standing) (old new : H)
+      → IsServed Row Does turns result session old new → Keeps old new
+  served_keeps turns result session old new (inl (memory, same)) = subst (λ (x : H). Keeps old x) (sym same) (none old)
+  served_keeps turns result session old new (inr is) = session_keeps turns result session old new is

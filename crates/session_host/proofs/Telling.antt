@@ -1,0 +1,592 @@
+-- What a session on a host of its own has read, written and done, told end to end.
+use Rattle.std.proofs.Common.{ℕ, ◌≡◌, ◌⊎◌, inl, inr, List, [], ◌∷◌, ◌++◌, Bool, true, false, Option, Some, None, Result, Ok, Err, refl, sym, ap, subst, append_assoc, ◌∙◌}
+use Rattle.std.specs.Result.{OnErr, OnOk}
+use Rattle.std.proofs.lemmas.Bool.{false≢true}
+use Rattle.std.proofs.lemmas.List.{append-nil}
+use Rattle.std.specs.Io.KnownBytes.{Appends, Consumes, IsAtEnd}
+use Rattle.ftp_reply.specs.Replies.{reply_text}
+use Rattle.ftp_wire.specs.Items.{Item}
+use Rattle.ftp_wire.specs.Reading.{OnlyReadsAs}
+use Rattle.handler_hooks.specs.Events.{Event, event_of}
+use Rattle.rate_floors.specs.Promises.{Promises}
+use Rattle.session_core.specs.declared.events.DataEvent.{DataEvent}
+use Rattle.session_laws.specs.Steps.{Standing}
+use Rattle.session_table.specs.Answers.{answer_form}
+use Rattle.session_table.specs.declared.actions.Action.{Action}
+use Rattle.session_table.specs.declared.actions.Action.TheVariants.{Say, Hook, OpenPassive, ConnectTo, DropData, Start, Abort, CloseControl, ReleaseFloor}
+use Rattle.control_session.proofs.Balance.{chain_split}
+use Rattle.control_session.specs.Calls.{Chain, HostCall}
+use Rattle.control_session.specs.Calls.HostCall.{Asked, Read, ReadEnd, ReadFailed, Released, Tried}
+use Rattle.control_session.specs.Sessions.{IsServed, IsSession, nothing}
+use Rattle.data_side.specs.Sides.{Given, SideCall}
+use Rattle.data_side.specs.Sides.Given.{Line, Held, Came, Closed}
+use Rattle.data_side.specs.Sides.SideCall.{Aborts, Connects, Drops, Looks, Opens, Settles, Starts}
+use Rattle.data_side.specs.Told.{text_of, texts}
+use Rattle.control_session.specs.Turns.{Carried, Carries, Heard, IsTurn, Move, Next, Runs, Situation, Went, at, concat, release_calls}
+use Rattle.control_session.specs.Turns.Move.{Takes, Tries, Asks, Reads, Ends, Fails, Pays}
+use Rattle.control_session.specs.declared.fault.ControlFault.{ControlFault}
+use Rattle.control_turns.proofs.Going.{concat_more}
+use Rattle.control_turns.specs.declared.fault.TurnFault.{TurnFault}
+use Rattle.control_turns.specs.declared.fault.TurnFault.TheVariants.{Write, Memory}
+use Rattle.session_host.specs.Alone.{AloneDoes, Parts}
+use Rattle.session_host.specs.Told.{Act, Acts, Follows, IsEndToEnd, IsTold, IsTurned, Scene, Serves, released}
+use Rattle.session_host.specs.Told.Act.{Turns, Hears, Frees, Lacks}
+
+-- ---- octets that are known
+
+pub appends_none : (xs : Option (List ℕ)) → Appends xs xs []
+appends_none None = tt
+appends_none (Some xs) = sym (append-nil xs)
+
+pub appends_more : (a b c : Option (List ℕ)) (xs ys : List ℕ) → Appends a b xs → Appends b c ys → Appends a c (xs ++ ys)
+appends_more None b c xs ys first second = tt
+appends_more (Some a) None c xs ys first second = absurd first
+appends_more (Some a) (Some b) None xs ys first second = absurd second
+appends_more (Some a) (Some b) (Some c) xs ys first second = second ∙ (ap (λ (t : List ℕ). t ++ ys) first ∙ append_assoc a xs ys)
+
+pub consumes_none : (xs : Option (List ℕ)) → Consumes xs xs []
+consumes_none None = tt
+consumes_none (Some xs) = refl
+
+pub consumes_more : (a b c : Option (List ℕ)) (xs ys : List ℕ) → Consumes a b xs → Consumes b c ys → Consumes a c (xs ++ ys)
+consumes_more None b c xs ys first second = tt
+consumes_more (Some a) None c xs ys first second = absurd first
+consumes_more (Some a) (Some b) None xs ys first second = absurd second
+consumes_more (Some a) (Some b) (Some c) xs ys first second = first ∙ (ap (λ (t : List ℕ). xs ++ t) second ∙ sym (append_assoc xs ys c))
+
+-- ---- what is written of what is said
+
+-- of what was said all was written, unless a reply could not be said: then some of it was, from its front
+abbrev pub Cut : Option TurnFault → List ℕ → List ℕ → Type 0
+Cut None written said = written ≡ said
+Cut (Some fault) written said = (rest : List ℕ) × (said ≡ written ++ rest)
+
+-- the same of what is said more; nothing is written any more once a reply could not be said
+abbrev pub CutBy : Option TurnFault → Option TurnFault → List ℕ → List ℕ → Type 0
+CutBy None None written said = written ≡ said
+CutBy None (Some fault) written said = (rest : List ℕ) × (said ≡ written ++ rest)
+CutBy (Some why) None written said = ⊥
+CutBy (Some why) (Some fault) written said = written ≡ []
+
+cut_more : (lost lost' : Option TurnFault) (written said more saying : List ℕ) → Cut lost written said → CutBy lost lost' more saying → Cut lost' (written ++ more) (said ++ saying)
+cut_more None None written said more saying whole same = ap (λ (x : List ℕ). x ++ more) whole ∙ ap (λ (x : List ℕ). said ++ x) same
+cut_more None (Some fault) written said more saying whole (rest, is) =
+    (rest, ap (λ (x : List ℕ). x ++ saying) (sym whole) ∙ (ap (λ (x : List ℕ). written ++ x) is ∙ sym (append_assoc written more rest)))
+cut_more (Some why) None written said more saying cut same = absurd same
+cut_more (Some why) (Some fault) written said more saying (rest, is) none = (
+  rest ++ saying,
+  ap (λ (x : List ℕ). x ++ saying) is
+      ∙ (append_assoc written rest saying ∙ ap (λ (x : List ℕ). x ++ (rest ++ saying)) (sym (append-nil written) ∙ ap (λ (x : List ℕ). written ++ x) (sym none))),
+)
+
+cut_by_more : (a b c : Option TurnFault) (first says second telling : List ℕ) → CutBy a b first says → CutBy b c second telling → CutBy a c (first ++ second) (says ++ telling)
+cut_by_more None b c first says second telling one two = by b c one two
+  where
+    by : (b c : Option TurnFault) → CutBy None b first says → CutBy b c second telling → CutBy None c (first ++ second) (says ++ telling)
+    by None None one two = ap (λ (x : List ℕ). x ++ second) one ∙ ap (λ (x : List ℕ). says ++ x) two
+    by None (Some fault) one (rest, is) = (rest, ap (λ (x : List ℕ). x ++ telling) (sym one) ∙ (ap (λ (x : List ℕ). first ++ x) is ∙ sym (append_assoc first second rest)))
+    by (Some why) None one two = absurd two
+    by (Some why) (Some fault) (rest, is) none = (
+      rest ++ telling,
+      ap (λ (x : List ℕ). x ++ telling) is
+          ∙ (append_assoc first rest telling ∙ ap (λ (x : List ℕ). x ++ (rest ++ telling)) (sym (append-nil first) ∙ ap (λ (x : List ℕ). first ++ x) (sym none))),
+    )
+cut_by_more (Some why) None c first says second telling one two = absurd one
+cut_by_more (Some why) (Some fault) None first says second telling one two = absurd two
+cut_by_more (Some why) (Some fault) (Some last) first says second telling one two = ap (λ (x : List ℕ). x ++ second) one ∙ two
+
+cut_none : (lost : Option TurnFault) → CutBy lost lost [] []
+cut_none None = refl
+cut_none (Some fault) = refl
+
+module _ {A D H Q K : Type 0} (Asks' : D → SideCall A Q K → D → Type 0) (Told : H → Event → H → Type 0) where
+  -- what one action makes of the data side and of the handler
+  abbrev ServesOne : Action A Q K → D → H → D → H → Type 0
+  ServesOne (Say reply) side hooks side' hooks' = (side' ≡ side) × (hooks' ≡ hooks)
+  ServesOne (Hook call) side hooks side' hooks' = (side' ≡ side) × Told hooks (event_of call) hooks'
+  ServesOne OpenPassive side hooks side' hooks' = Asks' side Opens side' × (hooks' ≡ hooks)
+  ServesOne (ConnectTo to) side hooks side' hooks' = Asks' side (Connects to) side' × (hooks' ≡ hooks)
+  ServesOne DropData side hooks side' hooks' = Asks' side Drops side' × (hooks' ≡ hooks)
+  ServesOne (Start job) side hooks side' hooks' = Asks' side (Starts job) side' × (hooks' ≡ hooks)
+  ServesOne Abort side hooks side' hooks' = Asks' side Aborts side' × (hooks' ≡ hooks)
+  ServesOne CloseControl side hooks side' hooks' = (side' ≡ side) × (hooks' ≡ hooks)
+  ServesOne (ReleaseFloor user) side hooks side' hooks' = (side' ≡ side) × (hooks' ≡ hooks)
+
+  serves_as : (actions : List (Action A Q K)) (side side1 side' : D) (hooks hooks1 hooks' : H) → side1 ≡ side → hooks1 ≡ hooks → Serves Asks' Told actions side1 hooks1 side' hooks' → Serves Asks' Told actions side hooks side' hooks'
+  serves_as actions side side1 side' hooks hooks1 hooks' same also rest =
+      subst (λ (s : D). Serves Asks' Told actions s hooks side' hooks') same (subst (λ (h : H). Serves Asks' Told actions side1 h side' hooks') also rest)
+
+  serves_more : (action : Action A Q K) (actions : List (Action A Q K)) (side side1 side' : D) (hooks hooks1 hooks' : H)
+      → ServesOne action side hooks side1 hooks1 → Serves Asks' Told actions side1 hooks1 side' hooks' → Serves Asks' Told (action ∷ actions) side hooks side' hooks'
+  serves_more (Say reply) actions side side1 side' hooks hooks1 hooks' (same, also) rest = serves_as actions side side1 side' hooks hooks1 hooks' same also rest
+  serves_more (Hook call) actions side side1 side' hooks hooks1 hooks' (same, told) rest = (hooks1, told, serves_as actions side side1 side' hooks1 hooks1 hooks' same refl rest)
+  serves_more OpenPassive actions side side1 side' hooks hooks1 hooks' (did, also) rest = (side1, did, serves_as actions side1 side1 side' hooks hooks1 hooks' refl also rest)
+  serves_more (ConnectTo to) actions side side1 side' hooks hooks1 hooks' (did, also) rest = (side1, did, serves_as actions side1 side1 side' hooks hooks1 hooks' refl also rest)
+  serves_more DropData actions side side1 side' hooks hooks1 hooks' (did, also) rest = (side1, did, serves_as actions side1 side1 side' hooks hooks1 hooks' refl also rest)
+  serves_more (Start job) actions side side1 side' hooks hooks1 hooks' (did, also) rest = (side1, did, serves_as actions side1 side1 side' hooks hooks1 hooks' refl also rest)
+  serves_more Abort actions side side1 side' hooks hooks1 hooks' (did, also) rest = (side1, did, serves_as actions side1 side1 side' hooks hooks1 hooks' refl also rest)
+  serves_more CloseControl actions side side1 side' hooks hooks1 hooks' (same, also) rest = serves_as actions side side1 side' hooks hooks1 hooks' same also rest
+  serves_more (ReleaseFloor user) actions side side1 side' hooks hooks1 hooks' (same, also) rest = serves_as actions side side1 side' hooks hooks1 hooks' same also rest
+
+-- ---- what calls make of a host of its own
+
+module _ {A S C D R W H Q K : Type 0} (Gives : C → ℕ → C → Type 0) (Asks' : D → SideCall A Q K → D → Type 0) (Told : H → Event → H → Type 0)
+    (remaining : R → Option (List ℕ)) (may_fail : R → Bool) (contents : W → Option (List ℕ)) (may_refuse : W → List ℕ → Type 0) where
+  abbrev Does : Parts S C D R W H → HostCall A S Q K → Parts S C D R W H → Type 0
+  Does = AloneDoes Gives Asks' Told remaining may_fail contents may_refuse
+
+  one : (old new : Parts S C D R W H) (calls : List (HostCall A S Q K)) (call : HostCall A S Q K) → calls ≡ call ∷ [] → Chain Does old calls new → Does old call new
+  one old new calls call is chain =
+      let (mid, did, same) = subst (λ (x : List (HostCall A S Q K)). Chain Does old x new) is chain in
+      subst (λ (x : Parts S C D R W H). Does old call x) (sym same) did
+
+  nothing_done : (old new : Parts S C D R W H) (calls : List (HostCall A S Q K)) → calls ≡ [] → Chain Does old calls new → new ≡ old
+  nothing_done old new calls is chain = subst (λ (x : List (HostCall A S Q K)). Chain Does old x new) is chain
+
+  -- all but the data side, the writer and the handler stays
+  record Beside (old new : Parts S C D R W H) : Type 0 where
+    pub store : new.store ≡ old.store
+    pub promises : new.promises ≡ old.promises
+    pub clock : new.clock ≡ old.clock
+    pub reader : new.reader ≡ old.reader
+
+  beside_as : (old new other : Parts S C D R W H) → new ≡ other → Beside old other → Beside old new
+  beside_as old new other same beside = subst (λ (x : Parts S C D R W H). Beside old x) (sym same) beside
+
+  beside_none : (old new : Parts S C D R W H) → new ≡ old → Beside old new
+  beside_none old new same = beside_as old new old same (record { store = refl; promises = refl; clock = refl; reader = refl })
+
+  beside_writer : (old new : Parts S C D R W H) → new ≡ record old { writer = new.writer } → Beside old new
+  beside_writer old new same = beside_as old new (record old { writer = new.writer }) same (record { store = refl; promises = refl; clock = refl; reader = refl })
+
+  beside_hooks : (old new : Parts S C D R W H) → new ≡ record old { hooks = new.hooks } → Beside old new
+  beside_hooks old new same = beside_as old new (record old { hooks = new.hooks }) same (record { store = refl; promises = refl; clock = refl; reader = refl })
+
+  beside_side : (old new : Parts S C D R W H) → new ≡ record old { side = new.side } → Beside old new
+  beside_side old new same = beside_as old new (record old { side = new.side }) same (record { store = refl; promises = refl; clock = refl; reader = refl })
+
+  beside_then : (a b c : Parts S C D R W H) → Beside a b → Beside b c → Beside a c
+  beside_then a b c first second = record {
+    store = second.store ∙ first.store;
+    promises = second.promises ∙ first.promises;
+    clock = second.clock ∙ first.clock;
+    reader = second.reader ∙ first.reader;
+  }
+
+  writes_none : (old new : Parts S C D R W H) → new.writer ≡ old.writer → Appends (contents old.writer) (contents new.writer) []
+  writes_none old new same = subst (λ (w : W). Appends (contents old.writer) (contents w) []) (sym same) (appends_none (contents old.writer))
+
+  -- what carrying out actions makes of a host: what is written of what they say, and the calls that they make
+  record Carrying (old new : Parts S C D R W H) (lost lost' : Option TurnFault) (says : List ℕ) : Type 0 where
+    pub written : List ℕ
+    pub beside : Beside old new
+    pub appended : Appends (contents old.writer) (contents new.writer) written
+    pub cut : CutBy lost lost' written says
+
+  quiet : (old new : Parts S C D R W H) (lost lost' : Option TurnFault) → lost' ≡ lost → Beside old new → new.writer ≡ old.writer → Carrying old new lost lost' []
+  quiet old new lost lost' same beside writer = record {
+    written = [];
+    beside = beside;
+    appended = writes_none old new writer;
+    cut = subst (λ (l : Option TurnFault). CutBy lost l [] []) (sym same) (cut_none lost);
+  }
+
+  asked : (old new : Parts S C D R W H) (calls : List (HostCall A S Q K)) (call : SideCall A Q K) (lost lost' : Option TurnFault) → calls ≡ Asked call ∷ [] → lost' ≡ lost → Chain Does old calls new
+      → (Asks' old.side call new.side × (new.hooks ≡ old.hooks)) × Carrying old new lost lost' []
+  asked old new calls call lost lost' is same chain =
+      let (did, rest) = one old new calls (Asked call) is chain in (
+        (did, ap (λ (x : Parts S C D R W H). x.hooks) rest),
+        quiet old new lost lost' same (beside_side old new rest) (ap (λ (x : Parts S C D R W H). x.writer) rest),
+      )
+
+  idle : (old new : Parts S C D R W H) (calls : List (HostCall A S Q K)) (lost lost' : Option TurnFault) → calls ≡ [] → lost' ≡ lost → Chain Does old calls new
+      → ((new.side ≡ old.side) × (new.hooks ≡ old.hooks)) × Carrying old new lost lost' []
+  idle old new calls lost lost' is same chain =
+      let still = nothing_done old new calls is chain in (
+        (ap (λ (x : Parts S C D R W H). x.side) still, ap (λ (x : Parts S C D R W H). x.hooks) still),
+        quiet old new lost lost' same (beside_none old new still) (ap (λ (x : Parts S C D R W H). x.writer) still),
+      )
+
+  carried_told : (action : Action A Q K) (lost lost' : Option TurnFault) (calls : List (HostCall A S Q K)) (old new : Parts S C D R W H)
+      → Carried action lost calls lost' → Chain Does old calls new → ServesOne Asks' Told action old.side old.hooks new.side new.hooks × Carrying old new lost lost' (text_of action)
+  carried_told (Say reply) None None calls old new is chain =
+      let (did, rest) = one old new calls _ is chain in (
+        (ap (λ (x : Parts S C D R W H). x.side) rest, ap (λ (x : Parts S C D R W H). x.hooks) rest),
+        record { written = reply_text (answer_form reply); beside = beside_writer old new rest; appended = did; cut = refl },
+      )
+  carried_told (Say reply) None (Some Write) calls old new is chain =
+      let (refuses, part, rest) = one old new calls _ is chain in (
+        (ap (λ (x : Parts S C D R W H). x.side) rest, ap (λ (x : Parts S C D R W H). x.hooks) rest),
+        record { written = part.0; beside = beside_writer old new rest; appended = part.3; cut = (part.1, part.2) },
+      )
+  carried_told (Say reply) None (Some Memory) calls old new is chain =
+      let still = nothing_done old new calls is chain in (
+        (ap (λ (x : Parts S C D R W H). x.side) still, ap (λ (x : Parts S C D R W H). x.hooks) still),
+        record {
+          written = [];
+          beside = beside_none old new still;
+          appended = writes_none old new (ap (λ (x : Parts S C D R W H). x.writer) still);
+          cut = (reply_text (answer_form reply), refl);
+        },
+      )
+  carried_told (Say reply) (Some fault) lost' calls old new (is, same) chain =
+      let still = nothing_done old new calls is chain in (
+        (ap (λ (x : Parts S C D R W H). x.side) still, ap (λ (x : Parts S C D R W H). x.hooks) still),
+        record {
+          written = [];
+          beside = beside_none old new still;
+          appended = writes_none old new (ap (λ (x : Parts S C D R W H). x.writer) still);
+          cut = subst (λ (l : Option TurnFault). CutBy (Some fault) l [] (reply_text (answer_form reply))) (sym same) refl;
+        },
+      )
+  carried_told (Hook call) lost lost' calls old new (is, same) chain =
+      let (did, rest) = one old new calls _ is chain in (
+        (ap (λ (x : Parts S C D R W H). x.side) rest, did),
+        quiet old new lost lost' same (beside_hooks old new rest) (ap (λ (x : Parts S C D R W H). x.writer) rest),
+      )
+  carried_told OpenPassive lost lost' calls old new (is, same) chain = asked old new calls Opens lost lost' is same chain
+  carried_told (ConnectTo to) lost lost' calls old new (is, same) chain = asked old new calls (Connects to) lost lost' is same chain
+  carried_told DropData lost lost' calls old new (is, same) chain = asked old new calls Drops lost lost' is same chain
+  carried_told (Start job) lost lost' calls old new (is, same) chain = asked old new calls (Starts job) lost lost' is same chain
+  carried_told Abort lost lost' calls old new (is, same) chain = asked old new calls Aborts lost lost' is same chain
+  carried_told CloseControl lost lost' calls old new (is, same) chain = idle old new calls lost lost' is same chain
+  carried_told (ReleaseFloor user) lost lost' calls old new (is, same) chain = idle old new calls lost lost' is same chain
+
+  carrying_more : (a b c : Parts S C D R W H) (l0 l1 l2 : Option TurnFault) (says telling : List ℕ) → Carrying a b l0 l1 says → Carrying b c l1 l2 telling → Carrying a c l0 l2 (says ++ telling)
+  carrying_more a b c l0 l1 l2 says telling first second = record {
+    written = first.written ++ second.written;
+    beside = beside_then a b c first.beside second.beside;
+    appended = appends_more (contents a.writer) (contents b.writer) (contents c.writer) first.written second.written first.appended second.appended;
+    cut = cut_by_more l0 l1 l2 first.written says second.written telling first.cut second.cut;
+  }
+
+  carries_told : (actions : List (Action A Q K)) (lost lost' : Option TurnFault) (calls : List (HostCall A S Q K)) (old new : Parts S C D R W H)
+      → Carries actions lost calls lost' → Chain Does old calls new → Serves Asks' Told actions old.side old.hooks new.side new.hooks × Carrying old new lost lost' (texts actions)
+  carries_told [] lost lost' calls old new (is, same) chain = idle old new calls lost lost' is same chain
+  carries_told (action ∷ actions) lost lost' calls old new (first, rest, mid, is, carried, carries) chain =
+      let (host, front, back) = chain_split Does old new first rest (subst (λ (x : List (HostCall A S Q K)). Chain Does old x new) is chain) in
+      let (serves, now) = carried_told action lost mid first old host carried front in
+      let (serving, later) = carries_told actions mid lost' rest host new carries back in (
+        serves_more Asks' Told action actions old.side host.side new.side old.hooks host.hooks new.hooks serves serving,
+        carrying_more old host new lost mid lost' (text_of action) (texts actions) now later,
+      )
+
+  paid_told : (paid : List ℕ) (old new : Parts S C D R W H) → Chain Does old (release_calls paid) new → new ≡ record old { promises = released paid old.promises }
+  paid_told [] old new same = same
+  paid_told (user ∷ paid) old new (mid, did, more) =
+      paid_told paid mid new more ∙ ap (λ (x : Parts S C D R W H). record x { promises = released paid x.promises }) did
+
+  -- ---- moves
+
+  module _ (Row : Standing → Given K → ℕ → S → S → Promises → Promises → Standing → List (Action A Q K) → Type 0) where
+    abbrev scene_of : Situation K → Parts S C D R W H → Scene S C D H K
+    scene_of now host = record {
+      session = now.session;
+      came = now.came;
+      taken = now.taken;
+      owed = now.owed;
+      closed = now.closed;
+      store = host.store;
+      promises = host.promises;
+      clock = host.clock;
+      side = host.side;
+      hooks = host.hooks;
+    }
+
+    abbrev Doing : List Item → Scene S C D H K → List ℕ → Scene S C D H K → Type 0
+    Doing = Act Row Gives Asks' Told
+
+    follows_next : (items later : List Item) (now : Situation K) (host : Parts S C D R W H) (given : Given K) (came : Option (DataEvent K)) (taken : List Item)
+        → items ≡ now.heard.items ++ later → Next now given came taken → Follows items (scene_of now host) given came taken
+    follows_next items later now host (Came event) came taken is next = next
+    follows_next items later now host Held came taken is next = next
+    follows_next items later now host (Line item) came taken is (none, held, live, (rest, heard), gone, more) =
+        (none, held, live, (rest ++ later, is ∙ (ap (λ (x : List Item). x ++ later) heard ∙ append_assoc now.taken (item ∷ rest) later)), gone, more)
+    follows_next items later now host Closed came taken is next = next
+
+    -- what a move makes of a session, of what was read and of what was written
+    record Moved (items : List Item) (before : Situation K) (old : Parts S C D R W H) (after : Situation K) (new : Parts S C D R W H) : Type 0 where
+      pub says : List (List ℕ)
+      pub acts : Acts Row Gives Asks' Told says items (scene_of before old) (scene_of after new)
+      pub written : List ℕ
+      pub appended : Appends (contents old.writer) (contents new.writer) written
+      pub cut : CutBy before.lost after.lost written (concat says)
+      pub octets : List ℕ
+      pub consumed : Consumes (remaining old.reader) (remaining new.reader) octets
+      pub heard : after.heard.octets ≡ before.heard.octets ++ octets
+      pub at_end : (before.heard.ended ≡ true → IsAtEnd (remaining old.reader)) → after.heard.ended ≡ true → IsAtEnd (remaining new.reader)
+
+    -- nothing is read
+    read_nothing : (old new : Parts S C D R W H) → new.reader ≡ old.reader → Consumes (remaining old.reader) (remaining new.reader) []
+    read_nothing old new same = subst (λ (r : R). Consumes (remaining old.reader) (remaining r) []) (sym same) (consumes_none (remaining old.reader))
+
+    still_at_end : (old new : Parts S C D R W H) (was is : Bool) → new.reader ≡ old.reader → is ≡ was → (was ≡ true → IsAtEnd (remaining old.reader)) → is ≡ true → IsAtEnd (remaining new.reader)
+    still_at_end old new was is same stays ends ended = subst (λ (r : R). IsAtEnd (remaining r)) (sym same) (ends (sym stays ∙ ended))
+
+    turn_told : (items later : List Item) (before after : Situation K) (calls : List (HostCall A S Q K)) (old new : Parts S C D R W H)
+        → items ≡ before.heard.items ++ later → IsTurn Row before calls after → Chain Does old calls new → Moved items before old after new
+    turn_told items later before after calls old new is turn chain =
+        let (lent, did, rest) = subst (λ (x : List (HostCall A S Q K)). Chain Does old x new) turn.trace chain in
+        let (host, front, back) = chain_split Does lent new (release_calls turn.paid) turn.carried rest in
+        let freed = paid_told turn.paid lent host front in
+        let (serves, carrying) = carries_told turn.actions before.lost after.lost turn.carried host new turn.carries back in
+        let stores : new.store ≡ turn.store' =
+        carrying.beside.store ∙ (ap (λ (x : Parts S C D R W H). x.store) freed ∙ ap (λ (x : Parts S C D R W H). x.store) did.rest) in
+        let clocks : new.clock ≡ lent.clock = carrying.beside.clock ∙ ap (λ (x : Parts S C D R W H). x.clock) freed in
+        let readers : new.reader ≡ old.reader =
+        carrying.beside.reader ∙ (ap (λ (x : Parts S C D R W H). x.reader) freed ∙ ap (λ (x : Parts S C D R W H). x.reader) did.rest) in
+        let writers : host.writer ≡ old.writer = ap (λ (x : Parts S C D R W H). x.writer) freed ∙ ap (λ (x : Parts S C D R W H). x.writer) did.rest in
+        let sides : host.side ≡ old.side = ap (λ (x : Parts S C D R W H). x.side) freed ∙ ap (λ (x : Parts S C D R W H). x.side) did.rest in
+        let handlers : host.hooks ≡ old.hooks = ap (λ (x : Parts S C D R W H). x.hooks) freed ∙ ap (λ (x : Parts S C D R W H). x.hooks) did.rest in
+        let turned : IsTurned Row Gives Asks' Told items (scene_of before old) (texts turn.actions) (scene_of after new) = record {
+          given = turn.given;
+          moment = turn.moment;
+          promises = turn.promises';
+          actions = turn.actions;
+          paid = turn.paid;
+          next = follows_next items later before old turn.given after.came after.taken is turn.next;
+          gives = subst (λ (c : C). Gives old.clock turn.moment c) (sym clocks) did.gives;
+          row = subst (λ (s : S). Row before.session turn.given turn.moment old.store s old.promises turn.promises' after.session turn.actions) (sym stores)
+              (subst (λ (s : S). Row before.session turn.given turn.moment s turn.store' old.promises turn.promises' after.session turn.actions) did.store_lent
+              (subst (λ (p : Promises). Row before.session turn.given turn.moment turn.store turn.store' p turn.promises' after.session turn.actions) did.promises_lent turn.row));
+          owes = turn.owes;
+          promises_are = carrying.beside.promises
+              ∙ (ap (λ (x : Parts S C D R W H). x.promises) freed ∙ ap (λ (x : Parts S C D R W H). released turn.paid x.promises) did.rest);
+          serves = serves_as Asks' Told turn.actions old.side host.side new.side old.hooks host.hooks new.hooks sides handlers serves;
+          closed = turn.closed;
+          says_is = refl;
+        } in
+        record {
+          says = texts turn.actions ∷ [];
+          acts = (scene_of after new, Turns turned, refl);
+          written = carrying.written;
+          appended = subst (λ (w : W). Appends (contents w) (contents new.writer) carrying.written) writers carrying.appended;
+          cut = subst (λ (x : List ℕ). CutBy before.lost after.lost carrying.written x) (sym (append-nil (texts turn.actions))) carrying.cut;
+          octets = [];
+          consumed = read_nothing old new readers;
+          heard = ap (λ (x : Heard). x.octets) turn.heard ∙ sym (append-nil before.heard.octets);
+          at_end = still_at_end old new before.heard.ended after.heard.ended readers (ap (λ (x : Heard). x.ended) turn.heard);
+        }
+
+    -- a move that is one act, and reads and writes nothing
+    plain : (items : List Item) (before after : Situation K) (old new : Parts S C D R W H) → Doing items (scene_of before old) [] (scene_of after new)
+        → new.reader ≡ old.reader → new.writer ≡ old.writer → after.heard ≡ before.heard → after.lost ≡ before.lost → Moved items before old after new
+    plain items before after old new does readers writers heard lost = record {
+      says = [] ∷ [];
+      acts = (scene_of after new, does, refl);
+      written = [];
+      appended = writes_none old new writers;
+      cut = subst (λ (l : Option TurnFault). CutBy before.lost l [] []) (sym lost) (cut_none before.lost);
+      octets = [];
+      consumed = read_nothing old new readers;
+      heard = ap (λ (x : Heard). x.octets) heard ∙ sym (append-nil before.heard.octets);
+      at_end = still_at_end old new before.heard.ended after.heard.ended readers (ap (λ (x : Heard). x.ended) heard);
+    }
+
+    asks_told : (items : List Item) (before after : Situation K) (old new : Parts S C D R W H) (event : Option (DataEvent K)) → before.came ≡ None → after ≡ record before { came = event }
+        → (Asks' old.side (Looks event) new.side) ⊎ (Asks' old.side (Settles event) new.side) → new ≡ record old { side = new.side } → Moved items before old after new
+    asks_told items before after old new event none same asks rest =
+        plain items before after old new
+        (Hears event none
+        (ap (λ (x : Situation K). scene_of x new) same ∙ ap (λ (x : Parts S C D R W H). scene_of (record before { came = event }) x) rest) asks refl)
+        (ap (λ (x : Parts S C D R W H). x.reader) rest) (ap (λ (x : Parts S C D R W H). x.writer) rest)
+        (ap (λ (x : Situation K). x.heard) same) (ap (λ (x : Situation K). x.lost) same)
+
+    -- something is read, and nothing else is done
+    reads_told : (items : List Item) (before after : Situation K) (old new : Parts S C D R W H) (heard : Heard) (octets : List ℕ) → after ≡ record before { heard = heard }
+        → new ≡ record old { reader = new.reader } → Consumes (remaining old.reader) (remaining new.reader) octets → heard.octets ≡ before.heard.octets ++ octets
+        → (heard.ended ≡ true → IsAtEnd (remaining new.reader)) → Moved items before old after new
+    reads_told items before after old new heard octets same rest consumed more ends = record {
+      says = [];
+      acts = ap (λ (x : Situation K). scene_of x new) same ∙ ap (λ (x : Parts S C D R W H). scene_of (record before { heard = heard }) x) rest;
+      written = [];
+      appended = writes_none old new (ap (λ (x : Parts S C D R W H). x.writer) rest);
+      cut = subst (λ (l : Option TurnFault). CutBy before.lost l [] []) (sym (ap (λ (x : Situation K). x.lost) same)) (cut_none before.lost);
+      octets = octets;
+      consumed = consumed;
+      heard = ap (λ (x : Situation K). x.heard.octets) same ∙ more;
+      at_end = λ was ended. ends (sym (ap (λ (x : Situation K). x.heard.ended) same) ∙ ended);
+    }
+
+    never : {X : Type 0} (b : Bool) → b ≡ false → b ≡ true → X
+    never b not is = absurd (false≢true (sym not ∙ is))
+
+    move_told : (items later : List Item) (before after : Situation K) (calls : List (HostCall A S Q K)) (old new : Parts S C D R W H)
+        → items ≡ before.heard.items ++ later → Move Row before calls after → Chain Does old calls new → Moved items before old after new
+    move_told items later before after calls old new is (Takes turn) chain = turn_told items later before after calls old new is turn chain
+    move_told items later before after calls old new is (Tries moment store store' same trace) chain =
+        let did = one old new calls (Tried moment store store') trace chain in
+        let rest : new ≡ record old { clock = new.clock; store = new.store } =
+        did.rest ∙ ap (λ (s : S). record old { clock = new.clock; store = s }) (sym (ap (λ (x : Parts S C D R W H). x.store) did.rest)) in
+        plain items before after old new
+        (Lacks moment did.gives (ap (λ (x : Situation K). scene_of x new) same ∙ ap (λ (x : Parts S C D R W H). scene_of before x) rest) refl)
+        (ap (λ (x : Parts S C D R W H). x.reader) rest) (ap (λ (x : Parts S C D R W H). x.writer) rest)
+        (ap (λ (x : Situation K). x.heard) same) (ap (λ (x : Situation K). x.lost) same)
+    move_told items later before after calls old new is (Asks event none same (inl trace)) chain =
+        let (did, rest) = one old new calls (Asked (Looks event)) trace chain in
+        asks_told items before after old new event none same (inl did) rest
+    move_told items later before after calls old new is (Asks event none same (inr trace)) chain =
+        let (did, rest) = one old new calls (Asked (Settles event)) trace chain in
+        asks_told items before after old new event none same (inr did) rest
+    move_told items later before after calls old new is (Reads octets found live unended same trace) chain =
+        let did = one old new calls (Read octets) trace chain in
+        reads_told items before after old new _ octets same did.rest did.taken refl (λ ended. never before.heard.ended unended ended)
+    move_told items later before after calls old new is (Ends live unended same trace) chain =
+        let (did, ends) = one old new calls ReadEnd trace chain in
+        reads_told items before after old new _ [] same did.rest did.taken (sym (append-nil before.heard.octets)) (λ ended. ends)
+    move_told items later before after calls old new is (Fails live unended same trace) chain =
+        let (did, fails) = one old new calls ReadFailed trace chain in
+        reads_told items before after old new _ [] same did.rest did.taken (sym (append-nil before.heard.octets)) (λ ended. never before.heard.ended unended ended)
+    move_told items later before after calls old new is (Pays user owed owes same trace) chain =
+        let rest = one old new calls (Released user) trace chain in
+        plain items before after old new
+        (Frees user owed owes
+        (ap (λ (x : Situation K). scene_of x new) same ∙ ap (λ (x : Parts S C D R W H). scene_of (record before { owed = owed }) x) rest) refl)
+        (ap (λ (x : Parts S C D R W H). x.reader) rest) (ap (λ (x : Parts S C D R W H). x.writer) rest)
+        (ap (λ (x : Situation K). x.heard) same) (ap (λ (x : Situation K). x.lost) same)
+
+    acts_more : (items : List Item) (first second : List (List ℕ)) (a b c : Scene S C D H K)
+        → Acts Row Gives Asks' Told first items a b → Acts Row Gives Asks' Told second items b c → Acts Row Gives Asks' Told (first ++ second) items a c
+    acts_more items [] second a b c same rest = subst (λ (x : Scene S C D H K). Acts Row Gives Asks' Told second items x c) same rest
+    acts_more items (says ∷ first) second a b c (mid, does, more) rest = (mid, does, acts_more items first second mid b c more rest)
+
+    moved_more : (items : List Item) (x y z : Situation K) (a b c : Parts S C D R W H) → Moved items x a y b → Moved items y b z c → Moved items x a z c
+    moved_more items x y z a b c first second = record {
+      says = first.says ++ second.says;
+      acts = acts_more items first.says second.says (scene_of x a) (scene_of y b) (scene_of z c) first.acts second.acts;
+      written = first.written ++ second.written;
+      appended = appends_more (contents a.writer) (contents b.writer) (contents c.writer) first.written second.written first.appended second.appended;
+      cut = subst (λ (t : List ℕ). CutBy x.lost z.lost (first.written ++ second.written) t) (sym (concat_more first.says second.says))
+          (cut_by_more x.lost y.lost z.lost first.written (concat first.says) second.written (concat second.says) first.cut second.cut);
+      octets = first.octets ++ second.octets;
+      consumed = consumes_more (remaining a.reader) (remaining b.reader) (remaining c.reader) first.octets second.octets first.consumed second.consumed;
+      heard = second.heard ∙ (ap (λ (t : List ℕ). t ++ second.octets) first.heard ∙ append_assoc x.heard.octets first.octets second.octets);
+      at_end = λ was. second.at_end (first.at_end was);
+    }
+
+    moved_none : (items : List Item) (before after : Situation K) (old new : Parts S C D R W H) → after ≡ before → new ≡ old → Moved items before old after new
+    moved_none items before after old new same still = record {
+      says = [];
+      acts = ap (λ (x : Situation K). scene_of x new) same ∙ ap (λ (x : Parts S C D R W H). scene_of before x) still;
+      written = [];
+      appended = writes_none old new (ap (λ (x : Parts S C D R W H). x.writer) still);
+      cut = subst (λ (l : Option TurnFault). CutBy before.lost l [] []) (sym (ap (λ (x : Situation K). x.lost) same)) (cut_none before.lost);
+      octets = [];
+      consumed = read_nothing old new (ap (λ (x : Parts S C D R W H). x.reader) still);
+      heard = ap (λ (x : Situation K). x.heard.octets) same ∙ sym (append-nil before.heard.octets);
+      at_end = still_at_end old new before.heard.ended after.heard.ended (ap (λ (x : Parts S C D R W H). x.reader) still) (ap (λ (x : Situation K). x.heard.ended) same);
+    }
+
+    -- lines are found, and none is lost
+    abbrev Grown : Heard → Heard → Type 0
+    Grown before after = (more : List Item) × (after.items ≡ before.items ++ more)
+
+    grown_as : (before after : Situation K) → after.heard.items ≡ before.heard.items → Grown before.heard after.heard
+    grown_as before after same = ([], same ∙ sym (append-nil before.heard.items))
+
+    move_grows : (before after : Situation K) (calls : List (HostCall A S Q K)) → Move Row before calls after → Grown before.heard after.heard
+    move_grows before after calls (Takes turn) = grown_as before after (ap (λ (x : Heard). x.items) turn.heard)
+    move_grows before after calls (Tries moment store store' same trace) = grown_as before after (ap (λ (x : Situation K). x.heard.items) same)
+    move_grows before after calls (Asks event none same trace) = grown_as before after (ap (λ (x : Situation K). x.heard.items) same)
+    move_grows before after calls (Reads octets found live unended same trace) = (found, ap (λ (x : Situation K). x.heard.items) same)
+    move_grows before after calls (Ends live unended same trace) = grown_as before after (ap (λ (x : Situation K). x.heard.items) same)
+    move_grows before after calls (Fails live unended same trace) = grown_as before after (ap (λ (x : Situation K). x.heard.items) same)
+    move_grows before after calls (Pays user owed owes same trace) = grown_as before after (ap (λ (x : Situation K). x.heard.items) same)
+
+    runs_grow : (moves : List (List (HostCall A S Q K))) (before after : Situation K) → Runs Row moves before after → Grown before.heard after.heard
+    runs_grow [] before after same = grown_as before after (ap (λ (x : Situation K). x.heard.items) same)
+    runs_grow (calls ∷ moves) before after (mid, move, more) =
+        let first = move_grows before mid calls move in
+        let rest = runs_grow moves mid after more in
+        (first.0 ++ rest.0, rest.1 ∙ (ap (λ (x : List Item). x ++ rest.0) first.1 ∙ append_assoc before.heard.items first.0 rest.0))
+
+    runs_told : (items later : List Item) (moves : List (List (HostCall A S Q K))) (before after : Situation K) (old new : Parts S C D R W H)
+        → items ≡ after.heard.items ++ later → Runs Row moves before after → Chain Does old (concat moves) new → Moved items before old after new
+    runs_told items later [] before after old new is same chain = moved_none items before after old new same chain
+    runs_told items later (calls ∷ moves) before after old new is (mid, move, more) chain =
+        let (host, front, back) = chain_split Does old new calls (concat moves) chain in
+        let grown = runs_grow (calls ∷ moves) before after (mid, move, more) in
+        moved_more items before mid after old host new
+        (move_told items (grown.0 ++ later) before mid calls old host (is ∙ (ap (λ (x : List Item). x ++ later) grown.1 ∙ append_assoc before.heard.items grown.0 later)) move front)
+        (runs_told items later moves mid after host new is more back)
+
+    went_told : (items later : List Item) (before after : Situation K) (old new : Parts S C D R W H) → items ≡ after.heard.items ++ later → Went Row Does old before new after → Moved items before old after new
+    went_told items later before after old new is went = runs_told items later went.moves before after old new is went.runs went.asked
+
+    -- ---- the whole
+
+    whole_told : {T : Type 0} (result : Result T ControlFault) (lost : Option TurnFault) (written said : List ℕ) → OnOk result (lost ≡ None) → CutBy None lost written said → OnOk result (written ≡ said)
+    whole_told (Ok value) lost written said none cut = subst (λ (l : Option TurnFault). CutBy None l written said) none cut
+    whole_told (Err fault) lost written said none cut = tt
+
+    part_told : (lost : Option TurnFault) (written said : List ℕ) → CutBy None lost written said → (rest : List ℕ) × (said ≡ written ++ rest)
+    part_told None written said same = ([], sym same ∙ sym (append-nil written))
+    part_told (Some fault) written said cut = cut
+
+    on_ok : {T : Type 0} (result : Result T ControlFault) (P P' : Type 0) → (P → P') → OnOk result P → OnOk result P'
+    on_ok (Ok value) P P' to holds = to holds
+    on_ok (Err fault) P P' to holds = tt
+
+    on_err : {T : Type 0} (result : Result T ControlFault) (P P' : Type 0) → (P → P') → OnErr result P → OnErr result P'
+    on_err (Ok value) P P' to holds = tt
+    on_err (Err fault) P P' to holds = to holds
+
+    over_told : (last : Situation K) (reader : R) → (last.heard.ended ≡ true → IsAtEnd (remaining reader)) → (last.closed ≡ true) ⊎ ((last.heard.ended ≡ true) × (last.heard.items ≡ last.taken))
+        → (last.closed ≡ true) ⊎ (IsAtEnd (remaining reader) × (last.heard.items ≡ last.taken))
+    over_told last reader ends (inl closed) = inl closed
+    over_told last reader ends (inr (ended, all)) = inr (ends ended, all)
+
+    settled_told : (items : List Item) (now : Situation K) (old new : Parts S C D R W H) (event : Option (DataEvent K)) → now.came ≡ None → Does old (Asked (Settles event)) new
+        → Moved items now old (record now { came = event }) new
+    settled_told items now old new event none (did, rest) = asks_told items now (record now { came = event }) old new event none refl (inr did) rest
+
+    pub session_told : {T : Type 0} (turns : ℕ) (result : Result T ControlFault) (session : Standing) (old new : Parts S C D R W H)
+        → IsSession Row Does turns result session old new → IsEndToEnd Row Gives Asks' Told remaining contents result session old new
+    session_told turns result session old new is =
+        let closing = is.closing in
+        let begun = at {K = K} session None [] nothing [] false is.lost in
+        let left = at {K = K} closing.session None is.stood.taken is.stood.heard closing.owes is.stood.closed is.stood.lost in
+        let items = is.last.heard.items in
+        let (later, grown) = runs_grow closing.rest.moves (record left { came = closing.event }) is.last closing.rest.runs in
+        let (serves, greets) = carries_told is.actions None is.lost is.said old is.mid is.greets is.greeted in
+        let moved =
+        moved_more items begun is.stood is.last is.mid is.turned new (went_told items later begun is.stood is.mid is.turned grown is.went)
+        (moved_more items is.stood left is.last is.turned closing.mid new (went_told items later is.stood left is.turned closing.mid grown closing.first)
+        (moved_more items left (record left { came = closing.event }) is.last closing.mid closing.mid' new (settled_told items left closing.mid closing.mid' closing.event refl closing.settled)
+        (went_told items [] (record left { came = closing.event }) is.last closing.mid' new (sym (append-nil items)) closing.rest))) in
+        let cut = cut_by_more None is.lost is.last.lost greets.written (texts is.actions) moved.written (concat moved.says) greets.cut moved.cut in
+        let begins = scene_of begun is.mid in
+        record {
+          read = moved.octets;
+          items = items;
+          written = greets.written ++ moved.written;
+          actions = is.actions;
+          side = is.mid.side;
+          hooks = is.mid.hooks;
+          last = scene_of is.last new;
+          said = moved.says;
+          row = is.row;
+          serves = serves;
+          acts = subst (λ (c : C). Acts Row Gives Asks' Told moved.says items (record begins { store = old.store; promises = old.promises; clock = c }) (scene_of is.last new)) greets.beside.clock
+              (subst (λ (p : Promises). Acts Row Gives Asks' Told moved.says items (record begins { store = old.store; promises = p }) (scene_of is.last new)) greets.beside.promises
+              (subst (λ (s : S). Acts Row Gives Asks' Told moved.says items (record begins { store = s }) (scene_of is.last new)) greets.beside.store moved.acts));
+          closed = is.closed_then;
+          answered = is.answered;
+          paid = is.paid;
+          store_is = refl;
+          promises_are = refl;
+          side_is = refl;
+          hooks_are = refl;
+          consumed = subst (λ (r : R). Consumes (remaining r) (remaining new.reader) moved.octets) greets.beside.reader moved.consumed;
+          heard = subst (λ (x : List ℕ). OnOk result (OnlyReadsAs x items)) moved.heard is.heard;
+          cut = subst (λ (x : List ℕ). OnErr result ((fed unfed : List ℕ) × (x ≡ fed ++ unfed) × OnlyReadsAs fed items)) moved.heard is.cut;
+          over = on_ok result _ _ (over_told is.last new.reader (moved.at_end (λ ended. absurd (false≢true ended)))) is.all;
+          appended = appends_more (contents old.writer) (contents is.mid.writer) (contents new.writer) greets.written moved.written greets.appended moved.appended;
+          whole = whole_told result is.last.lost (greets.written ++ moved.written) (texts is.actions ++ concat moved.says) is.whole cut;
+          part = part_told is.last.lost (greets.written ++ moved.written) (texts is.actions ++ concat moved.says) cut;
+        }
+
+    pub served_told : {T : Type 0} (turns : ℕ) (result : Result T ControlFault) (session : Standing) (old new : Parts S C D R W H)
+        → IsServed Row Does turns result session old new → IsTold Row Gives Asks' Told remaining contents result session old new
+    served_told turns result session old new (inl unserved) = inl unserved
+    served_told turns result session old new (inr is) = inr (session_told turns result session old new is)

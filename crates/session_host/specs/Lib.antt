@@ -1,0 +1,10 @@
+pub mod Alone
+pub mod Silent
+pub mod Told
+pub use Rattle.control_session.specs.Calls
+pub use Rattle.control_session.specs.Floors
+pub use Rattle.control_session.specs.Rows
+pub use Rattle.control_session.specs.Sessions
+pub use Rattle.control_session.specs.Standing
+pub use Rattle.control_session.specs.Turns
+pub use Rattle.control_session.specs.declared.fault.ControlFault

@@ -1,0 +1,144 @@
+-- A control session end to end: what was written is the greeting and the replies of the session table, turn by turn, to the lines
+-- of what was read.
+use Rattle.std.specs.Prelude.{ℕ, ◌≡◌, ◌⊎◌, ◌||◌, List, [], ◌∷◌, ◌++◌, Bool, false, true, Option, Some, None, Result, OnOk, OnErr, IsErrOf}
+use Rattle.std.specs.Io.KnownBytes.{Appends, Consumes, IsAtEnd}
+use Rattle.ftp_wire.specs.Items.{Item}
+use Rattle.ftp_wire.specs.Reading.{OnlyReadsAs}
+use Rattle.handler_hooks.specs.Events.{Event, event_of}
+use Rattle.rate_floors.specs.Promises.{Promises, after_release}
+use Rattle.session_core.specs.declared.events.DataEvent.{DataEvent}
+use Rattle.session_laws.specs.Laws.{releases}
+use Rattle.session_laws.specs.Steps.{Standing}
+use Rattle.session_table.specs.Plans.Plan.{Then}
+use Rattle.session_table.specs.StateRows.{greeting}
+use Rattle.session_table.specs.Views.{is_closed}
+use Rattle.session_table.specs.declared.actions.Action.{Action}
+use Rattle.session_table.specs.declared.actions.Action.TheVariants.{Say, Hook, OpenPassive, ConnectTo, DropData, Start, Abort, CloseControl, ReleaseFloor}
+use Rattle.data_side.specs.Sides.{Given, SideCall}
+use Rattle.data_side.specs.Sides.Given.{Line, Held, Came, Closed}
+use Rattle.data_side.specs.Sides.SideCall.{Opens, Connects, Drops, Starts, Aborts, Looks, Settles}
+use Rattle.data_side.specs.Told.{closes, texts}
+use Rattle.control_session.specs.Turns.{concat, due}
+use Rattle.control_session.specs.declared.fault.ControlFault.{ControlFault}
+use Rattle.control_session.specs.declared.fault.ControlFault.TheVariants.{Memory}
+use Rattle.session_host.specs.Alone.{Parts}
+
+-- Where a session stands: what it knows; what came of the data side and was not taken; the lines that were taken so far; the users
+-- whose floors are still to be released; whether the control connection is to be closed; the store, the floors, the clock, the data
+-- side and the handler.
+pub record Scene (S C D H K : Type 0) : Type 0 where
+  pub session : Standing
+  pub came : Option (DataEvent K)
+  pub taken : List Item
+  pub owed : List ℕ
+  pub closed : Bool
+  pub store : S
+  pub promises : Promises
+  pub clock : C
+  pub side : D
+  pub hooks : H
+
+-- a session of each of these users is released, one after another
+abbrev pub released : List ℕ → Promises → Promises
+released [] promises = promises
+released (user ∷ users) promises = released users (after_release promises user)
+
+-- What may come next among these lines, what then is left of what came, and the lines that are taken then: what came of the data
+-- side; a held line that is due, where nothing came; the next line, where no held line is due; Closed at any time.
+abbrev pub Follows : {S C D H K : Type 0} → List Item → Scene S C D H K → Given K → Option (DataEvent K) → List Item → Type 0
+Follows items now (Came event) came taken = (now.came ≡ Some event) × (came ≡ None) × (taken ≡ now.taken)
+Follows items now Held came taken = (now.came ≡ None) × (due now.session ≡ true) × (came ≡ None) × (taken ≡ now.taken)
+Follows items now (Line item) came taken = (now.came ≡ None) × (due now.session ≡ false) × (now.closed ≡ false)
+    × ((rest : List Item) × (items ≡ now.taken ++ item ∷ rest)) × (came ≡ None) × (taken ≡ now.taken ++ item ∷ [])
+Follows items now Closed came taken = (came ≡ now.came) × (taken ≡ now.taken)
+
+-- Asks is what a call makes of the data side, and Told what one makes of the handler.
+module _ {A D H Q K : Type 0} (Asks : D → SideCall A Q K → D → Type 0) (Told : H → Event → H → Type 0) where
+  -- just the calls of the actions are made, in order
+  abbrev pub Serves : List (Action A Q K) → D → H → D → H → Type 0
+  Serves [] side hooks side' hooks' = (side' ≡ side) × (hooks' ≡ hooks)
+  Serves (Say reply ∷ actions) side hooks side' hooks' = Serves actions side hooks side' hooks'
+  Serves (Hook call ∷ actions) side hooks side' hooks' = (mid : H) × Told hooks (event_of call) mid × Serves actions side mid side' hooks'
+  Serves (OpenPassive ∷ actions) side hooks side' hooks' = (mid : D) × Asks side Opens mid × Serves actions mid hooks side' hooks'
+  Serves (ConnectTo to ∷ actions) side hooks side' hooks' = (mid : D) × Asks side (Connects to) mid × Serves actions mid hooks side' hooks'
+  Serves (DropData ∷ actions) side hooks side' hooks' = (mid : D) × Asks side Drops mid × Serves actions mid hooks side' hooks'
+  Serves (Start job ∷ actions) side hooks side' hooks' = (mid : D) × Asks side (Starts job) mid × Serves actions mid hooks side' hooks'
+  Serves (Abort ∷ actions) side hooks side' hooks' = (mid : D) × Asks side Aborts mid × Serves actions mid hooks side' hooks'
+  Serves (CloseControl ∷ actions) side hooks side' hooks' = Serves actions side hooks side' hooks'
+  Serves (ReleaseFloor user ∷ actions) side hooks side' hooks' = Serves actions side hooks side' hooks'
+
+-- Row says which rows there are, Gives which moments the clock may give.
+module _ {A S C D H Q K : Type 0} (Row : Standing → Given K → ℕ → S → S → Promises → Promises → Standing → List (Action A Q K) → Type 0)
+    (Gives : C → ℕ → C → Type 0) (Asks : D → SideCall A Q K → D → Type 0) (Told : H → Event → H → Type 0) where
+  -- An input is taken: its row, at a moment that the clock gives. Floors are released, the calls of its actions are made, and this is
+  -- what they say.
+  pub record IsTurned (items : List Item) (before : Scene S C D H K) (says : List ℕ) (after : Scene S C D H K) : Type 0 where
+    pub given : Given K
+    pub moment : ℕ
+    pub promises : Promises
+    pub actions : List (Action A Q K)
+    pub paid : List ℕ
+    pub next : Follows items before given after.came after.taken
+    pub gives : Gives before.clock moment after.clock
+    pub row : Row before.session given moment before.store after.store before.promises promises after.session actions
+    pub owes : releases actions ++ before.owed ≡ paid ++ after.owed
+    pub promises_are : after.promises ≡ released paid promises
+    pub serves : Serves Asks Told actions before.side before.hooks after.side after.hooks
+    pub closed : after.closed ≡ (before.closed || closes actions)
+    pub says_is : says ≡ texts actions
+
+  -- what one thing is that a session does, beside reading and writing, and what is said for it
+  pub data Act (items : List Item) (before : Scene S C D H K) (says : List ℕ) (after : Scene S C D H K) : Type 0 where
+    Turns : IsTurned items before says after → Act items before says after
+    -- the data side is asked what has come, or for the end of what still runs
+    Hears : (event : Option (DataEvent K)) → before.came ≡ None → after ≡ record before { came = event; side = after.side }
+        → (Asks before.side (Looks event) after.side) ⊎ (Asks before.side (Settles event) after.side) → says ≡ [] → Act items before says after
+    -- a floor that was owed is released
+    Frees : (user : ℕ) (owed : List ℕ) → before.owed ≡ user ∷ owed
+        → after ≡ record before { owed = owed; promises = after_release before.promises user } → says ≡ [] → Act items before says after
+    -- there was no memory for a step: the floors stay
+    Lacks : (moment : ℕ) → Gives before.clock moment after.clock
+        → after ≡ record before { clock = after.clock; store = after.store } → says ≡ [] → Act items before says after
+
+  -- one after another, each with what is said for it
+  abbrev pub Acts : List (List ℕ) → List Item → Scene S C D H K → Scene S C D H K → Type 0
+  Acts [] items before after = after ≡ before
+  Acts (says ∷ more) items before after = (mid : Scene S C D H K) × Act items before says mid × Acts more items mid after
+
+  module _ {R W T : Type 0} (remaining : R → Option (List ℕ)) (contents : W → Option (List ℕ)) (result : Result T ControlFault) (session : Standing)
+      (old new : Parts S C D R W H) where
+    -- What was read stands for lines. From the greeting on, what the session does leads to where it is closed: the data side has
+    -- nothing more to tell it, and no floor is owed. Ok: all those lines were taken, up to one that closed the control connection or
+    -- to the end of the text, and what was written is what was said; Err: it is some of that, from its front.
+    pub record IsEndToEnd : Type 0 where
+      pub read : List ℕ
+      pub items : List Item
+      pub written : List ℕ
+      pub actions : List (Action A Q K)
+      pub side : D
+      pub hooks : H
+      pub last : Scene S C D H K
+      pub row : Then session.view actions ≡ greeting session.view
+      pub serves : Serves Asks Told actions old.side old.hooks side hooks
+      pub said : List (List ℕ)
+      pub acts : Acts said items
+          (record { session = session; came = None; taken = []; owed = []; closed = false; store = old.store; promises = old.promises; clock = old.clock; side = side; hooks = hooks })
+          last
+      pub closed : is_closed last.session.view.stage ≡ true
+      pub answered : last.came ≡ None
+      pub paid : last.owed ≡ []
+      pub store_is : new.store ≡ last.store
+      pub promises_are : new.promises ≡ last.promises
+      pub side_is : new.side ≡ last.side
+      pub hooks_are : new.hooks ≡ last.hooks
+      pub consumed : Consumes (remaining old.reader) (remaining new.reader) read
+      pub heard : OnOk result (OnlyReadsAs read items)
+      pub cut : OnErr result ((fed unfed : List ℕ) × (read ≡ fed ++ unfed) × OnlyReadsAs fed items)
+      pub over : OnOk result ((last.closed ≡ true) ⊎ (IsAtEnd (remaining new.reader) × (items ≡ last.taken)))
+      pub appended : Appends (contents old.writer) (contents new.writer) written
+      pub whole : OnOk result (written ≡ texts actions ++ concat said)
+      pub part : (rest : List ℕ) × (texts actions ++ concat said ≡ written ++ rest)
+
+    -- there was no memory to begin, and nothing was read or written; or there was a session
+    abbrev pub IsTold : Type 0
+    IsTold = (IsErrOf result Memory × (new ≡ old)) ⊎ IsEndToEnd

@@ -1,0 +1,156 @@
+//! The host of one session, which has all for itself.
+
+ghost use Rattle.std.specs.Prelude.{◌≡◌, ◌<◌};
+
+use crate::stepping::step_lent;
+use authorizer::Authorizer;
+use control_session::{DataEvent, DataSide, Host, Leaving, Moments, Piece, Session};
+use ftp_wire::HostPort;
+use handler_hooks::{Hooks, tell};
+use rate_floors::Floors;
+use session_table::{Action, HookCall, Input, Job, Text};
+use std::alloc::{Allocator, Global};
+use std::{io, mem};
+use text_ends::{TextReader, TextWriter};
+use virtual_tree::Store;
+
+/// What is outside of a control session, for this session alone: nobody else changes any of it while the session lasts.
+#[derive(Drop)]
+pub struct SoleHost<S, F: Allocator, C, D, R, W, H> {
+    pub store: S,
+    pub floors: Floors<F>,
+    /// Asked once for each step.
+    pub clock: C,
+    pub side: D,
+    /// Gives the client's text. A read waits until something has come.
+    pub reader: R,
+    /// Takes the replies.
+    pub writer: W,
+    pub hooks: H,
+}
+
+/// What a read gave that gave so many octets.
+pub fn piece_of(count: usize) -> Piece
+    ensures end { count ≡ 0 → result ≡ Piece.AtEnd }
+    ensures octets { 0 < count → result ≡ Piece.Octets count }
+{
+    if count == 0 {
+        return Piece::AtEnd;
+    }
+    Piece::Octets(count)
+}
+
+impl<
+    S: Store<Global>,
+    F: Allocator + Clone,
+    C: Moments,
+    D: DataSide<Global, S::Source, S::Sink>,
+    R: TextReader,
+    W: TextWriter,
+    H: Hooks,
+> Host<Global> for SoleHost<S, F, C, D, R, W, H> {
+    type Store = S;
+
+    type Source = S::Source;
+
+    type Sink = S::Sink;
+
+    ghost use Rattle.session_host.specs.Alone.{SoleDoes};
+
+    ghost Step = { S.Step };
+
+    ghost Does = { SoleDoes C.Gives D.Asks H.Told R.remaining R.may_fail W.contents W.may_refuse };
+
+    fn step(
+        &mut self,
+        users: &Authorizer,
+        session: &mut Session,
+        input: &mut Option<Input<Global, S::Sink>>,
+    ) -> Result<Vec<Action<Global, S::Source, S::Sink>>, Option<DataEvent<S::Sink>>> {
+        let moment = self.clock.moment();
+        let Some(input) = mem::replace(input, None) else {
+            return Err(None);
+        };
+        match step_lent(
+            users,
+            session,
+            &mut self.floors,
+            &mut self.store,
+            input,
+            moment,
+        ) {
+            Ok(actions) => Ok(actions),
+            Err(back) => Err(back),
+        }
+    }
+
+    fn close(
+        &mut self,
+        _users: &Authorizer,
+        session: &mut Session,
+        nobody: &mut Option<Text>,
+    ) -> Option<Leaving<Global>> {
+        self.clock.moment();
+        match mem::replace(nobody, None) {
+            None => unreachable!(),
+            Some(nobody) => session.leave::<S>(nobody),
+        }
+    }
+
+    fn end(
+        &mut self,
+        _users: &Authorizer,
+        session: &mut Session,
+        event: &mut Option<DataEvent<S::Sink>>,
+    ) {
+        let moment = self.clock.moment();
+        if let Some(event) = mem::replace(event, None) {
+            session.take_event_silently(&mut self.store, event, moment);
+        }
+    }
+
+    fn release(&mut self, user: u32) {
+        self.floors.release(user);
+    }
+
+    fn note(&mut self, call: &HookCall<Global>) {
+        tell(&mut self.hooks, call);
+    }
+
+    fn write(&mut self, reply: &[u8]) -> io::Result<()> {
+        self.writer.write_text(reply)
+    }
+
+    fn read(&mut self, buffer: &mut [u8]) -> io::Result<Piece> {
+        let count = self.reader.read_front(buffer)?;
+        Ok(piece_of(count))
+    }
+
+    fn open_passive(&mut self) {
+        self.side.open_passive();
+    }
+
+    fn connect_to(&mut self, to: HostPort) {
+        self.side.connect_to(to);
+    }
+
+    fn drop_data(&mut self) {
+        self.side.drop_data();
+    }
+
+    fn start(&mut self, job: &mut Option<Job<Global, S::Source, S::Sink>>) {
+        self.side.start(job);
+    }
+
+    fn abort(&mut self) {
+        self.side.abort();
+    }
+
+    fn look(&mut self) -> Option<DataEvent<S::Sink>> {
+        self.side.look()
+    }
+
+    fn settle(&mut self) -> Option<DataEvent<S::Sink>> {
+        self.side.settle()
+    }
+}

@@ -1,0 +1,30 @@
+-- What a lane tells a session of a job that has ended.
+use Rattle.std.specs.Prelude.{◌≡◌, Option, Some, None}
+use Rattle.session_table.specs.declared.inputs.End.{End}
+use Rattle.session_table.specs.declared.inputs.End.TheVariants.{Done, Lost, Local, NoMemory, Aborted}
+use Rattle.transfer_worker.specs.declared.end.JobEnd.{JobEnd}
+use Rattle.transfer_worker.specs.declared.end.JobEnd.TheVariants as job
+use Rattle.transfer_worker.specs.declared.job.Ran.{Ran}
+use Rattle.transfer_worker.specs.declared.job.Ran.TheVariants.{Out, In, Unopened}
+
+-- of a download, whose file is read and whose connection is written
+abbrev pub sent_end : JobEnd → End
+sent_end job.Ended = Done
+sent_end job.ReadFault = Local
+sent_end job.WriteFault = Lost
+sent_end job.Memory = NoMemory
+sent_end job.Stopped = Aborted
+
+-- of an upload, whose connection is read and whose file is written
+abbrev pub received_end : JobEnd → End
+received_end job.Ended = Done
+received_end job.ReadFault = Lost
+received_end job.WriteFault = Local
+received_end job.Memory = NoMemory
+received_end job.Stopped = Aborted
+
+-- what is told, by what is left of the job: only its file can not have been opened
+abbrev pub told_end : {R K C A : Type 0} → JobEnd → Ran R K C A → End
+told_end end (Out out) = sent_end end
+told_end end (In upload) = received_end end
+told_end end Unopened = sent_end end

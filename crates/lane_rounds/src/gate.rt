@@ -1,0 +1,165 @@
+//! The gate of a lane.
+
+ghost use Rattle.std.specs.Prelude.{◌≡◌};
+
+use crate::ends::told_of;
+use crate::rounds::help;
+use crate::turns::Turns;
+use data_sockets::{DataConnection, Served, Told};
+use event_word::micros;
+use handler_hooks::Hooks;
+use lent_parts::{LentDesk, PartsName};
+use server_house::{House, LaneSign, Stage};
+use std::alloc::Global;
+use std::sync::{Mutex, Wait};
+use std::thread;
+use std::time::{Clock, Duration};
+use transfer_worker::{Gate, Go, JobEnd, Ran};
+use virtual_tree::Store;
+
+/// How long a lane waits for an answer before it looks by itself, in milliseconds. Each answer wakes it.
+const BACKSTOP: u64 = 200;
+
+/// How long it gives way to other threads before it sleeps, in microseconds.
+const PATIENCE: u64 = 20;
+
+/// How long it waits behind a grant of 0 octets, in microseconds: half a tick of the pace.
+const PAUSE: u64 = 1_000;
+
+/// What a lane asks before it goes on with a transfer. It waits for answers, and holds rounds.
+#[derive(Drop)]
+pub(crate) struct LaneGate<'r, 'h, 'd, 't, R, S: Store<Global>, H: Hooks, B: PartsName, N> {
+    rt: &'r R,
+    house: &'h House<S, H, B>,
+    desk: &'d LentDesk<B, N>,
+    turns: &'t Mutex<Turns<B, N>>,
+    lane: usize,
+    last: Go,
+    // how many answers there were at the last call, and how many calls since the last of them
+    seen: u64,
+    calls: u32,
+    // what had moved at the last answer
+    moved: u64,
+}
+
+impl<'r, 'h, 'd, 't, R, S, H, B, N> LaneGate<'r, 'h, 'd, 't, R, S, H, B, N>
+where
+    R: Wait + Clock + AllocGlobal,
+    S: Store<Global>,
+    H: Hooks,
+    B: PartsName,
+{
+    /// The gate of a lane for its next transfer.
+    pub(crate) fn new(
+        rt: &'r R,
+        house: &'h House<S, H, B>,
+        desk: &'d LentDesk<B, N>,
+        turns: &'t Mutex<Turns<B, N>>,
+        lane: usize,
+    ) -> Self {
+        let seen = match house.lanes.get(lane) {
+            Some(sign) => sign.answered.seen(),
+            None => 0,
+        };
+        LaneGate {
+            rt,
+            house,
+            desk,
+            turns,
+            lane,
+            last: Go::On,
+            seen,
+            calls: 0,
+            moved: 0,
+        }
+    }
+
+    // An answer has come since the last call: the next thing is an ask. Where it granted nothing, the rates have nothing left:
+    // it waits for a moment.
+    fn take_answer(&mut self, seen: u64, moved: u64) {
+        self.seen = seen;
+        self.calls = 1;
+        if moved == self.moved {
+            thread::sleep(self.rt, Duration::from_micros(PAUSE));
+        }
+        self.moved = moved;
+    }
+
+    // Waits for an answer to the ask, if one was made: of two calls since the last answer one may have stood before it.
+    fn await_answer(&self, sign: &LaneSign) {
+        let now = micros(self.rt);
+        let limit = match help(self.rt.alloc(), self.house, self.desk, self.turns, now) {
+            Some(moment) => Duration::from_micros(moment.saturating_sub(now)),
+            None => {
+                if self.calls <= 2 {
+                    return;
+                }
+                Duration::from_millis(BACKSTOP)
+            }
+        };
+        sign.answered.wait(self.rt, self.seen, PATIENCE, limit);
+    }
+
+    fn wait(&mut self, moved: u64) {
+        let house = self.house;
+        match house.lanes.get(self.lane) {
+            Some(sign) => {
+                let seen = sign.answered.seen();
+                if seen != self.seen {
+                    self.take_answer(seen, moved);
+                    return;
+                }
+                self.calls = self.calls.saturating_add(1);
+                if self.calls > 1 {
+                    self.await_answer(sign);
+                }
+            }
+            None => {}
+        }
+    }
+}
+
+impl<'r, 'h, 'd, 't, R, S, H, B, N> Gate<
+    Ran<Served<Global, S::Source>, S::Sink, DataConnection, Global>,
+> for LaneGate<'r, 'h, 'd, 't, R, S, H, B, N>
+where
+    R: Wait + Clock + AllocGlobal,
+    S: Store<Global>,
+    H: Hooks,
+    B: PartsName,
+{
+    ghost use Rattle.std.specs.Prelude.{None};
+
+    ghost last_go = { λ gate. gate.last };
+
+    ghost heard = { λ _. None };
+
+    ghost passed = { λ _. None };
+
+    fn pass(&mut self, _session: u32, moved: u64) -> Go {
+        if self.house.ending.has_begun(Stage::Lanes) {
+            self.last = Go::Stop;
+            return Go::Stop;
+        }
+        self.wait(moved);
+        self.last = Go::On;
+        Go::On
+    }
+
+    fn last(&self) -> Go {
+        self.last
+    }
+
+    fn done(
+        &mut self,
+        session: u32,
+        end: JobEnd,
+        ran: Ran<Served<Global, S::Source>, S::Sink, DataConnection, Global>,
+    ) {
+        let Told { end, sink } = told_of(end, ran);
+        match self.house.cells.get(session as usize) {
+            Some(cell) => cell.tell(self.rt, end, sink),
+            None => {}
+        }
+    }
+}

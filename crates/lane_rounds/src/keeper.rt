@@ -1,0 +1,49 @@
+//! The thread of rounds.
+
+use crate::rounds::{Tried, try_one};
+use crate::turns::Turns;
+use event_word::micros;
+use handler_hooks::Hooks;
+use lent_parts::{LentDesk, PartsName};
+use server_house::{House, Stage};
+use std::alloc::Global;
+use std::sync::{Mutex, Wait};
+use std::thread;
+use std::time::{Clock, Duration};
+use virtual_tree::Store;
+
+/// How long it waits for the bell before it looks by itself, in milliseconds.
+const BACKSTOP: u64 = 200;
+
+/// Holds rounds where no lane does, until the lanes are to end.
+pub fn keep_rounds<R, S, H, B, N>(
+    rt: &R,
+    house: &House<S, H, B>,
+    desk: &LentDesk<B, N>,
+    turns: &Mutex<Turns<B, N>>,
+)
+where
+    R: Wait + Clock + AllocGlobal,
+    S: Store<Global>,
+    H: Hooks,
+    B: PartsName,
+{
+    for _ in rt.forever() {
+        let seen = house.bell.seen();
+        if house.ending.has_begun(Stage::Lanes) {
+            return;
+        }
+        let now = micros(rt);
+        match try_one(rt.alloc(), house, desk, turns, now) {
+            Tried::NotBefore(moment) => {
+                thread::sleep(rt, Duration::from_micros(moment.saturating_sub(now)));
+            }
+            Tried::Held(_) | Tried::ByAnother => {
+                house
+                    .bell
+                    .wait(rt, seen, 0, Duration::from_millis(BACKSTOP));
+            }
+        }
+    }
+    unreachable!()
+}

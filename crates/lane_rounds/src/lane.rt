@@ -1,0 +1,69 @@
+//! The thread of a lane.
+
+use crate::gate::LaneGate;
+use crate::turns::Turns;
+use data_sockets::{DataConnection, Served};
+use handler_hooks::Hooks;
+use lent_parts::{LentDesk, LentPass, LentWorker, PartsName};
+use line_rates::Way;
+use server_house::{House, LaneSign, Stage};
+use std::alloc::Global;
+use std::io::{Read, Write};
+use std::sync::{Mutex, Wait};
+use std::time::{Clock, Duration};
+use transfer_worker::LaneJob;
+use virtual_tree::{Sink, Source, Store};
+
+/// How long an idle lane waits before it looks by itself, in milliseconds. Each transfer that is pushed wakes one.
+const IDLE: u64 = 1_000;
+
+// Says for whom the lane works.
+fn sign<R: Source, K: Sink, C: Read + Write + Drop>(sign: &LaneSign, job: &LaneJob<R, K, C>) {
+    match job {
+        LaneJob::Send { user, .. } => sign.name.set(Way::Down, *user),
+        LaneJob::Take { user, .. } => sign.name.set(Way::Up, *user),
+    }
+}
+
+/// Takes transfers from the board and runs each to its end, until the lanes are to end.
+pub fn work_lane<R, S, H, B, N>(
+    rt: &R,
+    house: &House<S, H, B>,
+    desk: &LentDesk<B, N>,
+    turns: &Mutex<Turns<B, N>>,
+    worker: &mut LentWorker<B, N>,
+    mut pass: LentPass<B, LaneJob<Served<Global, S::Source>, S::Sink, DataConnection>>,
+)
+where
+    R: Wait + Clock + AllocGlobal,
+    S: Store<Global>,
+    H: Hooks,
+    B: PartsName,
+{
+    let lane = worker.lane();
+    for _ in rt.forever() {
+        if !worker.is_free() {
+            return;
+        }
+        let seen = house.jobs.seen();
+        match house.board.pop(rt, &mut pass) {
+            Some(job) => {
+                match house.lanes.get(lane) {
+                    Some(own) => sign(own, &job),
+                    None => {}
+                }
+                let mut gate = LaneGate::new(rt, house, desk, turns, lane);
+                if worker.work(rt, rt.alloc(), desk, job, &mut gate) {
+                    return;
+                }
+            }
+            None => {
+                if house.ending.has_begun(Stage::Lanes) {
+                    return;
+                }
+                house.jobs.wait(rt, seen, Duration::from_millis(IDLE));
+            }
+        }
+    }
+    unreachable!()
+}

@@ -1,0 +1,18 @@
+//! The lanes of a server, and the rounds that they hold for each other.
+//!
+//! A lane takes transfers from the board and runs each to its end ([`work_lane`]). Where its ask is not answered yet, it tries the
+//! lock of the [`Turns`] and holds a round itself, for all that have asked; nobody waits for that lock. If another holds it, that
+//! one looks at the bell once it has let go, so no ask is left. [`keep_rounds`] stands behind them: it holds a round where no
+//! lane does. The pace says when a round may be held and what it may grant.
+#![tactic(auto)]
+
+mod ends;
+mod gate;
+mod keeper;
+mod lane;
+mod rounds;
+mod turns;
+
+pub use keeper::keep_rounds;
+pub use lane::work_lane;
+pub use turns::Turns;

@@ -1,0 +1,86 @@
+//! A handler that notes what it is told.
+
+use handler_hooks::Hooks;
+use jiff::Timestamp;
+use log::{Log, info};
+use std::time::Clock;
+
+/// Notes each event with its time, in UTC.
+#[derive(Drop)]
+pub struct Notes<L> {
+    log: L,
+}
+
+// The time of day; the beginning of 1970 if the clock cannot be read.
+fn time<R: Clock>(rt: &R) -> Timestamp {
+    let seconds = match rt.since_1970() {
+        Ok(time) => time.as_secs(),
+        Err(_) => 0,
+    };
+    match i64::try_from(seconds) {
+        Ok(seconds) => match Timestamp::from_second(seconds) {
+            Ok(time) => time,
+            Err(_) => Timestamp::UNIX_EPOCH,
+        },
+        Err(_) => Timestamp::UNIX_EPOCH,
+    }
+}
+
+impl<L: Log + Clock> Notes<L> {
+    /// Notes that go to this log.
+    pub fn new(log: L) -> Notes<L> {
+        Notes { log }
+    }
+
+    fn note(&self, what: &str) {
+        let time = time(&self.log);
+        info!(self.log; target: "", "{time} {what}");
+    }
+
+    fn note_name(&self, what: &str, name: &str) {
+        let time = time(&self.log);
+        info!(self.log; target: "", "{time} {what} {name:?}");
+    }
+}
+
+impl<L: Log + Clock + Drop> Hooks for Notes<L> {
+    ghost use Rattle.std.specs.Prelude.{⊤};
+
+    ghost Told = { λ _ _ _. ⊤ };
+
+    fn on_connect(&mut self) {
+        self.note("connect");
+    }
+
+    fn on_disconnect(&mut self) {
+        self.note("disconnect");
+    }
+
+    fn on_login(&mut self, user: &str) {
+        self.note_name("login", user);
+    }
+
+    fn on_login_failed(&mut self, user: &str) {
+        self.note_name("login failed", user);
+    }
+
+    fn on_logout(&mut self, user: &str) {
+        self.note_name("logout", user);
+    }
+
+    fn on_file_sent(&mut self, path: &str) {
+        self.note_name("sent", path);
+    }
+
+    fn on_file_received(&mut self, path: &str) {
+        self.note_name("received", path);
+    }
+
+    fn on_incomplete_file_sent(&mut self, path: &str) {
+        self.note_name("not sent whole", path);
+    }
+
+    fn on_incomplete_file_received(&mut self, path: &str) {
+        self.note_name("not received whole", path);
+    }
+}

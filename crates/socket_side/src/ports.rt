@@ -1,0 +1,37 @@
+//! The passive ports of a server, as one of its sessions listens on them.
+
+use data_sockets::listen;
+use resting_ports::{PortHost, RestingPorts};
+use std::net::{Net, TcpListener, TcpStream};
+use std::sync::{Mutex, Wait};
+
+/// The passive ports behind their lock, and the address that is listened on.
+#[derive(Drop)]
+pub struct SharedPorts<'r, 'p, R> {
+    pub rt: &'r R,
+    pub ports: &'p Mutex<RestingPorts>,
+    pub address: [u8; 4],
+}
+
+impl<'r, 'p, R> PortHost<TcpListener> for SharedPorts<'r, 'p, R>
+where
+    R: Wait + Net<Listener = TcpListener, Stream = TcpStream>,
+{
+    ghost use Rattle.std.specs.Prelude.{⊤};
+
+    ghost Asks = { λ _ _ _. ⊤ };
+
+    fn lease(&mut self) -> Option<u16> {
+        self.ports.lock(self.rt).lease()
+    }
+
+    fn bind(&mut self, port: u16) -> Option<TcpListener>
+        ensures { ⊤ }
+    {
+        listen(self.rt, self.address, port)
+    }
+
+    fn rest(&mut self, port: u16) {
+        self.ports.lock(self.rt).give_back(port);
+    }
+}

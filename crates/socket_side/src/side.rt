@@ -1,0 +1,392 @@
+//! The data side of a session.
+
+use crate::ports::SharedPorts;
+use crate::running::{Prepared, Running, is_upload, lane_job, over, sink_of};
+use data_sockets::{DataConnection, Told, accept_from, socket_address};
+use event_word::micros;
+use ftp_wire::HostPort;
+use handler_hooks::Hooks;
+use lent_parts::PartsName;
+use resting_ports::{MOST_TRIES, open_passive};
+use server_house::House;
+use session_core::DataEvent;
+use session_table::{End, Job};
+use std::alloc::Global;
+use std::mem;
+use std::net::{Net, TcpListener, TcpStream};
+use std::sync::{Arc, Wait};
+use std::time::{Clock, Duration};
+use virtual_tree::Store;
+
+/// How long a write or a read of a data connection may stand still, in milliseconds: a third of a minute, since a write that
+/// moved a part before its time was up counts as one that moved, and so a peer that reads nothing costs three.
+const STANDSTILL: u64 = 20_000;
+
+/// How long a client may take to come to its passive port, in microseconds.
+const PATIENCE: u64 = 60_000_000;
+
+/// How long it is tried to connect to a client's port, in milliseconds.
+const CONNECTING: u64 = 5_000;
+
+/// How long one look at what runs may wait, in milliseconds.
+const LOOK: u64 = 20;
+
+/// The data side of the session of one control connection.
+#[derive(Drop)]
+pub struct SocketSide<R: Copy, S: Store<Global>, H: Hooks, B: PartsName> {
+    rt: R,
+    house: Arc<House<S, H, B>, Global>,
+    peer: [u8; 4],
+    // the number of the connection, by which lanes know the session
+    key: usize,
+    session: u32,
+    prepared: Prepared,
+    running: Running<S::Source, S::Sink>,
+    // a port that was opened, or that none was free, to be told
+    ready: Option<Option<u16>>,
+    // how many ends were told when the transfer was handed over
+    seen: u64,
+}
+
+impl<R, S, H, B> SocketSide<R, S, H, B>
+where
+    R: Wait + Clock + Net<Listener = TcpListener, Stream = TcpStream> + AllocGlobal + Copy,
+    S: Store<Global>,
+    H: Hooks,
+    B: PartsName,
+{
+    /// Nothing is prepared, and nothing runs.
+    pub fn new(
+        rt: R,
+        house: Arc<House<S, H, B>, Global>,
+        peer: [u8; 4],
+        key: usize,
+        session: u32,
+    ) -> Self {
+        SocketSide {
+            rt,
+            house,
+            peer,
+            key,
+            session,
+            prepared: Prepared::Nothing,
+            running: Running::Nothing,
+            ready: None,
+            seen: 0,
+        }
+    }
+
+    /// Drops what was prepared: a port rests.
+    pub fn drop_data(&mut self) {
+        let before = mem::replace(&mut self.prepared, Prepared::Nothing);
+        match before {
+            Prepared::Listening(listener, port) => self.close_port(listener, port),
+            Prepared::Nothing | Prepared::Target(_) => {}
+        }
+    }
+
+    fn close_port(&self, listener: TcpListener, port: u16) {
+        drop(listener);
+        self.house.ports.lock(&self.rt).give_back(port);
+    }
+
+    /// The runtime.
+    pub fn rt(&self) -> &R {
+        &self.rt
+    }
+
+    /// The house.
+    pub fn house(&self) -> &House<S, H, B> {
+        &self.house
+    }
+
+    // A port that is leased and listened on.
+    fn listening(&self) -> Option<(u16, TcpListener)> {
+        let mut ports = SharedPorts {
+            rt: &self.rt,
+            ports: &self.house.ports,
+            address: self.house.numbers.address,
+        };
+        open_passive(&mut ports, MOST_TRIES)
+    }
+
+    /// Listens on a passive port, if one is free, which the next look tells.
+    pub fn open_passive(&mut self) {
+        self.drop_data();
+        match self.listening() {
+            Some((port, listener)) => {
+                self.prepared = Prepared::Listening(listener, port);
+                self.ready = Some(Some(port));
+            }
+            None => self.ready = Some(None),
+        }
+    }
+
+    /// The next transfer connects to this port.
+    pub fn connect_to(&mut self, to: HostPort) {
+        self.drop_data();
+        self.prepared = Prepared::Target(to);
+    }
+
+    // How many ends were told.
+    fn told_so_far(&self) -> u64 {
+        match self.house.cells.get(self.key) {
+            Some(cell) => cell.seen(),
+            None => 0,
+        }
+    }
+
+    // Hands a transfer to the lanes.
+    fn hand_over(&mut self, stream: TcpStream, job: Job<Global, S::Source, S::Sink>, user: u32) {
+        let _ = stream.set_nodelay(true);
+        let _ = stream.set_write_timeout(Some(Duration::from_millis(STANDSTILL)));
+        if is_upload(&job) {
+            let _ = stream.set_read_timeout(Some(Duration::from_millis(3 * STANDSTILL)));
+        }
+        self.seen = self.told_so_far();
+        self.running = match DataConnection::new(self.rt.alloc(), stream) {
+            Ok(own) => match own.another() {
+                Ok(theirs) => self.push(own, theirs, job, user),
+                Err(_) => over(End::NoMemory, job),
+            },
+            Err(_) => over(End::NoMemory, job),
+        };
+    }
+
+    fn push(
+        &self,
+        own: DataConnection,
+        theirs: DataConnection,
+        job: Job<Global, S::Source, S::Sink>,
+        user: u32,
+    ) -> Running<S::Source, S::Sink> {
+        let job = lane_job(job, theirs, user, self.session);
+        let mut pass = self.house.pass.lock(&self.rt);
+        match self.house.board.push(&self.rt, &mut *pass, job) {
+            Ok(()) => {
+                self.house.jobs.signal_one();
+                Running::Moving {
+                    connection: own,
+                    is_aborted: false,
+                }
+            }
+            Err(job) => Running::Over(Told {
+                end: End::NoConnection,
+                sink: sink_of(job),
+            }),
+        }
+    }
+
+    // Whose connections are taken.
+    fn wanted_peer(&self) -> Option<[u8; 4]> {
+        if self.house.settings.permits_foreign_addresses {
+            None
+        } else {
+            Some(self.peer)
+        }
+    }
+
+    // Looks once whether the client has come to its port.
+    fn await_client(
+        &mut self,
+        listener: TcpListener,
+        port: u16,
+        job: Job<Global, S::Source, S::Sink>,
+        since: u64,
+        user: u32,
+    ) {
+        match accept_from(&listener, self.wanted_peer()) {
+            Some(stream) => {
+                self.close_port(listener, port);
+                self.hand_over(stream, job, user);
+            }
+            None => {
+                if micros(&self.rt).saturating_sub(since) > PATIENCE {
+                    self.close_port(listener, port);
+                    self.running = over(End::NoConnection, job);
+                } else {
+                    self.running = Running::Awaited {
+                        listener,
+                        port,
+                        job,
+                        since,
+                    };
+                }
+            }
+        }
+    }
+
+    /// Begins a transfer of a user over the connection that was prepared.
+    pub fn start(&mut self, job: Job<Global, S::Source, S::Sink>, user: u32) {
+        let prepared = mem::replace(&mut self.prepared, Prepared::Nothing);
+        match prepared {
+            Prepared::Nothing => self.running = over(End::NoConnection, job),
+            Prepared::Target(to) => {
+                let at = socket_address(to.address, to.port);
+                match TcpStream::connect_timeout(&self.rt, &at, Duration::from_millis(CONNECTING)) {
+                    Ok(stream) => self.hand_over(stream, job, user),
+                    Err(_) => self.running = over(End::NoConnection, job),
+                }
+            }
+            Prepared::Listening(listener, port) => {
+                let since = micros(&self.rt);
+                self.await_client(listener, port, job, since, user);
+            }
+        }
+    }
+
+    /// Aborts what runs: its end is told by a later look.
+    pub fn abort(&mut self) {
+        let before = mem::replace(&mut self.running, Running::Nothing);
+        self.running = match before {
+            Running::Awaited {
+                listener,
+                port,
+                job,
+                since: _,
+            } => {
+                self.close_port(listener, port);
+                over(End::Aborted, job)
+            }
+            Running::Moving {
+                connection,
+                is_aborted: _,
+            } => {
+                connection.abort();
+                Running::Moving {
+                    connection,
+                    is_aborted: true,
+                }
+            }
+            Running::Nothing => Running::Nothing,
+            Running::Over(told) => Running::Over(told),
+        };
+    }
+
+    // The end that a lane has told, if it has.
+    fn told(&self) -> Option<Told<S::Sink>> {
+        match self.house.cells.get(self.key) {
+            Some(cell) => cell.take(&self.rt),
+            None => None,
+        }
+    }
+
+    // The end of what runs, if it has ended. Whatever the lane tells of an aborted transfer, it was aborted. The connection is
+    // closed before, so that the client reads the end of the data no later than the reply.
+    fn take_end(&mut self) -> Option<Told<S::Sink>> {
+        let before = mem::replace(&mut self.running, Running::Nothing);
+        match before {
+            Running::Nothing => None,
+            Running::Over(told) => Some(told),
+            Running::Awaited {
+                listener,
+                port,
+                job,
+                since,
+            } => {
+                self.running = Running::Awaited {
+                    listener,
+                    port,
+                    job,
+                    since,
+                };
+                None
+            }
+            Running::Moving {
+                connection,
+                is_aborted,
+            } => match self.told() {
+                Some(Told { end, sink }) => {
+                    drop(connection);
+                    let end = if is_aborted { End::Aborted } else { end };
+                    Some(Told { end, sink })
+                }
+                None => {
+                    self.running = Running::Moving {
+                        connection,
+                        is_aborted,
+                    };
+                    None
+                }
+            },
+        }
+    }
+
+    // Takes the client's connection, if it has come.
+    fn go_on(&mut self, user: u32) {
+        let before = mem::replace(&mut self.running, Running::Nothing);
+        match before {
+            Running::Awaited {
+                listener,
+                port,
+                job,
+                since,
+            } => self.await_client(listener, port, job, since, user),
+            Running::Nothing => {}
+            Running::Moving {
+                connection,
+                is_aborted,
+            } => {
+                self.running = Running::Moving {
+                    connection,
+                    is_aborted,
+                };
+            }
+            Running::Over(told) => self.running = Running::Over(told),
+        }
+    }
+
+    /// What has come: a port, or the end of the transfer of this user, or nothing yet. It does not wait.
+    pub fn look(&mut self, user: u32) -> Option<DataEvent<S::Sink>> {
+        if let Some(port) = self.ready.take() {
+            return Some(DataEvent::Ready(port));
+        }
+        self.go_on(user);
+        match self.take_end() {
+            Some(Told { end, sink }) => Some(DataEvent::Ended { end, sink }),
+            None => None,
+        }
+    }
+
+    /// Whether something was begun whose end was not told.
+    pub fn is_busy(&self) -> bool {
+        !matches!(&self.running, Running::Nothing)
+    }
+
+    /// Waits a moment for the end of what moves. Returns whether something has come, or may have.
+    pub fn rest(&self) -> bool {
+        match &self.running {
+            Running::Moving { .. } => match self.house.cells.get(self.key) {
+                Some(cell) => {
+                    cell.wait(&self.rt, self.seen, 0, Duration::from_millis(LOOK));
+                    cell.seen() != self.seen
+                }
+                None => true,
+            },
+            Running::Over(_) => true,
+            Running::Nothing | Running::Awaited { .. } => false,
+        }
+    }
+
+    /// Waits for the end of what runs, which it aborts where no client has come, and tells it. What was prepared is dropped.
+    pub fn settle(&mut self) -> Option<DataEvent<S::Sink>> {
+        self.drop_data();
+        self.ready = None;
+        let rt = self.rt;
+        for _ in rt.forever() {
+            if let Running::Awaited { .. } = &self.running {
+                self.abort();
+            }
+            match self.take_end() {
+                Some(Told { end, sink }) => return Some(DataEvent::Ended { end, sink }),
+                None => {
+                    if !self.is_busy() {
+                        return None;
+                    }
+                    self.rest();
+                }
+            }
+        }
+        unreachable!()
+    }
+}

@@ -792,3 +792,54 @@ class Reading:
         """A file's second and octets, or a directory's names."""
         file = self.room.store.at(path)
         return [f"{file.second}: {file.octets}"] if file else map(name_of, self.room.store.entries(path))
+
+
+class Talks(Reading):
+    """The same of whole control sessions, as the loop of the server runs them between `:talk` and their ends: held lines are
+    taken as soon as they are due, what a step releases comes first, and the end of a session is told at once."""
+
+    def answer(self, line):
+        self.room.told.clear()
+        if line == ":talk":
+            self.take_word("anew")
+        elif line == ":closed":
+            self.close()
+        else:
+            self.take(lambda: super(Talks, self).take_word(*line[1:].split(" ")) if line.startswith(":") else self.session.take_line(line))
+        return self.shown()
+
+    def finish(self):
+        """What is printed where the script ends within a session."""
+        self.room.told.clear()
+        if not self.session.is_over:
+            self.close()
+        return self.shown()
+
+    def shown(self):
+        return "".join(f"{it}\r\n" for it in self.room.told)
+
+    def take(self, step):
+        """One step, and the held lines behind it."""
+        is_closed = self.take_step(step)
+        while not is_closed and self.session.held and self.session.is_open and not self.session.begun:
+            is_closed = self.take_step(self.session.take_held)
+        if is_closed:
+            self.close()
+
+    def take_step(self, step):
+        """Whether a step closes the control connection."""
+        before, self.room.told = self.room.told, []
+        step()
+        told = self.room.told
+        released = [it for it in told if it == "[release]"]
+        self.room.told = before + released + [it for it in told if it not in ("[release]", "[close]")]
+        return "[close]" in told
+
+    def close(self):
+        """The session ends: what still runs is aborted, and what is owed is released last."""
+        before, self.room.told = self.room.told, []
+        self.session.take_closed()
+        self.session.take_end("aborted", "")
+        told = self.room.told
+        owed = [it for it in told if it == "[release]"]
+        self.room.told = before + [it for it in told if it != "[release]"] + owed + ["[over]"]

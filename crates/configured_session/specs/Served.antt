@@ -1,37 +1,32 @@
 -- A control session of a configured server, whose store is in memory.
-use Rattle.std.specs.Prelude.{◌≡◌, ◌⊎◌, ℕ, List, Option, String}
+use Rattle.std.specs.Prelude.{◌≡◌, ◌⊎◌, ℕ, List, Option, String, Result, Ok, Err}
 use Rattle.std.specs.declared.alloc.Global.{Global}
-use Rattle.config_store.specs.declared.store.ServedStore.TheVariants as served
-use Rattle.script_session.specs.Sessions.{IsBroken, IsSession, greeting_of, new_session}
-use Rattle.line_rates.specs.Rates.{Rates}
-use Rattle.memory_store.specs.InMemory.{Memory, InMemory}
-use Rattle.rate_floors.specs.Promises.{HasNoSessions, Promises}
-use Rattle.script_session.specs.Scripts.{AnswersScript, IsFirst, home_address}
-use Rattle.script_session.specs.declared.side.ScriptSide.{ScriptSide}
 use Rattle.authorizer.specs.Users.{Users}
+use Rattle.config_store.specs.declared.store.ServedStore.TheVariants as served
+use Rattle.line_rates.specs.Rates.{Rates}
+use Rattle.memory_store.specs.InMemory.{Memory}
+use Rattle.rate_floors.specs.Promises.{HasNoSessions, Promises}
+use Rattle.script_session.specs.ControlFault.{ControlFault}
+use Rattle.script_session.specs.ControlFault.TheVariants.{Memory as NoMemory}
+use Rattle.script_session.specs.Scripts.{IsScript}
 use Rattle.server_config.specs.declared.config.Config.{Config}
 use Rattle.session_table.specs.declared.settings.Settings.{Settings}
-use Rattle.text_ends.specs.Parts.{AppendsPart}
 use Rattle.configured_session.specs.declared.fault.ServeFault.{ServeFault}
 use Rattle.configured_session.specs.declared.fault.ServeFault.TheVariants.{Folder, Control}
 
--- a whole session over a store, from floors of these rates with no session counted; old and new are what is left to be
--- read, out and out' what was written
-pub record IsServedBy (users : Users) (rates : Rates) (store : Memory) (settings : Settings Global) (port : ℕ) (old new out out' : Option (List ℕ)) : Type 0 where
+-- A whole session over a store, from floors of these rates with no session counted, which are the same in the end: old and new are
+-- what is left to be read, out and out' what was written.
+pub record IsServedBy (users : Users) (rates : Rates) (store : Memory) (settings : Settings Global) (port : ℕ) (old new out out' : Option (List ℕ)) (result : Result (Unit {0}) ControlFault) : Type 0 where
   pub promises : Promises
-  pub promises' : Promises
   pub store' : Memory
-  pub side' : ScriptSide
   pub rates_are : promises.rates ≡ rates
   pub none : HasNoSessions promises
-  pub session : IsSession Global IsFirst InMemory AnswersScript users old new out out' (new_session settings home_address) promises store (record { port = port }) promises' store' side'
+  pub script : IsScript users settings port promises store store' old new out out' result
 
--- a session that breaks off, before its greeting is out or later
-abbrev pub IsBrokenBy : Users → Rates → Memory → Settings Global → ℕ → Option (List ℕ) → Option (List ℕ) → Option (List ℕ) → Option (List ℕ) → Type 0
-IsBrokenBy users rates store settings port old new out out' =
-    AppendsPart out out' (greeting_of (new_session settings home_address))
-    ⊎ ((promises : Promises) × (promises.rates ≡ rates) × HasNoSessions promises
-    × IsBroken Global IsFirst InMemory AnswersScript users old new out out' (new_session settings home_address) promises store (record { port = port }))
+-- a session that breaks off, or for whose floors there was no memory
+abbrev pub IsBrokenBy : Users → Rates → Memory → Settings Global → ℕ → Option (List ℕ) → Option (List ℕ) → Option (List ℕ) → Option (List ℕ) → ControlFault → Type 0
+IsBrokenBy users rates store settings port old new out out' why =
+    IsServedBy users rates store settings port old new out out' (Err why) ⊎ ((why ≡ NoMemory) × (new ≡ old) × (out' ≡ out))
 
 -- the configured store is in memory, and this holds of it
 abbrev pub InStore : (Memory → Type 0) → Config → Type 0
@@ -40,10 +35,10 @@ InStore Holds config = (store : Memory) × (config.store ≡ served.Memory store
 -- the session over the configured store was served whole
 abbrev pub IsServed : Config → Option (List ℕ) → Option (List ℕ) → Option (List ℕ) → Option (List ℕ) → Type 0
 IsServed config old new out out' =
-    InStore (λ store. IsServedBy config.users.users config.limits store config.settings config.numbers.passive_first old new out out') config
+    InStore (λ store. IsServedBy config.users.users config.limits store config.settings config.numbers.passive_first old new out out' (Ok tt)) config
 
 -- a folder is configured, or the session over the configured store breaks off
 abbrev pub IsUnserved : Config → Option (List ℕ) → Option (List ℕ) → Option (List ℕ) → Option (List ℕ) → ServeFault → Type 0
 IsUnserved config old new out out' Folder = ((text : String Global) × (config.store ≡ served.Folder text)) × (new ≡ old) × (out' ≡ out)
 IsUnserved config old new out out' (Control why) =
-    InStore (λ store. IsBrokenBy config.users.users config.limits store config.settings config.numbers.passive_first old new out out') config
+    InStore (λ store. IsBrokenBy config.users.users config.limits store config.settings config.numbers.passive_first old new out out' why) config

@@ -1,6 +1,6 @@
 //! A session of a configured server.
 
-ghost use Rattle.std.specs.Prelude.{◌≡◌, Err, IfErr, Ok, OnErr, OnOk};
+ghost use Rattle.std.specs.Prelude.{◌≡◌, Err, IfErr, Ok, OnOk};
 ghost use Rattle.script_session.specs.ControlFault.{ControlFault};
 ghost use Rattle.configured_session.specs.declared.fault.ServeFault.TheVariants as ServeFault;
 ghost use Rattle.configured_session.specs.Served.{IsBrokenBy, IsServed, IsServedBy, IsUnserved};
@@ -30,8 +30,8 @@ fn serve_memory<R: TextReader, W: TextWriter>(
 ) -> Result<(), ControlFault>
     ensures served { OnOk result (IsServedBy users.now.users limits.now store settings port
         (R.remaining reader.old) (R.remaining reader.new)
-        (W.contents writer.old) (W.contents writer.new)) }
-    ensures broken { OnErr result (IsBrokenBy users.now.users limits.now store settings port
+        (W.contents writer.old) (W.contents writer.new) (Ok tt)) }
+    ensures broken { IfErr result (IsBrokenBy users.now.users limits.now store settings port
         (R.remaining reader.old) (R.remaining reader.new)
         (W.contents writer.old) (W.contents writer.new)) }
 {

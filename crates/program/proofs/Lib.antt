@@ -1,3 +1,4 @@
 pub mod Ends
 pub mod Scripts
+pub mod Serves
 pub mod WholeTexts

@@ -2,6 +2,7 @@
 ghost use Rattle.std.specs.Prelude.{◌≡◌};
 ghost use Rattle.program.specs.Endings.{status_of};
 
+use crate::server::ServerFault;
 use configured_session::ServeFault;
 use server_config::ConfigFault;
 use sheet_program::{Ending as Common, Told};
@@ -20,6 +21,8 @@ pub enum Ending {
     Config(ConfigFault),
     /// A folder is configured where the store has to be in memory, or the control session broke off.
     Session(ServeFault),
+    /// The server did not end as it was configured to.
+    Server(ServerFault),
 }
 
 impl Ending {
@@ -29,7 +32,7 @@ impl Ending {
     {
         match self {
             Ending::Common(ending) => ending.status(),
-            Ending::Config(_) | Ending::Session(_) => 1,
+            Ending::Config(_) | Ending::Session(_) | Ending::Server(_) => 1,
         }
     }
 }
@@ -51,6 +54,7 @@ impl fmt::Display for Ending {
                 }
                 writeln!(f, "{NAME}: {fault}")
             }
+            Ending::Server(fault) => writeln!(f, "{NAME}: {fault}"),
         }
     }
 }

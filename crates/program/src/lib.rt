@@ -4,8 +4,9 @@
 //! ```text
 //! let mut files = Text(SMALL); // opens what the words name
 //! let mut output = Vec::new(rt.alloc());
+//! let mut server = Noting::new(); // what `serve` would call
 //! let words = ["migrate", "ftpd.toml"];
-//! let ending = run_words(rt.alloc(), &words, &mut files, &mut output);
+//! let ending = run_words(rt.alloc(), &words, &mut files, &mut server, &mut output);
 //! holds(&rt, ending.status() == 0);
 //! holds(&rt, output.starts_with(b"version = 2\n"));
 //! ```
@@ -15,9 +16,12 @@ mod ending;
 mod migrating;
 mod run;
 mod scripting;
+mod server;
+mod serving;
 
 pub use ending::Ending;
 pub use migrating::run_migrate;
 pub use run::run_words;
 pub use scripting::{ScriptFault, run_script};
+pub use server::{Server, ServerFault};
 pub use sheet_program::{Openings, STANDARD_INPUT};

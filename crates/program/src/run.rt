@@ -1,5 +1,5 @@
 //! Running the command of a line's words.
-ghost use Rattle.std.specs.Prelude.{◌≡◌, ◌≢◌, ◌⊎◌, ◌∷◌, [], ℕ, List, codes, map};
+ghost use Rattle.std.specs.Prelude.{◌≡◌, ◌≢◌, ◌⊎◌, ◌∷◌, [], ℕ, List, None, Some, codes, map};
 ghost use Rattle.clap.specs.Words.{fault_of, subcommand_of};
 ghost use Rattle.command_line.specs.Commands.{ftpd};
 ghost use Rattle.command_line.specs.Given.{IsFound, IsPlainWord, IsRefusal};
@@ -11,10 +11,13 @@ ghost use Rattle.sheet_program.specs.Runs.{IsCheckEnd, IsShareEnd};
 ghost use Rattle.sheet_program.specs.declared.ending.Ending.TheVariants.{Fault};
 ghost use Rattle.program.specs.Endings.{IsCommon, IsUnwritten};
 ghost use Rattle.program.specs.Runs.{IsCommandEnd, IsMigrateEnd, IsScriptEnd};
+ghost use Rattle.program.specs.Serving.{IsServeEnd};
 
 use super::ending::Ending;
 use super::migrating::run_migrate;
 use super::scripting::{ScriptFault, run_script};
+use super::server::Server;
+use super::serving::serve;
 use command_line::{Words, read_words};
 use sheet_program::{Ending as Common, Openings, STANDARD_INPUT, run_sheet_words, tell};
 use std::alloc::Global;
@@ -71,13 +74,14 @@ fn script<O: Openings, W: TextWriter>(
     }
 }
 
-fn run_command<O: Openings, W: TextWriter>(
+fn run_command<O: Openings, W: TextWriter, V: Server<W>>(
     alloc: Global,
     words: Words<'_>,
     files: &mut O,
+    server: &mut V,
     output: &mut W,
 ) -> Ending
-    ensures end { IsCommandEnd (O.Gives files.old) words.entry
+    ensures end { IsCommandEnd (O.Gives files.old) V.Serves words.entry
         (W.contents output.old) (W.contents output.new) result }
     ensures unwritten { IsUnwritten result → output.new ≡ output.old }
 {
@@ -85,16 +89,20 @@ fn run_command<O: Openings, W: TextWriter>(
         Words::Sheet(words) => Ending::Common(run_sheet_words(alloc, words, files, output)),
         Words::Migrate { config } => migrate(alloc, config, files, output),
         Words::Script { config } => script(alloc, config, files, output),
+        Words::Serve { config, stop_file } => {
+            serve(alloc, config, stop_file, files, server, output)
+        }
     }
 }
 
 /// Runs the command of the words, which come without the program's name. Nothing is written to the output where the
 /// words are refused, nor before a fault other than that of the output; of a session that broke off, some replies may
-/// have been.
-pub fn run_words<O: Openings, W: TextWriter>(
+/// have been, and of a server that ended early, what it tells.
+pub fn run_words<O: Openings, W: TextWriter, V: Server<W>>(
     alloc: Global,
     words: &[&str],
     files: &mut O,
+    server: &mut V,
     output: &mut W,
 ) -> Ending
     ensures share { (sheet : List ℕ) → IsPlainWord sheet
@@ -113,10 +121,18 @@ pub fn run_words<O: Openings, W: TextWriter>(
         → map (λ s. s.now) words.now ≡ codes "script" ∷ config ∷ []
         → IsScriptEnd (O.Gives files.old) config
         (W.contents output.old) (W.contents output.new) result }
+    ensures serve { (config : List ℕ) → IsPlainWord config
+        → map (λ s. s.now) words.now ≡ codes "serve" ∷ config ∷ []
+        → IsServeEnd (O.Gives files.old config) V.Serves None
+        (W.contents output.old) (W.contents output.new) result }
+    ensures serve_until { (config path : List ℕ) → IsPlainWord config → IsPlainWord path
+        → map (λ s. s.now) words.now ≡ codes "serve" ∷ config ∷ codes "--stop-file" ∷ path ∷ []
+        → IsServeEnd (O.Gives files.old config) V.Serves (Some path)
+        (W.contents output.old) (W.contents output.new) result }
     ensures command { fault_of ftpd (map (λ s. s.now) words.now) ≡ []
         → (result ≡ Ending.Common (Fault ProgramFault.Memory)) ⊎ ((command : Words)
         × IsFound (subcommand_of ftpd (map (λ s. s.now) words.now)) command
-        × IsCommandEnd (O.Gives files.old) command
+        × IsCommandEnd (O.Gives files.old) V.Serves command
         (W.contents output.old) (W.contents output.new) result) }
     ensures told { fault_of ftpd (map (λ s. s.now) words.now) ≢ [] → (fault : WordsFault)
         × IsRefusal (fault_of ftpd (map (λ s. s.now) words.now)) fault
@@ -124,7 +140,7 @@ pub fn run_words<O: Openings, W: TextWriter>(
     ensures unwritten { IsUnwritten result → output.new ≡ output.old }
 {
     match read_words(alloc, words) {
-        Ok(words) => run_command(alloc, words, files, output),
+        Ok(words) => run_command(alloc, words, files, server, output),
         Err(fault) => Ending::Common(tell(fault, output)),
     }
 }

@@ -32,7 +32,10 @@ fn judged(alloc: Global, octets: &[u8]) -> Result<Config, ScriptFault>
 }
 
 /// The configuration that a reader gives.
-fn read_config<C: TextReader>(alloc: Global, reader: &mut C) -> Result<Config, ScriptFault>
+pub(crate) fn read_config<C: TextReader>(
+    alloc: Global,
+    reader: &mut C,
+) -> Result<Config, ScriptFault>
     ensures config { IfOk result (IsConfigOf (C.remaining reader.old)) }
     ensures refused { IfErr result (IsUnconfigured (C.remaining reader.old)) }
     ensures too_long { IsErrOf result (ScriptFault.Reading ProgramFault.TooLong)

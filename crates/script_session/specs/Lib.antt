@@ -1,3 +1,3 @@
 pub mod Scripts
-pub use Rattle.script_control.specs.Sessions
-pub use Rattle.script_control.specs.declared.fault.ControlFault
+pub use Rattle.session_host.specs.Sessions
+pub use Rattle.session_host.specs.ControlFault

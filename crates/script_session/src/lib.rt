@@ -25,5 +25,5 @@ mod script;
 mod side;
 
 pub use script::serve_text;
-pub use script_control::ControlFault;
+pub use session_host::ControlFault;
 pub use side::{ScriptSide, StillClock};

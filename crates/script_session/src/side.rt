@@ -1,13 +1,10 @@
 //! The clock and the data side of a session without sockets.
 
-ghost use Rattle.std.specs.Prelude.{None};
-ghost use Rattle.session_table.specs.declared.actions.Job.TheVariants.{Text, SendFile, TakeFile};
-ghost use Rattle.script_session.specs.Scripts.{IsFirst, IsSent, AnswersScript};
+ghost use Rattle.script_session.specs.Scripts.{AnswersScript, EndsScript, IsSent, StandsStill};
 
-use ftp_terms::DataType;
 use ftp_wire::HostPort;
-use script_control::{DataSide, Moments};
-use session_table::{End, Octets};
+use session_host::{DataEvent, DataSide, Moments};
+use session_table::{End, Job};
 use std::alloc::Allocator;
 use virtual_tree::{Source, StoreFault};
 
@@ -16,18 +13,20 @@ use virtual_tree::{Source, StoreFault};
 pub struct StillClock;
 
 impl Moments for StillClock {
-    ghost may_answer = { λ _ moment. IsFirst moment };
+    ghost Gives = { StandsStill };
 
-    fn moment(&self) -> u64 {
+    fn moment(&mut self) -> u64 {
         0
     }
 }
 
-/// Tells the same passive port each time, takes a download whole and throws it away, and brings no octets for an
-/// upload.
-#[derive(Clone, Copy, Debug)]
-pub struct ScriptSide {
+/// Tells the same passive port each time. A transfer ends as it begins: a download is taken whole and thrown away, an
+/// upload brings no octets. What it has to tell waits until it is asked.
+#[derive(Drop)]
+pub struct ScriptSide<K> {
     pub port: u16,
+    /// What it has to tell.
+    pub came: Option<DataEvent<K>>,
 }
 
 /// How the reading of a file ends that the store refuses to go on with.
@@ -62,37 +61,50 @@ fn take_whole<R: Source>(source: R) -> End
     drain(&mut source, &mut [0u8; 256])
 }
 
-impl<A: Allocator, R: Source, K: Drop> DataSide<A, R, K> for ScriptSide {
-    ghost use Rattle.script_control.specs.Sides.SideCall.{Runs};
+/// Runs a transfer to its end.
+fn run<A: Allocator, R: Source, K: Drop>(job: Job<A, R, K>) -> DataEvent<K>
+    ensures ends { EndsScript job result }
+{
+    match job {
+        Job::Text(_) => DataEvent::Ended {
+            end: End::Done,
+            sink: None,
+        },
+        Job::SendFile(source, _) => DataEvent::Ended {
+            end: take_whole(source),
+            sink: None,
+        },
+        Job::TakeFile(sink, _) => DataEvent::Ended {
+            end: End::Done,
+            sink: Some(sink),
+        },
+    }
+}
 
+impl<A: Allocator, R: Source, K: Drop> DataSide<A, R, K> for ScriptSide<K> {
     ghost Asks = { AnswersScript };
 
-    fn open_passive(&mut self) -> Option<u16> {
-        Some(self.port)
+    fn open_passive(&mut self) {
+        self.came = Some(DataEvent::Ready(Some(self.port)));
     }
 
     fn connect_to(&mut self, _to: HostPort) {}
 
     fn drop_data(&mut self) {}
 
-    fn send_text(&mut self, _octets: &Octets<A>) -> End
-        ensures { AnswersScript {A = A} {R = R} {K = K} self.old
-            (Runs (Text _octets.now) result None) self.new }
-    {
-        End::Done
+    fn start(&mut self, job: &mut Option<Job<A, R, K>>) {
+        if let Some(job) = job.take() {
+            self.came = Some(run(job));
+        }
     }
 
-    fn send_file(&mut self, source: R, _form: DataType) -> End
-        ensures { AnswersScript {A = A} {R = R} {K = K} self.old
-            (Runs (SendFile source _form) result None) self.new }
-    {
-        take_whole(source)
+    fn abort(&mut self) {}
+
+    fn look(&mut self) -> Option<DataEvent<K>> {
+        self.came.take()
     }
 
-    fn take_file(&mut self, sink: K, _form: DataType) -> (End, Option<K>)
-        ensures { AnswersScript {A = A} {R = R} {K = K} self.old
-            (Runs (TakeFile sink _form) result.0 result.1) self.new }
-    {
-        (End::Done, Some(sink))
+    fn settle(&mut self) -> Option<DataEvent<K>> {
+        self.came.take()
     }
 }

@@ -19,8 +19,20 @@ pub record Parts (S C D R W H : Type 0) : Type 0 where
   pub writer : W
   pub hooks : H
 
-abbrev pub parts : {S F C D R W H : Type 0} → SoleHost S F C D R W H → Parts S C D R W H
-parts host = record { store = host.store; promises = host.floors; clock = host.clock; side = host.side; reader = host.reader; writer = host.writer; hooks = host.hooks }
+module _ {S F C D R W H : Type 0} where
+  -- what a host has: it borrows all of it
+  abbrev pub parts : SoleHost S F C D R W H → Parts S C D R W H
+  parts host = record { store = host.store.now; promises = host.floors.now; clock = host.clock.now; side = host.side.now; reader = host.reader.now; writer = host.writer.now; hooks = host.hooks.now }
+
+  -- the references are those that were lent
+  pub record SameLent (old new : SoleHost S F C D R W H) : Type 0 where
+    pub store : new.store.ghost_name ≡ old.store.ghost_name
+    pub floors : new.floors.ghost_name ≡ old.floors.ghost_name
+    pub clock : new.clock.ghost_name ≡ old.clock.ghost_name
+    pub side : new.side.ghost_name ≡ old.side.ghost_name
+    pub reader : new.reader.ghost_name ≡ old.reader.ghost_name
+    pub writer : new.writer.ghost_name ≡ old.writer.ghost_name
+    pub hooks : new.hooks.ghost_name ≡ old.hooks.ghost_name
 
 -- A is an allocator, S are stores, Q their sources and K their sinks. Gives is what the clock may give, Asks what a call makes of the
 -- data side, Told what a call makes of the handler; the octets that are left to be read, and those that were written, are known or not.
@@ -51,5 +63,6 @@ module _ {A S C D R W H Q K : Type 0} (Gives : C → ℕ → C → Type 0) (Asks
   AloneDoes old ReadFailed new = Takes old [] new × (may_fail old.reader ≡ true)
   AloneDoes old (Asked call) new = Asks old.side call new.side × (new ≡ record old { side = new.side })
 
+  -- the host that borrows them
   abbrev pub SoleDoes : {F : Type 0} → SoleHost S F C D R W H → HostCall A S Q K → SoleHost S F C D R W H → Type 0
-  SoleDoes old call new = AloneDoes (parts old) call (parts new)
+  SoleDoes old call new = SameLent old new × AloneDoes (parts old) call (parts new)

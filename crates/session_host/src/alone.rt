@@ -1,24 +1,51 @@
 //! A control session on a host of its own.
 
 ghost use Rattle.std.specs.Prelude.{◌≡◌};
+ghost use Rattle.std.specs.declared.alloc.Global.{Global};
+ghost use Rattle.control_session.specs.Floors.{HasFloors};
 ghost use Rattle.control_session.specs.Rows.{IsRow};
 ghost use Rattle.control_session.specs.Sessions.{IsServed, new_session};
-ghost use Rattle.session_host.specs.Alone.{AloneDoes, parts};
+ghost use Rattle.rate_floors.specs.Promises.{Promises};
+ghost use Rattle.session_host.specs.Alone.{AloneDoes, SameLent, parts};
 ghost use Rattle.session_host.specs.Told.{IsTold};
 
+use crate::given::{GivesSettings, HasUsers};
 use crate::host::SoleHost;
-use authorizer::Authorizer;
-use control_session::{ControlFault, DataSide, Moments, run_control};
+use control_session::{ControlFault, DataSide, Host, Moments, run_control};
 use handler_hooks::Hooks;
-use session_table::Settings;
 use std::alloc::{Allocator, Global};
 use text_ends::{TextReader, TextWriter};
 use virtual_tree::Store;
+
+/// The session on any host.
+fn run_on<H: Host<Global>, U: HasUsers, T: GivesSettings>(
+    alloc: &Global,
+    host: &mut H,
+    users: &U,
+    settings: T,
+    peer: [u8; 4],
+    turns: u32,
+) -> Result<(), ControlFault>
+    ensures whole { IsServed
+        (IsRow {A = Global} {R = H.Source} H.Step (U.known users.now).users) H.Does
+        turns result (new_session (T.given settings) peer) host.old host.new }
+    ensures floors { (floors : H → Promises) → HasFloors H.Does floors
+        → floors host.new ≡ floors host.old }
+{
+    run_control(alloc, host, users.users(), settings.settings(), peer, turns)
+}
 
 /// A whole control session of a client at this address, on a host of its own, as `run_control` serves it.
 ///
 /// However it ends, the floors are as they were.
 pub fn run_alone<
+    's,
+    'f,
+    'c,
+    'd,
+    'r,
+    'w,
+    'h,
     S: Store<Global>,
     F: Allocator + Clone,
     C: Moments,
@@ -26,20 +53,24 @@ pub fn run_alone<
     R: TextReader,
     W: TextWriter,
     H: Hooks,
+    U: HasUsers,
+    T: GivesSettings,
 >(
     alloc: &Global,
-    host: &mut SoleHost<S, F, C, D, R, W, H>,
-    users: &Authorizer,
-    settings: Settings,
+    host: &mut SoleHost<'s, 'f, 'c, 'd, 'r, 'w, 'h, S, F, C, D, R, W, H>,
+    users: &U,
+    settings: T,
     peer: [u8; 4],
     turns: u32,
 ) -> Result<(), ControlFault>
-    ensures whole { IsServed (IsRow S.Step users.now.users)
+    ensures whole { IsServed (IsRow S.Step (U.known users.now).users)
         (AloneDoes C.Gives D.Asks H.Told R.remaining R.may_fail W.contents W.may_refuse)
-        turns result (new_session settings peer) (parts host.old) (parts host.new) }
-    ensures told { IsTold (IsRow S.Step users.now.users) C.Gives D.Asks H.Told R.remaining W.contents
-        result (new_session settings peer) (parts host.old) (parts host.new) }
-    ensures floors { host.new.floors ≡ host.old.floors }
+        turns result (new_session (T.given settings) peer) (parts host.old) (parts host.new) }
+    ensures told { IsTold (IsRow S.Step (U.known users.now).users)
+        C.Gives D.Asks H.Told R.remaining W.contents
+        result (new_session (T.given settings) peer) (parts host.old) (parts host.new) }
+    ensures floors { host.new.floors.now ≡ host.old.floors.now }
+    ensures same { SameLent host.old host.new }
 {
-    run_control(alloc, host, users, settings, peer, turns)
+    run_on(alloc, host, users, settings, peer, turns)
 }

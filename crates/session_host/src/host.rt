@@ -14,19 +14,19 @@ use std::{io, mem};
 use text_ends::{TextReader, TextWriter};
 use virtual_tree::Store;
 
-/// What is outside of a control session, for this session alone: nobody else changes any of it while the session lasts.
+/// What is outside of a control session, lent to this session alone: nobody else changes any of it while the session lasts.
 #[derive(Drop)]
-pub struct SoleHost<S, F: Allocator, C, D, R, W, H> {
-    pub store: S,
-    pub floors: Floors<F>,
+pub struct SoleHost<'s, 'f, 'c, 'd, 'r, 'w, 'h, S, F: Allocator, C, D, R, W, H> {
+    pub store: &'s mut S,
+    pub floors: &'f mut Floors<F>,
     /// Asked once for each step.
-    pub clock: C,
-    pub side: D,
+    pub clock: &'c mut C,
+    pub side: &'d mut D,
     /// Gives the client's text. A read waits until something has come.
-    pub reader: R,
+    pub reader: &'r mut R,
     /// Takes the replies.
-    pub writer: W,
-    pub hooks: H,
+    pub writer: &'w mut W,
+    pub hooks: &'h mut H,
 }
 
 /// What a read gave that gave so many octets.
@@ -41,6 +41,13 @@ pub fn piece_of(count: usize) -> Piece
 }
 
 impl<
+    's,
+    'f,
+    'c,
+    'd,
+    'r,
+    'w,
+    'h,
     S: Store<Global>,
     F: Allocator + Clone,
     C: Moments,
@@ -48,7 +55,7 @@ impl<
     R: TextReader,
     W: TextWriter,
     H: Hooks,
-> Host<Global> for SoleHost<S, F, C, D, R, W, H> {
+> Host<Global> for SoleHost<'s, 'f, 'c, 'd, 'r, 'w, 'h, S, F, C, D, R, W, H> {
     type Store = S;
 
     type Source = S::Source;
@@ -71,14 +78,7 @@ impl<
         let Some(input) = mem::replace(input, None) else {
             return Err(None);
         };
-        match step_lent(
-            users,
-            session,
-            &mut self.floors,
-            &mut self.store,
-            input,
-            moment,
-        ) {
+        match step_lent(users, session, self.floors, self.store, input, moment) {
             Ok(actions) => Ok(actions),
             Err(back) => Err(back),
         }
@@ -105,7 +105,7 @@ impl<
     ) {
         let moment = self.clock.moment();
         if let Some(event) = mem::replace(event, None) {
-            session.take_event_silently(&mut self.store, event, moment);
+            session.take_event_silently(self.store, event, moment);
         }
     }
 
@@ -114,7 +114,7 @@ impl<
     }
 
     fn note(&mut self, call: &HookCall<Global>) {
-        tell(&mut self.hooks, call);
+        tell(self.hooks, call);
     }
 
     fn write(&mut self, reply: &[u8]) -> io::Result<()> {

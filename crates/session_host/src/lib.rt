@@ -4,6 +4,7 @@
 #![tactic(auto)]
 
 mod alone;
+mod given;
 mod host;
 mod silent;
 mod stepping;
@@ -12,6 +13,7 @@ pub use alone::run_alone;
 pub use control_session::{
     ControlFault, DataEvent, DataSide, Host, Leaving, Moments, Piece, Session,
 };
+pub use given::{GivesSettings, HasUsers};
 pub use handler_hooks::Hooks;
 pub use host::{SoleHost, piece_of};
 pub use silent::Silent;

@@ -5,6 +5,8 @@
 #[cfg(test)]
 mod expect;
 #[cfg(test)]
+mod host;
+#[cfg(test)]
 mod reader;
 #[cfg(test)]
 mod room;

@@ -84,23 +84,28 @@ pub(crate) type Reply<'a> = (&'a str, &'a str, &'a str);
 const NEVER: &str = "";
 
 /// The same paths in a control session, behind its greeting.
-pub(crate) static TALK: [Reply<'static>; 7] = [
+pub(crate) static TALK: [Reply<'static>; 8] = [
     ("", "220 Ready\r\n", NEVER),
     ("USER ann\r\n", "331 Password required\r\n", NEVER),
     ("PASS secret\r\n", "230 Welcome\r\n", NEVER),
     (
         "CWD ../../..\r\n",
         "250 Directory changed\r\n",
-        "257 \"/\"\r\n257 \"/a\"\"b\"\r\n550 Already exists\r\n",
+        "257 \"/\"\r\n257 \"/a\"\"b\"\r\n550 Already exists\r\n221 Goodbye\r\n",
     ),
     ("PWD\r\n", "257 \"/\"\r\n", NEVER),
-    ("MKD a\"b\r\n", "257 \"/a\"\"b\"\r\n", "257 \"/a\"\"b\"\r\n"),
-    ("MKD a\"b\r\n", "550 Already exists\r\n", ""),
+    (
+        "MKD a\"b\r\n",
+        "257 \"/a\"\"b\"\r\n",
+        "257 \"/a\"\"b\"\r\n221 Goodbye\r\n",
+    ),
+    ("MKD a\"b\r\n", "550 Already exists\r\n", "221 Goodbye\r\n"),
+    ("QUIT\r\n", "221 Goodbye\r\n", NEVER),
 ];
 
 /// The same where the name stands from the first.
 pub(crate) const PATHS_AGAIN: &str =
-    "220 Ready\r\n331 Password required\r\n230 Welcome\r\n250 Directory changed\r\n257 \"/\"\r\n550 Already exists\r\n550 Already exists\r\n";
+    "220 Ready\r\n331 Password required\r\n230 Welcome\r\n250 Directory changed\r\n257 \"/\"\r\n550 Already exists\r\n550 Already exists\r\n221 Goodbye\r\n";
 
 /// A passive port, an upload, a listing and a download.
 pub(crate) static TRANSFERS: [Reply<'static>; 9] = [

@@ -2,11 +2,12 @@
 
 use authorizer::Authorizer;
 use ftp_terms::LineText;
-use line_rates::Limits;
+use line_rates::{Limits, UserRate};
 use linked_list_allocator::LocalHeap;
 use memory_store::MemStore;
 use rate_floors::Floors;
 use session_table::Settings;
+use std::alloc::Allocator;
 use std::process::Abort;
 use virtual_path::VPath;
 use virtual_tree::{Sink, Store, WriteMode};
@@ -21,7 +22,7 @@ pub(crate) struct Server<'h> {
 /// The address of the client, and of the server.
 pub(crate) const PEER: [u8; 4] = [127, 0, 0, 1];
 
-pub(crate) fn settings<'h>() -> Settings<&'h LocalHeap> {
+pub(crate) fn settings<A: Allocator>() -> Settings<A> {
     Settings {
         banner: LineText::fixed("Ready"),
         login_attempts: 3,
@@ -31,9 +32,27 @@ pub(crate) fn settings<'h>() -> Settings<&'h LocalHeap> {
     }
 }
 
+/// What one session of each user is guaranteed: more than half of the server's rate.
+fn guarantee(user: u32) -> UserRate {
+    UserRate {
+        user,
+        group: None,
+        down: 0,
+        up: 0,
+        session_down: 0,
+        session_up: 0,
+        session_down_floor: 60,
+        session_up_floor: 0,
+    }
+}
+
+/// There is room for one guaranteed session: who logs in finds it only where nobody before is counted still.
 fn make_floors(rt: &(impl Abort + AllocGlobal)) -> Floors {
     let alloc = rt.alloc();
-    let limits = Limits::of(0, 0, 0, Vec::new(alloc), Vec::new(alloc)).expect(rt, "no limits");
+    let mut users = Vec::new(alloc);
+    users.push(guarantee(0)).expect(rt, "memory");
+    users.push(guarantee(1)).expect(rt, "memory");
+    let limits = Limits::of(100, 0, 0, Vec::new(alloc), users).expect(rt, "limits");
     Floors::of(alloc, &limits).expect(rt, "memory")
 }
 

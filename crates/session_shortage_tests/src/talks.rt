@@ -1,19 +1,19 @@
 //! A control session that is short of memory at its beginning or at one of its lines: what was written is the front of the
 //! replies, or tells that memory ran out, and a session after it passes.
 
-ghost use Rattle.std.specs.Prelude.{◌≡◌, ◌<◌};
-
 use crate::expect::holds;
+use crate::host::HeapHost;
 use crate::reader::ScarceReader;
 use crate::rows::Reply;
 use crate::server::{PEER, Server, make_server, settings};
+use authorizer::Authorizer;
+use control_session::{ControlFault, Host, run_control};
 use linked_list_allocator::LocalHeap;
 use scarce_memory::{HEAP, leave_hole};
-use script_control::{ControlFault, Reads, run_control};
-use script_session::{ScriptSide, StillClock};
-use std::marker::Brand;
+use script_session::ScriptSide;
+use session_table::Settings;
+use std::alloc::Allocator;
 use std::process::Abort;
-use std::sync::ledger::{Blank, Ledger};
 use text_ends::{Outside, TextReader};
 
 /// The greeting and the lines of a session, what it writes on a store which one has changed, and which row is the first that
@@ -25,59 +25,98 @@ pub(crate) struct Talk<'a> {
     pub change: usize,
 }
 
-/// What a session has written, and how it ended.
+/// What a session has written, how it ended, and the server as it left it.
 #[derive(Drop)]
-struct Told {
+struct Told<'h> {
     output: Vec<u8>,
     ended: Result<(), ControlFault>,
+    server: Server<'h>,
+}
+
+/// What a session is given. A call that names users and settings by their types can be given no host of a heap's.
+trait Given<A: Allocator> {
+    fn users(&self) -> &Authorizer<A>;
+
+    fn settings(&self) -> Settings<A>;
+}
+
+impl<A: Allocator> Given<A> for Authorizer<A> {
+    fn users(&self) -> &Authorizer<A> {
+        self
+    }
+
+    fn settings(&self) -> Settings<A> {
+        settings()
+    }
+}
+
+fn run_on<A: Allocator + Clone, H: Host<A>, G: Given<A>>(
+    alloc: &A,
+    host: &mut H,
+    given: &G,
+) -> Result<(), ControlFault> {
+    run_control(alloc, host, given.users(), given.settings(), PEER, 100)
 }
 
 /// A session, all of whose memory but that of its replies is the heap's.
-fn serve<'h, R: TextReader, L: Ledger>(
+fn serve<'h, R: TextReader + Drop>(
     heap: &'h LocalHeap,
-    server: &mut Server<'h>,
-    reader: &mut R,
-    output: &mut Vec<u8>,
-    blank: Blank,
-) -> Result<(), ControlFault>
-    requires name { blank.name ≡ L.name }
-    requires parts { blank.parts ≡ L.parts }
-    requires some { 0 < L.parts }
-{
-    let mut side = ScriptSide { port: 40000 };
-    let mut reads = Reads::<L>::none(blank);
-    run_control(
-        &heap,
+    server: Server<'h>,
+    reader: R,
+    output: Vec<u8>,
+) -> Told<'h> {
+    let Server {
+        users,
+        store,
+        floors,
+    } = server;
+    let side = ScriptSide {
+        port: 40_000,
+        came: None,
+    };
+    let mut host = HeapHost {
+        store,
+        floors,
+        side,
         reader,
         output,
-        &server.users,
-        &mut server.floors,
-        &mut server.store,
-        &mut side,
-        settings(),
-        PEER,
-        &StillClock,
-        100,
-        &mut reads,
-    )
+    };
+    let ended = run_on(&heap, &mut host, &users);
+    let HeapHost {
+        store,
+        floors,
+        side: _,
+        reader: _,
+        output,
+    } = host;
+    let server = Server {
+        users,
+        store,
+        floors,
+    };
+    Told {
+        output,
+        ended,
+        server,
+    }
 }
 
 /// A session in which memory is short at one row, or at the end, which is counted as one row more.
 fn serve_rows<'h>(
     rt: &'h (impl Abort + AllocGlobal),
     heap: &'h LocalHeap,
-    server: &mut Server<'h>,
+    server: Server<'h>,
     rows: &'h [Reply<'h>],
     scarce: usize,
     hole: usize,
-) -> Told {
-    let mut output = Vec::new(rt.alloc());
+) -> Told<'h> {
+    let output = Vec::new(rt.alloc());
     let taken = if scarce == 0 {
         leave_hole(rt, heap, hole).expect(rt, "a hole")
     } else {
         Vec::new(rt.alloc())
     };
-    let mut reader = Outside(ScarceReader {
+    let reader = Outside(ScarceReader {
         rt,
         heap,
         rows,
@@ -86,8 +125,7 @@ fn serve_rows<'h>(
         hole,
         taken,
     });
-    let ended = serve::<_, Brand>(heap, server, &mut reader, &mut output, Blank::new(1));
-    Told { output, ended }
+    serve(heap, server, reader, output)
 }
 
 /// What an output has behind the replies to some rows.
@@ -122,7 +160,7 @@ fn is_refusal(output: &[u8], then: &str) -> bool {
 const END: Reply<'static> = ("", "", "");
 
 /// Whether a session was refused memory at a row: it broke off there and has told a part of the row, or has told of it.
-fn was_refused(rt: &impl Abort, told: &Told, rows: &[Reply<'_>], index: usize) -> bool {
+fn was_refused(rt: &impl Abort, told: &Told<'_>, rows: &[Reply<'_>], index: usize) -> bool {
     let (before, others) = rows.split_at(index.min(rows.len()));
     let Some(rest) = behind(&told.output, before) else {
         panic!(rt; "the rows before");
@@ -144,11 +182,12 @@ fn was_refused(rt: &impl Abort, told: &Told, rows: &[Reply<'_>], index: usize) -
 fn serve_later<'h>(
     rt: &'h (impl Abort + AllocGlobal),
     heap: &'h LocalHeap,
-    server: &mut Server<'h>,
+    server: Server<'h>,
     talk: Talk<'h>,
     is_unchanged: bool,
 ) {
-    let Told { output, ended } = serve_rows(rt, heap, server, talk.rows, usize::MAX, 0);
+    let told = serve_rows(rt, heap, server, talk.rows, usize::MAX, 0);
+    let Told { output, ended, .. } = told;
     holds(rt, ended.is_ok(), "a later session");
     let is_again = !is_unchanged && output.as_slice() == talk.again.as_bytes();
     holds(rt, is_again || is_told(&output, talk.rows), "what stands");
@@ -158,15 +197,16 @@ fn serve_later<'h>(
 fn try_row<'h>(
     rt: &'h (impl Abort + AllocGlobal),
     heap: &'h LocalHeap,
-    server: &mut Server<'h>,
+    server: Server<'h>,
     talk: Talk<'h>,
     index: usize,
     hole: usize,
 ) -> bool {
     let told = serve_rows(rt, heap, server, talk.rows, index, hole);
     let is_unchanged = told.ended.is_err() && index < talk.change;
-    serve_later(rt, heap, server, talk, is_unchanged);
-    was_refused(rt, &told, talk.rows, index)
+    let is_refused = was_refused(rt, &told, talk.rows, index);
+    serve_later(rt, heap, told.server, talk, is_unchanged);
+    is_refused
 }
 
 /// The same on a server of its own.
@@ -177,6 +217,6 @@ pub(crate) fn is_refused(
     hole: usize,
 ) -> bool {
     let heap = LocalHeap::new(rt.alloc(), HEAP).expect(rt, "a heap");
-    let mut server = make_server(rt, &heap);
-    try_row(rt, &heap, &mut server, talk, index, hole)
+    let server = make_server(rt, &heap);
+    try_row(rt, &heap, server, talk, index, hole)
 }

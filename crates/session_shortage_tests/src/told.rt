@@ -5,9 +5,11 @@ use memory_store::{MemSink, MemSource};
 use session_table::{Action, HookCall, Job};
 use std::alloc::{AllocError, Allocator};
 
+pub(crate) type Source<'h> = MemSource<&'h LocalHeap>;
+
 pub(crate) type Sink<'h> = MemSink<&'h LocalHeap>;
 
-pub(crate) type Doing<'h> = Action<&'h LocalHeap, MemSource<&'h LocalHeap>, Sink<'h>>;
+pub(crate) type Doing<'h> = Action<&'h LocalHeap, Source<'h>, Sink<'h>>;
 
 pub(crate) type Doings<'h> = Vec<Doing<'h>, &'h LocalHeap>;
 
@@ -33,7 +35,7 @@ fn hook_word<A: Allocator>(call: &HookCall<A>) -> &'static str {
 fn put_job<'h>(
     octets: &mut Vec<u8>,
     kept: &mut Option<Sink<'h>>,
-    job: Job<&'h LocalHeap, MemSource<&'h LocalHeap>, Sink<'h>>,
+    job: Job<&'h LocalHeap, Source<'h>, Sink<'h>>,
 ) -> Result<(), AllocError> {
     match job {
         Job::TakeFile(sink, _) => {

@@ -15,6 +15,8 @@ pub(crate) enum Fault {
     Stream,
     #[error("a line with a colon names nothing that the program has")]
     Word,
+    #[error("a client was lost")]
+    Lost,
     #[error("the store, the users or a path refused what the program itself asks")]
     Refused,
 }

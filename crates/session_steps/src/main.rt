@@ -3,44 +3,46 @@
 //! with the session table, worked by hand and read a second time.
 //!
 //! A line that begins with a colon is a word for the program (`words.rt`), any other a line of the client. What is done stands on
-//! lines that end with CR LF: replies as they are, and other actions in brackets (`told.rt`).
+//! lines that end with CR LF: replies as they are, and other actions in brackets (`told.rt`). `:talk` begins a whole control
+//! session, which the loop of the server runs on a host of this program (`stage.rt`): what comes between lines comes when a word
+//! says so.
 #![tactic(auto)]
 
 mod fault;
+mod hall;
 mod made;
 mod room;
+mod stage;
 mod told;
 mod words;
 
 use crate::fault::Fault;
+use crate::hall::Hall;
 use crate::room::Room;
+use crate::stage::Stage;
 use std::io::{self, BufRead, BufReader, Write};
 use std::process::ExitCode;
 
-/// Prints what was done at first, and then what is done at each line of the reader.
-fn play_lines<R: BufRead, W: Write>(
-    reader: &mut R,
-    writer: &mut W,
-    room: &mut Room,
-    line: &mut Vec<u8>,
-) -> Result<(), Fault> {
+/// Prints what was done at first, and then what is done at each line.
+fn play_lines<R: BufRead, W: Write>(stage: &mut Stage<R, W>, room: &mut Room) -> Result<(), Fault> {
     for _ in 0..u64::MAX {
-        writer.write_all(room.told.as_slice())?;
-        line.clear();
-        if reader.read_until(b'\n', line)? == 0 {
+        stage.print()?;
+        if !stage.next_line()? {
             return Ok(());
         }
-        room.play(line.as_slice())?;
+        let line = stage.take_line();
+        room.play(stage, line.as_slice())?;
     }
     Ok(())
 }
 
 /// One session after another in a room, by standard input.
 fn play_in<R: Input + Print + AllocGlobal>(rt: &R, room: &mut Room) -> Result<(), Fault> {
-    room.greet()?;
-    let mut reader = BufReader::new(rt.alloc(), rt.reader())?;
-    let mut line = Vec::new(rt.alloc());
-    play_lines(&mut reader, &mut io::writer(rt), room, &mut line)
+    let hall = Hall::new(rt.alloc(), room.ann())?;
+    let reader = BufReader::new(rt.alloc(), rt.reader())?;
+    let mut stage = Stage::new(hall, reader, io::writer(rt));
+    room.greet(&mut stage)?;
+    play_lines(&mut stage, room)
 }
 
 fn play<R: Input + Print + AllocGlobal>(rt: &R) -> Result<(), Fault> {

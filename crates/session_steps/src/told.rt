@@ -4,9 +4,12 @@ use crate::fault::Fault;
 use ftp_terms::DataType;
 use ftp_wire::{HostPort, port_text};
 use memory_store::{MemSink, MemSource};
-use session_table::{Action, Answer, HookCall, Job, Octets};
+use session_table::{Action, Answer, HookCall, Octets};
 use std::alloc::Global;
 use virtual_tree::Source;
+
+/// A transfer.
+pub(crate) type Job = session_table::Job<Global, MemSource<Global>, MemSink<Global>>;
 
 pub(crate) type Actions = Vec<Action<Global, MemSource<Global>, MemSink<Global>>>;
 
@@ -88,7 +91,7 @@ fn put_listing(told: &mut Vec<u8>, listing: Octets<Global>) -> Result<(), Fault>
 pub(crate) fn put_job(
     told: &mut Vec<u8>,
     kept: &mut Option<MemSink<Global>>,
-    job: Job<Global, MemSource<Global>, MemSink<Global>>,
+    job: Job,
 ) -> Result<(), Fault> {
     match job {
         Job::TakeFile(sink, data_type) => {

@@ -1,5 +1,6 @@
 //! The words behind a colon.
 
+use crate::fault::Fault;
 use session_table::End;
 
 /// The passive port that comes.
@@ -10,6 +11,13 @@ pub(crate) const PORT: u16 = 40_000;
 pub(crate) enum Word<'a> {
     /// `:anew`: the next client's session, on the same store.
     Anew,
+    /// `:talk`: the same, of a whole control session: up to its end the lines are what its client says, and the words what comes
+    /// between them.
+    Talk,
+    /// `:deaf`: in a whole session, the client takes no more replies.
+    Deaf,
+    /// `:lost`: in a whole session, the read of the next line fails.
+    Lost,
     /// `:other`: another session of ann logs in where its rate can be guaranteed, or leaves.
     Other,
     /// `:at N`: the moment of what follows, in milliseconds since 1970.
@@ -60,10 +68,21 @@ fn longer<'a>(word: &str, rest: &'a str) -> Option<Word<'a>> {
     }
 }
 
+/// What the text of a line behind its colon asks for.
+pub(crate) fn asked<'a>(octets: &'a [u8]) -> Result<Word<'a>, Fault> {
+    match str::from_utf8(octets) {
+        Ok(text) => word_of(text.trim_end()).ok_or(Fault::Word),
+        Err(_) => Err(Fault::Word),
+    }
+}
+
 /// What the text behind a colon asks for.
-pub(crate) fn word_of<'a>(text: &'a str) -> Option<Word<'a>> {
+fn word_of<'a>(text: &'a str) -> Option<Word<'a>> {
     match text {
         "anew" => Some(Word::Anew),
+        "talk" => Some(Word::Talk),
+        "deaf" => Some(Word::Deaf),
+        "lost" => Some(Word::Lost),
         "other" => Some(Word::Other),
         "held" => Some(Word::Held),
         "port" => Some(Word::Port(Some(PORT))),

@@ -2,11 +2,11 @@
 
 use crate::expect::same;
 use authorizer::Authorizer;
+use data_side::push_answer;
 use ftp_terms::LineText;
 use line_rates::Limits;
 use memory_store::{MemSink, MemSource, MemStore};
 use rate_floors::Floors;
-use script_side::said;
 use session_state::{Location, State};
 use session_table::{Action, Settings};
 use std::alloc::{AllocError, Global};
@@ -71,6 +71,11 @@ pub(crate) fn location(rt: &(impl Abort + AllocGlobal), text: &str) -> Location 
 /// A call has passed, and the replies among its actions are these.
 pub(crate) fn says(rt: &(impl Abort + AllocGlobal), told: Result<Actions, AllocError>, text: &str) {
     let actions = told.expect(rt, "memory");
-    let octets = said(rt.alloc(), actions.as_slice()).expect(rt, "memory");
+    let mut octets = Vec::new(rt.alloc());
+    for action in actions {
+        if let Action::Say(answer) = action {
+            push_answer(&mut octets, answer).expect(rt, "memory");
+        }
+    }
     same(rt, octets.as_slice(), text.as_bytes());
 }

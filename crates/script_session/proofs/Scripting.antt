@@ -1,0 +1,72 @@
+-- A session on ends is one on what is known of them.
+use Rattle.std.proofs.Common.{◌≡◌, ℕ, List, Option, Result, ap, inl, inr, subst}
+use Rattle.std.specs.declared.alloc.Global.{Global}
+use Rattle.authorizer.specs.Users.{Users}
+use Rattle.handler_hooks.specs.Events.{Event}
+use Rattle.memory_store.specs.InMemory.{InMemory, Memory, Upload}
+use Rattle.rate_floors.specs.Promises.{Promises}
+use Rattle.session_host.specs.Alone.{Parts}
+use Rattle.session_host.specs.ControlFault.{ControlFault}
+use Rattle.session_host.specs.Rows.{IsRow}
+use Rattle.session_host.specs.Sessions.{new_session}
+use Rattle.session_host.specs.Sides.{Given, SideCall}
+use Rattle.session_host.specs.Silent.{StaysSilent}
+use Rattle.session_host.specs.Told.{IsTold}
+use Rattle.session_laws.specs.Steps.{Standing}
+use Rattle.session_table.specs.declared.actions.Action.{Action}
+use Rattle.session_table.specs.declared.settings.Settings.{Settings}
+use Rattle.script_session.specs.Scripts.{AnswersScript, IsScript, StandsStill, as_known, home_address, script_parts, unasked}
+use Rattle.script_session.specs.declared.side.ScriptSide.{ScriptSide}
+
+-- the ends as what is known of them
+abbrev pub known : {S C D H R W : Type 0} → (R → Option (List ℕ)) → (W → Option (List ℕ)) → Parts S C D R W H → Parts S C D (Option (List ℕ)) (Option (List ℕ)) H
+known remaining contents host =
+    record { store = host.store; promises = host.promises; clock = host.clock; side = host.side; reader = remaining host.reader; writer = contents host.writer; hooks = host.hooks }
+
+module _ {A S C D H Q K T R W : Type 0} (Row : Standing → Given K → ℕ → S → S → Promises → Promises → Standing → List (Action A Q K) → Type 0)
+    (Gives : C → ℕ → C → Type 0) (Asks : D → SideCall A Q K → D → Type 0) (Told : H → Event → H → Type 0)
+    (remaining : R → Option (List ℕ)) (contents : W → Option (List ℕ)) where
+  pub told_known : (result : Result T ControlFault) (session : Standing) (old new : Parts S C D R W H)
+      → IsTold Row Gives Asks Told remaining contents result session old new
+      → IsTold Row Gives Asks Told as_known as_known result session (known remaining contents old) (known remaining contents new)
+  told_known result session old new (inl (memory, same)) = inl (memory, ap (known remaining contents) same)
+  told_known result session old new (inr told) = inr (record {
+    read = told.read;
+    items = told.items;
+    written = told.written;
+    actions = told.actions;
+    side = told.side;
+    hooks = told.hooks;
+    last = told.last;
+    row = told.row;
+    serves = told.serves;
+    said = told.said;
+    acts = told.acts;
+    closed = told.closed;
+    answered = told.answered;
+    paid = told.paid;
+    store_is = told.store_is;
+    promises_are = told.promises_are;
+    side_is = told.side_is;
+    hooks_are = told.hooks_are;
+    consumed = told.consumed;
+    heard = told.heard;
+    cut = told.cut;
+    over = told.over;
+    appended = told.appended;
+    whole = told.whole;
+    part = told.part;
+  })
+
+module _ {T R W : Type 0} (users : Users) (settings : Settings Global) (port : ℕ) (remaining : R → Option (List ℕ)) (contents : W → Option (List ℕ)) (result : Result T ControlFault)
+    (store store' : Memory) (promises promises' : Promises) (side : ScriptSide Upload) (reader reader' : R) (writer writer' : W) where
+  pub script_told : promises' ≡ promises
+      → IsTold (IsRow {A = Global} {R = List ℕ} InMemory users) StandsStill AnswersScript StaysSilent remaining contents result (new_session settings home_address)
+      (script_parts store promises (unasked port) reader writer) (script_parts store' promises' side reader' writer')
+      → IsScript users settings port promises store store' (remaining reader) (remaining reader') (contents writer) (contents writer') result
+  script_told same told = record {
+    side = side;
+    told = subst (λ (x : Promises). IsTold (IsRow {A = Global} {R = List ℕ} InMemory users) StandsStill AnswersScript StaysSilent as_known as_known result (new_session settings home_address)
+        (script_parts store promises (unasked port) (remaining reader) (contents writer)) (script_parts store' x side (remaining reader') (contents writer')))
+        same (told_known _ StandsStill AnswersScript StaysSilent remaining contents _ _ _ _ told);
+  }

@@ -1,0 +1,116 @@
+//! The host of a control session all of whose memory but that of its replies is a heap's. What it does is not said: its tests see
+//! what it wrote.
+
+ghost use Rattle.memory_store.specs.InMemory.{InMemory};
+ghost use Rattle.session_shortage_tests.specs.Unsaid.{AnyCall};
+
+use crate::told::{Sink, Source};
+use authorizer::Authorizer;
+use control_session::{DataEvent, DataSide, Host, Leaving, Piece, Session};
+use ftp_wire::HostPort;
+use lent_step::{close_by, end_by, step_by};
+use linked_list_allocator::LocalHeap;
+use memory_store::MemStore;
+use rate_floors::Floors;
+use script_session::ScriptSide;
+use session_host::piece_of;
+use session_table::{Action, HookCall, Input, Job, Text};
+use std::io;
+use text_ends::{TextReader, TextWriter};
+
+type Memory<'h> = &'h LocalHeap;
+
+/// It owns all that is outside of the session. The clock stands still.
+#[derive(Drop)]
+pub(crate) struct HeapHost<'h, R> {
+    pub store: MemStore<Memory<'h>>,
+    pub floors: Floors,
+    pub side: ScriptSide<Sink<'h>>,
+    pub reader: R,
+    pub output: Vec<u8>,
+}
+
+impl<'h, R: TextReader> Host<Memory<'h>> for HeapHost<'h, R> {
+    type Store = MemStore<Memory<'h>>;
+
+    type Source = Source<'h>;
+
+    type Sink = Sink<'h>;
+
+    ghost Step = { InMemory };
+
+    ghost Does = { AnyCall };
+
+    fn step(
+        &mut self,
+        users: &Authorizer<Memory<'h>>,
+        session: &mut Session<Memory<'h>>,
+        input: &mut Option<Input<Memory<'h>, Sink<'h>>>,
+    ) -> Result<
+        Vec<Action<Memory<'h>, Source<'h>, Sink<'h>>, Memory<'h>>,
+        Option<DataEvent<Sink<'h>>>,
+    > {
+        step_by(session, users, &mut self.floors, &mut self.store, input, 0)
+    }
+
+    fn close(
+        &mut self,
+        users: &Authorizer<Memory<'h>>,
+        session: &mut Session<Memory<'h>>,
+        nobody: &mut Option<Text<Memory<'h>>>,
+    ) -> Option<Leaving<Memory<'h>>> {
+        match nobody.take() {
+            Some(nobody) => close_by(session, users, &mut self.floors, &mut self.store, nobody, 0),
+            None => unreachable!(),
+        }
+    }
+
+    fn end(
+        &mut self,
+        users: &Authorizer<Memory<'h>>,
+        session: &mut Session<Memory<'h>>,
+        event: &mut Option<DataEvent<Sink<'h>>>,
+    ) {
+        if let Some(event) = event.take() {
+            end_by(session, users, &mut self.floors, &mut self.store, event, 0);
+        }
+    }
+
+    fn release(&mut self, user: u32) {
+        self.floors.release(user);
+    }
+
+    fn note(&mut self, _call: &HookCall<Memory<'h>>) {}
+
+    fn write(&mut self, reply: &[u8]) -> io::Result<()> {
+        self.output.write_text(reply)
+    }
+
+    fn read(&mut self, buffer: &mut [u8]) -> io::Result<Piece> {
+        let count = self.reader.read_front(buffer)?;
+        Ok(piece_of(count))
+    }
+
+    fn open_passive(&mut self) {
+        let port = self.side.port;
+        self.side.came = Some(DataEvent::Ready(Some(port)));
+    }
+
+    fn connect_to(&mut self, _to: HostPort) {}
+
+    fn drop_data(&mut self) {}
+
+    fn start(&mut self, job: &mut Option<Job<Memory<'h>, Source<'h>, Sink<'h>>>) {
+        self.side.start(job);
+    }
+
+    fn abort(&mut self) {}
+
+    fn look(&mut self) -> Option<DataEvent<Sink<'h>>> {
+        self.side.came.take()
+    }
+
+    fn settle(&mut self) -> Option<DataEvent<Sink<'h>>> {
+        self.side.came.take()
+    }
+}

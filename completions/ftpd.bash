@@ -1,0 +1,30 @@
+# Completions of bash for ftpd and sheets.
+
+# _ftpd_words COMMANDS OPTIONS: the commands of the program, and the options of the command `serve`
+_ftpd_words() {
+    local word=${COMP_WORDS[COMP_CWORD]} before=${COMP_WORDS[COMP_CWORD - 1]} options='-h --help'
+    COMPREPLY=()
+    if [[ $COMP_CWORD -eq 1 ]]; then
+        mapfile -t COMPREPLY < <(compgen -W "$1 -h --help -V --version" -- "$word")
+        return
+    fi
+    [[ ${COMP_WORDS[1]} == serve ]] && options="$2 $options"
+    if [[ ${COMP_WORDS[1]} == help ]]; then
+        [[ $COMP_CWORD -gt 2 ]] || mapfile -t COMPREPLY < <(compgen -W "$1" -- "$word")
+    elif [[ $word == -* && $before != --stop-file ]]; then
+        mapfile -t COMPREPLY < <(compgen -W "$options" -- "$word")
+    else
+        mapfile -t COMPREPLY < <(compgen -f -- "$word")
+    fi
+}
+
+_ftpd() {
+    _ftpd_words 'share check migrate script serve help' '--stop-file'
+}
+
+_sheets() {
+    _ftpd_words 'share check help' ''
+}
+
+complete -o filenames -F _ftpd ftpd
+complete -o filenames -F _sheets sheets

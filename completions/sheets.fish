@@ -1,0 +1,8 @@
+# Completions of fish for sheets.
+complete -c sheets -n __fish_use_subcommand -f
+complete -c sheets -n __fish_use_subcommand -f -a share -d 'Share the limits of a sheet'
+complete -c sheets -n __fish_use_subcommand -f -a check -d 'Check grants within the limits of a sheet'
+complete -c sheets -n __fish_use_subcommand -f -a help -d 'Print help'
+complete -c sheets -n __fish_use_subcommand -s V -l version -d 'Print version'
+complete -c sheets -s h -l help -d 'Print help'
+complete -c sheets -n '__fish_seen_subcommand_from help' -f -a 'share check help'

@@ -1,0 +1,267 @@
+"""A second reading of configurations: the tables of docs/configuration.md as data, and the first fault of a document.
+
+`first_fault` judges what `tomllib` made of a file, and answers the two lines that the program is wanted to tell, or nothing
+where the file is a configuration. Nothing here knows how the program goes about it.
+"""
+import re
+from collections import namedtuple
+
+MAX_RATE = 2 ** 40
+LONGEST_NAME, LONGEST_PATH = 255, 4096
+# How many characters of a name or a key are shown.
+LONGEST_SHOWN = 64
+LETTERS = set("elradfmw")
+ROOT = ()
+
+# What a key may hold: the words for it, whether a value is of the kind, and whether one of the kind is within its range.
+Kind = namedtuple("Kind", "words fits is_within")
+# A key with no default must be there.
+Key = namedtuple("Key", "kind is_needed")
+# Where a fault is, and what is the matter there.
+Fault = namedtuple("Fault", "told name")
+
+
+def has_control(text):
+    return any(octet < 32 or octet == 127 for octet in text.encode())
+
+
+def is_number(value):
+    return isinstance(value, int) and not isinstance(value, bool)
+
+
+def is_text(value):
+    return isinstance(value, str)
+
+
+def is_address(text):
+    parts = text.split(".")
+    return len(parts) == 4 and all(re.fullmatch("0|[1-9][0-9]{0,2}", it) and int(it) < 256 for it in parts)
+
+
+def number(low, high):
+    return Kind(f"a number from {low} to {high}", is_number, lambda value: low <= value <= high)
+
+
+def always(_value):
+    return True
+
+
+TEXT = Kind("a text", is_text, always)
+LINE = Kind("a text without control characters", is_text, lambda text: not has_control(text))
+FLAG = Kind("true or false", lambda value: isinstance(value, bool), always)
+ADDRESS = Kind('an IPv4 address, as "127.0.0.1"', is_text, is_address)
+TABLE = Kind("a table", lambda value: isinstance(value, dict), always)
+ROWS = Kind("tables in double brackets", lambda value: isinstance(value, list), always)
+PORT, RATE, VERSION = number(1, 65535), number(0, MAX_RATE), number(1, 2)
+MOMENT = number(0, 253402300799)
+
+
+def must(kind):
+    return Key(kind, True)
+
+
+def may(kind):
+    return Key(kind, False)
+
+
+TOP = {"version": must(VERSION), "server": must(TABLE), "group": may(ROWS), "user": may(ROWS), "dir": may(ROWS), "file": may(ROWS)}
+SERVER = {
+    "address": may(ADDRESS), "port": may(PORT), "root": must(LINE), "capacity": may(RATE), "banner": may(LINE),
+    "max_cons": may(number(1, 512)), "max_cons_per_address": may(number(0, 512)), "max_login_attempts": may(number(1, 100)),
+    "permit_foreign_addresses": may(FLAG), "permit_privileged_ports": may(FLAG), "masquerade_address": may(ADDRESS),
+    "passive_first": must(PORT), "passive_last": must(PORT), "lanes": may(number(1, 64)), "sessions": may(number(0, 2 ** 32)),
+    "rate": may(RATE), "down_rate": may(RATE), "up_rate": may(RATE),
+}
+GROUP = {"name": must(LINE), "down_rate": may(RATE), "up_rate": may(RATE)}
+USER = {
+    "name": must(LINE), "password": must(LINE), "home": must(LINE), "perms": may(LINE),
+    "down_rate": may(RATE), "up_rate": may(RATE), "session_down_rate": may(RATE), "session_up_rate": may(RATE),
+    "session_down_floor": may(RATE), "session_up_floor": may(RATE), "msg_login": may(LINE), "msg_quit": may(LINE),
+    "group": may(LINE), "override": may(ROWS),
+}
+OVERRIDE = {"path": must(LINE), "perms": must(LINE), "recursive": may(FLAG)}
+DIR = {"path": must(LINE)}
+FILE = {"path": must(LINE), "text": must(TEXT), "modified": may(MOMENT)}
+
+
+def is_control(character):
+    """Whether it is of the class Cc of Unicode, as a terminal's orders are."""
+    return ord(character) < 32 or 127 <= ord(character) < 160
+
+
+def shown(text):
+    return "".join("?" if is_control(it) else it for it in text[:LONGEST_SHOWN])
+
+
+def header(table, row=None, name=None):
+    return table + (f" {row}" if row else "") + (f" {shown(name)}" if name is not None else "")
+
+
+def name_of(row):
+    name = row.get("name") if isinstance(row, dict) else None
+    return name if isinstance(name, str) else None
+
+
+def key_fault(place, key, problem, name):
+    return Fault(f"{place}: {shown(key)}: {problem}", name)
+
+
+def fault_at(place, key, kind, value):
+    """The fault of a value at a key, or nothing."""
+    if not kind.fits(value):
+        return key_fault(place, key, f"of the wrong kind; it must be {kind.words}", "WrongKind")
+    if not kind.is_within(value):
+        return key_fault(place, key, f"out of range; it must be {kind.words}", "OutOfRange")
+    return None
+
+
+def table_fault(place, keys, table):
+    """The first fault of a table: an unknown key, the least by its octets, and then its keys in their order."""
+    unknown = sorted((it for it in table if it not in keys), key=str.encode)
+    if unknown:
+        return key_fault(place, unknown[0], "no such key", "UnknownKey")
+    for key, (kind, is_needed) in keys.items():
+        if key not in table:
+            if is_needed:
+                return key_fault(place, key, f"missing; it must be {kind.words}", "Missing")
+        elif found := fault_at(place, key, kind, table[key]):
+            return found
+    return None
+
+
+def rows_fault(table, key, rows, keys_of, owner=None):
+    for number_of_row, row in enumerate(rows, 1):
+        place = header(table, number_of_row, owner if owner is not None else name_of(row))
+        if not isinstance(row, dict):
+            return key_fault(place, key, f"of the wrong kind; it must be {ROWS.words}", "WrongKind")
+        if found := table_fault(place, keys_of(row), row):
+            return found
+    return None
+
+
+def without(keys, *names):
+    return {key: it for key, it in keys.items() if key not in names}
+
+
+def keys_of_user(version):
+    """Version 1 knows no groups, and the password of `anonymous` is not read."""
+    def keys(row):
+        known = USER if version != 1 else without(USER, "group")
+        if row.get("name") == "anonymous":
+            known = {**known, "password": may(Kind("anything", always, always))}
+        return known
+    return keys
+
+
+def tables_fault(document):
+    """The first fault of a key of the file."""
+    version = document.get("version")
+    is_first = is_number(version) and version == 1
+    yield table_fault("top", without(TOP, "group") if is_first else TOP, document)
+    yield table_fault("[server]", SERVER, document["server"])
+    yield rows_fault("[[group]]", "group", document.get("group", []), lambda _row: GROUP)
+    users = document.get("user", [])
+    yield rows_fault("[[user]]", "user", users, keys_of_user(version))
+    for user in users:
+        yield rows_fault("[[user.override]]", "override", user.get("override", []), lambda _row: OVERRIDE, user["name"])
+    yield rows_fault("[[dir]]", "dir", document.get("dir", []), lambda _row: DIR)
+    yield rows_fault("[[file]]", "file", document.get("file", []), lambda _row: FILE)
+
+
+def groups_fault(document):
+    """Two groups of one name, and then a user whose group is not there."""
+    names = set()
+    for row, group in enumerate(document.get("group", []), 1):
+        if group["name"] in names:
+            yield Fault(f"{header('[[group]]', row, group['name'])}: there is a group of that name", "BadGroup")
+        names.add(group["name"])
+    for row, user in enumerate(document.get("user", []), 1):
+        if "group" in user and user["group"] not in names:
+            yield Fault(f"{header('[[user]]', row, user['name'])}: there is no group of that name", "BadGroup")
+
+
+def path_of(text):
+    """The names that lead there from the root; nothing where a name or the path is too long."""
+    names = []
+    for name in text.split("/"):
+        if len(name.encode()) > LONGEST_NAME:
+            return None
+        if name == "..":
+            names = names[:-1]
+        elif name not in ("", "."):
+            names.append(name)
+    return tuple(names) if sum(len(it.encode()) + 1 for it in names) <= LONGEST_PATH else None
+
+
+def refusal_of(letters, path):
+    """Why letters with a path are refused, or nothing."""
+    if not set(letters) <= LETTERS:
+        return "no such permission letter"
+    return "not a path" if path_of(path) is None else None
+
+
+def users_fault(document):
+    """Users in the order of the file, each with the overrides of theirs."""
+    names = set()
+    for row, user in enumerate(document.get("user", []), 1):
+        is_there = user["name"] in names
+        names.add(user["name"])
+        refusal = "there is a user of that name" if is_there else refusal_of(user.get("perms", ""), user["home"])
+        if refusal:
+            yield Fault(f"{header('[[user]]', row, user['name'])}: {refusal}", "BadUser")
+        for number_of_rule, rule in enumerate(user.get("override", []), 1):
+            if refusal := refusal_of(rule["perms"], rule["path"]):
+                yield Fault(f"{header('[[user.override]]', number_of_rule, user['name'])}: {refusal}", "BadUser")
+
+
+def refusal_above(entries, path):
+    """Why nothing can be made at a path below the root, by what stands above it, or nothing."""
+    for length in range(len(path)):
+        above = path[:length]
+        if above not in entries:
+            return "not found"
+        if entries[above] is not None:
+            return "not a directory"
+    return None
+
+
+def refusal_to_make(entries, path, text, capacity):
+    """Why a directory (with no text) or a file is not made, or nothing."""
+    if path is None:
+        return "path: a name or the path is too long"
+    if path == ROOT:
+        return "already exists" if text is None else "a directory"
+    if refusal := refusal_above(entries, path):
+        return refusal
+    if text is None:
+        return "already exists" if path in entries else None
+    if path in entries and entries[path] is None:
+        return "a directory"
+    others = sum(size for place, size in entries.items() if size is not None and place != path)
+    return "full" if others + len(text.encode()) > capacity else None
+
+
+def store_fault(document):
+    """The range of ports, and then what a store in memory holds."""
+    server = document["server"]
+    if server["passive_last"] < server["passive_first"]:
+        yield Fault("[server]: passive_last is below passive_first", "BadStore")
+    if server["root"] != "memory":
+        return
+    # How many octets each file has; a directory has none at all.
+    entries = {ROOT: None}
+    for table in ("dir", "file"):
+        for row, made in enumerate(document.get(table, []), 1):
+            path, text = path_of(made["path"]), made.get("text")
+            if refusal := refusal_to_make(entries, path, text, server.get("capacity", 1048576)):
+                yield Fault(f"{header(f'[[{table}]]', row)}: {refusal}", "BadStore")
+            entries[path] = None if text is None else len(text.encode())
+
+
+def first_fault(document):
+    """The first fault of what a file states, or nothing."""
+    for judged in (tables_fault, groups_fault, users_fault, store_fault):
+        for found in judged(document):
+            if found:
+                return found
+    return None

@@ -1,0 +1,197 @@
+"""A second reading of sheets and grants files: docs/sheets.md and the remainder rule of docs/sharing.md, octet by octet.
+
+`share` and `check` answer what the program is wanted to end with: its status, and what it prints to either output. Nothing
+here knows how the program goes about it, and all of it is slow: wants are to be small.
+"""
+import re
+
+DONE, FAULTY, NO = 0, 1, 3
+MOST_NAMES, MOST_WANTS = 16, 4096
+LARGEST_LIMIT, LARGEST_WANT = 2 ** 52, 2 ** 32 - 1
+
+PATH = r"(/|(?:/[A-Za-z0-9._-]{1,64})+)"
+NUMBER = r"(0|[1-9][0-9]{0,18})"
+LIMIT = re.compile(f"limit {PATH} (?:{NUMBER}|-)")
+WANT = re.compile(f"want {PATH} {NUMBER}(?: {NUMBER})?")
+GRANT = re.compile(f"grant {PATH} {NUMBER}(?: {PATH})?")
+
+
+class Fault(Exception):
+    """A line that is at fault, by its number, and the fault's name."""
+
+    def __init__(self, line, name):
+        super().__init__(f"line {line}: {name}")
+
+
+def lines_of(text):
+    """The lines of a text that are no remarks, each with its number."""
+    lines = text.split("\n")
+    for number, line in enumerate(lines[:-1] if lines[-1] == "" else lines, 1):
+        line = line.removesuffix("\r")
+        if line and not line.startswith("#"):
+            yield number, line
+
+
+def names_of(path):
+    return tuple(path.split("/")[1:]) if path != "/" else ()
+
+
+def text_of(path):
+    return "/" + "/".join(path)
+
+
+class Sheet:
+    """Each path that is mentioned, in the order of first mention: its kids, and what its line states."""
+
+    def __init__(self, text):
+        self.kids, self.limits, self.wants, self.lines = {(): []}, {}, {}, {}
+        for number, line in lines_of(text):
+            self.take(number, line)
+        self.judge_floors()
+
+    def take(self, number, line):
+        limit, want = LIMIT.fullmatch(line), WANT.fullmatch(line)
+        found = limit or want
+        path = names_of(found[1]) if found else ()
+        if not found or want and not path:
+            raise Fault(number, "BadLine")
+        self.judge_place(number, path, want)
+        self.judge_numbers(number, limit, want)
+        self.mention(path)
+        self.lines[path] = number
+        if want:
+            self.wants[path] = int(want[2]), int(want[3] or 0)
+        else:
+            self.limits[path] = int(limit[2]) if limit[2] else None
+
+    def judge_place(self, number, path, want):
+        if path in self.lines:
+            raise Fault(number, "Twice")
+        if any(path[:length] in self.wants for length in range(len(path))) or want and path in self.kids:
+            raise Fault(number, "LeafHasKids")
+        if len(path) > MOST_NAMES:
+            raise Fault(number, "TooDeep")
+        if want and len(self.wants) == MOST_WANTS:
+            raise Fault(number, "TooManyLeaves")
+
+    def judge_numbers(self, number, limit, want):
+        if want and int(want[2]) > LARGEST_WANT:
+            raise Fault(number, "WantTooLarge")
+        if limit and limit[2] and int(limit[2]) > LARGEST_LIMIT:
+            raise Fault(number, "LimitTooLarge")
+        if want and int(want[3] or 0) > int(want[2]):
+            raise Fault(number, "FloorTooLarge")
+
+    def mention(self, path):
+        for length in range(1, len(path) + 1):
+            if path[:length] not in self.kids:
+                self.kids[path[:length]] = []
+                self.kids[path[:length - 1]].append(path[:length])
+
+    def judge_floors(self):
+        """The branch whose line stands first of those whose floors exceed their limits."""
+        for branch in sorted(self.limits, key=self.lines.get):
+            limit = self.limits[branch]
+            if limit is not None and sum(self.wants[it][1] for it in self.leaves(branch)) > limit:
+                raise Fault(self.lines[branch], "FloorsOverLimit")
+
+    def walk(self, path=()):
+        """The paths beneath one, and itself before them, as a walk of the tree comes to them."""
+        yield path
+        for kid in self.kids[path]:
+            yield from self.walk(kid)
+
+    def leaves(self, branch=()):
+        return [it for it in self.walk(branch) if it in self.wants]
+
+    def is_full(self, branch, grants):
+        limit = self.limits.get(branch)
+        return limit is not None and sum(grants[it] for it in self.leaves(branch)) == limit
+
+    def holder(self, leaf, grants):
+        """The deepest full branch above a leaf, or nothing."""
+        above = [leaf[:length] for length in range(len(leaf) - 1, -1, -1)]
+        return next((it for it in above if self.is_full(it, grants)), None)
+
+    def grants(self):
+        """From the floors on one octet at a time, to the leaf with the least of those with room; of several the first."""
+        grants = {leaf: self.wants[leaf][1] for leaf in self.leaves()}
+        while True:
+            open_leaves = [it for it in grants if grants[it] < self.wants[it][0] and self.holder(it, grants) is None]
+            if not open_leaves:
+                return grants
+            grants[min(open_leaves, key=grants.get)] += 1
+
+
+def share(text):
+    """What `share` ends with for a sheet's text."""
+    try:
+        sheet = Sheet(text)
+    except Fault as fault:
+        return FAULTY, "", str(fault)
+    grants = sheet.grants()
+    lines = []
+    for leaf, (want, _floor) in sheet.wants.items():
+        held = f" full {text_of(sheet.holder(leaf, grants))}" if grants[leaf] < want else ""
+        lines.append(f"{text_of(leaf)} {grants[leaf]} of {want}{held}\n")
+    return DONE, "".join(lines) + f"total {sum(grants.values())}\n", ""
+
+
+def read_grants(sheet, text):
+    """What a grants file states for the wants, in the order of the sheet: the octets and the branch."""
+    turns, stated = list(sheet.wants), {}
+    for number, line in lines_of(text):
+        found = GRANT.fullmatch(line)
+        if not found:
+            raise Fault(number, "BadLine")
+        if len(stated) == len(turns) or names_of(found[1]) != turns[len(stated)]:
+            raise Fault(number, "WrongPath")
+        node = names_of(found[3]) if found[3] else None
+        if node is not None and node not in sheet.kids:
+            raise Fault(number, "NoSuchNode")
+        stated[turns[len(stated)]] = int(found[2]), node
+    return stated
+
+
+def first_flaw(sheet, stated):
+    """The first flaw of grants, in the order of the page's table, or nothing."""
+    if len(stated) != len(sheet.wants):
+        return "1 WrongLength"
+    leaves = sheet.leaves()
+    grants = {leaf: stated[leaf][0] for leaf in leaves}
+    for leaf in leaves:
+        if grants[leaf] > sheet.wants[leaf][0]:
+            return f"2 OverWant {text_of(leaf)} {grants[leaf]} {sheet.wants[leaf][0]}"
+    for leaf in leaves:
+        if grants[leaf] < sheet.wants[leaf][1]:
+            return f"8 UnderFloor {text_of(leaf)} {grants[leaf]} {sheet.wants[leaf][1]}"
+    for branch in sheet.walk():
+        total, limit = sum(grants[it] for it in sheet.leaves(branch)), sheet.limits.get(branch)
+        if limit is not None and total > limit:
+            return f"3 OverLimit {text_of(branch)} {total} {limit}"
+    unmet = [it for it in leaves if grants[it] < sheet.wants[it][0]]
+    return next(filter(None, (flaw_of(sheet, grants, leaf, stated[leaf][1]) for leaf in unmet)), None)
+
+
+def flaw_of(sheet, grants, leaf, node):
+    """What is wrong with the branch that an unmet want names, or nothing."""
+    if node is None or node in sheet.wants:
+        return f"4 NoNode {text_of(leaf)}"
+    if leaf[:len(node)] != node:
+        return f"5 NotAbove {text_of(leaf)} {text_of(node)}"
+    if not sheet.is_full(node, grants):
+        return f"6 NotFull {text_of(leaf)} {text_of(node)}"
+    for other in sheet.leaves(node):
+        if grants[other] >= grants[leaf] + 2 and grants[other] > sheet.wants[other][1]:
+            return f"7 TooGreat {text_of(leaf)} {grants[leaf]} {text_of(other)} {grants[other]}"
+    return None
+
+
+def check(text, grants):
+    """What `check` ends with for the texts of a sheet and of its grants."""
+    try:
+        sheet = Sheet(text)
+        flaw = first_flaw(sheet, read_grants(sheet, grants))
+    except Fault as fault:
+        return FAULTY, "", str(fault)
+    return (NO, f"no {flaw}\n", "") if flaw else (DONE, "yes\n", "")

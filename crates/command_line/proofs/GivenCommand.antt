@@ -1,5 +1,5 @@
 -- Where the parser has no fault with the words of a program, it holds a command with each of its words.
-use Rattle.std.proofs.Common.{◌≡◌, Bool, codes, false, ◌||◌, not, true, refl, sym, subst, List, [], ◌∷◌, Option, Some}
+use Rattle.std.proofs.Common.{◌≡◌, Bool, codes, false, ◌||◌, not, true, refl, sym, subst, List, [], ◌∷◌, Option, None, Some, option_map}
 use Rattle.std.specs.Borrow.{Bor}
 use Rattle.std.specs.Str.{bytes_eq}
 use Rattle.std.specs.List.{find, list_any}
@@ -13,7 +13,7 @@ use Rattle.command_line.specs.Given.{IsFound, IsSheetFound}
 use Rattle.command_line.specs.declared.words.SheetWords.{SheetWords}
 use Rattle.command_line.specs.declared.words.SheetWords.TheVariants.{Share, Check}
 use Rattle.command_line.specs.declared.words.Words.{Words}
-use Rattle.command_line.specs.declared.words.Words.TheVariants.{Sheet, Migrate, Script}
+use Rattle.command_line.specs.declared.words.Words.TheVariants.{Sheet, Migrate, Script, Serve}
 use Rattle.command_line.proofs.EnteredCommand.{Entered, enters}
 use Rattle.command_line.proofs.RowValues.{all_want_values, required_value, requires_value}
 
@@ -73,6 +73,12 @@ module _ (a : App) (stop : Option (Text × List Text)) (e : Entered a stop) wher
 at_place : Bor (List (Bor Text)) → Text → Bor Text
 at_place any word = record { ref_ptr = any.ref_ptr; now = word }
 
+-- the word, if there is one
+if_any : (any : Bor (List (Bor Text))) (word : Option Text) → word ≡ option_map (λ w. w.now) (option_map (at_place any) word)
+unfolding at_place
+if_any any None = refl
+if_any any (Some word) = refl
+
 pub sheets_found : (any : Bor (List (Bor Text))) (words : List Text) → fault_of sheets words ≡ []
     → (command : SheetWords) × IsSheetFound (subcommand_of sheets words) command
 unfolding at_place
@@ -111,7 +117,13 @@ ftpd_found any words none =
             λ _ is.
                 let found = one_found _ _ e _ is (codes "CONFIG") refl refl in
                 (Script (at_place any found.0), (found.1, found.2, found.3)),
-            (λ help _. absurd (not_help _ _ e help), tt),
+            (
+              λ _ is.
+                  let found = one_found _ _ e _ is (codes "CONFIG") refl refl in
+                  let path = first_of (codes "PATH") found.1 in
+                  (Serve (at_place any found.0) (option_map (at_place any) path), (found.1, found.2, found.3, if_any any path)),
+              (λ help _. absurd (not_help _ _ e help), tt),
+            ),
           ),
         ),
       ),
@@ -131,7 +143,9 @@ pub no_other_command : (found : Option (Text × List Row)) (command : Words) →
     → ((rows : List Row) (first second : Text) → found ≡ Some (codes "check", rows) → first_of (codes "SHEET") rows ≡ Some first → first_of (codes "GRANTS") rows ≡ Some second → ⊥)
     → ((rows : List Row) (word : Text) → found ≡ Some (codes "migrate", rows) → first_of (codes "CONFIG") rows ≡ Some word → ⊥)
     → ((rows : List Row) (word : Text) → found ≡ Some (codes "script", rows) → first_of (codes "CONFIG") rows ≡ Some word → ⊥)
+    → ((rows : List Row) (word : Text) → found ≡ Some (codes "serve", rows) → first_of (codes "CONFIG") rows ≡ Some word → ⊥)
     → ⊥
-no_other_command found (Sheet words) is share check migrate script = no_other_sheet_command found words is share check
-no_other_command found (Migrate config) is share check migrate script = migrate is.0 config.now is.1 is.2
-no_other_command found (Script config) is share check migrate script = script is.0 config.now is.1 is.2
+no_other_command found (Sheet words) is share check migrate script serve = no_other_sheet_command found words is share check
+no_other_command found (Migrate config) is share check migrate script serve = migrate is.0 config.now is.1 is.2
+no_other_command found (Script config) is share check migrate script serve = script is.0 config.now is.1 is.2
+no_other_command found (Serve config stop_file) is share check migrate script serve = serve is.0 config.now is.1 is.2

@@ -152,6 +152,79 @@ scripts (b ∷ bs) plain =
     let ne = ne_eqb _ _ plain in
     record { rows = _; taken = script_taken b bs ne; entered = script_entered b bs ne; config = script_first b bs ne }
 
+serve_taken : (b : ℕ) (bs : List ℕ) → (b == 45) ≡ false → takes ftpd (codes "serve" ∷ (b ∷ bs) ∷ []) ≡ true
+unfolding clap_on_literals
+serve_taken b bs ne = simp ne refl
+
+serve_entered : (b : ℕ) (bs : List ℕ) → (b == 45) ≡ false
+    → subcommand_of ftpd (codes "serve" ∷ (b ∷ bs) ∷ [])
+    ≡ Some (codes "serve", rows_in (subcommand_of ftpd (codes "serve" ∷ (b ∷ bs) ∷ [])))
+unfolding clap_on_literals
+serve_entered b bs ne = simp ne refl
+
+serve_first : (b : ℕ) (bs : List ℕ) → (b == 45) ≡ false
+    → first_of (codes "CONFIG") (rows_in (subcommand_of ftpd (codes "serve" ∷ (b ∷ bs) ∷ []))) ≡ Some (b ∷ bs)
+unfolding clap_on_literals
+serve_first b bs ne = simp ne refl
+
+serve_no_path : (b : ℕ) (bs : List ℕ) → (b == 45) ≡ false
+    → first_of (codes "PATH") (rows_in (subcommand_of ftpd (codes "serve" ∷ (b ∷ bs) ∷ []))) ≡ None
+unfolding clap_on_literals
+serve_no_path b bs ne = simp ne refl
+
+-- what the parser makes of the words of `serve` with no stop file
+pub record Serves (word : List ℕ) : Type 0 where
+  pub rows : List Row
+  pub taken : takes ftpd (codes "serve" ∷ word ∷ []) ≡ true
+  pub entered : subcommand_of ftpd (codes "serve" ∷ word ∷ []) ≡ Some (codes "serve", rows)
+  pub config : first_of (codes "CONFIG") rows ≡ Some word
+  pub no_path : first_of (codes "PATH") rows ≡ None
+
+pub serves : (word : List ℕ) → IsPlainWord word → Serves word
+serves [] plain = absurd plain
+serves (b ∷ bs) plain =
+    let ne = ne_eqb _ _ plain in
+    record { rows = _; taken = serve_taken b bs ne; entered = serve_entered b bs ne; config = serve_first b bs ne; no_path = serve_no_path b bs ne }
+
+-- the words of `serve` with a stop file
+abbrev pub until : List ℕ → List ℕ → List Text
+until word path = codes "serve" ∷ word ∷ codes "--stop-file" ∷ path ∷ []
+
+until_taken : (b d : ℕ) (bs ds : List ℕ) → (b == 45) ≡ false → (d == 45) ≡ false → takes ftpd (until (b ∷ bs) (d ∷ ds)) ≡ true
+unfolding clap_on_literals
+until_taken b d bs ds ne nf = simp (ne, nf) refl
+
+until_entered : (b d : ℕ) (bs ds : List ℕ) → (b == 45) ≡ false → (d == 45) ≡ false
+    → subcommand_of ftpd (until (b ∷ bs) (d ∷ ds)) ≡ Some (codes "serve", rows_in (subcommand_of ftpd (until (b ∷ bs) (d ∷ ds))))
+unfolding clap_on_literals
+until_entered b d bs ds ne nf = simp (ne, nf) refl
+
+until_first : (b d : ℕ) (bs ds : List ℕ) → (b == 45) ≡ false → (d == 45) ≡ false
+    → first_of (codes "CONFIG") (rows_in (subcommand_of ftpd (until (b ∷ bs) (d ∷ ds)))) ≡ Some (b ∷ bs)
+unfolding clap_on_literals
+until_first b d bs ds ne nf = simp (ne, nf) refl
+
+until_path : (b d : ℕ) (bs ds : List ℕ) → (b == 45) ≡ false → (d == 45) ≡ false
+    → first_of (codes "PATH") (rows_in (subcommand_of ftpd (until (b ∷ bs) (d ∷ ds)))) ≡ Some (d ∷ ds)
+unfolding clap_on_literals
+until_path b d bs ds ne nf = simp (ne, nf) refl
+
+-- what the parser makes of those words
+pub record ServesUntil (word path : List ℕ) : Type 0 where
+  pub rows : List Row
+  pub taken : takes ftpd (until word path) ≡ true
+  pub entered : subcommand_of ftpd (until word path) ≡ Some (codes "serve", rows)
+  pub config : first_of (codes "CONFIG") rows ≡ Some word
+  pub stop_file : first_of (codes "PATH") rows ≡ Some path
+
+pub serves_until : (word path : List ℕ) → IsPlainWord word → IsPlainWord path → ServesUntil word path
+serves_until [] path plain also = absurd plain
+serves_until (b ∷ bs) [] plain also = absurd also
+serves_until (b ∷ bs) (d ∷ ds) plain also =
+    let ne = ne_eqb _ _ plain in
+    let nf = ne_eqb _ _ also in
+    record { rows = _; taken = until_taken b d bs ds ne nf; entered = until_entered b d bs ds ne nf; config = until_first b d bs ds ne nf; stop_file = until_path b d bs ds ne nf }
+
 -- ---- of `sheets`
 
 pub sheets_is_simple : is_simple sheets ≡ true

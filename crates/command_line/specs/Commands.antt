@@ -7,6 +7,10 @@ use Rattle.clap.specs.declared.builder.ArgAction.TheVariants.{Set}
 abbrev pub file_rule : Text → Rule
 file_rule id = record (new_rule id) { required = true; action = Some Set }
 
+-- an option `--LONG ID` that need not be given, with one value
+abbrev pub option_rule : Text → Text → Rule
+option_rule id long = record (new_rule id) { long = Some long; action = Some Set }
+
 -- a command that takes no word
 abbrev pub bare : Text → App
 bare name = new_app name
@@ -27,6 +31,10 @@ migrate = with_rule (bare (codes "migrate")) (file_rule (codes "CONFIG"))
 abbrev pub script : App
 script = with_rule (bare (codes "script")) (file_rule (codes "CONFIG"))
 
+-- `serve CONFIG [--stop-file PATH]`
+abbrev pub serve : App
+serve = with_rule (with_rule (bare (codes "serve")) (file_rule (codes "CONFIG"))) (option_rule (codes "PATH") (codes "stop-file"))
+
 -- the program of that name with no command yet; its first word is no program's name
 abbrev pub top : Text → App
 top name =
@@ -43,4 +51,4 @@ sheets = with_sheets (codes "sheets")
 
 -- the program `ftpd`
 abbrev pub ftpd : App
-ftpd = with_subcommand (with_subcommand (with_sheets (codes "ftpd")) migrate.top) script.top
+ftpd = with_subcommand (with_subcommand (with_subcommand (with_sheets (codes "ftpd")) migrate.top) script.top) serve.top

@@ -1,12 +1,12 @@
 -- What words give, and how they are refused.
-use Rattle.std.specs.Prelude.{◌≡◌, ◌≢◌, ◌↔◌, ◌⊎◌, ℕ, List, [], ◌∷◌, IsTrue, MatchResult, Option, Result, Some, codes}
+use Rattle.std.specs.Prelude.{◌≡◌, ◌≢◌, ◌↔◌, ◌⊎◌, ℕ, List, [], ◌∷◌, IsTrue, MatchResult, Option, Result, Some, codes, option_map}
 use Rattle.clap.specs.Words.{IsAmong, Kinds, Row, Text, first_of}
 use Rattle.clap.specs.declared.error.kind.ErrorKind.{ErrorKind}
 use Rattle.clap.specs.declared.error.kind.ErrorKind.TheVariants.{DisplayHelp, DisplayVersion}
 use Rattle.command_line.specs.declared.words.SheetWords.{SheetWords}
 use Rattle.command_line.specs.declared.words.SheetWords.TheVariants.{Share, Check}
 use Rattle.command_line.specs.declared.words.Words.{Words}
-use Rattle.command_line.specs.declared.words.Words.TheVariants.{Sheet, Migrate, Script}
+use Rattle.command_line.specs.declared.words.Words.TheVariants.{Sheet, Migrate, Script, Serve}
 use Rattle.command_line.specs.declared.words.WordsFault.{WordsFault}
 use Rattle.command_line.specs.declared.words.WordsFault.TheVariants.{Refused, Memory}
 
@@ -30,18 +30,28 @@ abbrev pub IsOfSheets : (SheetWords → Type 0) → Words → Type 0
 IsOfSheets P (Sheet words) = P words
 IsOfSheets P (Migrate config) = ⊥
 IsOfSheets P (Script config) = ⊥
+IsOfSheets P (Serve config stop_file) = ⊥
 
 -- the command `migrate` of that configuration
 abbrev pub IsMigrate : List ℕ → Words → Type 0
 IsMigrate word (Sheet words) = ⊥
 IsMigrate word (Migrate config) = config.now ≡ word
 IsMigrate word (Script config) = ⊥
+IsMigrate word (Serve config stop_file) = ⊥
 
 -- the command `script` of that configuration
 abbrev pub IsScript : List ℕ → Words → Type 0
 IsScript word (Sheet words) = ⊥
 IsScript word (Migrate config) = ⊥
 IsScript word (Script config) = config.now ≡ word
+IsScript word (Serve config stop_file) = ⊥
+
+-- the command `serve` of that configuration, with that stop file, if any
+abbrev pub IsServe : List ℕ → Option (List ℕ) → Words → Type 0
+IsServe word path (Sheet words) = ⊥
+IsServe word path (Migrate config) = ⊥
+IsServe word path (Script config) = ⊥
+IsServe word path (Serve config stop_file) = (config.now ≡ word) × (option_map (λ w. w.now) stop_file ≡ path)
 
 -- the parser found the command on a sheet, and the words after it
 abbrev pub IsSheetFound : Option (Text × List Row) → SheetWords → Type 0
@@ -57,6 +67,9 @@ IsFound found (Migrate config) =
     (rows : List Row) × (found ≡ Some (codes "migrate", rows)) × (first_of (codes "CONFIG") rows ≡ Some config.now)
 IsFound found (Script config) =
     (rows : List Row) × (found ≡ Some (codes "script", rows)) × (first_of (codes "CONFIG") rows ≡ Some config.now)
+IsFound found (Serve config stop_file) =
+    (rows : List Row) × (found ≡ Some (codes "serve", rows)) × (first_of (codes "CONFIG") rows ≡ Some config.now)
+    × (first_of (codes "PATH") rows ≡ option_map (λ w. w.now) stop_file)
 
 -- the words are given, or memory ran out
 abbrev pub GivesOrMemory : {T : Type 0} → (T → Type 0) → Result T WordsFault → Type 0

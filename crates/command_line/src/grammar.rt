@@ -1,7 +1,7 @@
 //! The grammar of the command lines of `ftpd` and of `sheets`.
-ghost use Rattle.std.specs.Prelude.{◌≡◌, IfOk, false};
+ghost use Rattle.std.specs.Prelude.{◌≡◌, IfOk, codes, false};
 ghost use Rattle.clap.specs.Words.{app_of, rule_of, with_rule};
-ghost use Rattle.command_line.specs.Commands.{bare, check, file_rule, ftpd, migrate, script, share, sheets, top, with_sheets};
+ghost use Rattle.command_line.specs.Commands.{bare, check, file_rule, ftpd, migrate, option_rule, script, serve, share, sheets, top, with_sheets};
 
 use clap::{Arg, ArgAction, Command};
 use std::alloc::{AllocError, Global};
@@ -12,6 +12,17 @@ fn file<'a>(alloc: Global, id: &'a str, help: &'a str) -> Arg<'a>
 {
     Arg::new(alloc, id)
         .required(true)
+        .action(ArgAction::Set)
+        .help(help)
+}
+
+/// The option `--LONG ID`, which need not be given.
+fn option<'a>(alloc: Global, id: &'a str, long: &'a str, help: &'a str) -> Arg<'a>
+    ensures rule { rule_of result ≡ option_rule id.entry.now long.entry.now }
+    ensures local { result.global ≡ false }
+{
+    Arg::new(alloc, id)
+        .long(long)
         .action(ArgAction::Set)
         .help(help)
 }
@@ -83,6 +94,27 @@ fn script_command<'a>(alloc: Global) -> Result<Command<'a>, AllocError>
     )
 }
 
+/// The command with the path of one stop file more, as an option.
+fn with_stop_file<'a>(alloc: Global, command: Command<'a>) -> Result<Command<'a>, AllocError>
+    ensures rule { IfOk result (λ c. app_of c
+        ≡ with_rule (app_of command.entry) (option_rule (codes "PATH") (codes "stop-file"))) }
+{
+    let help =
+        "File that is not there yet: once it appears, sessions are told 421 and the server ends";
+    let command = command.arg(option(alloc, "PATH", "stop-file", help))?;
+    Ok(command)
+}
+
+fn serve_command<'a>(alloc: Global) -> Result<Command<'a>, AllocError>
+    ensures serve { IfOk result (λ c. app_of c ≡ serve) }
+{
+    let about =
+        "Serve clients by a configuration, until a number of sessions or a stop file ends it";
+    let config = "File of a configuration, in TOML, or /dev/stdin";
+    let command = with_file(alloc, bare_command(alloc, "serve", about), "CONFIG", config)?;
+    with_stop_file(alloc, command)
+}
+
 fn top_command<'a>(alloc: Global, name: &'a str) -> Result<Command<'a>, AllocError>
     ensures top { IfOk result (λ c. app_of c ≡ top name.entry.now) }
 {
@@ -118,6 +150,7 @@ pub(crate) fn ftpd_command<'a>(alloc: Global) -> Result<Command<'a>, AllocError>
 {
     let with_sheets = sheet_commands(alloc, "ftpd")?;
     let with_migrate = with_sheets.subcommand(migrate_command(alloc)?)?;
-    let command = with_migrate.subcommand(script_command(alloc)?)?;
+    let with_script = with_migrate.subcommand(script_command(alloc)?)?;
+    let command = with_script.subcommand(serve_command(alloc)?)?;
     Ok(command)
 }

@@ -5,6 +5,7 @@
 //! ftpd check SHEET GRANTS
 //! ftpd migrate CONFIG
 //! ftpd script CONFIG
+//! ftpd serve CONFIG [--stop-file PATH]
 //!
 //! sheets share SHEET
 //! sheets check SHEET GRANTS

@@ -1,8 +1,8 @@
 //! The words of a command line.
-ghost use Rattle.std.specs.Prelude.{◌≡◌, ◌↔◌, ◌∷◌, [], ℕ, List, Some, IfOk, IfErr, IfSome, IsSomeAnd, IsTrue, map, codes, option_map, true};
+ghost use Rattle.std.specs.Prelude.{◌≡◌, ◌↔◌, ◌∷◌, [], ℕ, List, None, Some, IfOk, IfErr, IfSome, IsSomeAnd, IsTrue, map, codes, option_map, true};
 ghost use Rattle.clap.specs.Words.{Row, app_of, fault_of, first_of, is_simple, is_simple_and_free, kind_of, subcommand_of, subcommand_rows_of, takes};
 ghost use Rattle.command_line.specs.Commands.{ftpd, sheets};
-ghost use Rattle.command_line.specs.Given.{GivesOneOrMemory, GivesOrMemory, IsCheck, IsFound, IsHelp, IsMigrate, IsOfSheets, IsPlainWord, IsRefusal, IsRefusedAs, IsScript, IsSheetFound, IsShare};
+ghost use Rattle.command_line.specs.Given.{GivesOneOrMemory, GivesOrMemory, IsCheck, IsFound, IsHelp, IsMigrate, IsOfSheets, IsPlainWord, IsRefusal, IsRefusedAs, IsScript, IsServe, IsSheetFound, IsShare};
 
 use crate::grammar::{ftpd_command, sheets_command};
 use clap::error::ErrorKind;
@@ -24,9 +24,18 @@ pub enum Words<'a> {
     /// A command on a sheet.
     Sheet(SheetWords<'a>),
     /// Print a configuration in its latest version; its path.
-    Migrate { config: &'a str },
+    Migrate {
+        config: &'a str,
+    },
     /// Serve a control session by a configuration, whose path this is.
-    Script { config: &'a str },
+    Script {
+        config: &'a str,
+    },
+    /// Serve clients by a configuration; its path, and that of the file that ends the server once it appears.
+    Serve {
+        config: &'a str,
+        stop_file: Option<&'a str>,
+    },
 }
 
 /// Why the words give no command.
@@ -67,6 +76,8 @@ fn word_of<'a>(matches: &ArgMatches<'a>, command: &str, id: &str) -> Option<&'a 
     ensures given { (rows : List Row) (word : List ℕ)
         → subcommand_rows_of matches.now ≡ Some (command.now, rows)
         → first_of id.now rows ≡ Some word → option_map (λ w. w.now) result ≡ Some word }
+    ensures whole { (rows : List Row) → subcommand_rows_of matches.now ≡ Some (command.now, rows)
+        → option_map (λ w. w.now) result ≡ first_of id.now rows }
     ensures found { IfSome result (λ word. (rows : List Row)
         × (subcommand_rows_of matches.now ≡ Some (command.now, rows))
         × (first_of id.now rows ≡ Some word.now)) }
@@ -135,6 +146,36 @@ fn script_given<'a>(matches: &ArgMatches<'a>) -> Option<Words<'a>>
     Some(Words::Script { config })
 }
 
+/// A stop file need not be given.
+fn serve_given<'a>(matches: &ArgMatches<'a>) -> Option<Words<'a>>
+    ensures serve { (rows : List Row) (word : List ℕ)
+        → subcommand_rows_of matches.now ≡ Some (codes "serve", rows)
+        → first_of (codes "CONFIG") rows ≡ Some word
+        → IsSomeAnd result (IsServe word (first_of (codes "PATH") rows)) }
+    ensures found { IfSome result (IsFound (subcommand_rows_of matches.now)) }
+{
+    let config = word_of(matches, "serve", "CONFIG")?;
+    let stop_file = word_of(matches, "serve", "PATH");
+    Some(Words::Serve { config, stop_file })
+}
+
+/// The command that serves.
+fn of_sessions<'a>(matches: &ArgMatches<'a>) -> Option<Words<'a>>
+    ensures script { (rows : List Row) (word : List ℕ)
+        → subcommand_rows_of matches.now ≡ Some (codes "script", rows)
+        → first_of (codes "CONFIG") rows ≡ Some word → IsSomeAnd result (IsScript word) }
+    ensures serve { (rows : List Row) (word : List ℕ)
+        → subcommand_rows_of matches.now ≡ Some (codes "serve", rows)
+        → first_of (codes "CONFIG") rows ≡ Some word
+        → IsSomeAnd result (IsServe word (first_of (codes "PATH") rows)) }
+    ensures found { IfSome result (IsFound (subcommand_rows_of matches.now)) }
+{
+    match script_given(matches) {
+        Some(words) => Some(words),
+        None => serve_given(matches),
+    }
+}
+
 /// The command of a configuration.
 fn of_config<'a>(matches: &ArgMatches<'a>) -> Option<Words<'a>>
     ensures migrate { (rows : List Row) (word : List ℕ)
@@ -143,11 +184,15 @@ fn of_config<'a>(matches: &ArgMatches<'a>) -> Option<Words<'a>>
     ensures script { (rows : List Row) (word : List ℕ)
         → subcommand_rows_of matches.now ≡ Some (codes "script", rows)
         → first_of (codes "CONFIG") rows ≡ Some word → IsSomeAnd result (IsScript word) }
+    ensures serve { (rows : List Row) (word : List ℕ)
+        → subcommand_rows_of matches.now ≡ Some (codes "serve", rows)
+        → first_of (codes "CONFIG") rows ≡ Some word
+        → IsSomeAnd result (IsServe word (first_of (codes "PATH") rows)) }
     ensures found { IfSome result (IsFound (subcommand_rows_of matches.now)) }
 {
     match migrate_given(matches) {
         Some(words) => Some(words),
-        None => script_given(matches),
+        None => of_sessions(matches),
     }
 }
 
@@ -165,6 +210,10 @@ fn given<'a>(matches: &ArgMatches<'a>) -> Option<Words<'a>>
     ensures script { (rows : List Row) (word : List ℕ)
         → subcommand_rows_of matches.now ≡ Some (codes "script", rows)
         → first_of (codes "CONFIG") rows ≡ Some word → IsSomeAnd result (IsScript word) }
+    ensures serve { (rows : List Row) (word : List ℕ)
+        → subcommand_rows_of matches.now ≡ Some (codes "serve", rows)
+        → first_of (codes "CONFIG") rows ≡ Some word
+        → IsSomeAnd result (IsServe word (first_of (codes "PATH") rows)) }
     ensures found { IfSome result (IsFound (subcommand_rows_of matches.now)) }
 {
     match sheet_given(matches) {
@@ -247,6 +296,12 @@ pub fn read_words<'a>(alloc: Global, words: &'a [&'a str]) -> Result<Words<'a>, 
     ensures script { (word : List ℕ) → IsPlainWord word
         → map (λ s. s.now) words.now ≡ codes "script" ∷ word ∷ []
         → GivesOrMemory (IsScript word) result }
+    ensures serve { (word : List ℕ) → IsPlainWord word
+        → map (λ s. s.now) words.now ≡ codes "serve" ∷ word ∷ []
+        → GivesOrMemory (IsServe word None) result }
+    ensures serve_until { (word path : List ℕ) → IsPlainWord word → IsPlainWord path
+        → map (λ s. s.now) words.now ≡ codes "serve" ∷ word ∷ codes "--stop-file" ∷ path ∷ []
+        → GivesOrMemory (IsServe word (Some path)) result }
     ensures taken { fault_of ftpd (map (λ s. s.now) words.now) ≡ [] → GivesOneOrMemory
         (IsFound (subcommand_of ftpd (map (λ s. s.now) words.now))) result }
     ensures refused { IfErr result (IsRefusal (fault_of ftpd (map (λ s. s.now) words.now))) }

@@ -28,3 +28,9 @@ abbrev pub told_end : {R K C A : Type 0} → JobEnd → Ran R K C A → End
 told_end end (Out out) = sent_end end
 told_end end (In upload) = received_end end
 told_end end Unopened = sent_end end
+
+-- the sink that goes back to the session: that of an upload
+abbrev pub told_sink : {R K C A : Type 0} → Ran R K C A → Option K
+told_sink (Out out) = None
+told_sink (In upload) = Some upload.flow.sink
+told_sink Unopened = None

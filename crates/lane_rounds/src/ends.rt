@@ -1,7 +1,7 @@
 //! What a lane tells a session.
 
 ghost use Rattle.std.specs.Prelude.{◌≡◌};
-ghost use Rattle.lane_rounds.specs.Ends.{received_end, sent_end, told_end};
+ghost use Rattle.lane_rounds.specs.Ends.{received_end, sent_end, told_end, told_sink};
 
 use data_sockets::Told;
 use session_table::End;
@@ -44,6 +44,7 @@ where
     C: Read + Write + Drop,
     A: Allocator,
     ensures end { result.end ≡ told_end end ran }
+    ensures sink { result.sink ≡ told_sink ran }
 {
     match ran {
         Ran::Out(_) => Told {

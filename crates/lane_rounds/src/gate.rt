@@ -38,8 +38,9 @@ pub(crate) struct LaneGate<'r, 'h, 'd, 't, R, S: Store<Global>, H: Hooks, B: Par
     // how many answers there were at the last call, and how many calls since the last of them
     seen: u64,
     calls: u32,
-    // what had moved at the last answer
+    // what had moved at the last answer, and whether that was no more than at the one before
     moved: u64,
+    is_empty: bool,
 }
 
 impl<'r, 'h, 'd, 't, R, S, H, B, N> LaneGate<'r, 'h, 'd, 't, R, S, H, B, N>
@@ -71,6 +72,7 @@ where
             seen,
             calls: 0,
             moved: 0,
+            is_empty: false,
         }
     }
 
@@ -79,23 +81,27 @@ where
     fn take_answer(&mut self, seen: u64, moved: u64) {
         self.seen = seen;
         self.calls = 1;
-        if moved == self.moved {
-            thread::sleep(self.rt, Duration::from_micros(PAUSE));
-        }
+        self.is_empty = moved == self.moved;
         self.moved = moved;
     }
 
     // Waits for an answer to the ask, if one was made: of two calls since the last answer one may have stood before it.
     fn await_answer(&self, sign: &LaneSign) {
         let now = micros(self.rt);
-        let limit = match help(self.rt.alloc(), self.house, self.desk, self.turns, now) {
+        let due = help(
+            self.rt.alloc(),
+            self.house,
+            self.desk,
+            self.turns,
+            sign,
+            now,
+        );
+        if self.calls <= 2 {
+            return;
+        }
+        let limit = match due {
             Some(moment) => Duration::from_micros(moment.saturating_sub(now)),
-            None => {
-                if self.calls <= 2 {
-                    return;
-                }
-                Duration::from_millis(BACKSTOP)
-            }
+            None => Duration::from_millis(BACKSTOP),
         };
         sign.answered.wait(self.rt, self.seen, PATIENCE, limit);
     }
@@ -110,6 +116,9 @@ where
                     return;
                 }
                 self.calls = self.calls.saturating_add(1);
+                if self.calls == 2 && self.is_empty && moved == self.moved {
+                    thread::sleep(self.rt, Duration::from_micros(PAUSE));
+                }
                 if self.calls > 1 {
                     self.await_answer(sign);
                 }

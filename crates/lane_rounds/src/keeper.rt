@@ -34,7 +34,7 @@ where
             return;
         }
         let now = micros(rt);
-        match try_one(rt.alloc(), house, desk, turns, now) {
+        match try_one(rt.alloc(), house, desk, turns, None, now) {
             Tried::NotBefore(moment) => {
                 thread::sleep(rt, Duration::from_micros(moment.saturating_sub(now)));
             }

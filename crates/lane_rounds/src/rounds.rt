@@ -67,17 +67,29 @@ fn hold_one<B: PartsName, N>(
     }
 }
 
+// When a round may be held for whoever works in a lane, or for anybody.
+fn due_by(pace: &Pace, sign: Option<&LaneSign>, now: u64) -> Due {
+    match sign {
+        Some(sign) => {
+            let (way, user) = sign.name.get();
+            pace.due_for(way, user, now)
+        }
+        None => pace.due(now),
+    }
+}
+
 /// Holds one round at a moment in microseconds, if none is held and one may be.
 pub(crate) fn try_one<S: Store<Global>, H: Hooks, B: PartsName, N>(
     alloc: Global,
     house: &House<S, H, B>,
     desk: &LentDesk<B, N>,
     turns: &Mutex<Turns<B, N>>,
+    sign: Option<&LaneSign>,
     now: u64,
 ) -> Tried {
     match turns.try_lock() {
         None => Tried::ByAnother,
-        Some(mut guard) => match guard.pace.due(now) {
+        Some(mut guard) => match due_by(&guard.pace, sign, now) {
             Due::At(moment) => Tried::NotBefore(moment),
             Due::Now => {
                 let seen = house.bell.seen();
@@ -97,11 +109,12 @@ pub(crate) fn help<S: Store<Global>, H: Hooks, B: PartsName, N>(
     house: &House<S, H, B>,
     desk: &LentDesk<B, N>,
     turns: &Mutex<Turns<B, N>>,
+    sign: &LaneSign,
     now: u64,
 ) -> Option<u64> {
     house.bell.raise();
     for _ in 0..IN_A_ROW {
-        match try_one(alloc, house, desk, turns, now) {
+        match try_one(alloc, house, desk, turns, Some(sign), now) {
             Tried::Held(seen) => {
                 if house.bell.seen() == seen {
                     return None;

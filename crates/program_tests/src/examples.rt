@@ -1,6 +1,7 @@
 //! Examples that bear the names of their crates: ends in memory, and words of programs.
 
 use crate::expect::holds;
+use crate::servers::Noting;
 use crate::texts::SMALL;
 use program::run_words;
 use sheet_program::{Openings, run_sheets};
@@ -47,8 +48,9 @@ fn sheet_program(rt: HostRuntime) {
 fn program(rt: HostRuntime) {
     let mut files = Text(SMALL); // opens what the words name
     let mut output = Vec::new(rt.alloc());
+    let mut server = Noting::new(); // what `serve` would call
     let words = ["migrate", "ftpd.toml"];
-    let ending = run_words(rt.alloc(), &words, &mut files, &mut output);
+    let ending = run_words(rt.alloc(), &words, &mut files, &mut server, &mut output);
     holds(&rt, ending.status() == 0);
     holds(&rt, output.starts_with(b"version = 2\n"));
 }

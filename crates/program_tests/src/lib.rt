@@ -13,6 +13,8 @@ mod expect;
 #[cfg(test)]
 mod runs;
 #[cfg(test)]
+mod servers;
+#[cfg(test)]
 mod shortages;
 #[cfg(test)]
 mod texts;

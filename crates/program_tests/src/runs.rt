@@ -2,6 +2,7 @@
 
 use crate::ends::{FailingWriter, Files, Given};
 use crate::expect::{holds, same, tells};
+use crate::servers::Noting;
 use crate::texts::{LOGIN, LUNCH, LUNCH_GRANTS, LUNCH_LINES, SMALL, WELCOME};
 use program::{STANDARD_INPUT, run_words};
 use sheet_check::run_check;
@@ -27,7 +28,8 @@ fn breaks_off(rt: &(impl Abort + AllocGlobal), words: &[&str], run: &Run<'_>) {
         left,
     });
     let mut files = Files { file, input };
-    let ending = run_words(rt.alloc(), words, &mut files, &mut writer);
+    let mut server = Noting::new();
+    let ending = run_words(rt.alloc(), words, &mut files, &mut server, &mut writer);
     let told = if left == ALL { READ_FAULT } else { WRITE_FAULT };
     tells(rt, &ending, told);
     holds(rt, ending.status() == 1);

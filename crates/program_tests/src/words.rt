@@ -15,6 +15,26 @@ fn words_on_a_configuration(rt: HostRuntime) {
     holds(&rt, command == Words::Script { config });
 }
 
+#[test]
+fn words_on_a_server(rt: HostRuntime) {
+    let config = "office.toml";
+    let words = ["serve", config];
+    let command = read_words(rt.alloc(), &words).expect(&rt, "a command");
+    let stop_file = None;
+    holds(&rt, command == Words::Serve { config, stop_file });
+    let stop_file = Some("/run/ftpd.stop");
+    for words in [
+        ["serve", config, "--stop-file", "/run/ftpd.stop"],
+        ["serve", "--stop-file", "/run/ftpd.stop", config],
+    ] {
+        let command = read_words(rt.alloc(), &words).expect(&rt, "a command");
+        holds(&rt, command == Words::Serve { config, stop_file });
+    }
+    let words = ["serve", "--stop-file=/run/ftpd.stop", config];
+    let command = read_words(rt.alloc(), &words).expect(&rt, "a command");
+    holds(&rt, command == Words::Serve { config, stop_file });
+}
+
 /// Both programs take the words as that command.
 fn are_of_both(rt: &(impl Abort + AllocGlobal), words: &[&str], wanted: SheetWords<'_>) {
     let command = read_words(rt.alloc(), words).expect(rt, "a command of ftpd");

@@ -6,3 +6,4 @@ pub mod PromisesOffered
 pub mod Paced
 pub mod Offered
 pub mod Taken
+pub mod Spent

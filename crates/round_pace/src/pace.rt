@@ -6,13 +6,15 @@ ghost use Rattle.line_rates.specs.Stated.{FitsGroup, FitsUser};
 ghost use Rattle.round_pace.specs.Earned.{tick_of};
 ghost use Rattle.round_pace.specs.Offered.{refill_all, offer_all, with_offered, offer_round, left_rates, due_in};
 ghost use Rattle.round_pace.specs.Paced.{Paced, IsGroupPace, IsUserPace, new_group, new_user, IsPacedFrom};
+ghost use Rattle.round_pace.specs.Spent.{due_for_in};
 ghost use Rattle.round_pace.specs.Taken.{take_octets};
 
 use crate::credit::{Credit, TICK_MICROS, is_dry, refill_row, take_row};
 use crate::due::Due;
 use crate::paced::{
-    GroupPace, UserPace, credit_rate, group_of, put_groups, put_users, refill_groups, refill_users,
-    take_groups, take_if_down, take_if_up, take_users,
+    GroupPace, UserPace, credit_of, credit_rate, group_of, is_group_spent, is_user_spent,
+    put_groups, put_users, refill_groups, refill_users, take_groups, take_if_down, take_if_up,
+    take_users,
 };
 use line_rates::{GroupRate, Limits, Name, UserRate, Way};
 use std::alloc::{AllocError, Allocator, Global};
@@ -189,6 +191,26 @@ impl<A: Allocator> Pace<A> {
         }
         if is_dry(self.server) || is_dry(self.down) && is_dry(self.up) {
             return Due::At(self.begun.saturating_mul(TICK_MICROS));
+        }
+        Due::Now
+    }
+
+    /// When the next round may be held for a transfer of a user: at once where it is the first of its tick or something can be
+    /// granted to that transfer, and else as the next tick begins.
+    pub fn due_for(&self, way: Way, user: u32, now: u64) -> Due
+        ensures due { result ≡ due_for_in way user self.now now }
+    {
+        if self.begun <= now / TICK_MICROS {
+            return Due::Now;
+        }
+        let group = group_of(&self.users, user);
+        if is_dry(self.server)
+            || is_dry(credit_of(self.down, self.up, way))
+            || is_user_spent(&self.users, user, way)
+            || is_group_spent(&self.groups, group, way)
+        {
+            let next = self.begun.saturating_mul(TICK_MICROS);
+            return Due::At(next);
         }
         Due::Now
     }

@@ -7,9 +7,10 @@ ghost use Rattle.line_rates.specs.Stated.{FitsGroup, FitsUser, IsRising};
 ghost use Rattle.round_pace.specs.Credits.{IsCredit};
 ghost use Rattle.round_pace.specs.Offered.{refill_group, refill_user, credit_rate, session_rate, floor_rate, offer_group, offer_user, put_groups, put_users};
 ghost use Rattle.round_pace.specs.Paced.{group_key, pace_number, IsGroupPace, IsUserPace};
+ghost use Rattle.round_pace.specs.Spent.{credit_of, session_of, is_spent, is_user_spent, is_group_spent};
 ghost use Rattle.round_pace.specs.Taken.{take_if_down, take_if_up, take_group, take_user, group_of, take_users, take_groups};
 
-use crate::credit::{Credit, as_rate, floor_in, refill_row, session_left, take_row};
+use crate::credit::{Credit, as_rate, floor_in, is_dry, refill_row, session_left, take_row};
 use line_rates::{GroupRate, Limits, MAX_RATE, UserRate, Way};
 use std::alloc::Allocator;
 
@@ -289,5 +290,56 @@ pub fn take_groups<A: Allocator>(
     match group {
         Some(group) => take_from_group(groups, group, way, octets),
         None => {}
+    }
+}
+
+/// The credit of a way.
+pub fn credit_of(down: Credit, up: Credit, way: Way) -> Credit
+    ensures credit { result ≡ credit_of way down up }
+{
+    match way {
+        Way::Down => down,
+        Way::Up => up,
+    }
+}
+
+fn session_of(row: UserRate, way: Way) -> u64
+    ensures session { result ≡ session_of way row }
+{
+    match way {
+        Way::Down => row.session_down,
+        Way::Up => row.session_up,
+    }
+}
+
+// Whether the user has a rate for each session, or nothing left.
+fn is_spent(user: UserPace, way: Way) -> bool
+    ensures spent { result ≡ is_spent way user }
+{
+    session_of(user.row, way) != 0 || is_dry(credit_of(user.down, user.up, way))
+}
+
+/// Whether nothing is left for a user's transfers one way under the rates of the user and of each session, in a tick that has begun.
+pub fn is_user_spent(users: &[UserPace], user: u32, way: Way) -> bool
+    requires rising { IsRising pace_number users.now }
+    ensures spent { result ≡ is_user_spent way users.now user }
+{
+    match find_user(users, user) {
+        Some(place) => is_spent(users[place], way),
+        None => false,
+    }
+}
+
+/// Whether a group has nothing left one way.
+pub fn is_group_spent(groups: &[GroupPace], group: Option<u32>, way: Way) -> bool
+    requires rising { IsRising group_key groups.now }
+    ensures spent { result ≡ is_group_spent way groups.now group }
+{
+    match group {
+        Some(group) => match find_group(groups, group) {
+            Some(place) => is_dry(credit_of(groups[place].down, groups[place].up, way)),
+            None => false,
+        },
+        None => false,
     }
 }

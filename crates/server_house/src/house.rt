@@ -43,8 +43,6 @@ pub struct House<S: Store<Global>, H: Hooks, B: PartsName> {
     /// Rises as a lane wants a round.
     pub bell: EventCount,
     pub ending: Ending,
-    /// The file whose appearance ends the server.
-    pub stop: Option<String>,
 }
 
 /// The settings of one more session.

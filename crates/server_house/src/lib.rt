@@ -7,7 +7,9 @@
 mod ending;
 mod house;
 mod lane;
+mod server_hooks;
 
 pub use ending::{Ending, Stage};
 pub use house::{House, copy_settings};
 pub use lane::LaneSign;
+pub use server_hooks::ServerHooks;

@@ -3,12 +3,18 @@
 use handler_hooks::Hooks;
 use jiff::Timestamp;
 use log::{Log, info};
+use passive_ports::AdmitFault;
+use server_house::ServerHooks;
+use std::net::Ipv4Addr;
 use std::time::Clock;
 
-/// Notes each event with its time, in UTC.
+/// Notes each event with its time, in UTC, with the peer's address and the number of the session.
 #[derive(Drop)]
 pub struct Notes<L> {
     log: L,
+    // whose session the next events are about
+    peer: [u8; 4],
+    session: usize,
 }
 
 // The time of day; the beginning of 1970 if the clock cannot be read.
@@ -29,17 +35,25 @@ fn time<R: Clock>(rt: &R) -> Timestamp {
 impl<L: Log + Clock> Notes<L> {
     /// Notes that go to this log.
     pub fn new(log: L) -> Notes<L> {
-        Notes { log }
+        Notes {
+            log,
+            peer: [0; 4],
+            session: 0,
+        }
     }
 
     fn note(&self, what: &str) {
         let time = time(&self.log);
-        info!(self.log; target: "", "{time} {what}");
+        let peer = Ipv4Addr::from(self.peer);
+        let session = self.session;
+        info!(self.log; target: "", "{time} {peer} #{session} {what}");
     }
 
     fn note_name(&self, what: &str, name: &str) {
         let time = time(&self.log);
-        info!(self.log; target: "", "{time} {what} {name:?}");
+        let peer = Ipv4Addr::from(self.peer);
+        let session = self.session;
+        info!(self.log; target: "", "{time} {peer} #{session} {what} {name:?}");
     }
 }
 
@@ -82,5 +96,27 @@ impl<L: Log + Clock + Drop> Hooks for Notes<L> {
 
     fn on_incomplete_file_received(&mut self, path: &str) {
         self.note_name("not received whole", path);
+    }
+}
+
+fn told(fault: AdmitFault) -> &'static str {
+    match fault {
+        AdmitFault::TooMany => "too many connections",
+        AdmitFault::TooManyOfAddress => "too many connections from this address",
+        AdmitFault::Memory => "out of memory",
+    }
+}
+
+impl<L: Log + Clock + Drop> ServerHooks for Notes<L> {
+    fn attend(&mut self, peer: [u8; 4], session: usize) {
+        self.peer = peer;
+        self.session = session;
+    }
+
+    fn on_refused(&mut self, peer: [u8; 4], fault: AdmitFault) {
+        let time = time(&self.log);
+        let peer = Ipv4Addr::from(peer);
+        let why = told(fault);
+        info!(self.log; target: "", "{time} {peer} refused: {why}");
     }
 }

@@ -14,7 +14,7 @@ use session_table::{End, Job};
 use std::alloc::Global;
 use std::mem;
 use std::net::{Net, TcpListener, TcpStream};
-use std::sync::{Arc, Wait};
+use std::sync::Wait;
 use std::time::{Clock, Duration};
 use virtual_tree::Store;
 
@@ -33,9 +33,9 @@ const LOOK: u64 = 20;
 
 /// The data side of the session of one control connection.
 #[derive(Drop)]
-pub struct SocketSide<R: Copy, S: Store<Global>, H: Hooks, B: PartsName> {
-    rt: R,
-    house: Arc<House<S, H, B>, Global>,
+pub struct SocketSide<'h, R, S: Store<Global>, H: Hooks, B: PartsName> {
+    rt: &'h R,
+    house: &'h House<S, H, B>,
     peer: [u8; 4],
     // the number of the connection, by which lanes know the session
     key: usize,
@@ -48,17 +48,17 @@ pub struct SocketSide<R: Copy, S: Store<Global>, H: Hooks, B: PartsName> {
     seen: u64,
 }
 
-impl<R, S, H, B> SocketSide<R, S, H, B>
+impl<'h, R, S, H, B> SocketSide<'h, R, S, H, B>
 where
-    R: Wait + Clock + Net<Listener = TcpListener, Stream = TcpStream> + AllocGlobal + Copy,
+    R: Wait + Clock + Net<Listener = TcpListener, Stream = TcpStream> + AllocGlobal,
     S: Store<Global>,
     H: Hooks,
     B: PartsName,
 {
     /// Nothing is prepared, and nothing runs.
     pub fn new(
-        rt: R,
-        house: Arc<House<S, H, B>, Global>,
+        rt: &'h R,
+        house: &'h House<S, H, B>,
         peer: [u8; 4],
         key: usize,
         session: u32,
@@ -87,23 +87,13 @@ where
 
     fn close_port(&self, listener: TcpListener, port: u16) {
         drop(listener);
-        self.house.ports.lock(&self.rt).give_back(port);
-    }
-
-    /// The runtime.
-    pub fn rt(&self) -> &R {
-        &self.rt
-    }
-
-    /// The house.
-    pub fn house(&self) -> &House<S, H, B> {
-        &self.house
+        self.house.ports.lock(self.rt).give_back(port);
     }
 
     // A port that is leased and listened on.
     fn listening(&self) -> Option<(u16, TcpListener)> {
         let mut ports = SharedPorts {
-            rt: &self.rt,
+            rt: self.rt,
             ports: &self.house.ports,
             address: self.house.numbers.address,
         };
@@ -161,8 +151,8 @@ where
         user: u32,
     ) -> Running<S::Source, S::Sink> {
         let job = lane_job(job, theirs, user, self.session);
-        let mut pass = self.house.pass.lock(&self.rt);
-        match self.house.board.push(&self.rt, &mut *pass, job) {
+        let mut pass = self.house.pass.lock(self.rt);
+        match self.house.board.push(self.rt, &mut *pass, job) {
             Ok(()) => {
                 self.house.jobs.signal_one();
                 Running::Moving {
@@ -201,7 +191,7 @@ where
                 self.hand_over(stream, job, user);
             }
             None => {
-                if micros(&self.rt).saturating_sub(since) > PATIENCE {
+                if micros(self.rt).saturating_sub(since) > PATIENCE {
                     self.close_port(listener, port);
                     self.running = over(End::NoConnection, job);
                 } else {
@@ -223,13 +213,13 @@ where
             Prepared::Nothing => self.running = over(End::NoConnection, job),
             Prepared::Target(to) => {
                 let at = socket_address(to.address, to.port);
-                match TcpStream::connect_timeout(&self.rt, &at, Duration::from_millis(CONNECTING)) {
+                match TcpStream::connect_timeout(self.rt, &at, Duration::from_millis(CONNECTING)) {
                     Ok(stream) => self.hand_over(stream, job, user),
                     Err(_) => self.running = over(End::NoConnection, job),
                 }
             }
             Prepared::Listening(listener, port) => {
-                let since = micros(&self.rt);
+                let since = micros(self.rt);
                 self.await_client(listener, port, job, since, user);
             }
         }
@@ -266,7 +256,7 @@ where
     // The end that a lane has told, if it has.
     fn told(&self) -> Option<Told<S::Sink>> {
         match self.house.cells.get(self.key) {
-            Some(cell) => cell.take(&self.rt),
+            Some(cell) => cell.take(self.rt),
             None => None,
         }
     }
@@ -358,7 +348,7 @@ where
         match &self.running {
             Running::Moving { .. } => match self.house.cells.get(self.key) {
                 Some(cell) => {
-                    cell.wait(&self.rt, self.seen, 0, Duration::from_millis(LOOK));
+                    cell.wait(self.rt, self.seen, 0, Duration::from_millis(LOOK));
                     cell.seen() != self.seen
                 }
                 None => true,

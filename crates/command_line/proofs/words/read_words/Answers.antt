@@ -1,9 +1,9 @@
 use Rattle.std.proofs.Common.{refl, sym, [], ◌≡◌, ◌∙◌, ap, ap₂, subst, map, ℕ, List, Option, true}
 use Rattle.std.specs.Borrow.{Bor}
 use Rattle.command_line.specs.Commands.{ftpd}
-use Rattle.command_line.specs.Given.{IsFound, IsRefusal}
+use Rattle.command_line.specs.Given.{IsFound, IsRefusal, IsServe}
 use Rattle.clap.specs.Words.{App, Row, Text, app_of, fault_of, is_simple, is_simple_and_free, subcommand_of, takes}
-use Rattle.command_line.proofs.Taken.{refused_by_none, ftpd_is_free, ftpd_is_simple, ftpd_checks, ftpd_shares, migrates, scripts}
+use Rattle.command_line.proofs.Taken.{refused_by_none, ftpd_is_free, ftpd_is_simple, ftpd_checks, ftpd_shares, migrates, scripts, serves, serves_until}
 use Rattle.command_line.proofs.GivenCommand.{no_other_command, ftpd_found}
 use Rattle.command_line.proofs.words.read_words.Goals as goal
 
@@ -22,6 +22,14 @@ returns-in-Err-clause-migrate c = λ word plain are.
 pub returns-in-Err-clause-script : goal.returns-in-Err-clause-script
 returns-in-Err-clause-script c = λ word plain are.
     c.in-Err.ensures.takes (ap₂ takes c.in-Ok.ensures.ftpd are ∙ (scripts word plain).taken)
+
+pub returns-in-Err-clause-serve : goal.returns-in-Err-clause-serve
+returns-in-Err-clause-serve c = λ word plain are.
+    c.in-Err.ensures.takes (ap₂ takes c.in-Ok.ensures.ftpd are ∙ (serves word plain).taken)
+
+pub returns-in-Err-clause-serve_until : goal.returns-in-Err-clause-serve_until
+returns-in-Err-clause-serve_until c = λ word path plain also are.
+    c.in-Err.ensures.takes (ap₂ takes c.in-Ok.ensures.ftpd are ∙ (serves_until word path plain also).taken)
 
 pub returns-in-Err-clause-refused : goal.returns-in-Err-clause-refused
 returns-in-Err-clause-refused c =
@@ -50,7 +58,7 @@ unreachable-requires c =
     let entered = c.in-Ok-parsed.ensures.found simple ∙ ap (λ (a : App). subcommand_of a texts) c.in-Ok.ensures.ftpd in
     let found = ftpd_found c.args.words texts none in
     let held = subst (λ (o : Option (Text × List Row)). IsFound o found.0) (sym entered) found.1 in
-    no_other_command _ found.0 held c.in-None.ensures.share c.in-None.ensures.check c.in-None.ensures.migrate c.in-None.ensures.script
+    no_other_command _ found.0 held c.in-None.ensures.share c.in-None.ensures.check c.in-None.ensures.migrate c.in-None.ensures.script (λ rows word is first. c.in-None.ensures.serve rows word is first)
 
 pub returns-clause-share : goal.returns-clause-share
 returns-clause-share c = λ word plain are.
@@ -79,6 +87,20 @@ returns-clause-script c = λ word plain are.
     let simple : is_simple (app_of c.in-Ok.command) ≡ true = ap is_simple c.in-Ok.ensures.ftpd ∙ ftpd_is_simple in
     let entered = c.in-Ok-parsed.ensures.found simple ∙ ap₂ subcommand_of c.in-Ok.ensures.ftpd are ∙ held.entered in
     c.in-Some.ensures.script held.rows word entered held.config
+
+pub returns-clause-serve : goal.returns-clause-serve
+returns-clause-serve c = λ word plain are.
+    let held = serves word plain in
+    let simple : is_simple (app_of c.in-Ok.command) ≡ true = ap is_simple c.in-Ok.ensures.ftpd ∙ ftpd_is_simple in
+    let entered = c.in-Ok-parsed.ensures.found simple ∙ ap₂ subcommand_of c.in-Ok.ensures.ftpd are ∙ held.entered in
+    subst (λ (path : Option Text). IsServe word path c.in-Some.words) held.no_path (c.in-Some.ensures.serve held.rows word entered held.config)
+
+pub returns-clause-serve_until : goal.returns-clause-serve_until
+returns-clause-serve_until c = λ word path plain also are.
+    let held = serves_until word path plain also in
+    let simple : is_simple (app_of c.in-Ok.command) ≡ true = ap is_simple c.in-Ok.ensures.ftpd ∙ ftpd_is_simple in
+    let entered = c.in-Ok-parsed.ensures.found simple ∙ ap₂ subcommand_of c.in-Ok.ensures.ftpd are ∙ held.entered in
+    subst (λ (path : Option Text). IsServe word path c.in-Some.words) held.stop_file (c.in-Some.ensures.serve held.rows word entered held.config)
 
 pub returns-clause-found : goal.returns-clause-found
 returns-clause-found c =

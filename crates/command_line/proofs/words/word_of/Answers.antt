@@ -13,6 +13,12 @@ returns-in_err-word c = record {
       let rows_are : rows ≡ rows_of (found_of inner) = ap (λ o. unwrap_or o []) same in
       let none : None ≡ Some word = c.in_err-word.ensures ∙ first_value-rows (found_of inner) _ ∙ rw (← rows_are) first in
       cc;
+  whole = λ rows is.
+      let inner = c.in_ok-inner.inner.now in
+      let same : Some rows ≡ Some (rows_of (found_of inner)) = rw is at c.in_ok-inner.ensures.rows in
+      let rows_are : rows ≡ rows_of (found_of inner) = ap (λ o. unwrap_or o []) same in
+      let none : c.from_residual-in_err-word.result ≡ None = search rules in
+      rw none (c.in_err-word.ensures ∙ first_value-rows (found_of inner) _ ∙ rw (← rows_are) refl);
   found = search rules;
 }
 
@@ -23,6 +29,11 @@ returns c = record {
       let same : Some rows ≡ Some (rows_of (found_of inner)) = rw is at c.in_ok-inner.ensures.rows in
       let rows_are : rows ≡ rows_of (found_of inner) = ap (λ o. unwrap_or o []) same in
       c.in_ok-word.ensures ∙ first_value-rows (found_of inner) _ ∙ rw (← rows_are) first;
+  whole = λ rows is.
+      let inner = c.in_ok-inner.inner.now in
+      let same : Some rows ≡ Some (rows_of (found_of inner)) = rw is at c.in_ok-inner.ensures.rows in
+      let rows_are : rows ≡ rows_of (found_of inner) = ap (λ o. unwrap_or o []) same in
+      c.in_ok-word.ensures ∙ first_value-rows (found_of inner) _ ∙ rw (← rows_are) refl;
   found =
       let inner = c.in_ok-inner.inner.now in (
         rows_of (found_of inner),

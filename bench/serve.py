@@ -1,0 +1,228 @@
+"""Measures the running server beside a plain server that reads and writes with the same threads and buffers.
+
+    python3 serve.py FOLDER FTPD YARDSTICK LOAD [RUNS]
+
+FOLDER lies in a file system in memory. Each row is made with the one server and then the other, so many times (3), and tells the best:
+octets or files a second, and seconds of the processor of the server alone, its own and the system's for it. Then come the idle server,
+its memory, the division of rates, and how long others wait for the listing of a large directory. Only ratios of one run say anything.
+"""
+
+import contextlib
+import os
+import socket
+import subprocess
+import sys
+import threading
+import time
+
+from clock import tell
+
+MEGABYTE = 1_048_576
+BIG, MIDDLE, SMALL = 512, 32, 1_000
+LANES, CLIENTS = 64, 16
+SESSIONS = 64
+RATE = 4 * MEGABYTE
+ENTRIES, LISTINGS = 10_000, 3
+# row: what the clients do, and in what it is counted
+ROWS = {
+    "1 download of 512 MB": (["down", "1", "1", "big"], MEGABYTE, "MB/s"),
+    "16 downloads, 4 of 32 MB each": (["down", str(CLIENTS), "4", "middle"], MEGABYTE, "MB/s"),
+    "1 upload of 512 MB": (["up", "1", "1", str(BIG * MEGABYTE)], MEGABYTE, "MB/s"),
+    "16 uploads of 32 MB each": (["up", str(CLIENTS), "1", str(MIDDLE * MEGABYTE)], MEGABYTE, "MB/s"),
+    "1 KB files, 1 client": (["down", "1", "2000", "small"], 1_024, "files/s"),
+    "1 KB files, 16 clients": (["down", str(CLIENTS), "250", "small"], 1_024, "files/s"),
+}
+
+
+def ports(count):
+    """So many ports in a row that nothing listens on, below those that the machine takes by itself."""
+    for first in range(12000 + os.getpid() % 5000, 31000, count):
+        with contextlib.ExitStack() as held:
+            try:
+                for port in range(first, first + count):
+                    one = held.enter_context(socket.socket())
+                    one.setsockopt(socket.SOL_SOCKET, socket.SO_REUSEADDR, 1)
+                    one.bind(("127.0.0.1", port))
+                return first
+            except OSError:
+                pass
+    sys.exit("bench: no free ports")
+
+
+class Running:
+    """A server that runs. `rates` are lines of its table, `users` its users: (name, more lines)."""
+
+    def __init__(self, folder, program, is_plain, rates="", users=(("ann", ""),)):
+        self.folder, self.program, self.is_plain = folder, program, is_plain
+        self.port = ports(1_000)
+        first, last = self.port + 1, self.port + 999
+        if is_plain:
+            self.words = [program, str(self.port), f"{folder}/files", str(LANES), str(first), str(last)]
+            return
+        head = f'version = 1\n[server]\nroot = "{folder}/files"\nport = {self.port}\npassive_first = {first}\npassive_last = {last}\nmax_cons = 512\nlanes = {LANES}\n{rates}\n'
+        text = head + "".join(f'[[user]]\nname = "{name}"\npassword = "secret"\nhome = "/"\nperms = "elradfmw"\n{more}\n' for name, more in users)
+        with open(f"{folder}/ftpd.toml", "w", encoding="utf-8") as it:
+            it.write(text)
+        self.words = [program, "serve", f"{folder}/ftpd.toml"]
+
+    def __enter__(self):
+        self.log = open(f"{self.folder}/log", "wb")
+        self.process = subprocess.Popen(self.words, stdout=subprocess.PIPE, stderr=self.log)
+        if self.process.stdout.readline() != b"ready\n":
+            sys.exit(f"bench: {' '.join(self.words)} does not serve")
+        return self
+
+    def __exit__(self, *_):
+        self.process.kill()
+        self.process.wait()
+        self.process.stdout.close()
+        self.log.close()
+
+    def seconds(self):
+        """What it has taken of the processor."""
+        with open(f"/proc/{self.process.pid}/stat", encoding="utf-8") as it:
+            fields = it.read().rpartition(")")[2].split()
+        return (int(fields[11]) + int(fields[12])) / os.sysconf("SC_CLK_TCK")
+
+    def memory(self):
+        """What it holds, in MB."""
+        with open(f"/proc/{self.process.pid}/status", encoding="utf-8") as it:
+            return next(int(line.split()[1]) for line in it if line.startswith("VmRSS")) / 1_024
+
+
+def make_files(folder):
+    os.makedirs(f"{folder}/files/many")
+    block = os.urandom(MEGABYTE)
+    for name, count in (("big", BIG), ("middle", MIDDLE)):
+        with open(f"{folder}/files/{name}", "wb") as it:
+            for _ in range(count):
+                it.write(block)
+    with open(f"{folder}/files/small", "wb") as it:
+        it.write(block[:1_024])
+    for number in range(ENTRIES):
+        with open(f"{folder}/files/many/entry{number}", "wb"):
+            pass
+
+
+def loaded(load, server, words):
+    """Octets and seconds as the clients tell them, and the server's seconds of the processor."""
+    before = server.seconds()
+    found = subprocess.run([load, str(server.port), *words], capture_output=True, text=True)
+    if found.returncode:
+        sys.exit(f"bench: load {' '.join(words)}: {found.stderr[-500:]}")
+    octets, took = found.stdout.split()
+    return int(octets), float(took), server.seconds() - before
+
+
+def throughput(folder, servers, load, runs):
+    for name, (words, unit, what) in ROWS.items():
+        best, least = {}, {}
+        for _ in range(runs):
+            for is_plain, program in servers:
+                with Running(folder, program, is_plain) as server:
+                    octets, took, used = loaded(load, server, words)
+                best[is_plain] = max(best.get(is_plain, 0), octets / unit / took)
+                least[is_plain] = min(least.get(is_plain, used), used)
+        ratio, price = best[False] / best[True], least[False] / max(least[True], 0.01)
+        yield [name, *(f"{best[it]:,.0f} {what}" for it in (False, True)), f"{ratio:.2f}", *(f"{least[it]:.2f}" for it in (False, True)), f"{price:.2f}"]
+
+
+def idle(folder, servers, load):
+    for is_plain, program in servers:
+        with Running(folder, program, is_plain) as server:
+            row = ["plain" if is_plain else "ftpd"]
+            for sessions in (0, SESSIONS):
+                with contextlib.ExitStack() as held:
+                    if sessions:
+                        clients = subprocess.Popen([load, str(server.port), "hold", str(sessions)], stdin=subprocess.PIPE, stdout=subprocess.PIPE)
+                        held.callback(clients.wait)
+                        held.callback(clients.stdin.close)
+                        clients.stdout.readline()
+                    time.sleep(1)
+                    before = server.seconds()
+                    time.sleep(10)
+                    row += [f"{(server.seconds() - before) * 10:.1f} %", f"{server.memory():.1f}"]
+            yield row
+
+
+# row: lines of the server's table, its users, the clients, and what each ought to have of RATE
+DIVISIONS = {
+    "server's rate: three fast readers and a slow one": (f"rate = {RATE}", (("ann", ""),), ["ann:0", "ann:0", "ann:0", f"ann:{RATE // 16}"], [0.3125, 0.3125, 0.3125, 0.0625]),
+    "server's rate, alone": (f"rate = {RATE}", (("ann", ""),), ["ann:0"], [1]),
+    "user's rate, alone": ("", (("ann", f"down_rate = {RATE}"),), ["ann:0"], [1]),
+    "session's rate, alone": ("", (("ann", f"session_down_rate = {RATE}"),), ["ann:0"], [1]),
+    "a session with a guarantee of half, and three without": (f"rate = {RATE}", (("ann", f"session_down_floor = {RATE // 2}"), ("bob", "")), ["ann:0", "bob:0", "bob:0", "bob:0"], [0.5, 1 / 6, 1 / 6, 1 / 6]),
+    "downloads' rate: a guarantee of a quarter, a limit of an eighth, and five without": (
+        f"down_rate = {RATE}",
+        (("ann", f"session_down_floor = {RATE // 4}"), ("bob", f"down_rate = {RATE // 8}"), ("carol", "")),
+        ["ann:0", "bob:0", *["carol:0"] * 5],
+        [0.25, *[0.125] * 6],
+    ),
+    "a limited user (of RATE), and one without a limit": ("", (("ann", f"down_rate = {RATE}"), ("bob", "")), ["ann:0", "bob:0"], [1, None]),
+}
+SKIPPED, COUNTED = 12, 10
+
+
+def divisions(folder, program, load):
+    for name, (rates, users, clients, parts) in DIVISIONS.items():
+        with Running(folder, program, False, rates, users) as server:
+            before = server.seconds()
+            words = [load, str(server.port), "rates", str(SKIPPED), str(COUNTED), "big", *clients]
+            found = [float(it) for it in subprocess.run(words, capture_output=True, text=True, check=True).stdout.split()]
+            used = server.seconds() - before
+        ratios = ["-" if part is None else f"{had / (part * RATE):.3f}" for had, part in zip(found, parts)]
+        total = "-" if None in parts else f"{sum(found) / RATE:.3f}"
+        yield [name, " ".join(f"{it / MEGABYTE:.2f}" for it in found), " ".join(ratios), total, f"{used / (SKIPPED + COUNTED) * 100:.1f} %"]
+
+
+class Talk:
+    """A control connection of the bench itself."""
+
+    def __init__(self, port):
+        self.socket = socket.create_connection(("127.0.0.1", port))
+        self.socket.setsockopt(socket.IPPROTO_TCP, socket.TCP_NODELAY, 1)
+        self.text = self.socket.makefile("rb")
+        self.text.readline()
+        for line in ("USER ann", "PASS secret", "TYPE I"):
+            self.says(line)
+
+    def says(self, line):
+        self.socket.sendall(f"{line}\r\n".encode())
+        return self.text.readline()
+
+
+def listing(folder, program):
+    """How long another session waits, at most, while one lists a directory of many entries some times."""
+    with Running(folder, program, False) as server:
+        lister, other = Talk(server.port), Talk(server.port)
+        waits, took = [], []
+
+        def lists():
+            for _ in range(LISTINGS):
+                begun = time.monotonic()
+                lister.socket.sendall(b"STAT /many\r\n")
+                while not lister.text.readline().startswith(b"213 "):
+                    pass
+                took.append(time.monotonic() - begun)
+
+        thread = threading.Thread(target=lists)
+        thread.start()
+        while thread.is_alive():
+            asked = time.monotonic()
+            other.says("SIZE small")
+            waits.append(time.monotonic() - asked)
+            time.sleep(0.002)
+        yield [f"STAT of {ENTRIES} entries", f"{min(took) * 1_000:.0f}", f"{max(waits) * 1_000:.1f}"]
+
+
+def main(folder, ftpd, plain, load, runs="3"):
+    make_files(folder)
+    servers = [(False, ftpd), (True, plain)]
+    tell(["what", "ftpd", "plain", "ftpd / plain", "ftpd: processor s", "plain", "ftpd / plain"], throughput(folder, servers, load, int(runs)))
+    tell(["idle", "no session", "MB", f"{SESSIONS} sessions", "MB"], idle(folder, servers, load))
+    tell(["division of 4 MiB/s", "MiB/s each", "of what each ought to have", "of the rate", "processor"], divisions(folder, ftpd, load))
+    tell(["a long listing", "it takes (ms)", "others wait at most (ms)"], listing(folder, ftpd))
+
+
+if __name__ == "__main__":
+    main(*sys.argv[1:])

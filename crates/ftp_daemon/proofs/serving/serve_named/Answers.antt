@@ -1,0 +1,12 @@
+use Rattle.std.proofs.Common.{◌≡◌, ℕ, subst}
+use Rattle.atomic_table.specs.Seated.{TableId}
+use Rattle.desk_open.specs.Open.{AreFresh}
+use Rattle.lane_seats.specs.Seats.{desk_id}
+use Rattle.ftp_daemon.proofs.serving.serve_named.Goals as goal
+
+pub lend_seats-requires-clause-seats : goal.lend_seats-requires-clause-seats
+lend_seats-requires-clause-seats g c =
+    let named = c.requires.desk in
+    let line = c.args.line in
+    subst (λ (z : TableId). AreFresh z g.B.PartsName.lanes line.seats.items) named.0
+    (subst (λ (n : ℕ). AreFresh (desk_id line.desk) n line.seats.items) named.1 line.fresh)

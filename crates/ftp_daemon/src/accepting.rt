@@ -1,0 +1,156 @@
+//! Control connections: who is admitted, each with a thread of their own.
+
+ghost use Rattle.std.specs.Thread.{IsSend, IsSync};
+
+use lent_parts::PartsName;
+use passive_ports::AdmitFault;
+use server_house::{House, ServerHooks, Stage};
+use socket_host::serve_session;
+use std::alloc::Global;
+use std::io::Write;
+use std::net::{Net, Shutdown, SocketAddr, TcpListener, TcpStream};
+use std::sync::Wait;
+use std::thread;
+use std::thread::{Builder, Threads};
+use std::time::{Clock, Duration};
+use virtual_tree::Store;
+
+/// The stack of a session's thread, in octets.
+const STACK: usize = 262_144;
+
+/// How long a client that is not admitted may take to read why, in milliseconds.
+const BRIEFLY: u64 = 50;
+
+/// How long is waited where no connection could be accepted, in milliseconds.
+const PAUSE: u64 = 20;
+
+fn refusal(fault: AdmitFault) -> &'static [u8] {
+    match fault {
+        AdmitFault::TooMany => b"421 Too many connections\r\n",
+        AdmitFault::TooManyOfAddress => b"421 Too many connections from this address\r\n",
+        AdmitFault::Memory => b"421 Out of memory\r\n",
+    }
+}
+
+fn refuse(mut stream: TcpStream, fault: AdmitFault) {
+    let _ = stream.set_write_timeout(Some(Duration::from_millis(BRIEFLY)));
+    let _ = stream.write_all(refusal(fault));
+    let _ = stream.shutdown(Shutdown::Write);
+}
+
+// The address of a peer; no peer has another than of IPv4, since the server listens on one.
+fn octets_of(address: SocketAddr) -> [u8; 4] {
+    match address {
+        SocketAddr::V4(from) => from.ip().octets(),
+        SocketAddr::V6(_) => [0; 4],
+    }
+}
+
+// Whether no more sessions are to be admitted; 0 stands for no end.
+fn is_enough(sessions: u64, admitted: u64) -> bool {
+    sessions != 0 && admitted >= sessions
+}
+
+// A connection that is admitted: its peer, and its key in the registry.
+#[derive(Drop)]
+struct Client {
+    stream: TcpStream,
+    peer: [u8; 4],
+    key: usize,
+}
+
+// Waits for the next connection. None if it is not admitted, or there is none.
+fn next_client<R, S, H, B>(rt: &R, house: &House<S, H, B>, listener: &TcpListener) -> Option<Client>
+where
+    R: Wait + Clock,
+    S: Store<Global>,
+    H: ServerHooks,
+    B: PartsName,
+{
+    match listener.accept() {
+        Ok((stream, from)) => {
+            if house.ending.has_begun(Stage::Sessions) {
+                return None;
+            }
+            let peer = octets_of(from);
+            let admitted = house.registry.lock(rt).admit(peer);
+            match admitted {
+                Ok(key) => Some(Client { stream, peer, key }),
+                Err(fault) => {
+                    house.handler.lock(rt).on_refused(peer, fault);
+                    refuse(stream, fault);
+                    None
+                }
+            }
+        }
+        Err(_) => {
+            thread::sleep(rt, Duration::from_millis(PAUSE));
+            None
+        }
+    }
+}
+
+// Serves a client to the end.
+fn serve_client<R, S, H, B>(rt: &R, house: &House<S, H, B>, client: Client)
+where
+    R: Wait + Clock + Net<Listener = TcpListener, Stream = TcpStream> + AllocGlobal,
+    S: Store<Global>,
+    H: ServerHooks,
+    B: PartsName,
+{
+    let Client { stream, peer, key } = client;
+    serve_session(rt, house, stream, peer, key);
+}
+
+/// Accepts control connections until there were as many as there are to be, or the sessions are to end; nobody listens from then
+/// on. Returns once all sessions have ended.
+pub(crate) fn accept_all<R, S, H, B>(rt: &R, house: &House<S, H, B>, listener: TcpListener)
+where
+    R: Threads
+        + Wait
+        + Clock
+        + Net<Listener = TcpListener, Stream = TcpStream>
+        + AllocGlobal
+        + Copy
+        + Send
+        + Sync,
+    S: Store<Global> + Send + Drop,
+    S::Source: Send,
+    S::Sink: Send,
+    H: ServerHooks + Send,
+    B: PartsName + Send + Sync + 'static,
+{
+    thread::scope(
+        thread::scope_env(),
+        rt,
+        |scope|
+            requires { IsSync R.row × IsSend R.row × IsSend S.row × IsSend S.Source.row
+                × IsSend S.Sink.row × IsSend H.row }
+        {
+            let mut admitted = 0u64;
+            for _ in rt.forever() {
+                if house.ending.has_begun(Stage::Sessions)
+                    || is_enough(house.numbers.sessions, admitted)
+                {
+                    break;
+                }
+                match next_client(rt, house, &listener) {
+                    Some(client) => {
+                        let key = client.key;
+                        let started = Builder::new()
+                            .stack_size(STACK)
+                            .spawn_scoped(scope, move || serve_client(rt, house, client));
+                        match started {
+                            Ok(_) => admitted = admitted.saturating_add(1),
+                            Err(_) => {
+                                house.registry.lock(rt).leave(key);
+                            }
+                        }
+                    }
+                    None => {}
+                }
+            }
+            drop(listener);
+        },
+    );
+}

@@ -1,0 +1,78 @@
+//! What each thread of a server does.
+
+use crate::watching::{StopSign, watch};
+use crate::works::Works;
+use handler_hooks::Hooks;
+use lane_rounds::{keep_rounds, work_lane};
+use lent_parts::PartsName;
+use server_house::Stage;
+use std::alloc::Global;
+use std::net::{Net, TcpListener, TcpStream};
+use std::sync::Wait;
+use std::time::Clock;
+use virtual_tree::Store;
+
+/// The work of the threads of one server. A scope of threads is lent one type for it, with one parameter: with all those of
+/// a server's parts, the prover cannot state what the scope takes.
+pub(crate) trait Crew {
+    /// How many lanes there are.
+    fn lanes(&self) -> usize;
+
+    /// The thread of rounds.
+    fn keep_rounds(&self);
+
+    /// The thread of a lane.
+    fn work(&self, lane: usize);
+
+    /// The thread that looks for the sign to end; it ends at once where there is none.
+    fn watch(&self);
+
+    /// Ends lanes and rounds: no session is left.
+    fn end_lanes(&self);
+}
+
+impl<R, S, H, B, P> Crew for Works<R, S, H, B, P>
+where
+    R: Wait + Clock + Net<Listener = TcpListener, Stream = TcpStream> + AllocGlobal,
+    S: Store<Global>,
+    H: Hooks,
+    B: PartsName,
+    P: StopSign,
+{
+    fn lanes(&self) -> usize {
+        self.lent.workers.len()
+    }
+
+    fn keep_rounds(&self) {
+        keep_rounds(&self.rt, &self.house, &self.lent.desk, &self.lent.turns);
+    }
+
+    // Each lane takes a pass of its own; there is one for each.
+    fn work(&self, lane: usize) {
+        let pass = self.passes.lock(&self.rt).pop();
+        match (self.lent.workers.get(lane), pass) {
+            (Some(worker), Some(pass)) => work_lane(
+                &self.rt,
+                &self.house,
+                &self.lent.desk,
+                &self.lent.turns,
+                &mut *worker.lock(&self.rt),
+                pass,
+            ),
+            _ => {}
+        }
+    }
+
+    fn watch(&self) {
+        match &self.stop {
+            Some(sign) => watch(&self.rt, &self.house, sign),
+            None => {}
+        }
+    }
+
+    fn end_lanes(&self) {
+        self.house.ending.begin(Stage::Lanes);
+        self.house.jobs.signal_all();
+        self.house.bell.signal();
+    }
+}

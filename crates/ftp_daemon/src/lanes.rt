@@ -1,0 +1,97 @@
+//! The threads of lanes and rounds.
+
+ghost use Rattle.std.specs.Thread.{IsSend, IsSync};
+
+use crate::accepting::accept_all;
+use crate::crew::Crew;
+use crate::fault::ServeFault;
+use lent_parts::PartsName;
+use server_house::{House, ServerHooks};
+use std::alloc::Global;
+use std::net::{Net, TcpListener, TcpStream};
+use std::sync::Wait;
+use std::thread;
+use std::thread::{Builder, Threads};
+use std::time::Clock;
+use text_ends::TextWriter;
+use virtual_tree::Store;
+
+/// The stack of each of these threads, in octets.
+const STACK: usize = 262_144;
+
+/// What is told once clients may come.
+const READY: &[u8] = b"ready\n";
+
+/// Tells that clients may come, and serves them. Returns once all sessions have ended.
+pub(crate) fn serve_clients<R, S, H, B, W>(
+    rt: &R,
+    house: &House<S, H, B>,
+    listener: TcpListener,
+    writer: &mut W,
+) -> Result<(), ServeFault>
+where
+    R: Threads
+        + Wait
+        + Clock
+        + Net<Listener = TcpListener, Stream = TcpStream>
+        + AllocGlobal
+        + Copy
+        + Send
+        + Sync,
+    S: Store<Global> + Send + Drop,
+    S::Source: Send,
+    S::Sink: Send,
+    H: ServerHooks + Send,
+    B: PartsName + Send + Sync + 'static,
+    W: TextWriter,
+{
+    if writer.write_text(READY).is_err() {
+        return Err(ServeFault::WriteFault);
+    }
+    accept_all(rt, house, listener);
+    Ok(())
+}
+
+/// Runs lanes and rounds, and looks for the sign to end, while clients are served. Returns once all threads have ended. Nobody is
+/// served if one of these threads could not be started, or if it could not be told that clients may come.
+pub(crate) fn run_threads<R, T, F>(rt: &R, crew: &T, clients: F) -> Result<(), ServeFault>
+where
+    R: Threads + Wait,
+    T: Crew + Sync,
+    F: FnOnce() -> Result<(), ServeFault>,
+    requires clients { F.pre clients }
+{
+    thread::scope(
+        thread::scope_env(),
+        rt,
+        |scope| -> Result<(), ServeFault>
+            requires { IsSync T.row × F.pre clients }
+        {
+            let mut all_work = Builder::new()
+                .stack_size(STACK)
+                .spawn_scoped(scope, move || crew.keep_rounds())
+                .is_ok();
+            for lane in 0..crew.lanes() {
+                let started = Builder::new()
+                    .stack_size(STACK)
+                    .spawn_scoped(scope, move || crew.work(lane));
+                if started.is_err() {
+                    all_work = false;
+                }
+            }
+            let started = Builder::new()
+                .stack_size(STACK)
+                .spawn_scoped(scope, move || crew.watch());
+            if started.is_err() {
+                all_work = false;
+            }
+            let served = if all_work {
+                clients()
+            } else {
+                Err(ServeFault::NoThread)
+            };
+            crew.end_lanes();
+            served
+        },
+    )
+}

@@ -1,0 +1,167 @@
+//! What a server needs before it serves.
+
+ghost use Rattle.std.specs.Prelude.{◌≡◌, ◌+◌, ◌≤◌, [], IfOk, length, vec_capacity};
+ghost use Rattle.desk_open.specs.Open.{AreFresh};
+ghost use Rattle.desk_rule.specs.Lanes.{posted_in};
+ghost use Rattle.lane_seats.specs.Seats.{desk_id};
+ghost use Rattle.round_desk.specs.Posted.{AllAnswered};
+ghost use Rattle.round_desk.specs.Turns.{back, turns, IsRoundOf};
+
+use crate::fault::ServeFault;
+use authorizer::Authorizer;
+use data_sockets::TransferCell;
+use event_word::micros;
+use grant_ledger::{Book, Settled, Tally, settle};
+use handler_hooks::Hooks;
+use lane_desk::{Desk, LaneSeat, RoundDesk, Worked, open_desk};
+use line_rates::Limits;
+use passive_ports::Registry;
+use rate_floors::Floors;
+use resting_ports::{PoolFault, RestingPorts};
+use round_pace::Pace;
+use server_config::ServerNumbers;
+use server_house::LaneSign;
+use session_table::Settings;
+use std::alloc::{AllocError, Global};
+use std::time::Clock;
+use virtual_tree::Store;
+
+/// What is to be served.
+#[derive(Drop)]
+pub struct Service<S: Drop, H: Hooks, P: Drop> {
+    pub settings: Settings,
+    pub numbers: ServerNumbers,
+    pub users: Authorizer,
+    pub limits: Limits,
+    pub store: S,
+    /// The owner's callbacks.
+    pub handler: H,
+    /// By what the server is told to end, if by anything.
+    pub stop: Option<P>,
+}
+
+/// What the threads will share, but for desk and board.
+#[derive(Drop)]
+pub(crate) struct Rooms<S: Store<Global>, H: Hooks, P: Drop> {
+    pub(crate) settings: Settings,
+    pub(crate) numbers: ServerNumbers,
+    pub(crate) users: Authorizer,
+    pub(crate) store: S,
+    pub(crate) handler: H,
+    pub(crate) stop: Option<P>,
+    pub(crate) floors: Floors,
+    pub(crate) ports: RestingPorts,
+    pub(crate) registry: Registry,
+    pub(crate) cells: Vec<TransferCell<S::Sink>>,
+    pub(crate) lanes: Vec<LaneSign>,
+    pub(crate) pace: Pace,
+}
+
+fn new_cells<K: Drop>(alloc: Global, count: usize) -> Result<Vec<TransferCell<K>>, AllocError> {
+    let mut cells = Vec::with_capacity(alloc, count)?;
+    for _ in 0..count {
+        cells.push(TransferCell::new())?;
+    }
+    Ok(cells)
+}
+
+fn new_lanes(alloc: Global, count: usize) -> Result<Vec<LaneSign>, AllocError> {
+    let mut lanes = Vec::with_capacity(alloc, count)?;
+    for _ in 0..count {
+        lanes.push(LaneSign::new())?;
+    }
+    Ok(lanes)
+}
+
+fn new_ports(alloc: Global, numbers: &ServerNumbers) -> Result<RestingPorts, ServeFault> {
+    match RestingPorts::new(alloc, numbers.passive_first, numbers.passive_last) {
+        Ok(ports) => Ok(ports),
+        Err(PoolFault::EmptyRange) => Err(ServeFault::Bind),
+        Err(PoolFault::Memory) => Err(ServeFault::Memory),
+    }
+}
+
+/// Gets what the threads of a server share. The pace takes the limits.
+pub(crate) fn open_rooms<R, S, H, P>(
+    rt: &R,
+    service: Service<S, H, P>,
+) -> Result<Rooms<S, H, P>, ServeFault>
+where
+    R: Clock + AllocGlobal,
+    S: Store<Global> + Drop,
+    H: Hooks,
+    P: Drop,
+{
+    let alloc = rt.alloc();
+    let Service {
+        settings,
+        numbers,
+        users,
+        limits,
+        store,
+        handler,
+        stop,
+    } = service;
+    let most = usize::from(numbers.max_cons);
+    let floors = Floors::of(alloc, &limits)?;
+    let ports = new_ports(alloc, &numbers)?;
+    let registry = Registry::new(alloc, most, usize::from(numbers.max_cons_per_address))?;
+    let cells = new_cells(alloc, most)?;
+    let lanes = new_lanes(alloc, usize::from(numbers.lanes))?;
+    let pace = Pace::of(alloc, limits, micros(rt))?;
+    Ok(Rooms {
+        settings,
+        numbers,
+        users,
+        store,
+        handler,
+        stop,
+        floors,
+        ports,
+        registry,
+        cells,
+        lanes,
+        pace,
+    })
+}
+
+/// A desk that was just opened, with its book, and room to gather its seats. It cannot be dropped.
+pub(crate) struct Line {
+    pub(crate) desk: Desk<()>,
+    pub(crate) round: RoundDesk<()>,
+    pub(crate) seats: Vec<LaneSeat<()>>,
+    pub(crate) book: Book<()>,
+    pub(crate) tally: Tally<()>,
+    pub(crate) room: Vec<Worked<()>>,
+    ghost unmoved: { IsRoundOf desk round × (back round ≡ []) },
+    ghost begun: { AllAnswered (turns round) × (posted_in (turns round) ≡ 0) },
+    ghost fresh: { AreFresh (desk_id desk) desk.lanes seats.items },
+    ghost told: { book.issued ≡ tally.moved + tally.back },
+    ghost empty: { (room.items ≡ []) × (length seats.items ≤ vec_capacity room) },
+}
+
+// Nothing was issued.
+fn close_book(book: Book<()>, tally: Tally<()>) -> Settled {
+    settle(book, tally)
+}
+
+/// Opens a desk of so many lanes.
+pub(crate) fn open_line(alloc: Global, lanes: usize) -> Result<Line, ServeFault> {
+    let room = Vec::with_capacity(alloc, lanes)?;
+    let (book, tally) = Book::open(0);
+    match open_desk(alloc, lanes, &book) {
+        Ok((desk, round, seats)) => Ok(Line {
+            desk,
+            round,
+            seats,
+            book,
+            tally,
+            room,
+        }),
+        Err(_) => {
+            close_book(book, tally);
+            room.destroy_empty();
+            Err(ServeFault::Memory)
+        }
+    }
+}

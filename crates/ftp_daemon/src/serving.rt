@@ -1,0 +1,273 @@
+//! A server, from its listener to its settlement.
+
+ghost use Rattle.std.specs.Prelude.{◌≡◌, ◌+◌, ◌≤◌, IfOk, length, vec_capacity};
+ghost use Rattle.std.specs.Thread.{IsSend, IsSync};
+ghost use Rattle.lent_parts.specs.Names.{IsBoardOf, IsNamed};
+ghost use Rattle.job_board.specs.Boards.{AreNewPasses};
+
+use crate::fault::ServeFault;
+use crate::lanes::{run_threads, serve_clients};
+use crate::opening::{Line, Rooms, Service, open_line, open_rooms};
+use crate::settling::{Lent, Room, settle_served, settle_unlent};
+use crate::watching::{StopSign, is_up};
+use crate::works::{Lists, Waiting, Works, lend_passes, lend_seats, new_lists};
+use data_sockets::socket_address;
+use event_word::{EventCount, SharedEventCount};
+use grant_ledger::Settled;
+use handler_hooks::Hooks;
+use job_board::{BoardPass, JobBoard, open_board};
+use lane_desk::Rounds;
+use lane_rounds::Turns;
+use lent_parts::{LentBoard, LentDesk, LentPass, LentRounds, PartsName};
+use round_pace::Pace;
+use server_house::{Ending, House, ServerHooks};
+use std::alloc::{AllocError, Global};
+use std::marker::Brand;
+use std::net::{Net, TcpListener, TcpStream};
+use std::sync::{Mutex, Wait};
+use std::thread::Threads;
+use std::time::Clock;
+use text_ends::TextWriter;
+use virtual_tree::Store;
+
+// What the threads share, with the board; beside it the pace and by what the server is told to end.
+fn furnish<S: Store<Global>, H: Hooks, B: PartsName, P: Drop>(
+    rooms: Rooms<S, H, P>,
+    board: LentBoard<B, Waiting<S>>,
+    pass: LentPass<B, Waiting<S>>,
+) -> (House<S, H, B>, Pace, Option<P>) {
+    let Rooms {
+        settings,
+        numbers,
+        users,
+        store,
+        handler,
+        stop,
+        floors,
+        ports,
+        registry,
+        cells,
+        lanes,
+        pace,
+    } = rooms;
+    let house = House {
+        users,
+        settings,
+        numbers,
+        store: Mutex::new(store),
+        floors: Mutex::new(floors),
+        handler: Mutex::new(handler),
+        ports: Mutex::new(ports),
+        registry: Mutex::new(registry),
+        board,
+        pass: Mutex::new(pass),
+        jobs: SharedEventCount::new(),
+        cells,
+        lanes,
+        bell: EventCount::new(),
+        ending: Ending::new(),
+    };
+    (house, pace, stop)
+}
+
+// Serves with what the threads share, and settles.
+fn serve_works<R, S, H, B, P, W>(
+    works: Works<R, S, H, B, P>,
+    room: Room<B>,
+    listener: TcpListener,
+    writer: &mut W,
+) -> (Settled, Result<(), ServeFault>)
+where
+    R: Threads
+        + Wait
+        + Clock
+        + Net<Listener = TcpListener, Stream = TcpStream>
+        + AllocGlobal
+        + Copy
+        + Send
+        + Sync,
+    S: Store<Global> + Send + Drop,
+    S::Source: Send,
+    S::Sink: Send,
+    H: ServerHooks + Send,
+    B: PartsName + Send + Sync + 'static,
+    P: StopSign + Send + Sync + Drop,
+    W: TextWriter,
+    requires gathered { length works.lent.workers.items ≤ vec_capacity room.gathered }
+    requires worked { length works.lent.workers.items ≤ vec_capacity room.worked }
+    ensures sum { result.0.issued ≡ result.0.moved + result.0.back }
+{
+    let rt = works.rt;
+    let house = &works.house;
+    let own = &rt;
+    let served = run_threads(
+        own,
+        &works,
+        || -> Result<(), ServeFault>
+            requires { IsSync R.row × IsSend R.row × IsSend S.row × IsSend S.Source.row
+                × IsSend S.Sink.row × IsSend H.row }
+        { serve_clients(own, house, listener, writer) },
+    );
+    let Works {
+        rt: _,
+        house: _,
+        passes: _,
+        lent,
+        stop: _,
+    } = works;
+    (settle_served(&rt, lent, room), served)
+}
+
+/// Serves by a desk and a board of this name. Returns the settled book, and whether clients were served.
+fn serve_named<R, S, H, B, P, W>(
+    rt: &R,
+    rooms: Rooms<S, H, P>,
+    board: JobBoard<Waiting<S>>,
+    passes: Vec<BoardPass<Waiting<S>>>,
+    line: Line,
+    listener: TcpListener,
+    writer: &mut W,
+) -> (Settled, Result<(), ServeFault>)
+where
+    R: Threads
+        + Wait
+        + Clock
+        + Net<Listener = TcpListener, Stream = TcpStream>
+        + AllocGlobal
+        + Copy
+        + Send
+        + Sync,
+    S: Store<Global> + Send + Drop,
+    S::Source: Send,
+    S::Sink: Send,
+    H: ServerHooks + Send,
+    B: PartsName + Send + Sync + 'static,
+    P: StopSign + Send + Sync + Drop,
+    W: TextWriter,
+    requires desk { IsNamed B.desk B.lanes line.desk }
+    requires board { IsBoardOf B.board board }
+    requires passes { AreNewPasses B.board (length passes.items) passes.items }
+    ensures sum { result.0.issued ≡ result.0.moved + result.0.back }
+{
+    let lists = new_lists::<B, Waiting<S>>(rt.alloc(), line.seats.len(), passes.len());
+    match lists {
+        Err(AllocError) => (settle_unlent(line), Err(ServeFault::Memory)),
+        Ok(lists) => {
+            let Lists {
+                mut workers,
+                gathered,
+                passes: mut lent_passes,
+            } = lists;
+            let Line {
+                desk,
+                round,
+                seats,
+                book,
+                mut tally,
+                room,
+            } = line;
+            lend_seats(seats, &mut tally, &mut workers);
+            lend_passes(passes, &mut lent_passes);
+            let rounds = LentRounds::new(Rounds::new(round, book, tally));
+            let desk = LentDesk::new(desk);
+            let room = Room {
+                gathered,
+                worked: room,
+            };
+            match lent_passes.pop() {
+                Some(pass) => {
+                    let (house, pace, stop) = furnish(rooms, LentBoard::new(board), pass);
+                    let works = Works {
+                        rt: *rt,
+                        house,
+                        passes: Mutex::new(lent_passes),
+                        lent: Lent {
+                            desk,
+                            turns: Mutex::new(Turns::new(rounds, pace)),
+                            workers,
+                        },
+                        stop,
+                    };
+                    serve_works(works, room, listener, writer)
+                }
+                None => {
+                    let Rooms { pace, .. } = rooms;
+                    let lent = Lent {
+                        desk,
+                        turns: Mutex::new(Turns::new(rounds, pace)),
+                        workers,
+                    };
+                    (settle_served(rt, lent, room), Err(ServeFault::NoThread))
+                }
+            }
+        }
+    }
+}
+
+// Tells what became of all octets.
+fn tell_settled<W: TextWriter>(
+    alloc: Global,
+    settled: &Settled,
+    writer: &mut W,
+) -> Result<(), ServeFault> {
+    let Settled {
+        issued,
+        moved,
+        back,
+    } = *settled;
+    let line = format!(in alloc; "settled issued {issued} moved {moved} back {back}\n")?;
+    match writer.write_text(line.as_bytes()) {
+        Ok(()) => Ok(()),
+        Err(_) => Err(ServeFault::WriteFault),
+    }
+}
+
+/// Serves until as many sessions were admitted as the numbers say, or until the sign to end is up, and then waits for those that
+/// there are. It tells `ready` once clients may come, and at the end what became of all octets that were issued.
+///
+/// `Bind` if the address and port cannot be listened on, `NoThread` if a thread of the server cannot be started, `Stopped` if the
+/// sign to end is up before.
+pub fn serve<R, S, H, P, W>(
+    rt: &R,
+    service: Service<S, H, P>,
+    writer: &mut W,
+) -> Result<Settled, ServeFault>
+where
+    R: Threads
+        + Wait
+        + Clock
+        + Net<Listener = TcpListener, Stream = TcpStream>
+        + AllocGlobal
+        + Copy
+        + Send
+        + Sync,
+    S: Store<Global> + Send + Drop,
+    S::Source: Send,
+    S::Sink: Send,
+    H: ServerHooks + Send,
+    P: StopSign + Send + Sync + Drop,
+    W: TextWriter,
+    ensures sum { IfOk result (λ settled. settled.issued ≡ settled.moved + settled.back) }
+{
+    if is_up(&service.stop) {
+        return Err(ServeFault::Stopped);
+    }
+    let numbers = service.numbers;
+    let own = socket_address(numbers.address, numbers.port);
+    let Ok(listener) = TcpListener::bind(rt, own) else {
+        return Err(ServeFault::Bind);
+    };
+    let rooms = open_rooms(rt, service)?;
+    let lanes = usize::from(numbers.lanes);
+    let Ok((board, passes)) = open_board(rt.alloc(), usize::from(numbers.max_cons), lanes + 1)
+    else {
+        return Err(ServeFault::Memory);
+    };
+    let line = open_line(rt.alloc(), lanes)?;
+    let (settled, served) = serve_named::<R, S, H, Brand, P, W>(
+        rt, rooms, board, passes, line, listener, writer,
+    );
+    served?;
+    tell_settled(rt.alloc(), &settled, writer)?;
+    Ok(settled)
+}

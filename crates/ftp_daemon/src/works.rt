@@ -1,0 +1,113 @@
+//! What the threads of one server work with.
+
+ghost use Rattle.std.specs.Prelude.{◌≡◌, ◌+◌, ◌≤◌, [], IfOk, length, vec_capacity};
+ghost use Rattle.desk_open.specs.Open.{AreFresh};
+ghost use Rattle.job_board.specs.Boards.{AreNewPasses};
+
+use crate::settling::Lent;
+use data_sockets::{DataConnection, Served};
+use grant_ledger::Tally;
+use handler_hooks::Hooks;
+use job_board::BoardPass;
+use lane_desk::LaneSeat;
+use lent_parts::{LentPass, LentWorker, PartsName};
+use server_house::House;
+use std::alloc::{AllocError, Global};
+use std::sync::Mutex;
+use transfer_worker::LaneJob;
+use virtual_tree::Store;
+
+/// A transfer that waits for a lane, over a store.
+pub(crate) type Waiting<S> = LaneJob<
+    Served<Global, <S as Store<Global>>::Source>,
+    <S as Store<Global>>::Sink,
+    DataConnection,
+>;
+
+/// All that the threads of a server share. It cannot be dropped.
+pub(crate) struct Works<R, S: Store<Global>, H: Hooks, B: PartsName, P> {
+    pub(crate) rt: R,
+    pub(crate) house: House<S, H, B>,
+    /// The passes by which lanes take transfers: each takes one as it begins.
+    pub(crate) passes: Mutex<Vec<LentPass<B, Waiting<S>>>>,
+    pub(crate) lent: Lent<B>,
+    /// By what the server is told to end.
+    pub(crate) stop: Option<P>,
+}
+
+/// Room for seats and passes that are lent.
+pub(crate) struct Lists<B: PartsName, J> {
+    pub(crate) workers: Vec<Mutex<LentWorker<B, ()>>>,
+    pub(crate) gathered: Vec<LentWorker<B, ()>>,
+    pub(crate) passes: Vec<LentPass<B, J>>,
+}
+
+// Two lists of seats, which cannot be dropped.
+fn new_seats<B: PartsName>(
+    alloc: Global,
+    lanes: usize,
+) -> Result<(Vec<Mutex<LentWorker<B, ()>>>, Vec<LentWorker<B, ()>>), AllocError>
+    ensures workers { IfOk result (λ l. (l.0.items ≡ []) × (lanes ≤ vec_capacity l.0)) }
+    ensures gathered { IfOk result (λ l. (l.1.items ≡ []) × (lanes ≤ vec_capacity l.1)) }
+{
+    let workers = Vec::with_capacity(alloc, lanes)?;
+    match Vec::with_capacity(alloc, lanes) {
+        Ok(gathered) => Ok((workers, gathered)),
+        Err(AllocError) => {
+            workers.destroy_empty();
+            Err(AllocError)
+        }
+    }
+}
+
+/// Room for the seats of so many lanes and for so many passes.
+pub(crate) fn new_lists<B: PartsName, J>(
+    alloc: Global,
+    lanes: usize,
+    passes: usize,
+) -> Result<Lists<B, J>, AllocError>
+    ensures workers { IfOk result (λ l. (l.workers.items ≡ [])
+        × (lanes ≤ vec_capacity l.workers)) }
+    ensures gathered { IfOk result (λ l. (l.gathered.items ≡ [])
+        × (lanes ≤ vec_capacity l.gathered)) }
+    ensures passes { IfOk result (λ l. (l.passes.items ≡ [])
+        × (passes ≤ vec_capacity l.passes)) }
+{
+    let passes = Vec::with_capacity(alloc, passes)?;
+    let (workers, gathered) = new_seats(alloc, lanes)?;
+    Ok(Lists {
+        workers,
+        gathered,
+        passes,
+    })
+}
+
+/// Lends each seat with a tally of its own.
+pub(crate) fn lend_seats<B: PartsName>(
+    seats: Vec<LaneSeat<()>>,
+    tally: &mut Tally<()>,
+    workers: &mut Vec<Mutex<LentWorker<B, ()>>>,
+)
+    requires seats { AreFresh B.desk B.lanes seats.items }
+    requires room { length workers.old.items + length seats.items ≤ vec_capacity workers.old }
+    ensures tally { tally.new ≡ tally.old }
+    ensures workers { length workers.new.items
+        ≡ length workers.old.items + length seats.items }
+{
+    for seat in seats {
+        workers.push_reserved(Mutex::new(LentWorker::new(seat, tally.split())));
+    }
+}
+
+/// Lends the passes of a board.
+pub(crate) fn lend_passes<B: PartsName, J>(
+    passes: Vec<BoardPass<J>>,
+    lent: &mut Vec<LentPass<B, J>>,
+)
+    requires passes { AreNewPasses B.board (length passes.items) passes.items }
+    requires room { length lent.old.items + length passes.items ≤ vec_capacity lent.old }
+{
+    for pass in passes {
+        lent.push_reserved(LentPass::new(pass));
+    }
+}

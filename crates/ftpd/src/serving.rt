@@ -1,0 +1,183 @@
+//! The server of the machine that the program runs on.
+//!
+//! `program` judges the words and the configuration, and is given an [`Asked`], which keeps what is to be served; it is served behind
+//! that. A trait's method cannot hand its runtime on to threads: the prover knows its bounds in this thread alone. So what has to do
+//! with files and the console names the runtime itself, and what starts threads takes its leave by a type parameter.
+
+use config_store::ServedStore;
+use folder_store::DirStore;
+use ftp_daemon::{ServeFault, Service, StopSign, serve};
+use log::sink::Console;
+use log::{Level, Logged};
+use program::{Ending, Server, ServerFault};
+use server_config::Config;
+use session_notes::Notes;
+use sheet_program::Ending as Common;
+use std::alloc::{AllocError, Global};
+use std::fs;
+use std::net::{Net, TcpListener, TcpStream};
+use std::sync::Wait;
+use std::thread::Threads;
+use std::time::Clock;
+use whole_texts::TextWriter;
+
+/// What the words of a command line asked to be served.
+#[derive(Drop)]
+pub struct Asked {
+    service: Option<(Config, Option<String>)>,
+}
+
+impl Asked {
+    /// Nothing yet.
+    pub fn new() -> Asked {
+        Asked { service: None }
+    }
+
+    /// The configuration, and the path of the stop file, if a server was asked for.
+    pub fn into_service(self) -> Option<(Config, Option<String>)> {
+        self.service
+    }
+}
+
+fn copied(alloc: Global, path: Option<&str>) -> Result<Option<String>, AllocError> {
+    match path {
+        Some(path) => {
+            let own = String::from_str(alloc, path)?;
+            Ok(Some(own))
+        }
+        None => Ok(None),
+    }
+}
+
+impl<W: TextWriter> Server<W> for Asked {
+    fn serve(
+        &mut self,
+        alloc: Global,
+        config: Config,
+        stop_file: Option<&str>,
+        _output: &mut W,
+    ) -> Result<(), ServerFault> {
+        match copied(alloc, stop_file) {
+            Ok(path) => {
+                self.service = Some((config, path));
+                Ok(())
+            }
+            Err(AllocError) => Err(ServerFault::Memory),
+        }
+    }
+}
+
+/// A file whose appearance ends the server.
+#[derive(Drop)]
+struct StopFile {
+    machine: HostRuntime,
+    path: String,
+}
+
+impl StopSign for StopFile {
+    fn is_up(&self) -> bool {
+        fs::metadata(&self.machine, self.path.as_str()).is_ok()
+    }
+}
+
+fn fault_of(fault: ServeFault) -> ServerFault {
+    match fault {
+        ServeFault::Bind => ServerFault::Bind,
+        ServeFault::NoThread => ServerFault::NoThread,
+        ServeFault::WriteFault => ServerFault::WriteFault,
+        ServeFault::Store => ServerFault::Store,
+        ServeFault::Memory => ServerFault::Memory,
+        ServeFault::Stopped => ServerFault::Stopped,
+    }
+}
+
+/// Serves a configuration: its store is in memory, or a folder of the machine.
+fn serve_config<R, W>(
+    rt: &R,
+    machine: &HostRuntime,
+    config: Config,
+    stop: Option<StopFile>,
+    output: &mut W,
+) -> Result<(), ServeFault>
+where
+    R: Threads
+        + Wait
+        + Clock
+        + Net<Listener = TcpListener, Stream = TcpStream>
+        + AllocGlobal
+        + Copy
+        + Send
+        + Sync,
+    W: TextWriter,
+{
+    let Config {
+        settings,
+        numbers,
+        users,
+        store,
+        limits,
+    } = config;
+    let handler = Notes::new(Logged::new(*machine, Level::Info, Console(*machine)));
+    match store {
+        ServedStore::Memory(store) => {
+            let service = Service {
+                settings,
+                numbers,
+                users,
+                limits,
+                store,
+                handler,
+                stop,
+            };
+            serve(rt, service, output)?;
+        }
+        ServedStore::Folder(folder) => {
+            let Ok(store) = DirStore::new(*machine, folder.as_str()) else {
+                return Err(ServeFault::Store);
+            };
+            let service = Service {
+                settings,
+                numbers,
+                users,
+                limits,
+                store,
+                handler,
+                stop,
+            };
+            serve(rt, service, output)?;
+        }
+    }
+    Ok(())
+}
+
+/// Serves what was asked for, and returns how the program ends.
+pub fn serve_asked<R, W>(
+    rt: &R,
+    machine: &HostRuntime,
+    service: (Config, Option<String>),
+    output: &mut W,
+) -> Ending
+where
+    R: Threads
+        + Wait
+        + Clock
+        + Net<Listener = TcpListener, Stream = TcpStream>
+        + AllocGlobal
+        + Copy
+        + Send
+        + Sync,
+    W: TextWriter,
+{
+    let (config, path) = service;
+    let stop = match path {
+        Some(path) => Some(StopFile {
+            machine: *machine,
+            path,
+        }),
+        None => None,
+    };
+    match serve_config(rt, machine, config, stop, output) {
+        Ok(()) => Ending::Common(Common::Done),
+        Err(fault) => Ending::Server(fault_of(fault)),
+    }
+}

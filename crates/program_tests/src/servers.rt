@@ -1,0 +1,133 @@
+//! The command `serve`, by a server that serves nobody and notes what it is called with.
+
+use crate::ends::{Files, Given};
+use crate::expect::{holds, same, tells};
+use crate::texts::SMALL;
+use program::{Ending, Server, ServerFault, run_words};
+use server_config::Config;
+use std::alloc::Global;
+use std::process::Abort;
+use text_ends::TextWriter;
+
+/// Writes `ready`, and answers as it is told to.
+#[derive(Drop)]
+pub(crate) struct Noting {
+    /// How often it was called.
+    calls: u8,
+    /// The port of the last configuration.
+    port: u16,
+    /// The last stop file.
+    stop_file: Option<String>,
+    fault: Option<ServerFault>,
+}
+
+impl Noting {
+    pub(crate) fn new() -> Noting {
+        Noting {
+            calls: 0,
+            port: 0,
+            stop_file: None,
+            fault: None,
+        }
+    }
+}
+
+impl<W: TextWriter> Server<W> for Noting {
+    fn serve(
+        &mut self,
+        alloc: Global,
+        config: Config,
+        stop_file: Option<&str>,
+        output: &mut W,
+    ) -> Result<(), ServerFault> {
+        self.calls = self.calls.saturating_add(1);
+        self.port = config.numbers.port;
+        self.stop_file = match stop_file {
+            Some(path) => String::from_str(alloc, path).ok(),
+            None => None,
+        };
+        if output.write_text(b"ready\n").is_err() {
+            return Err(ServerFault::WriteFault);
+        }
+        match self.fault {
+            Some(fault) => Err(fault),
+            None => Ok(()),
+        }
+    }
+}
+
+/// By these words, on a file of that text.
+fn served(
+    rt: &(impl Abort + AllocGlobal),
+    words: &[&str],
+    text: &str,
+    server: &mut Noting,
+    output: &mut Vec<u8>,
+) -> Ending {
+    let mut files = Files {
+        file: Given::Whole(text),
+        input: None,
+    };
+    run_words(rt.alloc(), words, &mut files, server, output)
+}
+
+#[test]
+fn a_server_is_called(rt: HostRuntime) {
+    let mut output = Vec::new(rt.alloc());
+    let mut server = Noting::new();
+    let ending = served(&rt, &["serve", "file"], SMALL, &mut server, &mut output);
+    holds(&rt, ending.status() == 0);
+    holds(&rt, server.calls == 1 && server.port == 2121);
+    holds(&rt, server.stop_file.is_none());
+    same(&rt, &output, "ready\n");
+    let words = ["serve", "file", "--stop-file", "stop"];
+    let ending = served(&rt, &words, SMALL, &mut server, &mut output);
+    holds(&rt, ending.status() == 0);
+    holds(&rt, server.calls == 2);
+    match &server.stop_file {
+        Some(path) => same(&rt, path.as_str().as_bytes(), "stop"),
+        None => holds(&rt, false),
+    }
+}
+
+/// Faults of a server, and what they are told as.
+static FAULTS: [(ServerFault, &str); 6] = [
+    (ServerFault::Bind, "ftpd: Bind\n"),
+    (ServerFault::NoThread, "ftpd: NoThread\n"),
+    (ServerFault::WriteFault, "ftpd: WriteFault\n"),
+    (ServerFault::Store, "ftpd: Store\n"),
+    (ServerFault::Memory, "ftpd: Memory\n"),
+    (ServerFault::Stopped, "ftpd: Stopped\n"),
+];
+
+#[test]
+fn faults_are_told(rt: HostRuntime) {
+    for (fault, told) in &FAULTS {
+        let mut output = Vec::new(rt.alloc());
+        let mut server = Noting::new();
+        server.fault = Some(*fault);
+        let ending = served(&rt, &["serve", "file"], SMALL, &mut server, &mut output);
+        holds(&rt, ending.status() == 1);
+        tells(&rt, &ending, told);
+    }
+}
+
+const OUT_OF_RANGE: &str =
+    "top: version: out of range; it must be a number from 1 to 2\nftpd: OutOfRange\n";
+
+/// A configuration that is refused: the server is not called.
+#[test]
+fn a_refusal_calls_no_server(rt: HostRuntime) {
+    let mut output = Vec::new(rt.alloc());
+    let mut server = Noting::new();
+    let ending = served(
+        &rt,
+        &["serve", "file"],
+        "version = 3",
+        &mut server,
+        &mut output,
+    );
+    holds(&rt, ending.status() == 1);
+    tells(&rt, &ending, OUT_OF_RANGE);
+    holds(&rt, server.calls == 0 && output.is_empty());
+}

@@ -1,0 +1,52 @@
+-- What a user's transfer has nothing left under, in a tick that has begun.
+use Rattle.std.specs.Prelude.{ℕ, ◌*◌, ◌-◌, ◌^◌, Bool, false, ◌||◌, not, nat_eq, nat_le, min, if◌then◌else◌, List, Option, Some, None}
+use Rattle.std.specs.FinMap as finite
+use Rattle.line_rates.specs.declared.ask.Way.{Way}
+use Rattle.line_rates.specs.declared.ask.Way.TheVariants.{Down, Up}
+use Rattle.line_rates.specs.declared.row.UserRate.{UserRate}
+use Rattle.line_rates.specs.Stated.{by_number}
+use Rattle.round_pace.specs.declared.credit.Credit.{Credit}
+use Rattle.round_pace.specs.declared.due.Due.{Due}
+use Rattle.round_pace.specs.declared.due.Due.TheVariants.{Now, At}
+use Rattle.round_pace.specs.declared.paced.GroupPace.{GroupPace}
+use Rattle.round_pace.specs.declared.paced.UserPace.{UserPace}
+use Rattle.round_pace.specs.Credits.{is_dry}
+use Rattle.round_pace.specs.Earned.{tick_of}
+use Rattle.round_pace.specs.Paced.{Paced, group_key, pace_number}
+use Rattle.round_pace.specs.Taken.{group_of}
+
+-- the credit of a way
+abbrev pub credit_of : Way → Credit → Credit → Credit
+credit_of Down down up = down
+credit_of Up down up = up
+
+abbrev pub session_of : Way → UserRate → ℕ
+session_of Down row = row.session_down
+session_of Up row = row.session_up
+
+-- a session's share is offered as a tick begins, and none later
+abbrev pub is_spent : Way → UserPace → Bool
+is_spent way u = not (nat_eq (session_of way u.row) 0) || is_dry (credit_of way u.down u.up)
+
+abbrev pub is_row_spent : Way → Option UserPace → Bool
+is_row_spent way None = false
+is_row_spent way (Some u) = is_spent way u
+
+abbrev pub is_user_spent : Way → List UserPace → ℕ → Bool
+is_user_spent way users user = is_row_spent way (finite.get (by_number pace_number users) user)
+
+abbrev pub is_group_row_spent : Way → Option GroupPace → Bool
+is_group_row_spent way None = false
+is_group_row_spent way (Some g) = is_dry (credit_of way g.down g.up)
+
+abbrev pub is_group_spent : Way → List GroupPace → Option ℕ → Bool
+is_group_spent way groups None = false
+is_group_spent way groups (Some group) = is_group_row_spent way (finite.get (by_number group_key groups) group)
+
+--- when the next round may be held for a user's transfer: now in a tick that has not begun and while something can be granted to
+--- it, and else as the next tick begins
+abbrev pub due_for_in : Way → ℕ → Paced → ℕ → Due
+due_for_in way user p now =
+    if nat_le p.begun (tick_of now) then Now
+    else if is_dry p.server || is_dry (credit_of way p.down p.up) || is_user_spent way p.users user || is_group_spent way p.groups (group_of p.users user) then At (min (p.begun * 2000) (2 ^ 64 - 1))
+    else Now

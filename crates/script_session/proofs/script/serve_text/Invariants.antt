@@ -1,4 +1,0 @@
-use Rattle.script_session.proofs.script.serve_text.Given as goal
-
-abbrev pub ghosts-serve_counted : goal.ghosts-serve_counted
-ghosts-serve_counted g a = record { name = a.blank.name; parts = a.blank.parts }

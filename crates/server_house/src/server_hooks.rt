@@ -1,0 +1,13 @@
+//! What the handler of a server is told beside what its sessions do.
+
+use handler_hooks::Hooks;
+use passive_ports::AdmitFault;
+
+/// What a server tells the handler of its owner: whose session the calls of [`Hooks`] are about, and who was not admitted.
+pub trait ServerHooks: Hooks {
+    /// The calls of [`Hooks`] that follow are about the session of this peer with this number, until the next such call.
+    fn attend(&mut self, peer: [u8; 4], session: usize);
+
+    /// A client of this address was not admitted.
+    fn on_refused(&mut self, peer: [u8; 4], fault: AdmitFault);
+}

@@ -1,0 +1,134 @@
+//! The socket of a control connection.
+
+ghost use Rattle.std.specs.Prelude.{◌<◌, ◌≡◌, ◌≤◌, IfOk, length};
+ghost use Rattle.control_turns.specs.Calls.{reads_within};
+
+use control_session::Piece;
+use line_mender::Mender;
+use std::io;
+use std::io::{ErrorKind, Read, Write};
+use std::net::{Shutdown, TcpStream};
+use std::time::Duration;
+
+/// How long a read waits where nothing runs, in milliseconds.
+const IDLE: u64 = 50;
+
+/// How long it waits where something runs, in milliseconds.
+const QUICK: u64 = 1;
+
+/// How long a reply may take to be written, in milliseconds.
+const PATIENCE: u64 = 20_000;
+
+/// How often is read from a connection that is to be closed, so that the last reply arrives.
+const LAST_READS: usize = 20;
+
+const LF: u8 = 10;
+
+/// The socket of a control connection, and what is known of the text that came.
+#[derive(Drop)]
+pub struct ControlSocket {
+    stream: TcpStream,
+    mender: Mender,
+    is_quick: bool,
+}
+
+// Whether a read only found nothing.
+fn is_pause(kind: ErrorKind) -> bool {
+    matches!(
+        kind,
+        ErrorKind::WouldBlock | ErrorKind::TimedOut | ErrorKind::Interrupted
+    )
+}
+
+impl ControlSocket {
+    /// A connection that was accepted. Its reads wait for a while.
+    pub fn new(stream: TcpStream) -> ControlSocket {
+        let _ = stream.set_nodelay(true);
+        let _ = stream.set_read_timeout(Some(Duration::from_millis(IDLE)));
+        let _ = stream.set_write_timeout(Some(Duration::from_millis(PATIENCE)));
+        ControlSocket {
+            stream,
+            mender: Mender::new(),
+            is_quick: false,
+        }
+    }
+
+    // The time-out of a socket is set only where it changes: it is a call to the machine.
+    fn set_pace(&mut self, is_quick: bool) {
+        if self.is_quick != is_quick {
+            let wait = if is_quick { QUICK } else { IDLE };
+            let _ = self
+                .stream
+                .set_read_timeout(Some(Duration::from_millis(wait)));
+            self.is_quick = is_quick;
+        }
+    }
+
+    // Takes the octets in front of the buffer that were read.
+    fn mend(&mut self, buffer: &mut [u8], count: usize) -> Piece
+        requires bound { count ≤ length buffer.old }
+        ensures bound { reads_within result buffer.new }
+        ensures same { length buffer.new ≡ length buffer.old }
+    {
+        let kept = self.mender.mend(&mut buffer[..count]);
+        if kept == 0 {
+            Piece::Nothing
+        } else {
+            Piece::Octets(kept)
+        }
+    }
+
+    // Nothing came: the end of an ABOR that urgent data took is put in.
+    fn take_silence(&mut self, buffer: &mut [u8]) -> Piece
+        requires room { 0 < length buffer.old }
+        ensures bound { reads_within result buffer.new }
+    {
+        if self.mender.silence() {
+            buffer[0] = LF;
+            Piece::Octets(1)
+        } else {
+            Piece::Nothing
+        }
+    }
+
+    /// One read. It waits for a millisecond or so if it is to be quick, and else for some more.
+    pub fn read(&mut self, is_quick: bool, buffer: &mut [u8]) -> io::Result<Piece>
+        requires room { 0 < length buffer.old }
+        ensures bound { IfOk result (λ piece. reads_within piece buffer.new) }
+    {
+        self.set_pace(is_quick);
+        match self.stream.read(buffer) {
+            Ok(0) => Ok(Piece::AtEnd),
+            Ok(count) => Ok(self.mend(buffer, count)),
+            Err(error) => {
+                if is_pause(error.kind()) {
+                    Ok(self.take_silence(buffer))
+                } else {
+                    Err(error)
+                }
+            }
+        }
+    }
+
+    /// Writes all of a reply.
+    pub fn write(&mut self, octets: &[u8]) -> io::Result<()> {
+        self.stream.write_all(octets)
+    }
+
+    /// Ends the connection so that what was written arrives.
+    pub fn hang_up(&mut self, buffer: &mut [u8]) {
+        let _ = self.stream.shutdown(Shutdown::Write);
+        self.set_pace(false);
+        for _ in 0..LAST_READS {
+            match self.stream.read(buffer) {
+                Ok(0) => return,
+                Ok(_) => {}
+                Err(error) => {
+                    if !is_pause(error.kind()) {
+                        return;
+                    }
+                }
+            }
+        }
+    }
+}

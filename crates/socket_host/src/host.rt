@@ -1,0 +1,220 @@
+//! The host of a control session.
+
+ghost use Rattle.std.specs.Prelude.{◌≡◌, [], true};
+ghost use Rattle.std.specs.declared.alloc.Global.{Global};
+ghost use Rattle.control_turns.specs.Rows.{IsRow};
+ghost use Rattle.control_turns.specs.Turns.{Stepped};
+ghost use Rattle.data_side.specs.Sides.Given.{Came};
+ghost use Rattle.session_table.specs.Views.{is_closed};
+ghost use Rattle.socket_host.specs.Unsaid.{AnyCall};
+
+use crate::control::ControlSocket;
+use crate::moments::millis_since_1970;
+use authorizer::Authorizer;
+use control_session::{DataEvent, Host, Leaving, Piece, Session};
+use ftp_wire::HostPort;
+use handler_hooks::{Hooks, tell};
+use lent_parts::PartsName;
+use lent_step::{close_by, end_by, step_by};
+use server_house::{House, ServerHooks, Stage, copy_settings};
+use session_table::{Action, HookCall, Input, Job, Settings, Text};
+use socket_side::SocketSide;
+use std::alloc::{AllocError, Global};
+use std::io;
+use std::net::{Net, TcpListener, TcpStream};
+use std::sync::Wait;
+use std::time::{Clock, Duration};
+use virtual_tree::Store;
+
+/// What a client is told whose session the server ends.
+const ENDING: &[u8] = b"421 Server is ending\r\n";
+
+/// The host of the session of one control connection.
+#[derive(Drop)]
+pub struct SocketHost<'h, R, S: Store<Global>, H: Hooks, B: PartsName> {
+    rt: &'h R,
+    house: &'h House<S, H, B>,
+    socket: ControlSocket,
+    side: SocketSide<'h, R, S, H, B>,
+    peer: [u8; 4],
+    // the number of the connection
+    key: usize,
+    // the number of the user who is logged in, by which rounds know them
+    user: u32,
+}
+
+impl<'h, R, S, H, B> SocketHost<'h, R, S, H, B>
+where
+    R: Wait + Clock + Net<Listener = TcpListener, Stream = TcpStream> + AllocGlobal,
+    S: Store<Global>,
+    H: ServerHooks,
+    B: PartsName,
+{
+    /// The host of a connection with this data side, of this peer and with this key in the registry.
+    pub fn new(
+        rt: &'h R,
+        house: &'h House<S, H, B>,
+        socket: ControlSocket,
+        side: SocketSide<'h, R, S, H, B>,
+        peer: [u8; 4],
+        key: usize,
+    ) -> Self {
+        SocketHost {
+            rt,
+            house,
+            socket,
+            side,
+            peer,
+            key,
+            user: 0,
+        }
+    }
+
+    /// The settings of the session.
+    pub(crate) fn copy_settings(&self) -> Result<Settings, AllocError> {
+        copy_settings(self.rt.alloc(), &self.house.settings)
+    }
+
+    // What came of the data side behind the end of the control connection.
+    fn end_with(
+        &mut self,
+        users: &Authorizer,
+        session: &mut Session<Global>,
+        event: DataEvent<S::Sink>,
+    )
+        requires closed { is_closed session.old.view.stage ≡ true }
+        ensures row { Stepped (IsRow {A = Global} {R = S.Source} S.Step users.now.users) AnyCall
+            self.old session.old (Came event) session.new [] self.new }
+        ensures closed { is_closed session.new.view.stage ≡ true }
+    {
+        let moment = millis_since_1970(self.rt);
+        let mut floors = self.house.floors.lock(self.rt);
+        let mut store = self.house.store.lock(self.rt);
+        end_by(session, users, &mut *floors, &mut *store, event, moment);
+    }
+
+    /// Ends the control connection so that the last reply arrives.
+    pub fn hang_up(&mut self, buffer: &mut [u8]) {
+        self.socket.hang_up(buffer);
+    }
+}
+
+impl<'h, R, S, H, B> Host<Global> for SocketHost<'h, R, S, H, B>
+where
+    R: Wait + Clock + Net<Listener = TcpListener, Stream = TcpStream> + AllocGlobal,
+    S: Store<Global>,
+    H: ServerHooks,
+    B: PartsName,
+{
+    type Store = S;
+
+    type Source = S::Source;
+
+    type Sink = S::Sink;
+
+    ghost Step = { S.Step };
+
+    ghost Does = { AnyCall };
+
+    fn step(
+        &mut self,
+        users: &Authorizer,
+        session: &mut Session<Global>,
+        input: &mut Option<Input<Global, S::Sink>>,
+    ) -> Result<Vec<Action<Global, S::Source, S::Sink>>, Option<DataEvent<S::Sink>>> {
+        let moment = millis_since_1970(self.rt);
+        let mut floors = self.house.floors.lock(self.rt);
+        let mut store = self.house.store.lock(self.rt);
+        step_by(session, users, &mut *floors, &mut *store, input, moment)
+    }
+
+    fn close(
+        &mut self,
+        users: &Authorizer,
+        session: &mut Session<Global>,
+        nobody: &mut Option<Text<Global>>,
+    ) -> Option<Leaving<Global>> {
+        let moment = millis_since_1970(self.rt);
+        let mut floors = self.house.floors.lock(self.rt);
+        let mut store = self.house.store.lock(self.rt);
+        match nobody.take() {
+            Some(nobody) => close_by(session, users, &mut *floors, &mut *store, nobody, moment),
+            None => unreachable!(),
+        }
+    }
+
+    fn end(
+        &mut self,
+        users: &Authorizer,
+        session: &mut Session<Global>,
+        event: &mut Option<DataEvent<S::Sink>>,
+    ) {
+        match event.take() {
+            Some(event) => self.end_with(users, session, event),
+            None => {}
+        }
+    }
+
+    fn release(&mut self, user: u32) {
+        self.house.floors.lock(self.rt).release(user);
+    }
+
+    fn note(&mut self, call: &HookCall<Global>) {
+        if let HookCall::Login(name) = call {
+            let number = match self.house.users.number(name.as_str()) {
+                Some(number) => number,
+                None => 0,
+            };
+            self.user = number;
+        }
+        let mut handler = self.house.handler.lock(self.rt);
+        handler.attend(self.peer, self.key);
+        tell(&mut *handler, call);
+    }
+
+    fn write(&mut self, reply: &[u8]) -> io::Result<()> {
+        self.socket.write(reply)
+    }
+
+    fn read(&mut self, buffer: &mut [u8]) -> io::Result<Piece> {
+        if self.house.ending.has_begun(Stage::Sessions) {
+            let _ = self.socket.write(ENDING);
+            return Ok(Piece::AtEnd);
+        }
+        if self.side.rest() {
+            return Ok(Piece::Nothing);
+        }
+        let is_quick = self.side.is_busy();
+        self.socket.read(is_quick, buffer)
+    }
+
+    fn open_passive(&mut self) {
+        self.side.open_passive();
+    }
+
+    fn connect_to(&mut self, to: HostPort) {
+        self.side.connect_to(to);
+    }
+
+    fn drop_data(&mut self) {
+        self.side.drop_data();
+    }
+
+    fn start(&mut self, job: &mut Option<Job<Global, S::Source, S::Sink>>) {
+        if let Some(job) = job.take() {
+            self.side.start(job, self.user);
+        }
+    }
+
+    fn abort(&mut self) {
+        self.side.abort();
+    }
+
+    fn look(&mut self) -> Option<DataEvent<S::Sink>> {
+        self.side.look(self.user)
+    }
+
+    fn settle(&mut self) -> Option<DataEvent<S::Sink>> {
+        self.side.settle()
+    }
+}

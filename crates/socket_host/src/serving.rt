@@ -1,0 +1,88 @@
+//! A whole control session over sockets.
+
+use crate::control::ControlSocket;
+use crate::host::SocketHost;
+use authorizer::Authorizer;
+use control_session::{Host, run_control};
+use handler_hooks::Hooks;
+use lent_parts::PartsName;
+use server_house::{House, ServerHooks};
+use session_table::Settings;
+use socket_side::SocketSide;
+use std::alloc::{AllocError, Global};
+use std::net::{Net, TcpListener, TcpStream};
+use std::sync::Wait;
+use std::time::Clock;
+use virtual_tree::Store;
+
+/// The most reads of one session: at 50 ms each, more than six years.
+const MOST_READS: u32 = u32::MAX;
+
+/// How much is read at once of what comes behind the end.
+const LAST_PIECE: usize = 512;
+
+/// A host that has the settings of its session. A call whose type argument has several lifetimes may take neither settings nor
+/// users, so what takes them below has one type parameter for the host, and one for whoever has the users.
+pub(crate) trait SessionHost: Host<Global> {
+    /// The settings of the session.
+    fn settings(&self) -> Result<Settings, AllocError>;
+}
+
+impl<'h, R, S, H, B> SessionHost for SocketHost<'h, R, S, H, B>
+where
+    R: Wait + Clock + Net<Listener = TcpListener, Stream = TcpStream> + AllocGlobal,
+    S: Store<Global>,
+    H: ServerHooks,
+    B: PartsName,
+{
+    fn settings(&self) -> Result<Settings, AllocError> {
+        self.copy_settings()
+    }
+}
+
+/// Who has the users.
+pub(crate) trait HasUsers {
+    /// The users.
+    fn users(&self) -> &Authorizer;
+}
+
+impl<S: Store<Global>, H: Hooks, B: PartsName> HasUsers for House<S, H, B> {
+    fn users(&self) -> &Authorizer {
+        &self.users
+    }
+}
+
+// The whole session of a host. Without memory to begin, the client is told nothing.
+fn run_hosted<T: SessionHost, U: HasUsers>(alloc: &Global, host: &mut T, house: &U, peer: [u8; 4]) {
+    if let Ok(settings) = host.settings() {
+        let _ = run_control(alloc, host, house.users(), settings, peer, MOST_READS);
+    }
+}
+
+/// Serves a client from the greeting to the end of the control connection, which was accepted from this peer and has this
+/// key in the registry; it leaves the registry. However the session ends, its transfers have ended and its floor is
+/// released.
+pub fn serve_session<R, S, H, B>(
+    rt: &R,
+    house: &House<S, H, B>,
+    stream: TcpStream,
+    peer: [u8; 4],
+    key: usize,
+)
+where
+    R: Wait + Clock + Net<Listener = TcpListener, Stream = TcpStream> + AllocGlobal,
+    S: Store<Global>,
+    H: ServerHooks,
+    B: PartsName,
+{
+    let session = match u32::try_from(key) {
+        Ok(session) => session,
+        Err(_) => 0,
+    };
+    let side = SocketSide::new(rt, house, peer, key, session);
+    let mut host = SocketHost::new(rt, house, ControlSocket::new(stream), side, peer, key);
+    run_hosted(&rt.alloc(), &mut host, house, peer);
+    house.registry.lock(rt).leave(key);
+    let mut buffer = [0; LAST_PIECE];
+    host.hang_up(&mut buffer);
+}

@@ -1,7 +1,7 @@
 //! Whole sessions: examples that bear the names of their crates.
 
 use crate::expect::{holds, same};
-use crate::room::{PEER, make_room, says, settings};
+use crate::room::{PEER, Room, make_room, says, settings};
 use authorizer::Authorizer;
 use configured_session::serve_config;
 use ftp_wire::{Command, LineItem};
@@ -70,11 +70,15 @@ fn script_session(
     Ok(())
 }
 
+fn in_room(rt: &(impl Abort + AllocGlobal), room: &mut Room) {
+    session_core(rt, &room.users, &mut room.floors, &mut room.store).expect(rt, "memory");
+    script_session(rt, &room.users, &mut room.floors, &mut room.store).expect(rt, "replies");
+}
+
 #[test]
 fn whole_sessions(rt: HostRuntime) {
     let mut room = make_room(&rt);
-    session_core(&rt, &room.users, &mut room.floors, &mut room.store).expect(&rt, "memory");
-    script_session(&rt, &room.users, &mut room.floors, &mut room.store).expect(&rt, "replies");
+    in_room(&rt, &mut room);
 }
 
 #[test]

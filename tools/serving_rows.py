@@ -3,6 +3,7 @@ import ftplib
 import io
 import os
 import re
+import resource
 import socket
 import stat
 import threading
@@ -201,6 +202,28 @@ def refused_connections():
         notes = server.notes_made(heads=True)
         want("127.0.0.1 refused: too many connections from this address" in notes, f"a note of it: {notes}")
         want('127.0.0.2 #1 login "ann"' in notes, f"a note of the other address: {notes}")
+
+
+def memory_of(process):
+    """The octets of addresses that a process has."""
+    with open(f"/proc/{process.pid}/status", encoding="ascii") as it:
+        return next(int(line.split()[1]) * 1024 for line in it if line.startswith("VmSize:"))
+
+
+def a_session_without_a_thread():
+    """A client whose session the machine gives no thread is told so, and closed; once there is room the next one is served."""
+    with Server(sessions=2) as server:
+        first = Client(server)
+        resource.prlimit(server.process.pid, resource.RLIMIT_AS, (memory_of(server.process) + 65536, resource.RLIM_INFINITY))
+        second = Client(server, name=None)
+        second.says(None, "421 No thread for a session")
+        second.at_end()
+        resource.prlimit(server.process.pid, resource.RLIMIT_AS, (resource.RLIM_INFINITY, resource.RLIM_INFINITY))
+        first.quit()
+        Client(server).quit()
+        server.ended()
+        notes = server.notes_made(heads=True)
+        want("127.0.0.1 refused: no thread could be started" in notes, f"a note of it: {notes}")
 
 
 def refused_sessions():
@@ -643,6 +666,7 @@ ROWS = [
     a_store_that_is_full,
     a_long_listing,
     refused_connections,
+    a_session_without_a_thread,
     refused_sessions,
     a_guarantee_comes_back,
     no_port,

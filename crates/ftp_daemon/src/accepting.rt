@@ -4,7 +4,7 @@ ghost use Rattle.std.specs.Thread.{IsSend, IsSync};
 
 use lent_parts::PartsName;
 use passive_ports::AdmitFault;
-use server_house::{House, ServerHooks, Stage};
+use server_house::{House, NotServed, ServerHooks, Stage};
 use socket_host::serve_session;
 use std::alloc::Global;
 use std::io::Write;
@@ -24,17 +24,34 @@ const BRIEFLY: u64 = 50;
 /// How long is waited where no connection could be accepted, in milliseconds.
 const PAUSE: u64 = 20;
 
-fn refusal(fault: AdmitFault) -> &'static [u8] {
-    match fault {
-        AdmitFault::TooMany => b"421 Too many connections\r\n",
-        AdmitFault::TooManyOfAddress => b"421 Too many connections from this address\r\n",
-        AdmitFault::Memory => b"421 Out of memory\r\n",
+fn refusal(why: NotServed) -> &'static [u8] {
+    match why {
+        NotServed::NotAdmitted(AdmitFault::TooMany) => b"421 Too many connections\r\n",
+        NotServed::NotAdmitted(AdmitFault::TooManyOfAddress) => {
+            b"421 Too many connections from this address\r\n"
+        }
+        NotServed::NotAdmitted(AdmitFault::Memory) => b"421 Out of memory\r\n",
+        NotServed::NoThread => b"421 No thread for a session\r\n",
     }
 }
 
-fn refuse(mut stream: TcpStream, fault: AdmitFault) {
+// Tells a client why it is not served, and the handler.
+fn refuse<R, S, H, B>(
+    rt: &R,
+    house: &House<S, H, B>,
+    mut stream: TcpStream,
+    peer: [u8; 4],
+    why: NotServed,
+)
+where
+    R: Wait,
+    S: Store<Global>,
+    H: ServerHooks,
+    B: PartsName,
+{
+    house.handler.lock(rt).on_refused(peer, why);
     let _ = stream.set_write_timeout(Some(Duration::from_millis(BRIEFLY)));
-    let _ = stream.write_all(refusal(fault));
+    let _ = stream.write_all(refusal(why));
     let _ = stream.shutdown(Shutdown::Write);
 }
 
@@ -51,12 +68,51 @@ fn is_enough(sessions: u64, admitted: u64) -> bool {
     sessions != 0 && admitted >= sessions
 }
 
-// A connection that is admitted: its peer, and its key in the registry.
-#[derive(Drop)]
+// A client that is admitted: its address, and the key of its connection in the registry. Its connection is among the arrivals.
+#[derive(Clone, Copy)]
 struct Client {
+    peer: [u8; 4],
+    key: usize,
+}
+
+// Takes the connection of a client from the arrivals.
+fn take_arrival<R, S, H, B>(rt: &R, house: &House<S, H, B>, key: usize) -> Option<TcpStream>
+where
+    R: Wait,
+    S: Store<Global>,
+    H: ServerHooks,
+    B: PartsName,
+{
+    match house.arrivals.get(key) {
+        Some(arrival) => arrival.lock(rt).take(),
+        None => None,
+    }
+}
+
+// A client that was admitted, whose connection its thread is to take.
+fn arrive<R, S, H, B>(
+    rt: &R,
+    house: &House<S, H, B>,
     stream: TcpStream,
     peer: [u8; 4],
     key: usize,
+) -> Option<Client>
+where
+    R: Wait,
+    S: Store<Global>,
+    H: ServerHooks,
+    B: PartsName,
+{
+    match house.arrivals.get(key) {
+        Some(arrival) => {
+            *arrival.lock(rt) = Some(stream);
+            Some(Client { peer, key })
+        }
+        None => {
+            house.registry.lock(rt).leave(key);
+            None
+        }
+    }
 }
 
 // Waits for the next connection. None if it is not admitted, or there is none.
@@ -75,10 +131,9 @@ where
             let peer = octets_of(from);
             let admitted = house.registry.lock(rt).admit(peer);
             match admitted {
-                Ok(key) => Some(Client { stream, peer, key }),
+                Ok(key) => arrive(rt, house, stream, peer, key),
                 Err(fault) => {
-                    house.handler.lock(rt).on_refused(peer, fault);
-                    refuse(stream, fault);
+                    refuse(rt, house, stream, peer, NotServed::NotAdmitted(fault));
                     None
                 }
             }
@@ -98,8 +153,25 @@ where
     H: ServerHooks,
     B: PartsName,
 {
-    let Client { stream, peer, key } = client;
-    serve_session(rt, house, stream, peer, key);
+    let Client { peer, key } = client;
+    if let Some(stream) = take_arrival(rt, house, key) {
+        serve_session(rt, house, stream, peer, key);
+    }
+}
+
+// Turns a client away for which no thread could be started: it leaves the registry.
+fn turn_away<R, S, H, B>(rt: &R, house: &House<S, H, B>, client: Client)
+where
+    R: Wait,
+    S: Store<Global>,
+    H: ServerHooks,
+    B: PartsName,
+{
+    let Client { peer, key } = client;
+    if let Some(stream) = take_arrival(rt, house, key) {
+        refuse(rt, house, stream, peer, NotServed::NoThread);
+    }
+    house.registry.lock(rt).leave(key);
 }
 
 /// Accepts control connections until there were as many as there are to be, or the sessions are to end; nobody listens from then
@@ -136,15 +208,12 @@ where
                 }
                 match next_client(rt, house, &listener) {
                     Some(client) => {
-                        let key = client.key;
                         let started = Builder::new()
                             .stack_size(STACK)
                             .spawn_scoped(scope, move || serve_client(rt, house, client));
                         match started {
                             Ok(_) => admitted = admitted.saturating_add(1),
-                            Err(_) => {
-                                house.registry.lock(rt).leave(key);
-                            }
+                            Err(_) => turn_away(rt, house, client),
                         }
                     }
                     None => {}

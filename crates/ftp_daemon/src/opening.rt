@@ -23,6 +23,8 @@ use server_config::ServerNumbers;
 use server_house::LaneSign;
 use session_table::Settings;
 use std::alloc::{AllocError, Global};
+use std::net::TcpStream;
+use std::sync::Mutex;
 use std::time::Clock;
 use virtual_tree::Store;
 
@@ -34,6 +36,9 @@ pub struct Service<S: Drop, H: Hooks, P: Drop> {
     pub users: Authorizer,
     pub limits: Limits,
     pub store: S,
+    /// More stores over what that one serves, one for each connection, if they can be had: then no session waits for a call of
+    /// another's.
+    pub own_stores: Vec<S>,
     /// The owner's callbacks.
     pub handler: H,
     /// By what the server is told to end, if by anything.
@@ -47,6 +52,8 @@ pub(crate) struct Rooms<S: Store<Global>, H: Hooks, P: Drop> {
     pub(crate) numbers: ServerNumbers,
     pub(crate) users: Authorizer,
     pub(crate) store: S,
+    pub(crate) own_stores: Vec<Mutex<S>>,
+    pub(crate) arrivals: Vec<Mutex<Option<TcpStream>>>,
     pub(crate) handler: H,
     pub(crate) stop: Option<P>,
     pub(crate) floors: Floors,
@@ -71,6 +78,23 @@ fn new_lanes(alloc: Global, count: usize) -> Result<Vec<LaneSign>, AllocError> {
         lanes.push(LaneSign::new())?;
     }
     Ok(lanes)
+}
+
+// Each store behind a lock.
+fn locked<S: Drop>(alloc: Global, stores: Vec<S>) -> Result<Vec<Mutex<S>>, AllocError> {
+    let mut locked = Vec::with_capacity(alloc, stores.len())?;
+    for store in stores {
+        locked.push(Mutex::new(store))?;
+    }
+    Ok(locked)
+}
+
+fn new_arrivals(alloc: Global, count: usize) -> Result<Vec<Mutex<Option<TcpStream>>>, AllocError> {
+    let mut arrivals = Vec::with_capacity(alloc, count)?;
+    for _ in 0..count {
+        arrivals.push(Mutex::new(None))?;
+    }
+    Ok(arrivals)
 }
 
 fn new_ports(alloc: Global, numbers: &ServerNumbers) -> Result<RestingPorts, ServeFault> {
@@ -99,6 +123,7 @@ where
         users,
         limits,
         store,
+        own_stores,
         handler,
         stop,
     } = service;
@@ -106,6 +131,8 @@ where
     let floors = Floors::of(alloc, &limits)?;
     let ports = new_ports(alloc, &numbers)?;
     let registry = Registry::new(alloc, most, usize::from(numbers.max_cons_per_address))?;
+    let own_stores = locked(alloc, own_stores)?;
+    let arrivals = new_arrivals(alloc, most)?;
     let cells = new_cells(alloc, most)?;
     let lanes = new_lanes(alloc, usize::from(numbers.lanes))?;
     let pace = Pace::of(alloc, limits, micros(rt))?;
@@ -114,6 +141,8 @@ where
         numbers,
         users,
         store,
+        own_stores,
+        arrivals,
         handler,
         stop,
         floors,

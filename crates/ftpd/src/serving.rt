@@ -19,6 +19,7 @@ use std::net::{Net, TcpListener, TcpStream};
 use std::sync::Wait;
 use std::thread::Threads;
 use std::time::Clock;
+use virtual_tree::StoreFault;
 use whole_texts::TextWriter;
 
 /// What the words of a command line asked to be served.
@@ -91,6 +92,30 @@ fn fault_of(fault: ServeFault) -> ServerFault {
     }
 }
 
+fn open_folder(machine: &HostRuntime, folder: &str) -> Result<DirStore<HostRuntime>, ServeFault> {
+    match DirStore::new(*machine, folder) {
+        Ok(store) => Ok(store),
+        Err(StoreFault::Memory) => Err(ServeFault::Memory),
+        Err(_) => Err(ServeFault::Store),
+    }
+}
+
+// The folder, as a store for each connection.
+fn open_folders(
+    machine: &HostRuntime,
+    folder: &str,
+    connections: u16,
+) -> Result<Vec<DirStore<HostRuntime>>, ServeFault> {
+    let mut stores = Vec::new(machine.alloc());
+    for _ in 0..connections {
+        let store = open_folder(machine, folder)?;
+        if stores.push(store).is_err() {
+            return Err(ServeFault::Memory);
+        }
+    }
+    Ok(stores)
+}
+
 /// Serves a configuration: its store is in memory, or a folder of the machine.
 fn serve_config<R, W>(
     rt: &R,
@@ -126,21 +151,22 @@ where
                 users,
                 limits,
                 store,
+                own_stores: Vec::new(rt.alloc()),
                 handler,
                 stop,
             };
             serve(rt, service, output)?;
         }
         ServedStore::Folder(folder) => {
-            let Ok(store) = DirStore::new(*machine, folder.as_str()) else {
-                return Err(ServeFault::Store);
-            };
+            let store = open_folder(machine, folder.as_str())?;
+            let own_stores = open_folders(machine, folder.as_str(), numbers.max_cons)?;
             let service = Service {
                 settings,
                 numbers,
                 users,
                 limits,
                 store,
+                own_stores,
                 handler,
                 stop,
             };

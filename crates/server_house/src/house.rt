@@ -14,6 +14,7 @@ use resting_ports::RestingPorts;
 use server_config::ServerNumbers;
 use session_table::Settings;
 use std::alloc::{AllocError, Global};
+use std::net::TcpStream;
 use std::sync::Mutex;
 use transfer_worker::LaneJob;
 use virtual_tree::Store;
@@ -24,7 +25,13 @@ pub struct House<S: Store<Global>, H: Hooks, B: PartsName> {
     pub users: Authorizer,
     pub settings: Settings,
     pub numbers: ServerNumbers,
+    /// The store of all sessions that have none of their own.
     pub store: Mutex<S>,
+    /// A store for each connection, by its number, over what the other one serves too; none if that can be had only once. By its
+    /// own a session waits for no call of another's.
+    pub own_stores: Vec<Mutex<S>>,
+    /// The connection of each client that was admitted, by its number, until its thread takes it.
+    pub arrivals: Vec<Mutex<Option<TcpStream>>>,
     pub floors: Mutex<Floors>,
     /// The owner's callbacks.
     pub handler: Mutex<H>,
@@ -43,6 +50,16 @@ pub struct House<S: Store<Global>, H: Hooks, B: PartsName> {
     /// Rises as a lane wants a round.
     pub bell: EventCount,
     pub ending: Ending,
+}
+
+impl<S: Store<Global>, H: Hooks, B: PartsName> House<S, H, B> {
+    /// The store by which the session of a connection works.
+    pub fn store_of(&self, key: usize) -> &Mutex<S> {
+        match self.own_stores.get(key) {
+            Some(own) => own,
+            None => &self.store,
+        }
+    }
 }
 
 /// The settings of one more session.

@@ -15,7 +15,6 @@ use Rattle.session_table.specs.declared.inputs.Input.TheVariants as input
 use Rattle.session_table.specs.declared.stages.Stage.TheVariants as stage
 use Rattle.session_table.specs.Plans.{Ran}
 use Rattle.session_table.specs.Plans.Plan.{Then}
-use Rattle.session_table.specs.StateRows.{leaves}
 use Rattle.session_table.specs.Table.{SessionStep, aborts, beside, closed_row, ended_row, idle}
 use Rattle.session_table.specs.Views.{View, is_closed, is_inside, runs}
 use Rattle.session_core.specs.Turns.{closed_at, ready_at}

@@ -1,3 +1,4 @@
+pub mod Apart
 pub mod DataRows
 pub mod Plans
 pub mod Tables

@@ -12,11 +12,13 @@
 
 mod asking;
 mod events;
+mod laws;
 mod served;
 mod session;
 mod settled;
 mod turns;
 
 pub use events::DataEvent;
+pub use laws::others_ask_no_floors;
 pub use session::{MOST_HELD, Session};
 pub use session_events::{Leaving, LoggedOut};

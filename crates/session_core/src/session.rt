@@ -2,14 +2,14 @@
 
 ghost use Rattle.std.specs.Prelude.{◌≡◌, ◌<◌, ◌≤◌, ◌+◌, [], ◌∷◌, ◌++◌, cond, IfOk, OnErr, OnOk, vec_len, vec_capacity};
 ghost use Rattle.rate_floors.specs.Promises.{admits};
-ghost use Rattle.session_core.specs.Counted.{counted_by_step};
+ghost use Rattle.session_core.specs.Counted.{asks_floors, counted_by_step};
 ghost use Rattle.session_core.specs.Turns.{IsTaken, closed_at, gives_up, ready_at};
 ghost use Rattle.session_table.specs.declared.actions.Action.TheVariants.{Abort};
 ghost use Rattle.session_table.specs.declared.inputs.Input.TheVariants.{Held, Line};
 
 use crate::events::lacking;
 use crate::served::serve;
-use crate::turns::{Turn, turn_of};
+use crate::turns::{Turn, is_pass, turn_of};
 use authorizer::Authorizer;
 use ftp_wire::LineItem;
 use rate_floors::Floors;
@@ -97,6 +97,21 @@ impl<A: Allocator + Clone> Session<A> {
         ensures due { result ≡ is_due self.now.view self.now.held }
     {
         self.is_open() && !self.state.is_busy() && !self.held.is_empty()
+    }
+
+    /// Whether the step of this input asks the floors whether a session is admitted, and counts it: it serves PASS. No
+    /// other step looks at them, so a host lends them to such a step alone.
+    pub fn asks_floors<K>(&self, input: &Input<A, K>) -> bool
+        ensures asks { result ≡ asks_floors self.now.held input.now }
+    {
+        match input {
+            Input::Line(item) => self.held.is_empty() && is_pass(item),
+            Input::Held => match self.held.first() {
+                Some(item) => is_pass(item),
+                None => false,
+            },
+            _ => false,
+        }
     }
 
     fn nothing<R: Drop, K: Drop>(&self) -> Result<Vec<Action<A, R, K>, A>, AllocError>

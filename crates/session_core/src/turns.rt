@@ -4,6 +4,7 @@ ghost use Rattle.std.specs.Prelude.{◌≡◌};
 ghost use Rattle.std.specs.String.{string_bytes};
 ghost use Rattle.ftp_wire.specs.Commands.{with_texts};
 ghost use Rattle.ftp_wire.specs.Reading.{item_of};
+ghost use Rattle.session_core.specs.Counted.{is_pass};
 ghost use Rattle.session_core.specs.Turns.{asks_store, is_login, is_on_data, keeps_path, turn_of};
 
 use ftp_wire::{Command, LineItem};
@@ -73,6 +74,13 @@ pub(crate) fn is_on_data<A: Allocator>(command: &Command<String<A>>) -> bool
             | Command::Pasv
             | Command::Epsv(_)
     )
+}
+
+/// Whether a line is PASS.
+pub(crate) fn is_pass<A: Allocator>(item: &LineItem<A>) -> bool
+    ensures pass { result ≡ is_pass (item_of item.now) }
+{
+    matches!(item, LineItem::Command(Command::Pass(_)))
 }
 
 /// What becomes of a line while something has begun.

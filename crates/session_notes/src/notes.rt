@@ -4,7 +4,7 @@ use handler_hooks::Hooks;
 use jiff::Timestamp;
 use log::{Log, info};
 use passive_ports::AdmitFault;
-use server_house::ServerHooks;
+use server_house::{NotServed, ServerHooks};
 use std::net::Ipv4Addr;
 use std::time::Clock;
 
@@ -99,11 +99,14 @@ impl<L: Log + Clock + Drop> Hooks for Notes<L> {
     }
 }
 
-fn told(fault: AdmitFault) -> &'static str {
-    match fault {
-        AdmitFault::TooMany => "too many connections",
-        AdmitFault::TooManyOfAddress => "too many connections from this address",
-        AdmitFault::Memory => "out of memory",
+fn told(why: NotServed) -> &'static str {
+    match why {
+        NotServed::NotAdmitted(AdmitFault::TooMany) => "too many connections",
+        NotServed::NotAdmitted(AdmitFault::TooManyOfAddress) => {
+            "too many connections from this address"
+        }
+        NotServed::NotAdmitted(AdmitFault::Memory) => "out of memory",
+        NotServed::NoThread => "no thread could be started",
     }
 }
 
@@ -113,10 +116,10 @@ impl<L: Log + Clock + Drop> ServerHooks for Notes<L> {
         self.session = session;
     }
 
-    fn on_refused(&mut self, peer: [u8; 4], fault: AdmitFault) {
+    fn on_refused(&mut self, peer: [u8; 4], why: NotServed) {
         let time = time(&self.log);
         let peer = Ipv4Addr::from(peer);
-        let why = told(fault);
+        let why = told(why);
         info!(self.log; target: "", "{time} {peer} refused: {why}");
     }
 }

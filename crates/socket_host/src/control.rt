@@ -5,22 +5,29 @@ ghost use Rattle.control_turns.specs.Calls.{reads_within};
 
 use control_session::Piece;
 use line_mender::Mender;
+use server_house::{Ending, Stage};
 use std::io;
 use std::io::{ErrorKind, Read, Write};
 use std::net::{Shutdown, TcpStream};
 use std::time::Duration;
 
 /// How long a read waits where nothing runs, in milliseconds.
-const IDLE: u64 = 50;
+const IDLE: u64 = 200;
 
 /// How long it waits where something runs, in milliseconds.
 const QUICK: u64 = 1;
 
-/// How long a reply may take to be written, in milliseconds.
-const PATIENCE: u64 = 20_000;
+/// How long one write waits for a peer that does not read, in milliseconds.
+const STANDSTILL: u64 = 1_000;
+
+/// How many writes in a row may find that it does not.
+const MOST_WAITS: u32 = 20;
+
+/// How many may once the server ends.
+const LAST_WAITS: u32 = 2;
 
 /// How often is read from a connection that is to be closed, so that the last reply arrives.
-const LAST_READS: usize = 20;
+const LAST_READS: usize = 5;
 
 const LF: u8 = 10;
 
@@ -45,7 +52,7 @@ impl ControlSocket {
     pub fn new(stream: TcpStream) -> ControlSocket {
         let _ = stream.set_nodelay(true);
         let _ = stream.set_read_timeout(Some(Duration::from_millis(IDLE)));
-        let _ = stream.set_write_timeout(Some(Duration::from_millis(PATIENCE)));
+        let _ = stream.set_write_timeout(Some(Duration::from_millis(STANDSTILL)));
         ControlSocket {
             stream,
             mender: Mender::new(),
@@ -110,9 +117,33 @@ impl ControlSocket {
         }
     }
 
-    /// Writes all of a reply.
-    pub fn write(&mut self, octets: &[u8]) -> io::Result<()> {
-        self.stream.write_all(octets)
+    // Writes some octets from the front.
+    fn write_some(&mut self, octets: &[u8], ending: &Ending) -> io::Result<usize>
+        requires some { 0 < length octets.now }
+        ensures part { IfOk result (λ count. (0 < count) × (count ≤ length octets.now)) }
+    {
+        for waits in 1..=MOST_WAITS {
+            match self.stream.write(octets) {
+                Ok(0) => return Err(io::Error::from(ErrorKind::WriteZero)),
+                Ok(count) => return Ok(count),
+                Err(error) => {
+                    let ends = waits >= LAST_WAITS && ending.has_begun(Stage::Sessions);
+                    if ends || !is_pause(error.kind()) {
+                        return Err(error);
+                    }
+                }
+            }
+        }
+        Err(io::Error::from(ErrorKind::TimedOut))
+    }
+
+    /// Writes all of a reply. A peer that reads nothing is waited for, 20 s for each part of it, or 2 s once the server ends.
+    pub fn write(&mut self, octets: &[u8], ending: &Ending) -> io::Result<()> {
+        let mut at = 0;
+        while at < octets.len() {
+            at += self.write_some(&octets[at..], ending)?;
+        }
+        Ok(())
     }
 
     /// Ends the connection so that what was written arrives.

@@ -1,12 +1,13 @@
 //! The host of a control session.
 
-ghost use Rattle.std.specs.Prelude.{◌≡◌, [], true};
+ghost use Rattle.std.specs.Prelude.{◌≡◌, IfErr, IfOk, IfSome, OnErr, [], true};
 ghost use Rattle.std.specs.declared.alloc.Global.{Global};
 ghost use Rattle.control_turns.specs.Rows.{IsRow};
 ghost use Rattle.control_turns.specs.Turns.{Stepped};
+ghost use Rattle.data_side.specs.Sides.{event_in, given_of};
 ghost use Rattle.data_side.specs.Sides.Given.{Came};
 ghost use Rattle.session_table.specs.Views.{is_closed};
-ghost use Rattle.socket_host.specs.Unsaid.{AnyCall};
+ghost use Rattle.socket_host.specs.Unsaid.{AnyCall, WasTried};
 
 use crate::control::ControlSocket;
 use crate::moments::millis_since_1970;
@@ -16,6 +17,8 @@ use ftp_wire::HostPort;
 use handler_hooks::{Hooks, tell};
 use lent_parts::PartsName;
 use lent_step::{close_by, end_by, step_by};
+use line_rates::Limits;
+use rate_floors::Floors;
 use server_house::{House, ServerHooks, Stage, copy_settings};
 use session_table::{Action, HookCall, Input, Job, Settings, Text};
 use socket_side::SocketSide;
@@ -29,6 +32,20 @@ use virtual_tree::Store;
 /// What a client is told whose session the server ends.
 const ENDING: &[u8] = b"421 Server is ending\r\n";
 
+// Floors without a row; they take no memory.
+fn floors_of_nobody(alloc: Global) -> Option<Floors> {
+    let limits = Limits::of(0, 0, 0, Vec::new(alloc), Vec::new(alloc)).ok()?;
+    Floors::of(alloc, &limits).ok()
+}
+
+// Whether the step of an input looks at the floors.
+fn asks_floors<K>(session: &Session<Global>, input: &Option<Input<Global, K>>) -> bool {
+    match input {
+        Some(input) => session.asks_floors(input),
+        None => false,
+    }
+}
+
 /// The host of the session of one control connection.
 #[derive(Drop)]
 pub struct SocketHost<'h, R, S: Store<Global>, H: Hooks, B: PartsName> {
@@ -41,6 +58,8 @@ pub struct SocketHost<'h, R, S: Store<Global>, H: Hooks, B: PartsName> {
     key: usize,
     // the number of the user who is logged in, by which rounds know them
     user: u32,
+    // what steps are lent that look at no floors
+    no_floors: Floors,
 }
 
 impl<'h, R, S, H, B> SocketHost<'h, R, S, H, B>
@@ -50,7 +69,7 @@ where
     H: ServerHooks,
     B: PartsName,
 {
-    /// The host of a connection with this data side, of this peer and with this key in the registry.
+    /// The host of a connection with this data side, of this peer and with this key in the registry; None for lack of memory.
     pub fn new(
         rt: &'h R,
         house: &'h House<S, H, B>,
@@ -58,8 +77,9 @@ where
         side: SocketSide<'h, R, S, H, B>,
         peer: [u8; 4],
         key: usize,
-    ) -> Self {
-        SocketHost {
+    ) -> Option<Self> {
+        let no_floors = floors_of_nobody(rt.alloc())?;
+        Some(SocketHost {
             rt,
             house,
             socket,
@@ -67,12 +87,59 @@ where
             peer,
             key,
             user: 0,
-        }
+            no_floors,
+        })
     }
 
     /// The settings of the session.
     pub(crate) fn copy_settings(&self) -> Result<Settings, AllocError> {
         copy_settings(self.rt.alloc(), &self.house.settings)
+    }
+
+    // A step that may count the session: it is lent the floors that all sessions share.
+    fn step_counted(
+        &mut self,
+        users: &Authorizer,
+        session: &mut Session<Global>,
+        input: &mut Option<Input<Global, S::Sink>>,
+    ) -> Result<Vec<Action<Global, S::Source, S::Sink>>, Option<DataEvent<S::Sink>>>
+        ensures row { IfSome input.old (λ input. IfOk result (λ actions.
+            Stepped (IsRow S.Step users.now.users) AnyCall
+            self.old session.old (given_of input) session.new actions.items self.new)) }
+        ensures unchanged { OnErr result (session.new ≡ session.old) }
+        ensures tried { IfSome input.old (λ input. OnErr result (WasTried S)) }
+        ensures back { IfSome input.old (λ input. IfErr result (λ back. back ≡ event_in input)) }
+    {
+        let moment = millis_since_1970(self.rt);
+        let mut floors = self.house.floors.lock(self.rt);
+        let mut store = self.house.store_of(self.key).lock(self.rt);
+        step_by(session, users, &mut *floors, &mut *store, input, moment)
+    }
+
+    // A step that looks at no floors (`others_ask_no_floors` of `session_core`): nobody waits for them meanwhile.
+    fn step_uncounted(
+        &mut self,
+        users: &Authorizer,
+        session: &mut Session<Global>,
+        input: &mut Option<Input<Global, S::Sink>>,
+    ) -> Result<Vec<Action<Global, S::Source, S::Sink>>, Option<DataEvent<S::Sink>>>
+        ensures row { IfSome input.old (λ input. IfOk result (λ actions.
+            Stepped (IsRow S.Step users.now.users) AnyCall
+            self.old session.old (given_of input) session.new actions.items self.new)) }
+        ensures unchanged { OnErr result (session.new ≡ session.old) }
+        ensures tried { IfSome input.old (λ input. OnErr result (WasTried S)) }
+        ensures back { IfSome input.old (λ input. IfErr result (λ back. back ≡ event_in input)) }
+    {
+        let moment = millis_since_1970(self.rt);
+        let mut store = self.house.store_of(self.key).lock(self.rt);
+        step_by(
+            session,
+            users,
+            &mut self.no_floors,
+            &mut *store,
+            input,
+            moment,
+        )
     }
 
     // What came of the data side behind the end of the control connection.
@@ -88,9 +155,15 @@ where
         ensures closed { is_closed session.new.view.stage ≡ true }
     {
         let moment = millis_since_1970(self.rt);
-        let mut floors = self.house.floors.lock(self.rt);
-        let mut store = self.house.store.lock(self.rt);
-        end_by(session, users, &mut *floors, &mut *store, event, moment);
+        let mut store = self.house.store_of(self.key).lock(self.rt);
+        end_by(
+            session,
+            users,
+            &mut self.no_floors,
+            &mut *store,
+            event,
+            moment,
+        );
     }
 
     /// Ends the control connection so that the last reply arrives.
@@ -122,10 +195,11 @@ where
         session: &mut Session<Global>,
         input: &mut Option<Input<Global, S::Sink>>,
     ) -> Result<Vec<Action<Global, S::Source, S::Sink>>, Option<DataEvent<S::Sink>>> {
-        let moment = millis_since_1970(self.rt);
-        let mut floors = self.house.floors.lock(self.rt);
-        let mut store = self.house.store.lock(self.rt);
-        step_by(session, users, &mut *floors, &mut *store, input, moment)
+        if asks_floors(session, input) {
+            self.step_counted(users, session, input)
+        } else {
+            self.step_uncounted(users, session, input)
+        }
     }
 
     fn close(
@@ -135,10 +209,10 @@ where
         nobody: &mut Option<Text<Global>>,
     ) -> Option<Leaving<Global>> {
         let moment = millis_since_1970(self.rt);
-        let mut floors = self.house.floors.lock(self.rt);
-        let mut store = self.house.store.lock(self.rt);
+        let mut store = self.house.store_of(self.key).lock(self.rt);
+        let floors = &mut self.no_floors;
         match nobody.take() {
-            Some(nobody) => close_by(session, users, &mut *floors, &mut *store, nobody, moment),
+            Some(nobody) => close_by(session, users, floors, &mut *store, nobody, moment),
             None => unreachable!(),
         }
     }
@@ -173,12 +247,12 @@ where
     }
 
     fn write(&mut self, reply: &[u8]) -> io::Result<()> {
-        self.socket.write(reply)
+        self.socket.write(reply, &self.house.ending)
     }
 
     fn read(&mut self, buffer: &mut [u8]) -> io::Result<Piece> {
         if self.house.ending.has_begun(Stage::Sessions) {
-            let _ = self.socket.write(ENDING);
+            let _ = self.socket.write(ENDING, &self.house.ending);
             return Ok(Piece::AtEnd);
         }
         if self.side.rest() {

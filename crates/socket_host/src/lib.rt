@@ -2,7 +2,7 @@
 //!
 //! A [`SocketHost`] is what `control_session` runs a session over: it lends the store and the floors of the house for each step,
 //! behind their locks, reads and writes the control connection, and has the data side of the session. [`serve_session`] runs a
-//! whole session of a client, from its greeting to its end. A read waits 50 ms at most, or until a transfer that runs has
+//! whole session of a client, from its greeting to its end. A read waits 200 ms at most, or until a transfer that runs has
 //! ended.
 #![tactic(auto)]
 

@@ -15,7 +15,7 @@ use std::sync::Wait;
 use std::time::Clock;
 use virtual_tree::Store;
 
-/// The most reads of one session: at 50 ms each, more than six years.
+/// The most reads of one session: at 200 ms each, more than twenty-five years.
 const MOST_READS: u32 = u32::MAX;
 
 /// How much is read at once of what comes behind the end.
@@ -80,9 +80,13 @@ where
         Err(_) => 0,
     };
     let side = SocketSide::new(rt, house, peer, key, session);
-    let mut host = SocketHost::new(rt, house, ControlSocket::new(stream), side, peer, key);
-    run_hosted(&rt.alloc(), &mut host, house, peer);
-    house.registry.lock(rt).leave(key);
-    let mut buffer = [0; LAST_PIECE];
-    host.hang_up(&mut buffer);
+    let host = SocketHost::new(rt, house, ControlSocket::new(stream), side, peer, key);
+    if let Some(mut host) = host {
+        run_hosted(&rt.alloc(), &mut host, house, peer);
+        house.registry.lock(rt).leave(key);
+        let mut buffer = [0; LAST_PIECE];
+        host.hang_up(&mut buffer);
+    } else {
+        house.registry.lock(rt).leave(key);
+    }
 }

@@ -1,15 +1,14 @@
-use Rattle.std.proofs.Common.{IfOk, refl, sym, subst}
+use Rattle.std.proofs.Common.{IfOk, sym, subst}
 use Rattle.session_core.proofs.DataRows.{err_through, ok_through}
 use Rattle.std.proofs.lemmas.Result.{IfOk-weaker}
-use Rattle.ftp_wire.specs.Reading.{items_of}
 use Rattle.rate_floors.specs.Promises.{admits}
 use Rattle.session_core.specs.Turns.{closed_at, ready_at}
-use Rattle.session_laws.specs.Steps.{SessionStops, Standing}
+use Rattle.session_laws.specs.Steps.{SessionStops}
 use Rattle.session_table.specs.declared.inputs.Input.{Input}
 use Rattle.session_table.specs.declared.inputs.Input.TheVariants as input
-use Rattle.session_table.specs.Table.{SessionStep, beside, ended_row}
+use Rattle.session_table.specs.Table.{SessionStep, beside}
 use Rattle.session_core.proofs.Plans.{on_err, on_err_from, ran_then, step_by, step_stops_here}
-use Rattle.session_core.proofs.Tables.{at_closed, at_end, at_ready}
+use Rattle.session_core.proofs.Tables.{at_closed, at_ready}
 use Rattle.session_core.proofs.session.Session.step.Goals as goal
 
 pub returns-in-TransferEnded-clause-row : goal.returns-in-TransferEnded-clause-row

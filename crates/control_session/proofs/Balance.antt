@@ -10,6 +10,8 @@ use Rattle.session_table.specs.declared.actions.Action.{Action}
 use Rattle.session_table.specs.declared.actions.Action.TheVariants.{Say, Hook, OpenPassive, ConnectTo, DropData, Start, Abort, CloseControl, ReleaseFloor}
 use Rattle.control_turns.specs.Calls.{Chain, HostCall}
 use Rattle.control_turns.specs.Calls.HostCall.{Asked, Lent, Released}
+use Rattle.control_turns.specs.Rows.{Outcome}
+use Rattle.control_turns.specs.Rows.Outcome.{Made}
 use Rattle.control_turns.specs.Turns.{Carried, Carries, IsTurn, Move, Runs, Situation, Went, concat, release_calls}
 use Rattle.control_turns.specs.Turns.Move.{Takes, Tries, Asks, Reads, Ends, Fails, Pays}
 use Rattle.control_turns.specs.declared.fault.TurnFault.{TurnFault}
@@ -82,9 +84,9 @@ module _ {H A S R K : Type 0} (Does : H → HostCall A S R K → H → Type 0) (
   paid_keeps base (user ∷ paid) rest old new is (mid, did, more) = paid_keeps base paid rest mid new
       (own old mid (Released user) did ∙ (ap (λ (p : Promises). after_release p user) is ∙ released_back user (counts (paid ++ rest) base))) more
 
-  module _ (Row : Standing → Given K → ℕ → S → S → Promises → Promises → Standing → List (Action A R K) → Type 0)
+  module _ (Row : Standing → Given K → ℕ → S → S → Promises → Outcome A R K → Type 0)
       (balance : (before after : Standing) (given : Given K) (moment : ℕ) (store store' : S) (p p' : Promises) (actions : List (Action A R K))
-      → Row before given moment store store' p p' after actions → Balanced (logged_in before.view) p p' (releases actions) (logged_in after.view)) where
+      → Row before given moment store store' p (Made p' after actions) → Balanced (logged_in before.view) p p' (releases actions) (logged_in after.view)) where
     -- the floors are those of the start, and those of the users who are logged in or owed
     abbrev pub Has : Promises → H → Situation K → Type 0
     Has base host now = floors host ≡ counts (logged_in now.session.view ++ now.owed) base
@@ -106,17 +108,17 @@ module _ {H A S R K : Type 0} (Does : H → HostCall A S R K → H → Type 0) (
 
     move_has : (base : Promises) (old new : H) (before after : Situation K) (calls : List (HostCall A S R K)) → Move Row before calls after → Chain Does old calls new → Has base old before → Has base new after
     move_has base old new before after calls (Takes turn) chain has = turn_has base old new before after calls turn chain has
-    move_has base old new before after calls (Tries moment store store' same is) chain has =
+    move_has base old new before after calls (Tries given moment store store' promises came taken next stopped same is) chain has =
         same_has base old new before after (ap (λ (x : Situation K). x.session) same) (ap (λ (x : Situation K). x.owed) same) (one old new calls _ is chain) has
     move_has base old new before after calls (Asks event empty same (inl is)) chain has =
         same_has base old new before after (ap (λ (x : Situation K). x.session) same) (ap (λ (x : Situation K). x.owed) same) (one old new calls _ is chain) has
-    move_has base old new before after calls (Asks event empty same (inr is)) chain has =
+    move_has base old new before after calls (Asks event empty same (inr (gone, is))) chain has =
         same_has base old new before after (ap (λ (x : Situation K). x.session) same) (ap (λ (x : Situation K). x.owed) same) (one old new calls _ is chain) has
-    move_has base old new before after calls (Reads octets items live unended same is) chain has =
+    move_has base old new before after calls (Reads octets items idle live unended same is) chain has =
         same_has base old new before after (ap (λ (x : Situation K). x.session) same) (ap (λ (x : Situation K). x.owed) same) (one old new calls _ is chain) has
-    move_has base old new before after calls (Ends live unended same is) chain has =
+    move_has base old new before after calls (Ends idle live unended same is) chain has =
         same_has base old new before after (ap (λ (x : Situation K). x.session) same) (ap (λ (x : Situation K). x.owed) same) (one old new calls _ is chain) has
-    move_has base old new before after calls (Fails live unended same is) chain has =
+    move_has base old new before after calls (Fails idle live unended same is) chain has =
         same_has base old new before after (ap (λ (x : Situation K). x.session) same) (ap (λ (x : Situation K). x.owed) same) (one old new calls _ is chain) has
     move_has base old new before after calls (Pays user owed owes same is) chain has =
         one old new calls (Released user) is chain

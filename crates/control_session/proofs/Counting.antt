@@ -30,7 +30,7 @@ use Rattle.session_table.specs.declared.inputs.Input.{Input}
 use Rattle.session_table.specs.declared.stages.Stage.{Stage}
 use Rattle.session_table.specs.declared.stages.Stage.TheVariants as stage
 use Rattle.virtual_tree.specs.Calls.{Exchange}
-use Rattle.control_turns.specs.Rows.{IsRow}
+use Rattle.control_turns.specs.Rows.{IsMade}
 
 -- ---- one more session of a user, and one less
 
@@ -252,7 +252,7 @@ module _ {S A R K : Type 0} (Step : S → Exchange R K → S → Type 0) (users 
       _ old new after.view actions (law users admits' before.view before.held moment told) ran
 
   pub row_balances : (before after : Standing) (given : Given K) (moment : ℕ) (store store' : S) (p p' : Promises) (actions : List (Action A R K))
-      → IsRow Step users before given moment store store' p p' after actions → Balanced (logged_in before.view) p p' (releases actions) (logged_in after.view)
+      → IsMade Step users before given moment store store' p p' after actions → Balanced (logged_in before.view) p p' (releases actions) (logged_in after.view)
   row_balances before after given moment store store' p p' actions row =
       balanced (admitted_in users (admits p) before.view before.held row.told) _ _ _ p p'
       (step_releases (floors_are_released_once A R K) (admits p) before after moment row.told store store' actions row.stepped)

@@ -1,7 +1,10 @@
 -- What was heard, with what was heard more, and why a session breaks off.
-use Rattle.std.proofs.Common.{ℕ, ◌≡◌, ◌+◌, List, ◌++◌, Option, Result, Ok, Err, ap, sym, subst}
+use Rattle.std.proofs.Common.{ℕ, ◌≡◌, ◌+◌, List, [], ◌++◌, false, Option, Result, Ok, Err, ap, sym, subst}
 use Rattle.std.specs.Prelude.{IfErr, IsErrAnd, IsErrOf, OnErr}
+use Rattle.std.proofs.lemmas.List.{append-nil}
 use Rattle.ftp_wire.specs.Items.{Item}
+use Rattle.ftp_wire.specs.Reading.{HasRead}
+use Rattle.ftp_wire.specs.declared.reader.LineReader.{LineReader}
 use Rattle.control_turns.specs.Standing.{IsLost}
 use Rattle.control_turns.specs.Turns.{Heard}
 use Rattle.control_turns.specs.declared.fault.TurnFault.{TurnFault}
@@ -11,7 +14,10 @@ use Rattle.control_session.specs.declared.fault.ControlFault.{ControlFault}
 use Rattle.control_session.specs.declared.fault.ControlFault.TheVariants.{ReadFault, WriteFault, Memory}
 
 abbrev pub more : Heard → List ℕ → List Item → Heard
-more heard octets items = record { octets = heard.octets ++ octets; items = heard.items ++ items; reads = heard.reads + 1; ended = heard.ended; failed = heard.failed }
+more heard octets items = record { octets = heard.octets ++ octets; items = heard.items ++ items; reads = heard.reads + 1; ended = heard.ended; failed = heard.failed; asked = false }
+
+pub nothing_more : {A : Type 0} (heard : Heard) (lines : LineReader A) → HasRead heard.octets heard.items lines → HasRead heard.octets (heard.items ++ []) lines
+nothing_more heard lines has = subst (λ (x : List Item). HasRead heard.octets x lines) (sym (append-nil heard.items)) has
 
 module _ {T : Type 0} where
   -- where memory runs out, no read has failed

@@ -10,6 +10,7 @@ use Rattle.session_table.specs.Views.{fresh, is_closed}
 use Rattle.session_table.specs.declared.actions.Action.{Action}
 use Rattle.session_table.specs.declared.settings.Settings.{Settings}
 use Rattle.control_turns.specs.Calls.{Chain, HostCall}
+use Rattle.control_turns.specs.Rows.{Outcome}
 use Rattle.control_turns.specs.Standing.{AllTaken, Closing}
 use Rattle.control_turns.specs.Turns.{Carries, Heard, Situation, Went, at}
 use Rattle.control_turns.specs.declared.fault.TurnFault.{TurnFault}
@@ -23,7 +24,7 @@ new_session settings peer = record { view = fresh settings peer; held = [] }
 
 -- nothing was heard yet
 abbrev pub nothing : Heard
-nothing = record { octets = []; items = []; reads = 0; ended = false; failed = false }
+nothing = record { octets = []; items = []; reads = 0; ended = false; failed = false; asked = false }
 
 -- why a turn breaks off, as why a session does
 abbrev pub fault_of : TurnFault → ControlFault
@@ -37,7 +38,7 @@ IsLostTo lost ReadFault = Unit {0}
 IsLostTo lost Memory = Unit {0}
 
 -- Row says which rows there are, Does what each call makes of the host; the session may make so many reads.
-module _ {H A S R K T : Type 0} (Row : Standing → Given K → ℕ → S → S → Promises → Promises → Standing → List (Action A R K) → Type 0) (Does : H → HostCall A S R K → H → Type 0)
+module _ {H A S R K T : Type 0} (Row : Standing → Given K → ℕ → S → S → Promises → Outcome A R K → Type 0) (Does : H → HostCall A S R K → H → Type 0)
     (turns : ℕ) (result : Result T ControlFault) (session : Standing) (host host' : H) where
   -- The greeting is said; then there are moves, each with what was asked of the host for it, in this order, up to where the
   -- session stood when it was over; then its end.
@@ -63,6 +64,7 @@ module _ {H A S R K T : Type 0} (Row : Standing → Given K → ℕ → S → S 
     pub cut : OnErr result ((fed unfed : List ℕ) × (last.heard.octets ≡ fed ++ unfed) × OnlyReadsAs fed last.heard.items)
     -- all of them were taken, up to one that closed the control connection or to the end
     pub all : OnOk result ((last.closed ≡ true) ⊎ ((last.heard.ended ≡ true) × AllTaken last.taken last.heard))
+    -- each reply was said, and memory ran out for no step
     pub whole : OnOk result (last.lost ≡ None)
     pub reads : last.heard.reads ≤ turns
     pub read_fault : IsErrOf result ReadFault → (last.heard.failed ≡ true) ⊎ (last.heard.reads ≡ turns)

@@ -14,7 +14,8 @@ use control_turns::{Host, Piece, Talk, catch_up, take_lines};
 use ftp_wire::LineReader;
 use std::alloc::Allocator;
 
-/// One read, and the lines that it completes. It answers whether the end was read.
+/// One read. Then what came of the data side is taken, with what is due, and then the lines that were completed. It answers whether
+/// the end was read.
 fn hear<A: Allocator + Clone, H: Host<A>>(
     alloc: &A,
     host: &mut H,
@@ -29,15 +30,16 @@ fn hear<A: Allocator + Clone, H: Host<A>>(
     requires live { talk.old.closed ≡ false }
     requires due { due talk.old.session ≡ false }
     ensures went { (taken : List Item) (heard : Heard) → AllTaken taken heard
-        → HasRead heard.octets heard.items lines.old → heard.ended ≡ false
-        → (last : List Item) × (heard' : Heard)
+        → HasRead heard.octets heard.items lines.old
+        → heard.ended ≡ false → heard.asked ≡ true → (last : List Item) × (heard' : Heard)
         × Went (IsRow {A = A} {R = H.Source} H.Step users.now.users) H.Does
         host.old (stand talk.old taken heard) host.new (stand talk.new last heard')
         × (heard'.reads ≡ heard.reads + 1)
         × (IsErrOf result ControlFault.ReadFault → heard'.failed ≡ true)
         × IfOk result (λ ended. (heard'.ended ≡ ended)
         × HasRead heard'.octets heard'.items lines.new
-        × ((talk.new.closed ≡ true) ⊎ AllTaken last heard'))
+        × ((talk.new.closed ≡ true) ⊎ AllTaken last heard')
+        × ((ended ≡ true) ⊎ (heard'.asked ≡ true)))
         × OnErr result ((fed unfed : List ℕ) × (heard'.octets ≡ fed ++ unfed)
         × HasRead fed heard'.items lines.new) }
     ensures none { OnOk result (talk.new.came ≡ None) }
@@ -56,7 +58,10 @@ fn hear<A: Allocator + Clone, H: Host<A>>(
             take_lines(alloc, host, users, talk, items)?;
             Ok(false)
         }
-        Piece::Nothing => Ok(false),
+        Piece::Nothing => {
+            catch_up(alloc, host, users, talk)?;
+            Ok(false)
+        }
         Piece::AtEnd => Ok(true),
     }
 }
@@ -100,7 +105,6 @@ pub(crate) fn converse<A: Allocator + Clone, H: Host<A>>(
         if talk.closed {
             return Ok(());
         }
-        catch_up(alloc, host, users, talk)?;
     }
     Err(ControlFault::ReadFault)
 }

@@ -13,6 +13,7 @@ use Rattle.control_turns.specs.declared.fault.TurnFault.{TurnFault}
 use Rattle.control_turns.specs.declared.host.Piece.{Piece}
 use Rattle.control_turns.specs.Calls.{Chain, HostCall, piece_call}
 use Rattle.control_turns.specs.Calls.HostCall.{Released}
+use Rattle.control_turns.specs.Rows.{Outcome}
 use Rattle.control_turns.specs.Turns.{Carried, Carries, Move, Runs, Situation, Went, concat, release_calls}
 
 module _ {H A S R K : Type 0} (Does : H → HostCall A S R K → H → Type 0) where
@@ -31,7 +32,7 @@ pub releases_more : {A S R K : Type 0} (xs ys : List ℕ) → release_calls {A =
 releases_more [] ys = refl
 releases_more {A = A} {S = S} {R = R} {K = K} (x ∷ xs) ys = ap (λ (es : List (HostCall A S R K)). Released x ∷ es) (releases_more xs ys)
 
-module _ {A S R K : Type 0} (Row : Standing → Given K → ℕ → S → S → Promises → Promises → Standing → List (Action A R K) → Type 0) where
+module _ {A S R K : Type 0} (Row : Standing → Given K → ℕ → S → S → Promises → Outcome A R K → Type 0) where
   pub runs_more : (before mid after : Situation K) (xs ys : List (List (HostCall A S R K))) → Runs Row xs before mid → Runs Row ys mid after → Runs Row (xs ++ ys) before after
   runs_more before mid after [] ys same rest = subst (λ (x : Situation K). Runs Row ys x after) same rest
   runs_more before mid after (x ∷ xs) ys (next, move, more) rest = (next, move, runs_more next mid after xs ys more rest)
@@ -112,6 +113,10 @@ pick b P (inr holds) other = holds
 pub over_by : (b : Bool) (P Q : Type 0) → (b ≡ true) ⊎ P → Q → (b ≡ true) ⊎ (Q × P)
 over_by b P Q (inl is) ended = inl is
 over_by b P Q (inr all) ended = inr (ended, all)
+
+pub both_ok : {T E : Type 0} (answer : Result T E) (P Q : Type 0) → P → OnOk answer Q → OnOk answer (P × Q)
+both_ok (Ok value) P Q first second = (first, second)
+both_ok (Err fault) P Q first second = tt
 
 pub any_ok : {T E : Type 0} (answer : Result T E) (P : Type 0) → P → OnOk answer P
 any_ok (Ok value) P holds = holds

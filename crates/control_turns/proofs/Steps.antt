@@ -15,7 +15,7 @@ use Rattle.session_table.specs.Table.{SessionStep, Taken, after_closed, beside, 
 use Rattle.session_table.specs.Views.{View, is_busy, is_closed}
 use Rattle.data_side.specs.Sides.{Given, given_of}
 use Rattle.rate_floors.specs.Promises.{Promises, admits}
-use Rattle.control_turns.specs.Rows.{IsRow}
+use Rattle.control_turns.specs.Rows.{IsMade}
 use Rattle.control_turns.specs.Turns.{HoldsFewer}
 
 and_true : (a b : Bool) → (a && b) ≡ true → (a ≡ true) × (b ≡ true)
@@ -81,6 +81,6 @@ step_holds Step users admits before after moment input.Closed old new actions (r
 
 -- the same of a row
 pub row_holds : {A S R K : Type 0} (Step : S → Exchange R K → S → Type 0) (users : Users) (before after : Standing) (given : Given K) (moment : ℕ) (store store' : S) (promises promises' : Promises) (actions : List (Action A R K))
-    → IsRow Step users before given moment store store' promises promises' after actions → HoldsFewer given before after
+    → IsMade Step users before given moment store store' promises promises' after actions → HoldsFewer given before after
 row_holds Step users before after given moment store store' promises promises' actions row =
     subst (λ (g : Given _). HoldsFewer g before after) row.told_is (step_holds Step users (admits promises) before after moment row.told store store' actions row.stepped)

@@ -10,8 +10,8 @@ use Rattle.control_turns.specs.declared.host.Piece.TheVariants.{Octets, Nothing,
 pub data HostCall (A S R K : Type 0) : Type 0 where
   -- at a moment, the store and the floors were lent for a step, and came back so
   Lent : ℕ → S → S → Promises → Promises → HostCall A S R K
-  -- at a moment, they were lent for a step for which memory ran out; the store came back so
-  Tried : ℕ → S → S → HostCall A S R K
+  -- at a moment, they were lent for a step for which memory ran out; the store came back so, and the floors as they were
+  Tried : ℕ → S → S → Promises → HostCall A S R K
   Released : ℕ → HostCall A S R K
   Noted : Event → HostCall A S R K
   Wrote : List ℕ → HostCall A S R K

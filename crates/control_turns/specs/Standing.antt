@@ -12,9 +12,9 @@ use Rattle.session_table.specs.declared.actions.Action.{Action}
 use Rattle.session_table.specs.Views.{is_closed}
 use Rattle.control_turns.specs.Calls.{HostCall}
 use Rattle.control_turns.specs.Calls.HostCall.{Asked}
-use Rattle.control_turns.specs.Turns.{Heard, Situation, Went, at}
+use Rattle.control_turns.specs.Rows.{Outcome}
+use Rattle.control_turns.specs.Turns.{Heard, Situation, Went, asked_as, at}
 use Rattle.control_turns.specs.declared.fault.TurnFault.{TurnFault}
-use Rattle.control_turns.specs.declared.fault.TurnFault.TheVariants.{Write, Memory}
 use Rattle.control_turns.specs.declared.talk.Talk.{Talk}
 
 -- no floor is owed
@@ -25,10 +25,9 @@ stand talk taken heard = at talk.session talk.came taken heard [] talk.closed ta
 abbrev pub AllTaken : List Item → Heard → Type 0
 AllTaken taken heard = heard.items ≡ taken
 
--- a reply could not be written only where one was refused; memory runs out in a step too
+-- why a turn breaks off is known from then on
 abbrev pub IsLost : Option TurnFault → TurnFault → Type 0
-IsLost lost Write = lost ≡ Some Write
-IsLost lost Memory = Unit {0}
+IsLost lost fault = lost ≡ Some fault
 
 -- whose floor is still to be released
 abbrev pub owed : Option ℕ → List ℕ
@@ -45,7 +44,7 @@ owed_in (Some leaving) = owed_by leaving.left
 
 -- The end of a control session: the session is closed, then the data side is asked for the end of what still runs, and that is
 -- taken.
-pub record Closing {H A S R K : Type 0} (Row : Standing → Given K → ℕ → S → S → Promises → Promises → Standing → List (Action A R K) → Type 0) (Does : H → HostCall A S R K → H → Type 0)
+pub record Closing {H A S R K : Type 0} (Row : Standing → Given K → ℕ → S → S → Promises → Outcome A R K → Type 0) (Does : H → HostCall A S R K → H → Type 0)
     (host : H) (before : Situation K) (host' : H) (after : Situation K) : Type 0 where
   pub mid : H
   pub mid' : H
@@ -55,4 +54,4 @@ pub record Closing {H A S R K : Type 0} (Row : Standing → Given K → ℕ → 
   pub first : Went Row Does host before mid (at session None before.taken before.heard owes before.closed before.lost)
   pub closed_then : is_closed session.view.stage ≡ true
   pub settled : Does mid (Asked (Settles event)) mid'
-  pub rest : Went Row Does mid' (at session event before.taken before.heard owes before.closed before.lost) host' after
+  pub rest : Went Row Does mid' (at session event before.taken (asked_as true before.heard) owes before.closed before.lost) host' after

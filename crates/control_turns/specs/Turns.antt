@@ -12,25 +12,40 @@ use Rattle.session_core.specs.declared.events.DataEvent.{DataEvent}
 use Rattle.session_laws.specs.Laws.{releases}
 use Rattle.session_laws.specs.Steps.{Standing, is_due}
 use Rattle.session_table.specs.Answers.{answer_form}
+use Rattle.session_table.specs.Views.{is_closed}
 use Rattle.session_table.specs.declared.actions.Action.{Action}
 use Rattle.session_table.specs.declared.actions.Action.TheVariants.{Say, Hook, OpenPassive, ConnectTo, DropData, Start, Abort, CloseControl, ReleaseFloor}
 use Rattle.control_turns.specs.Calls.{HostCall, Chain}
+use Rattle.control_turns.specs.Rows.{Outcome}
+use Rattle.control_turns.specs.Rows.Outcome.{Made, Stopped}
 use Rattle.control_turns.specs.Calls.HostCall.{Lent, Tried, Released, Noted, Wrote, Broke, Read, ReadEnd, ReadFailed, Asked}
 use Rattle.control_turns.specs.declared.fault.TurnFault.{TurnFault}
 use Rattle.control_turns.specs.declared.fault.TurnFault.TheVariants.{Write, Memory}
 
--- What was heard of the client so far: the octets, the lines that were found in them, how many reads there were, whether the
--- end came, and whether a read failed.
+-- What was heard so far. Of the client: the octets, the lines that were found in them, how many reads there were, whether the
+-- end came, and whether a read failed. Of the data side: whether it was asked since the last line that was taken, and the last read.
 pub record Heard : Type 0 where
   pub octets : List ℕ
   pub items : List Item
   pub reads : ℕ
   pub ended : Bool
   pub failed : Bool
+  pub asked : Bool
+
+-- the same, but for that
+abbrev pub asked_as : Bool → Heard → Heard
+asked_as asked heard = record heard { asked = asked }
+
+-- a line may ask something of the data side, which is then to be asked what comes of it
+abbrev pub behind : {K : Type 0} → Given K → Heard → Heard
+behind (Line item) heard = asked_as false heard
+behind Held heard = asked_as false heard
+behind (Came event) heard = heard
+behind Closed heard = heard
 
 -- Where a control session is: what the session knows; what came of the data side and was not taken; the lines that were taken so
 -- far; what was heard; the users whose floors are still to be released; whether the control connection is to be closed; and why
--- a reply could not be said, if one could not.
+-- a reply could not be said or a step not be made, if one could not.
 pub record Situation (K : Type 0) : Type 0 where
   pub session : Standing
   pub came : Option (DataEvent K)
@@ -48,12 +63,17 @@ at session came taken heard owed closed lost =
 abbrev pub due : Standing → Bool
 due session = is_due session.view session.held
 
+-- nothing is left to be done: the data side was asked, what came of it was taken, and no held line is due
+abbrev pub IsIdle : {K : Type 0} → Situation K → Type 0
+IsIdle now = (now.came ≡ None) × (now.heard.asked ≡ true) × (due now.session ≡ false)
+
 -- What may come next, what then is left of what came, and the lines that are taken then: what came of the data side; a held line
--- that is due, where nothing came; the next line of those that were heard, where no held line is due; Closed at any time.
+-- that is due, where the data side was asked and nothing came; the next line of those that were heard, where nothing is left to be
+-- done; Closed at any time.
 abbrev pub Next : {K : Type 0} → Situation K → Given K → Option (DataEvent K) → List Item → Type 0
 Next now (Came event) came taken = (now.came ≡ Some event) × (came ≡ None) × (taken ≡ now.taken)
-Next now Held came taken = (now.came ≡ None) × (due now.session ≡ true) × (came ≡ None) × (taken ≡ now.taken)
-Next now (Line item) came taken = (now.came ≡ None) × (due now.session ≡ false) × (now.closed ≡ false)
+Next now Held came taken = (now.came ≡ None) × (now.heard.asked ≡ true) × (due now.session ≡ true) × (came ≡ None) × (taken ≡ now.taken)
+Next now (Line item) came taken = IsIdle now × (now.closed ≡ false)
     × ((rest : List Item) × (now.heard.items ≡ now.taken ++ item ∷ rest)) × (came ≡ None) × (taken ≡ now.taken ++ item ∷ [])
 Next now Closed came taken = (came ≡ now.came) × (taken ≡ now.taken)
 
@@ -86,12 +106,17 @@ module _ {A S R K : Type 0} where
   abbrev pub release_calls : List ℕ → List (HostCall A S R K)
   release_calls = map Released
 
--- Row says which rows there are: session, input, moment, the store and the floors before and after, the session then, its actions.
-module _ {A S R K : Type 0} (Row : Standing → Given K → ℕ → S → S → Promises → Promises → Standing → List (Action A R K) → Type 0) where
+-- Row says which rows there are: session, input, moment, the store before and after, the floors, and what the step comes to.
+module _ {A S R K : Type 0} (Row : Standing → Given K → ℕ → S → S → Promises → Outcome A R K → Type 0) where
   -- a host lent what it has for one step
   abbrev pub Stepped : {H : Type 0} → (H → HostCall A S R K → H → Type 0) → H → Standing → Given K → Standing → List (Action A R K) → H → Type 0
   Stepped Does old session given session' actions new = (moment : ℕ) × (store store' : S) × (promises promises' : Promises)
-      × Does old (Lent moment store store' promises promises') new × Row session given moment store store' promises promises' session' actions
+      × Does old (Lent moment store store' promises promises') new × Row session given moment store store' promises (Made promises' session' actions)
+
+  -- a host lent what it has for a step for which memory ran out
+  abbrev pub StepTried : {H : Type 0} → (H → HostCall A S R K → H → Type 0) → H → Standing → Given K → H → Type 0
+  StepTried Does old session given new = (moment : ℕ) × (store store' : S) × (promises : Promises)
+      × Does old (Tried moment store store' promises) new × Row session given moment store store' promises Stopped
 
   -- An input is taken: its row. Then floors are released, and then the other actions are carried out, in order.
   pub record IsTurn (before : Situation K) (calls : List (HostCall A S R K)) (after : Situation K) : Type 0 where
@@ -105,28 +130,30 @@ module _ {A S R K : Type 0} (Row : Standing → Given K → ℕ → S → S → 
     pub paid : List ℕ
     pub carried : List (HostCall A S R K)
     pub next : Next before given after.came after.taken
-    pub row : Row before.session given moment store store' promises promises' after.session actions
+    pub row : Row before.session given moment store store' promises (Made promises' after.session actions)
     pub owes : releases actions ++ before.owed ≡ paid ++ after.owed
     pub carries : Carries actions before.lost carried after.lost
     pub closed : after.closed ≡ (before.closed || closes actions)
-    pub heard : after.heard ≡ before.heard
+    pub heard : after.heard ≡ behind given before.heard
     pub trace : calls ≡ Lent moment store store' promises promises' ∷ (release_calls paid ++ carried)
 
   -- what one thing is that a session does
   pub data Move (before : Situation K) (calls : List (HostCall A S R K)) (after : Situation K) : Type 0 where
     Takes : IsTurn before calls after → Move before calls after
-    -- there was no memory for a step
-    Tries : (moment : ℕ) (store store' : S) → after ≡ before → calls ≡ Tried moment store store' ∷ [] → Move before calls after
-    -- the data side was asked what has come
-    Asks : (event : Option (DataEvent K)) → before.came ≡ None → after ≡ record before { came = event }
-        → (calls ≡ Asked (Looks event) ∷ []) ⊎ (calls ≡ Asked (Settles event) ∷ []) → Move before calls after
-    -- something was read, and these lines were found; nothing is read behind the end
-    Reads : (octets : List ℕ) (items : List Item) → before.closed ≡ false → before.heard.ended ≡ false
-        → after ≡ record before { heard = record { octets = before.heard.octets ++ octets; items = before.heard.items ++ items; reads = before.heard.reads + 1; ended = before.heard.ended; failed = before.heard.failed } }
+    -- there was no memory for the step of what came next: a session that ends well has no such move
+    Tries : (given : Given K) (moment : ℕ) (store store' : S) (promises : Promises) (came : Option (DataEvent K)) (taken : List Item) → Next before given came taken
+        → Row before.session given moment store store' promises Stopped → after ≡ record before { lost = Some Memory }
+        → calls ≡ Tried moment store store' promises ∷ [] → Move before calls after
+    -- the data side was asked what has come; for the end of what still runs only once the session is closed
+    Asks : (event : Option (DataEvent K)) → before.came ≡ None → after ≡ record before { came = event; heard = asked_as true before.heard }
+        → (calls ≡ Asked (Looks event) ∷ []) ⊎ ((is_closed before.session.view.stage ≡ true) × (calls ≡ Asked (Settles event) ∷ [])) → Move before calls after
+    -- where nothing was left to be done, something was read, and these lines were found; nothing is read behind the end
+    Reads : (octets : List ℕ) (items : List Item) → IsIdle before → before.closed ≡ false → before.heard.ended ≡ false
+        → after ≡ record before { heard = record { octets = before.heard.octets ++ octets; items = before.heard.items ++ items; reads = before.heard.reads + 1; ended = before.heard.ended; failed = before.heard.failed; asked = false } }
         → calls ≡ Read octets ∷ [] → Move before calls after
-    Ends : before.closed ≡ false → before.heard.ended ≡ false → after ≡ record before { heard = record before.heard { reads = before.heard.reads + 1; ended = true } }
+    Ends : IsIdle before → before.closed ≡ false → before.heard.ended ≡ false → after ≡ record before { heard = record before.heard { reads = before.heard.reads + 1; ended = true; asked = false } }
         → calls ≡ ReadEnd ∷ [] → Move before calls after
-    Fails : before.closed ≡ false → before.heard.ended ≡ false → after ≡ record before { heard = record before.heard { reads = before.heard.reads + 1; failed = true } }
+    Fails : IsIdle before → before.closed ≡ false → before.heard.ended ≡ false → after ≡ record before { heard = record before.heard { reads = before.heard.reads + 1; failed = true; asked = false } }
         → calls ≡ ReadFailed ∷ [] → Move before calls after
     -- a floor that was owed is released
     Pays : (user : ℕ) (owed : List ℕ) → before.owed ≡ user ∷ owed → after ≡ record before { owed = owed }
@@ -142,7 +169,7 @@ concat [] = []
 concat (xs ∷ xss) = xs ++ concat xss
 
 -- from a host and a situation to others, by moves whose calls the host was asked for, in this order
-pub record Went {H A S R K : Type 0} (Row : Standing → Given K → ℕ → S → S → Promises → Promises → Standing → List (Action A R K) → Type 0) (Does : H → HostCall A S R K → H → Type 0)
+pub record Went {H A S R K : Type 0} (Row : Standing → Given K → ℕ → S → S → Promises → Outcome A R K → Type 0) (Does : H → HostCall A S R K → H → Type 0)
     (host : H) (before : Situation K) (host' : H) (after : Situation K) : Type 0 where
   pub moves : List (List (HostCall A S R K))
   pub asked : Chain Does host (concat moves) host'

@@ -4,7 +4,7 @@ ghost use Rattle.std.specs.Prelude.{◌≡◌, [], Bool, List, None, Option, tru
 ghost use Rattle.control_turns.specs.Calls.{Chain, HostCall};
 ghost use Rattle.control_turns.specs.Rows.{IsRow};
 ghost use Rattle.control_turns.specs.Standing.{Closing, owed, owed_by, owed_in, stand};
-ghost use Rattle.control_turns.specs.Turns.{Carries, Heard, Went, at, release_calls};
+ghost use Rattle.control_turns.specs.Turns.{Carries, Heard, Went, asked_as, at, release_calls};
 ghost use Rattle.control_turns.specs.declared.fault.TurnFault.{TurnFault};
 ghost use Rattle.ftp_wire.specs.Items.{Item};
 ghost use Rattle.session_core.specs.Events.{leaving_by};
@@ -106,11 +106,13 @@ pub fn close<A: Allocator + Clone, H: Host<A>>(
     ensures went { (taken : List Item) (heard : Heard)
         → Went (IsRow {A = A} {R = H.Source} H.Step users.now.users) H.Does
         host.old (stand talk.old taken heard)
-        host.new (at talk.new.session None taken heard [] talk.old.closed talk.old.lost) }
+        host.new (at talk.new.session None taken (asked_as true heard) []
+        talk.old.closed talk.old.lost) }
     ensures closing { (taken : List Item) (heard : Heard)
         → Closing (IsRow {A = A} {R = H.Source} H.Step users.now.users) H.Does
         host.old (stand talk.old taken heard)
-        host.new (at talk.new.session None taken heard [] talk.old.closed talk.old.lost) }
+        host.new (at talk.new.session None taken (asked_as true heard) []
+        talk.old.closed talk.old.lost) }
     ensures closed { is_closed talk.new.session.view.stage ≡ true }
     ensures kept { talk.new.closed ≡ talk.old.closed }
     ensures lost { talk.new.lost ≡ talk.old.lost }

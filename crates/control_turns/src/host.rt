@@ -3,8 +3,8 @@
 ghost use Rattle.std.specs.Prelude.{◌≡◌, ◌<◌, ℕ, IfErr, IfOk, IfSome, OnErr, Some, [], length, true};
 ghost use Rattle.control_turns.specs.Calls.{HostCall, read_call, reads_within, write_call};
 ghost use Rattle.control_turns.specs.Calls.HostCall.{Asked, Noted, Released};
-ghost use Rattle.control_turns.specs.Rows.{IsRow, StepTried};
-ghost use Rattle.control_turns.specs.Turns.{Stepped};
+ghost use Rattle.control_turns.specs.Rows.{IsRow};
+ghost use Rattle.control_turns.specs.Turns.{StepTried, Stepped};
 ghost use Rattle.data_side.specs.Sides.{event_in, given_of};
 ghost use Rattle.data_side.specs.Sides.Given.{Came, Closed};
 ghost use Rattle.data_side.specs.Sides.SideCall.{Aborts, Connects, Drops, Looks, Opens, Settles, Starts};
@@ -68,7 +68,8 @@ pub trait Host<A: Allocator + Clone> {
             self.old session.old (given_of input) session.new actions.items self.new)) }
         ensures unchanged { OnErr result (session.new ≡ session.old) }
         ensures tried { IfSome input.old (λ input.
-            OnErr result (StepTried Does self.old self.new)) }
+            OnErr result (StepTried (IsRow Step users.now.users) Does
+            self.old session.old (given_of input) self.new)) }
         ensures back { IfSome input.old (λ input. IfErr result (λ back. back ≡ event_in input)) };
 
     /// Lends them for the end of the control connection.

@@ -13,6 +13,6 @@ pub struct Talk<A: Allocator, K> {
     pub came: Option<DataEvent<K>>,
     /// Whether the control connection is to be closed.
     pub closed: bool,
-    /// Why a reply could not be said, if one could not: no more are then.
+    /// Why a reply could not be said, or a step not be made, if one could not: no more is said then.
     pub lost: Option<TurnFault>,
 }

@@ -1,10 +1,10 @@
 //! The turns of a control session.
 
-ghost use Rattle.std.specs.Prelude.{◌≡◌, ◌≤◌, ◌⊎◌, ◌++◌, ◌||◌, [], ◌∷◌, IfErr, List, MatchOption, None, OnErr, OnOk, Option, Some, false, length, true};
+ghost use Rattle.std.specs.Prelude.{◌≡◌, ◌≤◌, ◌⊎◌, ◌++◌, ◌||◌, [], ◌∷◌, Bool, IfErr, List, MatchOption, None, OnErr, OnOk, Option, Some, false, length, true};
 ghost use Rattle.std.specs.Vec.Iter.{into_iter_items};
 ghost use Rattle.control_turns.specs.Rows.{IsRow};
 ghost use Rattle.control_turns.specs.Standing.{AllTaken, IsLost, stand};
-ghost use Rattle.control_turns.specs.Turns.{Heard, HoldsFewer, Next, Went, at, due};
+ghost use Rattle.control_turns.specs.Turns.{Heard, HoldsFewer, Next, Went, asked_as, at, behind, due};
 ghost use Rattle.data_side.specs.Sides.{Given, given_of};
 ghost use Rattle.ftp_wire.specs.Items.{Item};
 ghost use Rattle.ftp_wire.specs.Reading.{item_of, items_of};
@@ -64,10 +64,12 @@ pub fn turn<A: Allocator + Clone, H: Host<A>>(
     ensures went { (came : Option (DataEvent H.Sink)) (taken : List Item) (heard : Heard) (taken' : List Item)
         → Next (at talk.old.session came taken heard [] talk.old.closed talk.old.lost)
         (given_of input) talk.old.came taken'
-        → (last : List Item) × Went (IsRow {A = A} {R = H.Source} H.Step users.now.users) H.Does
+        → (last : List Item) × (heard' : Heard)
+        × Went (IsRow {A = A} {R = H.Source} H.Step users.now.users) H.Does
         host.old (at talk.old.session came taken heard [] talk.old.closed talk.old.lost)
-        host.new (stand talk.new last heard)
-        × ((last ≡ taken) ⊎ (last ≡ taken')) × OnOk result (last ≡ taken') }
+        host.new (stand talk.new last heard')
+        × ((last ≡ taken) ⊎ (last ≡ taken')) × OnOk result (last ≡ taken')
+        × ((heard' ≡ heard) ⊎ (heard' ≡ behind (given_of input) heard)) }
     ensures none { OnOk result (talk.new.came ≡ talk.old.came) }
     ensures whole { OnOk result (talk.new.lost ≡ None) }
     ensures held { OnOk result (HoldsFewer (given_of input) talk.old.session talk.new.session) }
@@ -77,6 +79,7 @@ pub fn turn<A: Allocator + Clone, H: Host<A>>(
         Ok(actions) => actions,
         Err(back) => {
             talk.came = back;
+            talk.lost = Some(TurnFault::Memory);
             return Err(TurnFault::Memory);
         }
     };
@@ -85,7 +88,7 @@ pub fn turn<A: Allocator + Clone, H: Host<A>>(
     ended(talk.lost)
 }
 
-/// Asks the data side what has come, and takes it.
+/// Asks the data side what has come, and takes it. It does not wait.
 pub fn look<A: Allocator + Clone, H: Host<A>>(
     alloc: &A,
     host: &mut H,
@@ -96,7 +99,8 @@ pub fn look<A: Allocator + Clone, H: Host<A>>(
     requires whole { talk.old.lost ≡ None }
     ensures went { (taken : List Item) (heard : Heard)
         → Went (IsRow {A = A} {R = H.Source} H.Step users.now.users) H.Does
-        host.old (stand talk.old taken heard) host.new (stand talk.new taken heard) }
+        host.old (stand talk.old taken heard)
+        host.new (stand talk.new taken (asked_as true heard)) }
     ensures none { OnOk result (talk.new.came ≡ None) }
     ensures whole { OnOk result (talk.new.lost ≡ None) }
     ensures held { OnOk result
@@ -119,8 +123,9 @@ pub fn catch_up<A: Allocator + Clone, H: Host<A>>(
     requires none { talk.old.came ≡ None }
     requires whole { talk.old.lost ≡ None }
     ensures went { (taken : List Item) (heard : Heard)
-        → Went (IsRow {A = A} {R = H.Source} H.Step users.now.users) H.Does
-        host.old (stand talk.old taken heard) host.new (stand talk.new taken heard) }
+        → (asked : Bool) × Went (IsRow {A = A} {R = H.Source} H.Step users.now.users) H.Does
+        host.old (stand talk.old taken heard) host.new (stand talk.new taken (asked_as asked heard))
+        × OnOk result (asked ≡ true) }
     ensures none { OnOk result (talk.new.came ≡ None) }
     ensures whole { OnOk result (talk.new.lost ≡ None) }
     ensures due { OnOk result (due talk.new.session ≡ false) }
@@ -146,10 +151,12 @@ fn take_line<A: Allocator + Clone, H: Host<A>>(
     requires whole { talk.old.lost ≡ None }
     requires live { talk.old.closed ≡ false }
     requires due { due talk.old.session ≡ false }
-    ensures went { (taken rest : List Item) (heard : Heard) → heard.items ≡ taken ++ item_of item ∷ rest
-        → (last : List Item) × Went (IsRow {A = A} {R = H.Source} H.Step users.now.users) H.Does
-        host.old (stand talk.old taken heard) host.new (stand talk.new last heard)
-        × OnOk result (last ≡ taken ++ item_of item ∷ []) }
+    ensures went { (taken rest : List Item) (heard : Heard)
+        → heard.items ≡ taken ++ item_of item ∷ rest → heard.asked ≡ true
+        → (last : List Item) × (asked : Bool)
+        × Went (IsRow {A = A} {R = H.Source} H.Step users.now.users) H.Does
+        host.old (stand talk.old taken heard) host.new (stand talk.new last (asked_as asked heard))
+        × OnOk result ((last ≡ taken ++ item_of item ∷ []) × (asked ≡ true)) }
     ensures none { OnOk result (talk.new.came ≡ None) }
     ensures whole { OnOk result (talk.new.lost ≡ None) }
     ensures due { OnOk result (due talk.new.session ≡ false) }
@@ -166,7 +173,8 @@ fn next_of<T, A: Allocator>(left: &mut IntoIter<T, A>) -> Option<T>
     left.next()
 }
 
-/// Lines are taken, each with what came and what was held behind it, up to one that closes the control connection.
+/// What came is taken, and what was held; then lines are, each with what came and what was held behind it, up to one that closes
+/// the control connection.
 pub fn take_lines<A: Allocator + Clone, H: Host<A>>(
     alloc: &A,
     host: &mut H,
@@ -176,17 +184,20 @@ pub fn take_lines<A: Allocator + Clone, H: Host<A>>(
 ) -> Result<(), TurnFault>
     requires none { talk.old.came ≡ None }
     requires whole { talk.old.lost ≡ None }
-    requires live { talk.old.closed ≡ false }
-    requires due { due talk.old.session ≡ false }
     ensures went { (taken : List Item) (heard : Heard) → heard.items ≡ taken ++ items_of items.items
-        → (last : List Item) × Went (IsRow {A = A} {R = H.Source} H.Step users.now.users) H.Does
-        host.old (stand talk.old taken heard) host.new (stand talk.new last heard)
-        × OnOk result ((talk.new.closed ≡ true) ⊎ AllTaken last heard) }
+        → (last : List Item) × (asked : Bool)
+        × Went (IsRow {A = A} {R = H.Source} H.Step users.now.users) H.Does
+        host.old (stand talk.old taken heard) host.new (stand talk.new last (asked_as asked heard))
+        × OnOk result ((asked ≡ true) × ((talk.new.closed ≡ true) ⊎ AllTaken last heard)) }
     ensures none { OnOk result (talk.new.came ≡ None) }
     ensures whole { OnOk result (talk.new.lost ≡ None) }
     ensures due { OnOk result (due talk.new.session ≡ false) }
     ensures lost { IfErr result (IsLost talk.new.lost) }
 {
+    catch_up(alloc, host, users, talk)?;
+    if talk.closed {
+        return Ok(());
+    }
     let mut left = items.into_iter();
     while let Some(item) = next_of(&mut left) {
         take_line(alloc, host, users, talk, item)?;

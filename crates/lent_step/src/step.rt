@@ -1,7 +1,7 @@
 //! The step of a session over what it is lent.
 
 ghost use Rattle.std.specs.Prelude.{◌≡◌, IfErr, IfOk, IfSome, OnErr, Some, [], true};
-ghost use Rattle.control_turns.specs.Rows.{IsRow};
+ghost use Rattle.control_turns.specs.Rows.{IsMade, IsStopped};
 ghost use Rattle.data_side.specs.Sides.{event_in, given_of};
 ghost use Rattle.data_side.specs.Sides.Given.{Came, Closed};
 ghost use Rattle.session_core.specs.Events.{leaving_by};
@@ -23,10 +23,12 @@ fn step_line<A: Allocator + Clone, F: Allocator + Clone, S: Store<A>>(
     input: Input<A, S::Sink>,
     moment: u64,
 ) -> Result<Vec<Action<A, S::Source, S::Sink>, A>, Option<DataEvent<S::Sink>>>
-    ensures row { IfOk result (λ actions. IsRow S.Step users.now.users session.old
+    ensures row { IfOk result (λ actions. IsMade S.Step users.now.users session.old
         (given_of input) moment store.old store.new floors.old floors.new session.new
         actions.items) }
     ensures unchanged { OnErr result ((session.new ≡ session.old) × (floors.new ≡ floors.old)) }
+    ensures stopped { OnErr result (IsStopped A S.Step users.now.users session.old
+        (given_of input) moment store.old store.new floors.old) }
     ensures back { IfErr result (λ back. back ≡ None) }
 {
     match session.step(users, floors, store, input, moment) {
@@ -44,10 +46,12 @@ fn step_event<A: Allocator + Clone, F: Allocator + Clone, S: Store<A>>(
     event: DataEvent<S::Sink>,
     moment: u64,
 ) -> Result<Vec<Action<A, S::Source, S::Sink>, A>, Option<DataEvent<S::Sink>>>
-    ensures row { IfOk result (λ actions. IsRow S.Step users.now.users session.old
+    ensures row { IfOk result (λ actions. IsMade S.Step users.now.users session.old
         (Came event) moment store.old store.new floors.old floors.new session.new
         actions.items) }
     ensures unchanged { OnErr result ((session.new ≡ session.old) × (floors.new ≡ floors.old)) }
+    ensures stopped { OnErr result (IsStopped A S.Step users.now.users session.old
+        (Came event) moment store.old store.new floors.old) }
     ensures back { IfErr result (λ back. back ≡ Some event) }
 {
     match session.take_event(users, store, event, moment) {
@@ -57,7 +61,7 @@ fn step_event<A: Allocator + Clone, F: Allocator + Clone, S: Store<A>>(
 }
 
 /// One step of a session at a moment, in milliseconds since 1970. Where memory runs out the session and the floors are as
-/// they were, and what came of the data side is given back.
+/// they were, the store is as looks at it, if any, leave it, and what came of the data side is given back.
 pub fn step_by<A: Allocator + Clone, F: Allocator + Clone, S: Store<A>>(
     session: &mut Session<A>,
     users: &Authorizer<A>,
@@ -67,9 +71,12 @@ pub fn step_by<A: Allocator + Clone, F: Allocator + Clone, S: Store<A>>(
     moment: u64,
 ) -> Result<Vec<Action<A, S::Source, S::Sink>, A>, Option<DataEvent<S::Sink>>>
     ensures row { IfSome input.old (λ input. IfOk result (λ actions.
-        IsRow S.Step users.now.users session.old (given_of input) moment store.old store.new
+        IsMade S.Step users.now.users session.old (given_of input) moment store.old store.new
         floors.old floors.new session.new actions.items)) }
     ensures unchanged { OnErr result ((session.new ≡ session.old) × (floors.new ≡ floors.old)) }
+    ensures stopped { IfSome input.old (λ input. OnErr result (
+        IsStopped A S.Step users.now.users session.old (given_of input) moment
+        store.old store.new floors.old)) }
     ensures back { IfSome input.old (λ input. IfErr result (λ back. back ≡ event_in input)) }
 {
     match input.take() {
@@ -112,7 +119,7 @@ pub fn close_by<A: Allocator + Clone, F: Allocator + Clone, S: Store<A>>(
     moment: u64,
 ) -> Option<Leaving<A>>
     requires nobody { nobody ≡ [] }
-    ensures row { IsRow {A = A} {R = S.Source} {K = S.Sink} S.Step users.now.users session.old
+    ensures row { IsMade {A = A} {R = S.Source} {K = S.Sink} S.Step users.now.users session.old
         Closed moment store.old store.new floors.old floors.new session.new
         (leaving_by result) }
     ensures closed { is_closed session.new.view.stage ≡ true }
@@ -130,7 +137,7 @@ pub fn end_by<A: Allocator + Clone, F: Allocator + Clone, S: Store<A>>(
     moment: u64,
 )
     requires closed { is_closed session.old.view.stage ≡ true }
-    ensures row { IsRow {A = A} {R = S.Source} S.Step users.now.users session.old (Came event)
+    ensures row { IsMade {A = A} {R = S.Source} S.Step users.now.users session.old (Came event)
         moment store.old store.new floors.old floors.new session.new [] }
     ensures closed { is_closed session.new.view.stage ≡ true }
 {

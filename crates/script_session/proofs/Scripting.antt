@@ -7,7 +7,7 @@ use Rattle.memory_store.specs.InMemory.{InMemory, Memory, Upload}
 use Rattle.rate_floors.specs.Promises.{Promises}
 use Rattle.session_host.specs.Alone.{Parts}
 use Rattle.session_host.specs.ControlFault.{ControlFault}
-use Rattle.session_host.specs.Rows.{IsRow}
+use Rattle.session_host.specs.Rows.{IsRow, Outcome}
 use Rattle.session_host.specs.Sessions.{new_session}
 use Rattle.session_host.specs.Sides.{Given, SideCall}
 use Rattle.session_host.specs.Silent.{StaysSilent}
@@ -23,7 +23,7 @@ abbrev pub known : {S C D H R W : Type 0} → (R → Option (List ℕ)) → (W �
 known remaining contents host =
     record { store = host.store; promises = host.promises; clock = host.clock; side = host.side; reader = remaining host.reader; writer = contents host.writer; hooks = host.hooks }
 
-module _ {A S C D H Q K T R W : Type 0} (Row : Standing → Given K → ℕ → S → S → Promises → Promises → Standing → List (Action A Q K) → Type 0)
+module _ {A S C D H Q K T R W : Type 0} (Row : Standing → Given K → ℕ → S → S → Promises → Outcome A Q K → Type 0)
     (Gives : C → ℕ → C → Type 0) (Asks : D → SideCall A Q K → D → Type 0) (Told : H → Event → H → Type 0)
     (remaining : R → Option (List ℕ)) (contents : W → Option (List ℕ)) where
   pub told_known : (result : Result T ControlFault) (session : Standing) (old new : Parts S C D R W H)
@@ -37,6 +37,7 @@ module _ {A S C D H Q K T R W : Type 0} (Row : Standing → Given K → ℕ → 
     actions = told.actions;
     side = told.side;
     hooks = told.hooks;
+    lost = told.lost;
     last = told.last;
     row = told.row;
     serves = told.serves;
@@ -45,6 +46,7 @@ module _ {A S C D H Q K T R W : Type 0} (Row : Standing → Given K → ℕ → 
     closed = told.closed;
     answered = told.answered;
     paid = told.paid;
+    kept = told.kept;
     store_is = told.store_is;
     promises_are = told.promises_are;
     side_is = told.side_is;

@@ -29,7 +29,7 @@ module _ {A S C D R W H Q K : Type 0} (Gives : C → ℕ → C → Type 0) (Asks
   pub alone_floors : (old new : Parts S C D R W H) (call : HostCall A S Q K) → AloneDoes Gives Asks Told remaining may_fail contents may_refuse old call new
       → FloorsBy (λ (host : Parts S C D R W H). host.promises) old call new
   alone_floors old new (Lent moment store store' promises promises') did = (did.promises_lent, ap (λ (host : Parts S C D R W H). host.promises) did.rest)
-  alone_floors old new (Tried moment store store') did = ap (λ (host : Parts S C D R W H). host.promises) did.rest
+  alone_floors old new (Tried moment store store' promises) did = ap (λ (host : Parts S C D R W H). host.promises) did.rest ∙ did.promises_lent
   alone_floors old new (Released user) did = ap (λ (host : Parts S C D R W H). host.promises) did
   alone_floors old new (Noted event) did = ap (λ (host : Parts S C D R W H). host.promises) did.1
   alone_floors old new (Wrote text) did = ap (λ (host : Parts S C D R W H). host.promises) did.1
@@ -50,7 +50,7 @@ module _ {A S C D R W H Q K : Type 0} (Gives : C → ℕ → C → Type 0) (Asks
     pub sole_floors : (old new : SoleHost S F C D R W H) (call : HostCall A S Q K) → SoleDoes Gives Asks Told remaining may_fail contents may_refuse old call new
         → FloorsBy (λ (host : SoleHost S F C D R W H). host.floors.now) old call new
     sole_floors old new (Lent moment store store' promises promises') did = alone_floors (parts old) (parts new) (Lent moment store store' promises promises') did.1
-    sole_floors old new (Tried moment store store') did = alone_floors (parts old) (parts new) (Tried moment store store') did.1
+    sole_floors old new (Tried moment store store' promises) did = alone_floors (parts old) (parts new) (Tried moment store store' promises) did.1
     sole_floors old new (Released user) did = alone_floors (parts old) (parts new) (Released user) did.1
     sole_floors old new (Noted event) did = alone_floors (parts old) (parts new) (Noted event) did.1
     sole_floors old new (Wrote text) did = alone_floors (parts old) (parts new) (Wrote text) did.1

@@ -1,4 +1,3 @@
 pub mod Lending
 pub mod Seeing
 pub mod Telling
-pub mod Uncounted

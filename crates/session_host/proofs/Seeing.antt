@@ -5,6 +5,7 @@ use Rattle.control_session.specs.Calls.HostCall.{Asked}
 use Rattle.control_session.specs.Sessions.{IsServed, IsSession}
 use Rattle.data_side.specs.Sides.{Given}
 use Rattle.data_side.specs.Sides.SideCall.{Settles}
+use Rattle.control_session.specs.Rows.{Outcome}
 use Rattle.control_session.specs.Standing.{Closing}
 use Rattle.control_session.specs.Turns.{Situation, Went, concat}
 use Rattle.control_session.specs.declared.fault.ControlFault.{ControlFault}
@@ -14,7 +15,7 @@ use Rattle.session_table.specs.declared.actions.Action.{Action}
 
 module _ {G H A S R K : Type 0} (Does : G → HostCall A S R K → G → Type 0) (Sees : H → HostCall A S R K → H → Type 0) (see : G → H)
     (seen : (old new : G) (call : HostCall A S R K) → Does old call new → Sees (see old) call (see new))
-    (Row : Standing → Given K → ℕ → S → S → Promises → Promises → Standing → List (Action A R K) → Type 0) where
+    (Row : Standing → Given K → ℕ → S → S → Promises → Outcome A R K → Type 0) where
   chain_seen : (old new : G) (calls : List (HostCall A S R K)) → Chain Does old calls new → Chain Sees (see old) calls (see new)
   chain_seen old new [] same = ap see same
   chain_seen old new (call ∷ calls) (mid, did, more) = (see mid, seen old mid call did, chain_seen mid new calls more)
@@ -72,7 +73,7 @@ module _ {G H A S R K : Type 0} (Does : G → HostCall A S R K → G → Type 0)
   served_seen turns result session old new (inr is) = inr (session_seen turns result session old new is)
 
 module _ {H A S R K : Type 0} (Does : H → HostCall A S R K → H → Type 0)
-    (Row : Standing → Given K → ℕ → S → S → Promises → Promises → Standing → List (Action A R K) → Type 0)
+    (Row : Standing → Given K → ℕ → S → S → Promises → Outcome A R K → Type 0)
     (Keeps : H → H → Type 0) (none : (host : H) → Keeps host host) (then : (a b c : H) → Keeps a b → Keeps b c → Keeps a c)
     (kept : (old new : H) (call : HostCall A S R K) → Does old call new → Keeps old new) where
   chain_keeps : (old new : H) (calls : List (HostCall A S R K)) → Chain Does old calls new → Keeps old new

@@ -12,25 +12,28 @@ use Rattle.rate_floors.specs.Promises.{Promises}
 use Rattle.session_core.specs.declared.events.DataEvent.{DataEvent}
 use Rattle.session_laws.specs.Steps.{Standing}
 use Rattle.session_table.specs.Answers.{answer_form}
+use Rattle.session_table.specs.Views.{is_closed}
 use Rattle.session_table.specs.declared.actions.Action.{Action}
 use Rattle.session_table.specs.declared.actions.Action.TheVariants.{Say, Hook, OpenPassive, ConnectTo, DropData, Start, Abort, CloseControl, ReleaseFloor}
 use Rattle.control_session.proofs.Balance.{chain_split}
 use Rattle.control_session.specs.Calls.{Chain, HostCall}
 use Rattle.control_session.specs.Calls.HostCall.{Asked, Read, ReadEnd, ReadFailed, Released, Tried}
+use Rattle.control_session.specs.Rows.{Outcome}
+use Rattle.control_session.specs.Rows.Outcome.{Made, Stopped}
 use Rattle.control_session.specs.Sessions.{IsServed, IsSession, nothing}
 use Rattle.data_side.specs.Sides.{Given, SideCall}
 use Rattle.data_side.specs.Sides.Given.{Line, Held, Came, Closed}
 use Rattle.data_side.specs.Sides.SideCall.{Aborts, Connects, Drops, Looks, Opens, Settles, Starts}
 use Rattle.data_side.specs.Told.{text_of, texts}
-use Rattle.control_session.specs.Turns.{Carried, Carries, Heard, IsTurn, Move, Next, Runs, Situation, Went, at, concat, release_calls}
+use Rattle.control_session.specs.Turns.{Carried, Carries, Heard, IsIdle, IsTurn, Move, Next, Runs, Situation, Went, asked_as, at, behind, concat, release_calls}
 use Rattle.control_session.specs.Turns.Move.{Takes, Tries, Asks, Reads, Ends, Fails, Pays}
 use Rattle.control_session.specs.declared.fault.ControlFault.{ControlFault}
 use Rattle.control_turns.proofs.Going.{concat_more}
 use Rattle.control_turns.specs.declared.fault.TurnFault.{TurnFault}
 use Rattle.control_turns.specs.declared.fault.TurnFault.TheVariants.{Write, Memory}
 use Rattle.session_host.specs.Alone.{AloneDoes, Parts}
-use Rattle.session_host.specs.Told.{Act, Acts, Follows, IsEndToEnd, IsTold, IsTurned, Scene, Serves, released}
-use Rattle.session_host.specs.Told.Act.{Turns, Hears, Frees, Lacks}
+use Rattle.session_host.specs.Told.{Act, Acts, Follows, IsEndToEnd, IsTold, IsTurned, Scene, Serves, released, still_asked}
+use Rattle.session_host.specs.Told.Act.{Turns, Hears, Listens, Frees, Lacks}
 
 -- ---- octets that are known
 
@@ -98,6 +101,27 @@ cut_by_more (Some why) (Some fault) (Some last) first says second telling one tw
 cut_none : (lost : Option TurnFault) → CutBy lost lost [] []
 cut_none None = refl
 cut_none (Some fault) = refl
+
+-- whether a reply was lost, or memory ran out for a step
+abbrev pub is_lost : Option TurnFault → Bool
+is_lost None = false
+is_lost (Some fault) = true
+
+stays_lost : (lost lost' : Option TurnFault) (written said : List ℕ) → CutBy lost lost' written said → is_lost lost ≡ true → is_lost lost' ≡ true
+stays_lost None lost' written said cut is = absurd (false≢true is)
+stays_lost (Some why) None written said cut is = absurd cut
+stays_lost (Some why) (Some fault) written said cut is = refl
+
+stopped_cut : (lost : Option TurnFault) → CutBy lost (Some Memory) [] []
+stopped_cut None = ([], refl)
+stopped_cut (Some fault) = refl
+
+-- a line changes nothing else in what was heard
+behind_as : {K : Type 0} (given : Given K) (heard : Heard) → behind given heard ≡ asked_as (still_asked given heard.asked) heard
+behind_as (Line item) heard = refl
+behind_as Held heard = refl
+behind_as (Came event) heard = refl
+behind_as Closed heard = refl
 
 module _ {A D H Q K : Type 0} (Asks' : D → SideCall A Q K → D → Type 0) (Told : H → Event → H → Type 0) where
   -- what one action makes of the data side and of the handler
@@ -278,14 +302,16 @@ module _ {A S C D R W H Q K : Type 0} (Gives : C → ℕ → C → Type 0) (Asks
 
   -- ---- moves
 
-  module _ (Row : Standing → Given K → ℕ → S → S → Promises → Promises → Standing → List (Action A Q K) → Type 0) where
+  module _ (Row : Standing → Given K → ℕ → S → S → Promises → Outcome A Q K → Type 0) where
     abbrev scene_of : Situation K → Parts S C D R W H → Scene S C D H K
     scene_of now host = record {
       session = now.session;
       came = now.came;
+      asked = now.heard.asked;
       taken = now.taken;
       owed = now.owed;
       closed = now.closed;
+      lost = is_lost now.lost;
       store = host.store;
       promises = host.promises;
       clock = host.clock;
@@ -300,8 +326,8 @@ module _ {A S C D R W H Q K : Type 0} (Gives : C → ℕ → C → Type 0) (Asks
         → items ≡ now.heard.items ++ later → Next now given came taken → Follows items (scene_of now host) given came taken
     follows_next items later now host (Came event) came taken is next = next
     follows_next items later now host Held came taken is next = next
-    follows_next items later now host (Line item) came taken is (none, held, live, (rest, heard), gone, more) =
-        (none, held, live, (rest ++ later, is ∙ (ap (λ (x : List Item). x ++ later) heard ∙ append_assoc now.taken (item ∷ rest) later)), gone, more)
+    follows_next items later now host (Line item) came taken is (idle, live, (rest, heard), gone, more) =
+        (idle, live, (rest ++ later, is ∙ (ap (λ (x : List Item). x ++ later) heard ∙ append_assoc now.taken (item ∷ rest) later)), gone, more)
     follows_next items later now host Closed came taken is next = next
 
     -- what a move makes of a session, of what was read and of what was written
@@ -346,14 +372,16 @@ module _ {A S C D R W H Q K : Type 0} (Gives : C → ℕ → C → Type 0) (Asks
           paid = turn.paid;
           next = follows_next items later before old turn.given after.came after.taken is turn.next;
           gives = subst (λ (c : C). Gives old.clock turn.moment c) (sym clocks) did.gives;
-          row = subst (λ (s : S). Row before.session turn.given turn.moment old.store s old.promises turn.promises' after.session turn.actions) (sym stores)
-              (subst (λ (s : S). Row before.session turn.given turn.moment s turn.store' old.promises turn.promises' after.session turn.actions) did.store_lent
-              (subst (λ (p : Promises). Row before.session turn.given turn.moment turn.store turn.store' p turn.promises' after.session turn.actions) did.promises_lent turn.row));
+          asked = ap (λ (x : Heard). x.asked) (turn.heard ∙ behind_as turn.given before.heard);
+          row = subst (λ (s : S). Row before.session turn.given turn.moment old.store s old.promises (Made turn.promises' after.session turn.actions)) (sym stores)
+              (subst (λ (s : S). Row before.session turn.given turn.moment s turn.store' old.promises (Made turn.promises' after.session turn.actions)) did.store_lent
+              (subst (λ (p : Promises). Row before.session turn.given turn.moment turn.store turn.store' p (Made turn.promises' after.session turn.actions)) did.promises_lent turn.row));
           owes = turn.owes;
           promises_are = carrying.beside.promises
               ∙ (ap (λ (x : Parts S C D R W H). x.promises) freed ∙ ap (λ (x : Parts S C D R W H). released turn.paid x.promises) did.rest);
           serves = serves_as Asks' Told turn.actions old.side host.side new.side old.hooks host.hooks new.hooks sides handlers serves;
           closed = turn.closed;
+          lost = stays_lost before.lost after.lost carrying.written (texts turn.actions) carrying.cut;
           says_is = refl;
         } in
         record {
@@ -364,41 +392,50 @@ module _ {A S C D R W H Q K : Type 0} (Gives : C → ℕ → C → Type 0) (Asks
           cut = subst (λ (x : List ℕ). CutBy before.lost after.lost carrying.written x) (sym (append-nil (texts turn.actions))) carrying.cut;
           octets = [];
           consumed = read_nothing old new readers;
-          heard = ap (λ (x : Heard). x.octets) turn.heard ∙ sym (append-nil before.heard.octets);
-          at_end = still_at_end old new before.heard.ended after.heard.ended readers (ap (λ (x : Heard). x.ended) turn.heard);
+          heard = ap (λ (x : Heard). x.octets) (turn.heard ∙ behind_as turn.given before.heard) ∙ sym (append-nil before.heard.octets);
+          at_end = still_at_end old new before.heard.ended after.heard.ended readers (ap (λ (x : Heard). x.ended) (turn.heard ∙ behind_as turn.given before.heard));
         }
 
     -- a move that is one act, and reads and writes nothing
     plain : (items : List Item) (before after : Situation K) (old new : Parts S C D R W H) → Doing items (scene_of before old) [] (scene_of after new)
-        → new.reader ≡ old.reader → new.writer ≡ old.writer → after.heard ≡ before.heard → after.lost ≡ before.lost → Moved items before old after new
-    plain items before after old new does readers writers heard lost = record {
+        → new.reader ≡ old.reader → new.writer ≡ old.writer → after.heard.octets ≡ before.heard.octets → after.heard.ended ≡ before.heard.ended → CutBy before.lost after.lost [] [] → Moved items before old after new
+    plain items before after old new does readers writers octets ended cut = record {
       says = [] ∷ [];
       acts = (scene_of after new, does, refl);
       written = [];
       appended = writes_none old new writers;
-      cut = subst (λ (l : Option TurnFault). CutBy before.lost l [] []) (sym lost) (cut_none before.lost);
+      cut = cut;
       octets = [];
       consumed = read_nothing old new readers;
-      heard = ap (λ (x : Heard). x.octets) heard ∙ sym (append-nil before.heard.octets);
-      at_end = still_at_end old new before.heard.ended after.heard.ended readers (ap (λ (x : Heard). x.ended) heard);
+      heard = octets ∙ sym (append-nil before.heard.octets);
+      at_end = still_at_end old new before.heard.ended after.heard.ended readers ended;
     }
 
-    asks_told : (items : List Item) (before after : Situation K) (old new : Parts S C D R W H) (event : Option (DataEvent K)) → before.came ≡ None → after ≡ record before { came = event }
-        → (Asks' old.side (Looks event) new.side) ⊎ (Asks' old.side (Settles event) new.side) → new ≡ record old { side = new.side } → Moved items before old after new
+    uncut : (before after : Situation K) → after.lost ≡ before.lost → CutBy before.lost after.lost [] []
+    uncut before after same = subst (λ (l : Option TurnFault). CutBy before.lost l [] []) (sym same) (cut_none before.lost)
+
+    asks_told : (items : List Item) (before after : Situation K) (old new : Parts S C D R W H) (event : Option (DataEvent K)) → before.came ≡ None → after ≡ record before { came = event; heard = asked_as true before.heard }
+        → (Asks' old.side (Looks event) new.side) ⊎ ((is_closed before.session.view.stage ≡ true) × Asks' old.side (Settles event) new.side) → new ≡ record old { side = new.side } → Moved items before old after new
     asks_told items before after old new event none same asks rest =
         plain items before after old new
         (Hears event none
-        (ap (λ (x : Situation K). scene_of x new) same ∙ ap (λ (x : Parts S C D R W H). scene_of (record before { came = event }) x) rest) asks refl)
+        (ap (λ (x : Situation K). scene_of x new) same ∙ ap (λ (x : Parts S C D R W H). scene_of (record before { came = event; heard = asked_as true before.heard }) x) rest) asks refl)
         (ap (λ (x : Parts S C D R W H). x.reader) rest) (ap (λ (x : Parts S C D R W H). x.writer) rest)
-        (ap (λ (x : Situation K). x.heard) same) (ap (λ (x : Situation K). x.lost) same)
+        (ap (λ (x : Situation K). x.heard.octets) same) (ap (λ (x : Situation K). x.heard.ended) same) (uncut before after (ap (λ (x : Situation K). x.lost) same))
 
     -- something is read, and nothing else is done
-    reads_told : (items : List Item) (before after : Situation K) (old new : Parts S C D R W H) (heard : Heard) (octets : List ℕ) → after ≡ record before { heard = heard }
+    reads_told : (items : List Item) (before after : Situation K) (old new : Parts S C D R W H) (heard : Heard) (octets : List ℕ) → IsIdle before → before.closed ≡ false → heard.asked ≡ false → after ≡ record before { heard = heard }
         → new ≡ record old { reader = new.reader } → Consumes (remaining old.reader) (remaining new.reader) octets → heard.octets ≡ before.heard.octets ++ octets
         → (heard.ended ≡ true → IsAtEnd (remaining new.reader)) → Moved items before old after new
-    reads_told items before after old new heard octets same rest consumed more ends = record {
-      says = [];
-      acts = ap (λ (x : Situation K). scene_of x new) same ∙ ap (λ (x : Parts S C D R W H). scene_of (record before { heard = heard }) x) rest;
+    reads_told items before after old new heard octets idle live unasked same rest consumed more ends = record {
+      says = [] ∷ [];
+      acts = (
+        scene_of after new,
+        Listens idle live
+            (ap (λ (x : Situation K). scene_of x new) same ∙ (ap (λ (x : Parts S C D R W H). scene_of (record before { heard = heard }) x) rest
+            ∙ ap (λ (b : Bool). record (scene_of before old) { asked = b }) unasked)) refl,
+        refl,
+      );
       written = [];
       appended = writes_none old new (ap (λ (x : Parts S C D R W H). x.writer) rest);
       cut = subst (λ (l : Option TurnFault). CutBy before.lost l [] []) (sym (ap (λ (x : Situation K). x.lost) same)) (cut_none before.lost);
@@ -414,36 +451,42 @@ module _ {A S C D R W H Q K : Type 0} (Gives : C → ℕ → C → Type 0) (Asks
     move_told : (items later : List Item) (before after : Situation K) (calls : List (HostCall A S Q K)) (old new : Parts S C D R W H)
         → items ≡ before.heard.items ++ later → Move Row before calls after → Chain Does old calls new → Moved items before old after new
     move_told items later before after calls old new is (Takes turn) chain = turn_told items later before after calls old new is turn chain
-    move_told items later before after calls old new is (Tries moment store store' same trace) chain =
-        let did = one old new calls (Tried moment store store') trace chain in
+    move_told items later before after calls old new is (Tries given moment store store' promises came taken next stopped same trace) chain =
+        let did = one old new calls (Tried moment store store' promises) trace chain in
+        let stores : new.store ≡ store' = ap (λ (x : Parts S C D R W H). x.store) did.rest in
         let rest : new ≡ record old { clock = new.clock; store = new.store } =
-        did.rest ∙ ap (λ (s : S). record old { clock = new.clock; store = s }) (sym (ap (λ (x : Parts S C D R W H). x.store) did.rest)) in
+        did.rest ∙ (ap (λ (s : S). record old { clock = new.clock; store = s; promises = promises }) (sym stores) ∙ ap (λ (p : Promises). record old { clock = new.clock; store = new.store; promises = p }) did.promises_lent) in
         plain items before after old new
-        (Lacks moment did.gives (ap (λ (x : Situation K). scene_of x new) same ∙ ap (λ (x : Parts S C D R W H). scene_of before x) rest) refl)
+        (Lacks given moment came taken (follows_next items later before old given came taken is next) did.gives
+        (subst (λ (s : S). Row before.session given moment old.store s old.promises Stopped) (sym stores)
+        (subst (λ (s : S). Row before.session given moment s store' old.promises Stopped) did.store_lent
+        (subst (λ (p : Promises). Row before.session given moment store store' p Stopped) did.promises_lent stopped)))
+        (ap (λ (x : Situation K). scene_of x new) same ∙ ap (λ (x : Parts S C D R W H). scene_of (record before { lost = Some Memory }) x) rest) refl)
         (ap (λ (x : Parts S C D R W H). x.reader) rest) (ap (λ (x : Parts S C D R W H). x.writer) rest)
-        (ap (λ (x : Situation K). x.heard) same) (ap (λ (x : Situation K). x.lost) same)
+        (ap (λ (x : Situation K). x.heard.octets) same) (ap (λ (x : Situation K). x.heard.ended) same)
+        (subst (λ (l : Option TurnFault). CutBy before.lost l [] []) (sym (ap (λ (x : Situation K). x.lost) same)) (stopped_cut before.lost))
     move_told items later before after calls old new is (Asks event none same (inl trace)) chain =
         let (did, rest) = one old new calls (Asked (Looks event)) trace chain in
         asks_told items before after old new event none same (inl did) rest
-    move_told items later before after calls old new is (Asks event none same (inr trace)) chain =
+    move_told items later before after calls old new is (Asks event none same (inr (gone, trace))) chain =
         let (did, rest) = one old new calls (Asked (Settles event)) trace chain in
-        asks_told items before after old new event none same (inr did) rest
-    move_told items later before after calls old new is (Reads octets found live unended same trace) chain =
+        asks_told items before after old new event none same (inr (gone, did)) rest
+    move_told items later before after calls old new is (Reads octets found idle live unended same trace) chain =
         let did = one old new calls (Read octets) trace chain in
-        reads_told items before after old new _ octets same did.rest did.taken refl (λ ended. never before.heard.ended unended ended)
-    move_told items later before after calls old new is (Ends live unended same trace) chain =
+        reads_told items before after old new _ octets idle live refl same did.rest did.taken refl (λ ended. never before.heard.ended unended ended)
+    move_told items later before after calls old new is (Ends idle live unended same trace) chain =
         let (did, ends) = one old new calls ReadEnd trace chain in
-        reads_told items before after old new _ [] same did.rest did.taken (sym (append-nil before.heard.octets)) (λ ended. ends)
-    move_told items later before after calls old new is (Fails live unended same trace) chain =
+        reads_told items before after old new _ [] idle live refl same did.rest did.taken (sym (append-nil before.heard.octets)) (λ ended. ends)
+    move_told items later before after calls old new is (Fails idle live unended same trace) chain =
         let (did, fails) = one old new calls ReadFailed trace chain in
-        reads_told items before after old new _ [] same did.rest did.taken (sym (append-nil before.heard.octets)) (λ ended. never before.heard.ended unended ended)
+        reads_told items before after old new _ [] idle live refl same did.rest did.taken (sym (append-nil before.heard.octets)) (λ ended. never before.heard.ended unended ended)
     move_told items later before after calls old new is (Pays user owed owes same trace) chain =
         let rest = one old new calls (Released user) trace chain in
         plain items before after old new
         (Frees user owed owes
         (ap (λ (x : Situation K). scene_of x new) same ∙ ap (λ (x : Parts S C D R W H). scene_of (record before { owed = owed }) x) rest) refl)
         (ap (λ (x : Parts S C D R W H). x.reader) rest) (ap (λ (x : Parts S C D R W H). x.writer) rest)
-        (ap (λ (x : Situation K). x.heard) same) (ap (λ (x : Situation K). x.lost) same)
+        (ap (λ (x : Situation K). x.heard.octets) same) (ap (λ (x : Situation K). x.heard.ended) same) (uncut before after (ap (λ (x : Situation K). x.lost) same))
 
     acts_more : (items : List Item) (first second : List (List ℕ)) (a b c : Scene S C D H K)
         → Acts Row Gives Asks' Told first items a b → Acts Row Gives Asks' Told second items b c → Acts Row Gives Asks' Told (first ++ second) items a c
@@ -485,12 +528,12 @@ module _ {A S C D R W H Q K : Type 0} (Gives : C → ℕ → C → Type 0) (Asks
     grown_as before after same = ([], same ∙ sym (append-nil before.heard.items))
 
     move_grows : (before after : Situation K) (calls : List (HostCall A S Q K)) → Move Row before calls after → Grown before.heard after.heard
-    move_grows before after calls (Takes turn) = grown_as before after (ap (λ (x : Heard). x.items) turn.heard)
-    move_grows before after calls (Tries moment store store' same trace) = grown_as before after (ap (λ (x : Situation K). x.heard.items) same)
+    move_grows before after calls (Takes turn) = grown_as before after (ap (λ (x : Heard). x.items) (turn.heard ∙ behind_as turn.given before.heard))
+    move_grows before after calls (Tries given moment store store' promises came taken next stopped same trace) = grown_as before after (ap (λ (x : Situation K). x.heard.items) same)
     move_grows before after calls (Asks event none same trace) = grown_as before after (ap (λ (x : Situation K). x.heard.items) same)
-    move_grows before after calls (Reads octets found live unended same trace) = (found, ap (λ (x : Situation K). x.heard.items) same)
-    move_grows before after calls (Ends live unended same trace) = grown_as before after (ap (λ (x : Situation K). x.heard.items) same)
-    move_grows before after calls (Fails live unended same trace) = grown_as before after (ap (λ (x : Situation K). x.heard.items) same)
+    move_grows before after calls (Reads octets found idle live unended same trace) = (found, ap (λ (x : Situation K). x.heard.items) same)
+    move_grows before after calls (Ends idle live unended same trace) = grown_as before after (ap (λ (x : Situation K). x.heard.items) same)
+    move_grows before after calls (Fails idle live unended same trace) = grown_as before after (ap (λ (x : Situation K). x.heard.items) same)
     move_grows before after calls (Pays user owed owes same trace) = grown_as before after (ap (λ (x : Situation K). x.heard.items) same)
 
     runs_grow : (moves : List (List (HostCall A S Q K))) (before after : Situation K) → Runs Row moves before after → Grown before.heard after.heard
@@ -536,9 +579,9 @@ module _ {A S C D R W H Q K : Type 0} (Gives : C → ℕ → C → Type 0) (Asks
     over_told last reader ends (inl closed) = inl closed
     over_told last reader ends (inr (ended, all)) = inr (ends ended, all)
 
-    settled_told : (items : List Item) (now : Situation K) (old new : Parts S C D R W H) (event : Option (DataEvent K)) → now.came ≡ None → Does old (Asked (Settles event)) new
-        → Moved items now old (record now { came = event }) new
-    settled_told items now old new event none (did, rest) = asks_told items now (record now { came = event }) old new event none refl (inr did) rest
+    settled_told : (items : List Item) (now : Situation K) (old new : Parts S C D R W H) (event : Option (DataEvent K)) → now.came ≡ None → is_closed now.session.view.stage ≡ true → Does old (Asked (Settles event)) new
+        → Moved items now old (record now { came = event; heard = asked_as true now.heard }) new
+    settled_told items now old new event none gone (did, rest) = asks_told items now (record now { came = event; heard = asked_as true now.heard }) old new event none refl (inr (gone, did)) rest
 
     pub session_told : {T : Type 0} (turns : ℕ) (result : Result T ControlFault) (session : Standing) (old new : Parts S C D R W H)
         → IsSession Row Does turns result session old new → IsEndToEnd Row Gives Asks' Told remaining contents result session old new
@@ -546,14 +589,15 @@ module _ {A S C D R W H Q K : Type 0} (Gives : C → ℕ → C → Type 0) (Asks
         let closing = is.closing in
         let begun = at {K = K} session None [] nothing [] false is.lost in
         let left = at {K = K} closing.session None is.stood.taken is.stood.heard closing.owes is.stood.closed is.stood.lost in
+        let settled = record left { came = closing.event; heard = asked_as true left.heard } in
         let items = is.last.heard.items in
-        let (later, grown) = runs_grow closing.rest.moves (record left { came = closing.event }) is.last closing.rest.runs in
+        let (later, grown) = runs_grow closing.rest.moves settled is.last closing.rest.runs in
         let (serves, greets) = carries_told is.actions None is.lost is.said old is.mid is.greets is.greeted in
         let moved =
         moved_more items begun is.stood is.last is.mid is.turned new (went_told items later begun is.stood is.mid is.turned grown is.went)
         (moved_more items is.stood left is.last is.turned closing.mid new (went_told items later is.stood left is.turned closing.mid grown closing.first)
-        (moved_more items left (record left { came = closing.event }) is.last closing.mid closing.mid' new (settled_told items left closing.mid closing.mid' closing.event refl closing.settled)
-        (went_told items [] (record left { came = closing.event }) is.last closing.mid' new (sym (append-nil items)) closing.rest))) in
+        (moved_more items left settled is.last closing.mid closing.mid' new (settled_told items left closing.mid closing.mid' closing.event refl closing.closed_then closing.settled)
+        (went_told items [] settled is.last closing.mid' new (sym (append-nil items)) closing.rest))) in
         let cut = cut_by_more None is.lost is.last.lost greets.written (texts is.actions) moved.written (concat moved.says) greets.cut moved.cut in
         let begins = scene_of begun is.mid in
         record {
@@ -563,6 +607,7 @@ module _ {A S C D R W H Q K : Type 0} (Gives : C → ℕ → C → Type 0) (Asks
           actions = is.actions;
           side = is.mid.side;
           hooks = is.mid.hooks;
+          lost = is_lost is.lost;
           last = scene_of is.last new;
           said = moved.says;
           row = is.row;
@@ -573,6 +618,7 @@ module _ {A S C D R W H Q K : Type 0} (Gives : C → ℕ → C → Type 0) (Asks
           closed = is.closed_then;
           answered = is.answered;
           paid = is.paid;
+          kept = on_ok result _ _ (λ (none : is.last.lost ≡ None). ap is_lost none) is.whole;
           store_is = refl;
           promises_are = refl;
           side_is = refl;

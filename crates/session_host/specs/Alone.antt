@@ -53,7 +53,7 @@ module _ {A S C D R W H Q K : Type 0} (Gives : C → ℕ → C → Type 0) (Asks
 
   abbrev pub AloneDoes : Parts S C D R W H → HostCall A S Q K → Parts S C D R W H → Type 0
   AloneDoes old (Lent moment store store' promises promises') new = Lends old moment store store' promises promises' new
-  AloneDoes old (Tried moment store store') new = Lends old moment store store' old.promises old.promises new
+  AloneDoes old (Tried moment store store' promises) new = Lends old moment store store' promises promises new
   AloneDoes old (Released user) new = new ≡ record old { promises = after_release old.promises user }
   AloneDoes old (Noted event) new = Told old.hooks event new.hooks × (new ≡ record old { hooks = new.hooks })
   AloneDoes old (Wrote text) new = Appends (contents old.writer) (contents new.writer) text × (new ≡ record old { writer = new.writer })

@@ -18,20 +18,25 @@ use Rattle.data_side.specs.Sides.{Given, SideCall}
 use Rattle.data_side.specs.Sides.Given.{Line, Held, Came, Closed}
 use Rattle.data_side.specs.Sides.SideCall.{Opens, Connects, Drops, Starts, Aborts, Looks, Settles}
 use Rattle.data_side.specs.Told.{closes, texts}
+use Rattle.control_session.specs.Rows.{Outcome}
+use Rattle.control_session.specs.Rows.Outcome.{Made, Stopped}
 use Rattle.control_session.specs.Turns.{concat, due}
 use Rattle.control_session.specs.declared.fault.ControlFault.{ControlFault}
 use Rattle.control_session.specs.declared.fault.ControlFault.TheVariants.{Memory}
 use Rattle.session_host.specs.Alone.{Parts}
 
--- Where a session stands: what it knows; what came of the data side and was not taken; the lines that were taken so far; the users
--- whose floors are still to be released; whether the control connection is to be closed; the store, the floors, the clock, the data
--- side and the handler.
+-- Where a session stands: what it knows; what came of the data side and was not taken; whether the data side was asked since the
+-- last line that was taken, and the last read; the lines that were taken so far; the users whose floors are still to be released;
+-- whether the control connection is to be closed; whether a reply was lost, or memory ran out for a step; the store, the floors, the
+-- clock, the data side and the handler.
 pub record Scene (S C D H K : Type 0) : Type 0 where
   pub session : Standing
   pub came : Option (DataEvent K)
+  pub asked : Bool
   pub taken : List Item
   pub owed : List ℕ
   pub closed : Bool
+  pub lost : Bool
   pub store : S
   pub promises : Promises
   pub clock : C
@@ -43,12 +48,24 @@ abbrev pub released : List ℕ → Promises → Promises
 released [] promises = promises
 released (user ∷ users) promises = released users (after_release promises user)
 
+-- nothing is left to be done: the data side was asked, what came of it was taken, and no held line is due
+abbrev pub Rests : {S C D H K : Type 0} → Scene S C D H K → Type 0
+Rests now = (now.came ≡ None) × (now.asked ≡ true) × (due now.session ≡ false)
+
+-- a line may ask something of the data side, which is then to be asked what comes of it
+abbrev pub still_asked : {K : Type 0} → Given K → Bool → Bool
+still_asked (Line item) asked = false
+still_asked Held asked = false
+still_asked (Came event) asked = asked
+still_asked Closed asked = asked
+
 -- What may come next among these lines, what then is left of what came, and the lines that are taken then: what came of the data
--- side; a held line that is due, where nothing came; the next line, where no held line is due; Closed at any time.
+-- side; a held line that is due, where the data side was asked and nothing came; the next line, where nothing is left to be done;
+-- Closed at any time.
 abbrev pub Follows : {S C D H K : Type 0} → List Item → Scene S C D H K → Given K → Option (DataEvent K) → List Item → Type 0
 Follows items now (Came event) came taken = (now.came ≡ Some event) × (came ≡ None) × (taken ≡ now.taken)
-Follows items now Held came taken = (now.came ≡ None) × (due now.session ≡ true) × (came ≡ None) × (taken ≡ now.taken)
-Follows items now (Line item) came taken = (now.came ≡ None) × (due now.session ≡ false) × (now.closed ≡ false)
+Follows items now Held came taken = (now.came ≡ None) × (now.asked ≡ true) × (due now.session ≡ true) × (came ≡ None) × (taken ≡ now.taken)
+Follows items now (Line item) came taken = Rests now × (now.closed ≡ false)
     × ((rest : List Item) × (items ≡ now.taken ++ item ∷ rest)) × (came ≡ None) × (taken ≡ now.taken ++ item ∷ [])
 Follows items now Closed came taken = (came ≡ now.came) × (taken ≡ now.taken)
 
@@ -68,7 +85,7 @@ module _ {A D H Q K : Type 0} (Asks : D → SideCall A Q K → D → Type 0) (To
   Serves (ReleaseFloor user ∷ actions) side hooks side' hooks' = Serves actions side hooks side' hooks'
 
 -- Row says which rows there are, Gives which moments the clock may give.
-module _ {A S C D H Q K : Type 0} (Row : Standing → Given K → ℕ → S → S → Promises → Promises → Standing → List (Action A Q K) → Type 0)
+module _ {A S C D H Q K : Type 0} (Row : Standing → Given K → ℕ → S → S → Promises → Outcome A Q K → Type 0)
     (Gives : C → ℕ → C → Type 0) (Asks : D → SideCall A Q K → D → Type 0) (Told : H → Event → H → Type 0) where
   -- An input is taken: its row, at a moment that the clock gives. Floors are released, the calls of its actions are made, and this is
   -- what they say.
@@ -80,25 +97,30 @@ module _ {A S C D H Q K : Type 0} (Row : Standing → Given K → ℕ → S → 
     pub paid : List ℕ
     pub next : Follows items before given after.came after.taken
     pub gives : Gives before.clock moment after.clock
-    pub row : Row before.session given moment before.store after.store before.promises promises after.session actions
+    pub asked : after.asked ≡ still_asked given before.asked
+    pub row : Row before.session given moment before.store after.store before.promises (Made promises after.session actions)
     pub owes : releases actions ++ before.owed ≡ paid ++ after.owed
     pub promises_are : after.promises ≡ released paid promises
     pub serves : Serves Asks Told actions before.side before.hooks after.side after.hooks
     pub closed : after.closed ≡ (before.closed || closes actions)
+    pub lost : before.lost ≡ true → after.lost ≡ true
     pub says_is : says ≡ texts actions
 
-  -- what one thing is that a session does, beside reading and writing, and what is said for it
+  -- what one thing is that a session does, beside writing, and what is said for it
   pub data Act (items : List Item) (before : Scene S C D H K) (says : List ℕ) (after : Scene S C D H K) : Type 0 where
     Turns : IsTurned items before says after → Act items before says after
-    -- the data side is asked what has come, or for the end of what still runs
-    Hears : (event : Option (DataEvent K)) → before.came ≡ None → after ≡ record before { came = event; side = after.side }
-        → (Asks before.side (Looks event) after.side) ⊎ (Asks before.side (Settles event) after.side) → says ≡ [] → Act items before says after
+    -- the data side is asked what has come, or, once the session is closed, for the end of what still runs
+    Hears : (event : Option (DataEvent K)) → before.came ≡ None → after ≡ record before { came = event; asked = true; side = after.side }
+        → (Asks before.side (Looks event) after.side) ⊎ ((is_closed before.session.view.stage ≡ true) × Asks before.side (Settles event) after.side) → says ≡ [] → Act items before says after
+    -- something is read, or nothing has come yet: only where nothing is left to be done
+    Listens : Rests before → before.closed ≡ false → after ≡ record before { asked = false } → says ≡ [] → Act items before says after
     -- a floor that was owed is released
     Frees : (user : ℕ) (owed : List ℕ) → before.owed ≡ user ∷ owed
         → after ≡ record before { owed = owed; promises = after_release before.promises user } → says ≡ [] → Act items before says after
-    -- there was no memory for a step: the floors stay
-    Lacks : (moment : ℕ) → Gives before.clock moment after.clock
-        → after ≡ record before { clock = after.clock; store = after.store } → says ≡ [] → Act items before says after
+    -- there was no memory for the step of what came next: the floors stay, and the store is as that row's looks at it, if any, leave it
+    Lacks : (given : Given K) (moment : ℕ) (came : Option (DataEvent K)) (taken : List Item) → Follows items before given came taken → Gives before.clock moment after.clock
+        → Row before.session given moment before.store after.store before.promises Stopped
+        → after ≡ record before { lost = true; clock = after.clock; store = after.store } → says ≡ [] → Act items before says after
 
   -- one after another, each with what is said for it
   abbrev pub Acts : List (List ℕ) → List Item → Scene S C D H K → Scene S C D H K → Type 0
@@ -117,16 +139,19 @@ module _ {A S C D H Q K : Type 0} (Row : Standing → Given K → ℕ → S → 
       pub actions : List (Action A Q K)
       pub side : D
       pub hooks : H
+      pub lost : Bool
       pub last : Scene S C D H K
       pub row : Then session.view actions ≡ greeting session.view
       pub serves : Serves Asks Told actions old.side old.hooks side hooks
       pub said : List (List ℕ)
       pub acts : Acts said items
-          (record { session = session; came = None; taken = []; owed = []; closed = false; store = old.store; promises = old.promises; clock = old.clock; side = side; hooks = hooks })
+          (record { session = session; came = None; asked = false; taken = []; owed = []; closed = false; lost = lost; store = old.store; promises = old.promises; clock = old.clock; side = side; hooks = hooks })
           last
       pub closed : is_closed last.session.view.stage ≡ true
       pub answered : last.came ≡ None
       pub paid : last.owed ≡ []
+      -- memory ran out for no step
+      pub kept : OnOk result (last.lost ≡ false)
       pub store_is : new.store ≡ last.store
       pub promises_are : new.promises ≡ last.promises
       pub side_is : new.side ≡ last.side

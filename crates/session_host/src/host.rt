@@ -2,15 +2,15 @@
 
 ghost use Rattle.std.specs.Prelude.{◌≡◌, ◌<◌};
 
-use crate::stepping::step_lent;
 use authorizer::Authorizer;
 use control_session::{DataEvent, DataSide, Host, Leaving, Moments, Piece, Session};
 use ftp_wire::HostPort;
 use handler_hooks::{Hooks, tell};
+use lent_step::{close_by, end_by, step_by};
 use rate_floors::Floors;
 use session_table::{Action, HookCall, Input, Job, Text};
 use std::alloc::{Allocator, Global};
-use std::{io, mem};
+use std::io;
 use text_ends::{TextReader, TextWriter};
 use virtual_tree::Store;
 
@@ -75,37 +75,31 @@ impl<
         input: &mut Option<Input<Global, S::Sink>>,
     ) -> Result<Vec<Action<Global, S::Source, S::Sink>>, Option<DataEvent<S::Sink>>> {
         let moment = self.clock.moment();
-        let Some(input) = mem::replace(input, None) else {
-            return Err(None);
-        };
-        match step_lent(users, session, self.floors, self.store, input, moment) {
-            Ok(actions) => Ok(actions),
-            Err(back) => Err(back),
-        }
+        step_by(session, users, self.floors, self.store, input, moment)
     }
 
     fn close(
         &mut self,
-        _users: &Authorizer,
+        users: &Authorizer,
         session: &mut Session,
         nobody: &mut Option<Text>,
     ) -> Option<Leaving<Global>> {
-        self.clock.moment();
-        match mem::replace(nobody, None) {
+        let moment = self.clock.moment();
+        match nobody.take() {
+            Some(nobody) => close_by(session, users, self.floors, self.store, nobody, moment),
             None => unreachable!(),
-            Some(nobody) => session.leave::<S>(nobody),
         }
     }
 
     fn end(
         &mut self,
-        _users: &Authorizer,
+        users: &Authorizer,
         session: &mut Session,
         event: &mut Option<DataEvent<S::Sink>>,
     ) {
         let moment = self.clock.moment();
-        if let Some(event) = mem::replace(event, None) {
-            session.take_event_silently(self.store, event, moment);
+        if let Some(event) = event.take() {
+            end_by(session, users, self.floors, self.store, event, moment);
         }
     }
 

@@ -7,7 +7,6 @@ mod alone;
 mod given;
 mod host;
 mod silent;
-mod stepping;
 
 pub use alone::run_alone;
 pub use control_session::{
@@ -17,4 +16,3 @@ pub use given::{GivesSettings, HasUsers};
 pub use handler_hooks::Hooks;
 pub use host::{SoleHost, piece_of};
 pub use silent::Silent;
-pub use stepping::step_lent;

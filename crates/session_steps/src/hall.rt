@@ -3,6 +3,7 @@
 use crate::fault::Fault;
 use crate::made::{make_floors, make_store};
 use crate::told::{Actions, Job, put, put_answer, put_connect, put_hook, put_job, put_octets};
+use fail_store::FailStore;
 use ftp_terms::Kind;
 use memory_store::{MemSink, MemSource, MemStore};
 use rate_floors::Floors;
@@ -14,7 +15,8 @@ use virtual_tree::{Sink, Store};
 #[derive(Drop)]
 pub(crate) struct Hall {
     pub alloc: Global,
-    pub store: MemStore,
+    /// It fails once, where a word says so.
+    pub store: FailStore<MemStore>,
     pub floors: Floors,
     /// The number of ann, and whether another session of hers is there.
     ann: u32,
@@ -40,7 +42,7 @@ impl Hall {
         let floors = make_floors(alloc, ann)?;
         Ok(Hall {
             alloc,
-            store,
+            store: FailStore { store, left: None },
             floors,
             ann,
             has_other: false,
@@ -96,7 +98,7 @@ impl Hall {
             Action::Abort => self.note("[abort]\r\n"),
             Action::CloseControl => self.note("[close]\r\n"),
             Action::ReleaseFloor(user) => self.release(user),
-            Action::Hook(call) => put_hook(&mut self.told, &call),
+            Action::Hook(call) => put_hook(&mut self.told, self.alloc, &call),
         }
     }
 
@@ -113,7 +115,7 @@ impl Hall {
     /// What the store has at a path: of a directory its names, of a file its moment and octets.
     pub fn look(&mut self, path: &str) -> Result<(), Fault> {
         let path = VPath::root(self.alloc).resolve(self.alloc, path)?;
-        let meta = self.store.stat(&path)?;
+        let meta = self.store.store.stat(&path)?;
         match meta.kind {
             Kind::File => self.look_into(&path, meta.modified),
             Kind::Directory => self.look_around(&path),
@@ -121,7 +123,7 @@ impl Hall {
     }
 
     fn look_around(&mut self, path: &VPath) -> Result<(), Fault> {
-        for entry in &self.store.list(path)? {
+        for entry in &self.store.store.list(path)? {
             self.note(entry.name.as_str())?;
             self.note("\r\n")?;
         }
@@ -131,7 +133,7 @@ impl Hall {
     fn look_into(&mut self, path: &VPath, second: u64) -> Result<(), Fault> {
         let text = format!(in self.alloc; "{second}: ")?;
         self.note(text.as_str())?;
-        let mut source = self.store.open_read(path, 0)?;
+        let mut source = self.store.store.open_read(path, 0)?;
         put_octets(&mut self.told, &mut source)?;
         self.note("\r\n")
     }

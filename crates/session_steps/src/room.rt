@@ -89,9 +89,8 @@ impl Room {
             Word::Port(port) => self.give(stage, Input::DataReady(port)),
             Word::Closed => self.give(stage, Input::Closed),
             Word::End(end, octets) => self.end(stage, end, octets),
-            Word::At(_) | Word::Look(_) | Word::Other | Word::Deaf | Word::Lost => stage.follow(
-                word,
-            ),
+            Word::At(_) | Word::Fail(_) | Word::Look(_) | Word::Other | Word::Deaf | Word::Lost =>
+                stage.follow(word),
         }
     }
 

@@ -6,6 +6,7 @@ ghost use Rattle.control_session.specs.Calls.{reads_within};
 ghost use Rattle.control_session.specs.Rows.{IsRow};
 ghost use Rattle.control_session.specs.Turns.{Stepped};
 ghost use Rattle.data_side.specs.Sides.Given.{Came};
+ghost use Rattle.fail_store.specs.Failing.{FailStep};
 ghost use Rattle.memory_store.specs.InMemory.{InMemory};
 ghost use Rattle.session_steps.specs.Unsaid.{AnyCall};
 ghost use Rattle.session_table.specs.Views.{is_closed};
@@ -16,6 +17,7 @@ use crate::told::{Job, put_connect, put_hook};
 use crate::words::{Word, asked};
 use authorizer::Authorizer;
 use control_session::{DataEvent, Host, Leaving, Piece, Session};
+use fail_store::FailStore;
 use ftp_wire::HostPort;
 use lent_step::{close_by, end_by, step_by};
 use memory_store::{MemSink, MemSource, MemStore};
@@ -116,6 +118,10 @@ impl<R: BufRead, W: Write> Stage<R, W> {
                 self.hall.moment = moment;
                 Ok(())
             }
+            Word::Fail(passes) => {
+                self.hall.store.left = Some(passes);
+                Ok(())
+            }
             Word::Deaf => {
                 self.is_deaf = true;
                 Ok(())
@@ -133,7 +139,9 @@ impl<R: BufRead, W: Write> Stage<R, W> {
             Word::Port(port) => self.came = Some(DataEvent::Ready(port)),
             Word::End(end, octets) => self.end(end, octets),
             Word::Anew | Word::Talk | Word::Remove(_) => return Err(Fault::Word),
-            Word::Other | Word::Look(_) | Word::At(_) | Word::Deaf => self.follow(word)?,
+            Word::Other | Word::Look(_) | Word::At(_) | Word::Fail(_) | Word::Deaf => self.follow(
+                word,
+            )?,
         }
         Ok(false)
     }
@@ -185,8 +193,8 @@ impl<R: BufRead, W: Write> Stage<R, W> {
         event: DataEvent<MemSink<Global>>,
     )
         requires closed { is_closed session.old.view.stage ≡ true }
-        ensures row { Stepped (IsRow {A = Global} {R = List ℕ} InMemory users.now.users) AnyCall
-            self.old session.old (Came event) session.new [] self.new }
+        ensures row { Stepped (IsRow {A = Global} {R = List ℕ} (FailStep InMemory) users.now.users)
+            AnyCall self.old session.old (Came event) session.new [] self.new }
         ensures closed { is_closed session.new.view.stage ≡ true }
     {
         let moment = self.hall.moment;
@@ -196,13 +204,13 @@ impl<R: BufRead, W: Write> Stage<R, W> {
 }
 
 impl<R: BufRead, W: Write> Host<Global> for Stage<R, W> {
-    type Store = MemStore;
+    type Store = FailStore<MemStore>;
 
     type Source = MemSource<Global>;
 
     type Sink = MemSink<Global>;
 
-    ghost Step = { InMemory };
+    ghost Step = { FailStep InMemory };
 
     ghost Does = { AnyCall };
 
@@ -252,7 +260,7 @@ impl<R: BufRead, W: Write> Host<Global> for Stage<R, W> {
     }
 
     fn note(&mut self, call: &HookCall<Global>) {
-        let done = put_hook(&mut self.hall.told, call);
+        let done = put_hook(&mut self.hall.told, self.hall.alloc, call);
         self.keep(done);
     }
 

@@ -3,9 +3,11 @@
 use crate::fault::Fault;
 use ftp_terms::DataType;
 use ftp_wire::{HostPort, port_text};
+use handler_hooks::{Hooks, tell};
 use memory_store::{MemSink, MemSource};
 use session_table::{Action, Answer, HookCall, Octets};
 use std::alloc::Global;
+use std::mem;
 use virtual_tree::Source;
 
 /// A transfer.
@@ -31,18 +33,77 @@ pub(crate) fn put_answer(told: &mut Vec<u8>, answer: Answer<Global>) -> Result<(
     Ok(answer.into_reply().write_to(told)?)
 }
 
-pub(crate) fn put_hook(told: &mut Vec<u8>, call: &HookCall<Global>) -> Result<(), Fault> {
-    match call {
-        HookCall::Connect => put(told, "[connected]\r\n"),
-        HookCall::Disconnect => put(told, "[disconnected]\r\n"),
-        HookCall::Login(name) => put_named(told, "[login ", name.as_str()),
-        HookCall::LoginFailed(name) => put_named(told, "[failed ", name.as_str()),
-        HookCall::Logout(name) => put_named(told, "[logout ", name.as_str()),
-        HookCall::FileSent(path) => put_named(told, "[sent ", path.text()),
-        HookCall::FileReceived(path) => put_named(told, "[received ", path.text()),
-        HookCall::IncompleteFileSent(path) => put_named(told, "[not sent ", path.text()),
-        HookCall::IncompleteFileReceived(path) => put_named(told, "[not received ", path.text()),
+/// A handler that notes what it is told.
+#[derive(Drop)]
+struct Noter {
+    told: Vec<u8>,
+    noted: Result<(), Fault>,
+}
+
+impl Noter {
+    fn note(&mut self, text: &str) {
+        self.noted = put(&mut self.told, text);
     }
+
+    fn note_named(&mut self, word: &str, name: &str) {
+        self.noted = put_named(&mut self.told, word, name);
+    }
+}
+
+impl Hooks for Noter {
+    ghost Told = { λ _ _ _. Unit {0} };
+
+    fn on_connect(&mut self) {
+        self.note("[connected]\r\n");
+    }
+
+    fn on_disconnect(&mut self) {
+        self.note("[disconnected]\r\n");
+    }
+
+    fn on_login(&mut self, user: &str) {
+        self.note_named("[login ", user);
+    }
+
+    fn on_login_failed(&mut self, user: &str) {
+        self.note_named("[failed ", user);
+    }
+
+    fn on_logout(&mut self, user: &str) {
+        self.note_named("[logout ", user);
+    }
+
+    fn on_file_sent(&mut self, path: &str) {
+        self.note_named("[sent ", path);
+    }
+
+    fn on_file_received(&mut self, path: &str) {
+        self.note_named("[received ", path);
+    }
+
+    fn on_incomplete_file_sent(&mut self, path: &str) {
+        self.note_named("[not sent ", path);
+    }
+
+    fn on_incomplete_file_received(&mut self, path: &str) {
+        self.note_named("[not received ", path);
+    }
+}
+
+/// What a handler notes.
+pub(crate) fn put_hook(
+    told: &mut Vec<u8>,
+    alloc: Global,
+    call: &HookCall<Global>,
+) -> Result<(), Fault> {
+    let mut noter = Noter {
+        told: mem::replace(told, Vec::new(alloc)),
+        noted: Ok(()),
+    };
+    tell(&mut noter, call);
+    let Noter { told: all, noted } = noter;
+    *told = all;
+    noted
 }
 
 pub(crate) fn put_connect(told: &mut Vec<u8>, alloc: Global, to: HostPort) -> Result<(), Fault> {

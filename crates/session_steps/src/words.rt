@@ -18,6 +18,8 @@ pub(crate) enum Word<'a> {
     Deaf,
     /// `:lost`: in a whole session, the read of the next line fails.
     Lost,
+    /// `:fail N`: the store passes so many calls, but those of the program itself, and fails the next.
+    Fail(u64),
     /// `:other`: another session of ann logs in where its rate can be guaranteed, or leaves.
     Other,
     /// `:at N`: the moment of what follows, in milliseconds since 1970.
@@ -61,6 +63,7 @@ fn ended<'a>(how: &'a str) -> Option<Word<'a>> {
 fn longer<'a>(word: &str, rest: &'a str) -> Option<Word<'a>> {
     match word {
         "at" => Some(Word::At(rest.parse().ok()?)),
+        "fail" => Some(Word::Fail(rest.parse().ok()?)),
         "remove" => Some(Word::Remove(rest)),
         "look" => Some(Word::Look(rest)),
         "end" => ended(rest),

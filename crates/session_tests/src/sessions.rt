@@ -12,8 +12,14 @@ use server_config::Config;
 use session_core::Session;
 use session_table::Input;
 use std::alloc::AllocError;
+use std::io;
+use std::io::Write;
 use std::process::Abort;
 use std::test::Fail;
+use text_ends::{Outside, TextWriter};
+
+/// The end of a long name.
+const LONG: &str = "abcdefghijklmnopqrstuvwxyzabcdefghijklmnopqrstuvwxyzabcdefghijklmnopqrstuvwxyz";
 
 /// A configuration of one user.
 const SMALL: &str = "version = 1
@@ -79,6 +85,86 @@ fn in_room(rt: &(impl Abort + AllocGlobal), room: &mut Room) {
 fn whole_sessions(rt: HostRuntime) {
     let mut room = make_room(&rt);
     in_room(&rt, &mut room);
+}
+
+/// A client who takes a few octets of a reply at a time.
+#[derive(Drop)]
+struct SlowClient {
+    taken: Vec<u8>,
+}
+
+impl Write for SlowClient {
+    fn write(&mut self, octets: &[u8]) -> io::Result<usize> {
+        let (front, _) = octets.split_at(octets.len().min(7));
+        self.taken.extend_from_slice(front)?;
+        Ok(front.len())
+    }
+
+    fn flush(&mut self) -> io::Result<()> {
+        Ok(())
+    }
+}
+
+/// Says a text to a session of this room.
+fn talk(
+    rt: &(impl Abort + AllocGlobal),
+    room: &mut Room,
+    text: &[u8],
+    writer: &mut impl TextWriter,
+) {
+    let Room {
+        users,
+        floors,
+        store,
+        state: _,
+    } = room;
+    let mut input = text;
+    let alloc = rt.alloc();
+    serve_text(
+        alloc,
+        &mut input,
+        writer,
+        users,
+        floors,
+        store,
+        settings(),
+        40_000,
+    )
+    .expect(rt, "a session");
+}
+
+/// A login, and directories with long names, so that their listing has some 13,000 octets.
+fn make_many(rt: &(impl Abort + AllocGlobal)) -> Vec<u8> {
+    let mut text = Vec::new(rt.alloc());
+    text.extend_from_slice(b"USER ann\r\nPASS secret\r\n")
+        .expect(rt, "memory");
+    for number in 100..200u32 {
+        let name = format!(in rt.alloc(); "MKD {number}{LONG}\r\n").expect(rt, "memory");
+        text.extend_from_slice(name.as_str().as_bytes())
+            .expect(rt, "memory");
+    }
+    text
+}
+
+/// A reply that is longer than a socket's buffer is written whole and in order, however few octets go at a time.
+#[test]
+fn a_long_reply(rt: HostRuntime) {
+    let mut room = make_room(&rt);
+    talk(
+        &rt,
+        &mut room,
+        &make_many(&rt),
+        &mut Vec::<u8>::new(rt.alloc()),
+    );
+    let lines = b"USER ann\r\nPASS secret\r\nSTAT /\r\n";
+    let mut whole: Vec<u8> = Vec::new(rt.alloc());
+    talk(&rt, &mut room, lines, &mut whole);
+    holds(&rt, 10_000 < whole.len());
+    let mut slow = Outside(SlowClient {
+        taken: Vec::new(rt.alloc()),
+    });
+    talk(&rt, &mut room, lines, &mut slow);
+    same(&rt, slow.0.taken.as_slice(), whole.as_slice());
 }
 
 #[test]

@@ -3,11 +3,11 @@
 ghost use Rattle.std.specs.Prelude.{◌≡◌, IfErr, IfOk, IfSome, OnErr, [], true};
 ghost use Rattle.std.specs.declared.alloc.Global.{Global};
 ghost use Rattle.control_turns.specs.Rows.{IsRow};
-ghost use Rattle.control_turns.specs.Turns.{Stepped};
+ghost use Rattle.control_turns.specs.Turns.{StepTried, Stepped};
 ghost use Rattle.data_side.specs.Sides.{event_in, given_of};
 ghost use Rattle.data_side.specs.Sides.Given.{Came};
 ghost use Rattle.session_table.specs.Views.{is_closed};
-ghost use Rattle.socket_host.specs.Unsaid.{AnyCall, WasTried};
+ghost use Rattle.socket_host.specs.Unsaid.{AnyCall};
 
 use crate::control::ControlSocket;
 use crate::moments::millis_since_1970;
@@ -107,7 +107,9 @@ where
             Stepped (IsRow S.Step users.now.users) AnyCall
             self.old session.old (given_of input) session.new actions.items self.new)) }
         ensures unchanged { OnErr result (session.new ≡ session.old) }
-        ensures tried { IfSome input.old (λ input. OnErr result (WasTried S)) }
+        ensures tried { IfSome input.old (λ input. OnErr result (
+            StepTried (IsRow {A = Global} {R = S.Source} S.Step users.now.users) AnyCall
+            self.old session.old (given_of input) self.new)) }
         ensures back { IfSome input.old (λ input. IfErr result (λ back. back ≡ event_in input)) }
     {
         let moment = millis_since_1970(self.rt);
@@ -127,7 +129,9 @@ where
             Stepped (IsRow S.Step users.now.users) AnyCall
             self.old session.old (given_of input) session.new actions.items self.new)) }
         ensures unchanged { OnErr result (session.new ≡ session.old) }
-        ensures tried { IfSome input.old (λ input. OnErr result (WasTried S)) }
+        ensures tried { IfSome input.old (λ input. OnErr result (
+            StepTried (IsRow {A = Global} {R = S.Source} S.Step users.now.users) AnyCall
+            self.old session.old (given_of input) self.new)) }
         ensures back { IfSome input.old (λ input. IfErr result (λ back. back ≡ event_in input)) }
     {
         let moment = millis_since_1970(self.rt);

@@ -1,6 +1,7 @@
 use Rattle.std.proofs.Common.{ℕ, ◌≡◌, ◌+◌, ◌≤◌, ◌∙◌, inl, inr, List, [], ◌++◌, Bool, true, Err, refl, sym, ap, arith}
 use Rattle.std.proofs.lemmas.List.{append-nil}
 use Rattle.control_session.specs.Sessions.{nothing}
+use Rattle.control_turns.specs.Turns.{asked_as}
 use Rattle.control_session.specs.declared.fault.ControlFault.{ControlFault}
 use Rattle.control_turns.proofs.Going.{of_err_ok, over_by, pick, went_more, went_none}
 use Rattle.control_session.proofs.Listening.{no_turn_read, same_read}
@@ -14,7 +15,8 @@ returns-in_err-unless_lost-clause-went g c =
 pub returns-in_err-catch_up-clause-went : goal.returns-in_err-catch_up-clause-went
 returns-in_err-catch_up-clause-went g c =
     let rest = of_err_ok c.from_residual-in_err-catch_up.result _ _ c.from_residual-in_err-catch_up.ensures.0 ([], [], refl, c.requires.start) in
-    ([], nothing, c.catch_up.ensures.went [] nothing, omega arith, (λ is. absurd (no_turn_read c.from_residual-in_err-catch_up.result _ c.from_residual-in_err-catch_up.ensures.1 is)), rest.0, rest.1)
+    let first = c.catch_up.ensures.went [] nothing in
+    ([], asked_as first.0 nothing, first.1, omega arith, (λ is. absurd (no_turn_read c.from_residual-in_err-catch_up.result _ c.from_residual-in_err-catch_up.ensures.1 is)), rest.0, rest.1)
 
 pub loop-turn-init : goal.loop-turn-init
 loop-turn-init g c = record {
@@ -22,20 +24,22 @@ loop-turn-init g c = record {
   whole = c.in_ok-catch_up.ensures.whole;
   due = c.in_ok-catch_up.ensures.due;
   room = refl;
-  far = ([], nothing, c.catch_up.ensures.went [] nothing, c.requires.start, refl, refl, inr refl);
+  far =
+      let first = c.in_ok-catch_up.ensures.went [] nothing in
+      ([], asked_as first.0 nothing, first.1, c.requires.start, refl, refl, inr refl, first.2);
 }
 
 pub returns-in_err-ended-clause-went : goal.returns-in_err-ended-clause-went
 returns-in_err-ended-clause-went g c =
     let far = c.loop-turn.invariant.far in
-    let now = c.in_err-ended.ensures.went far.0 far.1 (pick _ _ far.6 c.if-talk.false) far.3 far.5 in
+    let now = c.in_err-ended.ensures.went far.0 far.1 (pick _ _ far.6 c.if-talk.false) far.3 far.5 far.7 in
     let rest = of_err_ok c.from_residual-in_err-ended.result _ _ c.from_residual-in_err-ended.ensures.0 now.6 in
     (now.0, now.1, went_more _ _ _ _ _ _ _ _ far.2 now.2, omega (arith, now.3, far.4, c.loop-turn-test.true), (λ is. inl (now.4 (ap (λ (f : ControlFault). Err f) (same_read c.from_residual-in_err-ended.result _ c.from_residual-in_err-ended.ensures.1 is)))), rest.0, rest.1)
 
 pub returns-then-ended-clause-went : goal.returns-then-ended-clause-went
 returns-then-ended-clause-went g c =
     let far = c.loop-turn.invariant.far in
-    let now = c.in_ok-ended.ensures.went far.0 far.1 (pick _ _ far.6 c.if-talk.false) far.3 far.5 in (
+    let now = c.in_ok-ended.ensures.went far.0 far.1 (pick _ _ far.6 c.if-talk.false) far.3 far.5 far.7 in (
       now.0,
       now.1,
       went_more _ _ _ _ _ _ _ _ far.2 now.2,
@@ -45,42 +49,29 @@ returns-then-ended-clause-went g c =
       tt,
     )
 
-pub returns-in_err-catch_up-2-clause-went : goal.returns-in_err-catch_up-2-clause-went
-returns-in_err-catch_up-2-clause-went g c =
-    let far = c.loop-turn.invariant.far in
-    let now = c.in_ok-ended.ensures.went far.0 far.1 (pick _ _ far.6 c.if-talk.false) far.3 far.5 in
-    let rest = of_err_ok c.from_residual-in_err-catch_up-2.result _ _ c.from_residual-in_err-catch_up-2.ensures.0 (now.1.octets, [], sym (append-nil now.1.octets), now.5.1) in (
-      now.0,
-      now.1,
-      went_more _ _ _ _ _ _ _ _ (went_more _ _ _ _ _ _ _ _ far.2 now.2) (c.catch_up-in-loop-turn.ensures.went now.0 now.1),
-      omega (arith, now.3, far.4, c.loop-turn-test.true),
-      (λ is. absurd (no_turn_read c.from_residual-in_err-catch_up-2.result _ c.from_residual-in_err-catch_up-2.ensures.1 is)),
-      rest.0,
-      rest.1,
-    )
-
 pub loop-turn-preserved : goal.loop-turn-preserved
 loop-turn-preserved g c =
     let far = c.loop-turn.invariant.far in
-    let now = c.in_ok-ended.ensures.went far.0 far.1 (pick _ _ far.6 c.if-talk.false) far.3 far.5 in
+    let now = c.in_ok-ended.ensures.went far.0 far.1 (pick _ _ far.6 c.if-talk.false) far.3 far.5 far.7 in
     record {
-      none = c.in_ok-catch_up-2.ensures.none;
-      whole = c.in_ok-catch_up-2.ensures.whole;
-      due = c.in_ok-catch_up-2.ensures.due;
+      none = c.in_ok-ended.ensures.none;
+      whole = c.in_ok-ended.ensures.whole;
+      due = c.in_ok-ended.ensures.due;
       room = c.hear.ensures.buffer ∙ c.loop-turn.invariant.room;
       far = (
         now.0,
         now.1,
-        went_more _ _ _ _ _ _ _ _ (went_more _ _ _ _ _ _ _ _ far.2 now.2) (c.catch_up-in-loop-turn.ensures.went now.0 now.1),
+        went_more _ _ _ _ _ _ _ _ far.2 now.2,
         now.5.1,
         now.3 ∙ ap (λ (n : ℕ). n + 1) far.4,
         now.5.0 ∙ c.if-ended.false,
         inr (pick _ _ now.5.2 c.if-talk-2.false),
+        pick _ _ now.5.3 c.if-ended.false,
       );
     }
 
 pub returns-then-talk-2-clause-went : goal.returns-then-talk-2-clause-went
 returns-then-talk-2-clause-went g c =
     let far = c.loop-turn.invariant.far in
-    let now = c.in_ok-ended.ensures.went far.0 far.1 (pick _ _ far.6 c.if-talk.false) far.3 far.5 in
+    let now = c.in_ok-ended.ensures.went far.0 far.1 (pick _ _ far.6 c.if-talk.false) far.3 far.5 far.7 in
     (now.0, now.1, went_more _ _ _ _ _ _ _ _ far.2 now.2, omega (arith, now.3, far.4, c.loop-turn-test.true), (λ is. absurd (cc)), (now.5.1, inl c.if-talk-2.true), tt)

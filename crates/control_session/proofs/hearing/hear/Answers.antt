@@ -1,21 +1,21 @@
-use Rattle.std.proofs.Common.{ℕ, ◌≡◌, ◌+◌, ◌∙◌, inl, inr, List, [], ◌++◌, Bool, true, take, refl, sym, ap, subst}
+use Rattle.std.proofs.Common.{ℕ, ◌≡◌, ◌+◌, ◌∙◌, inl, inr, List, [], ◌++◌, Bool, true, false, take, refl, sym, ap, subst}
 use Rattle.std.proofs.lemmas.List.{append-nil}
 use Rattle.control_turns.specs.Calls.{piece_call}
 use Rattle.control_turns.specs.declared.host.Piece.{Piece}
 use Rattle.control_turns.specs.declared.host.Piece.TheVariants.{Octets, Nothing, AtEnd}
-use Rattle.control_turns.specs.Turns.{Heard}
+use Rattle.control_turns.specs.Turns.{Heard, asked_as}
 use Rattle.control_turns.proofs.Going.{heard_as, of_err, or_false, or_true, went_more}
 use Rattle.control_turns.proofs.Turning.{ends_went, fails_went, reads_went}
 use Rattle.ftp_wire.specs.Items.{Item}
 use Rattle.ftp_wire.specs.Reading.{HasRead, items_of}
-use Rattle.control_session.proofs.Listening.{more, no_memory_read, no_turn_read}
+use Rattle.control_session.proofs.Listening.{more, no_memory_read, no_turn_read, nothing_more}
 use Rattle.control_session.proofs.hearing.hear.Goals as goal
 
 pub returns-in-Err-clause-went : goal.returns-in-Err-clause-went
-returns-in-Err-clause-went g c taken heard all has unended = (
+returns-in-Err-clause-went g c taken heard all has unended asked = (
   taken,
-  record heard { reads = heard.reads + 1; failed = true },
-  fails_went _ _ _ _ _ _ taken heard [] _ _ c.requires.live unended c.in-Err.ensures.did,
+  record heard { reads = heard.reads + 1; failed = true; asked = false },
+  fails_went _ _ _ _ _ _ taken heard [] _ _ (c.requires.none, asked, c.requires.due) c.requires.live unended c.in-Err.ensures.did,
   refl,
   (λ is. refl),
   tt,
@@ -23,7 +23,7 @@ returns-in-Err-clause-went g c taken heard all has unended = (
 )
 
 pub returns-in_err-items-in-Octets-clause-went : goal.returns-in_err-items-in-Octets-clause-went
-returns-in_err-items-in-Octets-clause-went g c taken heard all has unended =
+returns-in_err-items-in-Octets-clause-went g c taken heard all has unended asked =
     let octets = take c.in-Octets.count c.read.new.buffer in
     let did = heard_as g.H.Host.Does _ _ c.read.new.buffer _ (Octets c.in-Octets.count) c.in-Octets.is c.in-Ok.ensures.did in
     let rest = of_err c.from_residual.result _ _ c.from_residual.ensures.0 (
@@ -35,7 +35,7 @@ returns-in_err-items-in-Octets-clause-went g c taken heard all has unended =
     ) in (
       taken,
       more heard octets [],
-      reads_went _ _ _ _ _ _ taken heard [] _ _ octets [] c.requires.live unended did,
+      reads_went _ _ _ _ _ _ taken heard [] _ _ octets [] (c.requires.none, asked, c.requires.due) c.requires.live unended did,
       refl,
       (λ is. absurd (no_memory_read c.from_residual.result c.from_residual.ensures.1 is)),
       rest.0,
@@ -43,7 +43,7 @@ returns-in_err-items-in-Octets-clause-went g c taken heard all has unended =
     )
 
 pub returns-in_err-take_lines-in-Octets-clause-went : goal.returns-in_err-take_lines-in-Octets-clause-went
-returns-in_err-take_lines-in-Octets-clause-went g c taken heard all has unended =
+returns-in_err-take_lines-in-Octets-clause-went g c taken heard all has unended asked =
     let octets = take c.in-Octets.count c.read.new.buffer in
     let found = items_of c.in_ok-items-in-Octets.items.items in
     let did = heard_as g.H.Host.Does _ _ c.read.new.buffer _ (Octets c.in-Octets.count) c.in-Octets.is c.in-Ok.ensures.did in
@@ -51,8 +51,8 @@ returns-in_err-take_lines-in-Octets-clause-went g c taken heard all has unended 
     let rest = of_err c.from_residual-in_err-take_lines-in-Octets.result _ _ c.from_residual-in_err-take_lines-in-Octets.ensures.0
     (heard.octets ++ octets, [], sym (append-nil (heard.octets ++ octets)), c.in_ok-items-in-Octets.ensures.reads heard.octets heard.items has) in (
       lines.0,
-      more heard octets found,
-      went_more _ _ _ _ _ _ _ _ (reads_went _ _ _ _ _ _ taken heard [] _ _ octets found c.requires.live unended did) lines.1,
+      asked_as lines.1 (more heard octets found),
+      went_more _ _ _ _ _ _ _ _ (reads_went _ _ _ _ _ _ taken heard [] _ _ octets found (c.requires.none, asked, c.requires.due) c.requires.live unended did) lines.2,
       refl,
       (λ is. absurd (no_turn_read c.from_residual-in_err-take_lines-in-Octets.result _ c.from_residual-in_err-take_lines-in-Octets.ensures.1 is)),
       rest.0,
@@ -60,45 +60,60 @@ returns-in_err-take_lines-in-Octets-clause-went g c taken heard all has unended 
     )
 
 pub returns-in_ok-take_lines-in-Octets-clause-went : goal.returns-in_ok-take_lines-in-Octets-clause-went
-returns-in_ok-take_lines-in-Octets-clause-went g c taken heard all has unended =
+returns-in_ok-take_lines-in-Octets-clause-went g c taken heard all has unended asked =
     let octets = take c.in-Octets.count c.read.new.buffer in
     let found = items_of c.in_ok-items-in-Octets.items.items in
     let did = heard_as g.H.Host.Does _ _ c.read.new.buffer _ (Octets c.in-Octets.count) c.in-Octets.is c.in-Ok.ensures.did in
     let lines = c.in_ok-take_lines-in-Octets.ensures.went taken (more heard octets found) (ap (λ (x : List Item). x ++ found) all) in (
       lines.0,
-      more heard octets found,
-      went_more _ _ _ _ _ _ _ _ (reads_went _ _ _ _ _ _ taken heard [] _ _ octets found c.requires.live unended did) lines.1,
+      asked_as lines.1 (more heard octets found),
+      went_more _ _ _ _ _ _ _ _ (reads_went _ _ _ _ _ _ taken heard [] _ _ octets found (c.requires.none, asked, c.requires.due) c.requires.live unended did) lines.2,
       refl,
       (λ is. absurd (cc)),
-      (unended, c.in_ok-items-in-Octets.ensures.reads heard.octets heard.items has, lines.2),
+      (unended, c.in_ok-items-in-Octets.ensures.reads heard.octets heard.items has, lines.3.1, inr lines.3.0),
       tt,
     )
 
-pub returns-in-Nothing-clause-went : goal.returns-in-Nothing-clause-went
-returns-in-Nothing-clause-went g c taken heard all has unended =
-    let did = heard_as g.H.Host.Does _ _ c.read.new.buffer _ Nothing c.in-Nothing.is c.in-Ok.ensures.did in (
+pub returns-in_err-catch_up-in-Nothing-clause-went : goal.returns-in_err-catch_up-in-Nothing-clause-went
+returns-in_err-catch_up-in-Nothing-clause-went g c taken heard all has unended asked =
+    let did = heard_as g.H.Host.Does _ _ c.read.new.buffer _ Nothing c.in-Nothing.is c.in-Ok.ensures.did in
+    let first = c.catch_up.ensures.went taken (more heard [] []) in
+    let rest = of_err c.from_residual-in_err-catch_up-in-Nothing.result _ _ c.from_residual-in_err-catch_up-in-Nothing.ensures.0 (heard.octets, [], refl, nothing_more heard c.args.lines.now has) in (
       taken,
-      more heard [] [],
-      reads_went _ _ _ _ _ _ taken heard [] _ _ [] [] c.requires.live unended did,
+      asked_as first.0 (more heard [] []),
+      went_more _ _ _ _ _ _ _ _ (reads_went _ _ _ _ _ _ taken heard [] _ _ [] [] (c.requires.none, asked, c.requires.due) c.requires.live unended did) first.1,
+      refl,
+      (λ is. absurd (no_turn_read c.from_residual-in_err-catch_up-in-Nothing.result _ c.from_residual-in_err-catch_up-in-Nothing.ensures.1 is)),
+      rest.0,
+      rest.1,
+    )
+
+pub returns-in_ok-catch_up-in-Nothing-clause-went : goal.returns-in_ok-catch_up-in-Nothing-clause-went
+returns-in_ok-catch_up-in-Nothing-clause-went g c taken heard all has unended asked =
+    let did = heard_as g.H.Host.Does _ _ c.read.new.buffer _ Nothing c.in-Nothing.is c.in-Ok.ensures.did in
+    let first = c.in_ok-catch_up-in-Nothing.ensures.went taken (more heard [] []) in (
+      taken,
+      asked_as first.0 (more heard [] []),
+      went_more _ _ _ _ _ _ _ _ (reads_went _ _ _ _ _ _ taken heard [] _ _ [] [] (c.requires.none, asked, c.requires.due) c.requires.live unended did) first.1,
       refl,
       (λ is. absurd (cc)),
       (
         unended,
-        subst (λ (x : List Item). HasRead (heard.octets ++ []) x c.args.lines.now) (sym (append-nil heard.items))
-            (subst (λ (x : List ℕ). HasRead x heard.items c.args.lines.now) (sym (append-nil heard.octets)) has),
+        subst (λ (x : List ℕ). HasRead x (heard.items ++ []) c.args.lines.now) (sym (append-nil heard.octets)) (nothing_more heard c.args.lines.now has),
         inr (append-nil heard.items ∙ all),
+        inr first.2,
       ),
       tt,
     )
 
 pub returns-in-AtEnd-clause-went : goal.returns-in-AtEnd-clause-went
-returns-in-AtEnd-clause-went g c taken heard all has unended =
+returns-in-AtEnd-clause-went g c taken heard all has unended asked =
     let did = heard_as g.H.Host.Does _ _ c.read.new.buffer _ AtEnd c.in-AtEnd.is c.in-Ok.ensures.did in (
       taken,
-      record heard { reads = heard.reads + 1; ended = true },
-      ends_went _ _ _ _ _ _ taken heard [] _ _ c.requires.live unended did,
+      record heard { reads = heard.reads + 1; ended = true; asked = false },
+      ends_went _ _ _ _ _ _ taken heard [] _ _ (c.requires.none, asked, c.requires.due) c.requires.live unended did,
       refl,
       (λ is. absurd (cc)),
-      (refl, has, inr all),
+      (refl, has, inr all, inl refl),
       tt,
     )

@@ -1,6 +1,6 @@
-use Rattle.std.proofs.Common.{ℕ, ◌≡◌, [], None, refl}
+use Rattle.std.proofs.Common.{ℕ, ◌≡◌, [], None, refl, true}
 use Rattle.control_turns.specs.Standing.{stand}
-use Rattle.control_turns.specs.Turns.{at}
+use Rattle.control_turns.specs.Turns.{asked_as, at}
 use Rattle.control_turns.proofs.Going.{on_ok_to, went_more}
 use Rattle.control_session.proofs.Listening.{on_err_to}
 use Rattle.control_session.proofs.session.run_session.Goals as goal
@@ -18,7 +18,7 @@ returns g c =
         mid = c.carry_all-lost.new.host;
         turned = c.converse-outcome.new.host;
         stood = stand talk far.0 far.1;
-        last = at c.close.new.talk.session None far.0 far.1 [] talk.closed talk.lost;
+        last = at c.close.new.talk.session None far.0 (asked_as true far.1) [] talk.closed talk.lost;
         row = c.requires.greeting;
         greets = said.2;
         greeted = said.1;

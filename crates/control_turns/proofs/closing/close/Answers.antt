@@ -1,5 +1,6 @@
-use Rattle.std.proofs.Common.{ℕ, ◌≡◌, List}
+use Rattle.std.proofs.Common.{ℕ, ◌≡◌, List, true}
 use Rattle.control_turns.specs.Standing.{owed}
+use Rattle.control_turns.specs.Turns.{asked_as}
 use Rattle.control_turns.proofs.Going.{went_more}
 use Rattle.control_turns.proofs.Turning.{came_as, leaves_went, pay_went, settles_went}
 use Rattle.control_turns.proofs.closing.close.Goals as goal
@@ -11,9 +12,9 @@ returns-clause-went g c taken heard =
     let left = c.leave-left.result in
     went_more _ _ _ _ _ _ _ _ (leaves_went _ _ _ _ _ _ _ c.args.talk.now.came taken heard closed lost c.close-leaving.result left c.leave-left.ensures.owes c.close-leaving.ensures.row (c.leave-left.ensures.carries lost))
     (went_more _ _ _ _ _ _ _ _ (came_as _ _ _ _ _ c.replace-came.result c.args.talk.now.came taken heard (owed left) closed lost _ c.replace-came.ensures.value (c.end.ensures.went taken heard (owed left) closed lost))
-    (went_more _ _ _ _ _ _ _ _ (settles_went _ _ _ _ _ taken heard (owed left) closed lost c.settle-last.result c.settle-last.ensures)
-    (went_more _ _ _ _ _ _ _ _ (c.end-2.ensures.went taken heard (owed left) closed lost)
-    (pay_went _ _ _ _ _ _ taken heard left closed lost c.pay.ensures.paid))))
+    (went_more _ _ _ _ _ _ _ _ (settles_went _ _ _ _ _ taken heard (owed left) closed lost c.settle-last.result c.end.ensures.closed c.settle-last.ensures)
+    (went_more _ _ _ _ _ _ _ _ (c.end-2.ensures.went taken (asked_as true heard) (owed left) closed lost)
+    (pay_went _ _ _ _ _ _ taken (asked_as true heard) left closed lost c.pay.ensures.paid))))
 
 pub returns-clause-closing : goal.returns-clause-closing
 returns-clause-closing g c taken heard =
@@ -30,6 +31,6 @@ returns-clause-closing g c taken heard =
           (came_as _ _ _ _ _ c.replace-came.result c.args.talk.now.came taken heard (owed left) closed lost _ c.replace-came.ensures.value (c.end.ensures.went taken heard (owed left) closed lost));
       closed_then = c.end.ensures.closed;
       settled = c.settle-last.ensures;
-      rest = went_more _ _ _ _ _ _ _ _ (c.end-2.ensures.went taken heard (owed left) closed lost)
-          (pay_went _ _ _ _ _ _ taken heard left closed lost c.pay.ensures.paid);
+      rest = went_more _ _ _ _ _ _ _ _ (c.end-2.ensures.went taken (asked_as true heard) (owed left) closed lost)
+          (pay_went _ _ _ _ _ _ taken (asked_as true heard) left closed lost c.pay.ensures.paid);
     }

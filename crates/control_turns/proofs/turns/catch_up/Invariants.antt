@@ -1,8 +1,8 @@
-use Rattle.std.proofs.Common.{ℕ, ◌≡◌, List, None, length}
+use Rattle.std.proofs.Common.{ℕ, ◌≡◌, List, None, length, true}
 use Rattle.ftp_wire.specs.Items.{Item}
 use Rattle.control_turns.specs.Rows.{IsRow}
 use Rattle.control_turns.specs.Standing.{stand}
-use Rattle.control_turns.specs.Turns.{Heard, Went}
+use Rattle.control_turns.specs.Turns.{Heard, Went, asked_as}
 use Rattle.control_turns.proofs.turns.catch_up.Given as goal
 
 abbrev pub invariant-loop-host : goal.invariant-loop-host
@@ -10,7 +10,7 @@ invariant-loop-host g l = record {
   none : l.talk.came ≡ None;
   whole : l.talk.lost ≡ None;
   went : (taken : List Item) (heard : Heard) → Went (IsRow {A = g.row.A.Denot} g.H.Host.Step l.fn.users.users) g.H.Host.Does
-      l.fn.host (stand l.fn.talk taken heard) l.host (stand l.talk taken heard);
+      l.fn.host (stand l.fn.talk taken heard) l.host (stand l.talk taken (asked_as true heard));
 }
 
 abbrev pub decreases-loop-host : goal.decreases-loop-host

@@ -1,4 +1,6 @@
 use Rattle.std.proofs.Common.{ℕ, ◌≡◌, inl, inr, List, refl}
+use Rattle.data_side.specs.Sides.{given_of}
+use Rattle.control_turns.specs.Turns.{behind}
 use Rattle.control_turns.proofs.Going.{any_ok}
 use Rattle.control_turns.proofs.Steps.{row_holds}
 use Rattle.control_turns.proofs.Turning.{acts_went, refused_went}
@@ -7,17 +9,21 @@ use Rattle.control_turns.proofs.turns.turn.Goals as goal
 pub returns-in-Err-clause-went : goal.returns-in-Err-clause-went
 returns-in-Err-clause-went g c came taken heard taken' next = (
   taken,
+  heard,
   refused_went _ _ _ _ _ _ came c.args.talk.now.came _ taken taken' heard _ _ c.args.input next c.requires.live c.in-Err.ensures.unchanged c.in-Err.ensures.back c.in-Err.ensures.tried,
   inl refl,
   tt,
+  inl refl,
 )
 
 pub returns-clause-went : goal.returns-clause-went
 returns-clause-went g c came taken heard taken' next = (
   taken',
+  behind (given_of c.args.input) heard,
   acts_went _ _ _ _ _ _ _ came _ taken taken' heard _ _ _ _ _ _ c.in-Ok.actions.items _ next c.in-Ok.ensures.row c.carry_out-talk.ensures.carries c.either-talk.ensures c.closes.ensures.closes c.deref.ensures.value,
   inr refl,
   any_ok c.ended.result _ refl,
+  inr refl,
 )
 
 pub returns-clause-held : goal.returns-clause-held

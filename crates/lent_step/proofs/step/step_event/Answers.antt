@@ -1,5 +1,8 @@
+use Rattle.std.proofs.Common.{sym, subst}
 use Rattle.session_core.specs.Events.{input_of}
+use Rattle.session_laws.specs.Steps.{SessionStops}
 use Rattle.rate_floors.specs.Promises.{admits}
+use Rattle.session_core.proofs.Plans.{step_stops_here}
 use Rattle.lent_step.proofs.Events.{event_uncounted, input_given}
 use Rattle.lent_step.proofs.step.step_event.Goals as goal
 
@@ -10,3 +13,15 @@ returns-in-Ok-clause-row g c = record {
   stepped = c.in-Ok.ensures.row (admits c.args.floors.now);
   counted = event_uncounted g.row.A.Denot c.args.users.now.users c.args.session.now.view c.args.session.now.held c.args.event c.args.floors.now;
 }
+
+pub returns-in-Err-clause-stopped : goal.returns-in-Err-clause-stopped
+returns-in-Err-clause-stopped g c =
+    let input = input_of {A = g.row.A.Denot} c.args.event in
+    let before = c.args.session.now in
+    let allows = admits c.args.floors.now in
+    record {
+      told = input;
+      told_is = input_given g.row.A.Denot c.args.event;
+      stops = subst (λ s. SessionStops {A = g.row.A.Denot} {R = g.row.S-Source.Denot} {K = g.row.S-Sink.Denot} g.S.Store.Step c.args.users.now.users allows before.view before.held c.args.moment input c.args.store.now s) (sym c.in-Err.ensures.untouched)
+          (step_stops_here g.S.Store.Step c.args.users.now.users allows before.view before.held c.args.moment input c.args.store.now);
+    }

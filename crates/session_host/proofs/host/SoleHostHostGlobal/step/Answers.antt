@@ -1,34 +1,37 @@
-use Rattle.std.proofs.Common.{ap, refl, sym, ◌∙◌}
+use Rattle.std.proofs.Common.{ap, refl}
 use Rattle.rate_floors.specs.Promises.{Promises}
 use Rattle.session_host.specs.Alone.{parts}
+use Rattle.lent_step.proofs.Lending.{lend, lend_err}
 use Rattle.session_host.proofs.host.SoleHostHostGlobal.step.Goals as goal
 
-pub returns-in-Ok-clause-row : goal.returns-in-Ok-clause-row
-returns-in-Ok-clause-row g c = rw (sym c.replace.ensures.value ∙ c.in-Some.is) (
+pub returns-clause-row : goal.returns-clause-row
+returns-clause-row g c = lend c.args.input.now c.step_by.result _ _ (λ input actions row. (
   c.moment-moment.result,
   c.args.self.now.store.now,
-  c.step_lent.new.store,
+  c.step_by.new.store,
   c.args.self.now.floors.now,
-  c.step_lent.new.floors,
+  c.step_by.new.floors,
   (
     record { store = refl; floors = refl; clock = refl; side = refl; reader = refl; writer = refl; hooks = refl },
     record { gives = c.moment-moment.ensures; store_lent = refl; promises_lent = refl; rest = refl },
   ),
-  c.in-Ok.ensures.row,
-)
+  row,
+)) c.step_by.ensures.row
 
-pub returns-in-Err-clause-tried : goal.returns-in-Err-clause-tried
-returns-in-Err-clause-tried g c = rw (sym c.replace.ensures.value ∙ c.in-Some.is) (
+pub returns-clause-tried : goal.returns-clause-tried
+returns-clause-tried g c = lend_err c.args.input.now c.step_by.result _ _ _ (λ input same stopped. (
   c.moment-moment.result,
   c.args.self.now.store.now,
-  c.step_lent.new.store,
+  c.step_by.new.store,
+  c.args.self.now.floors.now,
   (
     record { store = refl; floors = refl; clock = refl; side = refl; reader = refl; writer = refl; hooks = refl },
     record {
       gives = c.moment-moment.ensures;
       store_lent = refl;
       promises_lent = refl;
-      rest = ap (λ (p : Promises). record (parts c.args.self.now) { clock = c.moment-moment.new.self; store = c.step_lent.new.store; promises = p }) c.in-Err.ensures.uncounted;
+      rest = ap (λ (p : Promises). record (parts c.args.self.now) { clock = c.moment-moment.new.self; store = c.step_by.new.store; promises = p }) same.1;
     },
   ),
-)
+  stopped,
+)) c.step_by.ensures.unchanged c.step_by.ensures.stopped

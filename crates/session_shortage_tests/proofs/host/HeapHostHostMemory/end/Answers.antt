@@ -1,4 +1,4 @@
-use Rattle.session_shortage_tests.proofs.Lending.{lifts}
+use Rattle.lent_step.proofs.Lending.{lifts}
 use Rattle.session_shortage_tests.proofs.host.HeapHostHostMemory.end.Goals as goal
 
 pub returns-in-Some-clause-row : goal.returns-in-Some-clause-row

@@ -21,13 +21,13 @@ CROWDS = 100
 
 def timed(words, folder, runs):
     """Microseconds for one round."""
-    first = median([*words, "1"], f"{folder}/desk", runs)
-    return (median([*words, str(TIMES + 1)], f"{folder}/desk", runs) - first) * 1_000 / TIMES
+    first = median([*words, "1"], f"{folder}/told", runs)
+    return (median([*words, str(TIMES + 1)], f"{folder}/told", runs) - first) * 1_000 / TIMES
 
 
 def per_round(words, folder, tool, word):
     """How many of these `valgrind` counts in one round."""
-    first, last = (counted([*words, str(times)], f"{folder}/desk", tool, word) for times in (1, COUNTED + 1))
+    first, last = (counted([*words, str(times)], f"{folder}/told", tool, word) for times in (1, COUNTED + 1))
     return None if first is None else (last - first) / COUNTED
 
 
@@ -51,15 +51,15 @@ def same(programs, folder):
     for asks in ASKS:
         told = set()
         for words in programs:
-            median([*words, str(asks), "11"], f"{folder}/desk", 1)
-            with open(f"{folder}/desk", encoding="utf-8") as it:
+            median([*words, str(asks), "11"], f"{folder}/told", 1)
+            with open(f"{folder}/told", encoding="utf-8") as it:
                 told.add(it.read())
         if len(told) > 1:
             sys.exit(f"bench: of {asks} asks the last round granted {sorted(told)}")
 
 
 def hands_row(bench_desk, desk, folder, runs):
-    one = lambda program: median([program, "hands", str(HANDS)], f"{folder}/desk", runs) * 1_000 / HANDS
+    one = lambda program: median([program, "hands", str(HANDS)], f"{folder}/told", runs) * 1_000 / HANDS
     here, plain = one(bench_desk), one(desk)
     return [f"{here:.2f}", f"{plain:.2f}", f"{here / plain:.1f}", f"{1_000_000 / here:,.0f}", f"{1_000_000 / plain:,.0f}"]
 
@@ -70,8 +70,8 @@ def main(folder, bench_desk, desk, runs="21"):
     tell(HEAD, (row for asks in ASKS for row in rows_of(asks, programs, folder, int(runs))))
     head = ["a hand-off here (us)", "plain word (us)", "here / plain", "hand-offs here", "hand-offs plain"]
     tell(head, [hands_row(bench_desk, desk, folder, int(runs))])
-    taken = median([bench_desk, "crowd", str(CROWDS)], f"{folder}/desk", 1)
-    with open(f"{folder}/desk", encoding="utf-8") as it:
+    taken = median([bench_desk, "crowd", str(CROWDS)], f"{folder}/told", 1)
+    with open(f"{folder}/told", encoding="utf-8") as it:
         tell(["a crowd", "processor (ms)"], [[it.read().strip(), f"{taken:,.0f}"]])
 
 

@@ -43,57 +43,120 @@ fn a_desk_without_memory(rt: HostRuntime) {
     holds(&rt, was_refused && was_open);
 }
 
-/// Whether a round at tick 0 has memory. Where it has not, the ask is answered by nothing, and the worker asks again.
+/// Both workers ask for 4 octets.
+fn ask_both(rt: &impl Abort, desk: &mut CheckedDesk<OfTest>) {
+    holds(rt, desk.ask(0, down(0, 4)) && desk.ask(1, down(1, 4)));
+}
+
+/// Two workers share the three octets of the first tick. They move two of them, give one back, and ask again.
+fn begin(rt: &(impl Abort + AllocGlobal), desk: &mut CheckedDesk<OfTest>, limits: &Limits) {
+    holds(rt, desk.sit(0) && desk.sit(1));
+    ask_both(rt, desk);
+    holds(rt, desk.round(rt.alloc(), limits, 0).is_ok());
+    holds(rt, desk.take(0, 1) == Some(2) && desk.take(1, 1) == Some(1));
+    ask_both(rt, desk);
+}
+
+/// Whether the round of the second tick has memory; where it has not, each ask is answered by nothing.
 fn has_round(
     rt: &impl Abort,
     heap: &LocalHeap,
     desk: &mut CheckedDesk<OfTest>,
     limits: &Limits,
 ) -> bool {
-    match desk.round(heap, limits, 0) {
+    match desk.round(heap, limits, 100) {
         Ok(record) => {
-            holds(
-                rt,
-                record.tick == 0 && record.sealed.grants() == [5].as_slice(),
-            );
-            holds(rt, desk.take(0, 5) == Some(5));
+            holds(rt, record.tick == 1 && record.answered == 3);
+            holds(rt, record.sealed.grants() == [2, 1].as_slice());
             true
         }
         Err(fault) => {
             let memory = RoundFault {
                 reason: RoundRefusal::Memory,
-                answered: 1,
+                answered: 3,
             };
-            holds(rt, fault == memory && desk.take(0, 0) == Some(0));
+            holds(rt, fault == memory);
+            holds(rt, desk.take(0, 4) == Some(0) && desk.take(1, 4) == Some(0));
             false
         }
     }
 }
 
-/// The round at one tick over every room from none up to enough: each that is refused leaves the book as it was, so the next
-/// one at the same tick is taken.
+/// Whether the second round is refused in a hole of so many octets.
+fn is_refused(
+    rt: &(impl Abort + AllocGlobal),
+    heap: &LocalHeap,
+    desk: &mut CheckedDesk<OfTest>,
+    limits: &Limits,
+    room: usize,
+) -> bool {
+    begin(rt, desk, limits);
+    let rest = leave_hole(rt, heap, room).expect(rt, "memory");
+    let first = has_round(rt, heap, desk, limits);
+    drop(rest);
+    !first
+}
+
+/// Whether a desk is closed at once, or after one more round at the same tick, of whose grants the first is taken.
+#[derive(Clone, Copy, PartialEq)]
+enum Then {
+    Close,
+    Again,
+}
+
+/// The same of a new desk, which is settled then: a refused round leaves the book as it was, so that the next one at the same
+/// tick is taken, and the sums add up at each place.
+fn settles(
+    rt: &(impl Abort + AllocGlobal),
+    heap: &LocalHeap,
+    limits: &Limits,
+    room: usize,
+    then: Then,
+) -> bool {
+    let mut desk = CheckedDesk::<OfTest>::open(rt.alloc(), 2, 0).expect(rt, "a desk");
+    let refused = is_refused(rt, heap, &mut desk, limits, room);
+    if refused && then == Then::Again {
+        ask_both(rt, &mut desk);
+        holds(rt, has_round(rt, heap, &mut desk, limits));
+    }
+    let is_granted = !refused || then == Then::Again;
+    holds(
+        rt,
+        desk.take(0, 2) == if is_granted { Some(2) } else { None },
+    );
+    let settled = desk.close();
+    let wanted = if is_granted { (6, 4, 2) } else { (3, 2, 1) };
+    holds(rt, (settled.issued, settled.moved, settled.back) == wanted);
+    refused
+}
+
+/// A round over every room from none up to enough.
 #[test]
 fn a_round_without_memory(rt: HostRuntime) {
-    let limits = limits(&rt, 0, 0);
+    let limits = limits(&rt, 30, 0);
     let heap = LocalHeap::new(rt.alloc(), HEAP).expect(&rt, "a heap");
-    let mut desk = CheckedDesk::<OfTest>::open(rt.alloc(), 1, 0).expect(&rt, "a desk");
-    holds(&rt, desk.sit(0));
-    let mut was_refused = false;
-    let mut was_taken = false;
-    for room in 1..128 {
-        holds(&rt, desk.ask(0, down(0, 5)));
-        let rest = leave_hole(&rt, &heap, room * 16).expect(&rt, "memory");
-        was_taken = has_round(&rt, &heap, &mut desk, &limits);
-        drop(rest);
-        if was_taken {
-            break;
+    for then in [Then::Close, Then::Again] {
+        for step in 0..192usize {
+            let refused = settles(&rt, &heap, &limits, 16 * step, then);
+            // With no room it is refused, and with much it is not.
+            holds(&rt, if refused { step < 191 } else { step > 0 });
         }
-        was_refused = true;
     }
-    holds(&rt, was_refused && was_taken);
+}
+
+/// On a heap that has nothing left, a worker sits, asks, takes and rises, and the desk is closed.
+#[test]
+fn all_other_calls_take_no_memory(rt: HostRuntime) {
+    let limits = limits(&rt, 30, 0);
+    let heap = LocalHeap::new(rt.alloc(), HEAP).expect(&rt, "a heap");
+    let mut desk = CheckedDesk::<OfTest, &LocalHeap>::open(&heap, 2, 0).expect(&rt, "a desk");
+    let _rest = leave_hole(&rt, &heap, 0).expect(&rt, "no hole");
+    holds(&rt, desk.sit(0) && desk.ask(0, down(0, 5)));
+    holds(&rt, desk.round(rt.alloc(), &limits, 0).is_ok());
+    holds(&rt, desk.take(0, 1) == Some(3) && desk.rise(0));
     let settled = desk.close();
     holds(
         &rt,
-        settled.issued == 5 && settled.moved == 5 && settled.back == 0,
+        settled.issued == 3 && settled.moved == 1 && settled.back == 2,
     );
 }

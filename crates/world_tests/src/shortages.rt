@@ -2,9 +2,10 @@
 
 use crate::expect::holds;
 use crate::rounds::{EVENTS, REPLIES, is_settled, two_lanes};
+use line_rates::Limits;
 use linked_list_allocator::LocalHeap;
 use scarce_memory::{HEAP, leave_hole};
-use share_world::{StepFault, World};
+use share_world::{StepFault, World, WorldFault};
 use std::process::Abort;
 
 // Makes the events from one on until memory is refused; tells the first that was not made.
@@ -45,13 +46,67 @@ fn runs(rt: &(impl Abort + AllocGlobal), room: usize) -> bool {
     has_run
 }
 
+// Makes runs of one event each until memory is refused; tells the first event that was not made.
+fn runs_of_one<'h>(rt: &impl Abort, world: &mut World<&'h LocalHeap>) -> usize {
+    for at in 0..EVENTS.len() {
+        match world.run(&EVENTS[at..at + 1]) {
+            Ok(replies) => holds(rt, replies.as_slice() == &REPLIES[at..at + 1]),
+            Err(_) => return at,
+        }
+    }
+    EVENTS.len()
+}
+
+// Whether these runs have memory. Once there is memory again, one run of all other events passes.
+fn runs_on(rt: &(impl Abort + AllocGlobal), room: usize) -> bool {
+    let heap = LocalHeap::new(rt.alloc(), HEAP).expect(rt, "a heap");
+    let mut world = two_lanes(rt, &heap, &heap, &heap);
+    let rest = leave_hole(rt, &heap, room).expect(rt, "a hole");
+    let refused = runs_of_one(rt, &mut world);
+    drop(rest);
+    let (_, others) = EVENTS.split_at(refused.min(EVENTS.len()));
+    let (_, wanted) = REPLIES.split_at(refused.min(REPLIES.len()));
+    let replies = world.run(others).expect(rt, "memory");
+    holds(rt, replies.as_slice() == wanted);
+    is_settled(rt, &world);
+    refused == EVENTS.len()
+}
+
 #[test]
 fn each_growth(rt: HostRuntime) {
     // Room rises by less than the least growth, so that each growth is the first that is refused.
     for step in 0..256usize {
-        let (has_memory, has_run) = (has_memory(&rt, 16 * step), runs(&rt, 16 * step));
+        let room = 16 * step;
+        let answers = [has_memory(&rt, room), runs(&rt, room), runs_on(&rt, room)];
         // With no room each is refused, and with much none.
-        holds(&rt, step > 0 || !(has_memory || has_run));
-        holds(&rt, step < 255 || has_memory && has_run);
+        holds(&rt, step > 0 || answers == [false; 3]);
+        holds(&rt, step < 255 || answers == [true; 3]);
+    }
+}
+
+// Whether a world opens over this heap. If not, memory ran out.
+fn opens(rt: &impl Abort, heap: &LocalHeap) -> bool {
+    let limits = Limits::of(30, 0, 0, Vec::new(heap), Vec::new(heap)).expect(rt, "limits");
+    match World::new(heap, 2, limits) {
+        Ok(world) => {
+            holds(rt, world.lanes() == 2 && world.issued() == 0);
+            true
+        }
+        Err(fault) => {
+            holds(rt, fault == WorldFault::Memory);
+            false
+        }
+    }
+}
+
+#[test]
+fn a_world_opens_once_there_is_memory(rt: HostRuntime) {
+    let heap = LocalHeap::new(rt.alloc(), HEAP).expect(&rt, "a heap");
+    for step in 0..64usize {
+        let rest = leave_hole(&rt, &heap, 16 * step).expect(&rt, "a hole");
+        let is_open = opens(&rt, &heap);
+        drop(rest);
+        holds(&rt, if is_open { step > 0 } else { step < 63 });
+        holds(&rt, opens(&rt, &heap));
     }
 }

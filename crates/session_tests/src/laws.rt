@@ -1,10 +1,15 @@
 //! The laws of the session table, at the types of a store in memory.
 
+use crate::expect::holds;
+use crate::room::{PEER, settings};
+use ftp_wire::{Command, LineItem};
 use memory_store::{MemSink, MemSource};
+use session_core::{Session, others_ask_no_floors};
 use session_laws::{
     calls_are_rightful, few_lines_are_held, floors_are_released_once, no_calls_outside,
     no_transfer_unprepared, one_thing_is_asked, sources_are_named,
 };
+use session_table::Input;
 use std::alloc::Global;
 
 #[test]
@@ -16,4 +21,15 @@ fn laws(_rt: HostRuntime) {
     floors_are_released_once::<Global, MemSource<Global>, MemSink<Global>>();
     one_thing_is_asked::<Global, MemSource<Global>, MemSink<Global>>();
     sources_are_named::<Global, MemSource<Global>, MemSink<Global>>();
+    others_ask_no_floors::<Global, MemSource<Global>, MemSink<Global>>();
+}
+
+#[test]
+fn only_pass_asks_the_floors(rt: HostRuntime) {
+    let session = Session::new(rt.alloc(), settings(), PEER).expect(&rt, "memory");
+    let pass: Input<Global, MemSink<Global>> = Input::Line(LineItem::Command(Command::Pass(None)));
+    holds(&rt, session.asks_floors(&pass));
+    let other: Input<Global, MemSink<Global>> = Input::Line(LineItem::Command(Command::Pwd));
+    holds(&rt, !session.asks_floors(&other));
+    holds(&rt, !session.asks_floors::<MemSink<Global>>(&Input::Held));
 }

@@ -13,7 +13,7 @@ use Rattle.command_line.specs.Given.{IsFound, IsSheetFound}
 use Rattle.command_line.specs.declared.words.SheetWords.{SheetWords}
 use Rattle.command_line.specs.declared.words.SheetWords.TheVariants.{Share, Check}
 use Rattle.command_line.specs.declared.words.Words.{Words}
-use Rattle.command_line.specs.declared.words.Words.TheVariants.{Sheet, Migrate, Script, Serve}
+use Rattle.command_line.specs.declared.words.Words.TheVariants.{Sheet, CheckConfig, Migrate, Script, Serve}
 use Rattle.command_line.proofs.EnteredCommand.{Entered, enters}
 use Rattle.command_line.proofs.RowValues.{all_want_values, required_value, requires_value}
 
@@ -112,17 +112,22 @@ ftpd_found any words none =
         (
           λ _ is.
               let found = one_found _ _ e _ is (codes "CONFIG") refl refl in
-              (Migrate (at_place any found.0), (found.1, found.2, found.3)),
+              (CheckConfig (at_place any found.0), (found.1, found.2, found.3)),
           (
             λ _ is.
                 let found = one_found _ _ e _ is (codes "CONFIG") refl refl in
-                (Script (at_place any found.0), (found.1, found.2, found.3)),
+                (Migrate (at_place any found.0), (found.1, found.2, found.3)),
             (
               λ _ is.
                   let found = one_found _ _ e _ is (codes "CONFIG") refl refl in
-                  let path = first_of (codes "PATH") found.1 in
-                  (Serve (at_place any found.0) (option_map (at_place any) path), (found.1, found.2, found.3, if_any any path)),
-              (λ help _. absurd (not_help _ _ e help), tt),
+                  (Script (at_place any found.0), (found.1, found.2, found.3)),
+              (
+                λ _ is.
+                    let found = one_found _ _ e _ is (codes "CONFIG") refl refl in
+                    let path = first_of (codes "PATH") found.1 in
+                    (Serve (at_place any found.0) (option_map (at_place any) path), (found.1, found.2, found.3, if_any any path)),
+                (λ help _. absurd (not_help _ _ e help), tt),
+              ),
             ),
           ),
         ),
@@ -141,11 +146,13 @@ no_other_sheet_command found (Check sheet grants) is share check = check is.0 sh
 pub no_other_command : (found : Option (Text × List Row)) (command : Words) → IsFound found command
     → ((rows : List Row) (word : Text) → found ≡ Some (codes "share", rows) → first_of (codes "SHEET") rows ≡ Some word → ⊥)
     → ((rows : List Row) (first second : Text) → found ≡ Some (codes "check", rows) → first_of (codes "SHEET") rows ≡ Some first → first_of (codes "GRANTS") rows ≡ Some second → ⊥)
+    → ((rows : List Row) (word : Text) → found ≡ Some (codes "check-config", rows) → first_of (codes "CONFIG") rows ≡ Some word → ⊥)
     → ((rows : List Row) (word : Text) → found ≡ Some (codes "migrate", rows) → first_of (codes "CONFIG") rows ≡ Some word → ⊥)
     → ((rows : List Row) (word : Text) → found ≡ Some (codes "script", rows) → first_of (codes "CONFIG") rows ≡ Some word → ⊥)
     → ((rows : List Row) (word : Text) → found ≡ Some (codes "serve", rows) → first_of (codes "CONFIG") rows ≡ Some word → ⊥)
     → ⊥
-no_other_command found (Sheet words) is share check migrate script serve = no_other_sheet_command found words is share check
-no_other_command found (Migrate config) is share check migrate script serve = migrate is.0 config.now is.1 is.2
-no_other_command found (Script config) is share check migrate script serve = script is.0 config.now is.1 is.2
-no_other_command found (Serve config stop_file) is share check migrate script serve = serve is.0 config.now is.1 is.2
+no_other_command found (Sheet words) is share check check_config migrate script serve = no_other_sheet_command found words is share check
+no_other_command found (CheckConfig config) is share check check_config migrate script serve = check_config is.0 config.now is.1 is.2
+no_other_command found (Migrate config) is share check check_config migrate script serve = migrate is.0 config.now is.1 is.2
+no_other_command found (Script config) is share check check_config migrate script serve = script is.0 config.now is.1 is.2
+no_other_command found (Serve config stop_file) is share check check_config migrate script serve = serve is.0 config.now is.1 is.2

@@ -96,6 +96,34 @@ ftpd_checks (b ∷ bs) (d ∷ ds) plain also =
     let nf = ne_eqb _ _ also in
     record { rows = _; taken = ftpd_check_taken b d bs ds ne nf; entered = ftpd_check_entered b d bs ds ne nf; sheet = ftpd_check_first b d bs ds ne nf; grants = ftpd_check_second b d bs ds ne nf }
 
+check_config_taken : (b : ℕ) (bs : List ℕ) → (b == 45) ≡ false → takes ftpd (codes "check-config" ∷ (b ∷ bs) ∷ []) ≡ true
+unfolding clap_on_literals
+check_config_taken b bs ne = simp ne refl
+
+check_config_entered : (b : ℕ) (bs : List ℕ) → (b == 45) ≡ false
+    → subcommand_of ftpd (codes "check-config" ∷ (b ∷ bs) ∷ [])
+    ≡ Some (codes "check-config", rows_in (subcommand_of ftpd (codes "check-config" ∷ (b ∷ bs) ∷ [])))
+unfolding clap_on_literals
+check_config_entered b bs ne = simp ne refl
+
+check_config_first : (b : ℕ) (bs : List ℕ) → (b == 45) ≡ false
+    → first_of (codes "CONFIG") (rows_in (subcommand_of ftpd (codes "check-config" ∷ (b ∷ bs) ∷ []))) ≡ Some (b ∷ bs)
+unfolding clap_on_literals
+check_config_first b bs ne = simp ne refl
+
+-- what the parser makes of the words of `check-config`
+pub record ChecksConfig (word : List ℕ) : Type 0 where
+  pub rows : List Row
+  pub taken : takes ftpd (codes "check-config" ∷ word ∷ []) ≡ true
+  pub entered : subcommand_of ftpd (codes "check-config" ∷ word ∷ []) ≡ Some (codes "check-config", rows)
+  pub config : first_of (codes "CONFIG") rows ≡ Some word
+
+pub checks_config : (word : List ℕ) → IsPlainWord word → ChecksConfig word
+checks_config [] plain = absurd plain
+checks_config (b ∷ bs) plain =
+    let ne = ne_eqb _ _ plain in
+    record { rows = _; taken = check_config_taken b bs ne; entered = check_config_entered b bs ne; config = check_config_first b bs ne }
+
 migrate_taken : (b : ℕ) (bs : List ℕ) → (b == 45) ≡ false → takes ftpd (codes "migrate" ∷ (b ∷ bs) ∷ []) ≡ true
 unfolding clap_on_literals
 migrate_taken b bs ne = simp ne refl

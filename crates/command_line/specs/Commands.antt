@@ -23,6 +23,10 @@ share = with_rule (bare (codes "share")) (file_rule (codes "SHEET"))
 abbrev pub check : App
 check = with_rule (with_rule (bare (codes "check")) (file_rule (codes "SHEET"))) (file_rule (codes "GRANTS"))
 
+-- `check-config CONFIG`
+abbrev pub check_config : App
+check_config = with_rule (bare (codes "check-config")) (file_rule (codes "CONFIG"))
+
 -- `migrate CONFIG`
 abbrev pub migrate : App
 migrate = with_rule (bare (codes "migrate")) (file_rule (codes "CONFIG"))
@@ -51,4 +55,4 @@ sheets = with_sheets (codes "sheets")
 
 -- the program `ftpd`
 abbrev pub ftpd : App
-ftpd = with_subcommand (with_subcommand (with_subcommand (with_sheets (codes "ftpd")) migrate.top) script.top) serve.top
+ftpd = with_subcommand (with_subcommand (with_subcommand (with_subcommand (with_sheets (codes "ftpd")) check_config.top) migrate.top) script.top) serve.top

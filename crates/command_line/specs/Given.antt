@@ -6,7 +6,7 @@ use Rattle.clap.specs.declared.error.kind.ErrorKind.TheVariants.{DisplayHelp, Di
 use Rattle.command_line.specs.declared.words.SheetWords.{SheetWords}
 use Rattle.command_line.specs.declared.words.SheetWords.TheVariants.{Share, Check}
 use Rattle.command_line.specs.declared.words.Words.{Words}
-use Rattle.command_line.specs.declared.words.Words.TheVariants.{Sheet, Migrate, Script, Serve}
+use Rattle.command_line.specs.declared.words.Words.TheVariants.{Sheet, CheckConfig, Migrate, Script, Serve}
 use Rattle.command_line.specs.declared.words.WordsFault.{WordsFault}
 use Rattle.command_line.specs.declared.words.WordsFault.TheVariants.{Refused, Memory}
 
@@ -28,13 +28,23 @@ IsCheck first second (Check sheet grants) = (sheet.now ≡ first) × (grants.now
 -- a command on a sheet, of which that holds
 abbrev pub IsOfSheets : (SheetWords → Type 0) → Words → Type 0
 IsOfSheets P (Sheet words) = P words
+IsOfSheets P (CheckConfig config) = ⊥
 IsOfSheets P (Migrate config) = ⊥
 IsOfSheets P (Script config) = ⊥
 IsOfSheets P (Serve config stop_file) = ⊥
 
+-- the command `check-config` of that configuration
+abbrev pub IsCheckConfig : List ℕ → Words → Type 0
+IsCheckConfig word (Sheet words) = ⊥
+IsCheckConfig word (CheckConfig config) = config.now ≡ word
+IsCheckConfig word (Migrate config) = ⊥
+IsCheckConfig word (Script config) = ⊥
+IsCheckConfig word (Serve config stop_file) = ⊥
+
 -- the command `migrate` of that configuration
 abbrev pub IsMigrate : List ℕ → Words → Type 0
 IsMigrate word (Sheet words) = ⊥
+IsMigrate word (CheckConfig config) = ⊥
 IsMigrate word (Migrate config) = config.now ≡ word
 IsMigrate word (Script config) = ⊥
 IsMigrate word (Serve config stop_file) = ⊥
@@ -42,6 +52,7 @@ IsMigrate word (Serve config stop_file) = ⊥
 -- the command `script` of that configuration
 abbrev pub IsScript : List ℕ → Words → Type 0
 IsScript word (Sheet words) = ⊥
+IsScript word (CheckConfig config) = ⊥
 IsScript word (Migrate config) = ⊥
 IsScript word (Script config) = config.now ≡ word
 IsScript word (Serve config stop_file) = ⊥
@@ -49,6 +60,7 @@ IsScript word (Serve config stop_file) = ⊥
 -- the command `serve` of that configuration, with that stop file, if any
 abbrev pub IsServe : List ℕ → Option (List ℕ) → Words → Type 0
 IsServe word path (Sheet words) = ⊥
+IsServe word path (CheckConfig config) = ⊥
 IsServe word path (Migrate config) = ⊥
 IsServe word path (Script config) = ⊥
 IsServe word path (Serve config stop_file) = (config.now ≡ word) × (option_map (λ w. w.now) stop_file ≡ path)
@@ -63,6 +75,8 @@ IsSheetFound found (Check sheet grants) =
 -- the parser found the command, and the words after it
 abbrev pub IsFound : Option (Text × List Row) → Words → Type 0
 IsFound found (Sheet words) = IsSheetFound found words
+IsFound found (CheckConfig config) =
+    (rows : List Row) × (found ≡ Some (codes "check-config", rows)) × (first_of (codes "CONFIG") rows ≡ Some config.now)
 IsFound found (Migrate config) =
     (rows : List Row) × (found ≡ Some (codes "migrate", rows)) × (first_of (codes "CONFIG") rows ≡ Some config.now)
 IsFound found (Script config) =

@@ -1,7 +1,7 @@
 //! The grammar of the command lines of `ftpd` and of `sheets`.
 ghost use Rattle.std.specs.Prelude.{◌≡◌, IfOk, codes, false};
 ghost use Rattle.clap.specs.Words.{app_of, rule_of, with_rule};
-ghost use Rattle.command_line.specs.Commands.{bare, check, file_rule, ftpd, migrate, option_rule, script, serve, share, sheets, top, with_sheets};
+ghost use Rattle.command_line.specs.Commands.{bare, check, check_config, file_rule, ftpd, migrate, option_rule, script, serve, share, sheets, top, with_sheets};
 
 use clap::{Arg, ArgAction, Command};
 use std::alloc::{AllocError, Global};
@@ -66,6 +66,19 @@ fn check_command<'a>(alloc: Global) -> Result<Command<'a>, AllocError>
         "File of lines `grant PATH N` or `grant PATH N NODE`, in the order of the wants, or /dev/stdin";
     let command = with_file(alloc, bare_command(alloc, "check", about), "SHEET", sheet)?;
     with_file(alloc, command, "GRANTS", grants)
+}
+
+fn check_config_command<'a>(alloc: Global) -> Result<Command<'a>, AllocError>
+    ensures check_config { IfOk result (λ c. app_of c ≡ check_config) }
+{
+    let about = "Judge a configuration: print its users, groups, rates and guarantees, and warn";
+    let config = "File of a configuration, in TOML, or /dev/stdin";
+    with_file(
+        alloc,
+        bare_command(alloc, "check-config", about),
+        "CONFIG",
+        config,
+    )
 }
 
 fn migrate_command<'a>(alloc: Global) -> Result<Command<'a>, AllocError>
@@ -149,7 +162,8 @@ pub(crate) fn ftpd_command<'a>(alloc: Global) -> Result<Command<'a>, AllocError>
     ensures ftpd { IfOk result (λ c. app_of c ≡ ftpd) }
 {
     let with_sheets = sheet_commands(alloc, "ftpd")?;
-    let with_migrate = with_sheets.subcommand(migrate_command(alloc)?)?;
+    let with_check = with_sheets.subcommand(check_config_command(alloc)?)?;
+    let with_migrate = with_check.subcommand(migrate_command(alloc)?)?;
     let with_script = with_migrate.subcommand(script_command(alloc)?)?;
     let command = with_script.subcommand(serve_command(alloc)?)?;
     Ok(command)

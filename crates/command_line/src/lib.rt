@@ -3,6 +3,7 @@
 //! ```text
 //! ftpd share SHEET
 //! ftpd check SHEET GRANTS
+//! ftpd check-config CONFIG
 //! ftpd migrate CONFIG
 //! ftpd script CONFIG
 //! ftpd serve CONFIG [--stop-file PATH]

@@ -2,7 +2,7 @@
 ghost use Rattle.std.specs.Prelude.{◌≡◌, ◌↔◌, ◌∷◌, [], ℕ, List, None, Some, IfOk, IfErr, IfSome, IsSomeAnd, IsTrue, map, codes, option_map, true};
 ghost use Rattle.clap.specs.Words.{Row, app_of, fault_of, first_of, is_simple, is_simple_and_free, kind_of, subcommand_of, subcommand_rows_of, takes};
 ghost use Rattle.command_line.specs.Commands.{ftpd, sheets};
-ghost use Rattle.command_line.specs.Given.{GivesOneOrMemory, GivesOrMemory, IsCheck, IsFound, IsHelp, IsMigrate, IsOfSheets, IsPlainWord, IsRefusal, IsRefusedAs, IsScript, IsServe, IsSheetFound, IsShare};
+ghost use Rattle.command_line.specs.Given.{GivesOneOrMemory, GivesOrMemory, IsCheck, IsCheckConfig, IsFound, IsHelp, IsMigrate, IsOfSheets, IsPlainWord, IsRefusal, IsRefusedAs, IsScript, IsServe, IsSheetFound, IsShare};
 
 use crate::grammar::{ftpd_command, sheets_command};
 use clap::error::ErrorKind;
@@ -23,6 +23,10 @@ pub enum SheetWords<'a> {
 pub enum Words<'a> {
     /// A command on a sheet.
     Sheet(SheetWords<'a>),
+    /// Judge a configuration, and print what it states; its path.
+    CheckConfig {
+        config: &'a str,
+    },
     /// Print a configuration in its latest version; its path.
     Migrate {
         config: &'a str,
@@ -126,6 +130,16 @@ fn sheet_given<'a>(matches: &ArgMatches<'a>) -> Option<SheetWords<'a>>
     }
 }
 
+fn check_config_given<'a>(matches: &ArgMatches<'a>) -> Option<Words<'a>>
+    ensures check_config { (rows : List Row) (word : List ℕ)
+        → subcommand_rows_of matches.now ≡ Some (codes "check-config", rows)
+        → first_of (codes "CONFIG") rows ≡ Some word → IsSomeAnd result (IsCheckConfig word) }
+    ensures found { IfSome result (IsFound (subcommand_rows_of matches.now)) }
+{
+    let config = word_of(matches, "check-config", "CONFIG")?;
+    Some(Words::CheckConfig { config })
+}
+
 fn migrate_given<'a>(matches: &ArgMatches<'a>) -> Option<Words<'a>>
     ensures migrate { (rows : List Row) (word : List ℕ)
         → subcommand_rows_of matches.now ≡ Some (codes "migrate", rows)
@@ -176,8 +190,27 @@ fn of_sessions<'a>(matches: &ArgMatches<'a>) -> Option<Words<'a>>
     }
 }
 
+/// The command that prints what a configuration is.
+fn of_text<'a>(matches: &ArgMatches<'a>) -> Option<Words<'a>>
+    ensures check_config { (rows : List Row) (word : List ℕ)
+        → subcommand_rows_of matches.now ≡ Some (codes "check-config", rows)
+        → first_of (codes "CONFIG") rows ≡ Some word → IsSomeAnd result (IsCheckConfig word) }
+    ensures migrate { (rows : List Row) (word : List ℕ)
+        → subcommand_rows_of matches.now ≡ Some (codes "migrate", rows)
+        → first_of (codes "CONFIG") rows ≡ Some word → IsSomeAnd result (IsMigrate word) }
+    ensures found { IfSome result (IsFound (subcommand_rows_of matches.now)) }
+{
+    match check_config_given(matches) {
+        Some(words) => Some(words),
+        None => migrate_given(matches),
+    }
+}
+
 /// The command of a configuration.
 fn of_config<'a>(matches: &ArgMatches<'a>) -> Option<Words<'a>>
+    ensures check_config { (rows : List Row) (word : List ℕ)
+        → subcommand_rows_of matches.now ≡ Some (codes "check-config", rows)
+        → first_of (codes "CONFIG") rows ≡ Some word → IsSomeAnd result (IsCheckConfig word) }
     ensures migrate { (rows : List Row) (word : List ℕ)
         → subcommand_rows_of matches.now ≡ Some (codes "migrate", rows)
         → first_of (codes "CONFIG") rows ≡ Some word → IsSomeAnd result (IsMigrate word) }
@@ -190,7 +223,7 @@ fn of_config<'a>(matches: &ArgMatches<'a>) -> Option<Words<'a>>
         → IsSomeAnd result (IsServe word (first_of (codes "PATH") rows)) }
     ensures found { IfSome result (IsFound (subcommand_rows_of matches.now)) }
 {
-    match migrate_given(matches) {
+    match of_text(matches) {
         Some(words) => Some(words),
         None => of_sessions(matches),
     }
@@ -204,6 +237,9 @@ fn given<'a>(matches: &ArgMatches<'a>) -> Option<Words<'a>>
         → subcommand_rows_of matches.now ≡ Some (codes "check", rows)
         → first_of (codes "SHEET") rows ≡ Some first → first_of (codes "GRANTS") rows ≡ Some second
         → IsSomeAnd result (IsOfSheets (IsCheck first second)) }
+    ensures check_config { (rows : List Row) (word : List ℕ)
+        → subcommand_rows_of matches.now ≡ Some (codes "check-config", rows)
+        → first_of (codes "CONFIG") rows ≡ Some word → IsSomeAnd result (IsCheckConfig word) }
     ensures migrate { (rows : List Row) (word : List ℕ)
         → subcommand_rows_of matches.now ≡ Some (codes "migrate", rows)
         → first_of (codes "CONFIG") rows ≡ Some word → IsSomeAnd result (IsMigrate word) }
@@ -290,6 +326,9 @@ pub fn read_words<'a>(alloc: Global, words: &'a [&'a str]) -> Result<Words<'a>, 
     ensures check { (first second : List ℕ) → IsPlainWord first → IsPlainWord second
         → map (λ s. s.now) words.now ≡ codes "check" ∷ first ∷ second ∷ []
         → GivesOrMemory (IsOfSheets (IsCheck first second)) result }
+    ensures check_config { (word : List ℕ) → IsPlainWord word
+        → map (λ s. s.now) words.now ≡ codes "check-config" ∷ word ∷ []
+        → GivesOrMemory (IsCheckConfig word) result }
     ensures migrate { (word : List ℕ) → IsPlainWord word
         → map (λ s. s.now) words.now ≡ codes "migrate" ∷ word ∷ []
         → GivesOrMemory (IsMigrate word) result }

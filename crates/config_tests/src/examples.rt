@@ -5,6 +5,7 @@ ghost use Rattle.std.specs.Prelude.{◌≡◌, length};
 use crate::expect::holds;
 use config_keys::{KeyFault, table_at};
 use config_rates::{RateRows, RowsFault, limits_of, read_rows};
+use config_report::{Warning, report, warnings_of};
 use config_server::read_server;
 use config_store::{ServedStore, StoreFaultAt, make_store};
 use config_tables::{TableFault, Tables, read_tables};
@@ -85,6 +86,28 @@ fn server_config(rt: &(impl Abort + AllocGlobal)) -> Result<(), ConfigFault> {
     Ok(())
 }
 
+fn config_report(rt: &(impl Abort + AllocGlobal)) -> Result<(), ConfigFault> {
+    let text = report(rt.alloc(), SMALL.as_bytes())?; // a server and the user `ann`
+    holds(rt, text.as_str().starts_with("listens on 127.0.0.1:2121\n"));
+    Ok(())
+}
+
+/// Two ports, for 64 connections, of those that the machine takes for its own.
+fn warnings(rt: &(impl Abort + AllocGlobal), tables: &Tables<'_>) {
+    let mut store = ServedStore::Folder(String::new(rt.alloc()));
+    let found = warnings_of(
+        rt.alloc(),
+        &tables.server,
+        &tables.groups,
+        &tables.users,
+        &mut store,
+    )
+    .expect(rt, "memory");
+    let (first, last) = (40_000, 40_001);
+    holds(rt, found.len() == 2);
+    holds(rt, found[0] == Warning::OwnPorts { first, last });
+}
+
 /// What is made of the tables of a document.
 fn of_tables<'a>(rt: &(impl Abort + AllocGlobal), tables: &Tables<'a>)
     requires overrides { length tables.now.overrides.items ≡ length tables.now.users.items }
@@ -93,6 +116,7 @@ fn of_tables<'a>(rt: &(impl Abort + AllocGlobal), tables: &Tables<'a>)
     config_store(rt, tables).expect(rt, "a store");
     let rows = read_rows(rt.alloc(), &tables.groups, &tables.users).expect(rt, "rates");
     config_users(rt, tables, &rows).expect(rt, "users");
+    warnings(rt, tables);
 }
 
 #[test]
@@ -103,4 +127,5 @@ fn examples(rt: HostRuntime) {
     let tables = read_tables(rt.alloc(), &document).expect(&rt, "tables");
     of_tables(&rt, &tables);
     server_config(&rt).expect(&rt, "a configuration");
+    config_report(&rt).expect(&rt, "a report");
 }

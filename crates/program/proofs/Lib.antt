@@ -1,4 +1,5 @@
 pub mod Ends
+pub mod Printing
 pub mod Scripts
 pub mod Serves
 pub mod WholeTexts

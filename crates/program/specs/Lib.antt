@@ -1,4 +1,6 @@
+pub mod Checking
 pub mod Endings
+pub mod Faults
 pub mod Migrating
 pub mod Runs
 pub mod Scripting

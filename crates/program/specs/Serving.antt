@@ -3,7 +3,7 @@ use Rattle.std.specs.Prelude.{ℕ, List, Option, Result, Ok, Err}
 use Rattle.server_config.specs.declared.config.Config.{Config}
 use Rattle.sheet_program.specs.Runs.{Octets}
 use Rattle.sheet_program.specs.declared.ending.Ending.TheVariants.{Done, Flawed, Refused, Fault}
-use Rattle.whole_texts.specs.Faults.{IsReadingFault}
+use Rattle.program.specs.Faults.{IsReadingFaultOf}
 use Rattle.program.specs.Scripting.{IsConfigOf, IsRefusalOf}
 use Rattle.program.specs.declared.ending.Ending.{Ending}
 use Rattle.program.specs.declared.ending.Ending.TheVariants.{Common, Config as Unread, Session, Server}
@@ -32,7 +32,7 @@ abbrev pub IsUnconfiguredEnd : Octets → Ending → Type 0
 IsUnconfiguredEnd gives (Common Done) = ⊥
 IsUnconfiguredEnd gives (Common Flawed) = ⊥
 IsUnconfiguredEnd gives (Common (Refused told)) = ⊥
-IsUnconfiguredEnd gives (Common (Fault fault)) = IsReadingFault fault
+IsUnconfiguredEnd gives (Common (Fault fault)) = IsReadingFaultOf gives fault
 IsUnconfiguredEnd gives (Unread fault) = (text : Option (List ℕ)) × gives text × IsRefusalOf text fault
 IsUnconfiguredEnd gives (Session fault) = ⊥
 IsUnconfiguredEnd gives (Server fault) = ⊥

@@ -12,6 +12,7 @@
 //! ```
 #![tactic(auto)]
 
+mod checking;
 mod ending;
 mod migrating;
 mod run;
@@ -19,6 +20,7 @@ mod scripting;
 mod server;
 mod serving;
 
+pub use checking::run_check_config;
 pub use ending::Ending;
 pub use migrating::run_migrate;
 pub use run::run_words;

@@ -10,9 +10,10 @@ ghost use Rattle.sheet_program.specs.Endings.{IsToldEnd};
 ghost use Rattle.sheet_program.specs.Runs.{IsCheckEnd, IsShareEnd};
 ghost use Rattle.sheet_program.specs.declared.ending.Ending.TheVariants.{Fault};
 ghost use Rattle.program.specs.Endings.{IsCommon, IsUnwritten};
-ghost use Rattle.program.specs.Runs.{IsCommandEnd, IsMigrateEnd, IsScriptEnd};
+ghost use Rattle.program.specs.Runs.{IsCommandEnd, IsMigrateEnd, IsReportEnd, IsScriptEnd};
 ghost use Rattle.program.specs.Serving.{IsServeEnd};
 
+use super::checking::run_check_config;
 use super::ending::Ending;
 use super::migrating::run_migrate;
 use super::scripting::{ScriptFault, run_script};
@@ -26,13 +27,33 @@ use whole_texts::{ProgramFault, TextWriter};
 const NO_TEXT_LEFT: &str =
     "error: standard input cannot be both the configuration and the control text\n";
 
+fn check_config<O: Openings, W: TextWriter>(
+    alloc: Global,
+    config: &str,
+    files: &mut O,
+    output: &mut W,
+) -> Ending
+    ensures end { IsReportEnd (O.Gives files.old config.now) (W.may_refuse output.old)
+        (W.contents output.old) (W.contents output.new) result }
+    ensures unwritten { IsUnwritten result → output.new ≡ output.old }
+{
+    let Some(mut config) = files.open(config) else {
+        return Ending::Common(Common::Fault(ProgramFault::ReadFault));
+    };
+    match run_check_config(alloc, &mut config, output) {
+        Ok(None) => Ending::Common(Common::Done),
+        Ok(Some(why)) => Ending::Config(why),
+        Err(fault) => Ending::Common(Common::Fault(fault)),
+    }
+}
+
 fn migrate<O: Openings, W: TextWriter>(
     alloc: Global,
     config: &str,
     files: &mut O,
     output: &mut W,
 ) -> Ending
-    ensures end { IsMigrateEnd (O.Gives files.old config.now)
+    ensures end { IsMigrateEnd (O.Gives files.old config.now) (W.may_refuse output.old)
         (W.contents output.old) (W.contents output.new) result }
     ensures unwritten { IsUnwritten result → output.new ≡ output.old }
 {
@@ -81,12 +102,13 @@ fn run_command<O: Openings, W: TextWriter, V: Server<W>>(
     server: &mut V,
     output: &mut W,
 ) -> Ending
-    ensures end { IsCommandEnd (O.Gives files.old) V.Serves words.entry
+    ensures end { IsCommandEnd (O.Gives files.old) V.Serves (W.may_refuse output.old) words.entry
         (W.contents output.old) (W.contents output.new) result }
     ensures unwritten { IsUnwritten result → output.new ≡ output.old }
 {
     match words {
         Words::Sheet(words) => Ending::Common(run_sheet_words(alloc, words, files, output)),
+        Words::CheckConfig { config } => check_config(alloc, config, files, output),
         Words::Migrate { config } => migrate(alloc, config, files, output),
         Words::Script { config } => script(alloc, config, files, output),
         Words::Serve { config, stop_file } => {
@@ -113,9 +135,13 @@ pub fn run_words<O: Openings, W: TextWriter, V: Server<W>>(
         → map (λ s. s.now) words.now ≡ codes "check" ∷ sheet ∷ grants ∷ []
         → IsCommon (IsCheckEnd (O.Gives files.old) sheet grants
         (W.contents output.old) (W.contents output.new)) result }
+    ensures check_config { (config : List ℕ) → IsPlainWord config
+        → map (λ s. s.now) words.now ≡ codes "check-config" ∷ config ∷ []
+        → IsReportEnd (O.Gives files.old config) (W.may_refuse output.old)
+        (W.contents output.old) (W.contents output.new) result }
     ensures migrate { (config : List ℕ) → IsPlainWord config
         → map (λ s. s.now) words.now ≡ codes "migrate" ∷ config ∷ []
-        → IsMigrateEnd (O.Gives files.old config)
+        → IsMigrateEnd (O.Gives files.old config) (W.may_refuse output.old)
         (W.contents output.old) (W.contents output.new) result }
     ensures script { (config : List ℕ) → IsPlainWord config
         → map (λ s. s.now) words.now ≡ codes "script" ∷ config ∷ []
@@ -132,7 +158,7 @@ pub fn run_words<O: Openings, W: TextWriter, V: Server<W>>(
     ensures command { fault_of ftpd (map (λ s. s.now) words.now) ≡ []
         → (result ≡ Ending.Common (Fault ProgramFault.Memory)) ⊎ ((command : Words)
         × IsFound (subcommand_of ftpd (map (λ s. s.now) words.now)) command
-        × IsCommandEnd (O.Gives files.old) V.Serves command
+        × IsCommandEnd (O.Gives files.old) V.Serves (W.may_refuse output.old) command
         (W.contents output.old) (W.contents output.new) result) }
     ensures told { fault_of ftpd (map (λ s. s.now) words.now) ≢ [] → (fault : WordsFault)
         × IsRefusal (fault_of ftpd (map (λ s. s.now) words.now)) fault

@@ -4,7 +4,7 @@ use crate::ends::{Files, Given};
 use crate::expect::{holds, same, tells};
 use crate::texts::{LOGIN, LUNCH, LUNCH_GRANTS, MIGRATED, SMALL, WELCOME};
 use command_line::{SheetWords, WordsFault};
-use program::{STANDARD_INPUT, run_migrate, run_script};
+use program::{STANDARD_INPUT, run_check_config, run_migrate, run_script};
 use sheet_program::{Ending, Told, as_words, run_sheet_words, tell};
 
 #[test]
@@ -50,6 +50,14 @@ fn texts_are_words(rt: HostRuntime) {
     texts.push(share).expect(&rt, "memory");
     let words = as_words(rt.alloc(), &texts).expect(&rt, "memory");
     holds(&rt, words.as_slice() == ["share"].as_slice());
+}
+
+#[test]
+fn a_configuration_is_reported(rt: HostRuntime) {
+    let mut output = Vec::new(rt.alloc());
+    let refusal = run_check_config(rt.alloc(), &mut SMALL.as_bytes(), &mut output);
+    holds(&rt, matches!(refusal, Ok(None)));
+    holds(&rt, output.starts_with(b"listens on 127.0.0.1:2121\n"));
 }
 
 #[test]

@@ -7,6 +7,9 @@ use std::process::Abort;
 #[test]
 fn words_on_a_configuration(rt: HostRuntime) {
     let config = "office.toml";
+    let words = ["check-config", config];
+    let command = read_words(rt.alloc(), &words).expect(&rt, "a command");
+    holds(&rt, command == Words::CheckConfig { config });
     let words = ["migrate", config];
     let command = read_words(rt.alloc(), &words).expect(&rt, "a command");
     holds(&rt, command == Words::Migrate { config });

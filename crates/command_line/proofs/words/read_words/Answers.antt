@@ -3,7 +3,7 @@ use Rattle.std.specs.Borrow.{Bor}
 use Rattle.command_line.specs.Commands.{ftpd}
 use Rattle.command_line.specs.Given.{IsFound, IsRefusal, IsServe}
 use Rattle.clap.specs.Words.{App, Row, Text, app_of, fault_of, is_simple, is_simple_and_free, subcommand_of, takes}
-use Rattle.command_line.proofs.Taken.{refused_by_none, ftpd_is_free, ftpd_is_simple, ftpd_checks, ftpd_shares, migrates, scripts, serves, serves_until}
+use Rattle.command_line.proofs.Taken.{refused_by_none, ftpd_is_free, ftpd_is_simple, ftpd_checks, ftpd_shares, checks_config, migrates, scripts, serves, serves_until}
 use Rattle.command_line.proofs.GivenCommand.{no_other_command, ftpd_found}
 use Rattle.command_line.proofs.words.read_words.Goals as goal
 
@@ -14,6 +14,10 @@ returns-in-Err-clause-share c = λ word plain are.
 pub returns-in-Err-clause-check : goal.returns-in-Err-clause-check
 returns-in-Err-clause-check c = λ first second plain also are.
     c.in-Err.ensures.takes (ap₂ takes c.in-Ok.ensures.ftpd are ∙ (ftpd_checks first second plain also).taken)
+
+pub returns-in-Err-clause-check_config : goal.returns-in-Err-clause-check_config
+returns-in-Err-clause-check_config c = λ word plain are.
+    c.in-Err.ensures.takes (ap₂ takes c.in-Ok.ensures.ftpd are ∙ (checks_config word plain).taken)
 
 pub returns-in-Err-clause-migrate : goal.returns-in-Err-clause-migrate
 returns-in-Err-clause-migrate c = λ word plain are.
@@ -58,7 +62,7 @@ unreachable-requires c =
     let entered = c.in-Ok-parsed.ensures.found simple ∙ ap (λ (a : App). subcommand_of a texts) c.in-Ok.ensures.ftpd in
     let found = ftpd_found c.args.words texts none in
     let held = subst (λ (o : Option (Text × List Row)). IsFound o found.0) (sym entered) found.1 in
-    no_other_command _ found.0 held c.in-None.ensures.share c.in-None.ensures.check c.in-None.ensures.migrate c.in-None.ensures.script (λ rows word is first. c.in-None.ensures.serve rows word is first)
+    no_other_command _ found.0 held c.in-None.ensures.share c.in-None.ensures.check c.in-None.ensures.check_config c.in-None.ensures.migrate c.in-None.ensures.script (λ rows word is first. c.in-None.ensures.serve rows word is first)
 
 pub returns-clause-share : goal.returns-clause-share
 returns-clause-share c = λ word plain are.
@@ -73,6 +77,13 @@ returns-clause-check c = λ first second plain also are.
     let simple : is_simple (app_of c.in-Ok.command) ≡ true = ap is_simple c.in-Ok.ensures.ftpd ∙ ftpd_is_simple in
     let entered = c.in-Ok-parsed.ensures.found simple ∙ ap₂ subcommand_of c.in-Ok.ensures.ftpd are ∙ held.entered in
     c.in-Some.ensures.check held.rows first second entered held.sheet held.grants
+
+pub returns-clause-check_config : goal.returns-clause-check_config
+returns-clause-check_config c = λ word plain are.
+    let held = checks_config word plain in
+    let simple : is_simple (app_of c.in-Ok.command) ≡ true = ap is_simple c.in-Ok.ensures.ftpd ∙ ftpd_is_simple in
+    let entered = c.in-Ok-parsed.ensures.found simple ∙ ap₂ subcommand_of c.in-Ok.ensures.ftpd are ∙ held.entered in
+    c.in-Some.ensures.check_config held.rows word entered held.config
 
 pub returns-clause-migrate : goal.returns-clause-migrate
 returns-clause-migrate c = λ word plain are.

@@ -1,0 +1,19 @@
+//! What a configuration is, told in lines: where the server listens, who its users are, what is limited and guaranteed, and
+//! what was accepted and is of no use.
+//!
+//! ```text
+//! let text = report(rt.alloc(), SMALL.as_bytes())?; // a server and the user `ann`
+//! holds(rt, text.as_str().starts_with("listens on 127.0.0.1:2121\n"));
+//! ```
+#![tactic(auto)]
+
+mod floors;
+mod homes;
+mod lines;
+mod reporting;
+mod warning;
+mod warnings;
+
+pub use reporting::report;
+pub use warning::Warning;
+pub use warnings::warnings_of;

@@ -1,0 +1,65 @@
+//! What is accepted, and of no use.
+
+use std::fmt;
+
+/// What a configuration states, and what is of no use so. It prints as one line, without its end.
+#[derive(Clone, Copy, Debug, PartialEq, Eq)]
+pub enum Warning<'a> {
+    /// Clients are told the address 0.0.0.0 for passive connections.
+    NoAddress,
+    /// Passive ports, of which the first and the last are these, are among those that the machine takes for connections of its own.
+    OwnPorts {
+        first: u16,
+        last: u16,
+    },
+    /// There are fewer passive ports than connections.
+    FewPorts {
+        first: u16,
+        last: u16,
+        connections: u16,
+    },
+    /// A second session of the user cannot be guaranteed what each is.
+    NoSecondSession {
+        user: &'a str,
+    },
+    /// The user's home is no directory of the store in memory.
+    NoHome {
+        user: &'a str,
+        home: &'a str,
+    },
+}
+
+impl fmt::Display for Warning<'_> {
+    ghost use Rattle.std.specs.Prelude.{Some};
+    ghost use Rattle.config_report.specs.Lines.{warning_text};
+
+    ghost output = { λ w. Some (warning_text w) };
+
+    fn fmt<W: fmt::Write>(&self, f: &mut fmt::Formatter<W>) -> fmt::Result {
+        match self {
+            Warning::NoAddress => write!(
+                f,
+                "clients are told 0.0.0.0 for passive connections; state masquerade_address"
+            ),
+            Warning::OwnPorts { first, last } => write!(
+                f,
+                "the machine takes ports 32768 to 60999 for its own connections; passive ones are {first} to {last}"
+            ),
+            Warning::FewPorts {
+                first,
+                last,
+                connections,
+            } => write!(
+                f,
+                "{connections} connections have fewer passive ports, {first} to {last}"
+            ),
+            Warning::NoSecondSession { user } => write!(
+                f,
+                "user {user}: a second session cannot be guaranteed what each is"
+            ),
+            Warning::NoHome { user, home } => {
+                write!(f, "{home}, the home of user {user}, is no directory")
+            }
+        }
+    }
+}

@@ -1,0 +1,117 @@
+//! The warnings of a configuration.
+
+ghost use Rattle.std.specs.Prelude.{◌≡◌, ◌++◌, IfOk, OnOk};
+ghost use Rattle.server_config.specs.Settings.{told_address};
+ghost use Rattle.config_report.specs.Warnings.{has_few_ports, is_among_own, is_untold, server_warnings, user_warnings, warnings};
+
+use crate::floors::is_single;
+use crate::homes::has_home;
+use crate::warning::Warning;
+use config_server::ServerTable;
+use config_store::ServedStore;
+use config_tables::{GroupTable, UserTable};
+use std::alloc::{AllocError, Global};
+use std::net::Ipv4Addr;
+
+/// The first and the last port that the machine takes for connections of its own, as Linux sets them by default.
+pub const OWN_FIRST: u16 = 32_768;
+
+pub const OWN_LAST: u16 = 60_999;
+
+/// The address that clients are told for passive connections.
+pub fn told_address(server: &ServerTable) -> Ipv4Addr
+    ensures told { result ≡ told_address server.now.masquerade_address server.now.address }
+{
+    match server.masquerade_address {
+        Some(address) => address,
+        None => server.address,
+    }
+}
+
+/// Whether clients are told 0.0.0.0.
+fn is_untold(server: &ServerTable) -> bool
+    ensures untold { result ≡ is_untold server.now }
+{
+    told_address(server).to_bits() == 0
+}
+
+/// Whether a passive port is among those of the machine.
+fn is_among_own(server: &ServerTable) -> bool
+    ensures among { result ≡ is_among_own server.now }
+{
+    server.passive_first <= OWN_LAST && OWN_FIRST <= server.passive_last
+}
+
+/// Whether there are fewer passive ports than connections.
+fn has_few_ports(server: &ServerTable) -> bool
+    ensures few { result ≡ has_few_ports server.now }
+{
+    u32::from(server.passive_last) + 1
+        < u32::from(server.passive_first) + u32::from(server.max_cons)
+}
+
+/// Adds what is to be said of the server.
+fn warn_of_server<'a>(found: &mut Vec<Warning<'a>>, server: &ServerTable) -> Result<(), AllocError>
+    ensures warnings { OnOk result
+        (found.new.items ≡ found.old.items ++ server_warnings server.now) }
+{
+    let (first, last) = (server.passive_first, server.passive_last);
+    if is_untold(server) {
+        found.push(Warning::NoAddress)?;
+    }
+    if is_among_own(server) {
+        found.push(Warning::OwnPorts { first, last })?;
+    }
+    if has_few_ports(server) {
+        found.push(Warning::FewPorts {
+            first,
+            last,
+            connections: server.max_cons,
+        })?;
+    }
+    Ok(())
+}
+
+/// Adds what is to be said of a user.
+fn warn_of_user<'a>(
+    alloc: Global,
+    found: &mut Vec<Warning<'a>>,
+    server: &ServerTable,
+    groups: &[GroupTable],
+    store: &mut ServedStore,
+    user: &UserTable<'a>,
+) -> Result<(), AllocError>
+    ensures warnings { OnOk result (found.new.items
+        ≡ found.old.items ++ user_warnings server.now groups.now store.old user.now) }
+    ensures same { store.new ≡ store.old }
+{
+    if is_single(server, groups, user) {
+        found.push(Warning::NoSecondSession { user: user.name })?;
+    }
+    if !has_home(alloc, store, user.home)? {
+        found.push(Warning::NoHome {
+            user: user.name,
+            home: user.home,
+        })?;
+    }
+    Ok(())
+}
+
+/// The warnings of a configuration: those of its server, and then those of its users in their order.
+pub fn warnings_of<'a>(
+    alloc: Global,
+    server: &ServerTable,
+    groups: &[GroupTable],
+    users: &[UserTable<'a>],
+    store: &mut ServedStore,
+) -> Result<Vec<Warning<'a>>, AllocError>
+    ensures warnings { IfOk result
+        (λ found. found.items ≡ warnings server.now groups.now users.now store.old) }
+{
+    let mut found = Vec::new(alloc);
+    warn_of_server(&mut found, server)?;
+    for user in users {
+        warn_of_user(alloc, &mut found, server, groups, store, user)?;
+    }
+    Ok(found)
+}

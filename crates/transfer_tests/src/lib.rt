@@ -9,6 +9,8 @@ mod downloads;
 #[cfg(test)]
 mod expect;
 #[cfg(test)]
+mod failing;
+#[cfg(test)]
 mod files;
 #[cfg(test)]
 mod grants;

@@ -5,6 +5,7 @@ import resource
 import select
 import socket
 import threading
+import time
 
 from serving_kit import STAMP, Client, Data, Server, same, together, until, want
 from serving_rows import MUCH, greeted, size
@@ -60,6 +61,33 @@ def octet_by_octet():
         client.socket.shutdown(socket.SHUT_WR)
         client.says(None, "220 Ready", "200 OK", "221 Goodbye")
         client.at_end()
+        server.ended()
+
+
+def one_octet_a_second():
+    """A line of which one octet comes a second is answered, and others are served meanwhile."""
+    with Server(sessions=2) as server:
+        slow, other = Client(server), Client(server)
+        for octet in b"NOOP\r\n":
+            slow.socket.sendall(bytes([octet]))
+            same(other.retrieve("f"), b"a\nb", "the file")
+            time.sleep(1)
+        slow.says(None, "200 OK")
+        slow.quit()
+        other.quit()
+        same(server.ended(), (18, 18, 0), "settled")
+
+
+def aborts_without_end():
+    """ABOR again before an aborted transfer has ended, and after: there is none to abort."""
+    with Server(root="folder", files={"big": MUCH}) as server:
+        client = Client(server)
+        data = client.passive(room=4096)
+        client.says("RETR big", "150 Opening data connection")
+        client.socket.sendall(b"ABOR\r\n" * 20)
+        client.says(None, "426 Transfer aborted", "226 Abort done", *["225 No transfer"] * 19)
+        data.close()
+        client.quit()
         server.ended()
 
 
@@ -396,6 +424,8 @@ def nothing_forges_a_line():
 ROWS = [
     line_faults,
     octet_by_octet,
+    one_octet_a_second,
+    aborts_without_end,
     five_hundred_and_twelve,
     few_open_files,
     ports_that_are_left,

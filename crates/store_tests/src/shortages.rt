@@ -113,3 +113,28 @@ fn each_growth(rt: HostRuntime) {
         refuse_in_turn(&rt, rt, line);
     }
 }
+
+/// Whether a folder of the machine is opened as a store. If not, memory ran out.
+fn opens(rt: &impl Abort, machine: HostRuntime, heap: &LocalHeap, folder: &str) -> bool {
+    match DirStore::new((machine, heap), folder) {
+        Ok(_) => true,
+        Err(fault) => {
+            holds(rt, fault == StoreFault::Memory);
+            false
+        }
+    }
+}
+
+#[test]
+fn a_folder_opens_once_there_is_memory(rt: HostRuntime) {
+    let folder = fresh_folder(&rt, "opened");
+    let heap = LocalHeap::new(rt.alloc(), HEAP).expect(&rt, "memory");
+    for step in 0..32usize {
+        let rest = leave_hole(&rt, &heap, 16 * step).expect(&rt, "memory for the hole");
+        let is_open = opens(&rt, rt, &heap, folder.as_str());
+        drop(rest);
+        holds(&rt, if is_open { 0 < step } else { step < 31 });
+        holds(&rt, opens(&rt, rt, &heap, folder.as_str()));
+    }
+    fs::remove_dir_all(&rt, folder.as_str()).expect(&rt, "a folder");
+}

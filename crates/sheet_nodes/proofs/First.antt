@@ -1,19 +1,17 @@
 -- The root alone.
-use Rattle.std.proofs.Common.{◌≡◌, ◌∙◌, ℕ, zero, suc, ◌<◌, true, false, List, [], ◌∷◌, ◌++◌, get_or, refl, sym, ap, subst, arith, Bor, None, Some}
+use Rattle.std.proofs.Common.{◌≡◌, ◌∙◌, ℕ, zero, suc, ◌<◌, true, false, List, [], ◌∷◌, ◌++◌, get_or, refl, sym, ap, subst, arith, None, Some}
 use Rattle.std.specs.Prelude.{slice_get}
-use Rattle.std.specs.BTreeMap.{is_at}
-use Rattle.std.specs.Ordering.{nat_cmp}
-use Rattle.std.specs.Cmp.Lexicographic.{slice_cmp}
-use Rattle.std.specs.Map.{lookup}
 use Rattle.std.proofs.lemmas.Bool.{true≢false}
 use Rattle.limit_tree.specs.declared.place.Kind.{Kind}
 use Rattle.limit_tree.specs.declared.place.Kind.TheVariants.{Branch}
 use Rattle.limit_tree.specs.Outline.{is_leaf_kind}
 use Rattle.sheet_nodes.specs.declared.node.Node.{Node}
+use Rattle.sheet_nodes.specs.declared.row.Row.{Row}
+use Rattle.sheet_nodes.specs.Named.{named}
 use Rattle.sheet_tree.specs.Paths.{Path, is_among, is_within, names_of, text_of}
 use Rattle.sheet_tree.proofs.Listing.{place_none}
 use Rattle.sheet_nodes.specs.Table.{fresh, mention_at, want_count}
-use Rattle.sheet_nodes.specs.Inside.{AreNames, AreNodes, Finds, IsTable, Names, kid_of, mention_of, named}
+use Rattle.sheet_nodes.specs.Inside.{AreNames, AreNodes, Finds, IsTable, kid_of, mention_of}
 
 not_root : (path : Path) (name : List ℕ) → is_among ([] ∷ []) (path ++ name ∷ []) ≡ false
 not_root [] name = refl
@@ -39,10 +37,10 @@ fresh_table = record { names = root_alone; branches = λ place l none. branches 
     branches zero l = refl
     branches (suc place) l = refl
 
-pub first_nodes : (nodes none : List Node) (root : Node) (rows no_rows : List Names) (row : Names) → nodes ≡ none ++ root ∷ [] → none ≡ [] → root.path.now ≡ [] → root.kind ≡ Branch None → root.line ≡ None → rows ≡ no_rows ++ row ∷ [] → no_rows ≡ [] → row.entries ≡ [] → AreNodes nodes rows 0
-first_nodes nodes none root rows no_rows row e start text kind line rows_are no_rows_are empty =
+pub first_nodes : {A : Type 0} (nodes none : List Node) (root : Node) (rows no_rows : List (Row A)) (row : Row A) → nodes ≡ none ++ root ∷ [] → none ≡ [] → root.path.now ≡ [] → root.kind ≡ Branch None → root.line ≡ None → rows ≡ no_rows ++ row ∷ [] → no_rows ≡ [] → ((q : List ℕ) → named row q ≡ None) → AreNodes nodes rows 0
+first_nodes {A} nodes none root rows no_rows row e start text kind line rows_are no_rows_are empty =
     subst (λ (ns : List Node). AreNodes ns rows 0) (sym (e ∙ ap (λ (ns : List Node). ns ++ root ∷ []) start))
-    (subst (λ (rs : List Names). AreNodes (root ∷ []) rs 0) (sym (rows_are ∙ ap (λ (rs : List Names). rs ++ row ∷ []) no_rows_are)) alone)
+    (subst (λ (rs : List (Row A)). AreNodes (root ∷ []) rs 0) (sym (rows_are ∙ ap (λ (rs : List (Row A)). rs ++ row ∷ []) no_rows_are)) alone)
   where
     mention : mention_of root ∷ [] ≡ fresh
     mention = cc
@@ -50,8 +48,8 @@ first_nodes nodes none root rows no_rows row e start text kind line rows_are no_
     path_is : names_of root.path.now ≡ []
     path_is = ap names_of text
 
-    nothing : (names : Names) (q : List ℕ) (place : ℕ) → slice_get (row ∷ []) place ≡ Some names → named names q ≡ None
-    nothing names q zero at = let same : row ≡ names = cc in ap (λ (r : Names). named r q) (sym same) ∙ ap (lookup (is_at (λ (key : Bor (List ℕ)). slice_cmp nat_cmp q key.now))) empty
+    nothing : (names : Row A) (q : List ℕ) (place : ℕ) → slice_get (row ∷ []) place ≡ Some names → named names q ≡ None
+    nothing names q zero at = let same : row ≡ names = cc in ap (λ (r : Row A). named r q) (sym same) ∙ empty q
     nothing names q (suc place) at = cc
 
     alone : AreNodes (root ∷ []) (row ∷ []) 0

@@ -12,3 +12,4 @@ mod Places
 mod Faults
 mod Sound
 pub mod Together
+mod Marks

@@ -1,12 +1,8 @@
 -- One node more.
-use Rattle.std.proofs.Common.{◌≡◌, ◌∙◌, ℕ, ◌<◌, ◌==◌, ◌||◌, ◌&&◌, Bool, true, false, cond, List, [], ◌∷◌, ◌++◌, length, map, get_or, refl, sym, ap, subst, arith, Bor, length-append, Option, Some, None, bytes_eq, inl, inr, eqb-true, eq-eqb, ne_eqb, set, length-set, take, ◌-◌}
+use Rattle.std.proofs.Common.{◌≡◌, ◌∙◌, ℕ, ◌<◌, ◌==◌, ◌||◌, ◌&&◌, Bool, true, false, cond, List, [], ◌∷◌, ◌++◌, length, map, get_or, refl, sym, ap, subst, arith, length-append, Option, Some, None, bytes_eq, inl, inr, eqb-true, eq-eqb, ne_eqb, set, length-set, take, ◌-◌}
 use Rattle.std.specs.Prelude.{slice_get}
-use Rattle.std.specs.BTreeMap.{is_at}
-use Rattle.std.specs.Ordering.{nat_cmp}
-use Rattle.std.specs.Cmp.Lexicographic.{slice_cmp}
 use Rattle.std.proofs.lemmas.Bool.{and_parts, cases_lt, or_cases, or_left, or_right, true≢false}
 use Rattle.std.proofs.lemmas.Option.{slice_get_read}
-use Rattle.std.specs.Map.{lookup}
 use Rattle.std.proofs.lemmas.List.{get_or_append_left, map-append, length-map, take-append-le, take_all}
 use Rattle.std.proofs.lemmas.List.Folds.{list_any-append}
 use Rattle.std.proofs.lemmas.List.Sums.{sum_by-append}
@@ -17,8 +13,10 @@ use Rattle.sheet_tree.proofs.Within.{same_name, is_name, same_self, is_same, fro
 use Rattle.sheet_tree.proofs.Listing.{found_after, place_none, not_among}
 use Rattle.sheet_tree.proofs.Mentioned.{once_push}
 use Rattle.sheet_nodes.specs.declared.node.Node.{Node}
+use Rattle.sheet_nodes.specs.declared.row.Row.{Row}
+use Rattle.sheet_nodes.specs.Named.{named}
 use Rattle.sheet_nodes.specs.Table.{Table, Mention, mention_at, path_at, paths_in, unstated, want_count}
-use Rattle.sheet_nodes.specs.Inside.{AreBeneath, AreNames, AreNodes, Finds, IsTable, Names, kid_of, mention_of, named, parents_of, paths_of, table_of, texts_of}
+use Rattle.sheet_nodes.specs.Inside.{AreBeneath, AreNames, AreNodes, Finds, IsTable, kid_of, mention_of, parents_of, paths_of, table_of, texts_of}
 use Rattle.sheet_nodes.proofs.Tables.{count, place_at, there_at}
 use Rattle.sheet_nodes.proofs.Rows.{push_get, set_get}
 
@@ -62,8 +60,8 @@ none_beneath paths path name names absent = go (is_among paths (path ++ name ∷
     go true e = absurd (true≢false (sym (names.closed path (path ++ name ∷ []) (within_front path name) e) ∙ not_among paths path absent))
 
 -- a row more, which has no names
-pub finds_row : (paths : List Path) (old : List Names) (row : Names) → row.entries ≡ [] → Finds paths old → Finds paths (old ++ row ∷ [])
-finds_row paths old row none finds = record {
+pub finds_row : {A : Type 0} (paths : List Path) (old : List (Row A)) (row : Row A) → ((q : List ℕ) → named row q ≡ None) → Finds paths old → Finds paths (old ++ row ∷ [])
+finds_row {A} paths old row none finds = record {
   enough = omega (arith, finds.enough, length-append old (row ∷ []));
   there = λ place names q l at. elim (push_get old row names place at) [
     | inl before ↦ finds.there place names q l before
@@ -71,13 +69,13 @@ finds_row paths old row none finds = record {
   ];
   nowhere = λ place names q l at. elim (push_get old row names place at) [
     | inl before ↦ finds.nowhere place names q l before
-    | inr new ↦ ap (λ (r : Names). named r q) (sym new.1) ∙ ap (lookup (is_at (λ (key : Bor (List ℕ)). slice_cmp nat_cmp q key.now))) none
+    | inr new ↦ ap (λ (r : Row A). named r q) (sym new.1) ∙ none q
   ];
 }
 
 -- a row that has the same names
-finds_same : (paths : List Path) (parent : ℕ) (old : List Names) (before after : Names) → after.entries ≡ before.entries → slice_get old parent ≡ Some before → Finds paths old → Finds paths (set old parent after)
-finds_same paths parent old before after entries was finds = record {
+finds_same : {A : Type 0} (paths : List Path) (parent : ℕ) (old : List (Row A)) (before after : Row A) → ((q : List ℕ) → named after q ≡ named before q) → slice_get old parent ≡ Some before → Finds paths old → Finds paths (set old parent after)
+finds_same {A} paths parent old before after entries was finds = record {
   enough = omega (arith, finds.enough, length-set old parent after);
   there = λ place names q l at. elim (set_get old parent after names place at) [
     | inl here ↦ same names q here.1 ∙ finds.there place before q l (ap (slice_get old) (sym here.0) ∙ was)
@@ -89,13 +87,13 @@ finds_same paths parent old before after entries was finds = record {
   ];
 }
   where
-    same : (names : Names) (q : List ℕ) → after ≡ names → named names q ≡ named before q
-    same names q is = ap (λ (r : Names). named r q) (sym is) ∙ ap (lookup (is_at (λ (key : Bor (List ℕ)). slice_cmp nat_cmp q key.now))) entries
+    same : (names : Row A) (q : List ℕ) → after ≡ names → named names q ≡ named before q
+    same names q is = ap (λ (r : Row A). named r q) (sym is) ∙ entries q
 
 -- a name more in the row of its parent
-finds_more : (paths : List Path) (parent : ℕ) (name : List ℕ) (old : List Names) (before after : Names) → AreNames paths → parent < length paths → length paths < length old → place_of paths (kid_of paths parent name) ≡ None → slice_get old parent ≡ Some before
+finds_more : {A : Type 0} (paths : List Path) (parent : ℕ) (name : List ℕ) (old : List (Row A)) (before after : Row A) → AreNames paths → parent < length paths → length paths < length old → place_of paths (kid_of paths parent name) ≡ None → slice_get old parent ≡ Some before
     → ((q : List ℕ) → named after q ≡ cond (bytes_eq name q) (Some (length paths)) (named before q)) → Finds paths old → Finds (paths ++ kid_of paths parent name ∷ []) (set old parent after)
-finds_more paths parent name old before after are l room absent was updates finds = record {
+finds_more {A} paths parent name old before after are l room absent was updates finds = record {
   enough = omega (arith, room, length-set old parent after, length-append paths (kid_of paths parent name ∷ []));
   there = λ place names q less at. there place names q less at;
   nowhere = λ place names q past at. elim (set_get old parent after names place at) [
@@ -117,11 +115,11 @@ finds_more paths parent name old before after are l room absent was updates find
         ∙ ap (λ (t : Bool). cond t (Some (length paths)) (place_of paths (kid_of paths parent name ++ q ∷ []))) (longer (kid_of paths parent name) q)
         ∙ none_beneath paths (kid_of paths parent name) q are absent
 
-    there : (place : ℕ) (names : Names) (q : List ℕ) → place < length (paths ++ kid_of paths parent name ∷ []) → slice_get (set old parent after) place ≡ Some names
+    there : (place : ℕ) (names : Row A) (q : List ℕ) → place < length (paths ++ kid_of paths parent name ∷ []) → slice_get (set old parent after) place ≡ Some names
         → named names q ≡ place_of (paths ++ kid_of paths parent name ∷ []) (kid_of (paths ++ kid_of paths parent name ∷ []) place q)
     there place names q less at = elim (set_get old parent after names place at) [
       | inl here ↦
-          ap (λ (r : Names). named r q) (sym here.1) ∙ updates q
+          ap (λ (r : Row A). named r q) (sym here.1) ∙ updates q
           ∙ ap (λ (o : Option ℕ). cond (bytes_eq name q) (Some (length paths)) o) (finds.there parent before q l was ∙ ap (λ (n : ℕ). place_of paths (kid_of paths n q)) here.0)
           ∙ sym (found place q (omega (arith, l, here.0)) ∙ ap (λ (b : Bool). cond (b && bytes_eq name q) (Some (length paths)) (place_of paths (kid_of paths place q))) (eq-eqb parent place here.0))
       | inr other ↦ elim (cases_lt place (length paths)) [
@@ -210,7 +208,7 @@ pub paths_in_table : (nodes : List Node) → paths_in (table_of nodes) ≡ paths
 paths_in_table [] = refl
 paths_in_table (node ∷ nodes) = ap (λ (ps : List Path). names_of node.path.now ∷ ps) (paths_in_table nodes)
 
-pub record IsPushed (nodes new : List Node) (node : Node) (name : List ℕ) (old names : List Names) (before after : Names) (place : ℕ) : Type 0 where
+pub record IsPushed {A : Type 0} (nodes new : List Node) (node : Node) (name : List ℕ) (old names : List (Row A)) (before after : Row A) (place : ℕ) : Type 0 where
   pub items : new ≡ nodes ++ node ∷ []
   pub plain : mention_of node ≡ unstated (names_of node.path.now)
   pub place_is : place ≡ length nodes
@@ -231,7 +229,7 @@ table_pushed nodes new node table items plain view =
     ap table_of items ∙ map-append mention_of nodes (node ∷ []) ∙ ap (λ (m : Mention). table_of nodes ++ m ∷ []) plain ∙ ap (λ (t : Table). t ++ unstated (names_of node.path.now) ∷ []) view
 
 -- rows more leave the nodes as they are
-pub row_kept : (nodes : List Node) (old : List Names) (row : Names) (wants : ℕ) → row.entries ≡ [] → AreNodes nodes old wants → AreNodes nodes (old ++ row ∷ []) wants
+pub row_kept : {A : Type 0} (nodes : List Node) (old : List (Row A)) (row : Row A) (wants : ℕ) → ((q : List ℕ) → named row q ≡ None) → AreNodes nodes old wants → AreNodes nodes (old ++ row ∷ []) wants
 row_kept nodes old row wants none are = record {
   table = are.table;
   texts = are.texts;
@@ -240,8 +238,8 @@ row_kept nodes old row wants none are = record {
   counted = are.counted;
 }
 
-pub push_kept : (nodes new : List Node) (node : Node) (name : List ℕ) (old names : List Names) (before after : Names) (place wants : ℕ) (table : Table) → IsPushed nodes new node name old names before after place → AreNodes nodes old wants → table_of nodes ≡ table → IsNext table node name → AreNodes new names wants
-push_kept nodes new node name old names before after place wants table is are view next = record {
+pub push_kept : {A : Type 0} (nodes new : List Node) (node : Node) (name : List ℕ) (old names : List (Row A)) (before after : Row A) (place wants : ℕ) (table : Table) → IsPushed nodes new node name old names before after place → AreNodes nodes old wants → table_of nodes ≡ table → IsNext table node name → AreNodes new names wants
+push_kept {A} nodes new node name old names before after place wants table is are view next = record {
   table = subst IsTable (sym (table_pushed nodes new node table is.items is.plain view ∙ ap (λ (p : Path). table ++ unstated p ∷ []) next.path_is))
       (table_push table (path_at table node.parent) name (subst IsTable view are.table) (there_at table node.parent next.parent_in)
       (ap (is_among (paths_in table)) (sym next.path_is) ∙ not_among (paths_in table) (names_of node.path.now) next.absent));
@@ -250,7 +248,7 @@ push_kept nodes new node name old names before after place wants table is are vi
       ∙ ap (λ (ts : List (List ℕ)). ts ++ text_of (names_of node.path.now) ∷ []) are.texts ∙ ap (λ (t : List ℕ). texts_of nodes ++ t ∷ []) next.text_is
       ∙ sym (ap texts_of is.items ∙ map-append (λ (n : Node). n.path.now) nodes (node ∷ []));
   finds = subst (λ (ps : List Path). Finds ps names) (sym paths_new)
-      (subst (λ (rows : List Names). Finds (paths_of nodes ++ kid_of (paths_of nodes) node.parent name ∷ []) rows) (sym is.names_are)
+      (subst (λ (rows : List (Row A)). Finds (paths_of nodes ++ kid_of (paths_of nodes) node.parent name ∷ []) rows) (sym is.names_are)
       (finds_more (paths_of nodes) node.parent name old before after table_names within (omega (arith, is.room, many)) none is.was
       (λ q. is.updates q ∙ ap (λ (n : ℕ). cond (bytes_eq name q) (Some n) (named before q)) count_is) are.finds));
   beneath = subst (λ (ps : List Path). AreBeneath ps (parents_of new)) (sym paths_new)
@@ -286,7 +284,7 @@ push_kept nodes new node name old names before after place wants table is are vi
     count_is = is.place_is ∙ sym (length-map nodes (λ (n : Node). names_of n.path.now))
 
 -- the place of a name in the row of its parent
-pub found_there : (nodes : List Node) (rows : List Names) (wants : ℕ) (table : Table) (parent : ℕ) (row : Names) (name : List ℕ) → AreNodes nodes rows wants → table_of nodes ≡ table → parent < length table → row ≡ get_or rows parent row
+pub found_there : {A : Type 0} (nodes : List Node) (rows : List (Row A)) (wants : ℕ) (table : Table) (parent : ℕ) (row : Row A) (name : List ℕ) → AreNodes nodes rows wants → table_of nodes ≡ table → parent < length table → row ≡ get_or rows parent row
     → named row name ≡ place_of (paths_in table) (path_at table parent ++ name ∷ [])
 found_there nodes rows wants table parent row name are view l is =
     let same : paths_of nodes ≡ paths_in table = sym (paths_in_table nodes) ∙ ap paths_in view in
@@ -295,25 +293,25 @@ found_there nodes rows wants table parent row name are view l is =
     ∙ ap (λ (ps : List Path). place_of ps (kid_of ps parent name)) same
 
 -- a row for each place
-pub rows_there : (nodes : List Node) (rows : List Names) (wants : ℕ) (table : Table) (parent : ℕ) → AreNodes nodes rows wants → table_of nodes ≡ table → parent < length table → parent < length rows
+pub rows_there : {A : Type 0} (nodes : List Node) (rows : List (Row A)) (wants : ℕ) (table : Table) (parent : ℕ) → AreNodes nodes rows wants → table_of nodes ≡ table → parent < length table → parent < length rows
 rows_there nodes rows wants table parent are view l =
     let same : paths_of nodes ≡ paths_in table = sym (paths_in_table nodes) ∙ ap paths_in view in
     omega (arith, l, ap length same, count table, are.finds.enough)
 
 -- a row more than places
-pub room_for : (nodes : List Node) (old rows : List Names) (row : Names) (wants : ℕ) → rows ≡ old ++ row ∷ [] → AreNodes nodes old wants → length nodes < length rows
+pub room_for : {A : Type 0} (nodes : List Node) (old rows : List (Row A)) (row : Row A) (wants : ℕ) → rows ≡ old ++ row ∷ [] → AreNodes nodes old wants → length nodes < length rows
 room_for nodes old rows row wants is are = omega (arith, ap length is, length-append old (row ∷ []), are.finds.enough, length-map nodes (λ (n : Node). names_of n.path.now))
 
 -- a push that was taken back
-pub undone : (nodes pushed popped : List Node) (node : Node) (n : ℕ) (old names : List Names) (parent : ℕ) (before after : Names) (wants : ℕ) → pushed ≡ nodes ++ node ∷ [] → popped ≡ take (n - 1) pushed → n ≡ length pushed → after.entries ≡ before.entries → slice_get old parent ≡ Some before → names ≡ set old parent after
+pub undone : {A : Type 0} (nodes pushed popped : List Node) (node : Node) (n : ℕ) (old names : List (Row A)) (parent : ℕ) (before after : Row A) (wants : ℕ) → pushed ≡ nodes ++ node ∷ [] → popped ≡ take (n - 1) pushed → n ≡ length pushed → ((q : List ℕ) → named after q ≡ named before q) → slice_get old parent ≡ Some before → names ≡ set old parent after
     → AreNodes nodes old wants → AreNodes popped names wants
-undone nodes pushed popped node n old names parent before after wants is rest len entries was names_are are =
+undone {A} nodes pushed popped node n old names parent before after wants is rest len entries was names_are are =
     let less : n - 1 ≡ length nodes = omega (arith, len, ap length is, length-append nodes (node ∷ [])) in
     let same : popped ≡ nodes = rest ∙ ap (λ (k : ℕ). take k pushed) less ∙ ap (take (length nodes)) is ∙ take-append-le (length nodes) nodes (node ∷ []) (omega arith) ∙ take_all (length nodes) nodes (omega arith) in
     let kept : AreNodes nodes names wants = record {
       table = are.table;
       texts = are.texts;
-      finds = subst (λ (rows : List Names). Finds (paths_of nodes) rows) (sym names_are) (finds_same (paths_of nodes) parent old before after entries was are.finds);
+      finds = subst (λ (rows : List (Row A)). Finds (paths_of nodes) rows) (sym names_are) (finds_same (paths_of nodes) parent old before after entries was are.finds);
       beneath = are.beneath;
       counted = are.counted;
     } in

@@ -1,11 +1,9 @@
 -- What the code's nodes stand for.
-use Rattle.std.specs.Prelude.{◌≡◌, ℕ, ◌<◌, ◌≤◌, true, false, List, [], ◌∷◌, ◌++◌, length, map, slice_get, slice_index_or, Option, Some, None}
-use Rattle.std.specs.Borrow.{Bor}
-use Rattle.std.specs.Ordering.{nat_cmp}
-use Rattle.std.specs.Cmp.Lexicographic.{slice_cmp}
-use Rattle.std.specs.BTreeMap.{BTreeMap, get_by}
+use Rattle.std.specs.Prelude.{◌≡◌, ℕ, ◌<◌, ◌≤◌, true, false, List, [], ◌∷◌, ◌++◌, length, map, slice_get, slice_index_or, Some, None}
 use Rattle.limit_tree.specs.Outline.{is_leaf_kind}
 use Rattle.sheet_nodes.specs.declared.node.Node.{Node}
+use Rattle.sheet_nodes.specs.declared.row.Row.{Row}
+use Rattle.sheet_nodes.specs.Named.{named}
 use Rattle.sheet_tree.specs.Paths.{NoneTwice, Octets, Path, is_among, is_within, names_of, place_of, text_of}
 use Rattle.sheet_nodes.specs.Table.{Mention, Table, mention_at, paths_in, want_count}
 
@@ -40,25 +38,18 @@ pub record IsTable (table : Table) : Type 0 where
   pub names : AreNames (paths_in table)
   pub branches : (place : ℕ) → place < length table → (mention_at table place).line ≡ None → is_leaf_kind (mention_at table place).kind ≡ false
 
--- places by names
-abbrev pub Names : Type 0
-Names = BTreeMap (Bor (List ℕ)) ℕ
-
-abbrev pub named : Names → Octets → Option ℕ
-named names name = get_by (λ key. slice_cmp nat_cmp name key.now) names
-
 -- a place is found by its name among the kids of its parent
-pub record Finds (paths : List Path) (kids : List Names) : Type 0 where
+pub record Finds {A : Type 0} (paths : List Path) (kids : List (Row A)) : Type 0 where
   pub enough : length paths ≤ length kids
-  pub there : (parent : ℕ) (names : Names) (name : Octets) → parent < length paths → slice_get kids parent ≡ Some names → named names name ≡ place_of paths (kid_of paths parent name)
-  pub nowhere : (parent : ℕ) (names : Names) (name : Octets) → length paths ≤ parent → slice_get kids parent ≡ Some names → named names name ≡ None
+  pub there : (parent : ℕ) (names : Row A) (name : Octets) → parent < length paths → slice_get kids parent ≡ Some names → named names name ≡ place_of paths (kid_of paths parent name)
+  pub nowhere : (parent : ℕ) (names : Row A) (name : Octets) → length paths ≤ parent → slice_get kids parent ≡ Some names → named names name ≡ None
 
 -- each path but the root's lies a name below that of its parent
 abbrev pub AreBeneath : List Path → List ℕ → Type 0
 AreBeneath paths parents = (place : ℕ) → 0 < place → place < length paths
     → (slice_index_or parents place 0 < length paths) × (name : Octets) × (slice_index_or paths place [] ≡ kid_of paths (slice_index_or parents place 0) name)
 
-pub record AreNodes (nodes : List Node) (kids : List Names) (wants : ℕ) : Type 0 where
+pub record AreNodes {A : Type 0} (nodes : List Node) (kids : List (Row A)) (wants : ℕ) : Type 0 where
   pub table : IsTable (table_of nodes)
   pub texts : map text_of (paths_of nodes) ≡ texts_of nodes
   pub finds : Finds (paths_of nodes) kids

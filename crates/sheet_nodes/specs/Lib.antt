@@ -1,5 +1,6 @@
 pub mod Table
 pub mod Inside
+pub mod Named
 pub mod Walks
 pub mod Rows
 pub mod Tree

@@ -18,6 +18,7 @@ mod kids;
 mod laws;
 mod names;
 mod node;
+mod row;
 mod take;
 mod tree;
 mod walk;

@@ -5,9 +5,9 @@ ghost use Rattle.sheet_tree.specs.Paths.{Octets, names_of, place_of, text_of};
 ghost use Rattle.sheet_nodes.specs.Table.{fresh, mention_at, noted, path_at, paths_in, unstated, want_count};
 ghost use Rattle.sheet_nodes.specs.Inside.{IsTable};
 
+use crate::row::Row;
 use limit_tree::Kind;
 use std::alloc::{AllocError, Allocator};
-use std::collections::BTreeMap;
 use std::marker::Model;
 
 /// A path's text, what stands there, and the line that states it, if one does.
@@ -25,7 +25,7 @@ struct Node<'t> {
 pub struct Nodes<'t, A: Allocator> {
     nodes: Vec<Node<'t>, A>,
     /// The places of each node's kids by their names. There may be rows without names behind those of the nodes.
-    names: Vec<BTreeMap<&'t [u8], usize, A>, A>,
+    names: Vec<Row<'t, A>, A>,
     wants: usize,
 }
 
@@ -105,7 +105,7 @@ impl<'t, A: Allocator> Nodes<'t, A> {
         ensures place { result
             ≡ place_of (paths_in self.now) (path_at self.now parent ++ name.now ∷ []) }
     {
-        self.names[parent].get(name).copied()
+        self.names[parent].place(name)
     }
 
     /// Notes what a line states of a place that has none.
@@ -140,7 +140,7 @@ impl<'t, A: Allocator + Clone> Nodes<'t, A> {
             line: None,
         })?;
         let mut names = Vec::new(alloc.clone()?);
-        let kids = BTreeMap::new(alloc);
+        let kids = Row::new(alloc)?;
         names.push(kids)?;
         Ok(Nodes {
             nodes,
@@ -163,7 +163,7 @@ impl<'t, A: Allocator + Clone> Nodes<'t, A> {
         ensures pushed { OnOk result (self.new ≡ self.old ++ unstated (names_of path.now) ∷ []) }
     {
         let place = self.nodes.len();
-        let kids = BTreeMap::new(self.nodes.allocator().clone()?);
+        let kids = Row::new(self.nodes.allocator().clone()?)?;
         self.names.push(kids)?;
         self.nodes.push(Node {
             path,
@@ -171,8 +171,8 @@ impl<'t, A: Allocator + Clone> Nodes<'t, A> {
             kind: Kind::Branch { limit: None },
             line: None,
         })?;
-        match self.names[parent].insert(name, place) {
-            Ok(_) => Ok(()),
+        match self.names[parent].add(name, place) {
+            Ok(()) => Ok(()),
             Err(_) => {
                 let _ = self.nodes.pop();
                 Err(AllocError)

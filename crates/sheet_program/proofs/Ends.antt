@@ -1,9 +1,12 @@
 -- The ends of commands, from what the commands promise of texts that are known.
-use Rattle.std.proofs.Common.{◌≡◌, ◌<◌, ℕ, List, Option, Some, None, IfSome, length, refl, subst}
+use Rattle.std.proofs.Common.{◌≡◌, ◌<◌, ◌⊎◌, inl, inr, ⊎_elim, ℕ, List, Option, Some, None, IfSome, length, refl, subst}
 use Rattle.std.specs.Io.KnownBytes.{Appends}
 use Rattle.grant_certificate.specs.declared.flaw.Verdict.{Verdict}
 use Rattle.sheet_check.specs.Checking.{IsCheckOf, IsGrantsFaultOf}
-use Rattle.share_text.specs.Sheet.{IsSheetFaultOf}
+use Rattle.share_text.specs.Sheet.{IsSheetFaultOf, sheet_fault}
+use Rattle.sheet_share.specs.Sharing.{IsSharingFault, IsSharingOf}
+use Rattle.whole_texts.specs.Faults.{IsTextOf}
+use Rattle.sheet_program.specs.Causes.{IsCheckWhy, IsShareWhy, IsSharingRefused, IsVerdictRefused}
 use Rattle.whole_texts.specs.declared.fault.ProgramFault.{ProgramFault}
 use Rattle.whole_texts.specs.declared.fault.ProgramFault.TheVariants.{Memory, Sheet, Grants, TooLong, ReadFault, WriteFault}
 use Rattle.whole_texts.specs.declared.read.TheConstants.{MAX_TEXT}
@@ -55,3 +58,39 @@ pub judged : (sheet grants : Octets) (sheet_text grants_text : Option (List ℕ)
 judged sheet grants sheet_text grants_text verdict meant old new given also checked is =
     let R : Verdict → Type 0 = λ it. IsJudged sheet grants it old new in
     subst R is (judged_so sheet grants sheet_text grants_text verdict old new given also checked)
+
+-- why `share` tells a fault, from what it promises of an end that the file gave
+pub share_why : (gives : Octets) (refused fails : Type 0) (refuses : List ℕ → Type 0) (known : Option (List ℕ)) (fault : ProgramFault) → gives known
+    → (fault ≡ ReadFault → fails)
+    → (fault ≡ WriteFault → (text printed : List ℕ) × IsTextOf text known × IsSharingOf text printed × refuses printed)
+    → IsSharingFault fault → IsShareWhy gives refused fails refuses fault
+share_why gives refused fails refuses known ReadFault given reads writes of = inr (reads refl)
+share_why gives refused fails refuses known WriteFault given reads writes of = told (writes refl)
+  where
+    told : ((text printed : List ℕ) × IsTextOf text known × IsSharingOf text printed × refuses printed) → IsSharingRefused gives refuses
+    told (text, printed, is, shared, may) = (known, text, printed, given, is, shared, may)
+share_why gives refused fails refuses known (Grants why) given reads writes of = of
+share_why gives refused fails refuses known TooLong given reads writes of = tt
+share_why gives refused fails refuses known Memory given reads writes of = tt
+share_why gives refused fails refuses known (Sheet why) given reads writes of = tt
+
+-- the same of `check`, from what it promises of two ends
+pub check_why : (sheet grants : Octets) (sheet_fails grants_fails : Type 0) (refuses : List ℕ → Type 0) (known also : Option (List ℕ)) (fault : ProgramFault)
+    → sheet known → grants also
+    → (fault ≡ ReadFault → sheet_fails ⊎ grants_fails)
+    → (fault ≡ TooLong → IfSome known (λ text. MAX_TEXT < length text)
+    ⊎ (IfSome known (λ text. sheet_fault text ≡ None) × IfSome also (λ text. MAX_TEXT < length text)))
+    → (fault ≡ WriteFault → (sheet_text grants_text printed : List ℕ) × (verdict : Verdict) × IsTextOf sheet_text known × IsTextOf grants_text also
+    × IsCheckOf sheet_text grants_text verdict printed × refuses printed)
+    → IsCheckWhy sheet grants sheet_fails grants_fails refuses fault
+check_why sheet grants sheet_fails grants_fails refuses known also ReadFault given other reads long writes = reads refl
+check_why sheet grants sheet_fails grants_fails refuses known also TooLong given other reads long writes =
+    ⊎_elim (λ it. inl (known, given, it)) (λ it. inr (known, given, it.0, (also, other, it.1))) (long refl)
+check_why sheet grants sheet_fails grants_fails refuses known also WriteFault given other reads long writes = refused (writes refl)
+  where
+    refused : ((sheet_text grants_text printed : List ℕ) × (verdict : Verdict) × IsTextOf sheet_text known × IsTextOf grants_text also
+        × IsCheckOf sheet_text grants_text verdict printed × refuses printed) → IsVerdictRefused sheet grants refuses
+    refused (a, b, printed, verdict, first, second, is, may) = (known, also, a, b, printed, verdict, given, other, first, second, is, may)
+check_why sheet grants sheet_fails grants_fails refuses known also Memory given other reads long writes = tt
+check_why sheet grants sheet_fails grants_fails refuses known also (Sheet why) given other reads long writes = tt
+check_why sheet grants sheet_fails grants_fails refuses known also (Grants why) given other reads long writes = tt

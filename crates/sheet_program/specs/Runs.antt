@@ -1,6 +1,6 @@
 -- How the commands on sheets end. What a file gives is said by a test of the octets that it may give; none stands for octets
 -- that are not known, and of those nothing is said. Old and new are what the output holds before and after.
-use Rattle.std.specs.Prelude.{◌≡◌, ◌<◌, ◌⊎◌, ℕ, List, Option, Some, None, IfSome, length}
+use Rattle.std.specs.Prelude.{◌≡◌, ◌<◌, ℕ, List, Option, Some, None, IfSome, length}
 use Rattle.std.specs.Io.KnownBytes.{Appends}
 use Rattle.command_line.specs.declared.words.SheetWords.{SheetWords}
 use Rattle.command_line.specs.declared.words.SheetWords.TheVariants.{Share, Check}

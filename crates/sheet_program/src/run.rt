@@ -6,6 +6,7 @@ ghost use Rattle.command_line.specs.Given.{IsPlainWord, IsRefusal, IsSheetFound}
 ghost use Rattle.command_line.specs.declared.words.SheetWords.{SheetWords};
 ghost use Rattle.command_line.specs.declared.words.WordsFault.{WordsFault};
 ghost use Rattle.whole_texts.specs.declared.fault.ProgramFault.{ProgramFault};
+ghost use Rattle.sheet_program.specs.Causes.{AreBothOpened, AreOpened, IsCheckWhy, IsFor, IsShareWhy, IsSheetWhy};
 ghost use Rattle.sheet_program.specs.Endings.{IsToldEnd, IsUnwritten};
 ghost use Rattle.sheet_program.specs.Runs.{IsCheckEnd, IsNamedTwice, IsShareEnd, IsSheetEnd};
 
@@ -28,6 +29,9 @@ fn share<O: Openings, W: TextWriter>(
 ) -> Ending
     ensures end { IsShareEnd (O.Gives files.old sheet.now)
         (W.contents output.old) (W.contents output.new) result }
+    ensures why { IsFor (IsShareWhy (O.Gives files.old sheet.now) (O.MayRefuse files.old sheet.now)
+        (O.MayFail files.old sheet.now) (W.may_refuse output.old)) result }
+    ensures opened { O.Opens files.old sheet.now files.new }
     ensures unwritten { IsUnwritten result → output.new ≡ output.old }
 {
     let Some(mut sheet) = files.open(sheet) else {
@@ -55,6 +59,12 @@ fn check<O: Openings, W: TextWriter>(
 ) -> Ending
     ensures end { IsCheckEnd (O.Gives files.old) sheet.now grants.now
         (W.contents output.old) (W.contents output.new) result }
+    ensures why { IsFor (IsCheckWhy (O.Gives files.old sheet.now) (O.Gives files.old grants.now)
+        (O.MayRefuse files.old sheet.now ⊎ O.MayFail files.old sheet.now)
+        (O.MayRefuse files.old grants.now ⊎ O.MayFail files.old grants.now)
+        (W.may_refuse output.old)) result }
+    ensures opened { AreBothOpened O.Opens files.old files.new
+        (O.MayRefuse files.old) sheet.now grants.now result }
     ensures unwritten { IsUnwritten result → output.new ≡ output.old }
 {
     if is_named_twice(sheet, grants) {
@@ -73,7 +83,7 @@ fn check<O: Openings, W: TextWriter>(
     }
 }
 
-/// Runs a command on a sheet, as `share` or `check` ends. Nothing is written to the output where standard input is named
+/// Runs a command on a sheet, as `share` or `check` ends, on files that are opened in the order of its words. Nothing is written to the output where standard input is named
 /// twice, nor before a fault other than that of the output.
 pub fn run_sheet_words<O: Openings, W: TextWriter>(
     alloc: Global,
@@ -83,6 +93,10 @@ pub fn run_sheet_words<O: Openings, W: TextWriter>(
 ) -> Ending
     ensures end { IsSheetEnd (O.Gives files.old) words.entry
         (W.contents output.old) (W.contents output.new) result }
+    ensures why { IsSheetWhy (O.Gives files.old) (O.MayRefuse files.old)
+        (O.MayFail files.old) (W.may_refuse output.old) words.entry result }
+    ensures opened { AreOpened O.Opens files.old files.new
+        (O.MayRefuse files.old) words.entry result }
     ensures unwritten { IsUnwritten result → output.new ≡ output.old }
 {
     match words {
@@ -111,10 +125,14 @@ pub fn run_sheets<O: Openings, W: TextWriter>(
         → (result ≡ Ending.Fault ProgramFault.Memory) ⊎ ((command : SheetWords)
         × IsSheetFound (subcommand_of sheets (map (λ s. s.now) words.now)) command
         × IsSheetEnd (O.Gives files.old) command
-        (W.contents output.old) (W.contents output.new) result) }
+        (W.contents output.old) (W.contents output.new) result
+        × IsSheetWhy (O.Gives files.old) (O.MayRefuse files.old)
+        (O.MayFail files.old) (W.may_refuse output.old) command result
+        × AreOpened O.Opens files.old files.new (O.MayRefuse files.old) command result) }
     ensures told { fault_of sheets (map (λ s. s.now) words.now) ≢ [] → (fault : WordsFault)
         × IsRefusal (fault_of sheets (map (λ s. s.now) words.now)) fault
-        × IsToldEnd fault (W.contents output.old) (W.contents output.new) result }
+        × IsToldEnd fault (W.contents output.old) (W.contents output.new) result
+        × (files.new ≡ files.old) }
     ensures unwritten { IsUnwritten result → output.new ≡ output.old }
 {
     match read_sheet_words(alloc, words) {

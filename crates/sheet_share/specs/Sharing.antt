@@ -8,6 +8,8 @@ use Rattle.round_allocator.specs.Rounds.{IsExhausted, IsNamed}
 use Rattle.sheet_tree.specs.Paths.{text_of, written}
 use Rattle.share_text.specs.Views.{SheetValue, IsSheetOf}
 use Rattle.sheet_share.specs.Lines.{total_line}
+use Rattle.whole_texts.specs.declared.fault.ProgramFault.{ProgramFault}
+use Rattle.whole_texts.specs.declared.fault.ProgramFault.TheVariants.{TooLong, ReadFault, WriteFault, Memory, Sheet, Grants}
 
 -- the words behind a leaf that is not met: the branch that its entry names
 abbrev pub held_back : SheetValue → Option ℕ → List ℕ
@@ -38,3 +40,12 @@ pub record IsSharingOf (text printed : List ℕ) : Type 0 where
   pub backed : IsBackedBy (limits sheet.outline) grants entries
   pub best : IsBest (limits sheet.outline) grants
   pub prints : printed ≡ sharing_text sheet grants entries
+
+-- the faults that sharing a sheet may tell: all but those of a grants file
+abbrev pub IsSharingFault : ProgramFault → Type 0
+IsSharingFault TooLong = Unit {0}
+IsSharingFault ReadFault = Unit {0}
+IsSharingFault WriteFault = Unit {0}
+IsSharingFault Memory = Unit {0}
+IsSharingFault (Sheet fault) = Unit {0}
+IsSharingFault (Grants fault) = ⊥

@@ -9,7 +9,7 @@ ghost use Rattle.share_text.specs.Views.{IsSheetOf};
 ghost use Rattle.sheet_share.specs.Lines.{share_line, share_lines, total};
 ghost use Rattle.sheet_faults.specs.declared.sheet.SheetFault.{SheetFault};
 ghost use Rattle.whole_texts.specs.Faults.{IsReadingFault, IsSheetJudgement, IsTextOf};
-ghost use Rattle.sheet_share.specs.Sharing.{IsSharingOf, leaf_line, sharing_text};
+ghost use Rattle.sheet_share.specs.Sharing.{IsSharingFault, IsSharingOf, leaf_line, sharing_text};
 ghost use Rattle.share_text.specs.Sheet.{IsSheetFaultOf};
 
 use crate::lines::{Share, lines_of};
@@ -118,7 +118,7 @@ pub fn sharing_of<A: Allocator + Clone>(alloc: A, text: &[u8]) -> Result<String<
 /// Reads a sheet, and writes the lines of its sharing. A text of more than `MAX_TEXT` octets is not read to its end.
 ///
 /// `WriteFault` comes only where the writer refuses the very lines, and then nothing is claimed of how much went
-/// out; any other fault comes before the first octet is written.
+/// out; any other fault comes before the first octet is written. A fault of a grants file is never told.
 pub fn run_share<A: Allocator + Clone, R: TextReader, W: TextWriter>(
     alloc: A,
     reader: &mut R,
@@ -139,6 +139,7 @@ pub fn run_share<A: Allocator + Clone, R: TextReader, W: TextWriter>(
         × W.may_refuse writer.old printed }
     ensures unwritten { IfErr result (λ fault. fault ≢ ProgramFault.WriteFault
         → writer.new ≡ writer.old) }
+    ensures faults { IfErr result IsSharingFault }
 {
     let text = read_whole(alloc.clone()?, reader)?;
     let lines = sharing_of(alloc, &text)?;

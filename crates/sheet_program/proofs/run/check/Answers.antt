@@ -1,5 +1,5 @@
-use Rattle.std.proofs.Common.{ap, rules, Err}
-use Rattle.sheet_program.proofs.Ends.{check_fault, judged}
+use Rattle.std.proofs.Common.{ap, rules, Err, inl, inr, ⊎_elim}
+use Rattle.sheet_program.proofs.Ends.{check_fault, check_why, judged}
 use Rattle.sheet_program.proofs.run.check.Goals as goal
 
 pub returns-in-Ok-Yes-clause-end : goal.returns-in-Ok-Yes-clause-end
@@ -14,3 +14,10 @@ pub returns-clause-end : goal.returns-clause-end
 returns-clause-end g c =
     check_fault _ _ _ _ _ c.in-Some.ensures.gives (c.in-Some.ensures.stays _ _ c.in-Some-open.ensures.gives) (λ why is. c.in-Err.ensures.sheet why (ap Err is))
     (λ why is. c.in-Err.ensures.grants why (ap Err is))
+
+pub returns-clause-why : goal.returns-clause-why
+returns-clause-why g c =
+    check_why _ _ _ _ _ _ _ _ c.in-Some.ensures.gives (c.in-Some.ensures.stays _ _ c.in-Some-open.ensures.gives)
+    (λ is. ⊎_elim (λ may. inl (inr (c.in-Some.ensures.fails may))) (λ may. inr (inr (c.in-Some.ensures.no_more_fail _ (c.in-Some-open.ensures.fails may)))) (c.in-Err.ensures.read_fault (ap Err is)))
+    (λ is. c.in-Err.ensures.too_long (ap Err is))
+    (λ is. c.in-Err.ensures.write_fault (ap Err is))

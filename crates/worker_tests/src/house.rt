@@ -4,7 +4,7 @@ use super::counted::End;
 use super::expect::OfTest;
 use lent_parts::{LentDesk, LentRounds, PartsName};
 use line_rates::Limits;
-use std::alloc::Global;
+use std::alloc::{Allocator, Global};
 use std::sync::Mutex;
 use std::sync::atomic::{AtomicU64, Ordering};
 use std::thread;
@@ -28,7 +28,12 @@ pub(crate) struct Turns<B: PartsName> {
 }
 
 impl<B: PartsName> Turns<B> {
-    fn round(&mut self, alloc: Global, desk: &LentDesk<B, OfTest>, limits: &Limits) {
+    fn round<A: Allocator + Clone>(
+        &mut self,
+        alloc: A,
+        desk: &LentDesk<B, OfTest>,
+        limits: &Limits,
+    ) {
         let moment = self.moment;
         self.moment = moment.saturating_add(100);
         let _ = self.rounds.round(alloc, desk, limits, moment);
@@ -63,12 +68,12 @@ impl<B: PartsName> House<B> {
     }
 
     /// A round, unless another thread makes one.
-    pub(crate) fn serve(&self, alloc: Global) {
+    pub(crate) fn serve<A: Allocator + Clone>(&self, alloc: A) {
         self.serve_under(alloc, &self.limits);
     }
 
     /// A round under other limits, unless another thread makes one.
-    pub(crate) fn serve_under(&self, alloc: Global, limits: &Limits) {
+    pub(crate) fn serve_under<A: Allocator + Clone>(&self, alloc: A, limits: &Limits) {
         match self.turns.try_lock() {
             Some(mut turns) => turns.round(alloc, &self.desk, limits),
             None => thread::yield_now(),

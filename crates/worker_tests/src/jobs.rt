@@ -8,7 +8,7 @@ use super::counted::End;
 use super::expect::{OfTest, holds, limits};
 use super::house::{House, Job, Keeper};
 use super::parts::{Lent, Opened};
-use super::shortages::refuse_buffers;
+use super::shortages::{loop_without_memory, refuse_buffers};
 use ftp_terms::DataType;
 use grant_ledger::Settled;
 use job_board::{BoardPass, JobBoard, open_board};
@@ -195,6 +195,7 @@ fn run_named<B: PartsName>(rt: &(impl Abort + AllocGlobal + Wait), opened: Opene
     } = Lent::<B>::new(opened, limits(rt, 0));
     let moved = run_all(rt, &house, &mut first);
     refuse_buffers(rt, &house, &mut first);
+    let second = loop_without_memory(rt, &house, second);
     let mut second = loop_over(rt, &house, second);
     stop_after_an_ask(rt, &house, &mut first, &mut second);
     let lent = Lent {
@@ -208,6 +209,6 @@ fn run_named<B: PartsName>(rt: &(impl Abort + AllocGlobal + Wait), opened: Opene
 #[test]
 fn jobs_of_each_end(rt: HostRuntime) {
     let (moved, settled) = run_named::<Brand>(&rt, Opened::new(&rt));
-    holds(&rt, settled.moved == moved.saturating_add(280_000));
+    holds(&rt, settled.moved == moved.saturating_add(280_010));
     holds(&rt, 65_536 <= settled.back);
 }

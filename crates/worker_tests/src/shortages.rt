@@ -1,18 +1,22 @@
 //! Each growth of each call refused in turn: the call passes once there is memory.
 
+ghost use Rattle.std.specs.Prelude.{◌≡◌};
+ghost use Rattle.job_board.specs.Boards.{IsOfBoard, IsSameBoard};
+
 use super::counted::End;
 use super::expect::{OfTest, holds};
 use super::house::{House, Job};
 use ftp_terms::DataType;
-use job_board::{BoardFault, open_board};
+use job_board::{BoardFault, BoardPass, JobBoard, open_board};
 use lent_parts::{LentWorker, PartsName};
 use line_rates::Way;
 use linked_list_allocator::LocalHeap;
 use scarce_memory::{HEAP, leave_hole};
+use std::alloc::Global;
 use std::process::Abort;
 use std::sync::Wait;
 use std::test::Fail;
-use transfer_worker::{Gate, Go, JobEnd, LaneJob, Remnant};
+use transfer_worker::{Gate, Go, JobEnd, LaneJob, LoopEnd, Remnant, worker_loop};
 
 // Returns whether a board opens over this heap. If not, memory ran out.
 fn opens(rt: &impl Abort, heap: &LocalHeap) -> bool {
@@ -154,4 +158,110 @@ pub(crate) fn refuse_buffers<B: PartsName>(
         drop(rest);
         holds(rt, is_opened(rt, &heap, house, worker, job_of(row)));
     }
+}
+
+/// A gate whose first rounds have no memory. Once a job has ended, all memory of the jobs is there.
+#[derive(Drop)]
+struct Relief<'h, B: PartsName> {
+    house: &'h House<B>,
+    alloc: Global,
+    // has nothing left
+    none: &'h LocalHeap,
+    // how many rounds yet have no memory
+    poor: u32,
+    taken: Vec<Vec<u8, &'h LocalHeap>>,
+    last: Go,
+    ends: (Option<JobEnd>, Option<JobEnd>),
+}
+
+impl<'h, B: PartsName, Q: Remnant> Gate<Q> for Relief<'h, B> {
+    ghost use Rattle.std.specs.Prelude.{None};
+
+    ghost last_go = { λ relief. relief.last };
+
+    ghost heard = { λ _. None };
+
+    ghost passed = { λ _. None };
+
+    fn pass(&mut self, _session: u32, _moved: u64) -> Go {
+        if self.poor > 0 {
+            self.poor -= 1;
+            self.house.serve(self.none);
+        } else {
+            self.house.serve(self.alloc);
+        }
+        self.last = Go::On;
+        Go::On
+    }
+
+    fn last(&self) -> Go {
+        self.last
+    }
+
+    fn done(&mut self, _session: u32, end: JobEnd, _ran: Q) {
+        self.taken.clear();
+        self.ends = (self.ends.1, Some(end));
+    }
+}
+
+// Puts a job on the board twice.
+fn put_twice(
+    rt: &(impl Abort + Wait),
+    board: &JobBoard<Job>,
+    pass: &mut BoardPass<Job>,
+    row: &Buffers,
+)
+    requires board { IsOfBoard board.now pass.old }
+    ensures board { IsSameBoard pass.old pass.new }
+{
+    let first = board.push(rt, pass, job_of(row));
+    let second = board.push(rt, pass, job_of(row));
+    holds(rt, first.is_ok() && second.is_ok());
+}
+
+// A loop over the jobs of a board, of which the first finds no memory in the heap.
+fn loop_in_heap<B: PartsName>(
+    rt: &(impl Abort + AllocGlobal + Wait),
+    heap: &LocalHeap,
+    none: &LocalHeap,
+    house: &House<B>,
+    worker: LentWorker<B, OfTest>,
+) -> LentWorker<B, OfTest> {
+    let (board, mut passes) = open_board(rt.alloc(), 2, 1).expect(rt, "a board");
+    let Some(mut pass) = passes.pop() else {
+        panic!(rt; "a pass")
+    };
+    put_twice(rt, &board, &mut pass, &BUFFERS[3]);
+    let mut gate = Relief {
+        house,
+        alloc: rt.alloc(),
+        none,
+        poor: 5,
+        taken: leave_hole(rt, heap, 1_000).expect(rt, "a hole"),
+        last: Go::On,
+        ends: (None, None),
+    };
+    if !worker.is_free() {
+        panic!(rt; "somebody sits there");
+    }
+    let desk = house.desk().desk();
+    let worked = worker.into_worked();
+    let (worked, end) = worker_loop(rt, heap, desk, worked, &board, &mut pass, &mut gate);
+    holds(rt, end == LoopEnd::Idle && gate.poor == 0);
+    holds(rt, gate.ends == (Some(JobEnd::Memory), Some(JobEnd::Ended)));
+    let (seat, tally) = worked.parts();
+    LentWorker::new(seat, tally)
+}
+
+/// A loop goes on behind a job that ended for want of memory; and a round that had none answers the next job by nothing, which
+/// asks again. Ten octets are moved.
+pub(crate) fn loop_without_memory<B: PartsName>(
+    rt: &(impl Abort + AllocGlobal + Wait),
+    house: &House<B>,
+    worker: LentWorker<B, OfTest>,
+) -> LentWorker<B, OfTest> {
+    let heap = LocalHeap::new(rt.alloc(), 200_000).expect(rt, "a heap");
+    let none = LocalHeap::new(rt.alloc(), HEAP).expect(rt, "a heap");
+    let _rest = leave_hole(rt, &none, 0).expect(rt, "no hole");
+    loop_in_heap(rt, &heap, &none, house, worker)
 }

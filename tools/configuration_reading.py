@@ -11,6 +11,8 @@ LONGEST_NAME, LONGEST_PATH = 255, 4096
 # How many characters of a name or a key are shown.
 LONGEST_SHOWN = 64
 LETTERS = set("elradfmw")
+# By how many letters a key may be mistyped, so that another is told.
+MOST_EDITS = 2
 ROOT = ()
 
 # What a key may hold: the words for it, whether a value is of the kind, and whether one of the kind is within its range.
@@ -115,11 +117,36 @@ def fault_at(place, key, kind, value):
     return None
 
 
+def edits_between(one, other):
+    """How many characters are to be changed, put in or left out, so that one text becomes another."""
+    row = list(range(len(other) + 1))
+    for count, letter in enumerate(one, 1):
+        before, row[0] = row[0], count
+        for at, another in enumerate(other, 1):
+            before, row[at] = row[at], min(row[at] + 1, row[at - 1] + 1, before + (letter != another))
+    return row[-1]
+
+
+# The keys of each table in the latest version, of which the first that is similar is told.
+LATEST = {
+    "top": ["group", "version", "server", "user", "dir", "file"], "[server]": SERVER, "[[group]]": GROUP,
+    "[[user]]": ["group", *(it for it in USER if it != "group")], "[[user.override]]": OVERRIDE, "[[dir]]": DIR, "[[file]]": FILE,
+}
+
+
+def similar_to(key, keys):
+    """What is told of the first key that is most similar to one, where few letters lead there."""
+    most = min(MOST_EDITS, len(key.encode()) - 1)
+    edits = {it: edits_between(key, it) for it in keys if len(key.encode()) <= len(it) + MOST_EDITS}
+    near = {it: count for it, count in edits.items() if 0 < count <= most}
+    return f"; a similar key is {min(near, key=near.get)}" if near else ""
+
+
 def table_fault(place, keys, table):
     """The first fault of a table: an unknown key, the least by its octets, and then its keys in their order."""
     unknown = sorted((it for it in table if it not in keys), key=str.encode)
     if unknown:
-        return key_fault(place, unknown[0], "no such key", "UnknownKey")
+        return key_fault(place, unknown[0], "no such key" + similar_to(unknown[0], LATEST[place.split(" ")[0]]), "UnknownKey")
     for key, (kind, is_needed) in keys.items():
         if key not in table:
             if is_needed:

@@ -6,7 +6,7 @@ use authorizer::Authorizer;
 use config_store::ServedStore;
 use ftp_terms::Letter;
 use line_rates::{Limits, Name, Way};
-use server_config::{Config, ServerNumbers, migrate};
+use server_config::{Config, ServerNumbers, migrate, numbers_agree};
 use std::alloc::Global;
 use std::process::Abort;
 use virtual_path::VPath;
@@ -115,6 +115,11 @@ fn check_folder(rt: &impl Abort, config: &Config) {
         ServedStore::Memory(_) => panic!(rt; "files in memory"),
         ServedStore::Folder(path) => same(rt, &path.as_str(), &"/srv/ftp"),
     }
+}
+
+#[test]
+fn laws(_rt: HostRuntime) {
+    numbers_agree();
 }
 
 #[test]

@@ -15,7 +15,7 @@ use Rattle.config_users.specs.Added.{AddsUsers}
 use Rattle.server_config.specs.Refused.{IsFaultOf, IsFaultOfTables, IsFaultOfText, TellsStore}
 use Rattle.server_config.specs.declared.config.Config.{Config}
 use Rattle.server_config.specs.declared.fault.ConfigFault.{ConfigFault}
-use Rattle.server_config.specs.declared.fault.ConfigFault.TheVariants.{NotToml, Key, BadGroup, BadUser, BadStore, BadDate, Memory}
+use Rattle.server_config.specs.declared.fault.ConfigFault.TheVariants.{NotToml, Key, BadGroup, BadUser, BadStore, BadDate, TooDeep, TooLong, Memory}
 use Rattle.server_config.proofs.Making.{moved}
 
 -- what is served is refused, where groups and users are not
@@ -35,6 +35,8 @@ store_refused tables ds fs users fault (Key header key problem) same_dirs same_f
 store_refused tables ds fs users fault (BadGroup header problem) same_dirs same_files apart grouped adds refused told = absurd told
 store_refused tables ds fs users fault (BadUser header problem) same_dirs same_files apart grouped adds refused told = absurd told
 store_refused tables ds fs users fault BadDate same_dirs same_files apart grouped adds refused told = absurd told
+store_refused tables ds fs users fault TooDeep same_dirs same_files apart grouped adds refused told = absurd told
+store_refused tables ds fs users fault TooLong same_dirs same_files apart grouped adds refused told = absurd told
 store_refused tables ds fs users fault Memory same_dirs same_files apart grouped adds refused told = tt
 
 -- tables that a document states, and of which nothing can be made
@@ -44,6 +46,8 @@ tables_refused document tables (Ok config) stated is = tt
 tables_refused document tables (Err (NotToml line error)) stated is = absurd is
 tables_refused document tables (Err (Key header key problem)) stated is = absurd is
 tables_refused document tables (Err BadDate) stated is = absurd is
+tables_refused document tables (Err TooDeep) stated is = absurd is
+tables_refused document tables (Err TooLong) stated is = absurd is
 tables_refused document tables (Err (BadGroup header problem)) stated is = inr (tables, stated, is)
 tables_refused document tables (Err (BadUser header problem)) stated is = inr (tables, stated, is)
 tables_refused document tables (Err (BadStore header problem)) stated is = inr (tables, stated, is)
@@ -53,6 +57,8 @@ tables_refused document tables (Err Memory) stated is = inl refl
 pub document_refused : (octets : List ℕ) (document : Members) (fault : ConfigFault) → parse_document octets ≡ Some document → IsFaultOf document fault → IsFaultOfText octets fault
 document_refused octets document (NotToml line error) parsed is = absurd is
 document_refused octets document BadDate parsed is = absurd is
+document_refused octets document TooDeep parsed is = absurd is
+document_refused octets document TooLong parsed is = absurd is
 document_refused octets document (Key header key problem) parsed is = inr (document, parsed, is)
 document_refused octets document (BadGroup header problem) parsed is = inr (document, parsed, is)
 document_refused octets document (BadUser header problem) parsed is = inr (document, parsed, is)

@@ -3,7 +3,7 @@ use Rattle.std.specs.Prelude.{ℕ, List, codes}
 use Rattle.config_keys.specs.declared.fault.Problem.{Problem}
 use Rattle.config_keys.specs.declared.fault.Problem.TheVariants.{Unknown, Missing, WrongKind, OutOfRange}
 use Rattle.server_config.specs.declared.fault.ConfigFault.{ConfigFault}
-use Rattle.server_config.specs.declared.fault.ConfigFault.TheVariants.{NotToml, Key, BadGroup, BadUser, BadStore, BadDate, Memory}
+use Rattle.server_config.specs.declared.fault.ConfigFault.TheVariants.{NotToml, Key, BadGroup, BadUser, BadStore, BadDate, TooDeep, TooLong, Memory}
 
 abbrev pub name_of_problem : Problem → List ℕ
 name_of_problem Unknown = codes "UnknownKey"
@@ -17,5 +17,7 @@ name_of (Key header key problem) = name_of_problem problem
 name_of (BadGroup header problem) = codes "BadGroup"
 name_of (BadUser header problem) = codes "BadUser"
 name_of (BadStore header problem) = codes "BadStore"
-name_of BadDate = codes "NotToml"
+name_of BadDate = codes "BadDate"
+name_of TooDeep = codes "TooDeep"
+name_of TooLong = codes "TooLong"
 name_of Memory = codes "Memory"

@@ -1,5 +1,7 @@
 pub mod Configs
 pub mod Faults
+pub mod Known
 pub mod Migrated
+pub mod Numbers
 pub mod Refused
 pub mod Settings

@@ -17,7 +17,7 @@ use Rattle.config_tables.specs.declared.tables.Tables.{Tables}
 use Rattle.config_users.specs.Added.{AddsUsers, IsFirstRefusal}
 use Rattle.config_users.specs.declared.fault.UsersFault.{UsersFault}
 use Rattle.server_config.specs.declared.fault.ConfigFault.{ConfigFault}
-use Rattle.server_config.specs.declared.fault.ConfigFault.TheVariants.{NotToml, Key, BadGroup, BadUser, BadStore, BadDate, Memory}
+use Rattle.server_config.specs.declared.fault.ConfigFault.TheVariants.{NotToml, Key, BadGroup, BadUser, BadStore, BadDate, TooDeep, TooLong, Memory}
 
 -- the groups are refused; or they are not, and a user is; or nobody is, and what is served is refused
 abbrev pub IsFaultOfTables : Tables → ConfigFault → Type 0
@@ -35,6 +35,8 @@ abbrev pub IsFaultOf : Members → ConfigFault → Type 0
 IsFaultOf document (Key header key problem) = AreNoTables document
 IsFaultOf document (NotToml line error) = ⊥
 IsFaultOf document BadDate = ⊥
+IsFaultOf document TooDeep = ⊥
+IsFaultOf document TooLong = ⊥
 IsFaultOf document fault = (fault ≡ Memory) ⊎ ((tables : Tables) × IsTables document tables × IsFaultOfTables tables fault)
 
 -- the text is no document; or it is one, and the document is refused

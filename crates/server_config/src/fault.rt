@@ -4,6 +4,7 @@ ghost use Rattle.std.specs.Prelude.{◌≡◌, IfOk};
 ghost use Rattle.server_config.specs.Refused.{IsKey, TellsGroup, TellsKey, TellsStore, TellsText, TellsUser};
 ghost use Rattle.server_config.specs.Faults.{name_of};
 
+use crate::similar::similar_to;
 use authorizer::AuthorizerFault;
 use config_keys::Problem;
 use config_rates::{GroupProblem, RowsFault};
@@ -26,18 +27,32 @@ pub struct OwnedHeader {
     pub name: Option<String>,
 }
 
+/// A key of a file, and the one that may have been meant where it is unknown.
+#[derive(Debug, Drop)]
+pub struct OwnedKey {
+    pub name: String,
+    pub similar: Option<&'static str>,
+}
+
+/// A place in a text: a line, and a character of that line, both from 1.
+#[derive(Clone, Copy, Debug, PartialEq, Eq)]
+pub struct Place {
+    pub line: usize,
+    pub column: usize,
+}
+
 /// Why a configuration is refused. It prints as one line, which says where, and what was expected.
 #[derive(Debug, Drop)]
 pub enum ConfigFault {
-    /// The file is no UTF-8 or no TOML: the line, from 1, and what is wrong there.
+    /// The file is no UTF-8 or no TOML: where, and what is wrong there.
     NotToml {
-        line: usize,
+        place: Place,
         error: toml::de::Error,
     },
     /// A key is unknown, missing, of the wrong kind or out of range.
     Key {
         header: OwnedHeader,
-        key: String,
+        key: OwnedKey,
         problem: Problem,
     },
     /// Two groups have one name, or a user's group is not there.
@@ -57,6 +72,10 @@ pub enum ConfigFault {
     },
     /// The file has a date that no TOML text can write, so its table cannot be printed.
     BadDate,
+    /// The file nests deeper than is read, so what is printed of it could not be read back.
+    TooDeep,
+    /// What would be printed of the file is longer than what is read.
+    TooLong,
     /// Memory ran out.
     Memory,
 }
@@ -77,7 +96,9 @@ impl ConfigFault {
             ConfigFault::BadGroup { .. } => "BadGroup",
             ConfigFault::BadUser { .. } => "BadUser",
             ConfigFault::BadStore { .. } => "BadStore",
-            ConfigFault::BadDate => "NotToml",
+            ConfigFault::BadDate => "BadDate",
+            ConfigFault::TooDeep => "TooDeep",
+            ConfigFault::TooLong => "TooLong",
             ConfigFault::Memory => "Memory",
         }
     }
@@ -123,20 +144,33 @@ impl fmt::Display for OwnedHeader {
 impl fmt::Display for ConfigFault {
     fn fmt<W: fmt::Write>(&self, f: &mut fmt::Formatter<W>) -> fmt::Result {
         match self {
-            ConfigFault::NotToml { line, error } => write!(f, "line {line}: {}", error.message()),
+            ConfigFault::NotToml { place, error } => {
+                let Place { line, column } = place;
+                write!(f, "line {line}, column {column}: {}", error.message())
+            }
             ConfigFault::Key {
                 header,
                 key,
                 problem,
             } => {
                 write!(f, "{header}: ")?;
-                show(f, key.as_str())?;
-                write!(f, ": {problem}")
+                show(f, key.name.as_str())?;
+                write!(f, ": {problem}")?;
+                match key.similar {
+                    Some(similar) => write!(f, "; a similar key is {similar}"),
+                    None => Ok(()),
+                }
             }
             ConfigFault::BadGroup { header, problem } => write!(f, "{header}: {problem}"),
             ConfigFault::BadUser { header, problem } => write!(f, "{header}: {problem}"),
             ConfigFault::BadStore { header, problem } => write!(f, "{header}: {problem}"),
             ConfigFault::BadDate => f.write_str("a date cannot be written"),
+            ConfigFault::TooDeep => f.write_str(
+                "a value that is not read nests too deep to be written",
+            ),
+            ConfigFault::TooLong => {
+                f.write_str("in version 2 the text is longer than a configuration may be")
+            }
             ConfigFault::Memory => f.write_str("out of memory"),
         }
     }
@@ -161,12 +195,24 @@ pub fn not_toml(octets: &[u8], error: toml::de::Error) -> ConfigFault
     let Some(range) = error.span() else {
         return ConfigFault::Memory;
     };
-    let before = octets.iter().take(range.start);
-    let line = before.filter(|octet| **octet == b'\n').count();
     ConfigFault::NotToml {
-        line: line.saturating_add(1),
+        place: place_of(octets, range.start),
         error,
     }
+}
+
+/// Where so many octets of a text are behind. A character of several octets counts once.
+fn place_of(octets: &[u8], count: usize) -> Place {
+    let mut place = Place { line: 1, column: 1 };
+    for octet in octets.iter().take(count) {
+        if *octet == b'\n' {
+            place.line = place.line.saturating_add(1);
+            place.column = 1;
+        } else if *octet < 128 || *octet >= 192 {
+            place.column = place.column.saturating_add(1);
+        }
+    }
+    place
 }
 
 fn key_fault(
@@ -177,9 +223,16 @@ fn key_fault(
 ) -> Result<ConfigFault, AllocError>
     ensures told { IfOk result IsKey }
 {
+    let similar = match problem {
+        Problem::Unknown => similar_to(alloc, header.table, key)?,
+        _ => None,
+    };
     Ok(ConfigFault::Key {
         header: owned(alloc, header)?,
-        key: String::from_str(alloc, key)?,
+        key: OwnedKey {
+            name: String::from_str(alloc, key)?,
+            similar,
+        },
         problem,
     })
 }

@@ -12,11 +12,15 @@
 #![tactic(auto)]
 
 mod config;
+mod depth;
 mod fault;
 mod migration;
+mod numbers;
 mod settings;
+mod similar;
 
 pub use config::Config;
-pub use fault::{ConfigFault, OwnedHeader};
-pub use migration::{migrate, same_branches};
+pub use fault::{ConfigFault, OwnedHeader, OwnedKey, Place};
+pub use migration::{DEEPEST, LONGEST_TEXT, migrate, same_branches};
+pub use numbers::numbers_agree;
 pub use settings::ServerNumbers;

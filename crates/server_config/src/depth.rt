@@ -1,0 +1,45 @@
+//! How deep a document nests.
+
+ghost use Rattle.std.specs.Prelude.{◌≡◌, nat_le};
+ghost use Rattle.toml.specs.Data.{depth, items_depth, members_depth};
+ghost use Rattle.toml.specs.View.{view, array_view, table_view};
+
+use toml::value::Array;
+use toml::{Table, Value};
+
+/// Whether the arrays and tables of a value nest at most so deep.
+#[cycle(depth)]
+fn is_within(value: &Value, levels: usize) -> bool
+    ensures within { result ≡ nat_le (depth (view value.now)) levels }
+{
+    match value {
+        Value::Array(array) => levels > 0 && are_within(array, levels - 1),
+        Value::Table(table) => levels > 0 && table_within(table, levels - 1),
+        _ => true,
+    }
+}
+
+#[cycle(depth)]
+fn are_within(array: &Array, levels: usize) -> bool
+    ensures within { result ≡ nat_le (items_depth (array_view array.now)) levels }
+{
+    'items: for item in array {
+        if !is_within(item, levels) {
+            return false;
+        }
+    }
+    true
+}
+
+/// Whether those of a document do.
+#[cycle(depth)]
+pub fn table_within(table: &Table, levels: usize) -> bool
+    ensures within { result ≡ nat_le (members_depth (table_view table.now)) levels }
+{
+    'members: for (_key, member) in table.iter() {
+        if !is_within(member, levels) {
+            return false;
+        }
+    }
+    true
+}

@@ -105,7 +105,10 @@ fn warnings(rt: &(impl Abort + AllocGlobal), tables: &Tables<'_>) {
     .expect(rt, "memory");
     let (first, last) = (40_000, 40_001);
     holds(rt, found.len() == 2);
-    holds(rt, found[0] == Warning::OwnPorts { first, last });
+    holds(
+        rt,
+        found.first() == Some(&Warning::OwnPorts { first, last }),
+    );
 }
 
 /// What is made of the tables of a document.

@@ -129,8 +129,7 @@ def edits_between(one, other):
 
 # The keys of each table in the latest version, of which the first that is similar is told.
 LATEST = {
-    "top": ["group", "version", "server", "user", "dir", "file"], "[server]": SERVER, "[[group]]": GROUP,
-    "[[user]]": ["group", *(it for it in USER if it != "group")], "[[user.override]]": OVERRIDE, "[[dir]]": DIR, "[[file]]": FILE,
+    "top": TOP, "[server]": SERVER, "[[group]]": GROUP, "[[user]]": USER, "[[user.override]]": OVERRIDE, "[[dir]]": DIR, "[[file]]": FILE,
 }
 
 

@@ -1,7 +1,7 @@
 r"""The session table, read a second time: tools/random-sessions compares the session that was proved with it.
 
 It is written from the table as docs/session.md tells it, with lines whose meaning stands beside them, texts for paths and a
-dict for the store. It takes the script of crates/session_steps line by line and says what that program is to print, in its
+dict for the store. It takes the script of crates/test_session_steps line by line and says what that program is to print, in its
 one room: three users, a store of 20 octets, and one login of ann that can be guaranteed its rate. It knows the lines of its
 tables alone, and the words that tools/random-sessions gives. Each character stands for one octet.
 
@@ -738,7 +738,7 @@ ROWS = {
 
 
 class Reading:
-    """The program crates/session_steps, as far as its script has the lines and words that are known here."""
+    """The program crates/test_session_steps, as far as its script has the lines and words that are known here."""
 
     def __init__(self):
         self.room = Room()

@@ -1,7 +1,7 @@
 r"""The table of events of the core of sharing, read a second time: tools/random-worlds compares the world that was proved with it.
 
 It is written from the table as docs/world.md and docs/rates.md tell it. A lane is a small object, a tree of a tick is a list of
-names with their limits, and grants are given octet by octet. It takes the script of crates/world_steps line by line and says what
+names with their limits, and grants are given octet by octet. It takes the script of crates/test_world_steps line by line and says what
 that program is to print.
 
     reading = Reading()

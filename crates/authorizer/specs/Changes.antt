@@ -1,4 +1,5 @@
--- What each call makes of the users, were memory never wanting. The first refusal that applies is the answer.
+-- The effect of each call on the users, if memory does not run out. The first refusal that applies is the
+-- result.
 use Rattle.std.specs.Prelude.{◌≡◌, ℕ, ◌+◌, ◌^◌, Bool, false, cond, ◌||◌, List, [], Option, Some, None, Result, Ok, Err, nat_lt, nat_eq, bytes_eq, codes}
 use Rattle.std.specs.FinMap as map
 use Rattle.virtual_path.specs.Path.{Path, path_text, resolved}
@@ -22,7 +23,7 @@ abbrev pub path_then : {X : Type 0} → Result Path PathFault → (Path → Resu
 path_then (Err fault) next = Err BadPath
 path_then (Ok path) next = next path
 
--- a user as added: no override, no group, and the messages that are told where none was set
+-- a user as added: no override, no group, and the default messages
 abbrev pub new_user : ℕ → List ℕ → Path → Letters → User
 new_user number password home letters = record {
   number = number;
@@ -43,14 +44,14 @@ abbrev pub added : Accounts → List ℕ → List ℕ → List ℕ → List ℕ 
 added accounts name password home letters = cond (map.contains_key accounts.users name) (Err UserExists)
     (letters_then (letters_of letters) (λ held. path_then (resolved [] home) (λ path. placed accounts name (new_user accounts.next password path held))))
 
--- a user with its place changed
+-- one user replaced
 abbrev pub with_user : Accounts → List ℕ → User → Accounts
 with_user accounts name user = record { users = map.insert accounts.users name user; next = accounts.next }
 
 abbrev pub removed : Accounts → List ℕ → Result Accounts AuthorizerFault
 removed accounts name = user_then (map.get accounts.users name) (λ user. Ok (record { users = map.remove accounts.users name; next = accounts.next }))
 
--- a second override of one path replaces the first
+-- a second override of the same path replaces the first
 abbrev pub overriding : User → Path → Rule → User
 overriding user path rule = record user { overrides = map.insert user.overrides (path_text path) rule }
 

@@ -1,4 +1,4 @@
--- How users are kept.
+-- The stored form of users.
 use Rattle.std.specs.Prelude.{ℕ, Bool, List, Option, Some, None, map, codes, refl}
 use Rattle.std.specs.BTreeMap.{BTreeMap}
 use Rattle.std.specs.Coded.{Coded, code_by, coded×, coded_ℕ, coded_bool, coded_list, coded_option}
@@ -14,11 +14,11 @@ use Rattle.authorizer.specs.declared.account.Rule.{Rule}
 use Rattle.authorizer.specs.declared.account.Account.{Account}
 use Rattle.authorizer.specs.Users.{Overrides, User, Users, Accounts}
 
--- a map with texts as keys, by their octets, its values seen by v
+-- a map whose keys are texts, by their octets, with its values mapped by v
 abbrev pub map_of : {Y X V : Type 0} → (X → V) → BTreeMap (String Y) X → finite.FinMap (slice_cmp nat_cmp) V
 map_of v m = finite.from_entries (map (λ e. (string_bytes e.0, v e.1)) m.entries)
 
--- a message, or the one that is told where none was set
+-- a message, or the default if none was set
 abbrev pub message_of : {Y : Type 0} → List ℕ → Option (LineText Y) → List ℕ
 message_of plain None = plain
 message_of plain (Some text) = text_of text
@@ -35,7 +35,7 @@ user_of account = record {
   group = account.group;
 }
 
--- codes, by which proofs tell values apart
+-- codes, by which proofs distinguish values
 abbrev pub letters_code : Coded Letters
 letters_code = code_by (((Bool × Bool) × (Bool × Bool)) × ((Bool × Bool) × (Bool × Bool)))
     (coded× (coded× (coded× coded_bool coded_bool) (coded× coded_bool coded_bool)) (coded× (coded× coded_bool coded_bool) (coded× coded_bool coded_bool)))

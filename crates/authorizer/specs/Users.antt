@@ -1,4 +1,4 @@
--- The users of a server, and what each may do where.
+-- The users of a server, and their permissions by path.
 use Rattle.std.specs.Prelude.{◌≡◌, ◌⊎◌, ◌↔◌, ℕ, zero, suc, ◌≤◌, ◌+◌, ◌-◌, Bool, true, false, cond, ◌||◌, nat_le, IsTrue, List, Option, Some, None, unwrap_or, length, take}
 use Rattle.std.specs.Cmp.Lexicographic.{slice_cmp}
 use Rattle.std.specs.FinMap as map
@@ -32,26 +32,26 @@ pub record Accounts : Type 0 where
   pub users : Users
   pub next : ℕ
 
--- the path that lies so many names above a path
+-- the path `up` names above a path
 abbrev pub above : ℕ → Path → Path
 above up path = take (length path - up) path
 
--- an override covers its path and the entries directly in it, and a recursive one all beneath it
+-- an override covers its path and the entries directly in it; a recursive one covers everything beneath its path
 abbrev pub Covers : Rule → ℕ → Type 0
 Covers rule up = (rule.recursive ≡ true) ⊎ (up ≤ 1)
 
--- a path has an override so many names above it, which covers it
+-- there is an override `up` names above a path, and it covers the path
 pub record IsCovered (overrides : Overrides) (path : Path) (up : ℕ) (rule : Rule) : Type 0 where
   pub within : up ≤ length path
   pub kept : map.get overrides (path_text (above up path)) ≡ Some rule
   pub covers : Covers rule up
 
--- of all the overrides that cover a path, the deepest
+-- the deepest of the overrides that cover a path
 pub record IsDeepest (overrides : Overrides) (path : Path) (up : ℕ) (rule : Rule) : Type 0 where
   pub covered : IsCovered overrides path up rule
   pub deepest : (other : ℕ) (next : Rule) → IsCovered overrides path other next → up ≤ other
 
--- the letters by which a user may do something at a path: those of the deepest override that covers it, else the user's
+-- the letters that decide for a user at a path: those of the deepest override that covers it, otherwise the user's own
 abbrev pub DecidesAt : User → Path → Letters → Type 0
 DecidesAt user path letters = ((up : ℕ) × (rule : Rule) × IsDeepest user.overrides path up rule × (letters ≡ rule.letters))
     ⊎ (((up : ℕ) (rule : Rule) → IsCovered user.overrides path up rule → ⊥) × (letters ≡ user.letters))
@@ -64,7 +64,7 @@ Allowed users name letter path = (user : User) × (letters : Letters) × (map.ge
 abbrev pub covers : Rule → ℕ → Bool
 covers rule up = rule.recursive || nat_le up 1
 
--- the letters of an override so many names above a path, if it covers the path
+-- the letters of an override `up` names above a path, if it covers the path
 abbrev pub if_covers : ℕ → Option Rule → Option Letters
 if_covers up None = None
 if_covers up (Some rule) = cond (covers rule up) (Some rule.letters) None
@@ -76,12 +76,12 @@ abbrev pub first_of : Option Letters → Option Letters → Option Letters
 first_of (Some letters) others = Some letters
 first_of None others = others
 
--- the first that are found so many names above a path, or up to `left` names further up
+-- the first covering override found `up` names above a path, or up to `left` names further up
 abbrev pub first_above : Overrides → Path → ℕ → ℕ → Option Letters
 first_above overrides path up zero = letters_above overrides path up
 first_above overrides path up (suc left) = first_of (letters_above overrides path up) (first_above overrides path (up + 1) left)
 
--- the letters that a user holds at a path
+-- the letters of a user at a path
 abbrev pub letters_at : User → Path → Letters
 letters_at user path = unwrap_or (first_above user.overrides path 0 (length path)) user.letters
 

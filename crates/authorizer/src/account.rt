@@ -1,4 +1,4 @@
-//! What is kept of a user.
+//! Stored users.
 
 ghost use Rattle.std.specs.Prelude.{◌≡◌};
 ghost use Rattle.ftp_terms.specs.Lines.{IsLine};
@@ -9,15 +9,15 @@ use std::alloc::Allocator;
 use std::collections::BTreeMap;
 use virtual_path::VPath;
 
-/// The letters that are held at a path, and whether they are held at all beneath it.
+/// The letters at a path, and whether they apply to everything beneath it.
 #[derive(Clone, Copy, Debug)]
-pub struct Rule {
+pub(crate) struct Rule {
     pub letters: Letters,
     pub recursive: bool,
 }
 
 #[derive(Drop)]
-pub struct Account<A: Allocator> {
+pub(crate) struct Account<A: Allocator> {
     pub number: u32,
     pub password: String<A>,
     pub home: VPath<A>,
@@ -25,13 +25,13 @@ pub struct Account<A: Allocator> {
     // none until the first messages are set
     pub login: Option<LineText<A>>,
     pub quit: Option<LineText<A>>,
-    // by the texts of their paths
+    // keyed by the texts of their paths
     pub overrides: BTreeMap<String<A>, Rule, A>,
     pub group: Option<u32>,
 }
 
-/// What the user is told at login.
-pub fn login_of<A: Allocator>(account: &Account<A>) -> &str
+/// The user's message at login.
+pub(crate) fn login_of<A: Allocator>(account: &Account<A>) -> &str
     ensures login { result.now ≡ (user_of account.now).login }
     ensures line { IsLine result.now }
 {
@@ -41,8 +41,8 @@ pub fn login_of<A: Allocator>(account: &Account<A>) -> &str
     }
 }
 
-/// What the user is told at the end.
-pub fn quit_of<A: Allocator>(account: &Account<A>) -> &str
+/// The user's message at the end.
+pub(crate) fn quit_of<A: Allocator>(account: &Account<A>) -> &str
     ensures quit { result.now ≡ (user_of account.now).quit }
     ensures line { IsLine result.now }
 {

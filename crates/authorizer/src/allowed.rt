@@ -1,4 +1,4 @@
-//! Which letters decide at a path.
+//! The letters that decide at a path.
 
 ghost use Rattle.std.specs.Prelude.{◌≡◌, ◌↔◌, ℕ, IsTrue, Some, MatchOption};
 ghost use Rattle.std.specs.FinMap as map;
@@ -18,7 +18,7 @@ fn covers(rule: &Rule, up: usize) -> bool
     rule.recursive || up <= 1
 }
 
-/// The letters of the override of a path, if it covers what lies so many names beneath.
+/// The letters of the override of a path, if it covers entries `up` names beneath it.
 fn covering<A: Allocator>(rules: &Rules<A>, text: &str, up: usize) -> Option<Letters>
     ensures covering { MatchOption result
         ((rule : Rule) → map.get (map_of (λ rule. rule) rules.now) text.now ≡ Some rule
@@ -34,7 +34,7 @@ fn covering<A: Allocator>(rules: &Rules<A>, text: &str, up: usize) -> Option<Let
     }
 }
 
-/// The letters of the deepest override that covers a path, looked for from the path up to the root.
+/// The letters of the deepest override that covers a path, searched from the path up to the root.
 fn deepest<A: Allocator, B: Allocator>(rules: &Rules<A>, path: &VPath<B>) -> Option<Letters>
     ensures deepest { MatchOption result
         ((up : ℕ) (rule : Rule) → IsCovered (map_of (λ rule. rule) rules.now) path.now up rule → ⊥)
@@ -53,8 +53,11 @@ fn deepest<A: Allocator, B: Allocator>(rules: &Rules<A>, path: &VPath<B>) -> Opt
     covering(rules, text, depth)
 }
 
-/// The letters by which a user may do something at a path.
-pub fn letters_at<A: Allocator, B: Allocator>(account: &Account<A>, path: &VPath<B>) -> Letters
+/// The letters that decide for a user at a path.
+pub(crate) fn letters_at<A: Allocator, B: Allocator>(
+    account: &Account<A>,
+    path: &VPath<B>,
+) -> Letters
     ensures letters { result ≡ letters_at (user_of account.now) path.now }
 {
     match deepest(&account.overrides, path) {

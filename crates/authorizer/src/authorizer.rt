@@ -27,7 +27,7 @@ use virtual_path::{PathFault, VPath};
 #[derive(Drop)]
 pub struct Authorizer<A: Allocator = Global> {
     accounts: BTreeMap<String<A>, Account<A>, A>,
-    // of the next user
+    // the number of the next user
     next: u64,
     alloc: A,
 }
@@ -47,7 +47,7 @@ impl<A: Allocator> Model for Authorizer<A> {
 }
 
 impl<A: Allocator + Clone> Authorizer<A> {
-    /// No users.
+    /// An authorizer without users.
     pub fn new(alloc: A) -> Result<Authorizer<A>, AllocError>
         ensures none { IfOk result
             (λ authorizer. authorizer ≡ record { users = map.empty; next = 0 }) }
@@ -60,7 +60,7 @@ impl<A: Allocator + Clone> Authorizer<A> {
         })
     }
 
-    /// Adds a user, whose home and letters are read from texts: the home from the root, the letters as in `elr`.
+    /// Adds a user. Home and letters are read from texts: the home from the root, the letters as in `elr`.
     pub fn add_user(
         &mut self,
         name: &str,
@@ -81,7 +81,7 @@ impl<A: Allocator + Clone> Authorizer<A> {
         self.admit(key, account)
     }
 
-    /// Gives the account the next number.
+    /// Adds the account with the next number.
     fn admit(&mut self, name: String<A>, account: Account<A>) -> Result<(), AuthorizerFault>
         ensures users { LeavesDefined AuthorizerFault.Memory self.old result self.new
             (placed self.old (string_bytes name)
@@ -114,8 +114,8 @@ impl<A: Allocator + Clone> Authorizer<A> {
         Ok(())
     }
 
-    /// Sets the letters that a user holds at a path, and, where `recursive`, at all beneath it; else
-    /// at the entries directly in it. The deepest override that covers a path decides there alone.
+    /// Sets the letters of a user at a path and at the entries directly in it, or, if `recursive`, at everything
+    /// beneath it. At each path, only the deepest override that covers it decides.
     pub fn override_perm(
         &mut self,
         name: &str,
@@ -135,8 +135,8 @@ impl<A: Allocator + Clone> Authorizer<A> {
         table::override_path(&mut self.accounts, name, text, Rule { letters, recursive })
     }
 
-    /// Sets what a user is told at login and at the end, each on one line; `is_line_text` of `ftp_terms`
-    /// is the test.
+    /// Sets the messages of a user at login and at the end, each a one-line text; `is_line_text` of `ftp_terms` is the
+    /// test.
     pub fn set_messages(
         &mut self,
         name: &str,
@@ -171,7 +171,8 @@ impl<A: Allocator + Clone> Authorizer<A> {
         table::find(&self.accounts, name).is_some()
     }
 
-    /// Whether a user may log in by a password. There is no such user: no. The user is `anonymous`: by every password.
+    /// Returns whether a user may log in with a password. `false` if there is no such user; the user `anonymous` may log in
+    /// with any password.
     pub fn check_password(&self, name: &str, password: &str) -> bool
         ensures password { result ≡ is_password self.now.users name.now password.now }
     {
@@ -182,7 +183,7 @@ impl<A: Allocator + Clone> Authorizer<A> {
         }
     }
 
-    /// Whether a user holds a letter at a path.
+    /// Returns whether a user has a letter at a path.
     pub fn has_perm<B: Allocator>(&self, user: &str, letter: Letter, path: &VPath<B>) -> bool
         ensures allowed { result ≡ allowed self.now.users user.now letter path.now }
     {
@@ -192,7 +193,7 @@ impl<A: Allocator + Clone> Authorizer<A> {
         }
     }
 
-    /// All letters that a user holds at a path, found in one walk from the path up to the root.
+    /// All letters of a user at a path, found in one walk from the path up to the root.
     pub fn letters_at<B: Allocator>(&self, user: &str, path: &VPath<B>) -> Option<Letters>
         ensures letters { result
             ≡ option_map (λ user. letters_at user path.now) (map.get self.now.users user.now) }
@@ -201,7 +202,7 @@ impl<A: Allocator + Clone> Authorizer<A> {
         Some(letters_at(account, path))
     }
 
-    /// The number of a user. Users are numbered as they are added, and no number is given twice.
+    /// The number of a user. Users are numbered as they are added, and no number is used twice.
     pub fn number(&self, name: &str) -> Option<u32>
         ensures number { result
             ≡ option_map (λ user. user.number) (map.get self.now.users name.now) }
@@ -210,7 +211,7 @@ impl<A: Allocator + Clone> Authorizer<A> {
         Some(account.number)
     }
 
-    /// The letters of a user where no override covers.
+    /// The letters of a user at paths that no override covers.
     pub fn perms(&self, name: &str) -> Option<Letters>
         ensures letters { result
             ≡ option_map (λ user. user.letters) (map.get self.now.users name.now) }
@@ -219,7 +220,7 @@ impl<A: Allocator + Clone> Authorizer<A> {
         Some(account.letters)
     }
 
-    /// The group of a user, if the user is in one.
+    /// The group of a user, if they are in one.
     pub fn group(&self, name: &str) -> Option<u32>
         ensures group { result
             ≡ option_and_then (λ user. user.group) (map.get self.now.users name.now) }
@@ -237,7 +238,7 @@ impl<A: Allocator + Clone> Authorizer<A> {
         Some(&account.home)
     }
 
-    /// What a user is told at login, on one line.
+    /// The message of a user at login, a one-line text.
     pub fn msg_login(&self, name: &str) -> Option<&str>
         ensures login { option_copied result
             ≡ option_map (λ user. user.login) (map.get self.now.users name.now) }
@@ -247,7 +248,7 @@ impl<A: Allocator + Clone> Authorizer<A> {
         Some(login_of(account))
     }
 
-    /// What a user is told at the end, on one line.
+    /// The message of a user at the end, a one-line text.
     pub fn msg_quit(&self, name: &str) -> Option<&str>
         ensures quit { option_copied result
             ≡ option_map (λ user. user.quit) (map.get self.now.users name.now) }
@@ -279,7 +280,7 @@ fn read_path<A: Allocator + Clone>(alloc: A, text: &str) -> Result<VPath<A>, Aut
     }
 }
 
-/// An account as it is added, still with no number of its own.
+/// A new account, without a number of its own yet.
 fn new_account<A: Allocator + Clone>(
     alloc: A,
     password: &str,

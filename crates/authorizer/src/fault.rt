@@ -1,24 +1,24 @@
-//! Why a change to the users is refused.
+//! Refused changes to the users.
 
 use std::alloc::AllocError;
 use thiserror::Error;
 
-/// Why a call is refused. Each comes where it applies, and they are looked for in this order.
+/// Why a call is refused. They are checked in this order, each where it applies.
 #[derive(Clone, Copy, Debug, PartialEq, Eq, Error)]
 pub enum AuthorizerFault {
     #[error("there is a user of that name")]
     UserExists,
     #[error("there is no user of that name")]
     NoSuchUser,
-    /// The letters hold something else than `elradfmw`.
+    /// The letters contain anything but `elradfmw`.
     #[error("no such permission letter")]
     BadLetter,
-    /// A home or the path of an override is no path.
+    /// A home, or the path of an override, is not a path.
     #[error("not a path")]
     BadPath,
     #[error("out of memory")]
     Memory,
-    /// All 2^32 numbers of users have been given out.
+    /// All 2^32 numbers of users have been used.
     #[error("no number is left for a user")]
     NoNumber,
 }

@@ -1,4 +1,4 @@
-//! The users of an FTP server, and what each may do.
+//! The users of an FTP server, and their permissions.
 //!
 //! ```text
 //! let mut users = Authorizer::new(rt.alloc())?;

@@ -1,10 +1,10 @@
-//! The comparison of passwords.
+//! Comparison of passwords.
 
 ghost use Rattle.std.specs.Prelude.{◌≡◌, bytes_eq};
 
-/// Whether two passwords are equal, after a look at all octets: of two that are equally long, the
-/// time does not tell where or in how many octets they differ.
-pub fn is_same_password(given: &str, kept: &str) -> bool
+/// Returns whether two passwords are equal. All octets are compared: for passwords of equal length, the
+/// time does not show where or in how many octets they differ.
+pub(crate) fn is_same_password(given: &str, kept: &str) -> bool
     ensures same { result ≡ bytes_eq given.now kept.now }
 {
     is_same(given.as_bytes(), kept.as_bytes())

@@ -1,4 +1,4 @@
-//! The users by their names, and changes to one of them.
+//! Users by name, and changes to one of them.
 
 ghost use Rattle.std.specs.Prelude.{◌≡◌, false, Some, None, Ok, Err, is_some, MatchOption, MatchResult, IfErr, OnOk, OnErr};
 ghost use Rattle.std.specs.FinMap as map;
@@ -14,13 +14,13 @@ use ftp_terms::LineText;
 use std::alloc::{AllocError, Allocator};
 use std::collections::BTreeMap;
 
-/// The users, by their names.
-pub type Table<A> = BTreeMap<String<A>, Account<A>, A>;
+/// The users by name.
+pub(crate) type Table<A> = BTreeMap<String<A>, Account<A>, A>;
 
-/// A user's overrides, by the texts of their paths.
-pub type Rules<A> = BTreeMap<String<A>, Rule, A>;
+/// A user's overrides, keyed by the texts of their paths.
+pub(crate) type Rules<A> = BTreeMap<String<A>, Rule, A>;
 
-pub fn find<'a, A: Allocator>(accounts: &'a Table<A>, name: &str) -> Option<&'a Account<A>>
+pub(crate) fn find<'a, A: Allocator>(accounts: &'a Table<A>, name: &str) -> Option<&'a Account<A>>
     ensures found { MatchOption result
         (map.get (map_of user_of accounts.now) name.now ≡ None)
         (λ account. map.get (map_of user_of accounts.now) name.now ≡ Some (user_of account.now)) }
@@ -28,8 +28,8 @@ pub fn find<'a, A: Allocator>(accounts: &'a Table<A>, name: &str) -> Option<&'a 
     accounts.get(name)
 }
 
-/// Adds a user, or replaces the one of that name.
-pub fn place<A: Allocator + Clone>(
+/// Adds a user, or replaces the one with the same name.
+pub(crate) fn place<A: Allocator + Clone>(
     accounts: &mut Table<A>,
     name: String<A>,
     account: Account<A>,
@@ -43,7 +43,7 @@ pub fn place<A: Allocator + Clone>(
     Ok(())
 }
 
-pub fn remove<A: Allocator>(accounts: &mut Table<A>, name: &str) -> bool
+pub(crate) fn remove<A: Allocator>(accounts: &mut Table<A>, name: &str) -> bool
     ensures removed { result ≡ map.contains_key (map_of user_of accounts.old) name.now }
     ensures missing { result ≡ false → map_of user_of accounts.new ≡ map_of user_of accounts.old }
     ensures users { map_of user_of accounts.new
@@ -66,7 +66,7 @@ fn put_rule<A: Allocator + Clone>(
     Ok(())
 }
 
-pub fn override_path<A: Allocator + Clone>(
+pub(crate) fn override_path<A: Allocator + Clone>(
     accounts: &mut Table<A>,
     name: &str,
     text: String<A>,
@@ -91,7 +91,7 @@ pub fn override_path<A: Allocator + Clone>(
     }
 }
 
-pub fn set_messages<A: Allocator>(
+pub(crate) fn set_messages<A: Allocator>(
     accounts: &mut Table<A>,
     name: &str,
     login: LineText<A>,
@@ -116,7 +116,7 @@ pub fn set_messages<A: Allocator>(
     }
 }
 
-pub fn set_group<A: Allocator>(
+pub(crate) fn set_group<A: Allocator>(
     accounts: &mut Table<A>,
     name: &str,
     group: Option<u32>,

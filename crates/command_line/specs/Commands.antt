@@ -3,15 +3,15 @@ use Rattle.std.specs.Prelude.{true, codes, Some}
 use Rattle.clap.specs.Words.{App, Rule, Text, new_app, new_rule, with_rule, with_subcommand}
 use Rattle.clap.specs.declared.builder.ArgAction.TheVariants.{Set}
 
--- a word that has to be given: the path of a file
+-- a required word: the path of a file
 abbrev pub file_rule : Text → Rule
 file_rule id = record (new_rule id) { required = true; action = Some Set }
 
--- an option `--LONG ID` that need not be given, with one value
+-- an optional option `--LONG ID`, with one value
 abbrev pub option_rule : Text → Text → Rule
 option_rule id long = record (new_rule id) { long = Some long; action = Some Set }
 
--- a command that takes no word
+-- a command without words
 abbrev pub bare : Text → App
 bare name = new_app name
 
@@ -39,7 +39,7 @@ script = with_rule (bare (codes "script")) (file_rule (codes "CONFIG"))
 abbrev pub serve : App
 serve = with_rule (with_rule (bare (codes "serve")) (file_rule (codes "CONFIG"))) (option_rule (codes "PATH") (codes "stop-file"))
 
--- the program of that name with no command yet; its first word is no program's name
+-- the program of that name without commands; its words do not include a program's name
 abbrev pub top : Text → App
 top name =
     let app = bare name in

@@ -1,4 +1,4 @@
--- What words give, and how they are refused.
+-- The commands that words give, and the refusals of words.
 use Rattle.std.specs.Prelude.{◌≡◌, ◌≢◌, ◌↔◌, ◌⊎◌, ℕ, List, [], ◌∷◌, IsTrue, MatchResult, Option, Result, Some, codes, option_map}
 use Rattle.clap.specs.Words.{IsAmong, Kinds, Row, Text, first_of}
 use Rattle.clap.specs.declared.error.kind.ErrorKind.{ErrorKind}
@@ -25,7 +25,7 @@ abbrev pub IsCheck : List ℕ → List ℕ → SheetWords → Type 0
 IsCheck first second (Share sheet) = ⊥
 IsCheck first second (Check sheet grants) = (sheet.now ≡ first) × (grants.now ≡ second)
 
--- a command on a sheet, of which that holds
+-- a command on a sheet with that property
 abbrev pub IsOfSheets : (SheetWords → Type 0) → Words → Type 0
 IsOfSheets P (Sheet words) = P words
 IsOfSheets P (CheckConfig config) = ⊥
@@ -85,11 +85,11 @@ IsFound found (Serve config stop_file) =
     (rows : List Row) × (found ≡ Some (codes "serve", rows)) × (first_of (codes "CONFIG") rows ≡ Some config.now)
     × (first_of (codes "PATH") rows ≡ option_map (λ w. w.now) stop_file)
 
--- the words are given, or memory ran out
+-- the words give that command, or memory ran out
 abbrev pub GivesOrMemory : {T : Type 0} → (T → Type 0) → Result T WordsFault → Type 0
 GivesOrMemory P r = MatchResult r P (λ fault. fault ≡ Memory)
 
--- there is such a command, and it is given, or memory ran out
+-- there is a command, and the words give it, or memory ran out
 abbrev pub GivesOneOrMemory : {T : Type 0} → (T → Type 0) → Result T WordsFault → Type 0
 GivesOneOrMemory {T} P r = (one : T) × P one × GivesOrMemory (λ given. given ≡ one) r
 
@@ -97,12 +97,12 @@ GivesOneOrMemory {T} P r = (one : T) × P one × GivesOrMemory (λ given. given 
 abbrev pub IsHelp : ErrorKind → Type 0
 IsHelp kind = (kind ≡ DisplayHelp) ⊎ (kind ≡ DisplayVersion)
 
--- memory ran out, or the fault tells a refusal of that kind
+-- memory ran out, or the fault is a refusal of that kind
 abbrev pub IsRefusedAs : ErrorKind → WordsFault → Type 0
 IsRefusedAs kind (Refused text is_help) = IsTrue is_help ↔ IsHelp kind
 IsRefusedAs kind Memory = Unit {0}
 
--- memory ran out, or the fault tells a refusal of one of those kinds
+-- memory ran out, or the fault is a refusal of one of those kinds
 abbrev pub IsRefusal : Kinds → WordsFault → Type 0
 IsRefusal kinds (Refused text is_help) = (kind : ErrorKind) × IsAmong kind kinds × (IsTrue is_help ↔ IsHelp kind)
 IsRefusal kinds Memory = Unit {0}

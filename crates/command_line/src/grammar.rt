@@ -16,7 +16,7 @@ fn file<'a>(alloc: Global, id: &'a str, help: &'a str) -> Arg<'a>
         .help(help)
 }
 
-/// The option `--LONG ID`, which need not be given.
+/// An optional option `--LONG ID`.
 fn option<'a>(alloc: Global, id: &'a str, long: &'a str, help: &'a str) -> Arg<'a>
     ensures rule { rule_of result ≡ option_rule id.entry.now long.entry.now }
     ensures local { result.global ≡ false }
@@ -29,13 +29,32 @@ fn option<'a>(alloc: Global, id: &'a str, long: &'a str, help: &'a str) -> Arg<'
 
 const STATUSES: &str = "Status: 0 done, or yes; 1 a fault; 2 refused words; 3 no";
 
-fn bare_command<'a>(alloc: Global, name: &'a str, about: &'a str) -> Command<'a>
+const ABOUT_SHARE: &str =
+    "SHEET is read whole, and then shared. A line for each want goes to standard output, `PATH GRANT of WANT`, with\n`full NODE` after it if the limit at NODE holds it back, and last `total OCTETS`.\n\nExample: sheets share lunch.sheet\n\nStatus: 0 done, or yes; 1 a fault; 2 refused words; 3 no";
+
+const ABOUT_CHECK: &str =
+    "SHEET is read whole, and then GRANTS. `yes` goes to standard output, or `no` with the number, the name and the\nfields of the first flaw.\n\nExample: sheets check lunch.sheet lunch.grants\n\nStatus: 0 done, or yes; 1 a fault; 2 refused words; 3 no";
+
+const ABOUT_CHECK_CONFIG: &str =
+    "CONFIG is read whole. What it states goes to standard output, in tables, with a warning of what is of no use.\n\nExample: ftpd check-config office.toml\n\nStatus: 0 done, or yes; 1 a fault; 2 refused words; 3 no";
+
+const ABOUT_MIGRATE: &str =
+    "CONFIG is read whole. Its text in the latest version goes to standard output; comments are lost.\n\nExample: ftpd migrate office.toml > office2.toml\n\nStatus: 0 done, or yes; 1 a fault; 2 refused words; 3 no";
+
+const ABOUT_SCRIPT: &str =
+    "CONFIG is read whole, and then the lines of a client from standard input. The replies go to standard output. No\nsocket is opened: a download is thrown away, and an upload is empty.\n\nExample: ftpd script office.toml < session.txt\n\nStatus: 0 done, or yes; 1 a fault; 2 refused words; 3 no";
+
+const ABOUT_SERVE: &str =
+    "CONFIG is read whole. `ready` goes to standard output once clients may connect, and at the end what was settled.\n\nExample: ftpd serve office.toml --stop-file /run/ftpd.stop\n\nStatus: 0 done, or yes; 1 a fault; 2 refused words; 3 no";
+
+/// A command without words; `below` is the text below its help.
+fn bare_command<'a>(alloc: Global, name: &'a str, about: &'a str, below: &'a str) -> Command<'a>
     ensures bare { app_of result ≡ bare name.entry.now }
 {
-    Command::new(alloc, name).about(about).after_help(STATUSES)
+    Command::new(alloc, name).about(about).after_help(below)
 }
 
-/// The command with the path of one file more.
+/// The command with one more file path as its word.
 fn with_file<'a>(
     alloc: Global,
     command: Command<'a>,
@@ -53,18 +72,29 @@ fn share_command<'a>(alloc: Global) -> Result<Command<'a>, AllocError>
     ensures share { IfOk result (λ c. app_of c ≡ share) }
 {
     let about = "Share the limits of a sheet: who gets how much, and which limit holds whom back";
-    let sheet = "File of lines `limit PATH N`, `want PATH N` or `want PATH N FLOOR`, or /dev/stdin";
-    with_file(alloc, bare_command(alloc, "share", about), "SHEET", sheet)
+    let sheet =
+        "File of lines `limit PATH N`, `want PATH N` or `want PATH N FLOOR`; - is standard input";
+    with_file(
+        alloc,
+        bare_command(alloc, "share", about, ABOUT_SHARE),
+        "SHEET",
+        sheet,
+    )
 }
 
 fn check_command<'a>(alloc: Global) -> Result<Command<'a>, AllocError>
     ensures check { IfOk result (λ c. app_of c ≡ check) }
 {
     let about = "Check grants within the limits of a sheet: yes, or no and the first flaw";
-    let sheet = "File of limits and wants, as for `share`, or /dev/stdin";
+    let sheet = "File of limits and wants, as for `share`; - is standard input";
     let grants =
-        "File of lines `grant PATH N` or `grant PATH N NODE`, in the order of the wants, or /dev/stdin";
-    let command = with_file(alloc, bare_command(alloc, "check", about), "SHEET", sheet)?;
+        "File of lines `grant PATH N` or `grant PATH N NODE`, in the order of the wants; - is standard input";
+    let command = with_file(
+        alloc,
+        bare_command(alloc, "check", about, ABOUT_CHECK),
+        "SHEET",
+        sheet,
+    )?;
     with_file(alloc, command, "GRANTS", grants)
 }
 
@@ -72,10 +102,10 @@ fn check_config_command<'a>(alloc: Global) -> Result<Command<'a>, AllocError>
     ensures check_config { IfOk result (λ c. app_of c ≡ check_config) }
 {
     let about = "Judge a configuration: print its users, groups, rates and guarantees, and warn";
-    let config = "File of a configuration, in TOML, or /dev/stdin";
+    let config = "File of a configuration, in TOML; - is standard input";
     with_file(
         alloc,
-        bare_command(alloc, "check-config", about),
+        bare_command(alloc, "check-config", about, ABOUT_CHECK_CONFIG),
         "CONFIG",
         config,
     )
@@ -85,10 +115,10 @@ fn migrate_command<'a>(alloc: Global) -> Result<Command<'a>, AllocError>
     ensures migrate { IfOk result (λ c. app_of c ≡ migrate) }
 {
     let about = "Print a configuration in its latest version";
-    let config = "File of a configuration, in TOML, or /dev/stdin";
+    let config = "File of a configuration, in TOML; - is standard input";
     with_file(
         alloc,
-        bare_command(alloc, "migrate", about),
+        bare_command(alloc, "migrate", about, ABOUT_MIGRATE),
         "CONFIG",
         config,
     )
@@ -98,16 +128,17 @@ fn script_command<'a>(alloc: Global) -> Result<Command<'a>, AllocError>
     ensures script { IfOk result (λ c. app_of c ≡ script) }
 {
     let about = "Serve the control session on standard input, and print its replies";
-    let config = "File of a configuration, in TOML; not /dev/stdin, which has the control text";
+    let config =
+        "File of a configuration, in TOML; not -, standard input, which has the control text";
     with_file(
         alloc,
-        bare_command(alloc, "script", about),
+        bare_command(alloc, "script", about, ABOUT_SCRIPT),
         "CONFIG",
         config,
     )
 }
 
-/// The command with the path of one stop file more, as an option.
+/// The command with an optional stop file, given by its path.
 fn with_stop_file<'a>(alloc: Global, command: Command<'a>) -> Result<Command<'a>, AllocError>
     ensures rule { IfOk result (λ c. app_of c
         ≡ with_rule (app_of command.entry) (option_rule (codes "PATH") (codes "stop-file"))) }
@@ -123,16 +154,20 @@ fn serve_command<'a>(alloc: Global) -> Result<Command<'a>, AllocError>
 {
     let about =
         "Serve clients by a configuration, until a number of sessions or a stop file ends it";
-    let config = "File of a configuration, in TOML, or /dev/stdin";
-    let command = with_file(alloc, bare_command(alloc, "serve", about), "CONFIG", config)?;
+    let config = "File of a configuration, in TOML; - is standard input";
+    let command = with_file(
+        alloc,
+        bare_command(alloc, "serve", about, ABOUT_SERVE),
+        "CONFIG",
+        config,
+    )?;
     with_stop_file(alloc, command)
 }
 
-fn top_command<'a>(alloc: Global, name: &'a str) -> Result<Command<'a>, AllocError>
+fn top_command<'a>(alloc: Global, name: &'a str, about: &'a str) -> Result<Command<'a>, AllocError>
     ensures top { IfOk result (λ c. app_of c ≡ top name.entry.now) }
 {
-    let about = "Share bandwidth among transfers under nested limits";
-    let top = bare_command(alloc, name, about)
+    let top = bare_command(alloc, name, about, STATUSES)
         .no_binary_name(true)
         .version("1")
         .subcommand_required(true)
@@ -140,11 +175,15 @@ fn top_command<'a>(alloc: Global, name: &'a str) -> Result<Command<'a>, AllocErr
     Ok(top)
 }
 
-/// The program of that name, with the commands of sheets alone.
-fn sheet_commands<'a>(alloc: Global, name: &'a str) -> Result<Command<'a>, AllocError>
+/// The program of that name, with only the commands on sheets.
+fn sheet_commands<'a>(
+    alloc: Global,
+    name: &'a str,
+    about: &'a str,
+) -> Result<Command<'a>, AllocError>
     ensures sheets { IfOk result (λ c. app_of c ≡ with_sheets name.entry.now) }
 {
-    let top = top_command(alloc, name)?;
+    let top = top_command(alloc, name, about)?;
     let with_share = top.subcommand(share_command(alloc)?)?;
     let command = with_share.subcommand(check_command(alloc)?)?;
     Ok(command)
@@ -154,14 +193,16 @@ fn sheet_commands<'a>(alloc: Global, name: &'a str) -> Result<Command<'a>, Alloc
 pub(crate) fn sheets_command<'a>(alloc: Global) -> Result<Command<'a>, AllocError>
     ensures sheets { IfOk result (λ c. app_of c ≡ sheets) }
 {
-    sheet_commands(alloc, "sheets")
+    let about = "Share bandwidth among transfers under nested limits";
+    sheet_commands(alloc, "sheets", about)
 }
 
 /// The program `ftpd`.
 pub(crate) fn ftpd_command<'a>(alloc: Global) -> Result<Command<'a>, AllocError>
     ensures ftpd { IfOk result (λ c. app_of c ≡ ftpd) }
 {
-    let with_sheets = sheet_commands(alloc, "ftpd")?;
+    let about = "An FTP server that shares its bandwidth under nested limits";
+    let with_sheets = sheet_commands(alloc, "ftpd", about)?;
     let with_check = with_sheets.subcommand(check_config_command(alloc)?)?;
     let with_migrate = with_check.subcommand(migrate_command(alloc)?)?;
     let with_script = with_migrate.subcommand(script_command(alloc)?)?;

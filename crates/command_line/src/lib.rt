@@ -1,4 +1,4 @@
-//! The command lines of `ftpd` and of `sheets`: their grammars, and what the words of a command mean.
+//! The command lines of `ftpd` and of `sheets`: their grammars, and the meaning of the words of a command.
 //!
 //! ```text
 //! ftpd share SHEET

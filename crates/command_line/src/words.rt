@@ -12,7 +12,7 @@ use std::alloc::Global;
 /// A command on a sheet, with the words after it.
 #[derive(Clone, Copy, Debug, PartialEq, Eq)]
 pub enum SheetWords<'a> {
-    /// Share the limits of a sheet, whose path this is.
+    /// Share the limits of the sheet at this path.
     Share { sheet: &'a str },
     /// Check the grants of a file within the limits of a sheet; the paths of both.
     Check { sheet: &'a str, grants: &'a str },
@@ -23,30 +23,31 @@ pub enum SheetWords<'a> {
 pub enum Words<'a> {
     /// A command on a sheet.
     Sheet(SheetWords<'a>),
-    /// Judge a configuration, and print what it states; its path.
+    /// Check the configuration at this path, and print its report.
     CheckConfig {
         config: &'a str,
     },
-    /// Print a configuration in its latest version; its path.
+    /// Print the configuration at this path in its latest version.
     Migrate {
         config: &'a str,
     },
-    /// Serve a control session by a configuration, whose path this is.
+    /// Serve a control session from a script, by the configuration at this path.
     Script {
         config: &'a str,
     },
-    /// Serve clients by a configuration; its path, and that of the file that ends the server once it appears.
+    /// Serve clients by a configuration; its path, and that of the stop file, if any: the server ends once that file
+    /// appears.
     Serve {
         config: &'a str,
         stop_file: Option<&'a str>,
     },
 }
 
-/// Why the words give no command.
+/// The reason for which words are refused.
 #[derive(Debug, Drop)]
 pub enum WordsFault {
-    /// The parser's text, which ends its line. Where `is_help`, the words asked for it, by `--help`, `help` or
-    /// `--version`: it is an answer and no fault.
+    /// The parser's text, complete with its line end. `is_help` is `true` if the words asked for it, by `--help`,
+    /// `help` or `--version`: then it is a result and no fault.
     Refused { text: String, is_help: bool },
     /// Memory ran out.
     Memory,
@@ -75,7 +76,7 @@ fn refused(alloc: Global, error: &Error) -> WordsFault
     }
 }
 
-/// What a command's argument of that name is, where the words have that command.
+/// Returns the argument `id` of a command, if the words have that command.
 fn word_of<'a>(matches: &ArgMatches<'a>, command: &str, id: &str) -> Option<&'a str>
     ensures given { (rows : List Row) (word : List ℕ)
         → subcommand_rows_of matches.now ≡ Some (command.now, rows)
@@ -113,7 +114,7 @@ fn check_given<'a>(matches: &ArgMatches<'a>) -> Option<SheetWords<'a>>
     Some(SheetWords::Check { sheet, grants })
 }
 
-/// The command on a sheet.
+/// The command on a sheet, if the words have one.
 fn sheet_given<'a>(matches: &ArgMatches<'a>) -> Option<SheetWords<'a>>
     ensures share { (rows : List Row) (word : List ℕ)
         → subcommand_rows_of matches.now ≡ Some (codes "share", rows)
@@ -160,7 +161,7 @@ fn script_given<'a>(matches: &ArgMatches<'a>) -> Option<Words<'a>>
     Some(Words::Script { config })
 }
 
-/// A stop file need not be given.
+/// The command `serve`; its stop file is optional.
 fn serve_given<'a>(matches: &ArgMatches<'a>) -> Option<Words<'a>>
     ensures serve { (rows : List Row) (word : List ℕ)
         → subcommand_rows_of matches.now ≡ Some (codes "serve", rows)
@@ -173,7 +174,7 @@ fn serve_given<'a>(matches: &ArgMatches<'a>) -> Option<Words<'a>>
     Some(Words::Serve { config, stop_file })
 }
 
-/// The command that serves.
+/// The command that serves sessions, if the words have one.
 fn of_sessions<'a>(matches: &ArgMatches<'a>) -> Option<Words<'a>>
     ensures script { (rows : List Row) (word : List ℕ)
         → subcommand_rows_of matches.now ≡ Some (codes "script", rows)
@@ -190,7 +191,7 @@ fn of_sessions<'a>(matches: &ArgMatches<'a>) -> Option<Words<'a>>
     }
 }
 
-/// The command that prints what a configuration is.
+/// The command that prints a text about a configuration, if the words have one.
 fn of_text<'a>(matches: &ArgMatches<'a>) -> Option<Words<'a>>
     ensures check_config { (rows : List Row) (word : List ℕ)
         → subcommand_rows_of matches.now ≡ Some (codes "check-config", rows)
@@ -206,7 +207,7 @@ fn of_text<'a>(matches: &ArgMatches<'a>) -> Option<Words<'a>>
     }
 }
 
-/// The command of a configuration.
+/// The command on a configuration, if the words have one.
 fn of_config<'a>(matches: &ArgMatches<'a>) -> Option<Words<'a>>
     ensures check_config { (rows : List Row) (word : List ℕ)
         → subcommand_rows_of matches.now ≡ Some (codes "check-config", rows)
@@ -258,7 +259,7 @@ fn given<'a>(matches: &ArgMatches<'a>) -> Option<Words<'a>>
     }
 }
 
-/// What the parser holds of the words, which come without the program's name.
+/// Parses the words, which do not include the program's name.
 fn parsed<'a>(
     alloc: Global,
     command: Command<'a>,
@@ -280,11 +281,10 @@ fn parsed<'a>(
     }
 }
 
-/// The command that the words of `sheets` give; they come without the program's name.
+/// Reads the command in the words of `sheets`, which do not include the program's name.
 ///
-/// Words that the parser takes give one, and that is the answer unless memory ran out.
-/// `Refused` comes only where the parser refuses the words or they ask for help or the version, and `Memory` only
-/// where memory ran out.
+/// Returns the command of words that the parser accepts. `Refused`: the parser refuses the words, or they ask for help
+/// or the version. `Memory`: memory ran out.
 pub fn read_sheet_words<'a>(
     alloc: Global,
     words: &'a [&'a str],
@@ -314,11 +314,10 @@ pub fn read_sheet_words<'a>(
     }
 }
 
-/// The command that the words of `ftpd` give; they come without the program's name.
+/// Reads the command in the words of `ftpd`, which do not include the program's name.
 ///
-/// Words that the parser takes give one, and that is the answer unless memory ran out.
-/// `Refused` comes only where the parser refuses the words or they ask for help or the version, and `Memory` only
-/// where memory ran out.
+/// Returns the command of words that the parser accepts. `Refused`: the parser refuses the words, or they ask for help
+/// or the version. `Memory`: memory ran out.
 pub fn read_words<'a>(alloc: Global, words: &'a [&'a str]) -> Result<Words<'a>, WordsFault>
     ensures share { (word : List ℕ) → IsPlainWord word
         → map (λ s. s.now) words.now ≡ codes "share" ∷ word ∷ []

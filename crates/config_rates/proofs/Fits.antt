@@ -11,9 +11,9 @@ use Rattle.line_rates.specs.Stated as stated
 use Rattle.line_rates.specs.Stated.{is_too_large, has_large_group, has_large_user, has_twice, has_no_row, has_stray_user, by_number, limits_fault}
 use Rattle.line_rates.specs.declared.rate.TheConstants.{MAX_RATE}
 use Rattle.line_rates.proofs.RowLemmas.{first_row, get-by_number}
-use Rattle.config_server.specs.declared.stated.ServerTable.{ServerTable}
-use Rattle.config_tables.specs.declared.stated.GroupTable.{GroupTable}
-use Rattle.config_tables.specs.declared.stated.UserTable.{UserTable}
+use Rattle.config_file.specs.declared.stated.ServerTable.{ServerTable}
+use Rattle.config_file.specs.declared.stated.GroupTable.{GroupTable}
+use Rattle.config_file.specs.declared.stated.UserTable.{UserTable}
 use Rattle.config_rates.specs.Groups.{number_named, group_in}
 use Rattle.config_rates.specs.Rows.{numbered, group_row, user_row, group_rows, user_rows, AreRowsOf}
 use Rattle.config_rates.specs.declared.rows.RateRows.{RateRows}

@@ -1,8 +1,8 @@
 -- There is a row for each user.
 use Rattle.std.proofs.Common.{◌≡◌, ℕ, ◌+◌, suc, List, [], ◌∷◌, length, refl, ap, ◌∙◌}
 use Rattle.config_rates.specs.Rows.{numbered, user_row, user_rows}
-use Rattle.config_tables.specs.declared.stated.GroupTable.{GroupTable}
-use Rattle.config_tables.specs.declared.stated.UserTable.{UserTable}
+use Rattle.config_file.specs.declared.stated.GroupTable.{GroupTable}
+use Rattle.config_file.specs.declared.stated.UserTable.{UserTable}
 use Rattle.line_rates.specs.declared.row.UserRate.{UserRate}
 
 numbered_long : (groups : List GroupTable) (k : ℕ) (users : List UserTable) → length (numbered (user_row groups) k users) ≡ length users

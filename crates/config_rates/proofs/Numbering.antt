@@ -8,7 +8,7 @@ use Rattle.std.proofs.lemmas.Slice.Eq.{bytes_eq-Decides}
 use Rattle.std.specs.BTreeMap as tree
 use Rattle.std.specs.String.{string_cmp}
 use Rattle.std.proofs.Math.Seq.{get_or-append_seam}
-use Rattle.config_tables.specs.declared.stated.GroupTable.{GroupTable}
+use Rattle.config_file.specs.declared.stated.GroupTable.{GroupTable}
 use Rattle.config_rates.specs.Groups.{number_named, number_by, AreApart, AreNumbers}
 use Rattle.config_rates.specs.Rows.{numbered}
 

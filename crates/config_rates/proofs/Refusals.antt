@@ -1,62 +1,59 @@
--- Groups that are refused: the name of one before them.
-use Rattle.std.proofs.Common.{◌≡◌, ◌≢◌, ℕ, zero, suc, ◌+◌, ◌<◌, ◌≤◌, Bool, true, false, cond, List, [], ◌∷◌, length, take, get_or, Option, Some, None, option_map, String, Global, BTreeMap, refl, sym, subst, inl, inr, arith, bytes_eq}
-use Rattle.std.specs.List.{AllByRecursion}
+-- Groups and users that are refused.
+use Rattle.std.proofs.Common.{◌≡◌, ℕ, ◌<◌, ◌≤◌, List, length, take, get_or, slice_get, Some, String, Global, BTreeMap, sym, ap, subst, ◌∙◌, inl, inr}
 use Rattle.std.proofs.lemmas.List.{take_all}
-use Rattle.config_tables.specs.declared.stated.GroupTable.{GroupTable}
-use Rattle.config_tables.specs.declared.stated.UserTable.{UserTable}
-use Rattle.config_rates.specs.Groups.{number_named, number_by, AreApart, AreNumbers, HasGroup, IsFault, IsFaultOfNext, IsFaultOfUser}
-use Rattle.config_rates.specs.declared.fault.RowsFault.{RowsFault}
-use Rattle.config_rates.specs.declared.fault.RowsFault.TheVariants.{Group, Memory}
+use Rattle.std.proofs.lemmas.Option.{slice_get-get_or}
+use Rattle.config_file.specs.declared.fault.Fault.{Fault}
+use Rattle.config_file.specs.declared.fault.Fault.TheVariants.{At, Memory}
+use Rattle.config_file.specs.declared.fault.TableName.TheVariants as TableName
+use Rattle.config_file.specs.declared.stated.GroupTable.{GroupTable}
+use Rattle.config_file.specs.declared.stated.UserTable.{UserTable}
+use Rattle.config_rates.specs.Groups.{AreApart, AreGrouped, AreNumbers, IsFault, IsFaultOfNext, IsFaultOfUser, IsNoNumber}
+use Rattle.config_rates.specs.declared.fault.GroupProblem.{GroupProblem}
 use Rattle.config_rates.specs.declared.fault.GroupProblem.TheVariants.{Twice, NoSuchGroup, NoNumber}
 
--- an index among the first, and among all
-before_by : (b : Bool) (i : ℕ) (first whole : Option ℕ) → ((k : ℕ) → first ≡ Some k → (whole ≡ Some k) × (k < i))
-    → (k : ℕ) → cond b (Some 0) (option_map (λ n. n + 1) first) ≡ Some k → (cond b (Some 0) (option_map (λ n. n + 1) whole) ≡ Some k) × (k < suc i)
-before_by true i first whole known k is = let e : 0 ≡ k = cc in (is, omega (arith, e))
-before_by false i None whole known k is = absurd (let e : None ≡ Some k = is in cc)
-before_by false i (Some n) whole known k is =
-    let found = known n refl in
-    let e : n + 1 ≡ k = cc in
-    (subst (λ (w : Option ℕ). option_map (λ n. n + 1) w ≡ Some k) (sym found.0) is, omega (arith, e, found.1))
+-- what is at an index of a list
+pub stands_at : {X : Type 0} (xs : List X) (i : ℕ) (x : X) → i < length xs → x ≡ get_or xs i x → slice_get xs i ≡ Some x
+stands_at xs i x within at = slice_get-get_or xs i x within ∙ ap (λ y. Some y) (sym at)
 
--- the group of a name among the first is that of all
-named_before : (groups : List GroupTable) (i : ℕ) (name : List ℕ) (k : ℕ) → number_named (take i groups) name ≡ Some k → (number_named groups name ≡ Some k) × (k < i)
-named_before groups zero name k is = absurd (let e : None ≡ Some k = is in cc)
-named_before [] (suc i) name k is = absurd (let e : None ≡ Some k = is in cc)
-named_before (group ∷ groups) (suc i) name k is =
-    before_by (bytes_eq group.name.now name) i (number_named (take i groups) name) (number_named groups name) (named_before groups i name) k is
+pub refused_next : (groups : List GroupTable) (users : List UserTable) (i : ℕ) (group : GroupTable) (numbers : BTreeMap (String Global) ℕ) (fault : Fault GroupProblem)
+    → i < length groups → group ≡ get_or groups i group → AreNumbers (take i groups) numbers → AreApart (take i groups) → IsFaultOfNext numbers i group.name.now fault
+    → IsFault groups users fault
+refused_next groups users i group numbers (At header Twice) within at are apart is = record {
+  index = i;
+  group = group;
+  is = stands_at groups i group within at;
+  before = apart;
+  named = λ none. is.0 (are group.name.now ∙ none);
+  place = is.1;
+}
+refused_next groups users i group numbers (At header NoNumber) within at are apart is =
+    inl (record { index = i; row = group; is = stands_at groups i group within at; many = is.0; place = is.1 })
+refused_next groups users i group numbers (At header NoSuchGroup) within at are apart is = absurd is
+refused_next groups users i group numbers Memory within at are apart is = tt
 
-twice : (groups : List GroupTable) (i : ℕ) (group : GroupTable) (found : Option ℕ) → i < length groups → group ≡ get_or groups i group
-    → number_named (take i groups) group.name.now ≡ found → found ≢ None → AreApart groups → ⊥
-twice groups i group None within at is some apart = some refl
-twice groups i group (Some k) within at is some apart =
-    let before = named_before groups i group.name.now k is in
-    let here : number_named groups group.name.now ≡ Some i = subst (λ (g : GroupTable). number_named groups g.name.now ≡ Some i) (sym at) (apart i group within) in
-    let same : k ≡ i = cc (before.0, here) in
-    absurd (omega (arith, same, before.1))
+pub refused_number : (groups : List GroupTable) (users : List UserTable) (i : ℕ) (group : GroupTable) (fault : Fault GroupProblem)
+    → i < length groups → group ≡ get_or groups i group → IsNoNumber TableName.Group i group.name.now fault → IsFault groups users fault
+refused_number groups users i group (At header NoNumber) within at is =
+    inl (record { index = i; row = group; is = stands_at groups i group within at; many = is.0; place = is.1 })
+refused_number groups users i group (At header Twice) within at is = absurd is
+refused_number groups users i group (At header NoSuchGroup) within at is = absurd is
+refused_number groups users i group Memory within at is = absurd is
 
-pub refused_next : (groups : List GroupTable) (users : List UserTable) (i : ℕ) (group : GroupTable) (numbers : BTreeMap (String Global) ℕ) (fault : RowsFault)
-    → i < length groups → group ≡ get_or groups i group → AreNumbers (take i groups) numbers → IsFaultOfNext numbers i group.name.now fault → IsFault groups users fault
-refused_next groups users i group numbers (Group header Twice) within at are is =
-    twice groups i group (number_by numbers group.name.now) within at (sym (are group.name.now)) is
-refused_next groups users i group numbers (Group header NoNumber) within at are is = inl (omega (arith, within, is))
-refused_next groups users i group numbers (Group header NoSuchGroup) within at are is = absurd is
-refused_next groups users i group numbers Memory within at are is = tt
-
--- what all have, the one at an index has
-has_at : (groups : List GroupTable) (users : List UserTable) (i : ℕ) (user : UserTable) → AllByRecursion (λ u. HasGroup groups u.group) users → i < length users
-    → HasGroup groups (get_or users i user).group
-has_at groups [] i user all within = absurd (omega arith)
-has_at groups (first ∷ users) zero user all within = all.0
-has_at groups (first ∷ users) (suc i) user all within = has_at groups users i user all.1 (omega arith)
-
-pub refused_user : (groups : List GroupTable) (users : List UserTable) (i : ℕ) (user : UserTable) (fault : RowsFault)
-    → i < length users → user ≡ get_or users i user → IsFaultOfUser groups i user.group fault → IsFault groups users fault
-refused_user groups users i user (Group header Twice) within at is = absurd is
-refused_user groups users i user (Group header NoNumber) within at is = inr (omega (arith, within, is))
-refused_user groups users i user (Group header NoSuchGroup) within at is =
-    λ all. is (subst (λ (u : UserTable). HasGroup groups u.group) (sym at) (has_at groups users i user all within))
-refused_user groups users i user Memory within at is = tt
+pub refused_user : (groups : List GroupTable) (users : List UserTable) (i : ℕ) (user : UserTable) (fault : Fault GroupProblem)
+    → i < length users → user ≡ get_or users i user → AreApart groups → AreGrouped groups (take i users) → IsFaultOfUser groups i user fault → IsFault groups users fault
+refused_user groups users i user (At header Twice) within at apart before is = absurd is
+refused_user groups users i user (At header NoNumber) within at apart before is =
+    inr (record { index = i; row = user; is = stands_at users i user within at; many = is.0; place = is.1 })
+refused_user groups users i user (At header NoSuchGroup) within at apart before is = record {
+  apart = apart;
+  index = i;
+  user = user;
+  is = stands_at users i user within at;
+  before = before;
+  group = is.0;
+  place = is.1;
+}
+refused_user groups users i user Memory within at apart before is = tt
 
 -- all of the groups were gone through
 pub apart-whole : (groups : List GroupTable) (i : ℕ) → length groups ≤ i → AreApart (take i groups) → AreApart groups

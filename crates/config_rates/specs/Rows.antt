@@ -4,9 +4,9 @@ use Rattle.line_rates.specs.Rates.{Rates}
 use Rattle.line_rates.specs.Stated.{stated}
 use Rattle.line_rates.specs.declared.row.GroupRate.{GroupRate}
 use Rattle.line_rates.specs.declared.row.UserRate.{UserRate}
-use Rattle.config_server.specs.declared.stated.ServerTable.{ServerTable}
-use Rattle.config_tables.specs.declared.stated.GroupTable.{GroupTable}
-use Rattle.config_tables.specs.declared.stated.UserTable.{UserTable}
+use Rattle.config_file.specs.declared.stated.ServerTable.{ServerTable}
+use Rattle.config_file.specs.declared.stated.GroupTable.{GroupTable}
+use Rattle.config_file.specs.declared.stated.UserTable.{UserTable}
 use Rattle.config_rates.specs.Groups.{group_in}
 use Rattle.config_rates.specs.declared.rows.RateRows.{RateRows}
 

@@ -1,36 +1,22 @@
 //! The numbers of groups, by their names.
 
-ghost use Rattle.std.specs.Prelude.{◌≡◌, cond, IfErr, IfOk, OnOk, Some, None, ℕ, List, bytes_eq};
-ghost use Rattle.config_rates.specs.declared.fault.RowsFault.TheVariants as RowsFault;
-ghost use Rattle.config_tables.specs.declared.fault.Header.{Header};
+ghost use Rattle.std.specs.Prelude.{◌≡◌, ◌<◌, ◌^◌, cond, IfErr, IfOk, OnOk, Some, None, ℕ, List, bytes_eq};
 ghost use Rattle.config_rates.specs.Groups.{AreNumbers, AreApart, IsFault, IsFaultOfNext, number_by};
-ghost use Rattle.config_tables.specs.declared.stated.UserTable.{UserTable};
+ghost use Rattle.config_file.specs.declared.stated.UserTable.{UserTable};
 
-use crate::fault::{GroupProblem, RowsFault};
-use config_tables::{GroupTable, Header, TableName};
+use crate::fault::{GroupProblem, fault_of};
+use config_file::{Fault, GroupTable, TableName};
 use std::alloc::Global;
 use std::collections::BTreeMap;
 
 /// The numbers of groups, by their names.
-pub type Numbers = BTreeMap<String, u32>;
+pub(crate) type Numbers = BTreeMap<String, u32>;
 
 /// The number of the group of a name.
-pub fn number_of(numbers: &Numbers, name: &str) -> Option<u32>
+pub(crate) fn number_of(numbers: &Numbers, name: &str) -> Option<u32>
     ensures number { result ≡ number_by numbers.now name.now }
 {
     numbers.get(name).copied()
-}
-
-/// The fault of a group, whose number in the file counts from 0.
-fn fault_of<'a>(index: usize, group: &GroupTable<'a>, problem: GroupProblem) -> RowsFault<'a>
-    ensures problem { (header : Header) × (result ≡ RowsFault.Group header problem) }
-{
-    let header = Header {
-        table: TableName::Group,
-        row: index.saturating_add(1),
-        name: Some(group.name),
-    };
-    RowsFault::Group { header, problem }
 }
 
 /// Numbers the group at an index of the file.
@@ -39,7 +25,8 @@ fn number_next<'a>(
     numbers: &mut Numbers,
     index: usize,
     group: &GroupTable<'a>,
-) -> Result<(), RowsFault<'a>>
+) -> Result<(), Fault<'a, GroupProblem>>
+    requires within { index < 2 ^ 63 }
     ensures refused { IfErr result (IsFaultOfNext numbers.old index group.now.name.now) }
     ensures first { OnOk result (number_by numbers.old group.now.name.now ≡ None) }
     ensures next { OnOk result ((name : List ℕ)
@@ -47,10 +34,10 @@ fn number_next<'a>(
         ≡ cond (bytes_eq group.now.name.now name) (Some index) (number_by numbers.old name)) }
 {
     if number_of(numbers, group.name).is_some() {
-        return Err(fault_of(index, group, GroupProblem::Twice));
+        return Err(fault_of(TableName::Group, index, group.name, GroupProblem::Twice));
     }
     let Ok(number) = u32::try_from(index) else {
-        return Err(fault_of(index, group, GroupProblem::NoNumber));
+        return Err(fault_of(TableName::Group, index, group.name, GroupProblem::NoNumber));
     };
     let name = String::from_str(alloc, group.name)?;
     numbers.insert(name, number)?;
@@ -58,7 +45,10 @@ fn number_next<'a>(
 }
 
 /// Numbers groups in the order of the file, from 0.
-pub fn number_groups<'a>(alloc: Global, groups: &[GroupTable<'a>]) -> Result<Numbers, RowsFault<'a>>
+pub(crate) fn number_groups<'a>(
+    alloc: Global,
+    groups: &[GroupTable<'a>],
+) -> Result<Numbers, Fault<'a, GroupProblem>>
     ensures numbers { IfOk result (AreNumbers groups.now) }
     ensures apart { OnOk result (AreApart groups.now) }
     ensures refused { (users : List UserTable) → IfErr result (IsFault groups.now users) }

@@ -6,7 +6,7 @@
 //! holds(rt, limits.users().len() == 1); // of the one user, `ann`
 //! ```
 //!
-//! A group's number is how many groups stand before it in the file, and so is a user's.
+//! A group's number is the number of groups before it in the file, and likewise a user's.
 #![tactic(auto)]
 
 mod fault;
@@ -14,6 +14,6 @@ mod groups;
 mod limits;
 mod rows;
 
-pub use fault::{GroupProblem, RowsFault};
+pub use fault::GroupProblem;
 pub use limits::limits_of;
 pub use rows::{RateRows, read_rows};

@@ -1,17 +1,17 @@
 //! The limits of a configuration.
 
 ghost use Rattle.std.specs.Prelude.{◌≡◌, List};
-ghost use Rattle.config_tables.specs.declared.stated.GroupTable.{GroupTable};
-ghost use Rattle.config_tables.specs.declared.stated.UserTable.{UserTable};
+ghost use Rattle.config_file.specs.declared.stated.GroupTable.{GroupTable};
+ghost use Rattle.config_file.specs.declared.stated.UserTable.{UserTable};
 ghost use Rattle.config_rates.specs.Rows.{AreRowsOf};
 ghost use Rattle.line_rates.specs.Stated.{stated};
 
 use crate::rows::RateRows;
-use config_server::ServerTable;
+use config_file::ServerTable;
 use line_rates::Limits;
 
 /// The limits that a server's rates and rows that were read set. These cannot be refused: each rate is in its range, each
-/// number stands once, and each user's group has a row.
+/// number occurs once, and each user's group has a row.
 pub fn limits_of(server: &ServerTable, rows: RateRows) -> Limits
     requires rows { (groups : List GroupTable) × (users : List UserTable)
         × AreRowsOf groups users rows }

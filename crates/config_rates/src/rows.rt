@@ -1,16 +1,14 @@
 //! A row of rates for each group and for each user.
 
-ghost use Rattle.std.specs.Prelude.{◌≡◌, IfErr, IfOk, OnOk, List, length};
-ghost use Rattle.config_tables.specs.declared.stated.GroupTable.{GroupTable};
+ghost use Rattle.std.specs.Prelude.{◌≡◌, ◌<◌, ◌^◌, IfErr, IfOk, OnOk, List, length};
+ghost use Rattle.config_file.specs.declared.stated.GroupTable.{GroupTable};
 ghost use Rattle.config_rates.specs.Groups.{AreGrouped, AreNumbers, AreApart, HasGroup, IsFault, IsFaultOfUser, IsNoNumber, group_in};
-ghost use Rattle.config_rates.specs.declared.fault.RowsFault.TheVariants as RowsFault;
-ghost use Rattle.config_tables.specs.declared.fault.Header.{Header};
-ghost use Rattle.config_tables.specs.declared.stated.UserTable.{UserTable};
+ghost use Rattle.config_file.specs.declared.stated.UserTable.{UserTable};
 ghost use Rattle.config_rates.specs.Rows.{user_row, group_rows, user_rows};
 
-use crate::fault::{GroupProblem, RowsFault};
+use crate::fault::{GroupProblem, fault_of};
 use crate::groups::{Numbers, number_groups, number_of};
-use config_tables::{GroupTable, Header, TableName, UserTable};
+use config_file::{Fault, GroupTable, TableName, UserTable};
 use line_rates::{GroupRate, UserRate};
 use std::alloc::Global;
 
@@ -21,27 +19,15 @@ pub struct RateRows {
     pub users: Vec<UserRate>,
 }
 
-/// The fault of a row, whose number among those of its kind counts from 0.
-fn fault_of<'a>(
+/// The number of the row at an index of the file.
+fn row_number<'a>(
     table: TableName,
     index: usize,
     name: &'a str,
-    problem: GroupProblem,
-) -> RowsFault<'a>
-    ensures problem { (header : Header) × (result ≡ RowsFault.Group header problem) }
-{
-    let header = Header {
-        table,
-        row: index.saturating_add(1),
-        name: Some(name),
-    };
-    RowsFault::Group { header, problem }
-}
-
-/// The number of the row at an index of the file.
-fn row_number<'a>(table: TableName, index: usize, name: &'a str) -> Result<u32, RowsFault<'a>>
+) -> Result<u32, Fault<'a, GroupProblem>>
+    requires within { index < 2 ^ 63 }
     ensures number { IfOk result (λ number. number ≡ index) }
-    ensures refused { IfErr result (IsNoNumber index) }
+    ensures refused { IfErr result (IsNoNumber table index name.now) }
 {
     match u32::try_from(index) {
         Ok(number) => Ok(number),
@@ -52,7 +38,7 @@ fn row_number<'a>(table: TableName, index: usize, name: &'a str) -> Result<u32, 
 fn read_groups<'a>(
     alloc: Global,
     groups: &[GroupTable<'a>],
-) -> Result<Vec<GroupRate>, RowsFault<'a>>
+) -> Result<Vec<GroupRate>, Fault<'a, GroupProblem>>
     ensures rows { IfOk result (λ rows. rows.items ≡ group_rows groups.now) }
     ensures refused { (users : List UserTable) → IfErr result (IsFault groups.now users) }
 {
@@ -72,13 +58,14 @@ fn group_of<'a>(
     numbers: &Numbers,
     index: usize,
     user: &UserTable<'a>,
-) -> Result<Option<u32>, RowsFault<'a>>
+) -> Result<Option<u32>, Fault<'a, GroupProblem>>
+    requires within { index < 2 ^ 63 }
     ensures group { (groups : List GroupTable) → AreNumbers groups numbers.now
         → IfOk result (λ group. group ≡ group_in groups user.now.group) }
     ensures has { (groups : List GroupTable) → AreNumbers groups numbers.now
         → OnOk result (HasGroup groups user.now.group) }
     ensures refused { (groups : List GroupTable) → AreNumbers groups numbers.now
-        → IfErr result (IsFaultOfUser groups index user.now.group) }
+        → IfErr result (IsFaultOfUser groups index user.now) }
 {
     let Some(name) = user.group else {
         return Ok(None);
@@ -94,13 +81,14 @@ fn read_user<'a>(
     numbers: &Numbers,
     index: usize,
     user: &UserTable<'a>,
-) -> Result<UserRate, RowsFault<'a>>
+) -> Result<UserRate, Fault<'a, GroupProblem>>
+    requires within { index < 2 ^ 63 }
     ensures row { (groups : List GroupTable) → AreNumbers groups numbers.now
         → IfOk result (λ row. row ≡ user_row groups index user.now) }
     ensures has { (groups : List GroupTable) → AreNumbers groups numbers.now
         → OnOk result (HasGroup groups user.now.group) }
     ensures refused { (groups : List GroupTable) → AreNumbers groups numbers.now
-        → IfErr result (IsFaultOfUser groups index user.now.group) }
+        → IfErr result (IsFaultOfUser groups index user.now) }
 {
     let group = group_of(numbers, index, user)?;
     let number = row_number(TableName::User, index, user.name)?;
@@ -120,13 +108,13 @@ fn read_users<'a>(
     alloc: Global,
     numbers: &Numbers,
     users: &[UserTable<'a>],
-) -> Result<Vec<UserRate>, RowsFault<'a>>
+) -> Result<Vec<UserRate>, Fault<'a, GroupProblem>>
     ensures rows { (groups : List GroupTable) → AreNumbers groups numbers.now
         → IfOk result (λ rows. rows.items ≡ user_rows groups users.now) }
     ensures grouped { (groups : List GroupTable) → AreNumbers groups numbers.now
         → OnOk result (AreGrouped groups users.now) }
     ensures refused { (groups : List GroupTable) → AreNumbers groups numbers.now
-        → IfErr result (IsFault groups users.now) }
+        → AreApart groups → IfErr result (IsFault groups users.now) }
 {
     let mut rows = Vec::new(alloc);
     for (index, user) in users.iter().enumerate() {
@@ -136,13 +124,13 @@ fn read_users<'a>(
     Ok(rows)
 }
 
-/// Numbers groups and users, and reads the rates of each. `Err` is the first group with the name of another, or else the
-/// first user whose group there is not; or memory ran out.
+/// Numbers groups and users, and reads the rates of each. `Err` is the first group with the name of one before it, or
+/// otherwise the first user whose group is not there, each with its row; or lack of memory.
 pub fn read_rows<'a>(
     alloc: Global,
     groups: &[GroupTable<'a>],
     users: &[UserTable<'a>],
-) -> Result<RateRows, RowsFault<'a>>
+) -> Result<RateRows, Fault<'a, GroupProblem>>
     ensures groups { IfOk result (λ rows. rows.groups.items ≡ group_rows groups.now) }
     ensures users { IfOk result (λ rows. rows.users.items ≡ user_rows groups.now users.now) }
     ensures many { IfOk result (λ rows. length rows.users.items ≡ length users.now) }

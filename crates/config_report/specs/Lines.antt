@@ -1,26 +1,26 @@
--- The lines that tell what a configuration is.
+-- The lines of the report on a configuration.
 use Rattle.std.specs.Prelude.{ℕ, ◌-◌, ◌^◌, ◌&&◌, if◌then◌else◌, nat_eq, List, [], ◌∷◌, ◌++◌, codes, Option, Some, None}
 use Rattle.std.specs.Borrow.{Bor}
 use Rattle.std.specs.Fmt.{decimal, format_spec, styled_decimal, styled_text}
 use Rattle.std.specs.List.{flat_map}
 use Rattle.std.specs.Net.Addr.{ipv4_octets}
 use Rattle.std.specs.Net.Text.{ipv4_text}
-use Rattle.config_server.specs.declared.stated.ServerTable.{ServerTable}
-use Rattle.config_tables.specs.declared.stated.GroupTable.{GroupTable}
-use Rattle.config_tables.specs.declared.stated.UserTable.{UserTable}
+use Rattle.config_file.specs.declared.stated.ServerTable.{ServerTable}
+use Rattle.config_file.specs.declared.stated.GroupTable.{GroupTable}
+use Rattle.config_file.specs.declared.stated.UserTable.{UserTable}
 use Rattle.server_config.specs.Settings.{told_address}
 use Rattle.config_report.specs.declared.warning.Warning.{Warning}
 use Rattle.config_report.specs.declared.warning.Warning.TheVariants.{NoAddress, OwnPorts, FewPorts, NoSecondSession, NoHome}
 
--- A text at the left of a column that is so wide, with blanks behind it, and at its right, with blanks before it. One that is
--- longer stands whole.
+-- A text at the left of a column of this width, with blanks after it; and at its right, with blanks before it. A longer
+-- text is not cut.
 abbrev pub left : ℕ → List ℕ → List ℕ
 left width text = styled_text (format_spec 32 1 0 width (2 ^ 64 - 1)) text
 
 abbrev pub right : ℕ → List ℕ → List ℕ
 right width text = styled_text (format_spec 32 3 0 width (2 ^ 64 - 1)) text
 
--- a number at the right of one
+-- a number at the right of a column
 abbrev pub number : ℕ → ℕ → List ℕ
 number width n = styled_decimal (format_spec 32 3 0 width (2 ^ 64 - 1)) n
 
@@ -78,7 +78,7 @@ server_rates server = rates_head ++ ways_line server ++ both_line server
 abbrev pub group_rates : GroupTable → List ℕ
 group_rates group = codes "group " ++ left 18 group.name.now ++ rate_columns group.down_rate group.up_rate
 
--- two rates of a user's sessions, if there is one
+-- a line of two rates of a user's sessions, unless both are 0
 abbrev pub part_line : List ℕ → ℕ → ℕ → List ℕ
 part_line head down up = if nat_eq down 0 && nat_eq up 0 then [] else left 24 head ++ rate_columns down up
 

@@ -1,18 +1,18 @@
--- What is accepted and of no use, each with its test.
+-- Settings that are accepted and have no use, each with its test.
 use Rattle.std.specs.Prelude.{ℕ, ◌+◌, ◌*◌, Bool, true, false, not, ◌||◌, ◌&&◌, cond, if◌then◌else◌, nat_eq, nat_le, nat_lt, List, [], ◌∷◌, ◌++◌, bytes_eq, Option, Some, None, Result, Ok, Err}
 use Rattle.std.specs.Borrow.{Bor}
 use Rattle.std.specs.List.{flat_map}
 use Rattle.std.specs.Net.Addr.{ipv4_bits}
-use Rattle.ftp_terms.specs.declared.entries.Kind.{Kind}
-use Rattle.ftp_terms.specs.declared.entries.Kind.TheVariants as kind
+use Rattle.ftp_terms.specs.declared.entries.EntryKind.{EntryKind}
+use Rattle.ftp_terms.specs.declared.entries.EntryKind.TheVariants as kind
 use Rattle.virtual_path.specs.Path.{Path, resolved}
 use Rattle.virtual_path.specs.declared.fault.PathFault.{PathFault}
 use Rattle.memory_store.specs.InMemory.{Memory, kind_at}
-use Rattle.config_server.specs.declared.stated.ServerTable.{ServerTable}
+use Rattle.config_file.specs.declared.stated.ServerTable.{ServerTable}
 use Rattle.config_store.specs.declared.store.ServedStore.{ServedStore}
 use Rattle.config_store.specs.declared.store.ServedStore.TheVariants as served
-use Rattle.config_tables.specs.declared.stated.GroupTable.{GroupTable}
-use Rattle.config_tables.specs.declared.stated.UserTable.{UserTable}
+use Rattle.config_file.specs.declared.stated.GroupTable.{GroupTable}
+use Rattle.config_file.specs.declared.stated.UserTable.{UserTable}
 use Rattle.server_config.specs.Settings.{told_address}
 use Rattle.config_report.specs.declared.warning.Warning.{Warning}
 use Rattle.config_report.specs.declared.warning.Warning.TheVariants.{NoAddress, OwnPorts, FewPorts, NoSecondSession, NoHome}
@@ -20,11 +20,11 @@ use Rattle.config_report.specs.declared.warnings.TheConstants.{OWN_FIRST, OWN_LA
 
 -- ---- of the server
 
--- clients are told 0.0.0.0 for passive connections
+-- the address announced for passive connections is 0.0.0.0
 abbrev pub is_untold : ServerTable → Bool
 is_untold server = nat_eq (ipv4_bits (told_address server.masquerade_address server.address)) 0
 
--- a passive port is among those that the machine takes for connections of its own
+-- a passive port is among those that the machine takes for its own connections
 abbrev pub is_among_own : ServerTable → Bool
 is_among_own server = nat_le server.passive_first OWN_LAST && nat_le OWN_FIRST server.passive_last
 
@@ -40,7 +40,7 @@ server_warnings server =
 
 -- ---- of a user's guarantees
 
--- the rates down and up of the first group of a name; 0, which is no limit, where there is none
+-- the rates down and up of the first group of a name; 0, which is no limit, if there is none
 abbrev pub rates_by : List GroupTable → List ℕ → ℕ × ℕ
 rates_by [] name = (0, 0)
 rates_by (group ∷ groups) name = cond (bytes_eq group.name.now name) (group.down_rate, group.up_rate) (rates_by groups name)
@@ -49,32 +49,33 @@ abbrev pub rates_named : List GroupTable → Option (Bor (List ℕ)) → ℕ × 
 rates_named groups None = (0, 0)
 rates_named groups (Some name) = rates_by groups name.now
 
--- a sum is within a rate, where a rate of 0 is no limit
+-- a sum is within a rate; a rate of 0 is no limit
 abbrev pub fits : ℕ → ℕ → Bool
 fits sum rate = nat_eq rate 0 || nat_le sum rate
 
--- what each session is guaranteed one way is within the rate of a session, and twice that within those of the user, the group and the way
+-- a session's guarantee one way is within the limit of the session, and twice that within the limits of the user, the
+-- group and the way
 abbrev pub fits_twice : ℕ → ℕ → ℕ → ℕ → ℕ → Bool
 fits_twice floor session user group way = fits floor session && (fits (2 * floor) user && (fits (2 * floor) group && fits (2 * floor) way))
 
--- the sessions of the user are guaranteed something
+-- the sessions of the user have a guarantee
 abbrev pub has_floor : UserTable → Bool
 has_floor user = not (nat_eq user.session_down_floor 0) || not (nat_eq user.session_up_floor 0)
 
--- two sessions of the user, and of nobody else, have what each is guaranteed; both ways count against the server's rate
+-- two sessions of the user, alone on the server, have their guarantees; both ways count against the server's rate
 abbrev pub fit_two : ServerTable → ℕ × ℕ → UserTable → Bool
 fit_two server group user =
     fits_twice user.session_down_floor user.session_down_rate user.down_rate group.0 server.down_rate
     && (fits_twice user.session_up_floor user.session_up_rate user.up_rate group.1 server.up_rate
     && fits (2 * user.session_down_floor + 2 * user.session_up_floor) server.rate)
 
--- the sessions of the user are guaranteed something, and a second one cannot be, even where nobody else is there
+-- the sessions of the user have a guarantee, and a second session cannot have it, even alone with the first
 abbrev pub is_single : ServerTable → List GroupTable → UserTable → Bool
 is_single server groups user = has_floor user && not (fit_two server (rates_named groups user.group) user)
 
 -- ---- of a user's home
 
-abbrev pub is_directory_kind : Option Kind → Bool
+abbrev pub is_directory_kind : Option EntryKind → Bool
 is_directory_kind None = false
 is_directory_kind (Some kind.Directory) = true
 is_directory_kind (Some kind.File) = false

@@ -1,4 +1,4 @@
-//! Whether the homes of users are there.
+//! The check that the homes of users exist.
 
 ghost use Rattle.std.specs.Prelude.{◌≡◌, ◌≢◌, [], IfOk, Ok, Err};
 ghost use Rattle.virtual_path.specs.Path.{resolved};
@@ -6,25 +6,25 @@ ghost use Rattle.virtual_tree.specs.declared.fault.StoreFault.TheVariants as Sto
 ghost use Rattle.config_report.specs.Warnings.{has_home, is_directory, is_home};
 
 use config_store::ServedStore;
-use ftp_terms::Kind;
+use ftp_terms::EntryKind;
 use memory_store::MemStore;
 use std::alloc::{AllocError, Global};
 use virtual_path::{PathFault, VPath};
 use virtual_tree::{Store, StoreFault};
 
-/// Whether a directory stands at a path.
+/// Returns whether the entry at a path is a directory.
 fn is_directory(store: &mut MemStore, path: &VPath) -> Result<bool, AllocError>
     ensures directory { IfOk result (λ is. is ≡ is_directory store.old path.now) }
     ensures same { store.new ≡ store.old }
 {
     match store.stat(path) {
-        Ok(meta) => Ok(meta.kind == Kind::Directory),
+        Ok(meta) => Ok(meta.kind == EntryKind::Directory),
         Err(StoreFault::Memory) => Err(AllocError),
         Err(_) => Ok(false),
     }
 }
 
-/// Whether a text names a directory of a store.
+/// Returns whether a text is the path of a directory of a store.
 fn is_home(alloc: Global, store: &mut MemStore, home: &str) -> Result<bool, AllocError>
     ensures home { IfOk result (λ is. is ≡ is_home store.old (resolved [] home.now)) }
     ensures same { store.new ≡ store.old }
@@ -37,8 +37,12 @@ fn is_home(alloc: Global, store: &mut MemStore, home: &str) -> Result<bool, Allo
     }
 }
 
-/// Whether a home is a directory of what is served; a folder of the machine is not asked.
-pub fn has_home(alloc: Global, store: &mut ServedStore, home: &str) -> Result<bool, AllocError>
+/// Returns whether a home is a directory of the store; `true` for a folder of the machine, which is not examined.
+pub(crate) fn has_home(
+    alloc: Global,
+    store: &mut ServedStore,
+    home: &str,
+) -> Result<bool, AllocError>
     ensures home { IfOk result (λ has. has ≡ has_home store.old home.now) }
     ensures same { store.new ≡ store.old }
 {

@@ -1,5 +1,5 @@
-//! What a configuration is, told in lines: where the server listens, who its users are, what is limited and guaranteed, and
-//! what was accepted and is of no use.
+//! The report on a configuration, as lines: the address of the server, its users, limits and guarantees, and warnings
+//! of settings that are accepted and have no use.
 //!
 //! ```text
 //! let text = report(rt.alloc(), SMALL.as_bytes())?; // a server and the user `ann`

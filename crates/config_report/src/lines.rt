@@ -1,4 +1,4 @@
-//! The lines that tell what a configuration is.
+//! The lines of the report on a configuration.
 
 ghost use Rattle.std.specs.Prelude.{◌≡◌, ◌++◌, IfOk, OnOk, string_bytes};
 ghost use Rattle.std.specs.List.{flat_map};
@@ -8,12 +8,11 @@ ghost use Rattle.config_report.specs.Lines.{both_line, group_rates, listens_line
 
 use crate::warning::Warning;
 use crate::warnings::told_address;
-use config_server::ServerTable;
-use config_tables::{GroupTable, UserTable};
+use config_file::{GroupTable, ServerTable, UserTable};
 use std::alloc::{AllocError, Global};
 use std::net::Ipv4Addr;
 
-/// A rate in its column; none is a dash.
+/// Writes a rate in its column; a dash for none.
 fn write_rate(text: &mut String, rate: u64) -> Result<(), AllocError>
     ensures column { OnOk result
         (string_bytes text.new ≡ string_bytes text.old ++ rate_column rate) }
@@ -25,7 +24,7 @@ fn write_rate(text: &mut String, rate: u64) -> Result<(), AllocError>
     }
 }
 
-/// Two rates in their columns, which end the line.
+/// Writes two rates in their columns, and ends the line.
 fn write_rates(text: &mut String, down: u64, up: u64) -> Result<(), AllocError>
     ensures columns { OnOk result
         (string_bytes text.new ≡ string_bytes text.old ++ rate_columns down up) }
@@ -35,7 +34,7 @@ fn write_rates(text: &mut String, down: u64, up: u64) -> Result<(), AllocError>
     text.push('\n')
 }
 
-/// A line of two rates under those of a user, unless there are none.
+/// Writes a line of two rates below those of a user, unless both are 0.
 fn write_part(text: &mut String, head: &str, down: u64, up: u64) -> Result<(), AllocError>
     ensures line { OnOk result
         (string_bytes text.new ≡ string_bytes text.old ++ part_line head.now down up) }
@@ -248,8 +247,8 @@ fn write_warnings(text: &mut String, warnings: &[Warning]) -> Result<(), AllocEr
     Ok(())
 }
 
-/// All lines: of the server, of rates, of users, and the warnings.
-pub fn lines_of(
+/// Returns all lines: of the server, of rates, of users, and the warnings.
+pub(crate) fn lines_of(
     alloc: Global,
     server: &ServerTable,
     groups: &[GroupTable],

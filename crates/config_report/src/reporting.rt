@@ -7,12 +7,12 @@ ghost use Rattle.config_report.specs.Reports.{IsReport, IsReportOf, report_of};
 
 use crate::lines::lines_of;
 use crate::warnings::warnings_of;
+use config_file::{Tables, read_tables};
 use config_store::ServedStore;
-use config_tables::{Tables, read_tables};
 use server_config::{Config, ConfigFault};
 use std::alloc::{AllocError, Global};
 
-/// The lines of tables, by the store that is made of them.
+/// Returns the report on tables and the store that is made of them.
 fn text_of(alloc: Global, tables: &Tables, store: &mut ServedStore) -> Result<String, AllocError>
     ensures text { IfOk result (λ text. string_bytes text ≡ report_of tables.now store.old) }
 {
@@ -21,7 +21,7 @@ fn text_of(alloc: Global, tables: &Tables, store: &mut ServedStore) -> Result<St
     lines_of(alloc, &tables.server, groups, users, warnings.as_slice())
 }
 
-/// The lines of a text that was read as a configuration before: what can fail now is memory.
+/// Returns the report on a text that was read as a configuration before. Only memory can run out.
 fn told_of(alloc: Global, octets: &[u8], store: &mut ServedStore) -> Result<String, ConfigFault>
     ensures report { IfOk result (λ text. IsReport octets.now store.old (string_bytes text)) }
     ensures memory { IfErr result (λ fault. fault ≡ Memory) }
@@ -38,8 +38,8 @@ fn told_of(alloc: Global, octets: &[u8], store: &mut ServedStore) -> Result<Stri
     }
 }
 
-/// What the configuration of a text is, in lines, with its warnings. `Err` is the first fault of a text that is refused, or lack
-/// of memory.
+/// Returns the report on the configuration of a text, with its warnings. `Err` is the first fault of a text that is
+/// refused, or lack of memory.
 pub fn report(alloc: Global, octets: &[u8]) -> Result<String, ConfigFault>
     ensures report { IfOk result (λ text. IsReportOf octets.now (string_bytes text)) }
     ensures refused { IfErr result (IsFaultOfText octets.now) }

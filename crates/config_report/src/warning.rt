@@ -1,13 +1,14 @@
-//! What is accepted, and of no use.
+//! Warnings: settings that are accepted and have no use.
 
 use std::fmt;
 
-/// What a configuration states, and what is of no use so. It prints as one line, without its end.
+/// A setting that is accepted and has no use. It prints as one line, without its end.
 #[derive(Clone, Copy, Debug, PartialEq, Eq)]
 pub enum Warning<'a> {
-    /// Clients are told the address 0.0.0.0 for passive connections.
+    /// The address for passive connections is 0.0.0.0.
     NoAddress,
-    /// Passive ports, of which the first and the last are these, are among those that the machine takes for connections of its own.
+    /// Passive ports, from the first to the last of these, are among those that the machine takes for its own
+    /// connections.
     OwnPorts {
         first: u16,
         last: u16,
@@ -18,7 +19,7 @@ pub enum Warning<'a> {
         last: u16,
         connections: u16,
     },
-    /// A second session of the user cannot be guaranteed what each is.
+    /// A second session of the user cannot have the guarantee of the first.
     NoSecondSession {
         user: &'a str,
     },

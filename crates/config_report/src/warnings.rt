@@ -7,19 +7,18 @@ ghost use Rattle.config_report.specs.Warnings.{has_few_ports, is_among_own, is_u
 use crate::floors::is_single;
 use crate::homes::has_home;
 use crate::warning::Warning;
-use config_server::ServerTable;
+use config_file::{GroupTable, ServerTable, UserTable};
 use config_store::ServedStore;
-use config_tables::{GroupTable, UserTable};
 use std::alloc::{AllocError, Global};
 use std::net::Ipv4Addr;
 
-/// The first and the last port that the machine takes for connections of its own, as Linux sets them by default.
-pub const OWN_FIRST: u16 = 32_768;
+/// First and last port that the machine takes for its own connections, by the default of Linux.
+pub(crate) const OWN_FIRST: u16 = 32_768;
 
-pub const OWN_LAST: u16 = 60_999;
+pub(crate) const OWN_LAST: u16 = 60_999;
 
-/// The address that clients are told for passive connections.
-pub fn told_address(server: &ServerTable) -> Ipv4Addr
+/// Returns the address announced to clients for passive connections.
+pub(crate) fn told_address(server: &ServerTable) -> Ipv4Addr
     ensures told { result ≡ told_address server.now.masquerade_address server.now.address }
 {
     match server.masquerade_address {
@@ -28,21 +27,21 @@ pub fn told_address(server: &ServerTable) -> Ipv4Addr
     }
 }
 
-/// Whether clients are told 0.0.0.0.
+/// Returns whether the address announced to clients is 0.0.0.0.
 fn is_untold(server: &ServerTable) -> bool
     ensures untold { result ≡ is_untold server.now }
 {
     told_address(server).to_bits() == 0
 }
 
-/// Whether a passive port is among those of the machine.
+/// Returns whether a passive port is among those of the machine.
 fn is_among_own(server: &ServerTable) -> bool
     ensures among { result ≡ is_among_own server.now }
 {
     server.passive_first <= OWN_LAST && OWN_FIRST <= server.passive_last
 }
 
-/// Whether there are fewer passive ports than connections.
+/// Returns whether there are fewer passive ports than connections.
 fn has_few_ports(server: &ServerTable) -> bool
     ensures few { result ≡ has_few_ports server.now }
 {
@@ -50,7 +49,7 @@ fn has_few_ports(server: &ServerTable) -> bool
         < u32::from(server.passive_first) + u32::from(server.max_cons)
 }
 
-/// Adds what is to be said of the server.
+/// Adds the warnings of the server.
 fn warn_of_server<'a>(found: &mut Vec<Warning<'a>>, server: &ServerTable) -> Result<(), AllocError>
     ensures warnings { OnOk result
         (found.new.items ≡ found.old.items ++ server_warnings server.now) }
@@ -72,7 +71,7 @@ fn warn_of_server<'a>(found: &mut Vec<Warning<'a>>, server: &ServerTable) -> Res
     Ok(())
 }
 
-/// Adds what is to be said of a user.
+/// Adds the warnings of a user.
 fn warn_of_user<'a>(
     alloc: Global,
     found: &mut Vec<Warning<'a>>,
@@ -97,7 +96,7 @@ fn warn_of_user<'a>(
     Ok(())
 }
 
-/// The warnings of a configuration: those of its server, and then those of its users in their order.
+/// Returns the warnings of a configuration: those of its server, and then those of its users in their order.
 pub fn warnings_of<'a>(
     alloc: Global,
     server: &ServerTable,

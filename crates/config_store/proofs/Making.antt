@@ -3,8 +3,8 @@ use Rattle.std.proofs.Common.{◌≡◌, ℕ, Some, Result, Ok, Err, OnOk, ◌+�
 use Rattle.std.proofs.lemmas.List.{take_more}
 use Rattle.std.specs.FinMap as map
 use Rattle.std.specs.Io.KnownBytes.{Appends}
-use Rattle.file_tree.specs.Tree.{Tree}
-use Rattle.config_tables.specs.declared.stated.DirTable.{DirTable}
+use Rattle.memory_store.specs.Tree.{Tree}
+use Rattle.config_file.specs.declared.stated.DirTable.{DirTable}
 use Rattle.virtual_path.specs.Path.{Path}
 use Rattle.virtual_tree.specs.Calls.Exchange.{OpenWrite, Finish}
 use Rattle.virtual_tree.specs.declared.fault.StoreFault.{StoreFault}

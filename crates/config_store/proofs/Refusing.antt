@@ -1,5 +1,5 @@
 -- Directories and files that are refused, after those that were made.
-use Rattle.std.proofs.Common.{◌≡◌, ℕ, ◌<◌, List, length, take, get_or, Some, Result, Ok, Err, IfErr, refl, sym, ap, subst, ◌∙◌, inr}
+use Rattle.std.proofs.Common.{◌≡◌, ℕ, ◌<◌, List, length, take, get_or, Some, None, Result, Ok, Err, IfErr, refl, sym, ap, subst, ◌∙◌, inr}
 use Rattle.std.proofs.lemmas.Option.{slice_get-get_or}
 use Rattle.std.specs.Io.KnownBytes.{Appends}
 use Rattle.memory_terms.specs.Lack.{Unless}
@@ -8,27 +8,32 @@ use Rattle.virtual_path.specs.Path.{Path}
 use Rattle.virtual_tree.specs.Calls.Exchange.{OpenWrite, Finish}
 use Rattle.virtual_tree.specs.declared.fault.StoreFault.{StoreFault}
 use Rattle.virtual_tree.specs.declared.mode.WriteMode.TheVariants.{New}
-use Rattle.config_store.specs.Made.{MakesAll, IsNotFilled, IsRefusedRow, Tells}
-use Rattle.config_store.specs.declared.fault.StoreFaultAt.{StoreFaultAt}
-use Rattle.config_store.specs.declared.fault.StoreFaultAt.TheVariants as fault
+use Rattle.config_store.specs.Made.{MakesAll, IsNotFilled, IsRefusedRow}
+use Rattle.config_file.specs.declared.fault.Fault.{Fault}
+use Rattle.config_file.specs.declared.fault.Fault.TheVariants as fault
+use Rattle.config_file.specs.declared.fault.TableName.{TableName}
+use Rattle.config_file.specs.Lists.{FaultIs, Place, place_of, row_at}
 use Rattle.config_store.specs.declared.fault.StoreProblem.{StoreProblem}
 
-pub told_more : (First Second : StoreProblem → Type 0) → ((told : StoreProblem) → First told → Second told) → (answer : StoreFaultAt) → Tells First answer → Tells Second answer
-told_more First Second more (fault.Refused header told) is = more told is
+pub told_more : (First Second : Place → StoreProblem → Type 0) → ((place : Place) (told : StoreProblem) → First place told → Second place told)
+    → (answer : Fault StoreProblem) → FaultIs First answer → FaultIs Second answer
+told_more First Second more (fault.At header told) is = more (place_of header) told is
 told_more First Second more fault.Memory is = tt
 
-pub row_refused : {R : Type 0} (Makes : R → Memory → Memory → Type 0) (Refuses : R → Memory → StoreProblem → Type 0) (rows : List R) (i : ℕ) (row other : R) (old mid : Memory)
-    (problem : StoreProblem) (answer : StoreFaultAt) → i < length rows → row ≡ get_or rows i other → MakesAll Makes (take i rows) old mid → Refuses row mid problem
-    → Tells (λ told. told ≡ problem) answer → Tells (IsRefusedRow Makes Refuses rows old) answer
-row_refused Makes Refuses rows i row other old mid problem answer within at before is =
-    told_more (λ told. told ≡ problem) (IsRefusedRow Makes Refuses rows old)
-    (λ told same. record {
+pub row_refused : {R : Type 0} (table : TableName) (Makes : R → Memory → Memory → Type 0) (Refuses : R → Memory → StoreProblem → Type 0) (rows : List R) (i : ℕ) (row other : R)
+    (old mid : Memory) (problem : StoreProblem) (answer : Fault StoreProblem) → i < length rows → row ≡ get_or rows i other → MakesAll Makes (take i rows) old mid
+    → Refuses row mid problem → FaultIs (λ place told. (place ≡ row_at table i None) × (told ≡ problem)) answer
+    → FaultIs (IsRefusedRow table Makes Refuses rows old) answer
+row_refused table Makes Refuses rows i row other old mid problem answer within at before is =
+    told_more (λ place told. (place ≡ row_at table i None) × (told ≡ problem)) (IsRefusedRow table Makes Refuses rows old)
+    (λ place told same. record {
       index = i;
       row = row;
       mid = mid;
       stands = slice_get-get_or rows i other within ∙ ap (λ r. Some r) (sym at);
       before = before;
-      refused = subst (Refuses row mid) (sym same) is;
+      refused = subst (Refuses row mid) (sym same.1) is;
+      place = same.0;
     }) answer
 
 -- a text that was written, and whose file was not finished

@@ -1,6 +1,6 @@
--- What is served: a folder, or what the calls of a store in memory leave that make the directories and files of a file's
--- tables, one after another.
-use Rattle.std.specs.Prelude.{◌≡◌, ◌≢◌, ◌<◌, ◌≤◌, ◌⊎◌, ℕ, ◌*◌, List, [], ◌∷◌, take, slice_get, Some, Ok, Err, codes}
+-- The served store: a folder, or the store in memory after the calls that make the directories and files of the tables,
+-- one after another.
+use Rattle.std.specs.Prelude.{◌≡◌, ◌≢◌, ◌<◌, ◌≤◌, ◌⊎◌, ℕ, ◌*◌, List, [], ◌∷◌, take, slice_get, Some, None, Ok, Err, codes}
 use Rattle.std.specs.FinMap as map
 use Rattle.std.specs.String.{string_bytes}
 use Rattle.memory_terms.specs.Lack.{Unless}
@@ -10,12 +10,13 @@ use Rattle.virtual_tree.specs.Calls.{Writes}
 use Rattle.virtual_tree.specs.Calls.Exchange.{OpenWrite, Finish, MakeDir}
 use Rattle.memory_store.specs.InMemory.{Memory, Upload, InMemory, target_of}
 use Rattle.virtual_tree.specs.declared.mode.WriteMode.TheVariants.{New}
-use Rattle.config_server.specs.declared.stated.ServerTable.{ServerTable}
-use Rattle.config_tables.specs.declared.stated.DirTable.{DirTable}
-use Rattle.config_tables.specs.declared.stated.FileTable.{FileTable}
+use Rattle.config_file.specs.declared.stated.ServerTable.{ServerTable}
+use Rattle.config_file.specs.declared.stated.DirTable.{DirTable}
+use Rattle.config_file.specs.declared.stated.FileTable.{FileTable}
 use Rattle.virtual_tree.specs.declared.fault.StoreFault.{StoreFault}
-use Rattle.config_store.specs.declared.fault.StoreFaultAt.{StoreFaultAt}
-use Rattle.config_store.specs.declared.fault.StoreFaultAt.TheVariants as fault
+use Rattle.config_file.specs.declared.fault.TableName.{TableName}
+use Rattle.config_file.specs.declared.fault.TableName.TheVariants as TableName
+use Rattle.config_file.specs.Lists.{Place, row_at, whole}
 use Rattle.config_store.specs.declared.fault.StoreProblem.{StoreProblem}
 use Rattle.config_store.specs.declared.fault.StoreProblem.TheVariants as problem
 use Rattle.config_store.specs.declared.store.ServedStore.{ServedStore}
@@ -82,27 +83,24 @@ IsFileProblem file old (problem.Store fault) = Unless StoreFault.Memory (λ why.
     (path : Path) × (resolved [] file.path.now ≡ Ok path) × IsNotFilled path file.text.now (file.modified * 1000) old why) fault
 
 -- the rows before one are made, and that one is refused
-pub record IsRefusedRow {R : Type 0} (Makes : R → Memory → Memory → Type 0) (Refuses : R → Memory → StoreProblem → Type 0) (rows : List R) (old : Memory) (problem : StoreProblem) : Type 0 where
+pub record IsRefusedRow {R : Type 0} (table : TableName) (Makes : R → Memory → Memory → Type 0) (Refuses : R → Memory → StoreProblem → Type 0) (rows : List R) (old : Memory)
+    (at : Place) (problem : StoreProblem) : Type 0 where
   pub index : ℕ
   pub row : R
   pub mid : Memory
   pub stands : slice_get rows index ≡ Some row
   pub before : MakesAll Makes (take index rows) old mid
   pub refused : Refuses row mid problem
+  pub place : at ≡ row_at table index None
 
--- a directory is refused, or else a file is
-abbrev pub IsNotMade : ServerTable → List DirTable → List FileTable → StoreProblem → Type 0
-IsNotMade server dirs files told =
-    IsRefusedRow MakesDir IsDirProblem dirs (empty_store server.capacity) told
-    ⊎ ((made : Memory) × MakesAll MakesDir dirs (empty_store server.capacity) made × IsRefusedRow MakesFile IsFileProblem files made told)
+-- a directory is refused, or otherwise a file
+abbrev pub IsNotMade : ServerTable → List DirTable → List FileTable → Place → StoreProblem → Type 0
+IsNotMade server dirs files place told =
+    IsRefusedRow TableName.Dir MakesDir IsDirProblem dirs (empty_store server.capacity) place told
+    ⊎ ((made : Memory) × MakesAll MakesDir dirs (empty_store server.capacity) made × IsRefusedRow TableName.File MakesFile IsFileProblem files made place told)
 
--- the range of ports is empty; or else it is not, and a store in memory is not made
-abbrev pub IsStoreProblem : ServerTable → List DirTable → List FileTable → StoreProblem → Type 0
-IsStoreProblem server dirs files told =
-    ((told ≡ problem.EmptyRange) × (server.passive_last < server.passive_first))
-    ⊎ ((server.passive_first ≤ server.passive_last) × (server.root.now ≡ codes "memory") × IsNotMade server dirs files told)
-
--- the problem is told, unless memory ran out
-abbrev pub Tells : (StoreProblem → Type 0) → StoreFaultAt → Type 0
-Tells Refuses (fault.Refused header told) = Refuses told
-Tells Refuses fault.Memory = Unit {0}
+-- the range of ports is empty; or otherwise a store in memory is not made
+abbrev pub IsStoreProblem : ServerTable → List DirTable → List FileTable → Place → StoreProblem → Type 0
+IsStoreProblem server dirs files place told =
+    ((place ≡ whole TableName.Server) × (told ≡ problem.EmptyRange) × (server.passive_last < server.passive_first))
+    ⊎ ((server.passive_first ≤ server.passive_last) × (server.root.now ≡ codes "memory") × IsNotMade server dirs files place told)

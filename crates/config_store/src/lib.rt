@@ -2,12 +2,12 @@
 //!
 //! ```text
 //! let store = make_store(rt.alloc(), &tables.server, &tables.dirs, &tables.files)?;
-//! holds(rt, matches!(store, ServedStore::Memory(_))); // else a folder, by its path
+//! holds(rt, matches!(store, ServedStore::Memory(_))); // otherwise a folder, by its path
 //! ```
 #![tactic(auto)]
 
 mod fault;
 mod store;
 
-pub use fault::{StoreFaultAt, StoreProblem};
+pub use fault::StoreProblem;
 pub use store::{ServedStore, make_store};

@@ -1,21 +1,22 @@
 //! A store with the directories and files of a configuration.
 
-ghost use Rattle.std.specs.Prelude.{◌≡◌, ◌≤◌, [], Err, IfErr, IfOk, OnOk, Ok};
+ghost use Rattle.std.specs.Prelude.{◌≡◌, ◌≤◌, ◌<◌, ◌^◌, None, [], Err, IfErr, IfOk, OnOk, Ok};
 ghost use Rattle.memory_terms.specs.Lack.{Unless};
 ghost use Rattle.virtual_path.specs.Path.{resolved};
 ghost use Rattle.config_store.specs.Made.{MakesDir, MakesFile, MakesAll, IsFilled, IsStoreOf};
-ghost use Rattle.config_store.specs.Made.{IsDirProblem, IsFileProblem, IsNotFilled, IsRefusedRow, IsStoreProblem, Tells, IsPathProblem};
+ghost use Rattle.config_store.specs.Made.{IsDirProblem, IsFileProblem, IsNotFilled, IsRefusedRow, IsStoreProblem, IsPathProblem};
+ghost use Rattle.config_file.specs.Lists.{FaultIs, row_at};
+ghost use Rattle.config_file.specs.declared.fault.TableName.TheVariants as TableName;
 ghost use Rattle.virtual_tree.specs.declared.fault.StoreFault.TheVariants as StoreFault;
 
-use crate::fault::{StoreFaultAt, StoreProblem};
-use config_server::ServerTable;
-use config_tables::{DirTable, FileTable, Header, TableName};
+use crate::fault::StoreProblem;
+use config_file::{DirTable, Fault, FileTable, Header, ServerTable, TableName};
 use memory_store::MemStore;
 use std::alloc::Global;
 use virtual_path::{PathFault, VPath};
 use virtual_tree::{Sink, Store, StoreFault, WriteMode};
 
-/// What a server serves.
+/// The store of a server.
 #[derive(Drop)]
 pub enum ServedStore {
     /// Files in memory, which are forgotten at the end.
@@ -69,21 +70,19 @@ fn make_file(alloc: Global, store: &mut MemStore, file: &FileTable) -> Result<()
     }
 }
 
-/// The refusal of a row, whose number among those of its kind counts from 0.
-fn refused<'a>(table: TableName, index: usize, problem: StoreProblem) -> StoreFaultAt<'a>
-    ensures told { Tells (λ told. told ≡ problem) result }
+/// The refusal of the row at an index of its list, from 0.
+fn refused<'a>(table: TableName, index: usize, problem: StoreProblem) -> Fault<'a, StoreProblem>
+    requires within { index < 2 ^ 63 }
+    ensures told { FaultIs (λ place told. (place ≡ row_at table index None)
+        × (told ≡ problem)) result }
 {
     match problem {
         StoreProblem::Path(PathFault::Memory) | StoreProblem::Store(StoreFault::Memory) => {
-            StoreFaultAt::Memory
+            Fault::Memory
         }
         _ => {
-            let header = Header {
-                table,
-                row: index.saturating_add(1),
-                name: None,
-            };
-            StoreFaultAt::Refused { header, problem }
+            let header = Header::row(table, index, None);
+            Fault::At { header, problem }
         }
     }
 }
@@ -92,10 +91,10 @@ fn make_dirs<'a>(
     alloc: Global,
     store: &mut MemStore,
     dirs: &[DirTable],
-) -> Result<(), StoreFaultAt<'a>>
+) -> Result<(), Fault<'a, StoreProblem>>
     ensures made { OnOk result (MakesAll MakesDir dirs.now store.old store.new) }
-    ensures refused { IfErr result (Tells
-        (IsRefusedRow MakesDir IsDirProblem dirs.now store.old)) }
+    ensures refused { IfErr result (FaultIs
+        (IsRefusedRow TableName.Dir MakesDir IsDirProblem dirs.now store.old)) }
 {
     for (index, dir) in dirs.iter().enumerate() {
         match make_dir(alloc, store, dir) {
@@ -110,10 +109,10 @@ fn make_files<'a>(
     alloc: Global,
     store: &mut MemStore,
     files: &[FileTable],
-) -> Result<(), StoreFaultAt<'a>>
+) -> Result<(), Fault<'a, StoreProblem>>
     ensures made { OnOk result (MakesAll MakesFile files.now store.old store.new) }
-    ensures refused { IfErr result (Tells
-        (IsRefusedRow MakesFile IsFileProblem files.now store.old)) }
+    ensures refused { IfErr result (FaultIs
+        (IsRefusedRow TableName.File MakesFile IsFileProblem files.now store.old)) }
 {
     for (index, file) in files.iter().enumerate() {
         match make_file(alloc, store, file) {
@@ -124,26 +123,23 @@ fn make_files<'a>(
     Ok(())
 }
 
-/// The store of a file's tables: where its root is `memory` one in memory, with the directories in their order and then the
-/// files, and else the folder of that name. `Err` is an empty range of ports, or else the first refusal; or memory ran out.
+/// The store of a file's tables: if its root is `memory` one in memory, with the directories in their order and then the
+/// files, and otherwise the folder of that name. `Err` is an empty range of ports, or otherwise the first row that is refused;
+/// or lack of memory.
 pub fn make_store<'a>(
     alloc: Global,
     server: &ServerTable,
     dirs: &[DirTable],
     files: &[FileTable],
-) -> Result<ServedStore, StoreFaultAt<'a>>
+) -> Result<ServedStore, Fault<'a, StoreProblem>>
     ensures range { OnOk result (server.now.passive_first ≤ server.now.passive_last) }
     ensures store { IfOk result (IsStoreOf server.now dirs.now files.now) }
-    ensures refused { IfErr result (Tells (IsStoreProblem server.now dirs.now files.now)) }
+    ensures refused { IfErr result (FaultIs (IsStoreProblem server.now dirs.now files.now)) }
 {
     if server.passive_last < server.passive_first {
-        let header = Header {
-            table: TableName::Server,
-            row: 0,
-            name: None,
-        };
+        let header = Header::whole(TableName::Server);
         let problem = StoreProblem::EmptyRange;
-        return Err(StoreFaultAt::Refused { header, problem });
+        return Err(Fault::At { header, problem });
     }
     if server.root != "memory" {
         let folder = String::from_str(alloc, server.root)?;

@@ -1,4 +1,4 @@
-//! What no clause says of a configuration: that it is read, what its parts are, and that the same comes of it in version 2.
+//! Parts of a configuration that no clause covers: that it is read, its parts, and that version 2 makes the same of it.
 
 use crate::documents::{FOLDER, MEMORY};
 use crate::expect::{holds, same};
@@ -12,7 +12,8 @@ use std::process::Abort;
 use virtual_path::VPath;
 use virtual_tree::{Source, Store};
 
-/// Ann and Bob have their numbers, passwords and messages, and Bob may store in `/in/a/b`, and not at the root.
+/// Checks that Ann and Bob have their numbers, passwords and messages, and that Bob may store in `/in/a/b`, and not at
+/// the root.
 fn check_users(rt: &(impl Abort + AllocGlobal), users: &Authorizer) {
     same(rt, &users.number("ann"), &Some(0));
     same(rt, &users.number("bob"), &Some(1));
@@ -26,7 +27,7 @@ fn check_users(rt: &(impl Abort + AllocGlobal), users: &Authorizer) {
     holds(rt, !users.has_perm("bob", Letter::Store, &root));
 }
 
-/// The store holds the file `/f` as it is stated.
+/// Checks that the store contains the file `/f` as it is stated.
 fn check_file<S: Store<Global>>(rt: &(impl Abort + AllocGlobal), store: &mut S) {
     let root = VPath::root(rt.alloc());
     let path = root.resolve(rt.alloc(), "/f").expect(rt, "a path");
@@ -38,7 +39,7 @@ fn check_file<S: Store<Global>>(rt: &(impl Abort + AllocGlobal), store: &mut S) 
     holds(rt, buffer.starts_with(b"a\nb"));
 }
 
-/// The configuration is that of `MEMORY`.
+/// Checks the configuration of `MEMORY`.
 fn check_memory(rt: &(impl Abort + AllocGlobal), config: &mut Config) {
     check_users(rt, &config.users);
     same(rt, &config.settings.banner.as_str(), &"Ready");
@@ -92,7 +93,7 @@ fn check_limits(rt: &impl Abort, limits: &Limits) {
     same(rt, &limits.group_of(1), &None);
 }
 
-/// The configuration is that of `FOLDER`.
+/// Checks the configuration of `FOLDER`.
 fn check_folder(rt: &impl Abort, config: &Config) {
     check_limits(rt, &config.limits);
     same(rt, &config.users.group("ann"), &Some(1));

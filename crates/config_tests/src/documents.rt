@@ -1,7 +1,7 @@
-//! The documents that are read.
+//! The documents that the tests read.
 
-/// Files in memory, and what else must be stated.
-pub const MEMORY: &str = "version = 1
+/// Files in memory, and the other required keys.
+pub(crate) const MEMORY: &str = "version = 1
 [server]
 root = \"memory\"
 passive_first = 40000
@@ -28,7 +28,7 @@ modified = 951827696
 ";
 
 /// A folder, and each key of the server, of a group and of a user.
-pub const FOLDER: &str = "version = 2
+pub(crate) const FOLDER: &str = "version = 2
 [server]
 address = \"10.0.0.1\"
 port = 21

@@ -1,15 +1,14 @@
-//! What the heads of these crates show of their use. `tools/examples` sees that the two have the same lines.
+//! The examples in the heads of these crates. `tools/examples` compares their lines.
 
 ghost use Rattle.std.specs.Prelude.{◌≡◌, length};
 
 use crate::expect::holds;
-use config_keys::{KeyFault, table_at};
-use config_rates::{RateRows, RowsFault, limits_of, read_rows};
+use authorizer::AuthorizerFault;
+use config_file::{Fault, KeyFault, TableName, Tables, read_tables, rows_of};
+use config_rates::{GroupProblem, RateRows, limits_of, read_rows};
 use config_report::{Warning, report, warnings_of};
-use config_server::read_server;
-use config_store::{ServedStore, StoreFaultAt, make_store};
-use config_tables::{TableFault, Tables, read_tables};
-use config_users::{UsersFault, make_users};
+use config_store::{ServedStore, StoreProblem, make_store};
+use config_users::make_users;
 use server_config::{Config, ConfigFault, migrate};
 use std::process::Abort;
 use toml::Table;
@@ -28,25 +27,20 @@ home = \"/\"
 perms = \"elr\"
 ";
 
-fn config_server<'a>(rt: &impl Abort, document: &'a Table) -> Result<(), KeyFault<'a>> {
-    let server = read_server(table_at(document, "server")?)?; // of a file with `port = 2121`
-    holds(rt, server.port == 2121 && server.lanes == 16);
-    Ok(())
-}
-
-fn config_tables<'a>(
+fn config_file<'a>(
     rt: &(impl Abort + AllocGlobal),
     document: &'a Table,
-) -> Result<(), TableFault<'a>> {
-    let tables = read_tables(rt.alloc(), document)?; // else the first key that is at fault
-    holds(rt, tables.server.port == 2121 && tables.users.len() == 1);
+) -> Result<(), Fault<'a, KeyFault<'a>>> {
+    let tables = read_tables(rt.alloc(), document)?; // of a file with `port = 2121`
+    holds(rt, tables.server.port == 2121 && tables.server.lanes == 16);
+    holds(rt, rows_of(TableName::Dir).len() == 1); // its key `path`
     Ok(())
 }
 
 fn config_rates<'a>(
     rt: &(impl Abort + AllocGlobal),
     tables: &Tables<'a>,
-) -> Result<(), RowsFault<'a>> {
+) -> Result<(), Fault<'a, GroupProblem>> {
     let rows = read_rows(rt.alloc(), &tables.groups, &tables.users)?; // of a file
     let limits = limits_of(&tables.server, rows);
     holds(rt, limits.users().len() == 1); // of the one user, `ann`
@@ -57,7 +51,7 @@ fn config_users<'a>(
     rt: &(impl Abort + AllocGlobal),
     tables: &Tables<'a>,
     rows: &RateRows,
-) -> Result<(), UsersFault<'a>>
+) -> Result<(), Fault<'a, AuthorizerFault>>
     requires overrides { length tables.now.overrides.items ≡ length tables.now.users.items }
     requires rows { length rows.now.users.items ≡ length tables.now.users.items }
 {
@@ -70,10 +64,10 @@ fn config_users<'a>(
 fn config_store<'a>(
     rt: &(impl Abort + AllocGlobal),
     tables: &Tables<'a>,
-) -> Result<(), StoreFaultAt<'a>> {
+) -> Result<(), Fault<'a, StoreProblem>> {
     // the tables of a file with `root = "memory"`
     let store = make_store(rt.alloc(), &tables.server, &tables.dirs, &tables.files)?;
-    holds(rt, matches!(store, ServedStore::Memory(_))); // else a folder, by its path
+    holds(rt, matches!(store, ServedStore::Memory(_))); // otherwise a folder, by its path
     Ok(())
 }
 
@@ -111,7 +105,7 @@ fn warnings(rt: &(impl Abort + AllocGlobal), tables: &Tables<'_>) {
     );
 }
 
-/// What is made of the tables of a document.
+/// Makes all parts from the tables of a document.
 fn of_tables<'a>(rt: &(impl Abort + AllocGlobal), tables: &Tables<'a>)
     requires overrides { length tables.now.overrides.items ≡ length tables.now.users.items }
 {
@@ -125,8 +119,7 @@ fn of_tables<'a>(rt: &(impl Abort + AllocGlobal), tables: &Tables<'a>)
 #[test]
 fn examples(rt: HostRuntime) {
     let document = toml::table_from_str(rt.alloc(), SMALL).expect(&rt, "a document");
-    config_server(&rt, &document).expect(&rt, "a server");
-    config_tables(&rt, &document).expect(&rt, "tables");
+    config_file(&rt, &document).expect(&rt, "tables");
     let tables = read_tables(rt.alloc(), &document).expect(&rt, "tables");
     of_tables(&rt, &tables);
     server_config(&rt).expect(&rt, "a configuration");

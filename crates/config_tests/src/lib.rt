@@ -1,5 +1,5 @@
-//! Tests of the configuration: its keys, its tables, and what is made of them. What the program shows stands in
-//! `runs/configurations.toml`, its faults in `runs/faulty_configurations.toml`.
+//! Tests of the configuration: its tables, and the parts that are made of them. The output of the program for them is
+//! in `runs/configurations.toml`, its faults in `runs/faulty_configurations.toml`.
 #![tactic(auto)]
 
 #[cfg(test)]
@@ -10,7 +10,5 @@ mod documents;
 mod examples;
 #[cfg(test)]
 mod expect;
-#[cfg(test)]
-mod keys;
 #[cfg(test)]
 mod tables;

@@ -1,14 +1,14 @@
-//! What no clause says of a file's tables: that they are read, with each key's value and default.
+//! Parts of a file's tables that no clause covers: that they are read, with each key's value and default.
 
 use crate::documents::{FOLDER, MEMORY};
 use crate::expect::{same, shows};
-use config_tables::{Tables, UserTable, read_tables};
+use config_file::{Tables, UserTable, read_tables};
 use std::process::Abort;
 
-/// What a file states of a user: name, password, home, letters and messages; rates and floors; and the group.
+/// Keys of a user: name, password, home, letters and messages; rates and floors; and the group.
 type User = ([&'static str; 6], [u64; 6], Option<&'static str>);
 
-/// What the tables of a document state. Those that show as a text stand here as that.
+/// Values of the tables of a document. Those that show as a text are texts here.
 struct Stated {
     document: &'static str,
     version: u64,
@@ -21,7 +21,7 @@ struct Stated {
 }
 
 static STATED: [Stated; 2] = [
-    // defaults stand for what is not stated
+    // defaults for the keys that are not stated
     Stated {
         document: MEMORY,
         version: 1,
@@ -47,7 +47,7 @@ static STATED: [Stated; 2] = [
         dirs: "[DirTable { path: \"/in\" }]",
         files: "[FileTable { path: \"/f\", text: \"a\\nb\", modified: 951827696 }]",
     },
-    // each key is read; the password of `anonymous` is not
+    // each key is read but the password of `anonymous`
     Stated {
         document: FOLDER,
         version: 2,

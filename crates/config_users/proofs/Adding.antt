@@ -6,12 +6,12 @@ use Rattle.authorizer.specs.declared.fault.AuthorizerFault.{AuthorizerFault}
 use Rattle.authorizer.specs.Users.{Accounts}
 use Rattle.config_rates.specs.Groups.{group_in}
 use Rattle.config_rates.specs.Rows.{numbered, user_row, user_rows}
-use Rattle.config_tables.specs.declared.stated.GroupTable.{GroupTable}
-use Rattle.config_tables.specs.declared.stated.UserTable.{UserTable}
-use Rattle.config_tables.specs.declared.stated.OverrideTable.{OverrideTable}
+use Rattle.config_file.specs.declared.stated.GroupTable.{GroupTable}
+use Rattle.config_file.specs.declared.stated.UserTable.{UserTable}
+use Rattle.config_file.specs.declared.stated.OverrideTable.{OverrideTable}
 use Rattle.config_users.specs.Added.{AddsRule, AddsRules, AddsAccount, AddsUser, AddsUsers}
 use Rattle.line_rates.specs.declared.row.UserRate.{UserRate}
-use Rattle.config_users.specs.declared.fault.UsersFault.{UsersFault}
+use Rattle.config_file.specs.declared.fault.Fault.{Fault}
 
 -- ---- overrides
 
@@ -63,7 +63,7 @@ group_at groups users rows i other user are within is =
     ∙ ap (λ (u : UserTable). group_in groups u.group) (sym is)
 
 -- a user who was added with their overrides
-pub with_rules : (group : Option ℕ) (user : UserTable) (rules : List OverrideTable) (old mid new : Accounts) (answer : Result (Unit {0}) UsersFault)
+pub with_rules : (group : Option ℕ) (user : UserTable) (rules : List OverrideTable) (old mid new : Accounts) (answer : Result (Unit {0}) (Fault AuthorizerFault))
     → AddsAccount group user old mid → OnOk answer (AddsRules user.name.now rules mid new) → OnOk answer (AddsUser group user rules old new)
 with_rules group user rules old mid new (Ok done) is more = (mid, is, more)
 with_rules group user rules old mid new (Err fault) is more = tt

@@ -1,4 +1,4 @@
--- How the users of a file are added: in its order, each by the changes of users that the authorizer's calls stand for.
+-- The users of a file, added in its order, each by the calls of the authorizer.
 use Rattle.std.specs.Prelude.{◌≡◌, ◌⊎◌, ℕ, List, [], ◌∷◌, take, slice_get, Option, Some, Ok, Err, Vec}
 use Rattle.std.specs.declared.alloc.Global.{Global}
 use Rattle.authorizer.specs.Numbers.{no_users}
@@ -6,11 +6,11 @@ use Rattle.authorizer.specs.Users.{Accounts}
 use Rattle.authorizer.specs.declared.fault.AuthorizerFault.{AuthorizerFault}
 use Rattle.authorizer.specs.Changes.{added, overridden, with_messages, with_group}
 use Rattle.config_rates.specs.Groups.{group_in}
-use Rattle.config_tables.specs.declared.stated.GroupTable.{GroupTable}
-use Rattle.config_tables.specs.declared.stated.UserTable.{UserTable}
-use Rattle.config_tables.specs.declared.stated.OverrideTable.{OverrideTable}
-use Rattle.config_users.specs.declared.fault.UsersFault.{UsersFault}
-use Rattle.config_users.specs.declared.fault.UsersFault.TheVariants.{Refused, Memory}
+use Rattle.config_file.specs.declared.stated.GroupTable.{GroupTable}
+use Rattle.config_file.specs.declared.stated.UserTable.{UserTable}
+use Rattle.config_file.specs.declared.stated.OverrideTable.{OverrideTable}
+use Rattle.config_file.specs.declared.fault.TableName.TheVariants as TableName
+use Rattle.config_file.specs.Lists.{Place, row_at}
 
 -- an override of a user
 abbrev pub AddsRule : List ℕ → OverrideTable → Accounts → Accounts → Type 0
@@ -43,15 +43,16 @@ AddsUsers groups _ _ old new = ⊥
 -- ---- refusals
 
 -- the overrides before one are made, and that one is refused
-pub record IsRefusedRule (name : List ℕ) (rules : List OverrideTable) (old : Accounts) (fault : AuthorizerFault) : Type 0 where
+pub record IsRefusedRule (name : List ℕ) (rules : List OverrideTable) (old : Accounts) (at : Place) (fault : AuthorizerFault) : Type 0 where
   pub index : ℕ
   pub rule : OverrideTable
   pub mid : Accounts
   pub stands : slice_get rules index ≡ Some rule
   pub before : AddsRules name (take index rules) old mid
   pub refused : overridden mid name rule.path.now rule.perms.now rule.recursive ≡ Err fault
+  pub place : at ≡ row_at TableName.Override index (Some name)
 
--- a user is refused; or else the messages are; or else the group is
+-- a user is refused; or otherwise the messages; or otherwise the group
 abbrev pub IsRefusedAccount : Option ℕ → UserTable → Accounts → AuthorizerFault → Type 0
 IsRefusedAccount group user old fault =
     (added old user.name.now user.password.now user.home.now user.perms.now ≡ Err fault)
@@ -60,13 +61,14 @@ IsRefusedAccount group user old fault =
     ⊎ ((greeted : Accounts) × (with_messages named user.name.now user.msg_login.now user.msg_quit.now ≡ Ok greeted)
     × (with_group greeted user.name.now group ≡ Err fault))))
 
--- the user is refused, or else an override is
-abbrev pub IsRefusedUser : Option ℕ → UserTable → List OverrideTable → Accounts → AuthorizerFault → Type 0
-IsRefusedUser group user rules old fault =
-    IsRefusedAccount group user old fault ⊎ ((next : Accounts) × AddsAccount group user old next × IsRefusedRule user.name.now rules next fault)
+-- the user at an index is refused, or otherwise one of their overrides
+abbrev pub IsRefusedUser : ℕ → Option ℕ → UserTable → List OverrideTable → Accounts → Place → AuthorizerFault → Type 0
+IsRefusedUser index group user rules old place fault =
+    ((place ≡ row_at TableName.User index (Some user.name.now)) × IsRefusedAccount group user old fault)
+    ⊎ ((next : Accounts) × AddsAccount group user old next × IsRefusedRule user.name.now rules next place fault)
 
 -- the users before one are added, and that one is refused
-pub record IsFirstRefusal (groups : List GroupTable) (users : List UserTable) (overrides : List (Vec OverrideTable Global)) (fault : AuthorizerFault) : Type 0 where
+pub record IsFirstRefusal (groups : List GroupTable) (users : List UserTable) (overrides : List (Vec OverrideTable Global)) (at : Place) (fault : AuthorizerFault) : Type 0 where
   pub index : ℕ
   pub user : UserTable
   pub rules : Vec OverrideTable Global
@@ -74,9 +76,4 @@ pub record IsFirstRefusal (groups : List GroupTable) (users : List UserTable) (o
   pub stands : slice_get users index ≡ Some user
   pub has : slice_get overrides index ≡ Some rules
   pub before : AddsUsers groups (take index users) (take index overrides) no_users mid
-  pub refused : IsRefusedUser (group_in groups user.group) user rules.items mid fault
-
--- the refusal of the authorizer is told, unless memory ran out
-abbrev pub Tells : (AuthorizerFault → Type 0) → UsersFault → Type 0
-Tells Refuses (Refused header fault) = Refuses fault
-Tells Refuses Memory = Unit {0}
+  pub refused : IsRefusedUser index (group_in groups user.group) user rules.items mid at fault

@@ -7,8 +7,6 @@
 //! ```
 #![tactic(auto)]
 
-mod fault;
 mod users;
 
-pub use fault::UsersFault;
 pub use users::make_users;

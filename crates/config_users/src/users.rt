@@ -1,39 +1,40 @@
 //! An authorizer with the users of a file.
 
-ghost use Rattle.std.specs.Prelude.{◌≡◌, ◌≢◌, Err, IfErr, IfOk, OnOk, List, length};
+ghost use Rattle.std.specs.Prelude.{◌≡◌, ◌≢◌, ◌<◌, ◌^◌, Err, Some, IfErr, IfOk, OnOk, List, length};
 ghost use Rattle.memory_terms.specs.Lack.{Unless};
 ghost use Rattle.authorizer.specs.Numbers.{no_users};
 ghost use Rattle.config_rates.specs.Rows.{user_rows};
-ghost use Rattle.config_tables.specs.declared.stated.GroupTable.{GroupTable};
+ghost use Rattle.config_file.specs.declared.stated.GroupTable.{GroupTable};
 ghost use Rattle.config_users.specs.Added.{AddsRule, AddsRules, AddsAccount, AddsUser, AddsUsers};
 ghost use Rattle.authorizer.specs.declared.fault.AuthorizerFault.TheVariants as AuthorizerFault;
-ghost use Rattle.config_users.specs.Added.{IsRefusedRule, IsRefusedAccount, IsRefusedUser, IsFirstRefusal, Tells};
+ghost use Rattle.config_users.specs.Added.{IsRefusedRule, IsRefusedAccount, IsRefusedUser, IsFirstRefusal};
+ghost use Rattle.config_file.specs.Lists.{FaultIs, row_at};
 ghost use Rattle.authorizer.specs.Changes.{overridden};
 
-use crate::fault::UsersFault;
 use authorizer::{Authorizer, AuthorizerFault};
-use config_tables::{Header, OverrideTable, TableName, UserTable};
+use config_file::{Fault, Header, OverrideTable, TableName, UserTable};
 use line_rates::UserRate;
 use std::alloc::Global;
 
-/// The refusal of a row, whose number among those of its kind counts from 0.
+/// The refusal of the row at an index of its list, from 0.
 fn refused<'a>(
     table: TableName,
     index: usize,
     name: &'a str,
     fault: AuthorizerFault,
-) -> UsersFault<'a>
-    ensures told { Tells (λ told. (told ≡ fault) × (fault ≢ AuthorizerFault.Memory)) result }
+) -> Fault<'a, AuthorizerFault>
+    requires within { index < 2 ^ 63 }
+    ensures told { FaultIs (λ place told. (place ≡ row_at table index (Some name.now))
+        × (told ≡ fault) × (fault ≢ AuthorizerFault.Memory)) result }
 {
     if fault == AuthorizerFault::Memory {
-        return UsersFault::Memory;
+        return Fault::Memory;
     }
-    let header = Header {
-        table,
-        row: index.saturating_add(1),
-        name: Some(name),
-    };
-    UsersFault::Refused { header, fault }
+    let header = Header::row(table, index, Some(name));
+    Fault::At {
+        header,
+        problem: fault,
+    }
 }
 
 /// Adds a user with their messages and their group, and no override yet.
@@ -65,9 +66,9 @@ fn add_rules<'a>(
     users: &mut Authorizer,
     name: &'a str,
     rules: &[OverrideTable<'a>],
-) -> Result<(), UsersFault<'a>>
+) -> Result<(), Fault<'a, AuthorizerFault>>
     ensures rules { OnOk result (AddsRules name.now rules.now users.old users.new) }
-    ensures refused { IfErr result (Tells (IsRefusedRule name.now rules.now users.old)) }
+    ensures refused { IfErr result (FaultIs (IsRefusedRule name.now rules.now users.old)) }
 {
     for (index, rule) in rules.iter().enumerate() {
         match add_rule(users, name, rule) {
@@ -78,16 +79,18 @@ fn add_rules<'a>(
     Ok(())
 }
 
-/// Adds a user, who stands at an index of the file, with all that is theirs.
+/// Adds the user at an index of the file, with all that is theirs.
 fn add_user<'a>(
     users: &mut Authorizer,
     index: usize,
     user: &UserTable<'a>,
     rules: &[OverrideTable<'a>],
     group: Option<u32>,
-) -> Result<(), UsersFault<'a>>
+) -> Result<(), Fault<'a, AuthorizerFault>>
+    requires within { index < 2 ^ 63 }
     ensures user { OnOk result (AddsUser group user.now rules.now users.old users.new) }
-    ensures refused { IfErr result (Tells (IsRefusedUser group user.now rules.now users.old)) }
+    ensures refused { IfErr result
+        (FaultIs (IsRefusedUser index group user.now rules.now users.old)) }
 {
     match add_account(users, user, group) {
         Ok(()) => add_rules(users, user.name, rules),
@@ -95,20 +98,20 @@ fn add_user<'a>(
     }
 }
 
-/// An authorizer with these users, who are added in the order of the file, each with their overrides; their groups stand
-/// in their rows of rates. `Err` is the first refusal, or want of memory.
+/// An authorizer with these users, who are added in the order of the file, each with their overrides; their groups are those
+/// of their rows of rates. `Err` is the first refusal, with the row of the user or of the override, or lack of memory.
 pub fn make_users<'a>(
     alloc: Global,
     users: &[UserTable<'a>],
     overrides: &[Vec<OverrideTable<'a>>],
     rows: &[UserRate],
-) -> Result<Authorizer, UsersFault<'a>>
+) -> Result<Authorizer, Fault<'a, AuthorizerFault>>
     requires overrides { length overrides.now ≡ length users.now }
     requires rows { length rows.now ≡ length users.now }
     ensures users { (groups : List GroupTable) → rows.now ≡ user_rows groups users.now
         → IfOk result (AddsUsers groups users.now overrides.now no_users) }
     ensures refused { (groups : List GroupTable) → rows.now ≡ user_rows groups users.now
-        → IfErr result (Tells (IsFirstRefusal groups users.now overrides.now)) }
+        → IfErr result (FaultIs (IsFirstRefusal groups users.now overrides.now)) }
 {
     let mut authorizer = Authorizer::new(alloc)?;
     for (index, user) in users.iter().enumerate() {

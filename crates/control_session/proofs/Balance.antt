@@ -1,21 +1,21 @@
 -- A session that has the floors for itself leaves them as they were, however it ends.
 use Rattle.std.proofs.Common.{ℕ, ◌≡◌, ◌⊎◌, inl, inr, List, [], ◌∷◌, ◌++◌, Option, Some, None, Result, refl, sym, ap, subst, append_assoc, ◌∙◌}
-use Rattle.data_side.specs.Sides.{Given}
-use Rattle.data_side.specs.Sides.SideCall.{Looks, Settles}
+use Rattle.control_session.specs.Sides.{Given}
+use Rattle.control_session.specs.Sides.SideCall.{Looks, Settles}
 use Rattle.rate_floors.specs.Promises.{Promises, after_release, counted}
 use Rattle.session_core.specs.declared.events.DataEvent.{DataEvent}
-use Rattle.session_laws.specs.Laws.{logged_in, releases}
-use Rattle.session_laws.specs.Steps.{Standing}
+use Rattle.session_table.specs.Laws.{logged_in, releases}
+use Rattle.session_table.specs.Steps.{Standing}
 use Rattle.session_table.specs.declared.actions.Action.{Action}
 use Rattle.session_table.specs.declared.actions.Action.TheVariants.{Say, Hook, OpenPassive, ConnectTo, DropData, Start, Abort, CloseControl, ReleaseFloor}
-use Rattle.control_turns.specs.Calls.{Chain, HostCall}
-use Rattle.control_turns.specs.Calls.HostCall.{Asked, Lent, Released}
-use Rattle.control_turns.specs.Rows.{Outcome}
-use Rattle.control_turns.specs.Rows.Outcome.{Made}
-use Rattle.control_turns.specs.Turns.{Carried, Carries, IsTurn, Move, Runs, Situation, Went, concat, release_calls}
-use Rattle.control_turns.specs.Turns.Move.{Takes, Tries, Asks, Reads, Ends, Fails, Pays}
-use Rattle.control_turns.specs.declared.fault.TurnFault.{TurnFault}
-use Rattle.control_turns.specs.declared.fault.TurnFault.TheVariants.{Write, Memory}
+use Rattle.control_session.specs.Calls.{Chain, HostCall}
+use Rattle.control_session.specs.Calls.HostCall.{Asked, Lent, Released}
+use Rattle.control_session.specs.Rows.{Outcome}
+use Rattle.control_session.specs.Rows.Outcome.{Made}
+use Rattle.control_session.specs.Turns.{Carried, Carries, IsTurn, Move, Runs, Situation, Went, concat, release_calls}
+use Rattle.control_session.specs.Turns.Move.{Takes, Tries, Asks, Reads, Ends, Fails, Pays}
+use Rattle.control_session.specs.declared.turn_fault.TurnFault.{TurnFault}
+use Rattle.control_session.specs.declared.turn_fault.TurnFault.TheVariants.{Write, Memory}
 use Rattle.control_session.specs.Floors.{FloorsBy, HasFloors}
 use Rattle.control_session.specs.Sessions.{IsSession}
 use Rattle.control_session.specs.declared.fault.ControlFault.{ControlFault}

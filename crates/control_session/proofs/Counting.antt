@@ -5,32 +5,25 @@ use Rattle.std.proofs.lemmas.Bool.Decides.{nat_tests}
 use Rattle.std.proofs.lemmas.List.{append-nil}
 use Rattle.std.specs.FinMap as finite
 use Rattle.std.specs.Prelude.{nat_eq, nat_lt, unwrap_or}
-use Rattle.authorizer.specs.Changes.{is_password}
 use Rattle.authorizer.specs.Users.{Users}
-use Rattle.data_side.specs.Sides.{Given}
-use Rattle.ftp_wire.specs.Items.{Item}
-use Rattle.ftp_wire.specs.declared.commands.Command.TheVariants as command
+use Rattle.control_session.specs.Sides.{Given}
 use Rattle.line_rates.proofs.RowLemmas.{first_row, get-by_number}
 use Rattle.rate_floors.specs.Promises.{Promises, admits, after_release, changed, counted, has_counted, has_session, one_less, one_more, released, user_key, user_of, with_sessions}
 use Rattle.rate_floors.specs.declared.find.UserSessions.{UserSessions}
-use Rattle.session_core.specs.Counted.{counted_by_command, counted_by_item, counted_by_step, counted_by_turn}
-use Rattle.session_laws.proofs.Inputs.{floors_are_released_once}
-use Rattle.session_laws.specs.Always.{Always}
-use Rattle.session_laws.specs.Laws.{FloorsAreReleasedOnce, Releases, admitted_by, admitted_in, logged_in, releases}
-use Rattle.session_laws.specs.Steps.{Standing, in_its_turn, serves_lines}
-use Rattle.session_login.specs.Counted.{counted_once}
-use Rattle.session_table.specs.Commands.{Line}
+use Rattle.session_table.proofs.InputLaws.{floors_are_released_once}
+use Rattle.session_table.specs.Always.{Always}
+use Rattle.session_table.specs.Laws.{FloorsAreReleasedOnce, Releases, logged_in, releases}
+use Rattle.session_table.specs.Steps.{Standing}
 use Rattle.session_table.specs.Plans.{Plan, Ran}
-use Rattle.session_table.specs.Plans.Plan.{Then, WithLine, WithLines, AskStat, AskList, AskOpenRead, AskOpenWrite, AskFinish, AskMakeDir, AskRemoveDir, AskRemoveFile, AskRename}
-use Rattle.session_table.specs.StateRows.{if_right_at, number_of}
-use Rattle.session_table.specs.Table.{SessionStep}
+use Rattle.session_table.specs.Plans.Plan.{Then, WithLine, WithLines, Ask, AskAdmit}
+use Rattle.session_table.specs.Table.{SessionStep, table}
 use Rattle.session_table.specs.Views.{View, is_closed, is_inside}
 use Rattle.session_table.specs.declared.actions.Action.{Action}
 use Rattle.session_table.specs.declared.inputs.Input.{Input}
 use Rattle.session_table.specs.declared.stages.Stage.{Stage}
 use Rattle.session_table.specs.declared.stages.Stage.TheVariants as stage
 use Rattle.virtual_tree.specs.Calls.{Exchange}
-use Rattle.control_turns.specs.Rows.{IsMade}
+use Rattle.control_session.specs.Rows.{IsMade}
 
 -- ---- one more session of a user, and one less
 
@@ -136,127 +129,59 @@ abbrev pub counts : List ℕ → Promises → Promises
 counts [] p = p
 counts (user ∷ users) p = counted (counts users p) user
 
--- ---- what a step counts
-
-abbrev count_of : Option ℕ → Promises → Promises
-count_of None p = p
-count_of (Some user) p = counted p user
-
-once : (b : Bool) (user : ℕ) (p : Promises) → cond b (counted p user) p ≡ count_of (cond b (Some user) None) p
-once true user p = refl
-once false user p = refl
-
-module _ (users : Users) (view : View) (p : Promises) where
-  abbrev user : ℕ
-  user = number_of users view.name
-
-  pass_counts : (password : List ℕ) → counted_by_command users view (command.Pass (Some password)) p ≡ count_of (admitted_by users (admits p) view (Some (Ok (command.Pass (Some password))))) p
-  pass_counts password = by view.stage (is_password users view.name password)
-    where
-      by : (now : Stage) (right : Bool) → if_right_at now right (counted_once p user) p ≡ count_of (if_right_at now right (cond (admits p user) (Some user) None) None) p
-      by stage.Greeted right = refl
-      by stage.Named true = once (admits p user) user p
-      by stage.Named false = refl
-      by stage.Inside right = refl
-      by stage.Closed right = refl
-
-  command_counts : (line : Line) → counted_by_command users view line p ≡ count_of (admitted_by users (admits p) view (Some (Ok line))) p
-  command_counts (command.User text) = refl
-  command_counts (command.Pass (Some text)) = pass_counts text
-  command_counts (command.Pass None) = pass_counts []
-  command_counts (command.Cwd text) = refl
-  command_counts command.Cdup = refl
-  command_counts command.Quit = refl
-  command_counts command.Rein = refl
-  command_counts (command.SetType wanted) = refl
-  command_counts command.Mode = refl
-  command_counts command.Stru = refl
-  command_counts (command.Port to) = refl
-  command_counts (command.Eprt to) = refl
-  command_counts command.Pasv = refl
-  command_counts (command.Epsv wanted) = refl
-  command_counts (command.Retr text) = refl
-  command_counts (command.Stor text) = refl
-  command_counts (command.Appe text) = refl
-  command_counts (command.Rest offset) = refl
-  command_counts (command.Rnfr text) = refl
-  command_counts (command.Rnto text) = refl
-  command_counts command.Abor = refl
-  command_counts (command.Dele text) = refl
-  command_counts (command.Rmd text) = refl
-  command_counts (command.Mkd text) = refl
-  command_counts command.Pwd = refl
-  command_counts (command.Size text) = refl
-  command_counts (command.Mdtm text) = refl
-  command_counts (command.List text) = refl
-  command_counts (command.Nlst text) = refl
-  command_counts (command.Mlsd text) = refl
-  command_counts (command.Mlst text) = refl
-  command_counts (command.Stat text) = refl
-  command_counts (command.Opts option) = refl
-  command_counts command.Feat = refl
-  command_counts (command.Allo text) = refl
-  command_counts command.Syst = refl
-  command_counts (command.Help text) = refl
-  command_counts command.Noop = refl
-
-  turn_counts : (item : Option Item) → counted_by_turn users view item p ≡ count_of (admitted_by users (admits p) view item) p
-  turn_counts None = refl
-  turn_counts (Some (Err why)) = refl
-  turn_counts (Some (Ok line)) = command_counts line
-
-  step_counts : {A K : Type 0} (held : List Item) (told : Input A K) → counted_by_step users view held told p ≡ count_of (admitted_in users (admits p) view held told) p
-  step_counts held told = by (serves_lines view)
-    where
-      by : (serves : Bool) → cond serves (counted_by_turn users view (in_its_turn told held) p) p ≡ count_of (cond serves (admitted_by users (admits p) view (in_its_turn told held)) None) p
-      by true = turn_counts (in_its_turn told held)
-      by false = refl
-
 -- ---- what a row counts and asks to release
 
--- a plan that ran has ended in one of its ways
-ran_ends : {S A R K : Type 0} (Step : S → Exchange R K → S → Type 0) (Calls : Exchange R K → Type 0) (Ends : View → List (Action A R K) → Type 0)
-    (plan : Plan A R K) (old new : S) (view : View) (actions : List (Action A R K))
-    → Always Calls Ends plan → Ran Step plan old new view actions → Ends view actions
-ran_ends Step Calls Ends (Then v ways) old new view actions is (same, v_is, same_actions) =
-    subst (λ (x : View). Ends x actions) (sym v_is) (subst (λ (x : List (Action _ _ _)). Ends v x) (sym same_actions) is)
-ran_ends Step Calls Ends (WithLine told next) old new view actions is (line, telling, ran) = ran_ends Step Calls Ends (next line) old new view actions (is line) ran
-ran_ends Step Calls Ends (WithLines told next) old new view actions is (lines, telling, ran) = ran_ends Step Calls Ends (next lines) old new view actions (is lines) ran
-ran_ends Step Calls Ends (AskStat path next) old new view actions is (answer, mid, step, ran) = ran_ends Step Calls Ends (next answer) mid new view actions (is answer).1 ran
-ran_ends Step Calls Ends (AskList path next) old new view actions is (answer, mid, step, ran) = ran_ends Step Calls Ends (next answer) mid new view actions (is answer).1 ran
-ran_ends Step Calls Ends (AskOpenRead path offset next) old new view actions is (answer, mid, step, ran) = ran_ends Step Calls Ends (next answer) mid new view actions (is answer).1 ran
-ran_ends Step Calls Ends (AskOpenWrite path mode moment next) old new view actions is (answer, mid, step, ran) = ran_ends Step Calls Ends (next answer) mid new view actions (is answer).1 ran
-ran_ends Step Calls Ends (AskFinish sink moment next) old new view actions is (answer, mid, step, ran) = ran_ends Step Calls Ends (next answer) mid new view actions (is answer).1 ran
-ran_ends Step Calls Ends (AskMakeDir path next) old new view actions is (answer, mid, step, ran) = ran_ends Step Calls Ends (next answer) mid new view actions (is answer).1 ran
-ran_ends Step Calls Ends (AskRemoveDir path next) old new view actions is (answer, mid, step, ran) = ran_ends Step Calls Ends (next answer) mid new view actions (is answer).1 ran
-ran_ends Step Calls Ends (AskRemoveFile path next) old new view actions is (answer, mid, step, ran) = ran_ends Step Calls Ends (next answer) mid new view actions (is answer).1 ran
-ran_ends Step Calls Ends (AskRename from to next) old new view actions is (answer, mid, step, ran) = ran_ends Step Calls Ends (next answer) mid new view actions (is answer).1 ran
+-- a plan that ran has ended in one of its ways, and those who were admitted are counted then
+ran_ends : {S A R K : Type 0} (Step : S → Exchange R K → S → Type 0) (Ends : List ℕ → View → List (Action A R K) → Type 0)
+    (plan : Plan A R K) (old new : S) (first p p' : Promises) (admitted : List ℕ) (view : View) (actions : List (Action A R K))
+    → p ≡ counts admitted first → Always (λ call. Unit {0}) (λ user. Unit {0}) Ends admitted plan → Ran Step plan old new p p' view actions
+    → (users : List ℕ) × (p' ≡ counts users first) × Ends users view actions
+ran_ends Step Ends (Then v ways) old new first p p' admitted view actions counted_is is (same, p'_is, v_is, same_actions) =
+    (admitted, p'_is ∙ counted_is, subst (λ (x : View). Ends admitted x actions) (sym v_is) (subst (λ (x : List (Action _ _ _)). Ends admitted v x) (sym same_actions) is))
+ran_ends Step Ends (WithLine told next) old new first p p' admitted view actions counted_is is (line, telling, ran) = ran_ends Step Ends (next line) old new first p p' admitted view actions counted_is (is line) ran
+ran_ends Step Ends (WithLines told next) old new first p p' admitted view actions counted_is is (lines, telling, ran) = ran_ends Step Ends (next lines) old new first p p' admitted view actions counted_is (is lines) ran
+ran_ends Step Ends (Ask call next) old new first p p' admitted view actions counted_is is (answer, mid, step, ran) = ran_ends Step Ends (next answer) mid new first p p' admitted view actions counted_is (is.1 answer) ran
+ran_ends {A = A} {R = R} {K = K} Step Ends (AskAdmit user next) old new first p p' admitted view actions counted_is is ran =
+    by (admits p user) (λ q q_is fits. ran_ends Step Ends (next true) old new first q p' (user ∷ admitted) view actions q_is fits)
+    (λ q q_is fits. ran_ends Step Ends (next false) old new first q p' admitted view actions q_is fits) ran
+  where
+    Goal : Type 0
+    Goal = (users : List ℕ) × (p' ≡ counts users first) × Ends users view actions
+
+    Fits : Bool → List ℕ → Type 0
+    Fits fits users = Always (λ call. Unit {0}) (λ user. Unit {0}) Ends users (next fits)
+
+    by : (fits : Bool) → ((q : Promises) → q ≡ counts (user ∷ admitted) first → Fits true (user ∷ admitted) → Ran Step (next true) old new q p' view actions → Goal)
+        → ((q : Promises) → q ≡ counts admitted first → Fits false admitted → Ran Step (next false) old new q p' view actions → Goal)
+        → Ran Step (next fits) old new (cond fits (counted p user) p) p' view actions → Goal
+    by true then otherwise ran = then (counted p user) (ap (λ (q : Promises). counted q user) counted_is) is.1 ran
+    by false then otherwise ran = otherwise p counted_is is.2 ran
 
 -- more users are counted; they and those who were logged in are those that are released and those who are logged in then
 abbrev pub Balanced : List ℕ → Promises → Promises → List ℕ → List ℕ → Type 0
 Balanced before p p' released after = (more : List ℕ) × (p' ≡ counts more p) × (more ++ before ≡ released ++ after)
 
-balanced : (admitted : Option ℕ) (before released after : List ℕ) (p p' : Promises) → Releases admitted before released after → p' ≡ count_of admitted p → Balanced before p p' released after
-balanced (Some user) before released after p p' (nobody, none, only) is =
+balanced : (admitted before released after : List ℕ) (p p' : Promises) → Releases admitted before released after → p' ≡ counts admitted p → Balanced before p p' released after
+balanced (user ∷ []) before released after p p' (nobody, none, only) is =
     (user ∷ [], is, ap (λ (l : List ℕ). user ∷ l) nobody ∙ sym (ap (λ (l : List ℕ). l ++ after) none ∙ only))
-balanced None before released after p p' (inl (none, same)) is = ([], is, sym (ap (λ (l : List ℕ). l ++ after) none ∙ same))
-balanced None before released after p p' (inr (all, gone)) is = ([], is, sym (ap (λ (l : List ℕ). released ++ l) gone ∙ (append-nil released ∙ all)))
+balanced (user ∷ other ∷ others) before released after p p' impossible is = absurd impossible
+balanced [] before released after p p' (inl (none, same)) is = ([], is, sym (ap (λ (l : List ℕ). l ++ after) none ∙ same))
+balanced [] before released after p p' (inr (all, gone)) is = ([], is, sym (ap (λ (l : List ℕ). released ++ l) gone ∙ (append-nil released ∙ all)))
 
 module _ {S A R K : Type 0} (Step : S → Exchange R K → S → Type 0) (users : Users) where
-  step_releases : (law : FloorsAreReleasedOnce A R K) (admits' : ℕ → Bool) (before after : Standing) (moment : ℕ) (told : Input A K) (old new : S) (actions : List (Action A R K))
-      → SessionStep Step users admits' before.view before.held moment told old new after.view after.held actions
-      → Releases (admitted_in users admits' before.view before.held told) (logged_in before.view) (releases actions) (logged_in after.view)
+  step_balances : (law : FloorsAreReleasedOnce A R K) (before after : Standing) (moment : ℕ) (told : Input A K) (old new : S) (p p' : Promises) (actions : List (Action A R K))
+      → SessionStep Step users before.view before.held moment told old new p p' after.view after.held actions
+      → Balanced (logged_in before.view) p p' (releases actions) (logged_in after.view)
   unfolding SessionStep FloorsAreReleasedOnce
-  step_releases law admits' before after moment told old new actions (ran, held_is) =
-      ran_ends Step (λ exchange. Unit {0}) (λ then actions. Releases (admitted_in users admits' before.view before.held told) (logged_in before.view) (releases actions) (logged_in then))
-      _ old new after.view actions (law users admits' before.view before.held moment told) ran
+  step_balances law before after moment told old new p p' actions (ran, held_is) =
+      let ended = ran_ends Step (λ admitted then actions. Releases admitted (logged_in before.view) (releases actions) (logged_in then))
+      (table {A = A} {R = R} {K = K} users before.view before.held moment told).plan old new p p p' [] after.view actions refl (law users before.view before.held moment told) ran in
+      balanced ended.0 (logged_in before.view) (releases actions) (logged_in after.view) p p' ended.2 ended.1
 
   pub row_balances : (before after : Standing) (given : Given K) (moment : ℕ) (store store' : S) (p p' : Promises) (actions : List (Action A R K))
       → IsMade Step users before given moment store store' p p' after actions → Balanced (logged_in before.view) p p' (releases actions) (logged_in after.view)
   row_balances before after given moment store store' p p' actions row =
-      balanced (admitted_in users (admits p) before.view before.held row.told) _ _ _ p p'
-      (step_releases (floors_are_released_once A R K) (admits p) before after moment row.told store store' actions row.stepped)
-      (row.counted ∙ step_counts users before.view p before.held row.told)
+      step_balances (floors_are_released_once A R K) before after moment row.told store store' p p' actions row.stepped
 
 -- nobody is logged in where the control connection is gone
 pub gone_counts : (view : View) → is_closed view.stage ≡ true → logged_in view ≡ []

@@ -5,10 +5,10 @@ use Rattle.std.proofs.lemmas.List.{append-nil}
 use Rattle.ftp_wire.specs.Items.{Item}
 use Rattle.ftp_wire.specs.Reading.{HasRead}
 use Rattle.ftp_wire.specs.declared.reader.LineReader.{LineReader}
-use Rattle.control_turns.specs.Standing.{IsLost}
-use Rattle.control_turns.specs.Turns.{Heard}
-use Rattle.control_turns.specs.declared.fault.TurnFault.{TurnFault}
-use Rattle.control_turns.specs.declared.fault.TurnFault.TheVariants as turn
+use Rattle.control_session.specs.Standing.{IsLost}
+use Rattle.control_session.specs.Turns.{Heard}
+use Rattle.control_session.specs.declared.turn_fault.TurnFault.{TurnFault}
+use Rattle.control_session.specs.declared.turn_fault.TurnFault.TheVariants as turn
 use Rattle.control_session.specs.Sessions.{IsLostTo, fault_of}
 use Rattle.control_session.specs.declared.fault.ControlFault.{ControlFault}
 use Rattle.control_session.specs.declared.fault.ControlFault.TheVariants.{ReadFault, WriteFault, Memory}

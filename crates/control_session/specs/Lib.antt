@@ -1,6 +1,9 @@
+pub mod Calls
+pub mod Rows
+pub mod Standing
+pub mod Turns
+pub use Rattle.session_table.specs.Steps
+pub mod Sides
+pub mod Told
 pub mod Floors
 pub mod Sessions
-pub use Rattle.control_turns.specs.Calls
-pub use Rattle.control_turns.specs.Rows
-pub use Rattle.control_turns.specs.Standing
-pub use Rattle.control_turns.specs.Turns

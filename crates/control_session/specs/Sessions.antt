@@ -1,20 +1,20 @@
 -- A whole control session, from its greeting to its close, however it ends.
 use Rattle.std.specs.Prelude.{ℕ, ◌≡◌, ◌⊎◌, ◌≤◌, List, [], ◌++◌, Bool, false, true, Option, Some, None, Result, Err, IfErr, OnOk, OnErr, IsErrOf}
-use Rattle.data_side.specs.Sides.{Given}
+use Rattle.control_session.specs.Sides.{Given}
 use Rattle.ftp_wire.specs.Reading.{OnlyReadsAs}
 use Rattle.rate_floors.specs.Promises.{Promises}
-use Rattle.session_laws.specs.Steps.{Standing}
+use Rattle.session_table.specs.Steps.{Standing}
 use Rattle.session_table.specs.Plans.Plan.{Then}
 use Rattle.session_table.specs.StateRows.{greeting}
 use Rattle.session_table.specs.Views.{fresh, is_closed}
 use Rattle.session_table.specs.declared.actions.Action.{Action}
 use Rattle.session_table.specs.declared.settings.Settings.{Settings}
-use Rattle.control_turns.specs.Calls.{Chain, HostCall}
-use Rattle.control_turns.specs.Rows.{Outcome}
-use Rattle.control_turns.specs.Standing.{AllTaken, Closing}
-use Rattle.control_turns.specs.Turns.{Carries, Heard, Situation, Went, at}
-use Rattle.control_turns.specs.declared.fault.TurnFault.{TurnFault}
-use Rattle.control_turns.specs.declared.fault.TurnFault.TheVariants as turn
+use Rattle.control_session.specs.Calls.{Chain, HostCall}
+use Rattle.control_session.specs.Rows.{Outcome}
+use Rattle.control_session.specs.Standing.{AllTaken, Closing}
+use Rattle.control_session.specs.Turns.{Carries, Heard, Situation, Went, at}
+use Rattle.control_session.specs.declared.turn_fault.TurnFault.{TurnFault}
+use Rattle.control_session.specs.declared.turn_fault.TurnFault.TheVariants as turn
 use Rattle.control_session.specs.declared.fault.ControlFault.{ControlFault}
 use Rattle.control_session.specs.declared.fault.ControlFault.TheVariants.{ReadFault, WriteFault, Memory}
 
@@ -24,24 +24,28 @@ new_session settings peer = record { view = fresh settings peer; held = [] }
 
 -- nothing was heard yet
 abbrev pub nothing : Heard
-nothing = record { octets = []; items = []; reads = 0; ended = false; failed = false; asked = false }
+nothing =
+    record { octets = []; items = []; reads = 0; ended = false; failed = false; asked = false }
 
--- why a turn breaks off, as why a session does
+-- the fault of a session after a fault of a turn
 abbrev pub fault_of : TurnFault → ControlFault
 fault_of turn.Write = WriteFault
 fault_of turn.Memory = Memory
 
--- a session breaks off by WriteFault only where a reply could not be written
+-- a session breaks off with WriteFault only if a reply could not be written
 abbrev pub IsLostTo : Option TurnFault → ControlFault → Type 0
 IsLostTo lost WriteFault = lost ≡ Some turn.Write
 IsLostTo lost ReadFault = Unit {0}
 IsLostTo lost Memory = Unit {0}
 
--- Row says which rows there are, Does what each call makes of the host; the session may make so many reads.
-module _ {H A S R K T : Type 0} (Row : Standing → Given K → ℕ → S → S → Promises → Outcome A R K → Type 0) (Does : H → HostCall A S R K → H → Type 0)
+-- Row is the relation of rows, Does the effect of each call on the host; the session may make
+-- `turns` reads.
+module _ {H A S R K T : Type 0}
+    (Row : Standing → Given K → ℕ → S → S → Promises → Outcome A R K → Type 0)
+    (Does : H → HostCall A S R K → H → Type 0)
     (turns : ℕ) (result : Result T ControlFault) (session : Standing) (host host' : H) where
-  -- The greeting is said; then there are moves, each with what was asked of the host for it, in this order, up to where the
-  -- session stood when it was over; then its end.
+  -- The greeting is written; then there are moves, each with its calls of the host, in this order,
+  -- up to the last situation; then the end.
   pub record IsSession : Type 0 where
     pub actions : List (Action A R K)
     pub said : List (HostCall A S R K)
@@ -55,22 +59,26 @@ module _ {H A S R K T : Type 0} (Row : Standing → Given K → ℕ → S → S 
     pub greeted : Chain Does host said mid
     pub went : Went Row Does mid (at session None [] nothing [] false lost) turned stood
     pub closing : Closing Row Does turned stood host' last
-    -- the session is closed, what came of the data side was given to it, and each floor was released
+    -- the session is closed, the events of the data side were given to it, and each floor was
+    -- released
     pub closed_then : is_closed last.session.view.stage ≡ true
     pub answered : last.came ≡ None
     pub paid : last.owed ≡ []
-    -- what was heard stands for the lines that were found, and, after a fault, there may be octets behind them
+    -- the octets heard read as the lines that were found; after a fault more octets may follow them
     pub heard : OnOk result (OnlyReadsAs last.heard.octets last.heard.items)
-    pub cut : OnErr result ((fed unfed : List ℕ) × (last.heard.octets ≡ fed ++ unfed) × OnlyReadsAs fed last.heard.items)
-    -- all of them were taken, up to one that closed the control connection or to the end
-    pub all : OnOk result ((last.closed ≡ true) ⊎ ((last.heard.ended ≡ true) × AllTaken last.taken last.heard))
-    -- each reply was said, and memory ran out for no step
+    pub cut : OnErr result ((fed unfed : List ℕ) × (last.heard.octets ≡ fed ++ unfed)
+        × OnlyReadsAs fed last.heard.items)
+    -- all lines were taken, up to one that closed the control connection or to the end
+    pub all : OnOk result ((last.closed ≡ true)
+        ⊎ ((last.heard.ended ≡ true) × AllTaken last.taken last.heard))
+    -- each reply was written, and memory ran out for no step
     pub whole : OnOk result (last.lost ≡ None)
     pub reads : last.heard.reads ≤ turns
-    pub read_fault : IsErrOf result ReadFault → (last.heard.failed ≡ true) ⊎ (last.heard.reads ≡ turns)
+    pub read_fault : IsErrOf result ReadFault → (last.heard.failed ≡ true)
+        ⊎ (last.heard.reads ≡ turns)
     pub lost_to : IfErr result (IsLostTo last.lost)
 
-  -- there was no memory to begin, and nothing was asked of the host
+  -- there was no memory to begin, and no call of the host was made
   abbrev pub IsUnserved : Type 0
   IsUnserved = IsErrOf result Memory × (host' ≡ host)
 

@@ -1,16 +1,16 @@
-//! Why a control session breaks off.
+//! Faults of a control session.
 
 ghost use Rattle.std.specs.Prelude.{◌≡◌, ◌≢◌, IfErr, OnOk, None};
 ghost use Rattle.control_session.specs.Sessions.{IsLostTo};
 
-use control_turns::TurnFault;
+use crate::turn_fault::TurnFault;
 use std::alloc::AllocError;
 use thiserror::Error;
 
-/// Why a control session breaks off. It prints as its name.
+/// A fault of a control session. It prints as its name.
 #[derive(Clone, Copy, Debug, PartialEq, Eq, Error)]
 pub enum ControlFault {
-    /// A read failed, or there were as many as there may be.
+    /// A read failed, or the number of reads reached its limit.
     #[error("ReadFault")]
     ReadFault,
     /// A reply could not be written.
@@ -46,7 +46,7 @@ impl From<TurnFault> for ControlFault {
     }
 }
 
-/// A session breaks off where a reply could not be said.
+/// The fault of a session after a fault of a turn.
 pub(crate) fn unless_lost(lost: Option<TurnFault>) -> Result<(), ControlFault>
     ensures whole { OnOk result (lost ≡ None) }
     ensures lost { IfErr result (IsLostTo lost) }

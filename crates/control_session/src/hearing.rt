@@ -1,21 +1,23 @@
-//! What a client says is heard and taken.
+//! Reads of the client's text.
 
 ghost use Rattle.std.specs.Prelude.{◌≡◌, ◌⊎◌, ◌<◌, ◌≤◌, ◌+◌, ◌++◌, [], ℕ, List, IfErr, IfOk, IsErrOf, None, OnErr, OnOk, length, true, false};
 ghost use Rattle.control_session.specs.Sessions.{IsLostTo, nothing};
-ghost use Rattle.control_turns.specs.Rows.{IsRow};
-ghost use Rattle.control_turns.specs.Standing.{AllTaken, stand};
-ghost use Rattle.control_turns.specs.Turns.{Heard, Went, due};
+ghost use Rattle.control_session.specs.Rows.{IsRow};
+ghost use Rattle.control_session.specs.Standing.{AllTaken, stand};
+ghost use Rattle.control_session.specs.Turns.{Heard, Went, due};
 ghost use Rattle.ftp_wire.specs.Items.{Item};
 ghost use Rattle.ftp_wire.specs.Reading.{HasRead};
 
 use crate::fault::{ControlFault, unless_lost};
+use crate::host::{Host, Piece};
+use crate::talk::Talk;
+use crate::turns::{catch_up, take_lines};
 use authorizer::Authorizer;
-use control_turns::{Host, Piece, Talk, catch_up, take_lines};
 use ftp_wire::LineReader;
 use std::alloc::Allocator;
 
-/// One read. Then what came of the data side is taken, with what is due, and then the lines that were completed. It answers whether
-/// the end was read.
+/// Reads once, and takes the events of the data side, the held lines that are due, and the completed lines. Returns
+/// whether the end was read.
 fn hear<A: Allocator + Clone, H: Host<A>>(
     alloc: &A,
     host: &mut H,
@@ -66,7 +68,8 @@ fn hear<A: Allocator + Clone, H: Host<A>>(
     }
 }
 
-/// Takes what comes, up to a line that closes the control connection or to the end, by so many reads at most.
+/// Reads and takes lines, up to one that closes the control connection or to the end, with this number of reads at
+/// most.
 pub(crate) fn converse<A: Allocator + Clone, H: Host<A>>(
     alloc: &A,
     host: &mut H,

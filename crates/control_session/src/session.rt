@@ -3,24 +3,28 @@
 ghost use Rattle.std.specs.Prelude.{◌≡◌, ◌<◌, [], IfOk, vec_len};
 ghost use Rattle.control_session.specs.Floors.{HasFloors};
 ghost use Rattle.control_session.specs.Sessions.{IsServed, IsSession, new_session};
-ghost use Rattle.control_turns.specs.Rows.{IsRow};
+ghost use Rattle.control_session.specs.Rows.{IsRow};
 ghost use Rattle.ftp_wire.specs.Reading.{HasRead};
 ghost use Rattle.rate_floors.specs.Promises.{Promises};
 ghost use Rattle.session_table.specs.Plans.Plan.{Then};
 ghost use Rattle.session_table.specs.StateRows.{greeting};
 
+use crate::carrying::carry_all;
+use crate::closing::close;
 use crate::fault::ControlFault;
 use crate::hearing::converse;
+use crate::host::Host;
+use crate::talk::Talk;
 use authorizer::Authorizer;
-use control_turns::{Host, Session, Talk, carry_all, close};
 use ftp_wire::LineReader;
+use session_core::Session;
 use session_table::{Action, Settings, Text};
 use std::alloc::{AllocError, Allocator};
 
-/// How many octets are read at once at most.
+/// Maximum number of octets that one read returns.
 const PIECE: usize = 4096;
 
-/// What a session needs of memory beside itself, which is got before it greets.
+/// The memory of a session beside itself, allocated before the greeting.
 #[derive(Drop)]
 struct Room<A: Allocator> {
     lines: LineReader<A>,
@@ -29,7 +33,7 @@ struct Room<A: Allocator> {
 }
 
 impl<A: Allocator + Clone> Room<A> {
-    // The size is a parameter, so that no proof computes a list that long.
+    // Allocates the memory. The size is a parameter, so that no proof computes a list that long.
     fn new(alloc: &A, size: usize) -> Result<Room<A>, AllocError>
         ensures start { IfOk result (λ room. HasRead [] [] room.lines) }
         ensures size { IfOk result (λ room. vec_len room.buffer ≡ size) }
@@ -46,7 +50,7 @@ impl<A: Allocator + Clone> Room<A> {
     }
 }
 
-/// A session greets, takes what comes, and is closed however it ends.
+/// Greets, takes lines, and closes the session however it ends.
 fn run_session<A: Allocator + Clone, H: Host<A>>(
     alloc: &A,
     host: &mut H,
@@ -82,12 +86,12 @@ fn run_session<A: Allocator + Clone, H: Host<A>>(
     outcome
 }
 
-/// A whole control session of a client at this address: it greets, takes what comes, up to a line that closes the control
-/// connection or to the end of the client's text, and is closed however it ends. The banner of the settings holds no
-/// line's end.
+/// Serves a whole control session of a client at this address: greets, takes lines up to one that closes the control
+/// connection or to the end of the client's text, and closes the session however it ends. The banner of the settings
+/// contains no end of a line.
 ///
-/// `ReadFault` comes where a read failed, or after so many reads as there are turns, each of at most 4,096 octets; `WriteFault`
-/// where a reply could not be written. Nothing is asked of the host before the memory to begin is there.
+/// `ReadFault`: a read failed, or `turns` reads were made, each of at most 4,096 octets. `WriteFault`: a reply could
+/// not be written. `Memory`: memory ran out. No call of the host is made before the memory to begin is allocated.
 pub fn run_control<A: Allocator + Clone, H: Host<A>>(
     alloc: &A,
     host: &mut H,

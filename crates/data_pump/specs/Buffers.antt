@@ -1,4 +1,4 @@
--- What is seen of wire octets that wait.
+-- Waiting wire octets as contracts see them.
 use Rattle.std.specs.Prelude.{◌≡◌, ◌*◌, ◌<◌, ◌≤◌, ℕ, List, length, Option}
 use Rattle.std.specs.Io.KnownBytes.{Consumes, IsAtEnd}
 use Rattle.ftp_terms.specs.declared.data_type.DataType.{DataType}
@@ -9,7 +9,7 @@ pub record Waiting : Type 0 where
   pub data_type : DataType
   pub octets : List ℕ
 
--- a text has room before it is turned
+-- under TYPE A there is room for a text before its conversion
 abbrev pub HasText : DataType → List ℕ → Type 0
 HasText Ascii text = 0 < length text
 HasText Image text = Unit {0}
@@ -22,7 +22,8 @@ pub record IsBuffer (data_type : DataType) (text octets : List ℕ) (from to : �
   pub in_order : from ≤ to
   pub within : to ≤ length octets
 
--- One read of a source gave octets, which are these on the wire; it gave none only at the end.
+-- One read of a source returned octets, and these are their wire octets; it returned none only at
+-- the end.
 pub record Fills (data_type : DataType) (old new : Option (List ℕ)) (count : ℕ) (wire : List ℕ) : Type 0 where
   pub read : List ℕ
   pub consumed : Consumes old new read

@@ -1,4 +1,5 @@
--- How many calls of an end of a transfer were made, and how many of them failed, each modulo 2^64; and whose fault an end is.
+-- Number of calls of an end of a transfer, and number of those that failed, each modulo 2^64; and the part that is at fault
+-- for a pump's end.
 use Rattle.std.specs.Prelude.{◌≡◌, ◌⊎◌, ◌+◌, ◌%◌, ◌^◌, ℕ, Bool, true, false, Option, None, Some, Result, MatchResult}
 use Rattle.line_rates.specs.declared.ask.Way.{Way}
 use Rattle.line_rates.specs.declared.ask.Way.TheVariants.{Down, Up}
@@ -14,7 +15,7 @@ pub record CallCounts : Type 0 where
 abbrev pub no_calls : CallCounts
 no_calls = record { made = 0; failed = 0 }
 
--- an end, and the calls of it
+-- an end, with the counts of its calls
 pub record Counted (E : Type 0) : Type 0 where
   pub end : E
   pub calls : CallCounts
@@ -22,22 +23,22 @@ pub record Counted (E : Type 0) : Type 0 where
 unfoldable pub next : ℕ → ℕ
 next count = (count + 1) % 2 ^ 64
 
--- one call more, which passed or failed
+-- one more call, which succeeded or failed
 abbrev pub with_passed : CallCounts → CallCounts
 with_passed calls = record { made = next calls.made; failed = calls.failed }
 
 abbrev pub with_failed : CallCounts → CallCounts
 with_failed calls = record { made = next calls.made; failed = next calls.failed }
 
--- one call more, with this answer
+-- one more call, with this result
 abbrev pub Counts : {X E : Type 0} → Result X E → CallCounts → CallCounts → Type 0
 Counts answer old new = MatchResult answer (λ _. new ≡ with_passed old) (λ _. new ≡ with_failed old)
 
--- at most one call more was made
+-- at most one more call was made
 abbrev pub IsOnceAtMost : CallCounts → CallCounts → Type 0
 IsOnceAtMost old new = (new.made ≡ old.made) ⊎ (new.made ≡ next old.made)
 
--- the part of a transfer whose fault the end of a pump is
+-- the part of a transfer that is at fault for a pump's end
 abbrev pub failed_part : Way → PumpEnd → Option FailedPart
 failed_part way Ended = None
 failed_part way More = None
@@ -64,6 +65,6 @@ abbrev pub next_if : Bool → ℕ → ℕ
 next_if true count = next count
 next_if false count = count
 
--- one call of a part failed if the end is its fault, and else none
+-- one call of a part failed if the end is its fault; otherwise none did
 abbrev pub FailsAsTold : Way → PumpEnd → FailedPart → CallCounts → CallCounts → Type 0
 FailsAsTold way told part old new = new.failed ≡ next_if (is_part part (failed_part way told)) old.failed

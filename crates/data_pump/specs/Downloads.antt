@@ -1,4 +1,4 @@
--- What is seen of a download, and what a pump makes of it.
+-- Downloads as contracts see them, and the effect of a pump.
 use Rattle.std.specs.Prelude.{◌≡◌, ◌⊎◌, ◌<◌, ◌≤◌, ◌++◌, ℕ, min, List, [], length, take, drop, Option, Some, Bool, IsTrue}
 use Rattle.std.specs.Option.{option_map}
 use Rattle.std.specs.Io.KnownBytes.{Appends, Consumes, IsAtEnd}
@@ -11,7 +11,8 @@ use Rattle.data_pump.specs.declared.pumped.PumpEnd.{PumpEnd}
 use Rattle.data_pump.specs.declared.pumped.PumpEnd.TheVariants.{Ended, More, ReadFault, WriteFault, Memory}
 use Rattle.data_pump.specs.declared.pumped.Pumped.{Pumped}
 
--- what flows out: the source and the connection, each with its calls, the wire octets that wait, whether the source has ended
+-- the flow out: the source and the connection, each with the counts of its calls, the waiting wire octets, and whether the
+-- source has ended
 pub record OutFlow (S K : Type 0) : Type 0 where
   pub source : S
   pub reads : CallCounts
@@ -21,35 +22,35 @@ pub record OutFlow (S K : Type 0) : Type 0 where
   pub waiting : List ℕ
   pub is_over : Bool
 
--- a download: what flows, and the last pump's end
+-- a download: its flow, and the end of the last pump
 pub record OutView (S K : Type 0) : Type 0 where
   pub flow : OutFlow S K
   pub last : PumpEnd
 
--- the wire octets that are still to be written, where those of the source are known
+-- the wire octets still to be written, if those of the source are known
 abbrev pub still_to_come : DataType → List ℕ → Option (List ℕ) → Option (List ℕ)
 still_to_come data_type waiting known = option_map (λ octets. waiting ++ sent data_type octets) known
 
 abbrev pub to_come : {S K : Type 0} → (S → Option (List ℕ)) → OutFlow S K → Option (List ℕ)
 to_come remaining flow = still_to_come flow.data_type flow.waiting (remaining flow.source)
 
--- the source has ended, and nothing waits
+-- the source has ended, and no octets wait
 abbrev pub HasEnded : {S K : Type 0} → OutFlow S K → Type 0
 HasEnded flow = IsTrue flow.is_over × (flow.waiting ≡ [])
 
--- an end that tells of the source, or of its memory
+-- an end for a fault of the source, or of its memory
 abbrev pub IsSourceFault : PumpEnd → Type 0
 IsSourceFault end = (end ≡ ReadFault) ⊎ (end ≡ Memory)
 
--- Between two pumps: while there is more, something waits, unless the source had nothing from the start; and a pump told the
--- end only of what has ended.
+-- Between two pumps: while there is more, octets wait, unless the source was empty from the start; and a pump's end is
+-- `Ended` only if the transfer has ended.
 pub record IsReady {S K : Type 0} (flow : OutFlow S K) (last : PumpEnd) : Type 0 where
   pub more : last ≡ More → (0 < length flow.waiting) ⊎ HasEnded flow
   pub ended : last ≡ Ended → HasEnded flow
 
--- Of a grant of `octets`, `pumped` of a download were moved.
+-- A pump of a download with a grant of `octets` moved `pumped`.
 pub record MovesOut {S K : Type 0} (remaining : S → Option (List ℕ)) (contents : K → Option (List ℕ)) (octets : ℕ) (old new : OutFlow S K) (pumped : Pumped) : Type 0 where
-  -- no more than the grant, and than what waits; fewer only where a write failed
+  -- at most the grant, and at most what waited; less only if a write failed
   pub most : pumped.moved ≤ min octets (length old.waiting)
   pub fewer : pumped.moved < min octets (length old.waiting) → pumped.end ≡ WriteFault
   pub failed : pumped.end ≡ WriteFault → pumped.moved < min octets (length old.waiting)
@@ -57,20 +58,20 @@ pub record MovesOut {S K : Type 0} (remaining : S → Option (List ℕ)) (conten
   pub written : Appends (contents old.connection) (contents new.connection) (take pumped.moved old.waiting)
   pub come : Consumes (to_come remaining old) (to_come remaining new) (take pumped.moved old.waiting)
   pub no_call : octets ≡ 0 → (new.connection ≡ old.connection) × (new.writes ≡ old.writes)
-  -- the source is read once, and only where nothing waits any more
+  -- the source is read once, and only if no octets wait any more
   pub left : pumped.moved < length old.waiting → (new.waiting ≡ drop pumped.moved old.waiting) × (new.source ≡ old.source) × (new.reads ≡ old.reads)
   pub once : IsOnceAtMost old.reads new.reads
-  -- a call failed where the end tells so, and only there
+  -- a call failed exactly if the end says so
   pub reads_failed : FailsAsTold Down pumped.end Source old.reads new.reads
   pub writes_failed : FailsAsTold Down pumped.end Connection old.writes new.writes
-  -- what the end says
+  -- the meaning of the end
   pub more : pumped.end ≡ More → 0 < length new.waiting
   pub ended : pumped.end ≡ Ended → HasEnded new
   pub at_end : pumped.end ≡ Ended → IsAtEnd (to_come remaining new)
   pub fault : IsSourceFault pumped.end → new.waiting ≡ []
   pub data_type : new.data_type ≡ old.data_type
 
--- Of a wire text, a part was written behind what the connection held before, and the rest is to come.
+-- Of a wire text, a part was written after what the connection had before, and the rest is to come.
 pub record IsSending {S K : Type 0} (remaining : S → Option (List ℕ)) (contents : K → Option (List ℕ)) (before text : List ℕ) (flow : OutFlow S K) : Type 0 where
   pub written : List ℕ
   pub rest : List ℕ

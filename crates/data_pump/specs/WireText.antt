@@ -4,7 +4,7 @@ use Rattle.std.specs.List.{flat_map}
 use Rattle.ftp_terms.specs.declared.data_type.DataType.{DataType}
 use Rattle.ftp_terms.specs.declared.data_type.DataType.TheVariants.{Ascii, Image}
 
--- how one octet of a text is sent
+-- one octet of a text as sent
 abbrev pub sent_octet : ℕ → List ℕ
 sent_octet octet = if octet == 10 then 13 ∷ 10 ∷ [] else octet ∷ []
 
@@ -12,24 +12,24 @@ sent_octet octet = if octet == 10 then 13 ∷ 10 ∷ [] else octet ∷ []
 abbrev pub sent_text : List ℕ → List ℕ
 sent_text text = flat_map sent_octet text
 
--- each CR LF becomes LF: a CR goes where an LF follows it
+-- each CR LF becomes LF: a CR is dropped if an LF follows it
 abbrev pub received_text : List ℕ → List ℕ
 received_text [] = []
 received_text (octet ∷ []) = octet ∷ []
 received_text (octet ∷ next ∷ text) =
     if (octet == 13) && (next == 10) then received_text (next ∷ text) else octet ∷ received_text (next ∷ text)
 
--- the octets on the wire of those of a file
+-- the wire octets of a file's octets
 abbrev pub sent : DataType → List ℕ → List ℕ
 sent Ascii text = sent_text text
 sent Image octets = octets
 
--- what octets on the wire mean
+-- the file's octets of wire octets
 abbrev pub received : DataType → List ℕ → List ℕ
 received Ascii wire = received_text wire
 received Image octets = octets
 
--- what is seen of a `Wire`: the data type, and what is held back, a CR or nothing
+-- a `Wire` as contracts see it: the data type, and whether a CR is held back
 pub record WireView : Type 0 where
   pub data_type : DataType
   pub held : List ℕ
@@ -38,7 +38,7 @@ abbrev pub cr_if : Bool → List ℕ
 cr_if true = 13 ∷ []
 cr_if false = []
 
--- a CR is held back under TYPE A alone
+-- a CR is held back only under TYPE A
 abbrev pub HoldsTextAlone : DataType → Bool → Type 0
 HoldsTextAlone Ascii holds_cr = Unit {0}
 HoldsTextAlone Image holds_cr = holds_cr ≡ false
@@ -47,7 +47,7 @@ abbrev pub HoldsNothing : DataType → List ℕ → Type 0
 HoldsNothing Ascii held = Unit {0}
 HoldsNothing Image held = held ≡ []
 
--- After `held`, these octets give this text and leave `rest` to be held: so it is whatever octets follow.
+-- After `held`, these octets become this text and leave `rest` to be held, whatever octets follow.
 abbrev pub ReceivesOctets : DataType → List ℕ → List ℕ → List ℕ → List ℕ → Type 0
 ReceivesOctets data_type held octets text rest =
     (later : List ℕ) → received data_type (held ++ octets ++ later) ≡ text ++ received data_type (rest ++ later)

@@ -12,13 +12,13 @@ use std::alloc::{AllocError, Allocator};
 use std::marker::Model;
 use virtual_tree::{Source, StoreFault};
 
-/// How many wire octets may wait at once.
+/// Most wire octets that may wait at once.
 pub const MAX_WAITING: usize = 65_536;
 
-/// Wire octets that wait. Under TYPE I a source is read right into them; under TYPE A it is read into a buffer of its
-/// own, half as long, from which they are made.
+/// Waiting wire octets. Under TYPE I a source is read directly into them; under TYPE A it is read into a buffer half
+/// as long, from which they are made.
 #[derive(Drop)]
-pub struct WireBuffer<A: Allocator> {
+pub(crate) struct WireBuffer<A: Allocator> {
     data_type: DataType,
     text: Vec<u8, A>,
     octets: Vec<u8, A>,
@@ -38,7 +38,7 @@ impl<A: Allocator> Model for WireBuffer<A> {
 }
 
 impl<A: Allocator> WireBuffer<A> {
-    /// An empty buffer with this room, which is not 0, and is even.
+    /// An empty buffer with this room, which is even and not 0.
     pub fn new(alloc: A, data_type: DataType, half: usize) -> Result<WireBuffer<A>, AllocError>
     where
         A: Clone,
@@ -61,7 +61,7 @@ impl<A: Allocator> WireBuffer<A> {
         })
     }
 
-    /// How many octets wait.
+    /// Number of octets that wait.
     pub fn len(&self) -> usize
         ensures len { result ≡ length self.now.octets }
         ensures most { result ≤ MAX_WAITING }
@@ -77,7 +77,7 @@ impl<A: Allocator> WireBuffer<A> {
         &self.octets[self.from..self.from + count]
     }
 
-    /// Lets the first `count` of them go.
+    /// Removes the first `count` of them.
     pub fn let_go(&mut self, count: usize)
         requires some { count ≤ length self.old.octets }
         ensures data_type { self.new.data_type ≡ self.old.data_type }
@@ -86,8 +86,7 @@ impl<A: Allocator> WireBuffer<A> {
         self.from += count;
     }
 
-    /// Puts what one read of the source gives in their place, as wire octets, and tells how many those are. After a
-    /// fault none wait.
+    /// Replaces them by the wire octets of one read of the source, and returns their number. After a fault none wait.
     pub fn fill<S: Source>(&mut self, source: &mut CountedEnd<S>) -> Result<usize, StoreFault>
         ensures data_type { self.new.data_type ≡ self.old.data_type }
         ensures count { IfOk result (λ count. count ≡ length self.new.octets) }
@@ -110,7 +109,7 @@ impl<A: Allocator> WireBuffer<A> {
     }
 }
 
-// One read, right into the octets.
+// One read, directly into the octets.
 fn read_octets<S: Source>(
     source: &mut CountedEnd<S>,
     octets: &mut [u8],

@@ -1,6 +1,6 @@
-//! Ends of a transfer, with how many of their calls were made and how many of them failed.
+//! Ends of a transfer, with counts of their calls and of those that failed.
 //!
-//! No other module can reach the end itself, so a contract that compares these counts speaks of each call that was made.
+//! No other module can access the end itself, so a contract that compares these counts covers each call that was made.
 
 ghost use Rattle.std.specs.Prelude.{◌≡◌, ◌<◌, ◌≤◌, length, take, IfOk, OnOk, OnErr};
 ghost use Rattle.std.specs.Io.KnownBytes.{Appends, ReadConsumes};
@@ -11,9 +11,9 @@ use std::io::{Read, Write};
 use std::marker::Model;
 use virtual_tree::{Sink, Source, StoreFault};
 
-/// An end whose calls are counted, modulo 2^64.
+/// An end with counts of its calls, modulo 2^64.
 #[derive(Drop)]
-pub struct CountedEnd<E> {
+pub(crate) struct CountedEnd<E> {
     end: E,
     made: u64,
     failed: u64,
@@ -36,7 +36,7 @@ fn next_count(count: u64) -> u64
 }
 
 impl<E> CountedEnd<E> {
-    /// An end of which no call was made.
+    /// An end without calls so far.
     pub fn new(end: E) -> CountedEnd<E>
         ensures new { result ≡ record { end = end; calls = no_calls } }
     {
@@ -47,7 +47,7 @@ impl<E> CountedEnd<E> {
         }
     }
 
-    /// Gives the end itself back.
+    /// Returns the end itself.
     pub fn into_end(self) -> E
         ensures back { result ≡ self.end }
     {
@@ -80,7 +80,7 @@ impl<K: Read> CountedEnd<K> {
 }
 
 impl<K: Write> CountedEnd<K> {
-    /// One write to a connection, and how many octets it took. A write that takes none has failed.
+    /// One write to a connection. Returns the number of octets that it took; a write that takes none has failed.
     pub fn write(&mut self, octets: &[u8]) -> usize
         ensures bound { result ≤ length octets.now }
         ensures bytes { Appends (K.contents self.old.end) (K.contents self.new.end)
@@ -97,7 +97,7 @@ impl<K: Write> CountedEnd<K> {
     }
 }
 
-// How many octets one write takes.
+// Number of octets that one write takes.
 fn write_once<K: Write>(connection: &mut K, octets: &[u8]) -> usize
     ensures bound { result ≤ length octets.now }
     ensures bytes { Appends (K.contents connection.old) (K.contents connection.new)

@@ -17,8 +17,8 @@ use std::io::Write;
 use std::marker::Model;
 use virtual_tree::Source;
 
-/// A download: a source, the data connection that it goes to, and the wire octets that wait. The connection can be
-/// written by `pump_out` alone.
+/// A download: a source, the data connection that it goes to, and the waiting wire octets. Only `pump_out` can write
+/// to the connection.
 #[derive(Drop)]
 pub struct DataOut<S: Source, K: Write + Drop, A: Allocator = Global> {
     flow: Outflow<S, K, A>,
@@ -36,8 +36,8 @@ impl<S: Source, K: Write + Drop, A: Allocator> Model for DataOut<S, K, A> {
 }
 
 impl<S: Source, K: Write + Drop, A: Allocator> DataOut<S, K, A> {
-    /// Begins a download: reserves its buffer, once, and fills it by one read of the source. A refusal lets the source
-    /// and the connection go.
+    /// Begins a download: allocates its buffer, once, and fills it by one read of the source. A refusal drops the
+    /// source and the connection.
     pub fn open(
         alloc: A,
         source: S,
@@ -71,7 +71,7 @@ impl<S: Source, K: Write + Drop, A: Allocator> DataOut<S, K, A> {
         }
     }
 
-    /// How many wire octets wait to be written.
+    /// Number of wire octets that wait to be written.
     pub fn waiting(&self) -> usize
         ensures waiting { result ≡ length self.now.flow.waiting }
         ensures most { result ≤ MAX_WAITING }
@@ -79,15 +79,15 @@ impl<S: Source, K: Write + Drop, A: Allocator> DataOut<S, K, A> {
         self.flow.waiting()
     }
 
-    /// Whether the source has ended and nothing waits.
+    /// Returns whether the source has ended and no octets wait.
     pub fn ended(&self) -> bool
         ensures ended { IsTrue result ↔ HasEnded self.now.flow }
     {
         self.flow.has_ended()
     }
 
-    /// How the last pump ended; `More` before the first. Octets wait then, or the source had none; and after `Ended`
-    /// it has ended.
+    /// The end of the last pump; `More` before the first. After `More`, octets wait or the source was empty; after
+    /// `Ended`, the transfer has ended.
     pub fn last(&self) -> PumpEnd
         ensures last { result ≡ self.now.last }
         ensures ready { IsReady self.now.flow self.now.last }
@@ -96,8 +96,8 @@ impl<S: Source, K: Write + Drop, A: Allocator> DataOut<S, K, A> {
         self.last
     }
 
-    /// What it asks a round for: leave to send all that waits. That is nothing only once it has ended, or where the
-    /// source could not be read.
+    /// The ask for a round: permission to send all octets that wait. Its want is 0 only once the transfer has ended,
+    /// or if the source could not be read.
     pub fn ask(&self, user: u32, session: u32) -> Ask
         ensures ask { result
             ≡ record {
@@ -117,7 +117,7 @@ impl<S: Source, K: Write + Drop, A: Allocator> DataOut<S, K, A> {
         }
     }
 
-    // Moves at most so many octets.
+    // Moves at most `most` octets.
     fn pump(&mut self, most: u64) -> Pumped
         ensures moved { MovesOut S.remaining K.contents most self.old.flow self.new.flow result }
         ensures last { self.new.last ≡ result.end }
@@ -128,12 +128,11 @@ impl<S: Source, K: Write + Drop, A: Allocator> DataOut<S, K, A> {
     }
 }
 
-/// Writes the first wire octets that wait, at most as many as are granted, by as many writes as that takes; gives the
-/// rest of the grant back; and where nothing waits any more, fills the buffer by one read. The grant is spent in every
-/// outcome.
+/// Writes the first waiting wire octets, at most as many as granted, by as many writes as needed; gives the rest of
+/// the grant back; and, if none wait any more, fills the buffer by one read. The grant is spent in every outcome.
 ///
-/// It ends with `WriteFault` where a write failed, with `ReadFault` or `Memory` where the read did, with `Ended` where
-/// the source has ended and nothing waits, and else with `More`. No octet is lost by a fault: a pump after it goes on.
+/// Ends with `WriteFault` if a write failed, with `ReadFault` or `Memory` if the read did, with `Ended` if the source
+/// has ended and no octets wait, and otherwise with `More`. No octet is lost by a fault: another pump continues.
 pub fn pump_out<N, S: Source, K: Write + Drop, A: Allocator>(
     grant: Grant<N>,
     out: &mut DataOut<S, K, A>,

@@ -1,4 +1,4 @@
-//! What flows into a sink: octets read from a connection as they are granted, and written as what they mean.
+//! The flow into a sink: octets read from a connection as granted, converted, and written.
 
 ghost use Rattle.std.specs.Prelude.{◌≡◌, ◌≢◌, ◌<◌, ◌≤◌, [], length, take, IfOk, OnErr};
 ghost use Rattle.std.specs.Io.KnownBytes.{Appends, Consumes, IsAtEnd, Keeps};
@@ -21,9 +21,9 @@ use virtual_tree::{Sink, StoreFault};
 /// The most octets that one pump of an upload reads.
 pub const MAX_READ: usize = 65_536;
 
-/// A connection, the sink that it goes to, and what was read but not yet given.
+/// A connection, the sink that it goes to, and the octets read but not yet passed on.
 #[derive(Drop)]
-pub struct Inflow<K: Read + Drop, T: Sink, A: Allocator> {
+pub(crate) struct Inflow<K: Read + Drop, T: Sink, A: Allocator> {
     connection: CountedEnd<K>,
     sink: CountedEnd<T>,
     wire: Wire,
@@ -41,7 +41,7 @@ impl<K: Read + Drop, T: Sink, A: Allocator> Model for Inflow<K, T, A> {
     ghost invariant = { λ f. IsRoom f.wire.data_type f.octets.items f.text.items };
 }
 
-// The buffers of an upload with this room: what is read, and under TYPE A the text that it means.
+// The buffers of an upload with this room: the octets read, and, under TYPE A, their text.
 fn buffers<A: Allocator + Clone>(
     alloc: A,
     data_type: DataType,
@@ -60,7 +60,7 @@ fn buffers<A: Allocator + Clone>(
 }
 
 impl<K: Read + Drop, T: Sink, A: Allocator> Inflow<K, T, A> {
-    /// Reserves the buffers, and makes no call.
+    /// Allocates the buffers, and makes no call.
     pub fn new(
         alloc: A,
         connection: K,
@@ -89,7 +89,7 @@ impl<K: Read + Drop, T: Sink, A: Allocator> Inflow<K, T, A> {
         })
     }
 
-    /// Gives the sink back, and lets the connection go.
+    /// Returns the sink, and drops the connection.
     pub fn into_sink(self) -> T
         ensures sink { result ≡ self.sink }
     {
@@ -103,7 +103,7 @@ impl<K: Read + Drop, T: Sink, A: Allocator> Inflow<K, T, A> {
         sink.into_end()
     }
 
-    /// At most one read of at most so many octets, and what they mean to the sink.
+    /// At most one read, of at most `most` octets; their text goes to the sink.
     pub fn take(&mut self, most: u64) -> Pumped
         ensures moved { MovesIn K.remaining T.collected T.target most self.old self.new result }
     {
@@ -136,7 +136,7 @@ impl<K: Read + Drop, T: Sink, A: Allocator> Inflow<K, T, A> {
     }
 }
 
-// One read of at most `limit` octets, into the buffer's front.
+// One read of at most `limit` octets, into the start of the buffer.
 fn read_once<K: Read>(
     connection: &mut CountedEnd<K>,
     octets: &mut [u8],
@@ -156,7 +156,7 @@ fn read_once<K: Read>(
     connection.read(&mut octets[..limit])
 }
 
-// Writes what a piece means to the sink.
+// Writes the text of a piece to the sink.
 fn give<T: Sink>(
     wire: &mut Wire,
     piece: &[u8],
@@ -189,7 +189,7 @@ fn give<T: Sink>(
     }
 }
 
-// Writes to the sink what was held back, once the connection has ended.
+// Writes what was held back to the sink, once the connection has ended.
 fn finish<T: Sink>(wire: &mut Wire, sink: &mut CountedEnd<T>) -> PumpEnd
     ensures data_type { wire.new.data_type ≡ wire.old.data_type }
     ensures target { T.target sink.new.end ≡ T.target sink.old.end }

@@ -1,7 +1,7 @@
-//! Pumps between the files of a store and data connections, which move no octet that was not granted.
+//! Pumps between the files of a store and data connections. They move no octet without a grant.
 //!
-//! A [`DataOut`] is a download: a source, its connection, and the wire octets that wait. A [`DataIn`] is an upload. Each
-//! pump takes a grant, moves at most so many octets, and spends it. Text is turned on the way ([`Wire`]).
+//! A [`DataOut`] is a download: a source, its connection, and the waiting wire octets. A [`DataIn`] is an upload. Each
+//! pump takes a grant, moves at most that many octets, and spends it. Text is converted on the way ([`Wire`]).
 //!
 //! ```text
 //! let connection: Vec<u8> = Vec::new(rt.alloc());

@@ -1,4 +1,4 @@
-//! What flows out of a source: wire octets that wait, written as they are granted, and read again once none wait.
+//! The flow out of a source: waiting wire octets, written as granted, and read again once none wait.
 
 ghost use Rattle.std.specs.Prelude.{◌≡◌, ◌≢◌, ◌<◌, ◌≤◌, [], length, IsTrue, ◌↔◌, IfOk, false};
 ghost use Rattle.std.specs.Bool.{OnTrue};
@@ -18,9 +18,9 @@ use std::io::Write;
 use std::marker::Model;
 use virtual_tree::{Source, StoreFault};
 
-/// A source, the connection that it goes to, and the wire octets that wait between them.
+/// A source, the connection that it goes to, and the wire octets waiting between them.
 #[derive(Drop)]
-pub struct Outflow<S: Source, K: Write + Drop, A: Allocator> {
+pub(crate) struct Outflow<S: Source, K: Write + Drop, A: Allocator> {
     source: CountedEnd<S>,
     connection: CountedEnd<K>,
     buffer: WireBuffer<A>,
@@ -40,7 +40,7 @@ impl<S: Source, K: Write + Drop, A: Allocator> Model for Outflow<S, K, A> {
 }
 
 impl<S: Source, K: Write + Drop, A: Allocator> Outflow<S, K, A> {
-    /// Reserves the buffer, and makes no call.
+    /// Allocates the buffer, and makes no call.
     pub fn new(
         alloc: A,
         source: S,
@@ -69,7 +69,7 @@ impl<S: Source, K: Write + Drop, A: Allocator> Outflow<S, K, A> {
         })
     }
 
-    /// How many wire octets wait.
+    /// Number of wire octets that wait.
     pub fn waiting(&self) -> usize
         ensures waiting { result ≡ length self.now.waiting }
         ensures most { result ≤ MAX_WAITING }
@@ -77,14 +77,14 @@ impl<S: Source, K: Write + Drop, A: Allocator> Outflow<S, K, A> {
         self.buffer.len()
     }
 
-    /// Whether the source has ended and nothing waits.
+    /// Returns whether the source has ended and no octets wait.
     pub fn has_ended(&self) -> bool
         ensures ended { IsTrue result ↔ HasEnded self.now }
     {
         self.is_over && self.buffer.len() == 0
     }
 
-    /// Fills the buffer by one read of the source, where nothing waits and the source has not ended.
+    /// Fills the buffer by one read of the source, if no octets wait and the source has not ended.
     pub fn refill(&mut self) -> PumpEnd
         ensures data_type { self.new.data_type ≡ self.old.data_type }
         ensures connection { (self.new.connection ≡ self.old.connection)
@@ -120,7 +120,7 @@ impl<S: Source, K: Write + Drop, A: Allocator> Outflow<S, K, A> {
         }
     }
 
-    /// Writes at most so many of the octets that wait, and fills the buffer where none are left.
+    /// Writes at most `most` of the waiting octets, and fills the buffer if none are left.
     pub fn send(&mut self, most: u64) -> Pumped
         ensures moved { MovesOut S.remaining K.contents most self.old self.new result }
     {

@@ -1,4 +1,4 @@
-//! What a pump tells.
+//! Results of pumps.
 
 ghost use Rattle.std.specs.Prelude.{◌≡◌};
 ghost use Rattle.data_pump.specs.Counts.{failed_part};
@@ -6,10 +6,10 @@ ghost use Rattle.data_pump.specs.Counts.{failed_part};
 use line_rates::Way;
 use thiserror::Error;
 
-/// How a pump ended.
+/// The end of a pump.
 #[derive(Clone, Copy, Debug, PartialEq, Eq)]
 pub enum PumpEnd {
-    /// The transfer is whole.
+    /// The transfer is complete.
     Ended,
     /// There is more to move.
     More,
@@ -21,19 +21,19 @@ pub enum PumpEnd {
     Memory,
 }
 
-/// A part of a transfer, whose fault the end of a pump may be.
+/// A part of a transfer that may be at fault.
 #[derive(Clone, Copy, Debug, PartialEq, Eq)]
 pub enum FailedPart {
     /// The data connection.
     Connection,
-    /// What a download reads.
+    /// The source of a download.
     Source,
-    /// What an upload writes.
+    /// The sink of an upload.
     Sink,
 }
 
 impl PumpEnd {
-    /// The part whose fault this end of a pump is, by the direction of the transfer.
+    /// The part that is at fault for this end, given the direction of the transfer.
     pub fn failed_part(self, way: Way) -> Option<FailedPart>
         ensures part { result ≡ failed_part way self }
     {
@@ -48,20 +48,20 @@ impl PumpEnd {
     }
 }
 
-/// How many octets the connection's calls reported, and how the pump ended.
+/// Number of octets that the connection's calls reported, and the end of the pump.
 #[derive(Clone, Copy, Debug, PartialEq, Eq)]
 pub struct Pumped {
     pub moved: u64,
     pub end: PumpEnd,
 }
 
-/// Why a transfer does not begin.
+/// Why a transfer cannot begin.
 #[derive(Clone, Copy, Debug, PartialEq, Eq, Error)]
 pub enum OpenFault {
     /// The first read of the source failed.
     #[error("ReadFault")]
     ReadFault,
-    /// There was no memory for the buffer, or the store had none for its read.
+    /// There was no memory for the buffer, or for the store's read.
     #[error("Memory")]
     Memory,
 }

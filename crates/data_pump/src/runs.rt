@@ -1,4 +1,4 @@
-//! Text turned run by run: what stands before the next line end is found by one search, and copied whole.
+//! Text converted run by run: the octets before the next line end are found by one search, and copied together.
 
 ghost use Rattle.std.specs.Prelude.{◌≡◌, ◌+◌, ◌*◌, ◌<◌, ◌≤◌, ◌++◌, ◌∷◌, [], length, take};
 ghost use Rattle.ftp_terms.specs.declared.data_type.DataType.TheVariants.{Ascii};
@@ -10,10 +10,10 @@ use memchr::memchr;
 const LF: u8 = 10;
 
 /// The octet that is held back at the end of a piece.
-pub const CR: u8 = 13;
+pub(crate) const CR: u8 = 13;
 
-/// Each LF becomes CR LF. The wire text stands at the front, and told is how many octets that are.
-pub fn send_text(piece: &[u8], wire: &mut [u8]) -> usize
+/// Converts each LF to CR LF. The wire text is at the start of `wire`; returns its length.
+pub(crate) fn send_text(piece: &[u8], wire: &mut [u8]) -> usize
     requires room { 2 * length piece.now ≤ length wire.old }
     ensures bound { result ≤ length wire.new }
     ensures least { length piece.now ≤ result }
@@ -29,8 +29,8 @@ pub fn send_text(piece: &[u8], wire: &mut [u8]) -> usize
     count
 }
 
-// Sends what stands before the next LF, and that LF, behind the first `count` octets of the wire text. Told are how many
-// octets were sent, and how many octets of wire text there are then.
+// Appends the octets up to and including the next LF to the first `count` octets of the wire text. Returns the number of
+// octets sent, and the length of the wire text.
 fn send_line(piece: &[u8], wire: &mut [u8], count: usize) -> (usize, usize)
     requires some { 0 < length piece.now }
     requires room { count + 2 * length piece.now ≤ length wire.old }
@@ -49,8 +49,8 @@ fn send_line(piece: &[u8], wire: &mut [u8], count: usize) -> (usize, usize)
     (run + 1, put_line_end(wire, end))
 }
 
-/// Each CR LF becomes LF. Told are how many octets of text stand at the front, and whether a CR is held back.
-pub fn receive_text(holds_cr: bool, piece: &[u8], text: &mut [u8]) -> (usize, bool)
+/// Converts each CR LF to LF. Returns the length of the text at the start of `text`, and whether a CR is held back.
+pub(crate) fn receive_text(holds_cr: bool, piece: &[u8], text: &mut [u8]) -> (usize, bool)
     requires room { length piece.now < length text.old }
     ensures bound { result.0 ≤ length text.new }
     ensures received { ReceivesOctets Ascii (cr_if holds_cr) piece.now (take result.0 text.new)
@@ -68,8 +68,8 @@ pub fn receive_text(holds_cr: bool, piece: &[u8], text: &mut [u8]) -> (usize, bo
     (count, held)
 }
 
-// Receives what stands before the next CR behind the first `count` octets of the text, and holds that CR back. Told are
-// how many octets were received, how many octets of text there are then, and whether a CR is held back.
+// Appends the octets before the next CR to the first `count` octets of the text, and holds that CR back. Returns the
+// number of octets received, the length of the text, and whether a CR is held back.
 fn receive_run(holds_cr: bool, piece: &[u8], text: &mut [u8], count: usize) -> (usize, usize, bool)
     requires some { 0 < length piece.now }
     requires room { count + length (cr_if holds_cr) + length piece.now ≤ length text.old }
@@ -88,7 +88,7 @@ fn receive_run(holds_cr: bool, piece: &[u8], text: &mut [u8], count: usize) -> (
     (run + 1, end, true)
 }
 
-// How many octets stand before the first that is this one: all, where there is none.
+// Number of octets before the first one with this value; all of them if there is none.
 fn run_before(octet: u8, piece: &[u8]) -> usize
     ensures within { result ≤ length piece.now }
     ensures run { HoldsNo octet (take result piece.now) }
@@ -101,7 +101,7 @@ fn run_before(octet: u8, piece: &[u8]) -> usize
     }
 }
 
-// Copies a run behind the first `count` octets, and tells how many there are then.
+// Appends a run to the first `count` octets, and returns their new number.
 fn put_run(run: &[u8], octets: &mut [u8], count: usize) -> usize
     requires room { count + length run.now ≤ length octets.old }
     ensures count { result ≡ count + length run.now }
@@ -112,7 +112,7 @@ fn put_run(run: &[u8], octets: &mut [u8], count: usize) -> usize
     end
 }
 
-// Puts CR LF behind the first `count` octets, and tells how many there are then.
+// Appends CR LF to the first `count` octets, and returns their new number.
 fn put_line_end(octets: &mut [u8], count: usize) -> usize
     requires room { count + 2 ≤ length octets.old }
     ensures count { result ≡ count + 2 }
@@ -123,7 +123,7 @@ fn put_line_end(octets: &mut [u8], count: usize) -> usize
     count + 2
 }
 
-// Puts a CR that was held behind the first `count` octets, unless an LF comes next, and tells how many there are then.
+// Appends a held CR to the first `count` octets, unless an LF is next, and returns their new number.
 fn put_held_cr(holds_cr: bool, next: u8, octets: &mut [u8], count: usize) -> usize
     requires room { count + length (cr_if holds_cr) ≤ length octets.old }
     ensures count { result ≡ count + length (held_cr holds_cr next) }

@@ -16,8 +16,8 @@ use std::io::Read;
 use std::marker::Model;
 use virtual_tree::Sink;
 
-/// An upload: a data connection, the sink that it goes to, and what was read but not yet given. The connection can be
-/// read by `pump_in` alone.
+/// An upload: a data connection, the sink that it goes to, and the octets read but not yet passed on. Only `pump_in`
+/// can read the connection.
 #[derive(Drop)]
 pub struct DataIn<K: Read + Drop, T: Sink, A: Allocator = Global> {
     flow: Inflow<K, T, A>,
@@ -37,8 +37,8 @@ impl<K: Read + Drop, T: Sink, A: Allocator> Model for DataIn<K, T, A> {
 }
 
 impl<K: Read + Drop, T: Sink, A: Allocator> DataIn<K, T, A> {
-    /// Begins an upload: reserves its buffers, once, and reads nothing yet. A refusal lets the connection and the sink
-    /// go.
+    /// Begins an upload: allocates its buffers, once, and reads nothing yet. A refusal drops the connection and the
+    /// sink.
     pub fn open(
         alloc: A,
         connection: K,
@@ -73,7 +73,7 @@ impl<K: Read + Drop, T: Sink, A: Allocator> DataIn<K, T, A> {
         }
     }
 
-    /// How the last pump ended; `More` before the first. After `Ended` nothing is held back.
+    /// The end of the last pump; `More` before the first. After `Ended` nothing is held back.
     pub fn last(&self) -> PumpEnd
         ensures last { result ≡ self.now.last }
         ensures ended { self.now.last ≡ PumpEnd.Ended → self.now.flow.held ≡ [] }
@@ -82,7 +82,7 @@ impl<K: Read + Drop, T: Sink, A: Allocator> DataIn<K, T, A> {
         self.last
     }
 
-    /// What it asks a round for: leave to read as much as one pump can.
+    /// The ask for a round: permission to read as much as one pump can.
     pub fn ask(&self, user: u32, session: u32) -> Ask
         ensures ask { result
             ≡ record { user = user; session = session; way = Way.Up; want = MAX_READ } }
@@ -95,8 +95,8 @@ impl<K: Read + Drop, T: Sink, A: Allocator> DataIn<K, T, A> {
         }
     }
 
-    /// Gives the sink back, for its store to finish, and lets the connection go. A CR that is held back is lost, though
-    /// it counts as moved: so it is at each end but `Ended`.
+    /// Returns the sink, for its store to finish, and drops the connection. A CR that is held back is lost, though it
+    /// counts as moved; this can happen at each end but `Ended`.
     pub fn into_sink(self) -> T
         ensures sink { result ≡ self.flow.sink }
     {
@@ -104,7 +104,7 @@ impl<K: Read + Drop, T: Sink, A: Allocator> DataIn<K, T, A> {
         flow.into_sink()
     }
 
-    // Moves at most so many octets, unless a pump has told an end.
+    // Moves at most `most` octets, unless a pump has ended the transfer.
     fn pump(&mut self, most: u64) -> Pumped
         ensures moved { self.old.last ≡ PumpEnd.More
             → MovesIn K.remaining T.collected T.target most self.old.flow self.new.flow result }
@@ -124,13 +124,13 @@ impl<K: Read + Drop, T: Sink, A: Allocator> DataIn<K, T, A> {
     }
 }
 
-/// Makes one read of the connection, of at most as many octets as are granted and at most `MAX_READ`; writes what they
-/// mean to the sink; and gives the rest of the grant back. The grant is spent in every outcome. A grant of no octets
-/// makes no call, and ends with `More`.
+/// Reads the connection once, at most as many octets as granted and at most `MAX_READ`; writes their text to the sink;
+/// and gives the rest of the grant back. The grant is spent in every outcome. A grant of no octets makes no call, and
+/// ends with `More`.
 ///
-/// It ends with `ReadFault` where the read failed, with `WriteFault` or `Memory` where the sink refused, with `Ended`
-/// where the read gave nothing, and else with `More`. What a sink refused is lost, so an upload that failed stays
-/// failed: after any other end than `More` each pump tells that end again, and makes no call.
+/// Ends with `ReadFault` if the read failed, with `WriteFault` or `Memory` if the sink refused, with `Ended` if the
+/// read returned nothing, and otherwise with `More`. What a sink refused is lost, so a failed upload stays failed:
+/// after any end but `More`, each pump returns that end again, and makes no call.
 pub fn pump_in<N, K: Read + Drop, T: Sink, A: Allocator>(
     grant: Grant<N>,
     upload: &mut DataIn<K, T, A>,

@@ -1,4 +1,4 @@
-//! Text between a file and the wire, piece by piece.
+//! Conversion of text between a file and the wire, piece by piece.
 
 ghost use Rattle.std.specs.Prelude.{◌≡◌, ◌*◌, ◌<◌, ◌≤◌, [], ◌∷◌, length, take, IfSome, IfNone};
 ghost use Rattle.data_pump.specs.WireText.{sent, HoldsNothing, ReceivesOctets};
@@ -7,10 +7,10 @@ use crate::runs::{CR, receive_text, send_text};
 use ftp_terms::DataType;
 use std::marker::Model;
 
-/// Turns the octets of a file into those on the wire, and back (RFC 959, section 3.1.1).
+/// Converts the octets of a file to those on the wire, and back (RFC 959, section 3.1.1).
 ///
-/// TYPE I changes nothing. Under TYPE A each LF of the file is CR LF on the wire, and any other CR stays as it is. A CR
-/// at the end of a received piece is held back, since an LF may follow. No call takes memory.
+/// TYPE I changes nothing. Under TYPE A each LF of the file is CR LF on the wire, and any other CR is kept as it is. A
+/// CR at the end of a received piece is held back, since an LF may follow. No call allocates.
 #[derive(Drop)]
 pub struct Wire {
     data_type: DataType,
@@ -28,7 +28,7 @@ impl Model for Wire {
 }
 
 impl Wire {
-    /// A wire that holds nothing back.
+    /// A wire with nothing held back.
     pub fn new(data_type: DataType) -> Wire
         ensures wire { result ≡ record { data_type = data_type; held = [] } }
     {
@@ -38,7 +38,7 @@ impl Wire {
         }
     }
 
-    /// Writes a file's piece as wire text to the front of the buffer, and tells how many octets that are.
+    /// Writes a piece of a file as wire text to the start of the buffer, and returns its length.
     pub fn to_wire(&self, piece: &[u8], wire: &mut [u8]) -> usize
         requires room { 2 * length piece.now ≤ length wire.old }
         ensures bound { result ≤ length wire.new }
@@ -53,8 +53,7 @@ impl Wire {
         }
     }
 
-    /// Writes what a piece means, after what was held back, to the front of the buffer, and tells how many octets that
-    /// are.
+    /// Writes the text of a piece, after what was held back, to the start of the buffer, and returns its length.
     pub fn from_wire(&mut self, piece: &[u8], text: &mut [u8]) -> usize
         requires room { length piece.now < length text.old }
         ensures bound { result ≤ length text.new }
@@ -83,7 +82,7 @@ impl Wire {
         self.data_type
     }
 
-    /// Gives the CR that was held back, if there is one: no octet follows it.
+    /// Returns the CR that was held back, if there is one: no octet follows it.
     pub fn finish(&mut self) -> Option<u8>
         ensures data_type { self.new.data_type ≡ self.old.data_type }
         ensures nothing { self.new.held ≡ [] }

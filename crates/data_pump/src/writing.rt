@@ -7,9 +7,9 @@ ghost use Rattle.data_pump.specs.Counts.{next};
 use crate::counted::CountedEnd;
 use std::io::Write;
 
-/// Writes the octets by as many writes as that takes, and tells how many the writes reported. Those are fewer than all
-/// only where a write failed, which is the last one then.
-pub fn write_front<K: Write>(connection: &mut CountedEnd<K>, octets: &[u8]) -> usize
+/// Writes the octets, by as many writes as needed, and returns the number that the writes reported. That is less than
+/// all only if a write failed, which is then the last one.
+pub(crate) fn write_front<K: Write>(connection: &mut CountedEnd<K>, octets: &[u8]) -> usize
     ensures bound { result ≤ length octets.now }
     ensures written { Appends (K.contents connection.old.end) (K.contents connection.new.end)
         (take result octets.now) }

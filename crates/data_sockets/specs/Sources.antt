@@ -1,4 +1,4 @@
--- What is still to be read of a listing or of a file.
+-- The octets still to be read of a listing or a file.
 use Rattle.std.specs.Prelude.{ℕ, List, Option, Some}
 use Rattle.data_sockets.specs.declared.served.Served.{Served}
 use Rattle.data_sockets.specs.declared.served.Served.TheVariants.{Listing, File}

@@ -6,7 +6,7 @@ use std::io::{Read, Write};
 use std::net::{Shutdown, TcpStream};
 use std::sync::Arc;
 
-/// A handle of a data connection. The socket is closed once the last handle is let go.
+/// A handle of a data connection. The socket is closed once the last handle is dropped.
 #[derive(Drop)]
 pub struct DataConnection {
     stream: Arc<TcpStream, Global>,
@@ -25,12 +25,12 @@ impl DataConnection {
         Ok(DataConnection { stream })
     }
 
-    /// Says that nothing more will be sent, so that the client reads the end of a download.
+    /// Shuts down the sending direction, so that the client reads the end of a download.
     pub fn finish(&self) {
         let _ = self.stream.shutdown(Shutdown::Write);
     }
 
-    /// Shuts the socket down in both directions: whoever waits on it returns.
+    /// Shuts the socket down in both directions; calls that wait on it return.
     pub fn abort(&self) {
         let _ = self.stream.shutdown(Shutdown::Both);
     }

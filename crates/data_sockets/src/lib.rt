@@ -1,8 +1,8 @@
-//! Data connections over sockets, and what a session and a lane hand each other of a transfer.
+//! Data connections over sockets, and what a session and a lane exchange for a transfer.
 //!
-//! A session listens on a port or connects, and hands the [`DataConnection`] to a lane, which moves octets on it. Both hold
-//! the socket, so the session can shut it down while the lane waits on it. The lane tells the end in a [`TransferCell`], which the
-//! session waits on. What a listing or a file is read from is one type, [`Served`], so that one board takes both.
+//! A session listens on a port or connects, and hands the [`DataConnection`] to a lane, which moves octets on it. Both have
+//! the socket, so the session can shut it down while the lane waits on it. The lane reports the end in a [`TransferCell`],
+//! which the session waits on. A listing and a file are read through one type, [`Served`], so that one board takes both.
 //!
 //! ```text
 //! let cell = TransferCell::<u32>::new();
@@ -15,7 +15,7 @@
 //!     &rt,
 //!     matches!(
 //!         told,
-//!         Some(Told {
+//!         Some(TransferEnd {
 //!             end: End::Done,
 //!             sink: Some(3)
 //!         })
@@ -32,7 +32,7 @@ mod name;
 mod passive;
 mod served;
 
-pub use cell::{Told, TransferCell};
+pub use cell::{TransferCell, TransferEnd};
 pub use connection::DataConnection;
 pub use name::TransferName;
 pub use passive::{accept_from, listen, socket_address};

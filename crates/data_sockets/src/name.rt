@@ -1,12 +1,12 @@
-//! For whom a transfer runs.
+//! The user and direction of a transfer.
 
 use line_rates::Way;
 use std::sync::atomic::{AtomicU64, Ordering};
 
-/// The user and the direction of a transfer, as one thread writes them and another reads them.
+/// The user and direction of a transfer, written by one thread and read by another.
 #[derive(Drop)]
 pub struct TransferName {
-    // twice the user's number, and one more for an upload
+    // twice the user's number, plus one for an upload
     word: AtomicU64,
 }
 
@@ -18,7 +18,7 @@ impl TransferName {
         }
     }
 
-    /// From now on it is this user's transfer in this direction.
+    /// Sets the user and direction of the transfer.
     pub fn set(&self, way: Way, user: u32) {
         let up = match way {
             Way::Down => 0,
@@ -27,7 +27,7 @@ impl TransferName {
         self.word.store(u64::from(user) * 2 + up, Ordering::SeqCst);
     }
 
-    /// The direction and the user.
+    /// Returns the direction and the user.
     pub fn get(&self) -> (Way, u32) {
         let word = self.word.load(Ordering::SeqCst);
         let way = if word % 2 == 0 { Way::Down } else { Way::Up };

@@ -1,19 +1,19 @@
-//! Passive ports: listening, and who may come.
+//! Passive ports: listening, and accepting the peer.
 
 ghost use Rattle.std.specs.Prelude.{◌≡◌};
 
 use std::net::{Ipv4Addr, Net, SocketAddr, SocketAddrV4, TcpListener, TcpStream};
 
-/// How many connections are looked at in one call, before the others have to wait for the next.
+/// Most connections examined in one call; the others wait for the next call.
 const MOST_STRANGERS: usize = 16;
 
-/// A socket's address.
+/// The address of a socket.
 pub fn socket_address(address: [u8; 4], port: u16) -> SocketAddr {
     let [a, b, c, d] = address;
     SocketAddr::V4(SocketAddrV4::new(Ipv4Addr::new(a, b, c, d), port))
 }
 
-/// Listens on a port, so that `accept_from` does not wait. None if the port cannot be bound.
+/// Listens on a port, so that `accept_from` does not wait. `None` if the port cannot be bound.
 pub fn listen<R>(rt: &R, address: [u8; 4], port: u16) -> Option<TcpListener>
 where
     R: Net<Listener = TcpListener, Stream = TcpStream>,
@@ -34,8 +34,8 @@ fn is_from(address: SocketAddr, peer: [u8; 4]) -> bool {
     }
 }
 
-/// Returns a connection that has come from this peer, or from anybody if no peer is given. Those of others are closed. None
-/// if no other has come yet.
+/// Accepts a connection from this peer, or from anybody if no peer is given, and closes those of others. `None` if no other
+/// has come yet.
 pub fn accept_from(listener: &TcpListener, peer: Option<[u8; 4]>) -> Option<TcpStream> {
     for _ in 0..MOST_STRANGERS {
         match listener.accept() {

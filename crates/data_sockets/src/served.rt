@@ -1,4 +1,4 @@
-//! What a download is read from: a listing, or a file of the store.
+//! The source of a download: a listing, or a file of the store.
 
 ghost use Rattle.std.specs.Prelude.{◌≡◌, ◌≤◌, min, take, length, Some};
 
@@ -33,7 +33,7 @@ impl<A: Allocator> Listing<A> {
     }
 }
 
-// Copies as much as there is room for, and returns how much.
+// Copies as many octets as there is room for, and returns their number.
 fn copy_front(buffer: &mut [u8], octets: &[u8]) -> usize
     ensures count { result ≡ min (length buffer.old) (length octets.now) }
     ensures copied { take result buffer.new ≡ take result octets.now }
@@ -55,7 +55,7 @@ impl<A: Allocator> Source for Listing<A> {
     }
 }
 
-/// What a download is read from, with a store's sources `R`.
+/// The source of a download, with a store's sources `R`.
 #[derive(Drop)]
 pub enum Served<A: Allocator, R: Source> {
     Listing(Listing<A>),

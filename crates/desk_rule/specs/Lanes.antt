@@ -1,5 +1,5 @@
--- The rule of the desk's table, and what each step tells.
--- Word i is 0 where the lane i is free, 1 where a worker has it, 2 where it has asked, 3 where the round has its ask, and 4 where a grant waits.
+-- The rule of the desk's table, and the result of each step. Word i is 0 if lane i is free, 1 if a worker has it, 2 if it
+-- has asked, 3 if the round has its ask, and 4 if a grant waits.
 use Rattle.std.specs.Prelude.{◌≡◌, ℕ, ◌+◌, ◌<◌, ◌≤◌, List, [], ◌∷◌, ◌++◌, length, sum, slice_index, slice_index_or, slice_set, replicate}
 use mathlib.Core.Option.{Option, none, some}
 use lib.ListN.{get_elem?}
@@ -28,7 +28,7 @@ turn_view n asks posted = record { tries = n; collected = asks; posted = posted 
 abbrev pub unturned : TurnView
 unturned = turn_view 0 [] []
 
--- all amounts posted
+-- sum of all amounts posted
 abbrev pub posted_in : List TurnView → ℕ
 posted_in [] = 0
 posted_in (t ∷ ts) = sum t.posted + posted_in ts
@@ -45,7 +45,7 @@ module _ (k : ℕ) (lane : ℕ → LaneView) (turn : ℕ → TurnView) (owner : 
     pub each_back : (i : ℕ) (x : LaneView) → get_elem? sh.back i ≡ some x → (owner i ≡ j) × (lane i ≡ x) × (i < dealt)
     pub within : posted_in sh.turns ≤ most
 
-  -- what a view says is so
+  -- the claim that a view makes
   abbrev pub Knows : DeskView → Type 0
   Knows Spent = Unit {0}
   Knows (Lane i x) = (owner i ≡ j) × (lane i ≡ x) × (i < dealt)
@@ -54,7 +54,7 @@ module _ (k : ℕ) (lane : ℕ → LaneView) (turn : ℕ → TurnView) (owner : 
 abbrev pub first_round : ℕ → RoundView
 first_round k = record { dealt = 0; turns = replicate k unturned; back = [] }
 
--- what the view knows of the lane i, as its seat
+-- the view of lane i as its seat has it
 abbrev pub lane_in : ℕ → DeskView → LaneView
 lane_in i Spent = fresh
 lane_in i (Lane k x) = x
@@ -90,7 +90,7 @@ posted_by Spent = 0
 posted_by (Lane k x) = 0
 posted_by (Round sh) = posted_in sh.turns
 
--- the lane's seat after each of its steps
+-- the views of a lane's seat after each of its steps
 abbrev pub sat_down : LaneView → LaneView
 sat_down x = lane_view Worker (x.sittings ++ length x.asks ∷ []) x.looks x.asks x.taken
 
@@ -106,7 +106,7 @@ has_looked x = lane_view x.state x.sittings (x.looks + 1) x.asks x.taken
 abbrev pub has_risen : LaneView → LaneView
 has_risen x = lane_view Free x.sittings x.looks x.asks x.taken
 
--- the round's view of a lane after each of its steps
+-- the views of a lane in the round's seat after each of its steps
 abbrev pub has_missed : TurnView → TurnView
 has_missed t = turn_view (t.tries + 1) t.collected t.posted
 
@@ -116,11 +116,11 @@ has_collected a t = turn_view (t.tries + 1) (t.collected ++ a ∷ []) t.posted
 abbrev pub has_posted : ℕ → TurnView → TurnView
 has_posted n t = turn_view t.tries t.collected (t.posted ++ n ∷ [])
 
--- where one seat knows both sides of the lane, they fit, but for these amounts that wait
+-- if one seat knows both sides of the lane, they agree, except for these waiting amounts
 abbrev pub Fits : ℕ → DeskView → List ℕ → Type 0
 Fits i v waiting = Leads i v → (turn_in i v).posted ≡ (lane_in i v).taken ++ waiting
 
--- how the round's seat is cut: the next lane's seat
+-- the round's view after a seat was split off: that of the next lane
 abbrev pub dealer_after : DeskView → DeskView
 dealer_after Spent = Spent
 dealer_after (Lane k x) = Lane k x
@@ -138,7 +138,7 @@ taken_in (Round sh) (Round th) = Round sh
 taken_in Spent w = Spent
 taken_in (Lane k x) w = Lane k x
 
--- where a lane stands, with what lies in its slot
+-- the phase of a lane, with the content of its slot
 pub data Phase (N : Type 0) : Type 0 where
   free : Phase N
   worker : Phase N
@@ -154,7 +154,7 @@ module _ {N : Type 0} where
   code round = 3
   code (granted g) = 4
 
-  -- what lies in the slot: nothing where a seat has it
+  -- the content of the slot; none if a seat has it
   abbrev pub home_of : Phase N → Option (LaneSlot N)
   home_of free = some Blank
   home_of worker = none
@@ -169,7 +169,7 @@ module _ {N : Type 0} where
   state_of round = Asked
   state_of (granted g) = Asked
 
-  -- the ask that was made and not collected
+  -- the ask made and not collected
   abbrev pub open_ask : Phase N → List Ask
   open_ask free = []
   open_ask worker = []
@@ -177,7 +177,7 @@ module _ {N : Type 0} where
   open_ask round = []
   open_ask (granted g) = []
 
-  -- the amount that was posted and not taken
+  -- the amount posted and not taken
   abbrev pub open_grant : Phase N → List ℕ
   open_grant free = []
   open_grant worker = []
@@ -185,7 +185,7 @@ module _ {N : Type 0} where
   open_grant round = []
   open_grant (granted g) = g.octets ∷ []
 
-  -- 1 where an ask was collected and not answered
+  -- 1 if an ask was collected and not answered
   abbrev pub ahead : Phase N → ℕ
   ahead free = 0
   ahead worker = 0
@@ -200,7 +200,7 @@ module _ {N : Type 0} where
   Bears i round = Unit {0}
   Bears i (granted g) = g.lane ≡ i
 
-  -- the lane's word n and slot h, what its seat did and what the round did on it fit together
+  -- the lane's word n and slot h agree with the steps of its seat and of the round
   pub record Agrees (i n : ℕ) (h : Option (Option (LaneSlot N))) (x : LaneView) (t : TurnView) (ph : Phase N) : Type 0 where
     pub word_is : n ≡ code ph
     pub home_is : h ≡ some (home_of ph)
@@ -254,7 +254,7 @@ module _ {N : Type 0} where
   abbrev pub rises : Step (LaneSlot N) → Me (LaneSlot N) DeskView → ℕ → Me (LaneSlot N) DeskView → Type 0
   rises st m r m' = m' ≡ (with_lane st.word (has_risen (lane_in st.word m.0)) m.0, rest m.1)
 
-  -- the slot that a lane's seat holds in each state
+  -- the slot that a lane's seat has in each state
   abbrev pub held_in : SeatState → ℕ → List (ℕ × (LaneSlot N))
   held_in Free i = []
   held_in Worker i = (i, Blank) ∷ []

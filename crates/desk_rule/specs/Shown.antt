@@ -1,4 +1,4 @@
--- What the desk's table shows of a world, and what its steps change of that.
+-- The part of a world that the desk's table shows, and the effect of its steps on that.
 use Rattle.std.specs.Prelude.{◌≡◌, ◌≢◌, ℕ, List, [], ◌∷◌, Option, Some, None}
 use Rattle.atomic_table.specs.Table.{State}
 use Rattle.line_rates.specs.declared.ask.Ask.{Ask}
@@ -28,14 +28,14 @@ module _ {N : Type 0} where
   abbrev pub shown_of : Phase N → LaneView → TurnView → Shown
   shown_of ph x t = world.shown (state_in ph) (last_of x.asks) t.posted x.taken
 
-  -- what words, slots and views show of the lane i
+  -- the part of lane i that words, slots and views show
   abbrev pub shown_in : {s : State (LaneSlot N) DeskView} → Kept s → ℕ → Shown
   shown_in r i = shown_of (r.phase i) (r.lane i) (r.turn i)
 
-  -- what is shown of the lane i changes so, and what is shown of other lanes does not
+  -- the shown part of lane i changes as stated, and that of other lanes does not change
   abbrev pub Changes : {s s' : State (LaneSlot N) DeskView} → Kept s → Kept s' → ℕ → (Shown → Shown → Type 0) → Type 0
   Changes r r' i P = P (shown_in r i) (shown_in r' i) × ((j : ℕ) → j ≢ i → shown_in r' j ≡ shown_in r j)
 
-  -- the rule holds of the state s' too, and what is shown of the lane i alone changes, so
+  -- the rule is true for state s' too, and only the shown part of lane i changes, as stated
   abbrev pub StepsTo : {s : State (LaneSlot N) DeskView} → Kept s → State (LaneSlot N) DeskView → ℕ → (Shown → Shown → Type 0) → Type 0
   StepsTo r s' i P = (r' : Kept s') × Changes r r' i P

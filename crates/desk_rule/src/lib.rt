@@ -1,8 +1,8 @@
-//! The rule of a desk of lanes: what its words, its slots and what each seat knows have to do with one another between
-//! any two steps.
+//! The rule of a desk of lanes: the relation between its words, its slots and the views of its seats, between any two
+//! steps.
 //!
-//! `specs/Lanes.antt` has the rule and what each kind of step tells. The crates above make the steps: `lane_seats` those of
-//! a worker, `round_desk` those of the round, `desk_open` and `desk_close` those of the desk's beginning and end.
+//! `specs/Lanes.antt` has the rule and the result of each kind of step. The crates above make the steps: `lane_desk` those
+//! of a worker, `lane_desk` those of the round, `lane_desk` and `lane_desk` those of the desk's beginning and end.
 #![tactic(auto)]
 
 mod laws;

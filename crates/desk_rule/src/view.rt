@@ -1,58 +1,59 @@
-//! What a lane's slot holds, and what each seat knows.
+//! Contents of a lane's slot, and views of seats.
 
 use grant_ledger::Grant;
 use line_rates::Ask;
 use std::collections::LinkedList;
 
-/// What lies in the slot of a lane.
+/// The content of a lane's slot.
 pub enum LaneSlot<N> {
     Blank,
     WithAsk(Ask),
     WithGrant(Grant<N>),
 }
 
-/// Where a worker is with its lane.
+/// The state of a worker with its lane.
 #[derive(Clone, Copy, Debug, PartialEq, Eq)]
 pub enum SeatState {
     /// No worker has the lane.
     Free,
     /// A worker has it, and has not asked.
     Worker,
-    /// The worker has asked, and has not taken what answers it.
+    /// The worker has asked, and has not taken the answer.
     Asked,
 }
 
-/// What a lane's seat knows of the lane. No value of it is ever made.
+/// The view of a lane in its own seat. Exists for contracts only; no value is ever made.
 pub struct LaneView {
     pub state: SeatState,
-    /// For each sitting, how many asks were made before it.
+    /// For each sitting, the number of asks made before it.
     pub sittings: LinkedList<u64>,
-    /// The takes that found nothing.
+    /// Number of takes that found nothing.
     pub looks: u64,
     pub asks: LinkedList<Ask>,
     /// The amounts taken, in octets.
     pub taken: LinkedList<u64>,
 }
 
-/// What the round's seat knows of a lane. No value of it is ever made.
+/// The view of a lane in the round's seat. Exists for contracts only; no value is ever made.
 pub struct TurnView {
-    /// How often it has tried to collect.
+    /// Number of tries to collect.
     pub tries: u64,
     pub collected: LinkedList<Ask>,
     /// The amounts posted, in octets.
     pub posted: LinkedList<u64>,
 }
 
-/// What the round's seat knows. No value of it is ever made.
+/// The view of the round's seat. Exists for contracts only; no value is ever made.
 pub struct RoundView {
-    /// The lanes below it have had a seat.
+    /// Number of lanes whose seats were split off.
     pub dealt: u64,
     pub turns: LinkedList<TurnView>,
-    /// The lanes whose seats came back.
+    /// The lanes whose seats were returned.
     pub back: LinkedList<LaneView>,
 }
 
-/// What a seat knows: a lane's seat its lane, the round's seat all turns. A seat that was joined to the round's is spent.
+/// The view of a seat: a lane's seat knows its lane, the round's seat all turns. A seat joined to the round's is
+/// spent.
 pub enum DeskView {
     Spent,
     Lane(u64, LaneView),

@@ -1,11 +1,11 @@
-//! What tests expect, and what they ask.
+//! Expectations and asks of the tests.
 
 ghost use Rattle.std.specs.Prelude.{IsTrue};
 
 use line_rates::{Ask, Limits, UserRate, Way};
 use std::process::Abort;
 
-/// Stops the test where this does not hold.
+/// Stops the test if this is false.
 pub(crate) fn holds(rt: &impl Abort, fact: bool)
     ensures so { IsTrue fact }
 {
@@ -14,7 +14,7 @@ pub(crate) fn holds(rt: &impl Abort, fact: bool)
 
 /// The name of the tests' books.
 #[derive(Clone, Copy)]
-pub struct OfTest;
+pub(crate) struct OfTest;
 
 /// An ask of a user in their only session, down.
 pub(crate) fn down(user: u32, want: u64) -> Ask {
@@ -31,7 +31,7 @@ pub(crate) fn session_down(user: u32, session: u32, want: u64) -> Ask {
     }
 }
 
-/// Limits of the server's rate alone, and what each session of user 0 is guaranteed down.
+/// Limits with the server's rate alone, and a guarantee of downloads for each session of user 0.
 pub(crate) fn limits(rt: &(impl Abort + AllocGlobal), server: u64, floor: u64) -> Limits {
     let mut users = Vec::new(rt.alloc());
     if floor > 0 {

@@ -1,8 +1,8 @@
 //! Desks that cannot be opened, and calls at the wrong time.
 
 use super::expect::{OfTest, down, holds};
-use checked_desk::CheckedDesk;
 use lane_desk::DeskFault;
+use test_checked_desk::CheckedDesk;
 
 #[test]
 fn sixty_five_lanes(rt: HostRuntime) {
@@ -23,7 +23,7 @@ fn no_lane(rt: HostRuntime) {
     );
 }
 
-/// What a worker may do follows from its state, which its seat tells.
+/// The state of a seat determines what a worker may do.
 #[test]
 fn the_state_of_a_seat(rt: HostRuntime) {
     let mut desk = CheckedDesk::<OfTest>::open(rt.alloc(), 1, 0).expect(&rt, "a desk");

@@ -1,14 +1,14 @@
-//! What rounds post, row by row.
+//! The amounts that rounds post, row by row.
 
 use super::expect::{OfTest, down, holds, limits, session_down};
-use checked_desk::CheckedDesk;
 use grant_ledger::MAX_ISSUED;
 use lane_desk::RoundRefusal;
 use limit_tree::TreeFault;
 use line_rates::{Ask, Limits};
 use std::process::Abort;
+use test_checked_desk::CheckedDesk;
 
-/// A desk of so many lanes, with a book that has issued so much.
+/// A desk of `lanes` lanes, with a book that has issued `carried` octets.
 fn desk_of(rt: &(impl Abort + AllocGlobal), lanes: usize, full: bool) -> CheckedDesk<OfTest> {
     let carried = if full { MAX_ISSUED } else { 0 };
     CheckedDesk::open(rt.alloc(), lanes, carried).expect(rt, "a desk")
@@ -28,7 +28,7 @@ fn take_all(rt: &impl Abort, desk: &mut CheckedDesk<OfTest>, amounts: &[u64]) {
     }
 }
 
-/// Asks on the first lanes of a new desk, and what a round at moment 0 posts to them.
+/// Asks on the first lanes of a new desk, and the amounts that a round at moment 0 posts to them.
 fn first_round(
     rt: &(impl Abort + AllocGlobal),
     limits: &Limits,
@@ -46,7 +46,7 @@ fn first_round(
 }
 
 #[test]
-fn checked_desk(rt: HostRuntime) {
+fn test_checked_desk(rt: HostRuntime) {
     let limits = limits(&rt, 25, 0); // a server's rate of 25 octets a second: 2 in the first tick, and 3 in the next
     let mut desk = CheckedDesk::<OfTest>::open(rt.alloc(), 2, 0).expect(&rt, "a desk");
     holds(&rt, desk.sit(0) && desk.ask(0, down(7, 5))); // a worker on lane 0, for user 7
@@ -84,7 +84,7 @@ fn without_limits_all_is_granted(rt: HostRuntime) {
     );
 }
 
-/// A round at a moment is refused for this reason, and answers these lanes by nothing.
+/// A round at a moment is refused for this reason, and answers these lanes with 0 octets.
 fn refused(
     rt: &(impl Abort + AllocGlobal),
     desk: &mut CheckedDesk<OfTest>,
@@ -168,7 +168,7 @@ fn one_round_a_tick(rt: HostRuntime) {
         ),
         Err(_) => panic!(&rt; "a later tick was refused"),
     }
-    // what was posted and not taken comes back
+    // amounts posted and not taken are given back
     let settled = desk.close();
     holds(
         &rt,

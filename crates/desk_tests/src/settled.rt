@@ -3,11 +3,11 @@
 ghost use Rattle.std.specs.Prelude.{◌≡◌};
 
 use super::expect::{OfTest, down, holds, limits};
-use checked_desk::{OwnSeat, settle_two, two_seats};
 use grant_ledger::{Book, Settled};
 use lane_desk::{Desk, RoundRefusal, Rounds, open_desk};
 use line_rates::Limits;
 use std::process::Abort;
+use test_checked_desk::{OwnSeat, settle_two, two_seats};
 
 /// The amounts that a lane took, in order.
 type Taken = Vec<u64>;

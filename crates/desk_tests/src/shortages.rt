@@ -1,14 +1,14 @@
-//! Memory that is refused, at each growth in turn, and there again.
+//! Memory that is refused, at each growth in turn, and then available again.
 
 use super::expect::{OfTest, down, holds, limits};
-use checked_desk::CheckedDesk;
 use lane_desk::{DeskFault, RoundFault, RoundRefusal};
 use line_rates::Limits;
 use linked_list_allocator::LocalHeap;
-use scarce_memory::{HEAP, leave_hole};
 use std::process::Abort;
+use test_checked_desk::CheckedDesk;
+use test_scarce_memory::{HEAP, leave_hole};
 
-/// Whether a desk has memory; where it has, it is one of two lanes.
+/// Returns whether a desk has memory; if so, it is one of two lanes.
 fn has_desk(rt: &impl Abort, heap: &LocalHeap) -> bool {
     match CheckedDesk::<OfTest, &LocalHeap>::open(heap, 2, 0) {
         Ok(desk) => {
@@ -57,7 +57,7 @@ fn begin(rt: &(impl Abort + AllocGlobal), desk: &mut CheckedDesk<OfTest>, limits
     ask_both(rt, desk);
 }
 
-/// Whether the round of the second tick has memory; where it has not, each ask is answered by nothing.
+/// Returns whether the round of the second tick has memory; if not, each ask is answered with 0 octets.
 fn has_round(
     rt: &impl Abort,
     heap: &LocalHeap,
@@ -82,7 +82,7 @@ fn has_round(
     }
 }
 
-/// Whether the second round is refused in a hole of so many octets.
+/// Returns whether the second round is refused in a hole of this many octets.
 fn is_refused(
     rt: &(impl Abort + AllocGlobal),
     heap: &LocalHeap,
@@ -97,15 +97,15 @@ fn is_refused(
     !first
 }
 
-/// Whether a desk is closed at once, or after one more round at the same tick, of whose grants the first is taken.
+/// Returns whether a desk is closed at once, or after one more round at the same tick, of whose grants the first is taken.
 #[derive(Clone, Copy, PartialEq)]
 enum Then {
     Close,
     Again,
 }
 
-/// The same of a new desk, which is settled then: a refused round leaves the book as it was, so that the next one at the same
-/// tick is taken, and the sums add up at each place.
+/// The same with a new desk, which is settled then: a refused round leaves the book unchanged, so that the next one at the
+/// same tick is accepted, and the sums add up in each case.
 fn settles(
     rt: &(impl Abort + AllocGlobal),
     heap: &LocalHeap,
@@ -138,13 +138,13 @@ fn a_round_without_memory(rt: HostRuntime) {
     for then in [Then::Close, Then::Again] {
         for step in 0..192usize {
             let refused = settles(&rt, &heap, &limits, 16 * step, then);
-            // With no room it is refused, and with much it is not.
+            // With no room it is refused, and with enough it is not.
             holds(&rt, if refused { step < 191 } else { step > 0 });
         }
     }
 }
 
-/// On a heap that has nothing left, a worker sits, asks, takes and rises, and the desk is closed.
+/// On a full heap, a worker sits, asks, takes and rises, and the desk is closed.
 #[test]
 fn all_other_calls_take_no_memory(rt: HostRuntime) {
     let limits = limits(&rt, 30, 0);

@@ -1,25 +1,25 @@
 //! A worker and rounds in two threads, many times.
 
 ghost use Rattle.std.specs.Prelude.{◌≡◌, ◌<◌};
-ghost use Rattle.lane_seats.specs.Seats.{IsSeatOf, IsSameSeat};
-ghost use Rattle.round_desk.specs.Turns.{IsRoundOf, IsSameRound};
+ghost use Rattle.lane_desk.specs.Seats.{IsSeatOf, IsSameSeat};
+ghost use Rattle.lane_desk.specs.Turns.{IsRoundOf, IsSameRound};
 
 use super::expect::{OfTest, down, holds, limits};
-use checked_desk::{OwnSeat, settle_two, two_seats};
 use grant_ledger::Book;
 use lane_desk::{Desk, Rounds, open_desk};
 use line_rates::Limits;
 use std::alloc::Global;
 use std::thread;
 use std::thread::Threads;
+use test_checked_desk::{OwnSeat, settle_two, two_seats};
 
-/// How many grants the worker takes.
+/// Number of grants that the worker takes.
 const GRANTS: u64 = 300;
 
-/// How often each thread tries before it gives up.
+/// Number of tries of each thread before it gives up.
 const TRIES: u64 = 4_000_000;
 
-// Sits, and then asks for 2 octets, takes what is granted and moves 1, again and again. It tells how often it was granted 2.
+// Sits, and then repeatedly asks for 2 octets, takes its grant and moves 1. Returns how often it was granted 2.
 fn work(desk: &Desk<OfTest>, own: &mut OwnSeat<OfTest>) -> u64
     requires desk { IsSeatOf desk.now own.old.seat }
     ensures same { IsSameSeat own.old.seat own.new.seat }
@@ -40,7 +40,7 @@ fn work(desk: &Desk<OfTest>, own: &mut OwnSeat<OfTest>) -> u64
     grants
 }
 
-// Makes rounds, one a tick, until so many asks were answered; it tells how many were.
+// Holds rounds, one per tick, until this many asks were answered. Returns the number answered.
 fn lead(alloc: Global, desk: &Desk<OfTest>, rounds: &mut Rounds<OfTest>, limits: &Limits) -> u64
     requires desk { IsRoundOf desk.now rounds.old.desk }
     ensures same { IsSameRound rounds.old.desk rounds.new.desk }
@@ -63,7 +63,7 @@ fn lead(alloc: Global, desk: &Desk<OfTest>, rounds: &mut Rounds<OfTest>, limits:
     answered
 }
 
-// Both at once: how often the worker was granted, and how often the rounds answered.
+// Both at once: the number of grants to the worker, and the number of answers of the rounds.
 fn work_and_lead<R: Threads + Sync>(
     rt: &R,
     alloc: Global,

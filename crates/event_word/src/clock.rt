@@ -1,8 +1,8 @@
-//! Moments of a clock that never goes back.
+//! Moments of a monotonic clock.
 
 use std::time::Clock;
 
-/// The microseconds of a clock that never goes back; 0 where it cannot be read.
+/// Microseconds of a monotonic clock; 0 if it cannot be read.
 pub fn micros<R: Clock>(rt: &R) -> u64 {
     match rt.monotonic() {
         Ok(time) => time

@@ -6,18 +6,18 @@ use std::sync::atomic::{AtomicU64, Ordering};
 use std::thread;
 use std::time::{Clock, Duration};
 
-/// How often something has happened, for one waiter at a time.
+/// A count of events, for one waiter at a time.
 #[derive(Drop)]
 pub struct EventCount {
     word: AtomicU64,
     // 1 while the waiter sleeps or is about to
     parked: AtomicU64,
-    // so that two of them do not share a line of the processor's cache
+    // keeps two of them in different lines of the processor's cache
     room: [u64; 14],
 }
 
 impl EventCount {
-    /// Nothing has happened yet.
+    /// A count without events.
     pub fn new() -> EventCount {
         EventCount {
             word: AtomicU64::new(0),
@@ -26,20 +26,20 @@ impl EventCount {
         }
     }
 
-    /// The count, to be read before the look for what it tells of.
+    /// The count. Read it before checking for the event.
     pub fn seen(&self) -> u64 {
         self.word.load(Ordering::SeqCst)
     }
 
-    /// Raises the count, and wakes nobody: for who looks at it without sleeping, or is woken otherwise.
+    /// Increases the count, and wakes nobody: for a waiter that polls or is woken otherwise.
     pub fn raise(&self) {
         self.word.fetch_add(1, Ordering::SeqCst);
     }
 
-    /// Raises the count and wakes the waiter.
+    /// Increases the count and wakes the waiter.
     ///
-    /// The waiter says that it sleeps and then compares the count; this raises the count and then looks whether it sleeps.
-    /// So one of the two sees the other.
+    /// The waiter announces that it sleeps and then compares the count; this increases the count and then checks whether
+    /// the waiter sleeps. So one of the two sees the other.
     pub fn signal(&self) {
         self.raise();
         if self.parked.load(Ordering::SeqCst) != 0 && self.parked.swap(0, Ordering::SeqCst) != 0 {
@@ -47,7 +47,7 @@ impl EventCount {
         }
     }
 
-    // Gives way to other threads for so many microseconds. Returns whether the count has changed from `seen` by then.
+    // Yields to other threads for `patience` microseconds. Returns whether the count has changed from `seen` by then.
     fn changes<R: Wait + Clock>(&self, rt: &R, seen: u64, patience: u64) -> bool {
         let start = micros(rt);
         for _ in rt.forever() {
@@ -62,8 +62,8 @@ impl EventCount {
         unreachable!()
     }
 
-    /// Waits until the count is not `seen`, and at most `limit`: it gives way to other threads for `patience` microseconds,
-    /// and then sleeps. It may return for no reason.
+    /// Waits until the count is not `seen`, at most `limit`: yields to other threads for `patience` microseconds, and then
+    /// sleeps. May return spuriously.
     pub fn wait<R: Wait + Clock>(&self, rt: &R, seen: u64, patience: u64, limit: Duration) {
         if self.seen() != seen {
             return;

@@ -1,7 +1,7 @@
 -- The machine's paths of entries.
 use Rattle.std.proofs.Common.{◌≡◌, ◌⊎◌, inl, inr, ◌+◌, ◌<◌, ◌≤◌, List, [], ◌∷◌, ◌++◌, length, take, get_or, map, refl, sym, ap, subst, ◌∙◌, ℕ}
 use Rattle.std.proofs.lemmas.List.{append_assoc, append-nil, map-append, take_all, take_more}
-use Rattle.machine_files.specs.MachinePaths.{open_text, IsOpenText, IsEntered}
+use Rattle.folder_store.specs.MachinePaths.{open_text, IsOpenText, IsEntered}
 use Rattle.virtual_path.specs.Path.{Path, slashed}
 use Rattle.virtual_path.proofs.Texts.{slashed-push}
 use Rattle.folder_store.specs.Places.{LeadsTo}

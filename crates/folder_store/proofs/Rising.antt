@@ -6,10 +6,10 @@ use Rattle.std.specs.List.Sorted.{IsStrictlySortedBy}
 use Rattle.std.specs.Ordering.{nat_cmp}
 use Rattle.std.specs.String.{string_bytes}
 use Rattle.std.specs.declared.cmp.Ordering.TheVariants.{Less}
-use Rattle.virtual_tree.specs.declared.listed.Listed.{Listed}
+use Rattle.virtual_tree.specs.declared.listed.ListedEntry.{ListedEntry}
 use Rattle.folder_store.specs.Listings.{ComesLast}
 
-abbrev names_in : {A : Type 0} → List (Listed A) → List (List ℕ)
+abbrev names_in : {A : Type 0} → List (ListedEntry A) → List (List ℕ)
 names_in listed = map (λ entry. string_bytes entry.name) listed
 
 abbrev IsBelow : List ℕ → List ℕ → Type 0
@@ -23,14 +23,14 @@ at_last : (name other : List ℕ) (names : List (List ℕ)) → AllByRecursion (
 at_last name other [] all = all.0
 at_last name other (first ∷ names) all = at_last name other names all.1
 
-last_of_more : {A : Type 0} (first next : Listed A) (listed : List (Listed A)) (last : Listed A) → slice_get (next ∷ listed) (length (next ∷ listed) - 1) ≡ Some last
+last_of_more : {A : Type 0} (first next : ListedEntry A) (listed : List (ListedEntry A)) (last : ListedEntry A) → slice_get (next ∷ listed) (length (next ∷ listed) - 1) ≡ Some last
     → slice_get (first ∷ next ∷ listed) (length (first ∷ next ∷ listed) - 1) ≡ Some last
 last_of_more first next listed last is =
     let outer : suc (suc (length listed)) - 1 ≡ suc (length listed) = omega arith in
     let inner : length listed ≡ suc (length listed) - 1 = omega arith in
     ap (slice_get (first ∷ next ∷ listed)) outer ∙ ap (slice_get (next ∷ listed)) inner ∙ is
 
-pub rising_push : {A : Type 0} (listed : List (Listed A)) (entry : Listed A) → IsStrictlySortedBy (slice_cmp nat_cmp) (names_in listed) → ComesLast listed (string_bytes entry.name)
+pub rising_push : {A : Type 0} (listed : List (ListedEntry A)) (entry : ListedEntry A) → IsStrictlySortedBy (slice_cmp nat_cmp) (names_in listed) → ComesLast listed (string_bytes entry.name)
     → IsStrictlySortedBy (slice_cmp nat_cmp) (names_in (listed ++ entry ∷ []))
 unfolding IsStrictlySortedBy
 rising_push [] entry rises last = (tt, (tt))
@@ -42,7 +42,7 @@ rising_push (first ∷ next ∷ listed) entry rises last =
     (at_last (string_bytes next.name) (string_bytes entry.name) (names_in listed) (subst (λ names. AllByRecursion (IsBelow (string_bytes next.name)) names) (names_push listed entry) rest.0)) in
     (subst (λ names. AllByRecursion (IsBelow (string_bytes first.name)) names) (sym (names_push (next ∷ listed) entry)) (each_more (string_bytes first.name) (string_bytes entry.name) (names_in (next ∷ listed)) rises.0 below), rest)
   where
-    names_push : {A : Type 0} (listed : List (Listed A)) (entry : Listed A) → names_in (listed ++ entry ∷ []) ≡ names_in listed ++ string_bytes entry.name ∷ []
+    names_push : {A : Type 0} (listed : List (ListedEntry A)) (entry : ListedEntry A) → names_in (listed ++ entry ∷ []) ≡ names_in listed ++ string_bytes entry.name ∷ []
     names_push [] entry = refl
     names_push (first ∷ listed) entry = ap (λ names. string_bytes first.name ∷ names) (names_push listed entry)
 
@@ -50,5 +50,5 @@ empty_rises : IsStrictlySortedBy (slice_cmp nat_cmp) []
 unfolding IsStrictlySortedBy
 empty_rises = tt
 
-pub rising_none : {A : Type 0} (listed : List (Listed A)) → listed ≡ [] → IsStrictlySortedBy (slice_cmp nat_cmp) (names_in listed)
+pub rising_none : {A : Type 0} (listed : List (ListedEntry A)) → listed ≡ [] → IsStrictlySortedBy (slice_cmp nat_cmp) (names_in listed)
 rising_none listed none = subst (λ names. IsStrictlySortedBy (slice_cmp nat_cmp) (names_in names)) (sym none) empty_rises

@@ -1,8 +1,9 @@
-//! Entries of a folder that are made, removed and renamed.
+//! Creating, removing and renaming entries of a folder.
 
+use crate::fault::MachineFault;
 use crate::folder::Folder;
-use ftp_terms::Kind;
-use machine_files::{MachineFault, fault_of};
+use crate::look::fault_of;
+use ftp_terms::EntryKind;
 use std::fs;
 use std::fs::OpenOptions;
 use std::os::fd::AsRawFd;
@@ -13,7 +14,7 @@ impl<R: Files + Alloc + Clone + Drop> Folder<R>
 where
     R::File: AsRawFd,
 {
-    /// Makes an empty directory.
+    /// Creates an empty directory.
     pub fn make_directory(&self, path: &VPath<R::A>) -> Result<(), MachineFault> {
         if path.is_root() {
             return Err(MachineFault::Exists);
@@ -29,7 +30,7 @@ where
         }
         let place = self.found(path)?;
         let meta = self.look(place.text())?;
-        if meta.kind == Kind::File {
+        if meta.kind == EntryKind::File {
             return Err(MachineFault::NotDir);
         }
         fs::remove_dir(&self.rt, place.text()).map_err(|error| fault_of(&error))
@@ -42,7 +43,7 @@ where
         fs::remove_file(&self.rt, place.text()).map_err(|error| fault_of(&error))
     }
 
-    /// Gives an entry another place, where nothing stands.
+    /// Moves an entry to a path without an entry.
     pub fn rename(&self, from: &VPath<R::A>, to: &VPath<R::A>) -> Result<(), MachineFault> {
         if from.is_root() || to.is_root() {
             return Err(MachineFault::Inside);
@@ -58,9 +59,9 @@ where
         self.replace(meta.kind, old.text(), new.text())
     }
 
-    /// Makes an empty entry, where nothing stands, so that the machine's rename replaces just this one.
-    fn reserve(&self, kind: Kind, place: &str) -> Result<(), MachineFault> {
-        if kind == Kind::Directory {
+    /// Creates an empty entry at a free path, so that the machine's rename replaces only that.
+    fn reserve(&self, kind: EntryKind, place: &str) -> Result<(), MachineFault> {
+        if kind == EntryKind::Directory {
             return fs::create_dir(&self.rt, place).map_err(|error| fault_of(&error));
         }
         match OpenOptions::new()
@@ -73,14 +74,14 @@ where
         }
     }
 
-    /// The machine's rename, over a reserved entry. Where it is refused the reserved entry is removed.
-    fn replace(&self, kind: Kind, old: &str, new: &str) -> Result<(), MachineFault> {
+    /// The machine's rename, over a reserved entry. If it is refused, the reserved entry is removed.
+    fn replace(&self, kind: EntryKind, old: &str, new: &str) -> Result<(), MachineFault> {
         let Err(error) = fs::rename(&self.rt, old, new) else {
             return Ok(());
         };
         let _removed = match kind {
-            Kind::Directory => fs::remove_dir(&self.rt, new),
-            Kind::File => fs::remove_file(&self.rt, new),
+            EntryKind::Directory => fs::remove_dir(&self.rt, new),
+            EntryKind::File => fs::remove_file(&self.rt, new),
         };
         match fault_of(&error) {
             // Another process has put something into the reserved directory.

@@ -1,10 +1,10 @@
-//! How many faults there were.
+//! The count of faults.
 
 ghost use Rattle.std.specs.Prelude.{◌<◌, ◌^◌};
 
-/// How many faults of the device there were, modulo 2^64.
+/// Number of device faults so far, modulo 2^64.
 #[derive(Clone, Copy)]
-pub struct FaultCount {
+pub(crate) struct FaultCount {
     pub count: u64,
     pub ghost small: { count < 2 ^ 64 },
 }

@@ -1,9 +1,9 @@
-//! Files of a folder that are opened.
+//! Opening files of a folder.
 
+use crate::fault::MachineFault;
 use crate::folder::Folder;
-use machine_files::{
-    DirSink, DirSource, MachineFault, fault_of, read_behind, write_at_end, write_behind, write_new,
-};
+use crate::look::fault_of;
+use crate::open::{DirSink, DirSource, read_behind, write_at_end, write_behind, write_new};
 use std::fs;
 use std::fs::{Metadata, OpenOptions};
 use std::os::fd::AsRawFd;
@@ -15,9 +15,9 @@ impl<R: Files + Alloc + Clone + Drop> Folder<R>
 where
     R::File: AsRawFd,
 {
-    /// A file that stands, opened to be written, by options that read too. By these a pipe in its place does not
-    /// hold the call, as it could where it is opened for writing alone. Where the machine refuses that, the
-    /// file is opened by the others, for what is asked alone.
+    /// Opens an existing file for writing, with options that allow reading too. With these, a pipe in its place
+    /// does not block the call, as it could if opened for writing only. If the machine refuses that, the file is
+    /// opened with the other options, for writing only.
     fn open_standing(
         &self,
         place: &str,
@@ -32,7 +32,7 @@ where
             .map_err(|error| fault_of(&error))
     }
 
-    /// A file's octets from an offset on. It is opened for reading alone: one that is open for writing could not be
+    /// A file's octets from an offset on. It is opened for reading only: a file open for writing could not be
     /// executed meanwhile.
     pub fn read_from(
         &self,
@@ -50,7 +50,7 @@ where
         read_behind(file, &looked, offset)
     }
 
-    /// A new file, where nothing stands, not even a link, made by options that say how it is written.
+    /// Creates a file at a free path, one without even a link, with the given options.
     fn make_file(&self, place: &str, how: &OpenOptions) -> Result<DirSink<R::File>, MachineFault> {
         match how.open(&self.rt, place) {
             Ok(file) => Ok(write_new(file)),
@@ -58,7 +58,7 @@ where
         }
     }
 
-    /// A file that stands, opened without cutting it off, and then cut behind its first octets.
+    /// An existing file, opened without truncation and then cut to its first octets.
     fn write_over(
         &self,
         place: &str,
@@ -73,7 +73,7 @@ where
         write_behind(file, looked, kept)
     }
 
-    /// A file that stands, opened so that each write goes behind all that it holds by then.
+    /// An existing file, opened so that each write goes after all its octets at that time.
     fn append_to(&self, place: &str, looked: &Metadata) -> Result<DirSink<R::File>, MachineFault> {
         let mut both = OpenOptions::new();
         both.read(true).append(true);
@@ -83,7 +83,7 @@ where
         write_at_end(file, looked)
     }
 
-    /// What a file is written through.
+    /// Opens a file for writing in a mode.
     pub fn write_by(
         &self,
         path: &VPath<R::A>,

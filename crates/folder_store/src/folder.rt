@@ -1,30 +1,32 @@
-//! Where entries stand in a folder of the machine, and what is found there.
+//! Paths of entries in a folder of the machine, and their metadata.
 
 ghost use Rattle.std.specs.Prelude.{◌≡◌, ◌⊎◌, ◌++◌, ◌∷◌, [], map, IfOk, OnOk, string_bytes};
-ghost use Rattle.machine_files.specs.MachinePaths.{IsOpenText};
+ghost use Rattle.folder_store.specs.MachinePaths.{IsOpenText};
 ghost use Rattle.folder_store.specs.Places.{LeadsTo};
 
-use ftp_terms::{Kind, Meta};
-use machine_files::{MachineFault, MachinePath, enter, fault_of, meta_of};
+use crate::fault::MachineFault;
+use crate::look::{fault_of, meta_of};
+use crate::machine_path::{MachinePath, enter};
+use ftp_terms::{EntryKind, Meta};
 use std::fs::Metadata;
 use std::os::fd::AsRawFd;
 use std::rt::Files;
 use std::{fs, io};
 use virtual_path::VPath;
 
-/// A folder of the machine, by the machine's path of it.
+/// A folder of the machine, given by the machine's path.
 #[derive(Drop)]
-pub struct Folder<R: Files + Alloc + Clone + Drop> {
+pub(crate) struct Folder<R: Files + Alloc + Clone + Drop> {
     pub rt: R,
     pub path: String<R::A>,
 }
 
-/// What the machine tells of an entry, or why it tells nothing.
+/// The metadata of an entry, or why there is none.
 fn told(answer: io::Result<Metadata>) -> Result<Metadata, MachineFault> {
     answer.map_err(|error| fault_of(&error))
 }
 
-/// What is known of a directory or a file; anything else is not found.
+/// The metadata of a directory or a file; anything else is not found.
 fn known(metadata: &Metadata) -> Result<Meta, MachineFault> {
     meta_of(metadata).ok_or(MachineFault::NotFound)
 }
@@ -33,12 +35,12 @@ impl<R: Files + Alloc + Clone + Drop> Folder<R>
 where
     R::File: AsRawFd,
 {
-    /// What the machine tells of the folder itself, which may be reached through a link.
+    /// The metadata of the folder itself, which may be reached through a link.
     fn itself(&self) -> Result<Metadata, MachineFault> {
         told(fs::metadata(&self.rt, self.path.as_str()))
     }
 
-    /// What the machine tells of an entry, which is followed no further where it is a link.
+    /// The metadata of an entry; a link is not followed.
     fn tells(&self, place: &str) -> Result<Metadata, MachineFault> {
         told(fs::symlink_metadata(&self.rt, place))
     }
@@ -53,8 +55,7 @@ where
         Ok(place)
     }
 
-    /// Goes one name further, and enters the directory that stands there. Answers whether a file
-    /// stands there.
+    /// Goes one name further, and enters the directory there. Returns whether a file is there.
     fn step(&self, place: &mut MachinePath<R::File, R::A>, name: &str) -> Result<bool, MachineFault>
         ensures place { OnOk result (IsOpenText place.new
             ⊎ (place.new ≡ place.old ++ 47 ∷ name.now)) }
@@ -62,17 +63,17 @@ where
         place.push(name)?;
         let looked = self.tells(place.text())?;
         let meta = known(&looked)?;
-        if meta.kind == Kind::File {
+        if meta.kind == EntryKind::File {
             return Ok(true);
         }
         enter(&self.rt, place, &looked)?;
         Ok(false)
     }
 
-    /// The directory to which these names lead, each of which has to be that of a directory, and no
-    /// link.
+    /// The directory that these names lead to; each must be the name of a directory, not of a link.
     ///
-    /// Where the last is that of a file the fault is `NotDir`; where nothing can stand, `NotFound`.
+    /// Returns `NotDir` if the last name is that of a file, and `NotFound` if no entry can be
+    /// there.
     pub fn directory(&self, names: &[&str]) -> Result<MachinePath<R::File, R::A>, MachineFault>
         ensures place { IfOk result
             (LeadsTo (string_bytes self.now.path) (map (λ name. name.now) names.now)) }
@@ -91,7 +92,7 @@ where
         Ok(place)
     }
 
-    /// Where an entry of this name stands or can stand, in the directory to which names lead.
+    /// The path of an entry with this name, existing or not, in the directory that names lead to.
     fn below(&self, above: &[&str], last: &str) -> Result<MachinePath<R::File, R::A>, MachineFault>
         ensures place { IfOk result
             (LeadsTo (string_bytes self.now.path)
@@ -102,7 +103,7 @@ where
         Ok(place)
     }
 
-    /// Where an entry stands or can stand: below the directories above it, which are there.
+    /// The path of an entry, existing or not, below existing directories.
     pub fn place(&self, path: &VPath<R::A>) -> Result<MachinePath<R::File, R::A>, MachineFault>
         ensures place { IfOk result (LeadsTo (string_bytes self.now.path) path.now) }
     {
@@ -113,7 +114,7 @@ where
         }
     }
 
-    /// Where an entry stands that is to be found, not made: nothing stands beneath a file.
+    /// The path of an entry that must exist; there is nothing beneath a file.
     pub fn found(&self, path: &VPath<R::A>) -> Result<MachinePath<R::File, R::A>, MachineFault>
         ensures place { IfOk result (LeadsTo (string_bytes self.now.path) path.now) }
     {
@@ -123,13 +124,13 @@ where
         }
     }
 
-    /// What is known of what stands at a machine's path.
+    /// The metadata of the entry at a path of the machine.
     pub fn look(&self, place: &str) -> Result<Meta, MachineFault> {
         let metadata = self.tells(place)?;
         known(&metadata)
     }
 
-    /// What stands at a path.
+    /// The metadata of the entry at a path.
     pub fn look_at(&self, path: &VPath<R::A>) -> Result<Meta, MachineFault> {
         if path.is_root() {
             let metadata = self.itself()?;
@@ -139,7 +140,7 @@ where
         self.look(place.text())
     }
 
-    /// Where a file stands that is to be found. None stands at the root.
+    /// The path of a file that must exist. The root is not a file.
     pub fn found_file(&self, path: &VPath<R::A>) -> Result<MachinePath<R::File, R::A>, MachineFault>
         ensures place { IfOk result (LeadsTo (string_bytes self.now.path) path.now) }
     {
@@ -149,16 +150,16 @@ where
         self.found(path)
     }
 
-    /// What the machine tells of a file that stands at a machine's path.
+    /// The machine's metadata of the file at a path of the machine.
     pub fn look_file(&self, place: &str) -> Result<Metadata, MachineFault> {
         let looked = self.tells(place)?;
         match known(&looked)?.kind {
-            Kind::Directory => Err(MachineFault::IsDir),
-            Kind::File => Ok(looked),
+            EntryKind::Directory => Err(MachineFault::IsDir),
+            EntryKind::File => Ok(looked),
         }
     }
 
-    /// Refuses where anything stands, a link too.
+    /// Refuses if there is any entry, even a link.
     pub fn nothing_at(&self, place: &str) -> Result<(), MachineFault> {
         match self.tells(place) {
             Ok(_) => Err(MachineFault::Exists),

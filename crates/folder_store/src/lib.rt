@@ -1,10 +1,10 @@
 //! A store over a folder of the machine.
 //!
-//! [`DirStore`] serves a folder and all beneath it, and leaves it nowhere: a call goes down name by
-//! name, and each directory on its way is looked at, opened, and held open while what stands in it is
-//! called by name. Symbolic links below the folder are not followed and not listed, nor are sockets,
-//! pipes and devices. An entry that is not listed still stands: nothing is made in its place, and its
-//! directory is not empty.
+//! [`DirStore`] serves a folder and everything beneath it, and never leaves it: a call goes down name by
+//! name; each directory on the way is examined, opened, and kept open while its entries are accessed by
+//! name. Symbolic links below the folder are neither followed nor listed; sockets, pipes and devices are
+//! not listed. An entry that is not listed still exists: nothing is created in its place, and its directory
+//! is not empty.
 //!
 //! ```text
 //! let path = VPath::root(rt.alloc()).resolve(rt.alloc(), "/report")?;
@@ -14,27 +14,32 @@
 //! store.finish(sink, 951_827_696_000)?; // milliseconds since 1970
 //! ```
 //!
-//! A new file is made only where nothing stands, not even a link. A file that stands is opened without
-//! cutting it off, and is read or cut only if it is the very one that was looked at. A rename replaces just
-//! the empty entry that it made at the new name itself, where nothing stood.
+//! A new file is created only at a free path, one without even a link. An existing file is opened without
+//! truncation, and is read or cut only if it is the very one that was examined. A rename replaces only the
+//! empty entry that it created itself at the new name, which was free.
 //!
-//! What another process of the machine could still do: where a directory may be entered and not read,
-//! or the machine has no `/proc`, it can put a symbolic link in the directory's place between the look
-//! at it and the call that goes through it, and the call then follows that link, which may lead out of
-//! the folder. What it writes into the empty entry of a rename is lost. A pipe that it puts in a file's
-//! place holds a download's call, and an upload's where this process may only read or only write that
-//! pipe. So no other process may write below the folder that is not trusted with all that this one may
-//! reach.
+//! Another process of the machine can still do the following. If a directory may be entered but not read,
+//! or the machine has no `/proc`, it can put a symbolic link in the directory's place after the check and
+//! before the call; the call then follows that link, which may lead out of the folder. Octets that it
+//! writes into the empty entry of a rename are lost. A pipe that it puts in a file's place blocks the call
+//! of a download, and that of an upload if this process may only read or only write that pipe. So no
+//! process may write below the folder unless it is trusted with everything that this one can access.
 //!
-//! What a call that is refused for the device leaves is the machine's to say; a rename leaves the entry at
-//! one of its two places.
+//! The state after a call that was refused for the device is left to the machine; a rename leaves the entry
+//! at one of its two paths.
 #![tactic(auto)]
 
 mod changes;
 mod count;
+mod fault;
 mod files;
 mod folder;
 mod listing;
+mod look;
+mod machine_path;
+mod open;
 mod store;
 
+pub use fault::MachineFault;
+pub use open::{DirSink, DirSource, flushed, write_new};
 pub use store::DirStore;

@@ -1,4 +1,4 @@
-//! What a folder's directories are told to hold.
+//! Listings of a folder's directories.
 
 ghost use Rattle.std.specs.Prelude.{◌≡◌, IsTrue, IfOk, IfSome, string_bytes};
 ghost use Rattle.std.specs.Cmp.Lexicographic.{slice_cmp};
@@ -7,8 +7,9 @@ ghost use Rattle.std.specs.Ordering.{nat_cmp};
 ghost use Rattle.virtual_tree.specs.Calls.{names_of};
 ghost use Rattle.folder_store.specs.Listings.{ComesLast};
 
+use crate::fault::MachineFault;
 use crate::folder::Folder;
-use machine_files::{MachineFault, fault_of};
+use crate::look::fault_of;
 use std::alloc::Allocator;
 use std::fs::DirEntry;
 use std::io::ErrorKind;
@@ -16,14 +17,14 @@ use std::os::fd::AsRawFd;
 use std::rt::Files;
 use std::{fs, io};
 use virtual_path::{VPath, is_name};
-use virtual_tree::Listed;
+use virtual_tree::ListedEntry;
 
 impl<R: Files + Alloc + Clone + Drop> Folder<R>
 where
     R::File: AsRawFd,
 {
-    /// The entries of a directory, in the order of their names' octets.
-    pub fn list(&self, path: &VPath<R::A>) -> Result<Vec<Listed<R::A>, R::A>, MachineFault>
+    /// The entries of a directory, sorted by the octets of their names.
+    pub fn list(&self, path: &VPath<R::A>) -> Result<Vec<ListedEntry<R::A>, R::A>, MachineFault>
         ensures rising { IfOk result
             (λ listed. IsStrictlySortedBy (slice_cmp nat_cmp) (names_of listed)) }
     {
@@ -34,7 +35,7 @@ where
 
     /// The entries in a folder of the machine that a path can name, each name once.
     #[tactic(auto, using(crate::proofs::Rising::rising_push))]
-    fn entries(&self, folder: &str) -> Result<Vec<Listed<R::A>, R::A>, MachineFault>
+    fn entries(&self, folder: &str) -> Result<Vec<ListedEntry<R::A>, R::A>, MachineFault>
         ensures rising { IfOk result
             (λ listed. IsStrictlySortedBy (slice_cmp nat_cmp) (names_of listed)) }
     {
@@ -52,7 +53,7 @@ where
         Ok(listed)
     }
 
-    /// The names in a folder of the machine that are UTF-8, in the order of their octets.
+    /// The names in a folder of the machine that are UTF-8, sorted by their octets.
     fn names(&self, folder: &str) -> Result<Vec<String<R::A>, R::A>, MachineFault> {
         let entries = match fs::read_dir(&self.rt, folder) {
             Ok(entries) => entries,
@@ -70,7 +71,7 @@ where
         Ok(names)
     }
 
-    /// The name of an entry that the machine tells; none where it is no UTF-8.
+    /// The name of an entry of the machine; `None` if it is not UTF-8.
     fn name_of(
         &self,
         entry: io::Result<DirEntry<R, R::A>>,
@@ -84,10 +85,14 @@ where
         }
     }
 
-    /// An entry of a folder of the machine. There is none to tell where no path can name it, where it is
-    /// neither a directory nor a file, and where it is gone by now. What else the machine refuses is a fault
-    /// of the device: a listing that leaves an entry out would say that it is not there.
-    fn entry(&self, folder: &str, name: String<R::A>) -> Result<Option<Listed<R::A>>, MachineFault>
+    /// An entry of a folder of the machine. `None` if no path can name it, if it is neither a directory nor
+    /// a file, or if it is gone by now. Any other refusal by the machine is a fault of the device: a listing
+    /// without the entry would say that it does not exist.
+    fn entry(
+        &self,
+        folder: &str,
+        name: String<R::A>,
+    ) -> Result<Option<ListedEntry<R::A>>, MachineFault>
         ensures name { IfOk result
             (λ found. IfSome found (λ entry. string_bytes entry.name ≡ string_bytes name)) }
     {
@@ -98,7 +103,7 @@ where
         place.push('/')?;
         place.push_str(name.as_str())?;
         match self.look(place.as_str()) {
-            Ok(meta) => Ok(Some(Listed { name, meta })),
+            Ok(meta) => Ok(Some(ListedEntry { name, meta })),
             Err(MachineFault::NotFound) => Ok(None),
             Err(MachineFault::Memory) => Err(MachineFault::Memory),
             Err(_) => Err(MachineFault::Device),
@@ -106,8 +111,8 @@ where
     }
 }
 
-/// Whether a name comes after the last one that is listed.
-fn comes_last<A: Allocator>(listed: &[Listed<A>], name: &str) -> bool
+/// Returns whether a name is greater than the last one listed.
+fn comes_last<A: Allocator>(listed: &[ListedEntry<A>], name: &str) -> bool
     ensures last { IsTrue result → ComesLast listed.now name.now }
 {
     match listed.last() {

@@ -3,21 +3,23 @@
 ghost use Rattle.std.specs.Prelude.{◌≡◌, ◌⊎◌, IfOk, IfErr, MatchResult};
 ghost use Rattle.std.specs.Result.{result_err};
 ghost use Rattle.folder_store.specs.Honest.{IsHonest};
-ghost use Rattle.machine_files.specs.Refusals.{store_fault};
+ghost use Rattle.folder_store.specs.Refusals.{store_fault};
 
 use crate::count::FaultCount;
+use crate::fault::MachineFault;
 use crate::folder::Folder;
+use crate::open::{DirSink, DirSource, flushed};
 use ftp_terms::Meta;
-use machine_files::{DirSink, DirSource, MachineFault, flushed};
 use std::fs;
 use std::io::ErrorKind;
 use std::marker::Model;
 use std::os::fd::AsRawFd;
 use std::rt::Files;
 use virtual_path::VPath;
-use virtual_tree::{Listed, Store, StoreFault, WriteMode};
+use virtual_tree::{ListedEntry, Store, StoreFault, WriteMode};
 
-/// A folder of the machine and all beneath it. It has no capacity: a full disk is a fault of the device.
+/// A folder of the machine and everything beneath it. It has no capacity: a full disk is a fault of the
+/// device.
 #[derive(Drop)]
 pub struct DirStore<R: Files + Alloc + Clone + Drop> {
     folder: Folder<R>,
@@ -36,7 +38,7 @@ impl<R: Files + Alloc + Clone + Drop> DirStore<R>
 where
     R::File: AsRawFd,
 {
-    /// The folder at a path of the machine, which has to be there. A link at its end is followed.
+    /// The folder at a path of the machine, which must exist. A link at its end is followed.
     pub fn new(rt: R, folder: &str) -> Result<DirStore<R>, StoreFault>
         ensures new { IfOk result (λ store. store.count ≡ 0) }
         ensures faults { IfErr result (λ fault. (fault ≡ StoreFault.NotFound)
@@ -65,7 +67,7 @@ where
         })
     }
 
-    /// The answer as a store gives it, counted where it is a fault of the device.
+    /// The result as a store returns it. A fault of the device is counted.
     fn answer<T>(&mut self, answer: Result<T, MachineFault>) -> Result<T, StoreFault>
         ensures same { MatchResult answer (λ told. result ≡ Ok told)
             (λ fault. result ≡ Err (store_fault fault)) }
@@ -114,7 +116,7 @@ where
         self.answer(answer)
     }
 
-    fn list(&mut self, path: &VPath<R::A>) -> Result<Vec<Listed<R::A>, R::A>, StoreFault> {
+    fn list(&mut self, path: &VPath<R::A>) -> Result<Vec<ListedEntry<R::A>, R::A>, StoreFault> {
         let answer = self.folder.list(path);
         self.answer(answer)
     }

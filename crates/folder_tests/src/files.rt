@@ -1,9 +1,7 @@
-//! Files that change while they are read, files that are long, machines that write little at a time, and directories that hold
-//! much.
+//! Files that change while they are read, long files, machines that write little at a time, and large directories.
 
 use crate::expect::{comes_out_in, fresh_folder, holds, place_in, take_away};
-use folder_store::DirStore;
-use machine_files::{flushed, write_new};
+use folder_store::{DirStore, flushed, write_new};
 use std::alloc::Global;
 use std::env::Env;
 use std::fs::OpenFile;
@@ -15,14 +13,14 @@ use std::{fs, io};
 use virtual_path::VPath;
 use virtual_tree::{Sink, Source, Store, StoreFault};
 
-/// Whether two octets more are read, or why not.
+/// Returns whether two more octets are read, or why not.
 fn reads<S: Source>(source: &mut S) -> Result<usize, StoreFault> {
     let mut buffer = [0; 2];
     source.read(&mut buffer)
 }
 
-/// A file of six octets that is cut off once two were read gives a fault each time, and no end. A read without room is no
-/// end either. What is written behind the length that it had is read too.
+/// A file of six octets that is cut after two were read returns a fault each time, and no end. A read without room is not
+/// an end either. What is written after its former length is read too.
 fn check_changed<S: Store<Global>>(
     rt: &(impl Abort + Files + AllocGlobal),
     store: &mut S,
@@ -42,7 +40,7 @@ fn check_changed<S: Store<Global>>(
     holds(rt, reads(&mut grows) == Ok(0));
 }
 
-/// What is read behind the first 2^32 octets of a file.
+/// A read after the first 2^32 octets of a file.
 const FAR: &str = "append /s abc
 read:4294967296 /s = abc
 read:4294967298 /s = c";
@@ -100,7 +98,7 @@ where
     take_away(rt, folder.as_str());
 }
 
-/// A file of a machine that writes one octet a call.
+/// A file of a machine that writes one octet per call.
 #[derive(Drop)]
 struct Slow<'a> {
     written: &'a mut Vec<u8>,

@@ -1,4 +1,4 @@
-//! Calls one after another on folders of the machine.
+//! Sequences of calls on folders of the machine.
 
 use crate::expect::{comes_out_in, fresh_folder, holds, place_in, take_away};
 use crate::racing_machine::{Act, acting};
@@ -8,10 +8,10 @@ use std::fs;
 use std::os::fd::AsRawFd;
 use std::process::Abort;
 use std::rt::Files;
-use store_script::{DIRECTORIES, FILES, RENAMES};
+use test_store_script::{DIRECTORIES, FILES, RENAMES};
 use virtual_tree::StoreFault;
 
-/// Where the machine opens no directory, or has no `/proc`, names are followed one by one.
+/// If the machine opens no directory, or has no `/proc`, names are followed one by one.
 const BY_NAMES: &str = "make /d
 make /d/e
 new /d/e/f abc
@@ -26,7 +26,7 @@ size /d/e = not found
 new /d/x/y z = not found
 faults = 0";
 
-/// Where the machine refuses each rename, no second name is left.
+/// If the machine refuses each rename, no second name is left.
 const KEPT_NAMES: &str = "new /f abc
 make /d
 rename /f /n = device fault
@@ -36,7 +36,7 @@ size /n = not found
 faults = 2
 read /f = abc";
 
-/// Where something comes to the new name of a rename once it was looked at, it stays.
+/// An entry that appears at the new name of a rename after the check is kept.
 const LATE_COMERS: &str = "new /f abc
 rename /f /n = already exists
 size /n = 0
@@ -76,10 +76,10 @@ where
     }
 }
 
-/// Two of these names no path names.
+/// Two of these names cannot be named by a path.
 static NAMES: [&str; 4] = ["b", "a", "t\tb", "x\u{7f}"];
 
-/// What is told of them; a fault of one is a fault of the listing.
+/// Their metadata; a fault of one is a fault of the listing.
 static TOLD: [(Act, &str); 2] = [
     (Act::Nothing, "names / = a b\nfaults = 0"),
     (Act::HideFirst, "names / = device fault\nfaults = 1"),
@@ -106,7 +106,7 @@ where
     take_away(rt, folder.as_str());
 }
 
-/// No store is made of an entry of a folder.
+/// An entry of a folder cannot be opened as a store.
 fn check_refused<R>(rt: &R, folder: &str, name: &str, fault: StoreFault)
 where
     R: Abort + Files + AllocGlobal + Copy + Drop,

@@ -1,4 +1,4 @@
-//! What the machine says of a folder: times, permissions, and files that are open twice.
+//! Properties of a folder of the machine: times, permissions, and files that are open twice.
 
 use crate::expect::{comes_out_in, fresh_folder, place_in, take_away};
 use folder_store::DirStore;
@@ -13,20 +13,20 @@ use std::{fs, io};
 use virtual_path::VPath;
 use virtual_tree::{Sink, Store, WriteMode};
 
-/// Makes a file that was modified at a moment; where there is no such moment, at 0 seconds.
+/// Makes a file with this modification time; 0 seconds if the time is out of range.
 fn make_modified(rt: &HostRuntime, place: &str, second: u64) -> io::Result<()> {
     let time = UNIX_EPOCH.checked_add(Duration::from_secs(second));
     let file = fs::create(rt, place)?;
     file.set_modified(time.unwrap_or(UNIX_EPOCH))
 }
 
-/// What is asked of a directory that may not be entered.
+/// Calls on a directory that may not be entered.
 const LOCKED: &str = "names /d = device fault
 faults = 1
 size /d/f = device fault
 faults = 2";
 
-/// A directory that may not be entered. One who may do everything is refused nothing.
+/// A directory that may not be entered. A user with all permissions is refused nothing.
 fn check_permissions<R>(rt: &R, folder: &str)
 where
     R: Abort + Files + AllocGlobal + Copy + Drop,

@@ -1,5 +1,5 @@
-//! What a store answers where links lead out of its folder, and where another process puts them there between its calls. What stands
-//! outside stays as it is.
+//! Results of a store if links lead out of its folder, also if another process puts them there between its calls. Entries
+//! outside are unchanged.
 
 use crate::expect::{comes_out_in, fresh_folder, holds, place_in, take_away};
 use crate::racing_machine::{Act, Racing, acting};
@@ -9,8 +9,7 @@ use std::os::fd::AsRawFd;
 use std::process::Abort;
 use std::rt::Files;
 
-/// What is asked of a folder that has a link to the folder above, `out`, and one to the file `kept`
-/// there, `k`.
+/// Calls on a folder with a link to the folder above, `out`, and one to the file `kept` there, `k`.
 const LINKS: &str = "read /out = not found
 remove-file /out = not found
 remove-directory /out = not found
@@ -45,8 +44,8 @@ new /f x = not found
 at:1 /f x = not found
 append /f x = not found";
 
-/// What another process leaves of the file `f` that it takes away, or puts a link in the place of, just
-/// before each call of `OPENINGS` opens it.
+/// The outcome for the file `f` if another process removes it, or replaces it by a link, just before each call of
+/// `OPENINGS` opens it.
 fn open_late<R>(rt: &R, folder: &str, act: Act)
 where
     R: Abort + Files + AllocGlobal + Copy + Drop,
@@ -60,7 +59,7 @@ where
     }
 }
 
-/// A file of a folder holds this.
+/// A file of a folder has this text.
 fn holds_text(
     rt: &(impl Abort + Files + AllocGlobal),
     folder: &str,
@@ -87,8 +86,8 @@ where
     take_away(rt, above.as_str());
 }
 
-/// Calls below a directory that is swapped for a link to another one while each of them runs. They
-/// go on in the directory that they went into.
+/// Calls below a directory that is swapped for a link to another one while each of them runs. They continue in the
+/// directory that they entered.
 const BELOW_SWAPPED: &str = "read /d/a = inside
 size /d/a = 6
 names /d = a b
@@ -101,7 +100,7 @@ rename /d/a /n
 remove-file /d/a
 remove-directory /d/b";
 
-/// The same calls where it is swapped before they go into it.
+/// The same calls if it is swapped before they enter it.
 const INTO_SWAPPED: &str = "read /d/a = not found
 size /d/a = not found
 names /d = not found
@@ -121,13 +120,13 @@ make /elsewhere
 make /elsewhere/b
 new /elsewhere/a elsewhere";
 
-/// Whether something stands in a folder.
+/// Returns whether there is an entry in a folder.
 fn stands_in(rt: &(impl Abort + Files + AllocGlobal), folder: &str, name: &str) -> bool {
     let place = place_in(rt, folder, name);
     fs::symlink_metadata(rt, place.as_str()).is_ok()
 }
 
-/// The directory that the link leads to is as it was laid out.
+/// The directory that the link leads to is unchanged.
 fn check_laid_out(rt: &(impl Abort + Files + AllocGlobal), above: &str) {
     holds(rt, !stands_in(rt, above, "elsewhere/n"));
     holds(rt, stands_in(rt, above, "elsewhere/b"));
@@ -149,11 +148,11 @@ where
     };
     let folder = place_in(rt, above, "served");
     comes_out_in(rt, machine, folder.as_str(), call);
-    // The link came: the other process acted.
+    // The link is there: the other process acted.
     holds(rt, fs::read_link(rt, directory.as_str()).is_ok());
 }
 
-/// The same in a fresh folder. The directory that the link leads to stays as it is.
+/// The same in a fresh folder. The directory that the link leads to is unchanged.
 fn check_swapped<R>(rt: &R, call: &str, act: Act)
 where
     R: Abort + Env + Files + AllocGlobal + Copy + Drop,

@@ -1,4 +1,4 @@
-//! A machine on which another process acts between two calls, or which refuses.
+//! A machine on which another process acts between two calls, or which refuses calls.
 
 use std::alloc::Allocator;
 use std::fs::{Metadata, OpenOptions};
@@ -6,24 +6,24 @@ use std::io;
 use std::io::Read;
 use std::rt::Files;
 
-/// What the other process does, or how the machine refuses.
+/// The action of the other process, or the refusal of the machine.
 #[derive(Clone, Copy)]
-pub enum Act {
+pub(crate) enum Act {
     Nothing,
-    /// It takes a file away just before it is opened.
+    /// It removes a file just before it is opened.
     Remove,
-    /// It puts a link to the file `kept`, beside the folder, in its place.
+    /// It replaces a file by a link to the file `kept`, beside the folder.
     Link,
     /// It swaps the directory for a link to `elsewhere`, beside the folder, just before the directory
     /// is opened.
     SwapAtOnce,
-    /// It swaps the directory so just before a call by the name of what stands in it.
+    /// It swaps the directory in this way just before a call by the name of one of its entries.
     SwapLate,
     /// The machine refuses each rename.
     KeepNames,
-    /// The machine fails where it is asked what `a` is.
+    /// The machine fails when asked for the metadata of `a`.
     HideFirst,
-    /// It makes a file called `n` just after that name was looked at.
+    /// It makes a file called `n` just after that name was checked.
     ComeLate,
     /// The machine opens no directory.
     KeepDirectories,
@@ -31,17 +31,17 @@ pub enum Act {
     HideProc,
 }
 
-/// A machine, but for what the other process does, and for what is told of each directory.
+/// A machine, except for the action of the other process and the names in each directory.
 #[derive(Clone, Copy)]
-pub struct Racing<'a, R> {
+pub(crate) struct Racing<'a, R> {
     pub rt: R,
     pub act: Act,
-    /// The directory `d`, and where it is moved to.
+    /// The directory `d`, and its new path.
     pub swapped: (&'a str, &'a str),
 }
 
 /// A machine on which no directory is swapped.
-pub fn acting<R>(rt: R, act: Act) -> Racing<'static, R> {
+pub(crate) fn acting<R>(rt: R, act: Act) -> Racing<'static, R> {
     Racing {
         rt,
         act,
@@ -60,7 +60,7 @@ impl<R: Files> Racing<'_, R> {
         Ok(())
     }
 
-    /// What happens before a call by the path of what stands in the directory `d`, or of its names.
+    /// The action before a call by the path of an entry in the directory `d`, or of its names.
     fn before(&self, path: &str) -> io::Result<()> {
         if matches!(&self.act, Act::SwapLate) && !path.ends_with("/d") {
             return self.swap();
@@ -69,13 +69,13 @@ impl<R: Files> Racing<'_, R> {
     }
 }
 
-/// What is told of each directory: names, each ended by a NUL.
+/// The names in each directory, each followed by a NUL.
 #[derive(Drop)]
-pub struct Told {
+pub(crate) struct Told {
     is_read: bool,
 }
 
-/// One of the names is no UTF-8, nothing is called `gone`, and one name comes twice.
+/// One of the names is not UTF-8, there is no entry called `gone`, and one name occurs twice.
 const NAMES: [u8; 18] = *b"b\0\xff\xfe\0t\tb\0gone\0a\0b\0";
 
 impl Read for Told {

@@ -1,10 +1,10 @@
-//! One random list of calls on both stores: what the one in memory tells is a script for the one over a folder. So they tell the
-//! same, and hold the same.
+//! One random list of calls on both stores: the results of the one in memory are a script for the one over a folder. So
+//! both have the same results and the same contents.
 
 use crate::expect::{comes_out_in, fresh_folder, take_away};
 use memory_store::MemStore;
 use std::process::Abort;
-use store_script::{read_line, told};
+use test_store_script::{read_line, told};
 
 static CALLS: [&str; 11] = [
     "make",
@@ -26,8 +26,7 @@ static PATHS: [&str; 12] = [
     "/", "/a", "/b", "/c", "/a/a", "/a/b", "/b/a", "/a/a/a", "/a/a/b", "/a!", "/a/b/c", "/b/b",
 ];
 
-/// One of some words, by the next of a list of numbers that looks random (G. Marsaglia, *Xorshift
-/// RNGs*, 2003).
+/// One of some words, chosen by the next pseudo-random number (G. Marsaglia, *Xorshift RNGs*, 2003).
 fn one_of(number: &mut u64, words: &[&'static str]) -> &'static str {
     *number ^= number.wrapping_shl(13);
     *number ^= number.wrapping_shr(7);
@@ -36,7 +35,7 @@ fn one_of(number: &mut u64, words: &[&'static str]) -> &'static str {
     words.get(index as usize).copied().unwrap_or("")
 }
 
-/// A random call. What it writes, if it does, is the text of its other path.
+/// A random call. A call that writes has the text of its other path.
 fn random_call(rt: &(impl Abort + AllocGlobal), number: &mut u64) -> String {
     let call = one_of(number, &CALLS);
     let offset = one_of(number, &OFFSETS);
@@ -45,7 +44,7 @@ fn random_call(rt: &(impl Abort + AllocGlobal), number: &mut u64) -> String {
     format!(in rt.alloc(); "{call}:{offset} {path} {to}").expect(rt, "memory")
 }
 
-/// Adds a line to a script: a call, and what a store in memory tells of it.
+/// Adds a line to a script: a call, and its result on a store in memory.
 fn add_line(
     rt: &(impl Abort + AllocGlobal),
     store: &mut MemStore,
@@ -58,7 +57,7 @@ fn add_line(
     script.push_str(line.as_str()).expect(rt, "memory");
 }
 
-/// Adds what a store in memory tells of 4,000 random calls, and then of all that it holds.
+/// Adds the results of 4,000 random calls on a store in memory, and then its contents.
 fn add_lines(rt: &(impl Abort + AllocGlobal), store: &mut MemStore, script: &mut String) {
     let mut number = 88_172_645_463_325_252;
     for _ in 0..4000u32 {

@@ -1,10 +1,10 @@
-//! Control connections: who is admitted, each with a thread of their own.
+//! Control connections: admission, and a thread for each.
 
 ghost use Rattle.std.specs.Thread.{IsSend, IsSync};
 
 use lent_parts::PartsName;
 use passive_ports::AdmitFault;
-use server_house::{House, NotServed, ServerHooks, Stage};
+use server_house::{House, NotServed, ServerHooks, ShutdownStage};
 use socket_host::serve_session;
 use std::alloc::Global;
 use std::io::Write;
@@ -18,10 +18,10 @@ use virtual_tree::Store;
 /// The stack of a session's thread, in octets.
 const STACK: usize = 262_144;
 
-/// How long a client that is not admitted may take to read why, in milliseconds.
+/// The time for a client that is not admitted to read the reply, in milliseconds.
 const BRIEFLY: u64 = 50;
 
-/// How long is waited where no connection could be accepted, in milliseconds.
+/// The wait after a connection could not be accepted, in milliseconds.
 const PAUSE: u64 = 20;
 
 fn refusal(why: NotServed) -> &'static [u8] {
@@ -35,7 +35,7 @@ fn refusal(why: NotServed) -> &'static [u8] {
     }
 }
 
-// Tells a client why it is not served, and the handler.
+// Tells a client why it is not served, and reports it to the handler.
 fn refuse<R, S, H, B>(
     rt: &R,
     house: &House<S, H, B>,
@@ -55,7 +55,7 @@ where
     let _ = stream.shutdown(Shutdown::Write);
 }
 
-// The address of a peer; no peer has another than of IPv4, since the server listens on one.
+// The address of a peer; it is always IPv4, since the server listens on IPv4.
 fn octets_of(address: SocketAddr) -> [u8; 4] {
     match address {
         SocketAddr::V4(from) => from.ip().octets(),
@@ -63,12 +63,12 @@ fn octets_of(address: SocketAddr) -> [u8; 4] {
     }
 }
 
-// Whether no more sessions are to be admitted; 0 stands for no end.
+// Returns whether no more sessions are to be admitted; for `sessions`, 0 is no limit.
 fn is_enough(sessions: u64, admitted: u64) -> bool {
     sessions != 0 && admitted >= sessions
 }
 
-// A client that is admitted: its address, and the key of its connection in the registry. Its connection is among the arrivals.
+// An admitted client: its address, and the key of its connection in the registry. Its connection is among the arrivals.
 #[derive(Clone, Copy)]
 struct Client {
     peer: [u8; 4],
@@ -89,7 +89,7 @@ where
     }
 }
 
-// A client that was admitted, whose connection its thread is to take.
+// Puts the connection of an admitted client among the arrivals, for its thread to take.
 fn arrive<R, S, H, B>(
     rt: &R,
     house: &House<S, H, B>,
@@ -115,7 +115,7 @@ where
     }
 }
 
-// Waits for the next connection. None if it is not admitted, or there is none.
+// Waits for the next connection. `None` if it is not admitted, or there is none.
 fn next_client<R, S, H, B>(rt: &R, house: &House<S, H, B>, listener: &TcpListener) -> Option<Client>
 where
     R: Wait + Clock,
@@ -125,7 +125,7 @@ where
 {
     match listener.accept() {
         Ok((stream, from)) => {
-            if house.ending.has_begun(Stage::Sessions) {
+            if house.ending.has_begun(ShutdownStage::Sessions) {
                 return None;
             }
             let peer = octets_of(from);
@@ -159,7 +159,7 @@ where
     }
 }
 
-// Turns a client away for which no thread could be started: it leaves the registry.
+// Turns away a client for which no thread could be started: it leaves the registry.
 fn turn_away<R, S, H, B>(rt: &R, house: &House<S, H, B>, client: Client)
 where
     R: Wait,
@@ -174,8 +174,8 @@ where
     house.registry.lock(rt).leave(key);
 }
 
-/// Accepts control connections until there were as many as there are to be, or the sessions are to end; nobody listens from then
-/// on. Returns once all sessions have ended.
+/// Accepts control connections until there were as many as there are to be, or the sessions are to end; then nobody listens
+/// any more. Returns once all sessions have ended.
 pub(crate) fn accept_all<R, S, H, B>(rt: &R, house: &House<S, H, B>, listener: TcpListener)
 where
     R: Threads
@@ -201,7 +201,7 @@ where
         {
             let mut admitted = 0u64;
             for _ in rt.forever() {
-                if house.ending.has_begun(Stage::Sessions)
+                if house.ending.has_begun(ShutdownStage::Sessions)
                     || is_enough(house.numbers.sessions, admitted)
                 {
                     break;

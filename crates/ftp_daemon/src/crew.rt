@@ -1,21 +1,21 @@
-//! What each thread of a server does.
+//! The work of each thread of a server.
 
 use crate::watching::{StopSign, watch};
 use crate::works::Works;
 use handler_hooks::Hooks;
 use lane_rounds::{keep_rounds, work_lane};
 use lent_parts::PartsName;
-use server_house::Stage;
+use server_house::ShutdownStage;
 use std::alloc::Global;
 use std::net::{Net, TcpListener, TcpStream};
 use std::sync::Wait;
 use std::time::Clock;
 use virtual_tree::Store;
 
-/// The work of the threads of one server. A scope of threads is lent one type for it, with one parameter: with all those of
-/// a server's parts, the prover cannot state what the scope takes.
+/// The work of the threads of one server. A scope of threads is lent one type for it, with one parameter: with the types of
+/// all parts of a server, the prover cannot state what the scope takes.
 pub(crate) trait Crew {
-    /// How many lanes there are.
+    /// Number of lanes.
     fn lanes(&self) -> usize;
 
     /// The thread of rounds.
@@ -24,7 +24,7 @@ pub(crate) trait Crew {
     /// The thread of a lane.
     fn work(&self, lane: usize);
 
-    /// The thread that looks for the sign to end; it ends at once where there is none.
+    /// The thread that checks for the stop sign; it ends at once if there is none.
     fn watch(&self);
 
     /// Ends lanes and rounds: no session is left.
@@ -71,7 +71,7 @@ where
     }
 
     fn end_lanes(&self) {
-        self.house.ending.begin(Stage::Lanes);
+        self.house.ending.begin(ShutdownStage::Lanes);
         self.house.jobs.signal_all();
         self.house.bell.signal();
     }

@@ -1,18 +1,18 @@
-//! Why a server does not serve.
+//! Faults of serving.
 
 use std::alloc::AllocError;
 use thiserror::Error;
 
-/// Why a server does not serve, or ends. It prints as its name.
+/// Why a server does not serve, or ends. Displayed as its name.
 #[derive(Clone, Copy, Debug, PartialEq, Eq, Error)]
 pub enum ServeFault {
-    /// Its address and port cannot be listened on.
+    /// Its address and port cannot be bound.
     #[error("Bind")]
     Bind,
     /// A thread could not be started.
     #[error("NoThread")]
     NoThread,
-    /// What it tells could not be written.
+    /// The lines `ready` or `settled` could not be written.
     #[error("WriteFault")]
     WriteFault,
     /// The folder cannot be served.

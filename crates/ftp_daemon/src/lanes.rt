@@ -13,16 +13,16 @@ use std::sync::Wait;
 use std::thread;
 use std::thread::{Builder, Threads};
 use std::time::Clock;
-use text_ends::TextWriter;
+use text_io::TextWriter;
 use virtual_tree::Store;
 
 /// The stack of each of these threads, in octets.
 const STACK: usize = 262_144;
 
-/// What is told once clients may come.
+/// The line written once clients may connect.
 const READY: &[u8] = b"ready\n";
 
-/// Tells that clients may come, and serves them. Returns once all sessions have ended.
+/// Writes `ready`, and serves clients. Returns once all sessions have ended.
 pub(crate) fn serve_clients<R, S, H, B, W>(
     rt: &R,
     house: &House<S, H, B>,
@@ -52,8 +52,8 @@ where
     Ok(())
 }
 
-/// Runs lanes and rounds, and looks for the sign to end, while clients are served. Returns once all threads have ended. Nobody is
-/// served if one of these threads could not be started, or if it could not be told that clients may come.
+/// Runs lanes and rounds, and checks for the stop sign, while clients are served. Returns once all threads have ended.
+/// Nobody is served if one of these threads could not be started, or `ready` could not be written.
 pub(crate) fn run_threads<R, T, F>(rt: &R, crew: &T, clients: F) -> Result<(), ServeFault>
 where
     R: Threads + Wait,

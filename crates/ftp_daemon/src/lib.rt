@@ -1,8 +1,8 @@
 //! The running server: control connections, lanes and rounds, each in threads of their own, and the settlement at the end.
 //!
-//! [`serve`] listens, tells `ready`, and serves until it has had its sessions or its stop file appears. Then it waits for the
-//! sessions that there are, gathers all shares, and tells `settled issued I moved M back B`: by the types of what the threads
-//! were lent, the octets issued are those moved and those given back, whatever happened.
+//! [`serve`] listens, writes `ready`, and serves until it has had its sessions or its stop file appears. Then it waits for
+//! the sessions in progress, gathers all shares, and writes `settled issued I moved M back B`: by the types of what the
+//! threads were lent, the octets issued are those moved and those given back, whatever happened.
 #![tactic(auto)]
 
 mod accepting;

@@ -1,11 +1,11 @@
-//! What a server needs before it serves.
+//! The parts that a server needs before it serves.
 
 ghost use Rattle.std.specs.Prelude.{◌≡◌, ◌+◌, ◌≤◌, [], IfOk, length, vec_capacity};
-ghost use Rattle.desk_open.specs.Open.{AreFresh};
+ghost use Rattle.lane_desk.specs.Open.{AreFresh};
 ghost use Rattle.desk_rule.specs.Lanes.{posted_in};
-ghost use Rattle.lane_seats.specs.Seats.{desk_id};
-ghost use Rattle.round_desk.specs.Posted.{AllAnswered};
-ghost use Rattle.round_desk.specs.Turns.{back, turns, IsRoundOf};
+ghost use Rattle.lane_desk.specs.Seats.{desk_id};
+ghost use Rattle.lane_desk.specs.Posted.{AllAnswered};
+ghost use Rattle.lane_desk.specs.Turns.{back, turns, IsRoundOf};
 
 use crate::fault::ServeFault;
 use authorizer::Authorizer;
@@ -15,9 +15,8 @@ use grant_ledger::{Book, Settled, Tally, settle};
 use handler_hooks::Hooks;
 use lane_desk::{Desk, LaneSeat, RoundDesk, Worked, open_desk};
 use line_rates::Limits;
-use passive_ports::Registry;
+use passive_ports::{PoolFault, Registry, RestingPorts};
 use rate_floors::Floors;
-use resting_ports::{PoolFault, RestingPorts};
 use round_pace::Pace;
 use server_config::ServerNumbers;
 use server_house::LaneSign;
@@ -28,7 +27,7 @@ use std::sync::Mutex;
 use std::time::Clock;
 use virtual_tree::Store;
 
-/// What is to be served.
+/// The parts that a caller hands to a server.
 #[derive(Drop)]
 pub struct Service<S: Drop, H: Hooks, P: Drop> {
     pub settings: Settings,
@@ -36,16 +35,16 @@ pub struct Service<S: Drop, H: Hooks, P: Drop> {
     pub users: Authorizer,
     pub limits: Limits,
     pub store: S,
-    /// More stores over what that one serves, one for each connection, if they can be had: then no session waits for a call of
+    /// More stores over the same files, one for each connection, if they can be had: then no session waits for a call of
     /// another's.
     pub own_stores: Vec<S>,
     /// The owner's callbacks.
     pub handler: H,
-    /// By what the server is told to end, if by anything.
+    /// The stop sign, if there is one.
     pub stop: Option<P>,
 }
 
-/// What the threads will share, but for desk and board.
+/// The parts that the threads will share, except desk and board.
 #[derive(Drop)]
 pub(crate) struct Rooms<S: Store<Global>, H: Hooks, P: Drop> {
     pub(crate) settings: Settings,
@@ -105,7 +104,7 @@ fn new_ports(alloc: Global, numbers: &ServerNumbers) -> Result<RestingPorts, Ser
     }
 }
 
-/// Gets what the threads of a server share. The pace takes the limits.
+/// Makes the parts that the threads of a server share. The pace takes the limits.
 pub(crate) fn open_rooms<R, S, H, P>(
     rt: &R,
     service: Service<S, H, P>,
@@ -169,12 +168,12 @@ pub(crate) struct Line {
     ghost empty: { (room.items ≡ []) × (length seats.items ≤ vec_capacity room) },
 }
 
-// Nothing was issued.
+// Settles a book that issued nothing.
 fn close_book(book: Book<()>, tally: Tally<()>) -> Settled {
     settle(book, tally)
 }
 
-/// Opens a desk of so many lanes.
+/// Opens a desk of `lanes` lanes.
 pub(crate) fn open_line(alloc: Global, lanes: usize) -> Result<Line, ServeFault> {
     let room = Vec::with_capacity(alloc, lanes)?;
     let (book, tally) = Book::open(0);

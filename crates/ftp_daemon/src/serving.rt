@@ -3,7 +3,7 @@
 ghost use Rattle.std.specs.Prelude.{◌≡◌, ◌+◌, ◌≤◌, IfOk, length, vec_capacity};
 ghost use Rattle.std.specs.Thread.{IsSend, IsSync};
 ghost use Rattle.lent_parts.specs.Names.{IsBoardOf, IsNamed};
-ghost use Rattle.job_board.specs.Boards.{AreNewPasses};
+ghost use Rattle.transfer_worker.specs.Boards.{AreNewPasses};
 
 use crate::fault::ServeFault;
 use crate::lanes::{run_threads, serve_clients};
@@ -15,22 +15,22 @@ use data_sockets::socket_address;
 use event_word::{EventCount, SharedEventCount};
 use grant_ledger::Settled;
 use handler_hooks::Hooks;
-use job_board::{BoardPass, JobBoard, open_board};
 use lane_desk::Rounds;
 use lane_rounds::Turns;
 use lent_parts::{LentBoard, LentDesk, LentPass, LentRounds, PartsName};
 use round_pace::Pace;
-use server_house::{Ending, House, ServerHooks};
+use server_house::{House, ServerHooks, ServerShutdown};
 use std::alloc::{AllocError, Global};
 use std::marker::Brand;
 use std::net::{Net, TcpListener, TcpStream};
 use std::sync::{Mutex, Wait};
 use std::thread::Threads;
 use std::time::Clock;
-use text_ends::TextWriter;
+use text_io::TextWriter;
+use transfer_worker::{BoardPass, JobBoard, open_board};
 use virtual_tree::Store;
 
-// What the threads share, with the board; beside it the pace and by what the server is told to end.
+// The parts that the threads share, with the board; also the pace, and the stop sign.
 fn furnish<S: Store<Global>, H: Hooks, B: PartsName, P: Drop>(
     rooms: Rooms<S, H, P>,
     board: LentBoard<B, Waiting<S>>,
@@ -69,12 +69,12 @@ fn furnish<S: Store<Global>, H: Hooks, B: PartsName, P: Drop>(
         cells,
         lanes,
         bell: EventCount::new(),
-        ending: Ending::new(),
+        ending: ServerShutdown::new(),
     };
     (house, pace, stop)
 }
 
-// Serves with what the threads share, and settles.
+// Serves with the shared parts, and settles.
 fn serve_works<R, S, H, B, P, W>(
     works: Works<R, S, H, B, P>,
     room: Room<B>,
@@ -122,7 +122,7 @@ where
     (settle_served(&rt, lent, room), served)
 }
 
-/// Serves by a desk and a board of this name. Returns the settled book, and whether clients were served.
+/// Serves with a desk and a board of this name. Returns the settled book, and whether clients were served.
 fn serve_named<R, S, H, B, P, W>(
     rt: &R,
     rooms: Rooms<S, H, P>,
@@ -208,7 +208,7 @@ where
     }
 }
 
-// Tells what became of all octets.
+// Writes the outcome of all octets.
 fn tell_settled<W: TextWriter>(
     alloc: Global,
     settled: &Settled,
@@ -226,11 +226,11 @@ fn tell_settled<W: TextWriter>(
     }
 }
 
-/// Serves until as many sessions were admitted as the numbers say, or until the sign to end is up, and then waits for those that
-/// there are. It tells `ready` once clients may come, and at the end what became of all octets that were issued.
+/// Serves until as many sessions were admitted as the numbers say, or until the stop sign is up, and then waits for the
+/// sessions in progress. Writes `ready` once clients may connect, and at the end the outcome of all octets issued.
 ///
-/// `Bind` if the address and port cannot be listened on, `NoThread` if a thread of the server cannot be started, `Stopped` if the
-/// sign to end is up before.
+/// Returns `Bind` if the address and port cannot be bound, `NoThread` if a thread of the server cannot be started,
+/// `Stopped` if the stop sign is up at the start.
 pub fn serve<R, S, H, P, W>(
     rt: &R,
     service: Service<S, H, P>,

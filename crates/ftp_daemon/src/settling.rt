@@ -1,9 +1,9 @@
-//! How the line is settled that a server shared out.
+//! Settling the line that a server shared out.
 
 ghost use Rattle.std.specs.Prelude.{◌≡◌, ◌+◌, ◌≤◌, [], length, vec_capacity};
-ghost use Rattle.desk_open.specs.Open.{AreFresh};
+ghost use Rattle.lane_desk.specs.Open.{AreFresh};
 ghost use Rattle.lane_desk.specs.Workers.{AreWorkers};
-ghost use Rattle.lane_seats.specs.Seats.{desk_id};
+ghost use Rattle.lane_desk.specs.Seats.{desk_id};
 
 use crate::opening::Line;
 use grant_ledger::{Settled, Tally};
@@ -12,11 +12,11 @@ use lane_rounds::Turns;
 use lent_parts::{LentDesk, LentWorker, PartsName, settle_lent};
 use std::sync::{Mutex, Wait};
 
-/// What the threads of a server are lent of its desk. It cannot be dropped.
+/// The parts of its desk that a server lends to its threads. It cannot be dropped.
 pub(crate) struct Lent<B: PartsName> {
     pub(crate) desk: LentDesk<B, ()>,
     pub(crate) turns: Mutex<Turns<B, ()>>,
-    /// The seats, in the order of their lanes: the thread of a lane holds the lock of its own.
+    /// The seats, in the order of their lanes: the thread of a lane has the lock of its own.
     pub(crate) workers: Vec<Mutex<LentWorker<B, ()>>>,
 }
 
@@ -27,7 +27,7 @@ pub(crate) struct Room<B: PartsName> {
     ghost empty: { (gathered.items ≡ []) × (worked.items ≡ []) },
 }
 
-// Takes each seat out of its lock, in their order.
+// Takes each seat out of its lock, in order.
 fn unlocked<B: PartsName>(
     mut workers: Vec<Mutex<LentWorker<B, ()>>>,
     gathered: Vec<LentWorker<B, ()>>,
@@ -62,7 +62,7 @@ pub(crate) fn settle_served<R: Wait, B: PartsName>(rt: &R, lent: Lent<B>, room: 
     settle_lent(rt, desk, rounds, workers, worked)
 }
 
-// Gathers seats that nobody sat on, each with a tally of its own.
+// Gathers seats that were never used, each with a tally of its own.
 fn gather_fresh(
     _desk: &Desk<()>,
     seats: Vec<LaneSeat<()>>,

@@ -1,20 +1,19 @@
-//! What the threads of one server work with.
+//! The parts that the threads of one server work with.
 
 ghost use Rattle.std.specs.Prelude.{◌≡◌, ◌+◌, ◌≤◌, [], IfOk, length, vec_capacity};
-ghost use Rattle.desk_open.specs.Open.{AreFresh};
-ghost use Rattle.job_board.specs.Boards.{AreNewPasses};
+ghost use Rattle.lane_desk.specs.Open.{AreFresh};
+ghost use Rattle.transfer_worker.specs.Boards.{AreNewPasses};
 
 use crate::settling::Lent;
 use data_sockets::{DataConnection, Served};
 use grant_ledger::Tally;
 use handler_hooks::Hooks;
-use job_board::BoardPass;
 use lane_desk::LaneSeat;
 use lent_parts::{LentPass, LentWorker, PartsName};
 use server_house::House;
 use std::alloc::{AllocError, Global};
 use std::sync::Mutex;
-use transfer_worker::LaneJob;
+use transfer_worker::{BoardPass, LaneJob};
 use virtual_tree::Store;
 
 /// A transfer that waits for a lane, over a store.
@@ -24,14 +23,14 @@ pub(crate) type Waiting<S> = LaneJob<
     DataConnection,
 >;
 
-/// All that the threads of a server share. It cannot be dropped.
+/// Everything that the threads of a server share. It cannot be dropped.
 pub(crate) struct Works<R, S: Store<Global>, H: Hooks, B: PartsName, P> {
     pub(crate) rt: R,
     pub(crate) house: House<S, H, B>,
-    /// The passes by which lanes take transfers: each takes one as it begins.
+    /// The passes with which lanes take transfers: each takes one as it begins.
     pub(crate) passes: Mutex<Vec<LentPass<B, Waiting<S>>>>,
     pub(crate) lent: Lent<B>,
-    /// By what the server is told to end.
+    /// The stop sign, if there is one.
     pub(crate) stop: Option<P>,
 }
 
@@ -60,7 +59,7 @@ fn new_seats<B: PartsName>(
     }
 }
 
-/// Room for the seats of so many lanes and for so many passes.
+/// Room for the seats of `lanes` lanes, and for `passes` passes.
 pub(crate) fn new_lists<B: PartsName, J>(
     alloc: Global,
     lanes: usize,

@@ -5,8 +5,8 @@ use Rattle.std.proofs.lemmas.Bool.{and_from, and_parts}
 use Rattle.std.specs.Fmt.{decimal}
 use Rattle.std.specs.List.{flat_map, list_all}
 use Rattle.jiff_core.specs.declared.civil.date.Date.{Date}
-use Rattle.ftp_terms.specs.declared.entries.Kind.{Kind}
-use Rattle.ftp_terms.specs.declared.entries.Kind.TheVariants.{Directory, File}
+use Rattle.ftp_terms.specs.declared.entries.EntryKind.{EntryKind}
+use Rattle.ftp_terms.specs.declared.entries.EntryKind.TheVariants.{Directory, File}
 use Rattle.ftp_terms.specs.declared.entries.Meta.{Meta}
 use Rattle.ftp_terms.specs.declared.facts.Facts.{Facts}
 use Rattle.ftp_terms.specs.declared.letters.Letters.{Letters}
@@ -43,7 +43,7 @@ plain_at (text ∷ texts) (suc i) line = plain_at texts i (and_parts _ _ line).1
 
 -- ---- whole texts
 
-plain_mode : (kind : Kind) → IsPlain (mode_text kind)
+plain_mode : (kind : EntryKind) → IsPlain (mode_text kind)
 plain_mode Directory = plain (mode_text Directory) refl
 plain_mode File = plain (mode_text File) refl
 
@@ -62,11 +62,11 @@ plain_list_text entry name date line =
 plain_fact : {name value : List ℕ} → IsPlain name → IsPlain value → IsPlain (fact name value)
 plain_fact name value = both (both (both name (plain (codes "=") refl)) value) (plain (codes ";") refl)
 
-plain_type : (kind : Kind) → IsPlain (type_name kind)
+plain_type : (kind : EntryKind) → IsPlain (type_name kind)
 plain_type Directory = plain (codes "dir") refl
 plain_type File = plain (codes "file") refl
 
-plain_perms : (kind : Kind) (letters : Letters) → IsPlain (perms kind letters)
+plain_perms : (kind : EntryKind) (letters : Letters) → IsPlain (perms kind letters)
 plain_perms Directory letters =
     both (counted letters.store (plain (codes "c") refl))
     (both (counted letters.delete (plain (codes "d") refl))

@@ -1,4 +1,4 @@
--- Moments, in seconds since 1970-01-01 00:00:00 UTC, by the civil calendar.
+-- Moments, in seconds since 1970-01-01 00:00:00 UTC, in the civil calendar.
 use Rattle.std.specs.Prelude.{◌≡◌, ℕ, ◌/◌, ◌%◌, List, ◌++◌, pos, unsigned_abs}
 use Rattle.jiff_core.specs.declared.civil.date.Date.{Date}
 use Rattle.jiff_core.specs.Date.{epoch_day}

@@ -1,4 +1,4 @@
--- Each listing text is the only one.
+-- Each listing text is unique.
 use Rattle.std.specs.Prelude.{◌≡◌, ℕ, List}
 use Rattle.ftp_terms.specs.declared.entries.Meta.{Meta}
 use Rattle.ftp_terms.specs.declared.facts.Facts.{Facts}
@@ -6,11 +6,12 @@ use Rattle.ftp_terms.specs.declared.letters.Letters.{Letters}
 use Rattle.ftp_reply.specs.Dates.{IsTimeVal}
 use Rattle.ftp_reply.specs.Listings.{IsListLine, IsMlstEntry}
 
--- at most one text is of that kind
+-- at most one text satisfies the predicate
 abbrev pub HasOneText : (List ℕ → Type 0) → Type 0
 HasOneText Told = (text other : List ℕ) → Told text → Told other → text ≡ other
 
--- a moment has one text, an entry one line, and an entry with its facts and letters one text
+-- a moment has one text, an entry has one line, and an entry with its facts and letters has one
+-- text
 abbrev pub MomentsHaveOneText : Type 0
 MomentsHaveOneText = (seconds : ℕ) → HasOneText (IsTimeVal seconds)
 

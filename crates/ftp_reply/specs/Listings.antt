@@ -3,15 +3,15 @@ use Rattle.std.specs.Prelude.{◌≡◌, ℕ, ◌-◌, Bool, false, true, ◌&&�
 use Rattle.std.specs.List.{flat_map}
 use Rattle.std.specs.Fmt.{decimal}
 use Rattle.jiff_core.specs.declared.civil.date.Date.{Date}
-use Rattle.ftp_terms.specs.declared.entries.Kind.{Kind}
-use Rattle.ftp_terms.specs.declared.entries.Kind.TheVariants.{Directory, File}
+use Rattle.ftp_terms.specs.declared.entries.EntryKind.{EntryKind}
+use Rattle.ftp_terms.specs.declared.entries.EntryKind.TheVariants.{Directory, File}
 use Rattle.ftp_terms.specs.declared.entries.Meta.{Meta}
 use Rattle.ftp_terms.specs.declared.facts.Facts.{Facts}
 use Rattle.ftp_terms.specs.declared.letters.Letters.{Letters}
 use Rattle.ftp_reply.specs.Dates.{FallsOn, IsTimeVal}
 use Rattle.ftp_reply.specs.Numbers.{spaced, zeroed}
 
--- the texts of the rows that are in force, joined
+-- the texts of the rows that are enabled, joined
 abbrev pub in_force : List (Bool × List ℕ) → List ℕ
 in_force = flat_map (λ row. if row.0 then row.1 else [])
 
@@ -25,12 +25,12 @@ month_names = codes "Jan" ∷ codes "Feb" ∷ codes "Mar" ∷ codes "Apr" ∷ co
 abbrev pub month_name : ℕ → List ℕ
 month_name month = slice_index_or month_names (month - 1) []
 
-abbrev pub mode_text : Kind → List ℕ
+abbrev pub mode_text : EntryKind → List ℕ
 mode_text Directory = codes "drwxr-xr-x"
 mode_text File = codes "-rw-r--r--"
 
--- a directory counts as empty
-abbrev pub listed_size : Kind → ℕ → ℕ
+-- a directory has size 0
+abbrev pub listed_size : EntryKind → ℕ → ℕ
 listed_size Directory size = 0
 listed_size File size = size
 
@@ -49,7 +49,7 @@ pub record IsListLine (entry : Meta) (name text : List ℕ) : Type 0 where
 
 -- ---- MLST and MLSD: the facts of an entry (RFC 3659 section 7)
 
--- what may be done with a directory, and with a file (section 7.5.5)
+-- the operations permitted on a directory, and on a file (section 7.5.5)
 abbrev pub directory_perms : Letters → List ℕ
 directory_perms letters = in_force (
     (letters.store, codes "c")
@@ -74,19 +74,19 @@ file_perms letters = in_force (
 abbrev pub fact : List ℕ → List ℕ → List ℕ
 fact name value = name ++ codes "=" ++ value ++ codes ";"
 
-abbrev pub type_name : Kind → List ℕ
+abbrev pub type_name : EntryKind → List ℕ
 type_name Directory = codes "dir"
 type_name File = codes "file"
 
-abbrev pub has_size : Kind → Bool
+abbrev pub has_size : EntryKind → Bool
 has_size Directory = false
 has_size File = true
 
-abbrev pub perms : Kind → Letters → List ℕ
+abbrev pub perms : EntryKind → Letters → List ℕ
 perms Directory letters = directory_perms letters
 perms File letters = file_perms letters
 
--- the facts that are in force, of which a directory has no size
+-- the facts that are enabled; a directory has no size
 abbrev pub entry_facts : Meta → Facts → Letters → List ℕ → List ℕ
 entry_facts entry facts letters modified = in_force (
     (facts.kind, fact (codes "type") (type_name entry.kind))

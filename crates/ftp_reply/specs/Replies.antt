@@ -1,4 +1,4 @@
--- What a reply says (RFC 959 section 4.2).
+-- The text of a reply (RFC 959 section 4.2).
 use Rattle.std.specs.Prelude.{ℕ, ◌≤◌, Bool, false, if◌then◌else◌, List, [], ◌∷◌, ◌++◌, codes}
 use Rattle.std.specs.List.{AllByRecursion, flat_map}
 use Rattle.std.specs.Char.{is_ascii_digit}
@@ -10,7 +10,7 @@ use Rattle.ftp_reply.specs.declared.codes.TheConstants.{HIGHEST_CODE, LOWEST_COD
 abbrev pub line_end : List ℕ
 line_end = 13 ∷ 10 ∷ []
 
--- a reply has a code, and is one line of text, or a first line, lines inside and a last line
+-- a reply has a code, and one line of text or a first line, inner lines and a last line
 pub data ReplyForm : Type 0 where
   OneLine : (code : ℕ) (text : List ℕ) → ReplyForm
   SeveralLines : (code : ℕ) (first : List ℕ) (inner : List (List ℕ)) (last : List ℕ) → ReplyForm
@@ -23,13 +23,13 @@ abbrev pub texts_of : ReplyForm → List (List ℕ)
 texts_of (OneLine code text) = text ∷ []
 texts_of (SeveralLines code first inner last) = first ∷ last ∷ inner
 
--- a code of three digits whose first is 1 to 5, and texts of one line each
+-- a code of three digits whose first is 1 to 5, and one-line texts
 pub record IsReply (form : ReplyForm) : Type 0 where
   pub low : LOWEST_CODE ≤ code_of form
   pub high : code_of form ≤ HIGHEST_CODE
   pub lines : AllByRecursion IsLine (texts_of form)
 
--- a line that bears the code, with a mark between the code and the text
+-- a line with the code, a mark, and the text
 abbrev pub coded_line : ℕ → List ℕ → List ℕ → List ℕ
 coded_line code mark text = decimal code ++ mark ++ text ++ line_end
 
@@ -37,12 +37,12 @@ abbrev pub begins_with_digit : List ℕ → Bool
 begins_with_digit [] = false
 begins_with_digit (octet ∷ _) = is_ascii_digit octet
 
--- a line inside: where it begins with a digit, a space in front keeps it apart from a line with a
+-- an inner line: a leading digit gets a space before it, so that the line differs from one with a
 -- code
 abbrev pub inner_line : List ℕ → List ℕ
 inner_line text = (if begins_with_digit text then codes " " else []) ++ text ++ line_end
 
--- the octets of a reply: a hyphen after the code says that more lines come, a space that none does
+-- the octets of a reply: a hyphen after the code if more lines follow, otherwise a space
 abbrev pub reply_text : ReplyForm → List ℕ
 reply_text (OneLine code text) = coded_line code (codes " ") text
 reply_text (SeveralLines code first inner last) =

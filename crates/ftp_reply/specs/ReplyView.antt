@@ -1,4 +1,4 @@
--- What contracts see of a reply.
+-- Replies as contracts see them.
 use Rattle.std.specs.Prelude.{map}
 use Rattle.ftp_terms.specs.LineText.{text_of}
 use Rattle.ftp_reply.specs.declared.codes.ReplyCode.{ReplyCode}

@@ -10,8 +10,7 @@ pub const LOWEST_CODE: u16 = 100;
 /// The highest code of three digits whose first digit is 5.
 pub const HIGHEST_CODE: u16 = 599;
 
-/// The code of a reply: a number of three digits, of which the first is 1 to 5 (RFC 959
-/// section 4.2).
+/// The code of a reply: a number of three digits, the first of them 1 to 5 (RFC 959 section 4.2).
 #[derive(Clone, Copy, Debug, PartialEq, Eq)]
 pub struct ReplyCode {
     pub number: u16,

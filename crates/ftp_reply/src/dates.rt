@@ -1,4 +1,4 @@
-//! Moments by the civil calendar.
+//! Moments in the civil calendar.
 ghost use Rattle.std.specs.Prelude.{IfOk, ◌≡◌, ◌≤◌, ◌+◌, ◌/◌, ◌%◌, ◌∷◌, [], unsigned_abs};
 ghost use Rattle.std.specs.Str.{IsAscii};
 ghost use Rattle.ftp_terms.specs.LineText.{text_of};
@@ -9,7 +9,7 @@ use ftp_terms::{LATEST, LineText};
 use jiff_core::civil::Date;
 use std::alloc::{AllocError, Allocator};
 
-/// The calendar's day, in UTC, on which the moment falls.
+/// The day of the calendar, in UTC, that contains the moment.
 pub(crate) fn date_of(seconds: u64) -> Date
     requires in_calendar { seconds ≤ LATEST }
     ensures falls_on { FallsOn seconds result }
@@ -17,7 +17,7 @@ pub(crate) fn date_of(seconds: u64) -> Date
     Date::from_unix_epoch_day((seconds / 86_400) as i64).unwrap()
 }
 
-/// The number of the date's year, without a sign: no moment falls before 1970.
+/// The year of a date, without a sign: no moment is before 1970.
 pub(crate) fn year_of(date: Date) -> u16
     ensures year { result ≡ unsigned_abs date.year }
     ensures fits { result ≤ 9999 }
@@ -47,8 +47,8 @@ fn four_digits(n: u32) -> [u8; 4]
     ]
 }
 
-/// The moment, in seconds since 1970, as `YYYYMMDDHHMMSS` in UTC (RFC 3659 section 2.3). It takes no
-/// memory, and a moment up to [`LATEST`].
+/// The moment, in seconds since 1970 and up to [`LATEST`], as `YYYYMMDDHHMMSS` in UTC (RFC 3659
+/// section 2.3). No memory.
 pub fn mdtm_text(seconds: u64) -> [u8; 14]
     requires in_calendar { seconds ≤ LATEST }
     ensures text { IsTimeVal seconds result }
@@ -71,7 +71,7 @@ pub(crate) fn digits_text(digits: &[u8]) -> &str
     str::from_utf8(digits).unwrap()
 }
 
-/// The text of [`mdtm_text`], for a reply. `Err` is want of memory.
+/// The text of [`mdtm_text`], for a reply. Returns `Err` if memory runs out.
 pub fn mdtm_line<A: Allocator>(alloc: A, seconds: u64) -> Result<LineText<A>, AllocError>
     requires in_calendar { seconds ≤ LATEST }
     ensures text { IfOk result (λ line. IsTimeVal seconds (text_of line)) }

@@ -11,13 +11,13 @@ ghost use Rattle.ftp_reply.specs.Listings.{IsListLine, IsMlstEntry, directory_pe
 ghost use Rattle.ftp_reply.specs.Written.{Appends};
 
 use crate::dates::{date_of, digits_text, mdtm_text, year_of};
-use ftp_terms::{Facts, Kind, Letters, LineText, Meta};
+use ftp_terms::{EntryKind, Facts, Letters, LineText, Meta};
 use std::alloc::{AllocError, Allocator};
 use std::fmt::Write;
 
 /// A line of a listing in the style of `ls -l`, without the end of the line:
-/// `-rw-r--r-- 1 ftp ftp          120 Feb 29  2000 a.txt`. The size stands right in 12 places, and
-/// takes more where it has more digits. `Err` is want of memory.
+/// `-rw-r--r-- 1 ftp ftp          120 Feb 29  2000 a.txt`. The size is right-aligned in 12 columns,
+/// and takes more if it has more digits. Returns `Err` if memory runs out.
 pub fn list_line<A: Allocator>(
     alloc: A,
     entry: &Meta,
@@ -43,20 +43,19 @@ fn list_text<A: Allocator>(alloc: A, entry: &Meta, name: &str) -> Result<String<
     Ok(text)
 }
 
-/// A law: of one moment, entry and name there is one text, since the calendar has one date for each
-/// day.
+/// A law: a moment, an entry and a name have one text, since each day has one date.
 pub fn listings_have_one_text()
     ensures moments { MomentsHaveOneText }
     ensures lines { LinesHaveOneText }
     ensures entries { EntriesHaveOneText }
 {}
 
-fn mode_text(kind: Kind) -> &'static str
+fn mode_text(kind: EntryKind) -> &'static str
     ensures text { result.now ≡ mode_text kind }
 {
     match kind {
-        Kind::Directory => "drwxr-xr-x",
-        Kind::File => "-rw-r--r--",
+        EntryKind::Directory => "drwxr-xr-x",
+        EntryKind::File => "-rw-r--r--",
     }
 }
 
@@ -64,8 +63,8 @@ fn listed_size(entry: &Meta) -> u64
     ensures size { result ≡ Listings.listed_size entry.now.kind entry.now.size }
 {
     match entry.kind {
-        Kind::Directory => 0,
-        Kind::File => entry.size,
+        EntryKind::Directory => 0,
+        EntryKind::File => entry.size,
     }
 }
 
@@ -90,9 +89,9 @@ fn month_name(month: u8) -> &'static str
     }
 }
 
-/// An entry of MLST and MLSD, without the end of the line (RFC 3659 section 7.2): each fact in
-/// force as `name=value;` in the order type, size, modify, perm, a space and the path. `Err` is want
-/// of memory.
+/// An entry of MLST and MLSD, without the end of the line (RFC 3659 section 7.2): each enabled fact
+/// as `name=value;` in the order type, size, modify, perm, then a space and the path. Returns `Err`
+/// if memory runs out.
 pub fn mlst_entry<A: Allocator>(
     alloc: A,
     entry: &Meta,
@@ -129,16 +128,16 @@ fn entry_text<A: Allocator>(
     Ok(text)
 }
 
-fn type_name(kind: Kind) -> &'static str
+fn type_name(kind: EntryKind) -> &'static str
     ensures name { result.now ≡ type_name kind }
 {
     match kind {
-        Kind::Directory => "dir",
-        Kind::File => "file",
+        EntryKind::Directory => "dir",
+        EntryKind::File => "file",
     }
 }
 
-/// Appends the text where it is in force.
+/// Appends the text if it is enabled.
 fn push_if<A: Allocator>(text: &mut String<A>, in_force: bool, part: &str) -> Result<(), AllocError>
     ensures appended { Appends result text.old text.new (if in_force then part.now else []) }
 {
@@ -148,7 +147,7 @@ fn push_if<A: Allocator>(text: &mut String<A>, in_force: bool, part: &str) -> Re
     Ok(())
 }
 
-/// Appends the fact where it is in force.
+/// Appends the fact if it is enabled.
 fn push_fact<A: Allocator>(
     text: &mut String<A>,
     in_force: bool,
@@ -164,13 +163,13 @@ fn push_fact<A: Allocator>(
     push_if(text, in_force, ";")
 }
 
-fn has_size(kind: Kind) -> bool
+fn has_size(kind: EntryKind) -> bool
     ensures size { result ≡ has_size kind }
 {
-    kind == Kind::File
+    kind == EntryKind::File
 }
 
-/// Appends the fact of a file's size where it is in force.
+/// Appends the fact of a file's size if it is enabled.
 fn push_size<A: Allocator>(
     text: &mut String<A>,
     in_force: bool,
@@ -190,7 +189,7 @@ fn push_size<A: Allocator>(
 fn push_perm<A: Allocator>(
     text: &mut String<A>,
     in_force: bool,
-    kind: Kind,
+    kind: EntryKind,
     letters: Letters,
 ) -> Result<(), AllocError>
     ensures appended { Appends result text.old text.new
@@ -201,8 +200,8 @@ fn push_perm<A: Allocator>(
     }
     text.push_str("perm=")?;
     match kind {
-        Kind::Directory => push_directory_perms(text, letters)?,
-        Kind::File => push_file_perms(text, letters)?,
+        EntryKind::Directory => push_directory_perms(text, letters)?,
+        EntryKind::File => push_file_perms(text, letters)?,
     }
     text.push_str(";")
 }

@@ -10,8 +10,8 @@ ghost use Rattle.ftp_reply.specs.Written.{Appends};
 use ftp_terms::LineText;
 use std::alloc::{AllocError, Allocator};
 
-/// The path in double quotes, with each double quote in it doubled (RFC 959 appendix II). `Err` is
-/// want of memory.
+/// The path in double quotes, with each double quote in it doubled (RFC 959 appendix II). Returns
+/// `Err` if memory runs out.
 pub fn quoted_path<A: Allocator>(alloc: A, path: &str) -> Result<LineText<A>, AllocError>
     requires line { IsLine path.now }
     ensures text { IfOk result (λ line. text_of line ≡ quoted path.now) }
@@ -25,7 +25,7 @@ pub fn quoted_path<A: Allocator>(alloc: A, path: &str) -> Result<LineText<A>, Al
     Ok(LineText::made(text))
 }
 
-/// Appends the character, and a double quote twice.
+/// Appends the character, a double quote twice.
 fn push_doubled<A: Allocator>(text: &mut String<A>, character: char) -> Result<(), AllocError>
     ensures appended { Appends result text.old text.new (flat_map doubled (encode_utf8 character)) }
 {

@@ -38,7 +38,7 @@ impl<A: Allocator> Model for Reply<A> {
 impl<A: Allocator> Reply<A> {
     ghost use Rattle.ftp_reply.specs.Replies.{IsReply, OneLine, SeveralLines};
 
-    /// A reply of one line. With a fixed text it takes no memory.
+    /// A reply of one line. With a fixed text it needs no memory.
     pub fn one_line(code: ReplyCode, text: LineText<A>) -> Reply<A>
         ensures form { result ≡ OneLine code.number (text_of text) }
     {
@@ -48,7 +48,7 @@ impl<A: Allocator> Reply<A> {
         }
     }
 
-    /// A reply of several lines: a first, those inside, and a last.
+    /// A reply of several lines: the first, the inner ones, and the last.
     pub fn several_lines(
         code: ReplyCode,
         first: LineText<A>,
@@ -64,9 +64,9 @@ impl<A: Allocator> Reply<A> {
         }
     }
 
-    /// Appends the octets of the reply. `Err` is want of memory, and then nothing is appended.
+    /// Appends the octets of the reply. Returns `Err` if memory runs out; then nothing is appended.
     ///
-    /// No reply holds a CR or an LF within a line, nor a code outside 100 to 599.
+    /// No line of a reply contains a CR or an LF, and no code is outside 100 to 599.
     pub fn write_to<B: Allocator>(&self, buffer: &mut Vec<u8, B>) -> Result<(), AllocError>
         ensures reply { IsReply self.now }
         ensures appended { Adds result buffer.old buffer.new (reply_text self.now) }
@@ -86,7 +86,7 @@ impl<A: Allocator> Reply<A> {
     }
 }
 
-/// Appends a line that bears the code.
+/// Appends a line with the code.
 fn push_coded<B: Allocator>(
     buffer: &mut Vec<u8, B>,
     code: ReplyCode,
@@ -109,7 +109,7 @@ fn starts_with_digit(text: &str) -> bool
     matches!(text.as_bytes(), [b'0'..=b'9', ..])
 }
 
-/// Appends a line that stands inside a reply.
+/// Appends an inner line of a reply.
 fn push_inner<B: Allocator>(buffer: &mut Vec<u8, B>, text: &str) -> Result<(), AllocError>
     ensures appended { Adds result buffer.old buffer.new (inner_line text.now) }
     ensures front { KeepsFront result buffer.old buffer.new }

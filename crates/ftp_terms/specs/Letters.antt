@@ -1,4 +1,4 @@
--- The letters by which users are allowed to do things.
+-- The letters of users' permissions.
 use Rattle.std.specs.Prelude.{ℕ, ◌==◌, Bool, cond, ◌||◌, List, Option, Some, None}
 use Rattle.std.specs.List.{list_any, list_all}
 use Rattle.ftp_terms.specs.declared.letters.Letter.{Letter}
@@ -23,7 +23,7 @@ is_letter octet = octet == 101 || octet == 108 || octet == 114 || octet == 97
 abbrev pub has_letter : List ℕ → ℕ → Bool
 has_letter text letter = list_any (λ octet. octet == letter) text
 
--- the letters of a text, which holds nothing else
+-- the letters of a text, if it contains nothing else
 abbrev pub letters_of : List ℕ → Option Letters
 letters_of text = cond (list_all is_letter text)
     (Some (record {

@@ -1,4 +1,4 @@
--- What contracts see of a text of one line.
+-- One-line texts as contracts see them.
 use Rattle.std.specs.Prelude.{ℕ, List}
 use Rattle.std.specs.Cow.{cow_str_bytes}
 use Rattle.ftp_terms.specs.declared.line_text.LineText.{LineText}

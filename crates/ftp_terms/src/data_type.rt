@@ -1,9 +1,9 @@
-//! How octets are represented on a data connection.
+//! Representation types of data connections.
 
-/// How octets are represented on a data connection (RFC 959, section 3.1.1).
+/// The representation of octets on a data connection (RFC 959, section 3.1.1).
 #[derive(Clone, Copy, Debug, PartialEq, Eq)]
 pub enum DataType {
-    /// TYPE A: text, its lines ended by CR LF.
+    /// TYPE A: text whose lines end with CR LF.
     Ascii,
     /// TYPE I: octets as they are.
     Image,

@@ -1,4 +1,4 @@
-//! What is known of an entry of a directory.
+//! Metadata of a directory entry.
 
 ghost use Rattle.std.specs.Prelude.{◌≤◌};
 ghost use Rattle.ftp_terms.specs.declared.entries.TheConstants.{LATEST};
@@ -7,20 +7,20 @@ ghost use Rattle.ftp_terms.specs.declared.entries.TheConstants.{LATEST};
 /// (RFC 3659, section 2.3, gives a year four digits).
 pub const LATEST: u64 = 253_402_300_799;
 
-/// What an entry is.
+/// The kind of an entry.
 #[derive(Clone, Copy, Debug, PartialEq, Eq)]
-pub enum Kind {
+pub enum EntryKind {
     Directory,
     File,
 }
 
-/// What is known of an entry.
+/// The metadata of an entry.
 #[derive(Clone, Copy, Debug, PartialEq, Eq)]
 pub struct Meta {
-    pub kind: Kind,
-    /// Octets; 0 for a directory.
+    pub kind: EntryKind,
+    /// Size in octets; 0 for a directory.
     pub size: u64,
-    /// When it was last changed, in whole seconds since 1970.
+    /// The moment of its last change, in whole seconds since 1970.
     pub modified: u64,
     pub ghost can_be_shown: { modified ≤ LATEST },
 }
@@ -29,9 +29,9 @@ impl Meta {
     ghost use Rattle.std.specs.Prelude.{◌≡◌};
     ghost use Rattle.ftp_terms.specs.Entries.{entry_meta};
 
-    /// What is known of an entry that was changed at that second. A later one than [`LATEST`] is
-    /// told as that.
-    pub fn new(kind: Kind, size: u64, seconds: u64) -> Meta
+    /// The metadata of an entry last changed at that second. A second after [`LATEST`] is stored as
+    /// `LATEST`.
+    pub fn new(kind: EntryKind, size: u64, seconds: u64) -> Meta
         ensures meta { result ≡ entry_meta kind size seconds }
     {
         Meta {

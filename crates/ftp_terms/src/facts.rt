@@ -1,20 +1,20 @@
-//! The facts that a listing tells of an entry.
+//! The facts that a listing shows of an entry.
 
-/// A set of facts of an entry, as those in force for a session (RFC 3659, sections 7.5 and 7.9).
+/// A set of facts, such as those enabled for a session (RFC 3659, sections 7.5 and 7.9).
 #[derive(Clone, Copy, Debug, PartialEq, Eq)]
 pub struct Facts {
-    /// `type`, which says file or directory.
+    /// `type`: file or directory.
     pub kind: bool,
-    /// `size`, the octets of a file.
+    /// `size`: octets of a file.
     pub size: bool,
-    /// `modify`, the moment of the last change.
+    /// `modify`: the moment of the last change.
     pub modify: bool,
-    /// `perm`, what may be done with the entry.
+    /// `perm`: the operations that are permitted on the entry.
     pub perm: bool,
 }
 
 impl Facts {
-    /// No fact.
+    /// No facts.
     pub const NONE: Facts = Facts {
         kind: false,
         size: false,
@@ -22,7 +22,7 @@ impl Facts {
         perm: false,
     };
 
-    /// All four facts, which are in force at first.
+    /// All four facts, which are enabled initially.
     pub const ALL: Facts = Facts {
         kind: true,
         size: true,

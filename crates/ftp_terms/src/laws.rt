@@ -1,9 +1,9 @@
-//! Laws about texts of one line.
+//! Laws of one-line texts.
 
 ghost use Rattle.ftp_terms.specs.Lines.{JoinedStandOnOneLine, PlainStandsOnOneLine};
 
-/// Texts of one line, joined, stand on one line; so does a text without control octets, as a name or
-/// a path.
+/// One-line texts, joined, are on one line; so is a text without control octets, such as a name or a
+/// path.
 pub fn texts_of_one_line()
     ensures joined { JoinedStandOnOneLine }
     ensures plain { PlainStandsOnOneLine }

@@ -1,11 +1,10 @@
-//! What a user may be allowed to do.
+//! Permissions of users.
 
 ghost use Rattle.std.specs.Prelude.{◌≡◌, ◌==◌};
 ghost use Rattle.std.specs.List.{list_any, list_all};
 ghost use Rattle.ftp_terms.specs.Letters.{has_letter, holds, is_letter, letters_of};
 
-/// One thing that a user may be allowed to do, named by a letter as in the fact `perm` of RFC 3659,
-/// section 7.5.5.
+/// A permission, named by a letter as in the fact `perm` of RFC 3659, section 7.5.5.
 #[derive(Clone, Copy, Debug, PartialEq, Eq)]
 pub enum Letter {
     /// `e`: make a directory the current one.
@@ -64,7 +63,7 @@ impl Letters {
         store: true,
     };
 
-    /// The set of the letters in a text, as `elr`; none if it holds anything else.
+    /// The set of the letters in a text, such as `elr`; `None` if it contains anything else.
     pub fn read(text: &str) -> Option<Letters>
         ensures letters { result ≡ letters_of text.now }
     {

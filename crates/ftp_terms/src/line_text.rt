@@ -1,4 +1,4 @@
-//! Texts that stand on one line.
+//! One-line texts.
 
 ghost use Rattle.std.specs.Prelude.{◌≡◌, ◌++◌, IfOk};
 ghost use Rattle.std.specs.Fmt.{decimal};
@@ -9,14 +9,14 @@ ghost use Rattle.ftp_terms.specs.Lines.{IsLine, is_line};
 use std::alloc::{AllocError, Allocator, Global};
 use std::borrow::CowStr;
 
-/// Whether the text stands on one line: it holds no CR and no LF.
+/// Returns whether the text is on one line: it contains no CR and no LF.
 pub fn is_line_text(text: &str) -> bool
     ensures line { result ≡ is_line text.now }
 {
     text.bytes().all(|octet| octet != b'\r' && octet != b'\n')
 }
 
-/// A text without CR and LF. A fixed one takes no memory.
+/// A text without CR and LF. A fixed one needs no memory.
 #[derive(Drop)]
 pub struct LineText<A: Allocator = Global> {
     text: CowStr<'static, A>,
@@ -26,7 +26,7 @@ pub struct LineText<A: Allocator = Global> {
 impl<A: Allocator> LineText<A> {
     ghost use Rattle.ftp_terms.specs.LineText.{text_of};
 
-    /// A text of the program's own, which takes no memory. [`is_line_text`] is the test.
+    /// A text of the program itself, without allocation. The text must pass [`is_line_text`].
     pub fn fixed(text: &'static str) -> LineText<A>
         requires line { IsLine text.now }
         ensures text { text_of result ≡ text.now }
@@ -36,7 +36,7 @@ impl<A: Allocator> LineText<A> {
         }
     }
 
-    /// A text that was made. [`is_line_text`] is the test.
+    /// A text made at run time. The text must pass [`is_line_text`].
     pub fn made(text: String<A>) -> LineText<A>
         requires line { IsLine (string_bytes text) }
         ensures text { text_of result ≡ string_bytes text }
@@ -46,7 +46,7 @@ impl<A: Allocator> LineText<A> {
         }
     }
 
-    /// A number in decimal digits, with a text before it and one after it. `Err` is want of memory.
+    /// A number in decimal digits between two texts. Returns `Err` if memory runs out.
     pub fn with_number(
         alloc: A,
         before: &str,
@@ -62,7 +62,7 @@ impl<A: Allocator> LineText<A> {
         Ok(LineText::made(text))
     }
 
-    /// Three texts, one after another. `Err` is want of memory.
+    /// Three texts, concatenated. Returns `Err` if memory runs out.
     pub fn joined(
         alloc: A,
         before: &str,

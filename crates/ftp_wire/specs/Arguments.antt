@@ -21,23 +21,23 @@ infixl 10 ◌>>=◌
 abbrev pub ◌>>=◌ : {A B : Type 0} → Option A → (A → Option B) → Option B
 o >>= f = option_and_then f o
 
--- the value, or that the argument is bad where there is none
+-- the value; if there is none, the argument is bad
 abbrev pub or_bad : {X : Type 0} → Option X → Result X LineFault
 or_bad None = Err BadArgument
 or_bad (Some x) = Ok x
 
--- decimal digits, at least one, and the number that they stand for
+-- decimal digits, at least one, and the number that they represent
 abbrev pub is_number : List ℕ → Bool
 is_number text = not (length text == 0) && all_ascii_digits text
 
 unfoldable pub number_of : List ℕ → Option ℕ
 number_of text = if is_number text then Some (digits_value 10 text) else None
 
--- a number of at most limit
+-- a number of at most `limit`
 unfoldable pub number_up_to : ℕ → List ℕ → Option ℕ
 number_up_to limit text = number_of text >>= λ n. if nat_le n limit then Some n else None
 
--- a number, and the limit where it is above
+-- a number, cut to `limit`
 unfoldable pub number_cut_at : ℕ → List ℕ → Option ℕ
 number_cut_at limit text = option_map (λ n. min n limit) (number_of text)
 
@@ -45,12 +45,12 @@ number_cut_at limit text = option_map (λ n. min n limit) (number_of text)
 unfoldable pub octet_of : List ℕ → Option ℕ
 octet_of text = if nat_le (length text) 3 then number_up_to 255 text else None
 
--- what follows a word at the front, letters of either case
+-- the text after a word at the start; letters match in either case
 unfoldable pub after_word : List ℕ → List ℕ → Option (List ℕ)
 after_word word text =
     if same_letters (take (length word) text) word then Some (drop (length word) text) else None
 
--- L and the size of an octet: 8 is as I, another up to 255 is not served
+-- L and the size of an octet: 8 is the same as I; any other up to 255 is not served
 abbrev pub local_size : Option ℕ → Result DataType LineFault
 local_size None = Err BadArgument
 local_size (Some n) =
@@ -69,7 +69,7 @@ type_of text =
     || (same_letters text (codes "A T") || same_letters text (codes "A C")) then Err BadParameter else
     local_type text))
 
--- MODE and STRU: one letter is served, and two others are known (RFC 959, sections 3.4 and 3.1.2)
+-- MODE and STRU: one letter is served, two others are known (RFC 959, sections 3.4 and 3.1.2)
 unfoldable pub letter_of : List ℕ → List ℕ → List ℕ → List ℕ → Result (Unit {0}) LineFault
 letter_of served one other text =
     if same_letters text served then Ok tt else
@@ -88,7 +88,7 @@ host_port (a ∷ b ∷ c ∷ d ∷ high ∷ low ∷ []) = do
   Some (record { address = h1 ∷ h2 ∷ h3 ∷ h4 ∷ []; port = p1 * 256 + p2 })
 host_port _ = None
 
--- the parts between the octets of this value
+-- the parts between octets of this value
 abbrev pub parts_at : ℕ → List ℕ → List (List ℕ)
 parts_at wanted text = slice_split (λ octet. octet == wanted) text
 
@@ -114,15 +114,15 @@ ipv4 address port = do
   p ← number_up_to 65535 port
   Some (Ipv4 (record { address = h; port = p }))
 
--- the parts of EPRT's argument: protocol, address, port, and nothing after the last delimiter
--- (RFC 2428, section 2); with another protocol than 1, address and port may be anything
+-- the parts of EPRT's argument: protocol, address, port, and nothing after the last delimiter (RFC
+-- 2428, section 2); for a protocol other than 1, address and port may be anything
 abbrev pub extended_parts : List (List ℕ) → Option ExtendedPort
 extended_parts (protocol ∷ address ∷ port ∷ [] ∷ []) = do
   n ← number_cut_at 65535 protocol
   if n == 1 then ipv4 address port else Some (Unsupported n)
 extended_parts _ = None
 
--- the delimiter is a printed octet of ASCII
+-- the delimiter is a printable octet of ASCII
 unfoldable pub extended_port_of : List ℕ → Result ExtendedPort LineFault
 extended_port_of [] = Err BadArgument
 extended_port_of (delimiter ∷ text) =
@@ -143,7 +143,7 @@ offset_of text = if nat_le (length text) 19 then or_bad (number_of text) else Er
 abbrev pub names_fact : List ℕ → List (List ℕ) → Bool
 names_fact fact names = list_any (λ name. same_letters name fact) names
 
--- the facts that are named; unknown names are left out
+-- the facts in the list; unknown names are ignored
 unfoldable pub facts_of : List (List ℕ) → Facts
 facts_of names = record {
   kind = names_fact (codes "type") names;
@@ -155,7 +155,7 @@ facts_of names = record {
 abbrev pub no_facts : Facts
 no_facts = record { kind = false; size = false; modify = false; perm = false }
 
--- no names, or each ended by a semicolon and without a space
+-- no names, or each followed by a semicolon and without a space
 abbrev pub is_name_list : List ℕ → Bool
 is_name_list text =
     length text == 0
@@ -173,8 +173,8 @@ option_of text =
     (if same_letters text (codes "MLST") then Ok (Mlst no_facts) else
     or_bad (listed_facts (after_word (codes "MLST ") text)))
 
--- a first word that begins with a hyphen, as `-la` in LIST, NLST and STAT, is dropped with the
--- space after it
+-- drops a first word that begins with a hyphen, as `-la` in LIST, NLST and STAT, with the space
+-- after it
 unfoldable pub without_switches : List ℕ → Option (List ℕ)
 without_switches text =
     if slice_index_or text 0 0 == hyphen

@@ -1,4 +1,4 @@
--- Commands, whatever their texts are made of.
+-- Commands with texts of any type.
 use Rattle.std.specs.Prelude.{ℕ, List, Option, Some, None, option_map}
 use Rattle.ftp_terms.specs.declared.data_type.DataType.{DataType}
 use Rattle.ftp_wire.specs.declared.commands.Command.{Command}
@@ -20,7 +20,7 @@ use Rattle.ftp_wire.specs.declared.table.Listing.{Listing}
 use Rattle.ftp_wire.specs.declared.table.Listing.TheVariants as listing
 use Rattle.ftp_wire.specs.Table.{bare_row, listing_row, optional_row, text_row}
 
--- an argument of a form of its own
+-- an argument with a form of its own
 pub data Argument : Type 0 where
   for_type : DataType → Argument
   for_mode : Argument
@@ -31,7 +31,7 @@ pub data Argument : Type 0 where
   for_offset : ℕ → Argument
   for_option : FeatureOption → Argument
 
--- a command in parts, by the kind of argument that it takes
+-- a command in parts, by the kind of its argument
 pub data Parts (T : Type 0) : Type 0 where
   bare_part : Bare → Parts T
   text_part : Text → T → Parts T
@@ -101,7 +101,7 @@ argument_command (for_passive argument) = command.Epsv argument
 argument_command (for_offset argument) = command.Rest argument
 argument_command (for_option argument) = command.Opts argument
 
--- the command that has these parts, its text as a list of octets
+-- the command with these parts, its text as a list of octets
 abbrev pub joined : {T : Type 0} → (T → List ℕ) → Parts T → Command (List ℕ)
 joined f (bare_part v) = bare_command v
 joined f (text_part v t) = text_command v (f t)

@@ -1,4 +1,4 @@
--- What is replied to a line that is no command (RFC 959, section 4.2.1).
+-- Replies to lines that are not commands (RFC 959, section 4.2.1).
 use Rattle.std.specs.Prelude.{codes}
 use Rattle.ftp_reply.specs.Replies.{ReplyForm, OneLine}
 use Rattle.ftp_wire.specs.declared.faults.LineFault.{LineFault}

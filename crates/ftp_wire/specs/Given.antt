@@ -1,4 +1,4 @@
--- The commands that lines stand for.
+-- The commands that lines represent.
 use Rattle.std.specs.Prelude.{◌≡◌, ◌≢◌, ◌≤◌, ◌<◌, ◌^◌, ◌==◌, ℕ, List, IfSome, Ok, false, length, slice_index, true}
 use Rattle.ftp_wire.specs.declared.items.TheConstants.{LONGEST_LINE}
 use Rattle.ftp_wire.specs.declared.commands.Command.{Command}
@@ -12,7 +12,7 @@ use Rattle.ftp_wire.specs.Items.{line_item}
 use Rattle.ftp_wire.specs.Words.{is_blank, is_text}
 use Rattle.ftp_wire.specs.Written.{written_line}
 
--- a text that is an argument: printed, and not of spaces alone
+-- a text that is an argument: printable, and not only spaces
 pub record IsArgument (text : List ℕ) : Type 0 where
   pub some : is_blank text ≡ false
   pub printed : is_text text ≡ true
@@ -47,7 +47,7 @@ AreGiven (optional_part _ text) = IfSome text IsArgument
 AreGiven (listing_part _ text) = IfSome text IsArgument
 AreGiven (form_part argument) = IsGivenArgument argument
 
--- what holds of each command that a line stands for
+-- the property of each command that a line represents
 abbrev pub IsGiven : Command (List ℕ) → Type 0
 IsGiven c = AreGiven (parts_of c)
 
@@ -55,7 +55,7 @@ IsGiven c = AreGiven (parts_of c)
 abbrev pub HasNoHyphen : List ℕ → Type 0
 HasNoHyphen text = (slice_index text 0 == 45) ≡ false
 
--- where such a text would be read as switches
+-- if it did, it would be read as switches
 abbrev pub HaveNoSwitch : Parts (List ℕ) → Type 0
 HaveNoSwitch (listing_part _ text) = IfSome text HasNoHyphen
 HaveNoSwitch _ = Unit {0}
@@ -63,7 +63,7 @@ HaveNoSwitch _ = Unit {0}
 abbrev pub HasNoSwitch : Command (List ℕ) → Type 0
 HasNoSwitch c = HaveNoSwitch (parts_of c)
 
--- some line stands for the command, and its written line is read as it
+-- some line represents the command, and its written line is read as the same command
 pub record CanBeReadBack (c : Command (List ℕ)) : Type 0 where
   pub line : List ℕ
   pub given : line_item line ≡ Ok c

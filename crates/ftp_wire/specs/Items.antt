@@ -1,4 +1,4 @@
--- What a line stands for.
+-- The items that lines represent.
 use Rattle.std.specs.Prelude.{ℕ, List, Option, Some, None, Result, Ok, Err, codes, if◌then◌else◌, ◌-◌, ◌==◌, length, nat_le, slice_index_or, take}
 use Rattle.std.specs.List.{after_first, before_first}
 use Rattle.ftp_wire.specs.declared.items.TheConstants.{LONGEST_LINE}
@@ -18,7 +18,7 @@ use Rattle.ftp_wire.specs.Commands.{bare_command, listing_command, optional_comm
 use Rattle.ftp_wire.specs.Table.{row_of, table}
 use Rattle.ftp_wire.specs.Words.{is_blank, is_space, is_text}
 
--- a command with its texts as octets, or what is wrong with the line
+-- a command with its texts as octets, or the fault of the line
 abbrev pub Item : Type 0
 Item = Result (Command (List ℕ)) LineFault
 
@@ -62,23 +62,23 @@ abbrev pub argument_item : Verb → List ℕ → Item
 argument_item (verb.Bare v) argument = Err fault.ArgumentUnwanted
 argument_item v argument = if is_text argument then text_item v argument else Err fault.BadArgument
 
--- an argument that is empty or of spaces alone counts as absent
+-- an argument that is empty or only spaces counts as absent
 abbrev pub verb_item : Verb → List ℕ → Item
 verb_item v argument = if is_blank argument then absent_item v else argument_item v argument
 
--- what stands in the table for a code, and the argument
+-- the item for a row of the table and the argument
 abbrev pub known_item : Option Known → List ℕ → Item
 known_item None argument = Err fault.Unknown
 known_item (Some NotServed) argument = Err fault.NotServed
 known_item (Some (Served v)) argument = verb_item v argument
 
--- a line without its end: the code stands before the first space, the argument follows that space
+-- a line without its end: the code ends at the first space, and the argument follows that space
 unfoldable pub words_item : List ℕ → Item
 words_item line =
     if length (before_first is_space line) == 0 then Err fault.Empty
     else known_item (row_of table (before_first is_space line)) (after_first is_space line)
 
--- a line without the CR that may stand before its LF
+-- a line without the CR before its LF, if there is one
 abbrev pub without_cr : List ℕ → List ℕ
 without_cr line =
     if slice_index_or line (length line - 1) 0 == 13 then take (length line - 1) line else line

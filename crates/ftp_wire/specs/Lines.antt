@@ -8,7 +8,7 @@ HasNoEnd = AllByRecursion (λ octet. octet ≢ 10)
 abbrev pub ended : List ℕ → List ℕ
 ended line = line ++ 10 ∷ []
 
--- the text is these lines, each with its LF, and a rest that has none
+-- the text is these lines, each followed by its LF, and a rest without LF
 pub record Cuts (text : List ℕ) (lines : List (List ℕ)) (rest : List ℕ) : Type 0 where
   pub whole : text ≡ flat_map ended lines ++ rest
   pub each : AllByRecursion HasNoEnd lines

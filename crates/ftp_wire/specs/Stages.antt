@@ -1,4 +1,4 @@
--- Where a stream stands in a Telnet command.
+-- The position of a stream within a Telnet command.
 use Rattle.std.specs.Prelude.{◌≡◌, ◌<◌, ◌++◌, ◌∷◌, [], ℕ, List, flat_map}
 use Rattle.std.specs.List.{AllByRecursion}
 use Rattle.ftp_wire.specs.declared.telnet.Stage.{Stage}
@@ -12,7 +12,7 @@ IsStart stage.Option start = (verb : ℕ) × (250 < verb) × (verb < 255) × (st
 IsStart stage.Inside start = (parts : List Part) × AllByRecursion IsPart parts × (start ≡ 255 ∷ 250 ∷ flat_map part_octets parts)
 IsStart stage.InsideCommand start = (parts : List Part) × AllByRecursion IsPart parts × (start ≡ 255 ∷ 250 ∷ (flat_map part_octets parts ++ 255 ∷ []))
 
--- the octets are tokens and a start of this stage, and the text is what stays of them
+-- the octets are tokens and the start of a token of this stage, and the text is what they keep
 pub record StripsTo (octets text : List ℕ) (at : Stage) : Type 0 where
   pub tokens : List Token
   pub start : List ℕ

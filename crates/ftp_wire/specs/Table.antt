@@ -62,7 +62,7 @@ listing_row listing.List = (codes "LIST", command.List)
 listing_row listing.Nlst = (codes "NLST", command.Nlst)
 listing_row listing.Stat = (codes "STAT", command.Stat)
 
--- the codes of the commands that need an argument of a form of their own
+-- the codes of the commands that need an argument with a form of its own
 abbrev pub form_code : Form → List ℕ
 form_code form.SetType = codes "TYPE"
 form_code form.Mode = codes "MODE"
@@ -84,7 +84,7 @@ optional_code v = (optional_row {T = ℕ} v).0
 abbrev pub listing_code : Listing → List ℕ
 listing_code v = (listing_row {T = ℕ} v).0
 
--- the code of a command that is served
+-- the code of a served command
 abbrev pub code : Verb → List ℕ
 code (verb.Bare v) = bare_code v
 code (verb.Text v) = text_code v
@@ -93,7 +93,7 @@ code (verb.Optional v) = optional_code v
 code (verb.Listing v) = listing_code v
 code verb.Epsv = codes "EPSV"
 
--- a code, and what it stands for
+-- a code with its meaning
 abbrev pub Entry : Type 0
 Entry = List ℕ × Known
 
@@ -103,7 +103,7 @@ served v = (code v, Served v)
 abbrev pub row : Row → Entry
 row r = (r.0.now, r.1)
 
--- the codes that are known: those served, their other codes, and those that are not served
+-- the known codes: those served, their other codes, and those not served
 abbrev pub table : List Entry
 table =
     served (verb.Bare bare.Cdup) ∷
@@ -165,7 +165,7 @@ table =
     (codes "MFMT", NotServed) ∷
     []
 
--- what the first row with this code stands for, letters of either case
+-- the meaning of the first row with this code; letters match in either case
 abbrev pub row_of : List Entry → List ℕ → Option Known
 row_of rows text =
     option_map (λ (r : Entry). r.1) (find (λ (r : Entry). same_letters r.0 text) rows)

@@ -15,11 +15,11 @@ abbrev pub part_octets : Part → List ℕ
 part_octets (one octet) = octet ∷ []
 part_octets (pair octet) = 255 ∷ octet ∷ []
 
--- what a stream is made of
+-- the tokens of a stream
 pub data Token : Type 0 where
   -- an octet other than IAC
   plain : ℕ → Token
-  -- IAC and an octet that stays: IAC itself, or one below 240
+  -- IAC and an octet that is kept: IAC itself, or one below 240
   escaped : ℕ → Token
   -- IAC and a command of one octet
   command : ℕ → Token
@@ -42,13 +42,13 @@ spelling (command octet) = 255 ∷ octet ∷ []
 spelling (option verb octet) = 255 ∷ verb ∷ octet ∷ []
 spelling (subnegotiation parts) = 255 ∷ 250 ∷ (flat_map part_octets parts ++ 255 ∷ 240 ∷ [])
 
--- what stays of a token
+-- the octets kept of a token
 abbrev pub kept : Token → List ℕ
 kept (plain octet) = octet ∷ []
 kept (escaped octet) = octet ∷ []
 kept _ = []
 
--- the start of a token that is not whole
+-- the start of an incomplete token
 pub record IsUnfinished (start : List ℕ) : Type 0 where
   pub token : Token
   pub more : List ℕ
@@ -56,7 +56,7 @@ pub record IsUnfinished (start : List ℕ) : Type 0 where
   pub lacks : more ≢ []
   pub begins : spelling token ≡ start ++ more
 
--- the octets are tokens and the start of another, and the text is what stays of them
+-- the octets are tokens and the start of another, and the text is what they keep
 pub record Strips (octets text : List ℕ) : Type 0 where
   pub tokens : List Token
   pub start : List ℕ

@@ -4,11 +4,11 @@ use Rattle.std.specs.Char.{to_ascii_lowercase}
 use Rattle.std.specs.List.{list_all}
 use Rattle.std.specs.Str.{bytes_eq, is_utf8}
 
--- two texts are the same but for the case of ASCII letters
+-- two texts are equal, ignoring the case of ASCII letters
 abbrev pub same_letters : List ℕ → List ℕ → Bool
 same_letters a b = bytes_eq (map to_ascii_lowercase a) (map to_ascii_lowercase b)
 
--- octets that part the parts of arguments
+-- octets that separate the parts of arguments
 abbrev pub comma : ℕ
 comma = 44
 
@@ -24,7 +24,7 @@ semicolon = 59
 abbrev pub is_space : ℕ → Bool
 is_space octet = octet == 32
 
--- nothing but spaces
+-- only spaces
 abbrev pub is_blank : List ℕ → Bool
 is_blank octets = list_all is_space octets
 

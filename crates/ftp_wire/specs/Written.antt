@@ -20,7 +20,7 @@ abbrev pub type_text : DataType → List ℕ
 type_text Ascii = codes "A"
 type_text Image = codes "I"
 
--- the four numbers of an address, a separator between them, and what follows
+-- the four numbers of an address with separators between them, and what follows
 abbrev pub host_text : ℕ → List ℕ → List ℕ → List ℕ
 host_text separator address after =
     decimal (slice_index address 0) ++ separator ∷ (decimal (slice_index address 1)
@@ -50,7 +50,7 @@ facts_text facts =
     fact_text facts.kind (codes "type;") ++ (fact_text facts.size (codes "size;")
     ++ (fact_text facts.modify (codes "modify;") ++ fact_text facts.perm (codes "perm;")))
 
--- a star behind the name of a fact that is in force
+-- a star after the name of a fact that is enabled
 abbrev pub starred_fact : Bool → List ℕ → List ℕ
 starred_fact in_force name = name ++ (if in_force then codes "*;" else codes ";")
 
@@ -67,7 +67,7 @@ option_text Utf8On = codes "UTF8 ON"
 option_text (Mlst facts) =
     if has_facts facts then codes "MLST " ++ facts_text facts else codes "MLST"
 
--- an argument of a form of its own, if there is one
+-- an argument with a form of its own, if there is one
 abbrev pub argument_text : Argument → Option (List ℕ)
 argument_text (for_type argument) = Some (type_text argument)
 argument_text for_mode = Some (codes "S")
@@ -91,7 +91,7 @@ abbrev pub argument_part : Option (List ℕ) → List ℕ
 argument_part None = []
 argument_part (Some text) = 32 ∷ text
 
--- the code in capitals and the argument
+-- the code in capitals, and the argument
 unfoldable pub written_line : Command (List ℕ) → List ℕ
 written_line c =
     code (verb_of c) ++ (argument_part (text_argument c) ++ argument_part (form_argument c))

@@ -1,4 +1,4 @@
-//! Reads the arguments of commands.
+//! Readers of the arguments of commands.
 
 ghost use Rattle.std.specs.Prelude.{◌≡◌, ◌==◌, ◌≤◌, ◌-◌, ◌^◌, IfSome, codes, min, option_map, slice_index, true};
 ghost use Rattle.std.specs.Char.{is_ascii_digit};
@@ -12,7 +12,7 @@ use crate::faults::LineFault;
 use crate::words::{find_octet, is_blank, same_letters, split_part};
 use ftp_terms::{DataType, Facts};
 
-/// Whether there are decimal digits and nothing else.
+/// Returns whether the text is decimal digits and nothing else.
 fn is_number(text: &[u8]) -> bool
     ensures number { result ≡ is_number text.now }
 {
@@ -28,7 +28,7 @@ fn has_only_digits(text: &[u8]) -> bool
     text.iter().all(|octet| octet.is_ascii_digit())
 }
 
-/// The number that decimal digits stand for, or 2^64 - 1 where it is above.
+/// The number that decimal digits represent, at most 2^64 - 1.
 fn value_of(digits: &[u8]) -> u64
     requires digits { is_number digits.now ≡ true }
     ensures number { result ≡ min (digits_value 10 digits.now) (2 ^ 64 - 1) }
@@ -41,9 +41,9 @@ fn value_of(digits: &[u8]) -> u64
     number
 }
 
-/// The number that decimal digits stand for, or 2^64 - 1 where it is above.
+/// The number that decimal digits represent, at most 2^64 - 1.
 #[tactic(auto, unfolding(crate::specs::Arguments::number_cut_at, crate::specs::Arguments::number_of))]
-pub fn number_or_most(text: &[u8]) -> Option<u64>
+pub(crate) fn number_or_most(text: &[u8]) -> Option<u64>
     ensures number { result ≡ number_cut_at (2 ^ 64 - 1) text.now }
 {
     if is_number(text) {
@@ -55,7 +55,7 @@ pub fn number_or_most(text: &[u8]) -> Option<u64>
 
 /// A number up to the limit.
 #[tactic(auto, unfolding(crate::specs::Arguments::number_up_to, crate::specs::Arguments::number_cut_at, crate::specs::Arguments::number_of))]
-pub fn number_up_to(limit: u16, text: &[u8]) -> Option<u16>
+pub(crate) fn number_up_to(limit: u16, text: &[u8]) -> Option<u16>
     ensures number { result ≡ number_up_to limit text.now }
     ensures bound { IfSome result (λ number. number ≤ limit) }
 {
@@ -67,16 +67,16 @@ pub fn number_up_to(limit: u16, text: &[u8]) -> Option<u16>
     }
 }
 
-/// A number, or 65,535 where it is above.
+/// A number, cut to 65,535.
 #[tactic(auto, unfolding(crate::specs::Arguments::number_cut_at, crate::specs::Arguments::number_of))]
-pub fn number_cut(text: &[u8]) -> Option<u16>
+pub(crate) fn number_cut(text: &[u8]) -> Option<u16>
     ensures number { result ≡ number_cut_at 65535 text.now }
 {
     let number = number_or_most(text)?;
     Some(number.min(65535) as u16)
 }
 
-/// What follows the word at the front, letters of either case.
+/// The text after the word at the start; letters match in either case.
 #[tactic(auto, using(crate::proofs::Fronts::no_word, crate::proofs::Fronts::word_found, crate::proofs::Fronts::word_absent))]
 fn after_word<'a>(text: &'a [u8], word: &[u8]) -> Option<&'a [u8]>
     ensures rest { option_map (λ rest. rest.now) result ≡ after_word word.now text.now }
@@ -120,7 +120,7 @@ fn local_type(text: &[u8]) -> Result<DataType, LineFault>
 
 /// The argument of TYPE.
 #[tactic(auto, unfolding(crate::specs::Arguments::type_of))]
-pub fn type_of(text: &str) -> Result<DataType, LineFault>
+pub(crate) fn type_of(text: &str) -> Result<DataType, LineFault>
     ensures data_type { result ≡ type_of text.now }
 {
     if is_word(text, "A") || is_word(text, "A N") {
@@ -135,9 +135,9 @@ pub fn type_of(text: &str) -> Result<DataType, LineFault>
     local_type(text.as_bytes())
 }
 
-/// The argument of MODE or STRU: one letter is served, and two others are known.
+/// The argument of MODE or STRU: one letter is served, two others are known.
 #[tactic(auto, unfolding(crate::specs::Arguments::letter_of))]
-pub fn letter_of(text: &str, served: &str, one: &str, other: &str) -> Result<(), LineFault>
+pub(crate) fn letter_of(text: &str, served: &str, one: &str, other: &str) -> Result<(), LineFault>
     ensures answer { result ≡ letter_of served.now one.now other.now text.now }
 {
     if is_word(text, served) {
@@ -151,7 +151,7 @@ pub fn letter_of(text: &str, served: &str, one: &str, other: &str) -> Result<(),
 
 /// The argument of EPSV.
 #[tactic(auto, unfolding(crate::specs::Arguments::extended_passive_of))]
-pub fn extended_passive_of(text: &str) -> Result<ExtendedPassive, LineFault>
+pub(crate) fn extended_passive_of(text: &str) -> Result<ExtendedPassive, LineFault>
     ensures passive { result ≡ extended_passive_of text.now }
 {
     if is_word(text, "ALL") {
@@ -165,7 +165,7 @@ pub fn extended_passive_of(text: &str) -> Result<ExtendedPassive, LineFault>
 
 /// The argument of REST.
 #[tactic(auto, unfolding(crate::specs::Arguments::offset_of, crate::specs::Arguments::number_cut_at, crate::specs::Arguments::number_of))]
-pub fn offset_of(text: &str) -> Result<u64, LineFault>
+pub(crate) fn offset_of(text: &str) -> Result<u64, LineFault>
     ensures offset { result ≡ offset_of text.now }
 {
     if text.len() > 19 {
@@ -177,7 +177,7 @@ pub fn offset_of(text: &str) -> Result<u64, LineFault>
     }
 }
 
-/// Whether the names between semicolons have this fact.
+/// Returns whether the names between semicolons include this fact.
 fn names_fact(names: &[u8], fact: &[u8]) -> bool
     ensures named { result ≡ names_fact fact.now (parts_at semicolon names.now) }
 {
@@ -209,7 +209,7 @@ fn has_space(text: &[u8]) -> bool
     text.iter().any(|octet| *octet == b' ')
 }
 
-/// Whether there are no names, or each is ended by a semicolon and holds no space.
+/// Returns whether there are no names, or each is followed by a semicolon and contains no space.
 fn is_name_list(text: &[u8]) -> bool
     ensures names { result ≡ is_name_list text.now }
 {
@@ -230,7 +230,7 @@ fn listed_facts(text: &[u8]) -> Result<FeatureOption, LineFault>
 
 /// The argument of OPTS.
 #[tactic(auto, unfolding(crate::specs::Arguments::option_of))]
-pub fn option_of(text: &str) -> Result<FeatureOption, LineFault>
+pub(crate) fn option_of(text: &str) -> Result<FeatureOption, LineFault>
     ensures option { result ≡ option_of text.now }
 {
     if is_word(text, "UTF8 ON") {
@@ -242,7 +242,7 @@ pub fn option_of(text: &str) -> Result<FeatureOption, LineFault>
     listed_facts(text.as_bytes())
 }
 
-/// What follows the first space, or nothing where there is none.
+/// The text after the first space; empty if there is none.
 fn after_space(text: &str) -> &str
     ensures rest { result.now ≡ after_first is_space text.now }
 {
@@ -263,7 +263,7 @@ fn has_switch(text: &str) -> bool
 
 /// The text without a first word that begins with a hyphen.
 #[tactic(auto, unfolding(crate::specs::Arguments::without_switches))]
-pub fn without_switches(text: &str) -> Option<&str>
+pub(crate) fn without_switches(text: &str) -> Option<&str>
     ensures text { option_map (λ t. t.now) result ≡ without_switches text.now }
 {
     if !has_switch(text) {

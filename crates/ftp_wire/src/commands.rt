@@ -1,13 +1,13 @@
-//! What a line of a control connection asks for.
+//! Commands of a control connection.
 
 use ftp_terms::{DataType, Facts};
 
-/// A command with its argument read, its texts of type `T`: one variant for each code that is served
-/// (RFC 959, section 5.3.1; RFC 2428, sections 2 and 3; RFC 3659; RFC 2389).
+/// A command with its argument read, its texts of type `T`: one variant for each served code (RFC 959,
+/// section 5.3.1; RFC 2428, sections 2 and 3; RFC 3659; RFC 2389).
 ///
-/// Texts are UTF-8 without control characters (an octet below 32, or 127), and never of spaces alone.
+/// Texts are UTF-8 without control characters (octets below 32, and 127), and never only spaces.
 ///
-/// A command has no `Debug`, so that nothing prints a password.
+/// There is no `Debug`, so that nothing prints a password.
 #[derive(Drop)]
 pub enum Command<T> {
     /// USER: the user's name.
@@ -16,25 +16,25 @@ pub enum Command<T> {
     Pass(Option<T>),
     /// CWD and XCWD: the directory to go to.
     Cwd(T),
-    /// CDUP and XCUP.
+    /// CDUP and XCUP: go to the directory above.
     Cdup,
-    /// QUIT.
+    /// QUIT: end the session.
     Quit,
-    /// REIN.
+    /// REIN: start the session anew.
     Rein,
-    /// TYPE.
+    /// TYPE: the representation of octets.
     SetType(DataType),
-    /// MODE S, the only mode that is served.
+    /// MODE S, the only mode served.
     Mode,
-    /// STRU F, the only structure that is served.
+    /// STRU F, the only structure served.
     Stru,
-    /// PORT: where the server is to connect to.
+    /// PORT: the address to connect to.
     Port(HostPort),
-    /// EPRT: the same with a network protocol.
+    /// EPRT: the same, with a network protocol.
     Eprt(ExtendedPort),
-    /// PASV.
+    /// PASV: open a passive port.
     Pasv,
-    /// EPSV.
+    /// EPSV: the same, with a network protocol.
     Epsv(ExtendedPassive),
     /// RETR: the file to send.
     Retr(T),
@@ -48,7 +48,7 @@ pub enum Command<T> {
     Rnfr(T),
     /// RNTO: its new name.
     Rnto(T),
-    /// ABOR.
+    /// ABOR: abort the transfer.
     Abor,
     /// DELE: the file to remove.
     Dele(T),
@@ -56,37 +56,37 @@ pub enum Command<T> {
     Rmd(T),
     /// MKD and XMKD: the directory to make.
     Mkd(T),
-    /// PWD and XPWD.
+    /// PWD and XPWD: print the current directory.
     Pwd,
     /// SIZE: the file to measure.
     Size(T),
-    /// MDTM: the file to tell the time of.
+    /// MDTM: the file whose modification time is wanted.
     Mdtm(T),
-    /// LIST: the place to list, the current directory where there is none.
+    /// LIST: the path to list; the current directory if there is none.
     List(Option<T>),
-    /// NLST: the same.
+    /// NLST: the same, names only.
     Nlst(Option<T>),
     /// MLSD: the directory to list.
     Mlsd(Option<T>),
-    /// MLST: the place to tell of.
+    /// MLST: the path of the entry to show.
     Mlst(Option<T>),
-    /// STAT: the place to list, or none for the state of the transfer.
+    /// STAT: the path to list; the state of the transfer if there is none.
     Stat(Option<T>),
-    /// OPTS.
+    /// OPTS: an option of a feature.
     Opts(FeatureOption),
-    /// FEAT.
+    /// FEAT: list the features.
     Feat,
-    /// ALLO: the text of the amount.
+    /// ALLO: the amount, as text.
     Allo(Option<T>),
-    /// SYST.
+    /// SYST: name the system.
     Syst,
-    /// HELP: the text of the question.
+    /// HELP: the topic, as text.
     Help(Option<T>),
-    /// NOOP.
+    /// NOOP: do nothing.
     Noop,
 }
 
-/// A host of IPv4 and a port (RFC 959, section 5.3.2).
+/// An IPv4 host and a port (RFC 959, section 5.3.2).
 #[derive(Clone, Copy, Debug, PartialEq, Eq)]
 pub struct HostPort {
     pub address: [u8; 4],
@@ -98,8 +98,8 @@ pub struct HostPort {
 pub enum ExtendedPort {
     /// Protocol 1.
     Ipv4(HostPort),
-    /// Another protocol, by its number, whatever stands for address and port; a number above 65,535 is
-    /// told as 65,535.
+    /// Another protocol by its number; address and port are ignored. A number above 65,535 is stored
+    /// as 65,535.
     Unsupported(u16),
 }
 
@@ -108,9 +108,9 @@ pub enum ExtendedPort {
 pub enum ExtendedPassive {
     /// No argument: the protocol of the control connection.
     Same,
-    /// ALL: no other command will prepare a data connection.
+    /// ALL: no other command will set up a data connection.
     All,
-    /// A protocol by its number; one above 65,535 is told as 65,535.
+    /// A protocol by its number; one above 65,535 is stored as 65,535.
     Protocol(u16),
 }
 
@@ -119,6 +119,6 @@ pub enum ExtendedPassive {
 pub enum FeatureOption {
     /// UTF8 ON.
     Utf8On,
-    /// MLST and the facts that are named.
+    /// MLST with the facts requested.
     Mlst(Facts),
 }

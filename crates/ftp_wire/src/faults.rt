@@ -1,4 +1,4 @@
-//! Lines that are no command.
+//! Lines that are not commands.
 
 ghost use Rattle.std.specs.Prelude.{◌≡◌, ◌≤◌};
 ghost use Rattle.ftp_terms.specs.Lines.{IsLine};
@@ -8,29 +8,29 @@ use ftp_reply::{HIGHEST_CODE, LOWEST_CODE, Reply, ReplyCode};
 use ftp_terms::LineText;
 use std::alloc::Allocator;
 
-/// Why a line is no command. Where several apply it is the first in this order.
+/// Why a line is not a command. If several apply, the first in this order is reported.
 #[derive(Clone, Copy, Debug, PartialEq, Eq)]
 pub enum LineFault {
-    /// More than 4,096 octets stand before the line's end.
+    /// More than 4,096 octets before the end of the line.
     TooLong,
-    /// No code: nothing stands before the first space.
+    /// No code: nothing before the first space.
     Empty,
-    /// The code is none that this server knows.
+    /// The code is unknown.
     Unknown,
-    /// The code is known and not served.
+    /// The code is known but not served.
     NotServed,
     ArgumentMissing,
     ArgumentUnwanted,
-    /// The argument is no text of UTF-8 without control characters, or not of the command's form.
+    /// The argument is not UTF-8 without control characters, or does not have the command's form.
     BadArgument,
-    /// The argument is of the command's form, and names what is not served.
+    /// The argument has the command's form, but its value is not served.
     BadParameter,
 }
 
 impl LineFault {
     ghost use Rattle.ftp_wire.specs.Faults.{fault_reply};
 
-    /// The reply to such a line (RFC 959, section 4.2.1). It takes no memory.
+    /// The reply to such a line (RFC 959, section 4.2.1). No memory.
     pub fn reply<A: Allocator>(self) -> Reply<A>
         ensures reply { result ≡ fault_reply self }
     {

@@ -16,13 +16,13 @@ use crate::verbs::{bare_command, listing_command, optional_command, text_command
 use crate::words::{is_blank, split_word, text_of};
 use std::alloc::{AllocError, Allocator, Global};
 
-/// The most octets of a line without its end.
+/// Longest line, in octets without its end.
 pub const LONGEST_LINE: usize = 4096;
 
-/// The most octets that are held of a line: a CR after the longest one may belong to its end.
+/// Most octets stored of a line: after the longest line, a CR may belong to its end.
 pub const LONGEST_HELD: usize = LONGEST_LINE + 1;
 
-/// What a line stands for. It has no `Debug`, as a command has none.
+/// The item that a line represents. No `Debug`, like a command.
 #[derive(Drop)]
 pub enum LineItem<A: Allocator = Global> {
     Command(Command<String<A>>),
@@ -85,7 +85,7 @@ fn needed_item<A: Allocator>(alloc: A, verb: Text, text: &str) -> Result<LineIte
     Ok(LineItem::Command(text_command(verb, text)))
 }
 
-/// The item of a command that may have a text, and has one.
+/// The item of a command whose text is optional and present.
 fn optional_item<A: Allocator>(
     alloc: A,
     verb: Optional,
@@ -98,7 +98,7 @@ fn optional_item<A: Allocator>(
     Ok(LineItem::Command(optional_command(verb, Some(text))))
 }
 
-/// The item of a command that may have a text behind its switches.
+/// The item of a command with an optional text after its switches.
 fn listing_item<A: Allocator>(
     alloc: A,
     verb: Listing,
@@ -125,7 +125,7 @@ fn text_item<A: Allocator>(alloc: A, verb: Verb, text: &str) -> Result<LineItem<
     }
 }
 
-/// The item of a command whose argument is there.
+/// The item of a command with an argument.
 fn argument_item<A: Allocator>(
     alloc: A,
     verb: Verb,
@@ -142,7 +142,7 @@ fn argument_item<A: Allocator>(
     }
 }
 
-/// The item of a command whose argument is absent.
+/// The item of a command without an argument.
 fn absent_item<A: Allocator>(verb: Verb) -> LineItem<A>
     ensures item { item_of result ≡ absent_item verb }
 {
@@ -155,7 +155,7 @@ fn absent_item<A: Allocator>(verb: Verb) -> LineItem<A>
     }
 }
 
-/// The item of a command and its argument, which counts as absent where it is blank.
+/// The item of a command and its argument; a blank argument counts as absent.
 fn verb_item<A: Allocator>(alloc: A, verb: Verb, argument: &[u8]) -> Result<LineItem<A>, AllocError>
     ensures item { IfOk result (λ item. item_of item ≡ verb_item verb argument.now) }
 {
@@ -193,7 +193,7 @@ fn without_cr(line: &[u8]) -> &[u8]
 
 /// The item of a line without its LF.
 #[tactic(auto, unfolding(crate::specs::Items::line_item))]
-pub fn read_line<A: Allocator>(alloc: A, line: &[u8]) -> Result<LineItem<A>, AllocError>
+pub(crate) fn read_line<A: Allocator>(alloc: A, line: &[u8]) -> Result<LineItem<A>, AllocError>
     ensures item { IfOk result (λ item. item_of item ≡ line_item line.now) }
 {
     let line = without_cr(line);

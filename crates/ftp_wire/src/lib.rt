@@ -1,5 +1,5 @@
-//! The control text of FTP: octets of a control connection become commands, however the network cuts
-//! them, and lines that are no command have a reply each.
+//! The control text of FTP: turns the octets of a control connection into commands, however the
+//! network cuts them; each line that is not a command has a reply.
 //!
 //! ```text
 //! let mut reader = LineReader::new(rt.alloc());

@@ -1,4 +1,4 @@
-//! The octets of a line whose end is not there yet.
+//! The octets of an unfinished line.
 
 ghost use Rattle.std.specs.Prelude.{◌≤◌, vec_len};
 ghost use Rattle.ftp_wire.specs.declared.items.TheConstants.{LONGEST_HELD};
@@ -7,9 +7,9 @@ use crate::faults::LineFault;
 use crate::items::{LONGEST_HELD, LONGEST_LINE, LineItem, read_line};
 use std::alloc::{AllocError, Allocator};
 
-/// What is held of a line: its octets, or nothing where it is too long whatever ends it.
+/// The octets of an unfinished line; none once the line is too long whatever ends it.
 #[derive(Drop)]
-pub struct OpenLine<A: Allocator> {
+pub(crate) struct OpenLine<A: Allocator> {
     octets: Vec<u8, A>,
     is_long: bool,
     ghost bound: { vec_len octets ≤ LONGEST_HELD },
@@ -29,7 +29,7 @@ impl<A: Allocator + Clone> OpenLine<A> {
         }
     }
 
-    /// A copy with room for so many octets more, as far as a line may hold them.
+    /// A copy with room for `more` octets, as far as a line may have them.
     pub fn copy(&self, more: usize) -> Result<OpenLine<A>, AllocError>
         ensures holds { (rest : List ℕ) → Holds rest self.now → IfOk result (Holds rest) }
     {
@@ -46,7 +46,7 @@ impl<A: Allocator + Clone> OpenLine<A> {
         self.octets.allocator().clone()
     }
 
-    /// The number of octets that are held.
+    /// Number of octets stored.
     pub fn len(&self) -> usize
         ensures length { result ≡ vec_len self.now.octets }
         ensures bound { result ≤ LONGEST_HELD }
@@ -54,7 +54,7 @@ impl<A: Allocator + Clone> OpenLine<A> {
         self.octets.len()
     }
 
-    /// Takes an octet that does not end the line.
+    /// Adds an octet that does not end the line.
     pub fn keep(&mut self, octet: u8) -> Result<(), AllocError>
         ensures holds { (rest : List ℕ) → Holds rest self.old
             → OnOk result (Holds (rest ++ octet ∷ []) self.new) }
@@ -71,7 +71,7 @@ impl<A: Allocator + Clone> OpenLine<A> {
         Ok(())
     }
 
-    /// What the line stands for.
+    /// The item that the line represents.
     fn item(&self) -> Result<LineItem<A>, AllocError>
         ensures item { (rest : List ℕ) → Holds rest self.now
             → IfOk result (λ item. item_of item ≡ line_item rest) }
@@ -90,7 +90,7 @@ impl<A: Allocator + Clone> OpenLine<A> {
         self.is_long = false;
     }
 
-    /// Takes the end of the line, and gives what the line stands for.
+    /// Ends the line, and returns the item that it represents.
     pub fn end(&mut self) -> Result<LineItem<A>, AllocError>
         ensures item { (rest : List ℕ) → Holds rest self.old
             → IfOk result (λ item. item_of item ≡ line_item rest) }

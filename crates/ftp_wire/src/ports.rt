@@ -1,4 +1,4 @@
-//! Reads where the server is to connect to.
+//! Readers of the addresses to connect to.
 
 ghost use Rattle.std.specs.Prelude.{◌≡◌, ◌≤◌, ◌∷◌, [], List, ℕ, MatchOption, length};
 ghost use Rattle.ftp_wire.specs.Arguments.{extended_parts, extended_port_of, host, host_of, host_port, ipv4, octet_of, parts_at, port_of};
@@ -21,7 +21,7 @@ fn octet_of(text: &[u8]) -> Option<u8>
     Some(number as u8)
 }
 
-/// The last part, where no octet of this value follows.
+/// The last part, if no octet of this value follows.
 fn last_part(text: &[u8], wanted: u8) -> Option<&[u8]>
     ensures part { MatchOption result
         ((front back : List ℕ) × (next : List (List ℕ))
@@ -34,7 +34,7 @@ fn last_part(text: &[u8], wanted: u8) -> Option<&[u8]>
     }
 }
 
-/// The first three parts, where something follows them, and what does.
+/// The first three parts and what follows them, if something does.
 fn three_parts(text: &[u8], wanted: u8) -> Option<(&[u8], &[u8], &[u8], &[u8])>
     ensures parts { MatchOption result (length (parts_at wanted text.now) ≤ 3)
         (λ part. parts_at wanted text.now
@@ -46,7 +46,7 @@ fn three_parts(text: &[u8], wanted: u8) -> Option<(&[u8], &[u8], &[u8], &[u8])>
     Some((first, second, third, rest))
 }
 
-/// The host and the port of six parts.
+/// The host and port in six parts.
 fn port_of_parts(
     h1: &[u8],
     h2: &[u8],
@@ -67,7 +67,7 @@ fn port_of_parts(
     })
 }
 
-/// The host and the port of a text with a comma between its six parts.
+/// The host and port in a text of six parts separated by commas.
 fn host_port(text: &[u8]) -> Option<HostPort>
     ensures port { result ≡ host_port (parts_at comma text.now) }
 {
@@ -78,7 +78,7 @@ fn host_port(text: &[u8]) -> Option<HostPort>
     port_of_parts(h1, h2, h3, h4, p1, p2)
 }
 
-/// The argument of PORT: an address and a port, or `BadArgument` (RFC 959, section 5.3.2).
+/// The argument of PORT: an address and a port; otherwise `BadArgument` (RFC 959, section 5.3.2).
 #[tactic(auto, unfolding(crate::specs::Arguments::port_of))]
 pub fn read_port(text: &str) -> Result<HostPort, LineFault>
     ensures port { result ≡ port_of text.now }
@@ -89,7 +89,7 @@ pub fn read_port(text: &str) -> Result<HostPort, LineFault>
     }
 }
 
-/// The host of four parts.
+/// The host in four parts.
 fn host_of_parts(h1: &[u8], h2: &[u8], h3: &[u8], h4: &[u8]) -> Option<[u8; 4]>
     ensures host { result ≡ host (h1.now ∷ h2.now ∷ h3.now ∷ h4.now ∷ []) }
 {
@@ -117,7 +117,7 @@ fn ipv4(address: &[u8], port: &[u8]) -> Option<ExtendedPort>
     Some(ExtendedPort::Ipv4(HostPort { address, port }))
 }
 
-/// The three fields between delimiters, and nothing after the last.
+/// The three fields between delimiters, with nothing after the last.
 fn extended_port(text: &[u8], delimiter: u8) -> Option<ExtendedPort>
     ensures port { result ≡ extended_parts (parts_at delimiter text.now) }
 {
@@ -135,7 +135,8 @@ fn extended_port(text: &[u8], delimiter: u8) -> Option<ExtendedPort>
     }
 }
 
-/// The argument of EPRT: an address and a port, another protocol, or `BadArgument` (RFC 2428, section 2).
+/// The argument of EPRT: an address and a port, or another protocol; otherwise `BadArgument` (RFC 2428,
+/// section 2).
 #[tactic(auto, unfolding(crate::specs::Arguments::extended_port_of))]
 pub fn read_eprt(text: &str) -> Result<ExtendedPort, LineFault>
     ensures port { result ≡ extended_port_of text.now }

@@ -1,4 +1,4 @@
-//! Reads a control connection, in whatever pieces it comes.
+//! Reads a control connection in pieces of any size.
 
 use crate::items::{LONGEST_HELD, LineItem};
 use crate::lines::OpenLine;
@@ -9,10 +9,10 @@ const LF: u8 = 10;
 
 /// Reads the octets that a client sends on its control connection.
 ///
-/// Telnet commands are taken out, the rest is cut into lines at each LF, and each line is one item. The reader
-/// holds at most the octets of one line, and nothing of a Telnet command. Of a line of 4,097 octets it holds all,
-/// as a CR at their end may belong to the line's end; with the next octet the line is too long, and nothing of it
-/// is held.
+/// Telnet commands are removed, the rest is cut into lines at each LF, and each line is one item. The reader
+/// stores at most the octets of one line, and nothing of a Telnet command. Of a line of 4,097 octets it stores
+/// all, since a CR at their end may belong to the line's end; with the next octet the line is too long, and none
+/// of it is stored.
 #[derive(Drop)]
 pub struct LineReader<A: Allocator = Global> {
     stage: Stage,
@@ -24,7 +24,7 @@ impl<A: Allocator + Clone> LineReader<A> {
     ghost use Rattle.ftp_wire.specs.Items.{Item};
     ghost use Rattle.ftp_wire.specs.Reading.{HasRead, OnlyReadsAs, held, items_of};
 
-    /// A reader of which nothing is known yet.
+    /// A reader that has read nothing.
     pub fn new(alloc: A) -> LineReader<A>
         ensures start { HasRead [] [] result }
     {
@@ -34,8 +34,8 @@ impl<A: Allocator + Clone> LineReader<A> {
         }
     }
 
-    /// The number of octets of the open line that are held, at most [`LONGEST_HELD`]: a longest line and a CR that
-    /// may belong to its end. The reader holds no other octets.
+    /// Number of octets stored of the open line, at most [`LONGEST_HELD`]: a longest line and a CR that may belong
+    /// to its end. The reader stores no other octets.
     pub fn kept(&self) -> usize
         ensures kept { result ≡ held self.now }
         ensures bound { result ≤ LONGEST_HELD }
@@ -43,7 +43,7 @@ impl<A: Allocator + Clone> LineReader<A> {
         self.line.len()
     }
 
-    /// A copy with room for so many octets more.
+    /// A copy with room for `more` octets.
     fn copy(&self, more: usize) -> Result<LineReader<A>, AllocError>
         ensures reads { (octets : List ℕ) (items : List Item) → HasRead octets items self.now
             → IfOk result (HasRead octets items) }
@@ -55,7 +55,7 @@ impl<A: Allocator + Clone> LineReader<A> {
         })
     }
 
-    /// Takes the next octet, and adds the item that it ends.
+    /// Reads the next octet, and appends the item that it ends, if any.
     fn take(&mut self, octet: u8, found: &mut Vec<LineItem<A>, A>) -> Result<(), AllocError>
         ensures reads { (octets : List ℕ) (items : List Item)
             → HasRead octets (items ++ items_of found.old.items) self.old
@@ -74,11 +74,11 @@ impl<A: Allocator + Clone> LineReader<A> {
         Ok(())
     }
 
-    /// Takes the next piece, and gives the items of the lines that it ends, in their order.
+    /// Reads the next piece, and returns the items of the lines that it ends, in order.
     ///
-    /// After any pieces, the items so far are the only ones that the octets so far stand for. An `Err`, which
-    /// comes only where memory runs out, leaves the reader as it was. Takes time in proportion to the piece and
-    /// to what the reader holds.
+    /// After any pieces, the items so far are the only ones that the octets so far represent. `Err`, which is
+    /// returned only if memory runs out, leaves the reader unchanged. Time is proportional to the piece plus the
+    /// octets stored.
     pub fn feed(&mut self, piece: &[u8]) -> Result<Vec<LineItem<A>, A>, AllocError>
         ensures reads { (octets : List ℕ) (items : List Item) → HasRead octets items self.old
             → IfOk result
@@ -97,7 +97,7 @@ impl<A: Allocator + Clone> LineReader<A> {
         Ok(found)
     }
 
-    /// A law: what a reader has read stands for the items that it has told, and for no others.
+    /// A law: what a reader has read represents the items that it has returned, and no others.
     pub fn reads_as(&self)
         ensures only { (octets : List ℕ) (items : List Item) → HasRead octets items self.now
             → OnlyReadsAs octets items }

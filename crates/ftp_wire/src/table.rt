@@ -1,25 +1,25 @@
-//! The codes of commands, one row for each: the reader and the writer have them from here.
+//! The codes of commands, one row for each; reader and writer both use this table.
 
 ghost use Rattle.std.specs.Prelude.{◌≡◌, map};
 ghost use Rattle.ftp_wire.specs.Table.{row, row_of, table};
 
 use crate::words::same_letters;
 
-/// A command without its argument, by the kind of argument that it takes.
+/// A command without its argument, by the kind of its argument.
 #[derive(Clone, Copy)]
-pub enum Verb {
+pub(crate) enum Verb {
     Bare(Bare),
     Text(Text),
     Form(Form),
     Optional(Optional),
     Listing(Listing),
-    /// May have an argument of a form of its own.
+    /// An optional argument with a form of its own.
     Epsv,
 }
 
-/// The commands that take no argument.
+/// Commands without an argument.
 #[derive(Clone, Copy)]
-pub enum Bare {
+pub(crate) enum Bare {
     Cdup,
     Quit,
     Rein,
@@ -31,9 +31,9 @@ pub enum Bare {
     Noop,
 }
 
-/// The commands that need a text.
+/// Commands that need a text.
 #[derive(Clone, Copy)]
-pub enum Text {
+pub(crate) enum Text {
     User,
     Cwd,
     Retr,
@@ -48,9 +48,9 @@ pub enum Text {
     Mdtm,
 }
 
-/// The commands that need an argument of a form of their own.
+/// Commands that need an argument with a form of its own.
 #[derive(Clone, Copy)]
-pub enum Form {
+pub(crate) enum Form {
     SetType,
     Mode,
     Stru,
@@ -60,9 +60,9 @@ pub enum Form {
     Opts,
 }
 
-/// The commands that may have a text.
+/// Commands with an optional text.
 #[derive(Clone, Copy)]
-pub enum Optional {
+pub(crate) enum Optional {
     Pass,
     Allo,
     Help,
@@ -70,26 +70,26 @@ pub enum Optional {
     Mlst,
 }
 
-/// The commands that may have a text, and switches before it.
+/// Commands with an optional text, and switches before it.
 #[derive(Clone, Copy)]
-pub enum Listing {
+pub(crate) enum Listing {
     List,
     Nlst,
     Stat,
 }
 
-/// What a code that is known stands for.
+/// The meaning of a known code.
 #[derive(Clone, Copy)]
-pub enum Known {
+pub(crate) enum Known {
     Served(Verb),
     NotServed,
 }
 
-/// A code, in capitals, and what it stands for.
+/// A code, in capitals, with its meaning.
 #[derive(Clone, Copy)]
 struct Row(&'static str, Known);
 
-/// Gives the commands that are served to the macro of that name, one row for each: the variant, and its code in capitals.
+/// Passes the served commands to the macro of that name, one row for each: the variant, and its code in capitals.
 macro_rules! with_served {
     ($rows:ident $($before:tt)*) => {
         $rows! {
@@ -146,7 +146,7 @@ macro_rules! with_served {
 
 pub(crate) use with_served;
 
-/// The codes of the commands that are served, and those that follow here.
+/// The codes of the served commands, followed by those given here.
 macro_rules! table {
     (: $($kind:ident { $($name:ident $code:literal)* })*) => {
         &[
@@ -176,8 +176,8 @@ macro_rules! table {
     };
 }
 
-/// The codes that are known (RFC 959, section 5.3; the X codes by RFC 1123, section 4.1.3.1; RFC 2228, 2389,
-/// 2428, 2640, 3659 and 7151). A code with an X is that of the command without it, and XCUP is CDUP.
+/// The known codes (RFC 959, section 5.3; the X codes by RFC 1123, section 4.1.3.1; RFC 2228, 2389, 2428, 2640, 3659 and
+/// 7151). A code with an X means the command without it; XCUP means CDUP.
 static TABLE: &[Row] = with_served!(table);
 
 fn rows() -> &'static [Row]
@@ -186,7 +186,7 @@ fn rows() -> &'static [Row]
     TABLE
 }
 
-/// The first row with this code, letters of either case.
+/// The first row with this code; letters match in either case.
 fn find_row(rows: &[Row], code: &[u8]) -> Option<Known>
     ensures row { result ≡ row_of (map row rows.now) code.now }
 {
@@ -198,8 +198,8 @@ fn find_row(rows: &[Row], code: &[u8]) -> Option<Known>
     None
 }
 
-/// What a code stands for, if it is known.
-pub fn verb_of(code: &[u8]) -> Option<Known>
+/// The meaning of a code, if it is known.
+pub(crate) fn verb_of(code: &[u8]) -> Option<Known>
     ensures row { result ≡ row_of table code.now }
 {
     find_row(rows(), code)

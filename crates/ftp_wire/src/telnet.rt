@@ -1,4 +1,4 @@
-//! Takes the Telnet commands out of a stream, octet by octet (RFC 854).
+//! Removes Telnet commands from a stream, octet by octet (RFC 854).
 
 ghost use Rattle.std.specs.Prelude.{◌++◌, ◌∷◌, [], ℕ, List, option_to_list};
 ghost use Rattle.ftp_wire.specs.Stages.{StripsTo};
@@ -9,10 +9,10 @@ const SB: u8 = 250;
 
 const SE: u8 = 240;
 
-/// Where the stream stands in a command. Of a subnegotiation nothing is held.
+/// The position of the stream within a Telnet command. Nothing of a subnegotiation is stored.
 #[derive(Clone, Copy)]
-pub enum Stage {
-    /// In no command.
+pub(crate) enum Stage {
+    /// Outside any command.
     Text,
     /// After IAC.
     Command,
@@ -31,7 +31,7 @@ impl Stage {
         Stage::Text
     }
 
-    /// Takes the next octet, and gives it back if it stays.
+    /// Reads the next octet, and returns it if it is kept.
     pub fn step(&mut self, octet: u8) -> Option<u8>
         ensures strips { (octets text : List ℕ) → StripsTo octets text self.old
             → StripsTo (octets ++ octet ∷ []) (text ++ option_to_list result) self.new }

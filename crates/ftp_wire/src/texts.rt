@@ -10,8 +10,8 @@ use ftp_terms::{Facts, LineText};
 use std::alloc::{AllocError, Allocator};
 use std::fmt::Write;
 
-/// The address and the port as PORT and the reply 227 have them: six numbers of one octet, with commas
-/// between them (RFC 959, section 4.1.2). `Err` is want of memory.
+/// The address and port as in PORT and the reply 227: six numbers of one octet, separated by commas (RFC 959,
+/// section 4.1.2). Returns `Err` if memory runs out.
 pub fn port_text<A: Allocator>(alloc: A, port: &HostPort) -> Result<LineText<A>, AllocError>
     ensures text { IfOk result (λ line. text_of line ≡ port_text port.now) }
 {
@@ -20,8 +20,8 @@ pub fn port_text<A: Allocator>(alloc: A, port: &HostPort) -> Result<LineText<A>,
     Ok(LineText::made(text))
 }
 
-/// The names of these facts, each with a semicolon behind it, as OPTS MLST and its reply have them (RFC 3659,
-/// section 7.9). `Err` is want of memory.
+/// The names of these facts, each followed by a semicolon, as in OPTS MLST and its reply (RFC 3659, section
+/// 7.9). Returns `Err` if memory runs out.
 pub fn facts_text<A: Allocator>(alloc: A, facts: Facts) -> Result<LineText<A>, AllocError>
     ensures text { IfOk result (λ line. text_of line ≡ facts_text facts) }
 {
@@ -30,8 +30,8 @@ pub fn facts_text<A: Allocator>(alloc: A, facts: Facts) -> Result<LineText<A>, A
     Ok(LineText::made(text))
 }
 
-/// The names of all four facts, each with a semicolon behind it, and a star behind the names of those that are
-/// in force, as FEAT tells them (RFC 3659, section 7.8). `Err` is want of memory.
+/// The names of all four facts, each followed by a semicolon, with a star after each enabled one, as in the
+/// reply to FEAT (RFC 3659, section 7.8). Returns `Err` if memory runs out.
 pub fn starred_facts_text<A: Allocator>(alloc: A, facts: Facts) -> Result<LineText<A>, AllocError>
     ensures text { IfOk result (λ line. text_of line ≡ starred_facts_text facts) }
 {

@@ -1,4 +1,4 @@
-//! Commands by their verbs, for the reader, and the codes and texts of commands, for the writer.
+//! Commands by their verbs, for the reader; codes and texts of commands, for the writer.
 
 ghost use Rattle.std.specs.Prelude.{◌≡◌, Option, option_map};
 ghost use Rattle.ftp_wire.specs.Commands.{bare_command, listing_command, optional_command, text_argument, text_command, verb_of};
@@ -7,7 +7,7 @@ ghost use Rattle.ftp_wire.specs.Table.{code};
 use crate::commands::Command;
 use crate::table::{Bare, Listing, Optional, Text, with_served};
 
-/// A match of a verb of that kind, by the rows of its kind: all rows of other kinds are passed by.
+/// Matches a verb of one kind against the rows of its kind; rows of other kinds are skipped.
 macro_rules! command {
     (Bare $verb:ident: Bare { $($name:ident $code:literal)* } $($others:tt)*) => {
         match $verb { $(Bare::$name => Command::$name,)* }
@@ -26,35 +26,35 @@ macro_rules! command {
     };
 }
 
-/// The command that takes no argument.
-pub fn bare_command<T>(verb: Bare) -> Command<T>
+/// The command without an argument.
+pub(crate) fn bare_command<T>(verb: Bare) -> Command<T>
     ensures command { result ≡ bare_command verb }
 {
     with_served!(command Bare verb)
 }
 
 /// The command with its text.
-pub fn text_command<T>(verb: Text, text: T) -> Command<T>
+pub(crate) fn text_command<T>(verb: Text, text: T) -> Command<T>
     ensures command { result ≡ text_command verb text }
 {
     with_served!(command Text verb text)
 }
 
 /// The command with its text, or with none.
-pub fn optional_command<T>(verb: Optional, text: Option<T>) -> Command<T>
+pub(crate) fn optional_command<T>(verb: Optional, text: Option<T>) -> Command<T>
     ensures command { result ≡ optional_command verb text }
 {
     with_served!(command Optional verb text)
 }
 
-/// The command with its text, or with none, once the switches are taken from it.
-pub fn listing_command<T>(verb: Listing, text: Option<T>) -> Command<T>
+/// The command with its text, or with none, after its switches are dropped.
+pub(crate) fn listing_command<T>(verb: Listing, text: Option<T>) -> Command<T>
     ensures command { result ≡ listing_command verb text }
 {
     with_served!(command Listing verb text)
 }
 
-/// The code of a command, by the rows of all kinds.
+/// The code of a command, from the rows of all kinds.
 macro_rules! codes {
     ($command:ident:
         Bare { $($bare:ident $bare_code:literal)* }
@@ -75,13 +75,13 @@ macro_rules! codes {
 }
 
 /// The code of a command, in capitals and without an X.
-pub fn code_of<T>(command: &Command<T>) -> &'static str
+pub(crate) fn code_of<T>(command: &Command<T>) -> &'static str
     ensures code { result.now ≡ code (verb_of command.now) }
 {
     with_served!(codes command)
 }
 
-/// The text of a command, if it has one, by the rows of the kinds that have one.
+/// The text of a command, if it has one, from the rows of the kinds that have one.
 macro_rules! texts {
     ($command:ident:
         Bare $bare:tt
@@ -100,7 +100,7 @@ macro_rules! texts {
 }
 
 /// The text of a command, if it has one.
-pub fn argument_of<T>(command: &Command<T>) -> Option<&T>
+pub(crate) fn argument_of<T>(command: &Command<T>) -> Option<&T>
     ensures text { option_map (λ t. t.now) result ≡ text_argument command.now }
 {
     with_served!(texts command)

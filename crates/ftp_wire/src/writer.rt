@@ -23,7 +23,7 @@ fn type_text(data_type: DataType) -> &'static str
     }
 }
 
-/// Adds a space and the argument of EPRT.
+/// Appends a space and the argument of EPRT.
 #[tactic(auto, unfolding(crate::specs::Written::extended_port_text))]
 fn push_extended_port<A: Allocator>(
     out: &mut String<A>,
@@ -62,7 +62,7 @@ fn has_facts(facts: Facts) -> bool
     facts.kind || facts.size || facts.modify || facts.perm
 }
 
-/// Adds a space and the argument of OPTS.
+/// Appends a space and the argument of OPTS.
 #[tactic(auto, unfolding(crate::specs::Written::option_text))]
 fn push_option<A: Allocator>(out: &mut String<A>, option: FeatureOption) -> Result<(), AllocError>
     ensures appended { Appends result out.old out.new
@@ -80,7 +80,7 @@ fn push_option<A: Allocator>(out: &mut String<A>, option: FeatureOption) -> Resu
     }
 }
 
-/// Adds a space and the argument, if it has a form of its own.
+/// Appends a space and the argument, if it has a form of its own.
 fn push_form<A: Allocator, T>(out: &mut String<A>, command: &Command<T>) -> Result<(), AllocError>
     ensures appended { Appends result out.old out.new (argument_part (form_argument command.now)) }
 {
@@ -100,7 +100,7 @@ fn push_form<A: Allocator, T>(out: &mut String<A>, command: &Command<T>) -> Resu
     }
 }
 
-/// Adds a space and the text, if there is one.
+/// Appends a space and the text, if there is one.
 fn push_text<A: Allocator, B: Allocator>(
     out: &mut String<A>,
     text: Option<&String<B>>,
@@ -117,7 +117,7 @@ fn push_text<A: Allocator, B: Allocator>(
     }
 }
 
-/// Adds the line of a command.
+/// Appends the line of a command.
 fn push_command<A: Allocator, B: Allocator>(
     out: &mut String<A>,
     command: &Command<String<B>>,
@@ -131,11 +131,11 @@ fn push_command<A: Allocator, B: Allocator>(
     out.push_str("\r\n")
 }
 
-/// The line of a command: its code in capitals and without an X, a space and the argument where there is one,
-/// CR and LF.
+/// The line of a command: its code in capitals and without an X, a space and the argument if there is one, CR
+/// and LF.
 ///
-/// A reader gives the command back from it, if the line without its end has at most 4,096 octets and the command
-/// is one that a reader gives.
+/// A reader returns the same command from it, if the line without its end has at most 4,096 octets and the
+/// command is one that a reader returns.
 pub fn write_command<A: Allocator, B: Allocator>(
     alloc: A,
     command: &Command<String<B>>,

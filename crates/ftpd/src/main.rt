@@ -1,27 +1,28 @@
-//! The program `ftpd`: it reads the words of its command line, runs their command on the files that they name, and
-//! ends with its status.
+//! The program `ftpd`: reads the words of its command line, runs their command on the files that they name, and ends
+//! with its status.
 #![tactic(auto)]
 
 mod serving;
-mod standard;
 
-use program::{Ending, run_words};
+use ftpd_program::{Ending, Told, run_words};
 use serving::{Asked, serve_asked};
-use sheet_program::{Machine, as_words, line_words};
-use standard::{Piped, null_device};
+use sheets_program::{Machine, NOBODY_READS, Noted, as_words, line_words, null_device};
 use std::io;
+use std::io::Write;
 use std::net::{Net, TcpListener, TcpStream};
 use std::process::ExitCode;
 use std::sync::Wait;
 use std::thread::Threads;
 use std::time::Clock;
-use whole_texts::{Outside, TextWriter};
+use text_io::Outside;
 
-/// The status of a program that ends because nobody reads what it writes, as a shell tells of one that SIGPIPE ended (128 + 13).
-const NOBODY_READS: u8 = 141;
-
-// Runs the command of these words: what is to be served is served here.
-fn run<R, W>(rt: &R, machine: &HostRuntime, words: &[&str], output: &mut W) -> Ending
+/// Runs the command of these words, and serves what they ask for.
+fn run<'w, R, W>(
+    rt: &R,
+    machine: &HostRuntime,
+    words: &'w [&'w str],
+    output: &mut Outside<W>,
+) -> Ending<'w>
 where
     R: Threads
         + Wait
@@ -31,7 +32,7 @@ where
         + Copy
         + Send
         + Sync,
-    W: TextWriter,
+    W: Write,
 {
     let mut asked = Asked::new();
     let ending = run_words(
@@ -47,8 +48,22 @@ where
     }
 }
 
-/// Runs the command of the words behind the program's name.
-fn run_line<R, W>(rt: &R, machine: &HostRuntime, output: &mut W) -> Ending
+/// Reports the ending on standard error, and returns its status. If nobody reads the output any more, that is not
+/// reported as a fault, except for a server, which was to go on.
+fn told<W: Write>(machine: &HostRuntime, ending: &Ending<'_>, output: &Outside<Noted<W>>) -> u8 {
+    if output.0.is_closed() && !matches!(ending, Ending::Server(_)) {
+        return NOBODY_READS;
+    }
+    let told = Told {
+        ending,
+        output: output.0.error(),
+    };
+    let _ = eprint!(machine; "{told}");
+    ending.status()
+}
+
+/// Runs the command of the words after the program's name, and returns the status.
+fn run_line<R>(rt: &R, machine: &HostRuntime) -> u8
 where
     R: Threads
         + Wait
@@ -58,31 +73,21 @@ where
         + Copy
         + Send
         + Sync,
-    W: TextWriter,
 {
+    let mut output = Outside(Noted::new(io::writer(machine)));
     let texts = match line_words(machine) {
         Ok(texts) => texts,
-        Err(ending) => return Ending::Common(ending),
+        Err(ending) => return told(machine, &Ending::Common(ending), &output),
     };
-    match as_words(rt.alloc(), texts.as_slice()) {
-        Ok(words) => run(rt, machine, words.as_slice(), output),
-        Err(ending) => Ending::Common(ending),
-    }
-}
-
-/// Tells how the program ended, and returns its status. Where nobody reads the output any more, that is no fault to tell, but of a
-/// server, which was to go on.
-fn told(machine: &HostRuntime, ending: &Ending, nobody_reads: bool) -> u8 {
-    if nobody_reads && !matches!(ending, Ending::Server(_)) {
-        return NOBODY_READS;
-    }
-    let _ = eprint!(machine; "{ending}");
-    ending.status()
+    let words = match as_words(rt.alloc(), texts.as_slice()) {
+        Ok(words) => words,
+        Err(ending) => return told(machine, &Ending::Common(ending), &output),
+    };
+    let ending = run(rt, machine, words.as_slice(), &mut output);
+    told(machine, &ending, &output)
 }
 
 fn main(rt: HostRuntime) -> ExitCode {
     let _held = (null_device(&rt), null_device(&rt), null_device(&rt));
-    let mut output = Outside(Piped::new(io::writer(&rt)));
-    let ending = run_line(&rt, &rt, &mut output);
-    ExitCode::from(told(&rt, &ending, output.0.is_closed()))
+    ExitCode::from(run_line(&rt, &rt))
 }

@@ -1,40 +1,41 @@
 //! The server of the machine that the program runs on.
 //!
-//! `program` judges the words and the configuration, and is given an [`Asked`], which keeps what is to be served; it is served behind
-//! that. A trait's method cannot hand its runtime on to threads: the prover knows its bounds in this thread alone. So what has to do
-//! with files and the console names the runtime itself, and what starts threads takes its leave by a type parameter.
+//! `program` checks the words and the configuration, and is given an [`Asked`], which keeps the configuration; the
+//! server runs after that. A trait's method cannot hand its runtime on to threads: the prover knows its bounds in this
+//! thread alone. So functions on files and the console name the runtime itself, and functions that start threads have a
+//! type parameter for their permission.
 
 use config_store::ServedStore;
 use folder_store::DirStore;
 use ftp_daemon::{ServeFault, Service, StopSign, serve};
+use ftpd_program::{Ending, Server, ServerFault};
 use log::sink::Console;
 use log::{Level, Logged};
-use program::{Ending, Server, ServerFault};
 use server_config::Config;
 use session_notes::Notes;
-use sheet_program::Ending as Common;
+use sheets_program::Ending as Common;
 use std::alloc::{AllocError, Global};
 use std::fs;
 use std::net::{Net, TcpListener, TcpStream};
 use std::sync::Wait;
 use std::thread::Threads;
 use std::time::Clock;
+use text_io::TextWriter;
 use virtual_tree::StoreFault;
-use whole_texts::TextWriter;
 
-/// What the words of a command line asked to be served.
+/// The service that the words of a command line ask for, if any.
 #[derive(Drop)]
-pub struct Asked {
+pub(crate) struct Asked {
     service: Option<(Config, Option<String>)>,
 }
 
 impl Asked {
-    /// Nothing yet.
+    /// No service yet.
     pub fn new() -> Asked {
         Asked { service: None }
     }
 
-    /// The configuration, and the path of the stop file, if a server was asked for.
+    /// Returns the configuration, and the path of the stop file, if a server was asked for.
     pub fn into_service(self) -> Option<(Config, Option<String>)> {
         self.service
     }
@@ -100,7 +101,7 @@ fn open_folder(machine: &HostRuntime, folder: &str) -> Result<DirStore<HostRunti
     }
 }
 
-// The folder, as a store for each connection.
+// Opens the folder, as a store for each connection.
 fn open_folders(
     machine: &HostRuntime,
     folder: &str,
@@ -176,13 +177,13 @@ where
     Ok(())
 }
 
-/// Serves what was asked for, and returns how the program ends.
-pub fn serve_asked<R, W>(
+/// Serves as asked, and returns the ending of the program.
+pub(crate) fn serve_asked<'w, R, W>(
     rt: &R,
     machine: &HostRuntime,
     service: (Config, Option<String>),
     output: &mut W,
-) -> Ending
+) -> Ending<'w>
 where
     R: Threads
         + Wait

@@ -4,8 +4,8 @@ use Rattle.std.specs.Prelude.{slice_get, slice_index, IsTrue, IsFalse}
 use Rattle.std.specs.Option.{option_and_then}
 use Rattle.limit_tree.specs.Sharing.{Branch as SharedBranch, IsBranch, IsFull}
 use Rattle.limit_tree.specs.Outline.{branch_of, leaf_range, limits, IsFullPlace}
-use Rattle.limit_tree.specs.declared.place.Kind.{Kind}
-use Rattle.limit_tree.specs.declared.place.Kind.TheVariants.{Branch}
+use Rattle.limit_tree.specs.declared.place.NodeKind.{NodeKind}
+use Rattle.limit_tree.specs.declared.place.NodeKind.TheVariants.{Branch}
 use Rattle.limit_tree.specs.declared.place.Place.{Place}
 use Rattle.grant_certificate.specs.Flaws.{IsLeafFlaw}
 use Rattle.grant_certificate.specs.Ranges.{IsHeld, IsFirstGreater, IsNoneGreater}
@@ -27,10 +27,10 @@ abbrev branch_here : Option ℕ → Place → SharedBranch
 branch_here limit p = record { limit = limit; holds = leaf_range p.first p.leaves }
 
 is_here : (outline : List Place) (n : ℕ) (p : Place) (limit : Option ℕ) → slice_get outline n ≡ Some p → p.kind ≡ Branch limit → IsBranch (limits outline) n (branch_here limit p)
-is_here outline n p limit at kind = ap (option_and_then (λ (x : Place). branch_of x.kind x.first x.leaves)) at ∙ ap (λ (x : Kind). branch_of x p.first p.leaves) kind
+is_here outline n p limit at kind = ap (option_and_then (λ (x : Place). branch_of x.kind x.first x.leaves)) at ∙ ap (λ (x : NodeKind). branch_of x p.first p.leaves) kind
 
 full_here : (p : Place) (limit : Option ℕ) (g : List ℕ) → p.kind ≡ Branch limit → IsFullPlace p g → IsFull (branch_here limit p) g
-full_here p limit g kind full = subst (λ (b : SharedBranch). IsFull b g) (sym (same (sym (ap (λ (x : Kind). branch_of x p.first p.leaves) kind) ∙ full.1))) full.2
+full_here p limit g kind full = subst (λ (b : SharedBranch). IsFull b g) (sym (same (sym (ap (λ (x : NodeKind). branch_of x p.first p.leaves) kind) ∙ full.1))) full.2
   where
     same : Some (branch_here limit p) ≡ Some full.0 → branch_here limit p ≡ full.0
     same e = cc
@@ -44,7 +44,7 @@ not_full-here outline g c i n p limit got at kind holds not = (
   branch_here limit p,
   (got, is_here outline n p limit at kind),
   holds,
-  λ full. not (branch_here limit p, ap (λ (x : Kind). branch_of x p.first p.leaves) kind, full),
+  λ full. not (branch_here limit p, ap (λ (x : NodeKind). branch_of x p.first p.leaves) kind, full),
 )
 
 pub too_great-here : (outline : List Place) (g floors : List ℕ) (c : List (Option ℕ)) (i n other : ℕ) (p : Place) (limit : Option ℕ) → floors ≡ (limits outline).floors → slice_get c i ≡ Some (Some n) → slice_get outline n ≡ Some p → p.kind ≡ Branch limit → IsTrue (leaf_range p.first p.leaves i) → IsFullPlace p g → IsFirstGreater p.first p.leaves g floors (slice_index g i) other → IsLeafFlaw (limits outline) g c i (TooGreat i other)

@@ -1,10 +1,9 @@
--- The laws of backed grants.
+-- Laws of backed grants.
 use Rattle.std.specs.Prelude.{ℕ, ◌≤◌, Option, List, sum_by, min}
 use Rattle.limit_tree.specs.Sharing.{LimitTree, HasNestedBranches, IsWithin, IsBackedBy, IsAscending, IsBest}
 use Rattle.limit_tree.specs.Plain.{HasNoFloors, IsPlainWithin, IsPlainBackedBy, IsPlainBest}
 
--- No grants that are within give more up to any level: of backed grants, the sum of what each leaf has up to
--- a level is the largest there is.
+-- For backed grants, the sum of what each leaf has up to a level is the largest possible, at every level.
 abbrev pub BackedIsLargestAtEachLevel : Type 0
 BackedIsLargestAtEachLevel =
     (t : LimitTree) (g : List ℕ) (c : List (Option ℕ)) → HasNestedBranches t → IsWithin t g → IsBackedBy t g c →
@@ -18,7 +17,7 @@ BackedIsBest =
 abbrev pub EachHasAscending : Type 0
 EachHasAscending = (g : List ℕ) → (s : List ℕ) × IsAscending g s
 
--- the same laws where there are no floors
+-- the same laws, if there are no floors
 abbrev pub PlainBackedIsLargestAtEachLevel : Type 0
 PlainBackedIsLargestAtEachLevel =
     (t : LimitTree) (g : List ℕ) (c : List (Option ℕ)) → HasNoFloors t → HasNestedBranches t → IsPlainWithin t g → IsPlainBackedBy t g c →

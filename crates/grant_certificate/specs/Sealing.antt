@@ -1,4 +1,4 @@
--- What was sealed.
+-- Sealed grants.
 use Rattle.std.specs.Prelude.{ℕ, List, Option}
 use Rattle.limit_tree.specs.Sharing.{IsWithin, IsBackedBy, IsBest}
 use Rattle.limit_tree.specs.Outline.{limits}
@@ -10,7 +10,7 @@ pub record Sealing : Type 0 where
   pub grants : List ℕ
   pub certificate : List (Option ℕ)
 
--- the grants are within the limits of the tree and backed by the certificate, and best
+-- the grants are within the limits of the tree, backed by the certificate, and best
 pub record IsSealed (tree : List Place) (g : List ℕ) (c : List (Option ℕ)) : Type 0 where
   pub within : IsWithin (limits tree) g
   pub backed : IsBackedBy (limits tree) g c

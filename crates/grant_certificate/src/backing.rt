@@ -1,4 +1,4 @@
-//! The leaves that the branches they name hold back.
+//! Leaves whose entry is the number of a bottleneck.
 ghost use Rattle.limit_tree.specs.declared.bounds.TheConstants.{MAX_LEAVES};
 ghost use Rattle.std.specs.Prelude.{◌≡◌, ◌+◌, ◌<◌, ◌≤◌, ◌^◌, ◌⊎◌, ◌↔◌, ℕ, Some, IsTrue, length, sum};
 ghost use Rattle.grant_certificate.specs.Ranges.{IsMarked, IsHeldWithin};
@@ -6,9 +6,9 @@ ghost use Rattle.grant_certificate.specs.Ranges.{IsMarked, IsHeldWithin};
 use super::range::greatest;
 use limit_tree::{MAX_LEAVES, Place};
 
-/// Marks the leaves that name a bottleneck of their own, and no others.
+/// Marks the leaves whose entry is the number of their bottleneck, and no others.
 #[derive(Drop)]
-pub struct BackingLook<'a> {
+pub(crate) struct BackingLook<'a> {
     pub grants: &'a [u64],
     pub floors: &'a [u64],
     pub entries: &'a [Option<u32>],
@@ -23,7 +23,7 @@ impl<'a> BackingLook<'a> {
     ghost use Rattle.std.specs.Prelude.{◌≡◌, ◌+◌, ◌<◌, ◌≤◌, ◌^◌, [], length, sum};
     ghost use Rattle.grant_certificate.specs.Looks.{SoughtBacking, SeesBacking};
 
-    /// Nothing is marked yet.
+    /// A search with no leaf marked.
     pub fn new(grants: &'a [u64], floors: &'a [u64], entries: &'a [Option<u32>]) -> BackingLook<'a>
         requires fits { sum grants.now < 2 ^ 64 }
         requires few { length grants.now ≤ MAX_LEAVES }
@@ -42,7 +42,7 @@ impl<'a> BackingLook<'a> {
         }
     }
 
-    /// Takes one node more: its number and its place, and whether it is a full branch.
+    /// Visits one more node: its number, its position, and whether it is a full branch.
     pub fn see(&mut self, number: usize, place: Place, full: bool)
         requires inside { place.first + place.leaves ≤ length self.old.grants.now }
         ensures grants { self.new.grants.now ≡ self.old.grants.now }
@@ -61,8 +61,8 @@ impl<'a> BackingLook<'a> {
     }
 }
 
-/// Marks the leaves of a place that name its number and beside whose grants none in it is too great, and no
-/// others. Takes O(leaves of the place) time.
+/// Marks the leaves of a node whose entry is its number, if no grant in the node is too great compared with
+/// theirs; marks no others. O(leaves of the node) time.
 fn mark_held(
     number: usize,
     place: Place,
@@ -87,7 +87,7 @@ fn mark_held(
     }
 }
 
-/// Whether the entry is that number.
+/// Returns whether the entry is `number`.
 fn names(entry: Option<u32>, number: usize) -> bool
     ensures named { IsTrue result ↔ (entry ≡ Some number) }
 {
@@ -97,7 +97,7 @@ fn names(entry: Option<u32>, number: usize) -> bool
     }
 }
 
-/// Whether a grant exceeds another by less than two.
+/// Returns whether `most` exceeds `grant` by less than two.
 fn is_near(most: u64, grant: u64) -> bool
     ensures near { IsTrue result ↔ (most < grant + 2) }
 {

@@ -1,4 +1,4 @@
-//! What one walk finds of the branches.
+//! Searches of branches in one walk.
 ghost use Rattle.limit_tree.specs.declared.bounds.TheConstants.{MAX_LEAVES};
 ghost use Rattle.std.specs.Prelude.{◌≡◌, ◌<◌, ◌≤◌, ◌^◌, length, sum};
 ghost use Rattle.limit_tree.specs.Outline.{limits};
@@ -6,14 +6,15 @@ ghost use Rattle.grant_certificate.specs.Flaws.{IsFirstOver};
 ghost use Rattle.grant_certificate.specs.Ranges.{AreHeld};
 
 use super::backing::BackingLook;
-use super::over::OverLook;
+use super::over::FindOverLimit;
 use limit_tree::{MAX_LEAVES, Place, Tree, Visitor};
 use std::alloc::Allocator;
 
-/// Looks for the first branch over its limit, and marks the leaves that name a bottleneck of their own.
+/// Searches for the first branch above its limit, and marks the leaves whose entry is the number of
+/// their bottleneck.
 #[derive(Drop)]
 struct BranchLook<'a> {
-    over: OverLook<'a>,
+    over: FindOverLimit<'a>,
     backing: BackingLook<'a>,
     ghost same: { over.grants.now ≡ backing.grants.now },
 }
@@ -33,17 +34,17 @@ impl<'a> Visitor for BranchLook<'a> {
     }
 }
 
-/// What is found of the branches.
+/// The results of one walk over the branches.
 #[derive(Drop)]
-pub struct Branches {
-    /// The first whose leaves have more than its limit.
+pub(crate) struct Branches {
+    /// The first branch whose leaves have more than its limit.
     pub over: Option<usize>,
-    /// Which leaves are marked: those that name a bottleneck of their own.
+    /// Marks of leaves: set if the leaf's entry is the number of its bottleneck.
     pub backed: [bool; MAX_LEAVES],
 }
 
-/// Looks at the branches. Takes one walk.
-pub fn look_at_branches<A: Allocator>(
+/// Examines the branches in one walk.
+pub(crate) fn look_at_branches<A: Allocator>(
     tree: &Tree<A>,
     grants: &[u64],
     floors: &[u64],
@@ -58,7 +59,7 @@ pub fn look_at_branches<A: Allocator>(
     ensures held { AreHeld (limits tree.now) grants.now floors.now entries.now result.backed }
 {
     let mut look = BranchLook {
-        over: OverLook::new(grants),
+        over: FindOverLimit::new(grants),
         backing: BackingLook::new(grants, floors, entries),
     };
     tree.walk(&mut look);

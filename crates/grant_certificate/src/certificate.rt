@@ -4,8 +4,8 @@ ghost use Rattle.std.specs.Prelude.{◌≡◌};
 use std::alloc::{Allocator, Global};
 use std::marker::Model;
 
-/// For each leaf the number of the branch that is to hold it back, or none. A branch's number counts the nodes
-/// before it in preorder.
+/// For each leaf the number of the branch that limits it, or none. Branches are numbered in preorder, with all
+/// nodes counted.
 #[derive(Drop)]
 pub struct Certificate<A: Allocator = Global> {
     entries: Vec<Option<u32>, A>,
@@ -20,7 +20,7 @@ impl<A: Allocator> Model for Certificate<A> {
 }
 
 impl<A: Allocator> Certificate<A> {
-    /// A certificate of these entries, one for each leaf in order.
+    /// A certificate with these entries, one for each leaf in order.
     pub fn new(entries: Vec<Option<u32>, A>) -> Certificate<A>
         ensures entries { result ≡ entries.items }
     {
@@ -34,7 +34,7 @@ impl<A: Allocator> Certificate<A> {
         &self.entries
     }
 
-    /// Gives the entries back, without taking memory.
+    /// Returns the entries, without allocation.
     pub fn into_entries(self) -> Vec<Option<u32>, A>
         ensures entries { result.items ≡ self }
     {

@@ -12,13 +12,13 @@ use super::certificate::Certificate;
 use super::flaw::{Flaw, Verdict};
 use super::over::first_above;
 use super::range::first_greater;
-use limit_tree::{Kind, MAX_LEAVES, Tree};
+use limit_tree::{MAX_LEAVES, NodeKind, Tree};
 use std::alloc::Allocator;
 
-/// How many leaves need no large tables: as many as a server has lanes, and more.
+/// Number of leaves up to which small tables are used: the lanes of a server, and more.
 const FEW_LEAVES: usize = 128;
 
-/// The flaw of the entry of an unmet leaf that names no bottleneck. Takes one walk.
+/// The flaw of an unmet leaf whose entry is not the number of a bottleneck. One walk.
 fn entry_flaw<A: Allocator>(
     tree: &Tree<A>,
     grants: &[u64],
@@ -43,7 +43,7 @@ fn entry_flaw<A: Allocator>(
         return Flaw::NoNode { leaf };
     }
     let place = tree.place(node);
-    let Kind::Branch { .. } = place.kind else {
+    let NodeKind::Branch { .. } = place.kind else {
         return Flaw::NoNode { leaf };
     };
     if !place.holds(leaf) {
@@ -58,8 +58,8 @@ fn entry_flaw<A: Allocator>(
     }
 }
 
-/// The flaw of the first unmet leaf that is not backed: that of the first without a mark, since the marks are those
-/// of the leaves that name a bottleneck.
+/// The flaw of the first unmet leaf without a bottleneck: the first without a mark, since the leaves with a bottleneck
+/// are marked.
 fn backing_flaw<A: Allocator>(
     tree: &Tree<A>,
     grants: &[u64],
@@ -89,7 +89,7 @@ fn backing_flaw<A: Allocator>(
     None
 }
 
-/// The first flaw of lists of the right length, beside the wants and the floors of the leaves.
+/// The first flaw of lists of the right length, given the wants and floors of the leaves.
 fn flaw_beside<A: Allocator>(
     tree: &Tree<A>,
     grants: &[u64],
@@ -118,7 +118,7 @@ fn flaw_beside<A: Allocator>(
     backing_flaw(tree, grants, wants, floors, entries, &branches.backed)
 }
 
-/// The first flaw of lists of the right length. Reads the wants and the floors into tables that have room for them.
+/// The first flaw of lists of the right length. Reads the wants and floors into the given tables.
 fn flaw_by<A: Allocator>(
     tree: &Tree<A>,
     grants: &[u64],
@@ -138,7 +138,7 @@ fn flaw_by<A: Allocator>(
     flaw_beside(tree, grants, entries, &wants[..leaves], &floors[..leaves])
 }
 
-/// `flaw_by` with tables for `FEW_LEAVES`, which are quickly made.
+/// `flaw_by` with tables for `FEW_LEAVES`, which are cheap to make.
 fn flaw_of_few<A: Allocator>(
     tree: &Tree<A>,
     grants: &[u64],
@@ -155,7 +155,7 @@ fn flaw_of_few<A: Allocator>(
     flaw_by(tree, grants, entries, &mut wants, &mut floors)
 }
 
-/// `flaw_by` with tables for as many leaves as a tree may have.
+/// `flaw_by` with tables for the most leaves that a tree may have.
 fn flaw_of_many<A: Allocator>(
     tree: &Tree<A>,
     grants: &[u64],
@@ -172,15 +172,14 @@ fn flaw_of_many<A: Allocator>(
     flaw_by(tree, grants, entries, &mut wants, &mut floors)
 }
 
-/// Whether grants, in octets by leaf, are within the limits of the tree and backed by their certificate, or else
-/// the first flaw. The lengths are looked at first; then come the first leaf with more than it wants, the first
-/// with less than its floor, and the first branch in preorder whose leaves have more than its limit. Then the
-/// entry of each unmet leaf is tried, in order: it must name a branch, which holds the leaf and is full, and no
-/// leaf of that branch may have at least two octets more and more than its own floor. The entry of a leaf that
-/// has what it wants is not looked at.
+/// Checks that grants, in octets by leaf, are within the limits of the tree and backed by their certificate; otherwise
+/// returns the first flaw. The order is: the lengths, the first leaf above its want, the first leaf below its floor,
+/// the first branch in preorder whose leaves have more than its limit, then the entry of each unmet leaf in order. An
+/// entry must be the number of a branch that holds the leaf and is full, and no leaf of that branch may have both at
+/// least two octets more and more than its own floor. Entries of leaves that have what they want are ignored.
 ///
-/// Takes no memory, and O(nodes * depth) time: a look at each node, a walk over the tree in which each branch sums the
-/// grants of its leaves, and one walk more where an entry has a flaw.
+/// No memory, O(nodes * depth) time: one pass over the nodes, one walk over the tree in which each branch sums the
+/// grants of its leaves, and one more walk if an entry has a flaw.
 pub fn check<A: Allocator, B: Allocator>(
     tree: &Tree<A>,
     grants: &[u64],

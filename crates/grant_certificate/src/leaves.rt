@@ -1,11 +1,11 @@
-//! The wants and the floors of all leaves of a tree.
+//! The wants and floors of all leaves of a tree.
 ghost use Rattle.limit_tree.specs.declared.bounds.TheConstants.{MAX_LEAVES};
 ghost use Rattle.std.specs.Prelude.{◌≤◌};
 
 use limit_tree::{MAX_LEAVES, Tree};
 use std::alloc::Allocator;
 
-/// The wants and the floors of the leaves of a tree.
+/// The wants and floors of the leaves of a tree.
 #[derive(Drop)]
 pub struct Leaves {
     pub count: usize,
@@ -19,7 +19,7 @@ impl Leaves {
     ghost use Rattle.limit_tree.specs.Outline.{limits};
     ghost use Rattle.limit_tree.specs.declared.bounds.TheConstants.{MAX_WANT};
 
-    /// Reads all leaves of a tree. Takes O(nodes) time.
+    /// Reads all leaves of a tree. O(nodes) time.
     pub fn of<A: Allocator>(tree: &Tree<A>) -> Leaves
         ensures few { length (limits tree.now).wants ≤ MAX_LEAVES }
         ensures octets { sum (limits tree.now).wants ≤ MAX_LEAVES * MAX_WANT }

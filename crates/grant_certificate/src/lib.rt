@@ -1,8 +1,9 @@
-//! A checker of grants: yes only where no other whole-octet grants within the limits, sorted upwards, are greater.
+//! A checker of grants: it accepts only grants within the limits that no other whole-octet grants within them, sorted
+//! upwards, exceed.
 //!
-//! A [`Certificate`] names for each leaf that got less than it wants the branch that holds it back. [`check`] needs to trust
-//! nobody: it judges grants, whoever made them, in two walks, and tells the first [`Flaw`]. A [`Sealed`] is a tree with
-//! grants that it accepted.
+//! A [`Certificate`] has, for each leaf that got less than it wants, the number of the branch that limits it. [`check`]
+//! trusts nobody: it judges grants from any source in two walks, and returns the first [`Flaw`]. A [`Sealed`] is a tree
+//! with grants that passed the check.
 //!
 //! ```text
 //! let alloc = rt.alloc();

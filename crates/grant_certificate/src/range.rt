@@ -1,21 +1,21 @@
-//! Facts of a range of leaves, by the grants of all leaves.
+//! Properties of a range of leaves, computed from the grants of all leaves.
 ghost use Rattle.std.specs.Prelude.{◌≡◌, ◌+◌, ◌<◌, ◌≤◌, ◌^◌, ◌↔◌, IsTrue, MatchOption, length, sum};
 ghost use Rattle.limit_tree.specs.Outline.{IsFullPlace};
 ghost use Rattle.grant_certificate.specs.Ranges.{IsGreatest, IsFirstGreater, IsNoneGreater, IsOverPlace};
 
-use limit_tree::{Kind, Place};
+use limit_tree::{NodeKind, Place};
 
-/// What the leaves of a node have of its limit.
+/// The load of a node: how far its leaves use up its limit.
 #[derive(Clone, Copy)]
-pub struct Load {
-    /// More than the limit.
+pub(crate) struct Load {
+    /// They have more than the limit.
     pub over: bool,
-    /// Just the limit.
+    /// They have exactly the limit.
     pub full: bool,
 }
 
-/// What the leaves of a place have of its limit. Sums their grants once.
-pub fn load_of(place: Place, grants: &[u64]) -> Load
+/// The load of a node, from the grants of all leaves. Sums its leaves' grants once.
+pub(crate) fn load_of(place: Place, grants: &[u64]) -> Load
     requires inside { place.first + place.leaves ≤ length grants.now }
     requires fits { sum grants.now < 2 ^ 64 }
     ensures over { IsTrue result.over ↔ IsOverPlace place grants.now }
@@ -26,7 +26,7 @@ pub fn load_of(place: Place, grants: &[u64]) -> Load
         full: false,
     };
     match place.kind {
-        Kind::Branch { limit } => match limit {
+        NodeKind::Branch { limit } => match limit {
             Some(most) => {
                 let taken = place.sum(grants);
                 Load {
@@ -36,12 +36,12 @@ pub fn load_of(place: Place, grants: &[u64]) -> Load
             }
             None => none,
         },
-        Kind::Leaf { .. } => none,
+        NodeKind::Leaf { .. } => none,
     }
 }
 
-/// The greatest grant of the range that is not its leaf's floor, or else 0.
-pub fn greatest(grants: &[u64], floors: &[u64], first: usize, leaves: usize) -> u64
+/// The greatest grant in the range that is not its leaf's floor; 0 if there is none.
+pub(crate) fn greatest(grants: &[u64], floors: &[u64], first: usize, leaves: usize) -> u64
     requires inside { first + leaves ≤ length grants.now }
     requires floors { length floors.now ≡ length grants.now }
     ensures greatest { IsGreatest first leaves grants.now floors.now result }
@@ -55,8 +55,8 @@ pub fn greatest(grants: &[u64], floors: &[u64], first: usize, leaves: usize) -> 
     most
 }
 
-/// The first leaf of the range whose grant exceeds a grant by two or more, and is not its floor.
-pub fn first_greater(
+/// The first leaf in the range whose grant exceeds `grant` by two or more and is not its floor.
+pub(crate) fn first_greater(
     grants: &[u64],
     floors: &[u64],
     first: usize,

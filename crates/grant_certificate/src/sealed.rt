@@ -1,4 +1,4 @@
-//! Grants that were checked.
+//! Grants that passed the check.
 ghost use Rattle.std.specs.Prelude.{◌≡◌, ◌<◌, ◌^◌, ◌↔◌, IfOk, IfErr, IsOk, sum};
 ghost use Rattle.limit_tree.specs.Outline.{limits};
 ghost use Rattle.limit_tree.specs.Sharing.{IsWithin, IsBackedBy, IsBest};
@@ -11,8 +11,8 @@ use limit_tree::Tree;
 use std::alloc::{Allocator, Global};
 use std::marker::Model;
 
-/// Grants that are within the limits of their tree and backed by their certificate, and so best. The tree may lie in
-/// another heap than the answer.
+/// Grants that are within the limits of their tree and backed by their certificate, and therefore best. The tree may
+/// use another allocator than the grants.
 #[derive(Drop)]
 pub struct Sealed<A: Allocator = Global, B: Allocator = A> {
     tree: Tree<A>,
@@ -30,7 +30,7 @@ impl<A: Allocator, B: Allocator> Model for Sealed<A, B> {
     ghost invariant = { λ s. IsSealed s.tree s.grants.items s.certificate };
 }
 
-/// A tree, grants and a certificate that were refused, with their first flaw.
+/// A refused tree with its grants, its certificate, and the first flaw.
 #[derive(Drop)]
 pub struct Refused<A: Allocator = Global, B: Allocator = A> {
     pub tree: Tree<A>,
@@ -39,8 +39,8 @@ pub struct Refused<A: Allocator = Global, B: Allocator = A> {
     pub flaw: Flaw,
 }
 
-/// Seals grants that are within the limits of the tree and backed by the certificate, in octets by leaf. Takes
-/// no memory; what is refused comes back with the first flaw, as `check` finds it.
+/// Seals grants, in octets by leaf, that are within the limits of the tree and backed by the certificate. No memory.
+/// On refusal the arguments are returned with the first flaw that `check` finds.
 pub fn seal<A: Allocator, B: Allocator>(
     tree: Tree<A>,
     grants: Vec<u64, B>,

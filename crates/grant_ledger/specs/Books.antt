@@ -1,7 +1,8 @@
--- What is seen of a book, a grant, a purse and a tally.
+-- Books, grants, purses and tallies as contracts see them.
 use Rattle.std.specs.Prelude.{◌≢◌, ◌+◌, ◌<◌, ℕ, List, [], ◌∷◌, replicate, slice_set, min, Option, Some, None}
 
--- the octets issued, the tick of the last entry, for each lane the amount that is not yet drawn, and the tick of the entry that these are from
+-- the octets issued, the tick of the last entry, for each lane the amount not yet drawn, and the tick of the entry that
+-- these amounts are from
 pub record BookView : Type 0 where
   pub issued : ℕ
   pub last_tick : Option ℕ
@@ -31,16 +32,16 @@ by_lane [] grants = nothing_undrawn
 by_lane (lane ∷ lanes) [] = nothing_undrawn
 by_lane (lane ∷ lanes) (grant ∷ grants) = slice_set (by_lane lanes grants) lane (Some grant)
 
--- the list does not name the lane
+-- the list does not contain the lane
 abbrev pub NamesNot : ℕ → List ℕ → Type 0
 NamesNot lane [] = Unit {0}
 NamesNot lane (other ∷ lanes) = (lane ≢ other) × NamesNot lane lanes
 
--- the lanes are below 64, and none is named twice
+-- the lanes are below 64, and none occurs twice
 abbrev pub AreLanes : List ℕ → Type 0
 AreLanes [] = Unit {0}
 AreLanes (lane ∷ lanes) = (lane < 64) × NamesNot lane lanes × AreLanes lanes
 
--- a sum that stops at the greatest u64
+-- a sum that saturates at the greatest u64
 abbrev pub capped : ℕ → ℕ → ℕ
 capped a b = min (a + b) 18446744073709551615

@@ -1,8 +1,8 @@
--- What holds of every entry.
+-- Laws of every entry.
 use Rattle.std.specs.Prelude.{◌≡◌, ◌+◌, ◌<◌, ℕ, List, length, drop, slice_index, slice_index_or, slice_set, Option, Some, None}
 use Rattle.grant_ledger.specs.Books.{by_lane, NamesNot, AreLanes}
 
--- the i-th amount is at the i-th lane, and nothing at a lane that is not named
+-- amount i is at lane i of the list, and there is none at a lane not in the list
 pub record IsByLane (lanes grants : List ℕ) (undrawn : List (Option ℕ)) : Type 0 where
   pub each_lane : length undrawn ≡ 64
   pub named : (i : ℕ) → i < length lanes → slice_index_or undrawn (slice_index lanes i) None ≡ Some (slice_index grants i)
@@ -12,7 +12,8 @@ abbrev pub GivesEachLaneItsAmount : Type 0
 GivesEachLaneItsAmount =
     (lanes grants : List ℕ) → AreLanes lanes → length lanes ≡ length grants → IsByLane lanes grants (by_lane lanes grants)
 
--- with its first i amounts drawn, the i-th is there, and once it is drawn too, those after it are left
+-- after its first i amounts were drawn, amount i is there; once it is drawn too, those after it are
+-- left
 pub record IsDrawnAt (lanes grants : List ℕ) (i : ℕ) : Type 0 where
   pub lane : slice_index lanes i < 64
   pub there : slice_index_or (by_lane (drop i lanes) (drop i grants)) (slice_index lanes i) None ≡ Some (slice_index grants i)

@@ -1,11 +1,11 @@
-//! Why a book takes no entry.
+//! Refused entries of a book.
 
 use thiserror::Error;
 
-/// Why a book takes no entry. The book is unchanged then.
+/// Why a book refuses an entry. The book is unchanged.
 #[derive(Clone, Copy, Debug, PartialEq, Eq, Error)]
 pub enum BookFault {
-    /// The tick is not above that of the last entry, which is told.
+    /// The tick is not above that of the last entry, which is included.
     #[error("NotYet")]
     NotYet(u64),
     /// The book would have issued more than `MAX_ISSUED` octets.

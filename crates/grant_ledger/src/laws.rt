@@ -1,8 +1,8 @@
-//! What holds of every entry.
+//! Laws of every entry.
 
 ghost use Rattle.grant_ledger.specs.Laws.{GivesEachLaneItsAmount, IsDrawnInTurn};
 
-/// An entry holds each amount at its own lane, and nothing at a lane that it does not name.
+/// An entry has each amount at its own lane, and none at other lanes.
 pub fn entry_gives_each_lane_its_amount()
     ensures amounts { GivesEachLaneItsAmount }
 {}

@@ -1,5 +1,5 @@
-//! The book, and the values that have to be spent. This module alone owns their fields, so each octet of a grant
-//! comes from an entry of a book.
+//! The book, and the values that must be spent. Only this module can access their fields, so each octet of a grant comes
+//! from an entry of a book.
 
 ghost use Rattle.std.specs.Prelude.{◌≡◌, ◌+◌, ◌-◌, ◌<◌, ◌≤◌, sum, length, slice_index_or, slice_set, IsSome, OnOk, OnErr, IfOk, MatchResult};
 ghost use Rattle.limit_tree.specs.Outline.{limits};
@@ -12,18 +12,19 @@ use grant_certificate::Sealed;
 use std::alloc::Allocator;
 use std::marker::{Model, PhantomData};
 
-/// How many lanes an entry can name. They are numbered from 0.
+/// Most lanes in an entry. They are numbered from 0.
 pub const MAX_LANES: usize = 64;
 
 /// The most octets that one book issues: 2^62.
 pub const MAX_ISSUED: u64 = 4_611_686_018_427_387_904;
 
-/// The name of a book that was given none.
+/// The name of a book for which none was chosen.
 #[derive(Clone, Copy)]
 pub struct Plain;
 
-/// The octets issued, the tick of the last entry, and for each lane the amount that is not yet drawn, with the tick of
-/// the entry that it is from. It has to be settled. The type `N` is the name of the book, which its grants, purses and tallies have too.
+/// The octets issued, the tick of the last entry, and for each lane the amount not yet drawn, with the tick of the entry
+/// that it is from. A book must be settled. The type `N` is the name of the book, which its grants, purses and tallies
+/// share.
 pub struct Book<N = Plain> {
     name: PhantomData<N>,
     issued: u64,
@@ -43,7 +44,7 @@ impl<N> Model for Book<N> {
     ghost invariant = { λ b. (b.issued ≤ 2 ^ 62) × IfNone b.entry_tick (b.undrawn ≡ nothing_undrawn) };
 }
 
-/// Leave to move octets on one lane, from the entry of one tick. It has to be spent.
+/// Permission to move octets on one lane, from the entry of one tick. It must be spent.
 pub struct Grant<N = Plain> {
     name: PhantomData<N>,
     octets: u64,
@@ -59,7 +60,7 @@ impl<N> Model for Grant<N> {
     ghost view = { λ g. record { octets = g.octets; lane = g.lane; tick = g.tick } };
 }
 
-/// Octets of one entry that no grant has yet. It has to be closed.
+/// Octets of one entry that are in no grant yet. It must be closed.
 pub struct Purse<N = Plain> {
     name: PhantomData<N>,
     left: u64,
@@ -74,7 +75,7 @@ impl<N> Model for Purse<N> {
     ghost view = { λ p. record { left = p.left; tick = p.tick } };
 }
 
-/// What became of spent grants, in octets: moved, and given back. It has to be joined to another or settled.
+/// The outcome of spent grants, in octets: moved, and given back. It must be joined to another tally or settled.
 pub struct Tally<N = Plain> {
     name: PhantomData<N>,
     moved: u64,
@@ -89,7 +90,7 @@ impl<N> Model for Tally<N> {
     ghost view = { λ t. record { moved = t.moved; back = t.back } };
 }
 
-/// The numbers of a book and a tally at the end, in octets.
+/// The final numbers of a book and a tally, in octets.
 #[derive(Clone, Copy, Debug, PartialEq, Eq)]
 pub struct Settled {
     pub issued: u64,
@@ -133,7 +134,7 @@ impl<N> Book<N> {
         self.issued
     }
 
-    /// The tick of the last entry, or none before the first.
+    /// The tick of the last entry; `None` before the first.
     pub fn last_tick(&self) -> Option<u64>
         ensures last_tick { result ≡ self.now.last_tick }
     {
@@ -148,10 +149,10 @@ impl<N> Book<N> {
         self.undrawn[lane as usize]
     }
 
-    /// Issues the grants of a decision: the i-th is to be drawn at the i-th of the lanes.
+    /// Issues the grants of a decision: grant i is to be drawn at lane i of `lanes`.
     ///
-    /// It refuses with `NotYet` where the tick is not above that of the last entry, else with `BookFull` where more
-    /// than `MAX_ISSUED` octets would be issued. The book is unchanged then.
+    /// Returns `NotYet` if the tick is not above that of the last entry, and otherwise `BookFull` if more than `MAX_ISSUED`
+    /// octets would be issued. The book is unchanged then.
     pub fn enter<A: Allocator, B: Allocator>(
         &mut self,
         sealed: &Sealed<A, B>,
@@ -177,8 +178,8 @@ impl<N> Book<N> {
         Ok(())
     }
 
-    /// Issues the grants of a decision into a purse, with the refusals of `enter`. Amounts of an earlier entry that are
-    /// not yet drawn stay, with the tick of that entry.
+    /// Issues the grants of a decision into a purse, with the refusals of `enter`. Amounts of an earlier entry that are not
+    /// yet drawn remain, with the tick of that entry.
     pub fn enter_out<A: Allocator, B: Allocator>(
         &mut self,
         sealed: &Sealed<A, B>,
@@ -205,7 +206,7 @@ impl<N> Book<N> {
         })
     }
 
-    // Issues this many octets, if the book takes them.
+    // Issues this many octets, if the book accepts them.
     fn admit(&mut self, total: u64, tick: u64) -> Result<(), BookFault>
         ensures issued { OnOk result (self.new.issued ≡ self.old.issued + total) }
         ensures last_tick { OnOk result (self.new.last_tick ≡ Some tick) }
@@ -228,7 +229,7 @@ impl<N> Book<N> {
         Ok(())
     }
 
-    /// Hands out the amount of a lane in the last entry of `enter`, which has to be there still (`undrawn` tells it). The
+    /// Hands out the amount of a lane in the last entry of `enter`, which must not be drawn yet (`undrawn` returns it). The
     /// grant has the tick of that entry.
     pub fn draw(&mut self, lane: u8) -> Grant<N>
         requires lane { lane < MAX_LANES }
@@ -278,14 +279,14 @@ impl<N> Grant<N> {
         }
     }
 
-    /// How many octets may be moved.
+    /// Number of octets that may be moved.
     pub fn octets(&self) -> u64
         ensures octets { result ≡ self.now.octets }
     {
         self.octets
     }
 
-    /// The lane that they may be moved on.
+    /// The lane on which they may be moved.
     pub fn lane(&self) -> u8
         ensures lane { result ≡ self.now.lane }
     {
@@ -299,7 +300,7 @@ impl<N> Grant<N> {
         self.tick
     }
 
-    /// Cuts off a grant of `n` of the octets.
+    /// Splits off a grant of `n` of the octets.
     pub fn cut(&mut self, n: u64) -> Grant<N>
         requires enough { n ≤ self.old.octets }
         ensures cut { result ≡ record { octets = n; lane = self.old.lane; tick = self.old.tick } }
@@ -314,8 +315,8 @@ impl<N> Grant<N> {
         }
     }
 
-    /// Uses the grant up: so many octets were moved, and the rest is given back. The tally's sums stop at the
-    /// greatest u64.
+    /// Spends the grant: `moved` octets were moved, and the rest is given back. The tally's sums saturate at the greatest
+    /// u64.
     pub fn spend(self, moved: u64, tally: &mut Tally<N>)
         requires within { moved ≤ self.octets }
         ensures moved { tally.new.moved ≡ capped tally.old.moved moved }
@@ -348,14 +349,14 @@ impl<N> Purse<N> {
         }
     }
 
-    /// The octets that are left.
+    /// Number of octets left.
     pub fn left(&self) -> u64
         ensures left { result ≡ self.now.left }
     {
         self.left
     }
 
-    /// Lets a purse go in which nothing is left.
+    /// Closes an empty purse.
     pub fn close(self)
         requires empty { self.left ≡ 0 }
     {
@@ -380,7 +381,7 @@ impl<N> Tally<N> {
         }
     }
 
-    /// Adds what the other counted. Each sum stops at the greatest u64.
+    /// Adds the counts of the other tally. Each sum saturates at the greatest u64.
     pub fn join(&mut self, other: Tally<N>)
         ensures moved { self.new.moved ≡ capped self.old.moved other.moved }
         ensures back { self.new.back ≡ capped self.old.back other.back }
@@ -409,7 +410,7 @@ impl<N> Tally<N> {
     }
 }
 
-/// Ends a book and a tally, and tells the numbers of both as they stand.
+/// Consumes a book and a tally, and returns their numbers.
 pub fn settle<N>(book: Book<N>, tally: Tally<N>) -> Settled
     ensures issued { result.issued ≡ book.issued }
     ensures moved { result.moved ≡ tally.moved }

@@ -1,16 +1,15 @@
-//! The book of issued octets, and the values through which each octet has to pass.
+//! The book of issued octets, and the values through which each octet must pass.
 //!
-//! A [`Book`] enters the grants of sealed decisions, at most one entry a tick, and counts what it issued. A
-//! [`Grant`] is leave to move octets, a [`Purse`] holds the octets of an entry that no grant has yet, and a
-//! [`Tally`] counts what became of spent grants: octets moved, and octets given back.
+//! A [`Book`] enters the grants of sealed decisions, at most one entry per tick, and counts the octets issued. A
+//! [`Grant`] is permission to move octets, a [`Purse`] has the octets of an entry that are in no grant yet, and a
+//! [`Tally`] counts the outcome of spent grants: octets moved, and octets given back.
 //!
-//! All four have the name of their book, a type `N` that costs nothing at run time: `Book<OfDesk>` gives a
-//! `Grant<OfDesk>`, which only a `Tally<OfDesk>` takes. A program that spends a grant into the tally of another name does
-//! not compile. `Book` alone means the book of the name `Plain`.
+//! All four have the name of their book, a type `N` without cost at run time: a `Book<OfDesk>` issues a `Grant<OfDesk>`,
+//! which only a `Tally<OfDesk>` accepts. A program that spends a grant into a tally of another name does not compile.
+//! `Book` alone means the book with the name `Plain`.
 //!
-//! None of the four can be copied or dropped: a program that lets one go does not compile. The one way out of a
-//! grant is `spend`, of a purse `close`, of a tally `join` or `settle`, and of a book `settle`. No call takes
-//! memory.
+//! None of the four can be copied or dropped: a program that drops one does not compile. The only way to consume a grant
+//! is `spend`; a purse, `close`; a tally, `join` or `settle`; a book, `settle`. No call allocates.
 //!
 //! ```text
 //! let sealed = sealed(rt.alloc(), &[100])?;

@@ -1,4 +1,4 @@
--- What a handler is told, and what a list of actions leaves of it.
+-- The events of a handler, and the effect of a list of actions on it.
 use Rattle.std.specs.Prelude.{ℕ, ◌≡◌, List, [], ◌∷◌}
 use Rattle.virtual_path.specs.Path.{path_text}
 use Rattle.session_table.specs.declared.actions.Action.{Action}
@@ -29,7 +29,7 @@ event_of (hook.FileReceived path) = FileReceived (path_text path)
 event_of (hook.IncompleteFileSent path) = FileNotSent (path_text path)
 event_of (hook.IncompleteFileReceived path) = FileNotReceived (path_text path)
 
--- what one action leaves of a handler: a Hook is told, and no other is
+-- the effect of one action on a handler: a Hook calls it, and no other action does
 abbrev pub Leaves : {H A R K : Type 0} → (H → Event → H → Type 0) → H → Action A R K → H → Type 0
 Leaves Told old (action.Hook call) new = Told old (event_of call) new
 Leaves Told old (action.Say reply) new = new ≡ old
@@ -41,7 +41,7 @@ Leaves Told old action.Abort new = new ≡ old
 Leaves Told old action.CloseControl new = new ≡ old
 Leaves Told old (action.ReleaseFloor user) new = new ≡ old
 
--- what a list of actions leaves of it, one after another
+-- the effect of a list of actions on it, one after another
 abbrev pub AllLeave : {H A R K : Type 0} → (H → Event → H → Type 0) → H → List (Action A R K) → H → Type 0
 AllLeave Told old [] new = new ≡ old
 AllLeave {H} Told old (first ∷ others) new = (mid : H) × Leaves Told old first mid × AllLeave Told mid others new

@@ -1,22 +1,22 @@
-//! What a handler may be told.
+//! The callbacks of a handler.
 
 ghost use Rattle.handler_hooks.specs.Events.{Event};
 ghost use Rattle.handler_hooks.specs.Events.Event.{Connected, Disconnected, LoggedIn, LoginFailed, LoggedOut, FileSent, FileReceived, FileNotSent, FileNotReceived};
 
-/// What a handler is told of the sessions of a server.
+/// Callbacks for the events of a server's sessions.
 ///
-/// `Told` says what one call makes of the handler: it is the handler's own meaning, so what is proved
-/// of the calls holds of each handler. A callback is called while the session waits for it: it may
-/// note, count or tell others, and must not wait long. It can not refuse what has happened.
+/// `Told` is the effect of one call on the handler. Each handler defines its own, so the proofs about the calls apply
+/// to every handler. The session waits for a callback: it may note, count or report to others, and must not take long.
+/// It cannot refuse what has happened.
 pub trait Hooks: Drop {
-    /// What one event makes of the handler.
+    /// The effect of one event on the handler.
     ghost Told: { Self → Event → Self → Type 0 };
 
     /// A client has connected, and was greeted.
     fn on_connect(&mut self)
         ensures { Told self.old Connected self.new };
 
-    /// The control connection is gone. It is the last call of a session.
+    /// The control connection is gone. This is the last call of a session.
     fn on_disconnect(&mut self)
         ensures { Told self.old Disconnected self.new };
 
@@ -24,7 +24,7 @@ pub trait Hooks: Drop {
     fn on_login(&mut self, user: &str)
         ensures { Told self.old (LoggedIn user.now) self.new };
 
-    /// A wrong password was given for a name, which may be none of a user.
+    /// A wrong password was given for a name, which may be no user's.
     fn on_login_failed(&mut self, user: &str)
         ensures { Told self.old (LoginFailed user.now) self.new };
 
@@ -36,7 +36,7 @@ pub trait Hooks: Drop {
     fn on_file_sent(&mut self, path: &str)
         ensures { Told self.old (FileSent path.now) self.new };
 
-    /// A file was received whole, by STOR or APPE. Whether the store took it, the client is told.
+    /// A file was received whole, by STOR or APPE. The reply to the client says whether the store took it.
     fn on_file_received(&mut self, path: &str)
         ensures { Told self.old (FileReceived path.now) self.new };
 

@@ -1,4 +1,4 @@
-//! Callbacks of a server's owner: what a handler is told of sessions, in the order in which it happens.
+//! Callbacks of a server's owner for the events of sessions, in the order in which they happen.
 //!
 //! ```text
 //! let mut clients = Clients { there: 0 }; // a handler, with a callback for each event

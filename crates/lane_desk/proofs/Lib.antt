@@ -1,1 +1,13 @@
+pub mod Closing
+pub mod AllLanes
+pub mod Opening
+pub mod Beginning
+pub mod Held
+pub mod RoundCalls
+pub mod Taking
+pub mod TriedLemmas
+pub mod DueLemmas
+pub mod PostedLemmas
+pub mod RoundLemmas
+pub mod Calls
 pub mod Sums

@@ -11,13 +11,13 @@ use Rattle.desk_rule.specs.declared.view.LaneView.{LaneView}
 use Rattle.desk_rule.specs.declared.view.TurnView.{TurnView}
 use Rattle.lane_desk.specs.declared.worked.Worked.{Worked}
 use Rattle.desk_rule.specs.Lanes.{fresh, unturned, posted_in}
-use Rattle.round_desk.specs.Held.{is_due}
-use Rattle.lane_seats.specs.Seats.{seat_view}
-use Rattle.desk_close.specs.Close.{Settled, Closes, AllSettled}
-use Rattle.desk_close.specs.AllLanes.{taken_in_all}
+use Rattle.lane_desk.specs.Held.{is_due}
+use Rattle.lane_desk.specs.Seats.{seat_view}
+use Rattle.lane_desk.specs.Close.{Settled, Closes, AllSettled}
+use Rattle.lane_desk.specs.AllLanes.{taken_in_all}
 use Rattle.lane_desk.specs.Workers.{AreWorkers, moved_by_all}
 use Rattle.desk_rule.proofs.Keeps.{posted_set}
-use Rattle.desk_close.proofs.AllLanes.{get_middle, get_front, get_last}
+use Rattle.lane_desk.proofs.AllLanes.{get_middle, get_front, get_last}
 
 pub settled_more : (ts1 ts2 : List TurnView) (xs1 xs2 : List LaneView) (i : ℕ) (x : LaneView) → AllSettled ts1 xs1 → i ≡ length xs1 → ts2 ≡ set ts1 i (get_or ts2 i unturned) → xs2 ≡ xs1 ++ x ∷ [] → Settled x (get_or ts2 i unturned) → AllSettled ts2 xs2
 settled_more ts1 ts2 xs1 xs2 i x all is moved back new j near =

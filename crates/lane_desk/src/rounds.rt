@@ -4,18 +4,19 @@ ghost use Rattle.std.specs.Prelude.{◌≡◌, ◌+◌, ◌/◌, ◌≤◌, Some
 ghost use Rattle.limit_tree.specs.Outline.{limits as seen};
 ghost use Rattle.limit_tree.specs.Sharing.{IsBest};
 ghost use Rattle.desk_rule.specs.Lanes.{posted_in};
-ghost use Rattle.round_desk.specs.Turns.{turns, IsRoundOf, IsSameRound};
-ghost use Rattle.round_desk.specs.Posted.{AllAnswered};
-ghost use Rattle.round_desk.specs.Rounded.{IsRound, IsRefusedRound};
+ghost use Rattle.lane_desk.specs.Turns.{turns, IsRoundOf, IsSameRound};
+ghost use Rattle.lane_desk.specs.Posted.{AllAnswered};
+ghost use Rattle.lane_desk.specs.Rounded.{IsRound, IsRefusedRound};
 
+use crate::desk::Desk;
+use crate::record::{RoundFault, RoundRecord};
+use crate::round::RoundDesk;
 use grant_ledger::{Book, Tally};
-use lane_seats::Desk;
 use line_rates::Limits;
-use round_desk::{RoundDesk, RoundFault, RoundRecord};
 use std::alloc::Allocator;
 
-/// The round's seat, with the book from which it posts and a tally: what was issued is what the tally tells and all amounts
-/// posted. Between rounds each ask that was collected is answered. It cannot be dropped.
+/// The round's seat, with the book from which it posts and a tally: the octets issued are those in the tally and all
+/// amounts posted. Between rounds, each ask collected is answered. It cannot be dropped.
 pub struct Rounds<N> {
     pub(crate) desk: RoundDesk<N>,
     pub(crate) book: Book<N>,
@@ -25,8 +26,8 @@ pub struct Rounds<N> {
 }
 
 impl<N> Rounds<N> {
-    /// The rounds of a desk, with a book that issued what the tally tells and what was posted. A desk just opened has posted
-    /// nothing, and a book just opened has issued what its tally tells.
+    /// The rounds of a desk, with a book that has issued the octets in the tally and those posted. A desk just opened has
+    /// posted nothing, and a book just opened has issued the octets in its tally.
     pub fn new(desk: RoundDesk<N>, book: Book<N>, tally: Tally<N>) -> Rounds<N>
         requires told { book.issued ≡ tally.moved + tally.back + posted_in (turns desk) }
         requires answered { AllAnswered (turns desk) }
@@ -42,14 +43,14 @@ impl<N> Rounds<N> {
         self.book.issued()
     }
 
-    /// The tick of the last round that was not refused, or none before the first.
+    /// The tick of the last round that was not refused; `None` before the first.
     pub fn last_tick(&self) -> Option<u64>
         ensures last_tick { result ≡ self.now.book.last_tick }
     {
         self.book.last_tick()
     }
 
-    /// A round of the desk, with its refusals: tries each lane once, decides of the asks that it has found at a moment in
+    /// A round of the desk, with its refusals: tries each lane once, decides for the asks found at a moment in
     /// milliseconds, and answers each.
     pub fn round<L: Allocator, A: Allocator + Clone, D: Allocator>(
         &mut self,

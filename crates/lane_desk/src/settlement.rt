@@ -1,19 +1,20 @@
-//! How all accounts of a desk are settled.
+//! Settling all accounts of a desk.
 
 ghost use Rattle.std.specs.Prelude.{◌≡◌, ◌+◌, []};
-ghost use Rattle.lane_seats.specs.Seats.{desk_id};
-ghost use Rattle.round_desk.specs.Turns.{back, IsRoundOf};
+ghost use Rattle.lane_desk.specs.Seats.{desk_id};
+ghost use Rattle.lane_desk.specs.Turns.{back, IsRoundOf};
 ghost use Rattle.lane_desk.specs.Workers.{AreWorkers, moved_by_all};
 
+use crate::close::free;
+use crate::desk::Desk;
+use crate::lane_close::close_lane;
 use crate::rounds::Rounds;
 use crate::worked::Worked;
-use desk_close::{close_lane, free};
 use grant_ledger::{Settled, settle};
-use lane_seats::Desk;
 use std::alloc::Allocator;
 
-/// Closes each lane of a desk, from its own seats in the order of their lanes, gathers the tallies, and settles the book: the
-/// octets issued are those that the tallies tell as moved and those that came back.
+/// Closes each lane of a desk, given its own seats in the order of their lanes, gathers the tallies, and settles the book:
+/// the octets issued are those moved and those given back in the tallies.
 pub fn settle_all<N, A: Allocator, B: Allocator>(
     desk: Desk<N, A>,
     rounds: Rounds<N>,

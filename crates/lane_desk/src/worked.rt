@@ -1,13 +1,13 @@
 //! A lane's seat with its tally.
 
 ghost use Rattle.std.specs.Prelude.{◌≡◌, ◌+◌, [], sum};
-ghost use Rattle.lane_seats.specs.Seats.{seat_view};
+ghost use Rattle.lane_desk.specs.Seats.{seat_view};
 
+use crate::seat::LaneSeat;
 use grant_ledger::Tally;
-use lane_seats::LaneSeat;
 
-/// A lane's seat, with the tally of all that it took: what was moved and what was given back add up to it. It cannot be
-/// dropped.
+/// A lane's seat, with the tally of everything that it took: the octets moved and given back add up to that. It cannot
+/// be dropped.
 pub struct Worked<N> {
     seat: LaneSeat<N>,
     tally: Tally<N>,
@@ -15,7 +15,7 @@ pub struct Worked<N> {
 }
 
 impl<N> Worked<N> {
-    /// A seat with a tally of all that it took.
+    /// A seat with a tally of everything that it took.
     pub fn new(seat: LaneSeat<N>, tally: Tally<N>) -> Worked<N>
         requires told { tally.moved + tally.back ≡ sum (seat_view seat).taken }
         ensures parts { (result.seat ≡ seat) × (result.tally ≡ tally) }

@@ -1,4 +1,4 @@
--- What a lane tells a session of a job that has ended.
+-- The end that a lane reports to a session for a job.
 use Rattle.std.specs.Prelude.{◌≡◌, Option, Some, None}
 use Rattle.session_table.specs.declared.inputs.End.{End}
 use Rattle.session_table.specs.declared.inputs.End.TheVariants.{Done, Lost, Local, NoMemory, Aborted}
@@ -7,7 +7,7 @@ use Rattle.transfer_worker.specs.declared.end.JobEnd.TheVariants as job
 use Rattle.transfer_worker.specs.declared.job.Ran.{Ran}
 use Rattle.transfer_worker.specs.declared.job.Ran.TheVariants.{Out, In, Unopened}
 
--- of a download, whose file is read and whose connection is written
+-- for a download, whose file is read and whose connection is written
 abbrev pub sent_end : JobEnd → End
 sent_end job.Ended = Done
 sent_end job.ReadFault = Local
@@ -15,7 +15,7 @@ sent_end job.WriteFault = Lost
 sent_end job.Memory = NoMemory
 sent_end job.Stopped = Aborted
 
--- of an upload, whose connection is read and whose file is written
+-- for an upload, whose connection is read and whose file is written
 abbrev pub received_end : JobEnd → End
 received_end job.Ended = Done
 received_end job.ReadFault = Lost
@@ -23,13 +23,13 @@ received_end job.WriteFault = Local
 received_end job.Memory = NoMemory
 received_end job.Stopped = Aborted
 
--- what is told, by what is left of the job: only its file can not have been opened
+-- the end reported, given what is left of the job: an unopened job failed at its file
 abbrev pub told_end : {R K C A : Type 0} → JobEnd → Ran R K C A → End
 told_end end (Out out) = sent_end end
 told_end end (In upload) = received_end end
 told_end end Unopened = sent_end end
 
--- the sink that goes back to the session: that of an upload
+-- the sink returned to the session: that of an upload
 abbrev pub told_sink : {R K C A : Type 0} → Ran R K C A → Option K
 told_sink (Out out) = None
 told_sink (In upload) = Some upload.flow.sink

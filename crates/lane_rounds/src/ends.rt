@@ -1,9 +1,9 @@
-//! What a lane tells a session.
+//! Reports of lanes to sessions.
 
 ghost use Rattle.std.specs.Prelude.{◌≡◌};
 ghost use Rattle.lane_rounds.specs.Ends.{received_end, sent_end, told_end, told_sink};
 
-use data_sockets::Told;
+use data_sockets::TransferEnd;
 use session_table::End;
 use std::alloc::Allocator;
 use std::io::{Read, Write};
@@ -36,8 +36,8 @@ fn received_end(end: JobEnd) -> End
     }
 }
 
-/// What is told of a job that ended so, with the sink of an upload. The connection is let go before.
-pub(crate) fn told_of<R, K, C, A>(end: JobEnd, ran: Ran<R, K, C, A>) -> Told<K>
+/// The report for a job with this end, with the sink of an upload. The connection is dropped first.
+pub(crate) fn told_of<R, K, C, A>(end: JobEnd, ran: Ran<R, K, C, A>) -> TransferEnd<K>
 where
     R: Source,
     K: Sink,
@@ -47,15 +47,15 @@ where
     ensures sink { result.sink ≡ told_sink ran }
 {
     match ran {
-        Ran::Out(_) => Told {
+        Ran::Out(_) => TransferEnd {
             end: sent_end(end),
             sink: None,
         },
-        Ran::In(upload) => Told {
+        Ran::In(upload) => TransferEnd {
             end: received_end(end),
             sink: Some(upload.into_sink()),
         },
-        Ran::Unopened => Told {
+        Ran::Unopened => TransferEnd {
             end: sent_end(end),
             sink: None,
         },

@@ -5,11 +5,11 @@ ghost use Rattle.std.specs.Prelude.{◌≡◌};
 use crate::ends::told_of;
 use crate::rounds::help;
 use crate::turns::Turns;
-use data_sockets::{DataConnection, Served, Told};
+use data_sockets::{DataConnection, Served, TransferEnd};
 use event_word::micros;
 use handler_hooks::Hooks;
 use lent_parts::{LentDesk, PartsName};
-use server_house::{House, LaneSign, Stage};
+use server_house::{House, LaneSign, ShutdownStage};
 use std::alloc::Global;
 use std::sync::{Mutex, Wait};
 use std::thread;
@@ -17,16 +17,16 @@ use std::time::{Clock, Duration};
 use transfer_worker::{Gate, Go, JobEnd, Ran};
 use virtual_tree::Store;
 
-/// How long a lane waits for an answer before it looks by itself, in milliseconds. Each answer wakes it.
+/// The longest wait of a lane for an answer before it checks by itself, in milliseconds. Each answer wakes it.
 const BACKSTOP: u64 = 200;
 
-/// How long it gives way to other threads before it sleeps, in microseconds.
+/// The time that it yields to other threads before it sleeps, in microseconds.
 const PATIENCE: u64 = 20;
 
-/// How long it waits behind a grant of 0 octets, in microseconds: half a tick of the pace.
+/// The wait after a grant of 0 octets, in microseconds: half a tick of the pace.
 const PAUSE: u64 = 1_000;
 
-/// What a lane asks before it goes on with a transfer. It waits for answers, and holds rounds.
+/// The gate of a lane for one transfer. It waits for answers, and holds rounds.
 #[derive(Drop)]
 pub(crate) struct LaneGate<'r, 'h, 'd, 't, R, S: Store<Global>, H: Hooks, B: PartsName, N> {
     rt: &'r R,
@@ -35,10 +35,10 @@ pub(crate) struct LaneGate<'r, 'h, 'd, 't, R, S: Store<Global>, H: Hooks, B: Par
     turns: &'t Mutex<Turns<B, N>>,
     lane: usize,
     last: Go,
-    // how many answers there were at the last call, and how many calls since the last of them
+    // the number of answers at the last call, and the number of calls since the last answer
     seen: u64,
     calls: u32,
-    // what had moved at the last answer, and whether that was no more than at the one before
+    // the octets moved at the last answer, and whether that was no more than at the one before
     moved: u64,
     is_empty: bool,
 }
@@ -76,8 +76,8 @@ where
         }
     }
 
-    // An answer has come since the last call: the next thing is an ask. Where it granted nothing, the rates have nothing left:
-    // it waits for a moment.
+    // Records that an answer has come since the last call: an ask is next. If it granted nothing, the rates have nothing
+    // left, and this waits a moment.
     fn take_answer(&mut self, seen: u64, moved: u64) {
         self.seen = seen;
         self.calls = 1;
@@ -85,7 +85,8 @@ where
         self.moved = moved;
     }
 
-    // Waits for an answer to the ask, if one was made: of two calls since the last answer one may have stood before it.
+    // Waits for an answer to the ask, if one was made. Of two calls since the last answer, the first may have been before
+    // the ask.
     fn await_answer(&self, sign: &LaneSign) {
         let now = micros(self.rt);
         let due = help(
@@ -146,7 +147,7 @@ where
     ghost passed = { λ _. None };
 
     fn pass(&mut self, _session: u32, moved: u64) -> Go {
-        if self.house.ending.has_begun(Stage::Lanes) {
+        if self.house.ending.has_begun(ShutdownStage::Lanes) {
             self.last = Go::Stop;
             return Go::Stop;
         }
@@ -165,7 +166,7 @@ where
         end: JobEnd,
         ran: Ran<Served<Global, S::Source>, S::Sink, DataConnection, Global>,
     ) {
-        let Told { end, sink } = told_of(end, ran);
+        let TransferEnd { end, sink } = told_of(end, ran);
         match self.house.cells.get(session as usize) {
             Some(cell) => cell.tell(self.rt, end, sink),
             None => {}

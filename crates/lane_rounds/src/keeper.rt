@@ -5,17 +5,17 @@ use crate::turns::Turns;
 use event_word::micros;
 use handler_hooks::Hooks;
 use lent_parts::{LentDesk, PartsName};
-use server_house::{House, Stage};
+use server_house::{House, ShutdownStage};
 use std::alloc::Global;
 use std::sync::{Mutex, Wait};
 use std::thread;
 use std::time::{Clock, Duration};
 use virtual_tree::Store;
 
-/// How long it waits for the bell before it looks by itself, in milliseconds.
+/// The longest wait for the bell before it checks by itself, in milliseconds.
 const BACKSTOP: u64 = 200;
 
-/// Holds rounds where no lane does, until the lanes are to end.
+/// Holds rounds when no lane does, until the lanes are to end.
 pub fn keep_rounds<R, S, H, B, N>(
     rt: &R,
     house: &House<S, H, B>,
@@ -30,7 +30,7 @@ where
 {
     for _ in rt.forever() {
         let seen = house.bell.seen();
-        if house.ending.has_begun(Stage::Lanes) {
+        if house.ending.has_begun(ShutdownStage::Lanes) {
             return;
         }
         let now = micros(rt);

@@ -6,7 +6,7 @@ use data_sockets::{DataConnection, Served};
 use handler_hooks::Hooks;
 use lent_parts::{LentDesk, LentPass, LentWorker, PartsName};
 use line_rates::Way;
-use server_house::{House, LaneSign, Stage};
+use server_house::{House, LaneSign, ShutdownStage};
 use std::alloc::Global;
 use std::io::{Read, Write};
 use std::sync::{Mutex, Wait};
@@ -14,10 +14,10 @@ use std::time::{Clock, Duration};
 use transfer_worker::LaneJob;
 use virtual_tree::{Sink, Source, Store};
 
-/// How long an idle lane waits before it looks by itself, in milliseconds. Each transfer that is pushed wakes one.
+/// The longest wait of an idle lane before it checks by itself, in milliseconds. Each transfer pushed wakes one.
 const IDLE: u64 = 1_000;
 
-// Says for whom the lane works.
+// Records the user and direction that the lane works for.
 fn sign<R: Source, K: Sink, C: Read + Write + Drop>(sign: &LaneSign, job: &LaneJob<R, K, C>) {
     match job {
         LaneJob::Send { user, .. } => sign.name.set(Way::Down, *user),
@@ -58,7 +58,7 @@ where
                 }
             }
             None => {
-                if house.ending.has_begun(Stage::Lanes) {
+                if house.ending.has_begun(ShutdownStage::Lanes) {
                     return;
                 }
                 house.jobs.wait(rt, seen, Duration::from_millis(IDLE));

@@ -1,4 +1,4 @@
-//! Rounds that are held by whoever needs one.
+//! Rounds, held by whichever lane needs one.
 
 use crate::turns::Turns;
 use handler_hooks::Hooks;
@@ -10,20 +10,20 @@ use std::alloc::Global;
 use std::sync::Mutex;
 use virtual_tree::Store;
 
-/// How many rounds in a row a lane holds for others at most.
+/// Most rounds in a row that a lane holds for others.
 const IN_A_ROW: usize = 4;
 
-/// What became of a round that was tried.
+/// The result of trying to hold a round.
 pub(crate) enum Tried {
-    /// It was held; the bell stood so before.
+    /// It was held; the value is the bell's count before.
     Held(u64),
-    /// Another holds one.
+    /// Another thread is holding one.
     ByAnother,
     /// None may be held before this moment, in microseconds.
     NotBefore(u64),
 }
 
-// Tells each lane that was answered: bit i stands for lane i.
+// Signals each lane that was answered: bit i is lane i.
 fn tell_lanes(lanes: &[LaneSign], answered: u64) {
     let mut left = answered;
     for lane in lanes {
@@ -34,7 +34,7 @@ fn tell_lanes(lanes: &[LaneSign], answered: u64) {
     }
 }
 
-// Takes what a round granted from what its rates had earned.
+// Subtracts what a round granted from what its rates had earned.
 fn charge(pace: &mut Pace, lanes: &[LaneSign], record: &RoundRecord) {
     let grants = record.sealed.grants();
     for place in 0..record.lanes.len() {
@@ -49,7 +49,7 @@ fn charge(pace: &mut Pace, lanes: &[LaneSign], record: &RoundRecord) {
     }
 }
 
-// One round. A refused one has answered each lane too, by 0 octets.
+// Holds one round. A refused one has answered each lane too, with 0 octets.
 fn hold_one<B: PartsName, N>(
     alloc: Global,
     lanes: &[LaneSign],
@@ -67,7 +67,7 @@ fn hold_one<B: PartsName, N>(
     }
 }
 
-// When a round may be held for whoever works in a lane, or for anybody.
+// The earliest moment of a round for the worker of a lane, or for anybody.
 fn due_by(pace: &Pace, sign: Option<&LaneSign>, now: u64) -> Due {
     match sign {
         Some(sign) => {
@@ -78,7 +78,7 @@ fn due_by(pace: &Pace, sign: Option<&LaneSign>, now: u64) -> Due {
     }
 }
 
-/// Holds one round at a moment in microseconds, if none is held and one may be.
+/// Holds one round at a moment in microseconds, if none is being held and one may be.
 pub(crate) fn try_one<S: Store<Global>, H: Hooks, B: PartsName, N>(
     alloc: Global,
     house: &House<S, H, B>,
@@ -100,10 +100,10 @@ pub(crate) fn try_one<S: Store<Global>, H: Hooks, B: PartsName, N>(
     }
 }
 
-/// Sees that a round is held after an ask: here, or by another who holds one now. If none may be held yet, returns from which
-/// moment on.
+/// Makes sure that a round is held after an ask: here, or by a thread that holds one now. If none may be held yet, returns
+/// the earliest moment.
 ///
-/// The bell rises before the try. So if another holds the lock, it sees the bell once it has let go.
+/// The bell is rung before the try. So if another thread has the lock, it sees the bell after it has released the lock.
 pub(crate) fn help<S: Store<Global>, H: Hooks, B: PartsName, N>(
     alloc: Global,
     house: &House<S, H, B>,

@@ -1,4 +1,4 @@
-//! What whoever holds a round has.
+//! The parts needed to hold a round.
 
 ghost use Rattle.std.specs.Prelude.{◌≡◌};
 
@@ -12,14 +12,14 @@ pub struct Turns<B: PartsName, N> {
 }
 
 impl<B: PartsName, N> Turns<B, N> {
-    /// The rounds of a desk at this pace.
+    /// The rounds of a desk with this pace.
     pub fn new(rounds: LentRounds<B, N>, pace: Pace) -> Turns<B, N>
         ensures rounds { result.rounds ≡ rounds }
     {
         Turns { rounds, pace }
     }
 
-    /// The rounds, once nobody holds one any more.
+    /// Returns the rounds, once nobody holds one any more.
     pub fn into_rounds(self) -> LentRounds<B, N>
         ensures rounds { result ≡ self.rounds }
     {

@@ -1,16 +1,16 @@
--- Parts of the server of a name.
+-- Parts of the server with a name.
 use Rattle.std.specs.Prelude.{◌≡◌, ℕ, ◌<◌, []}
 use Rattle.atomic_table.specs.Seated.{TableId}
-use Rattle.lane_seats.specs.declared.desk.Desk.{Desk}
-use Rattle.lane_seats.specs.declared.seat.LaneSeat.{LaneSeat}
-use Rattle.lane_seats.specs.Seats.{desk_id}
-use Rattle.round_desk.specs.declared.round.RoundDesk.{RoundDesk}
-use Rattle.round_desk.specs.Turns.{back}
-use Rattle.job_board.specs.Boards.{board_id}
-use Rattle.job_board.specs.declared.board.BoardPass.{BoardPass}
-use Rattle.job_board.specs.declared.board.JobBoard.{JobBoard}
+use Rattle.lane_desk.specs.declared.desk.Desk.{Desk}
+use Rattle.lane_desk.specs.declared.seat.LaneSeat.{LaneSeat}
+use Rattle.lane_desk.specs.Seats.{desk_id}
+use Rattle.lane_desk.specs.declared.round.RoundDesk.{RoundDesk}
+use Rattle.lane_desk.specs.Turns.{back}
+use Rattle.transfer_worker.specs.Boards.{board_id}
+use Rattle.transfer_worker.specs.declared.board.BoardPass.{BoardPass}
+use Rattle.transfer_worker.specs.declared.board.JobBoard.{JobBoard}
 
--- stands for a table where no desk is named
+-- a placeholder for a table, if no desk has the name
 abbrev pub no_table : TableId
 no_table = record { words = 0; slots = 0; views_name = 0; atom = 0; block = 0; offset = 0; slot_names = [] }
 
@@ -22,7 +22,7 @@ module _ {N : Type 0} where
   abbrev pub SitsAt : TableId → ℕ → LaneSeat N → Type 0
   SitsAt table lanes seat = (seat.seat.table_id ≡ table) × (seat.lane < lanes)
 
-  -- the round's seat of that desk, before any seat has come back
+  -- the round's seat of that desk, before any seat was returned
   abbrev pub RoundsAt : TableId → ℕ → RoundDesk N → Type 0
   RoundsAt table lanes round = (round.seat.table_id ≡ table) × (round.lanes ≡ lanes) × (back round ≡ [])
 

@@ -1,16 +1,16 @@
-//! A board and its passes, as threads are lent them.
+//! A board and its passes, as lent to threads.
 
 ghost use Rattle.std.specs.Prelude.{◌≡◌, MatchOption, MatchResult};
-ghost use Rattle.job_board.specs.Boards.{done_by, places};
-ghost use Rattle.job_board.specs.Order.{Popped, Pushed, ShowsHeld};
+ghost use Rattle.transfer_worker.specs.Boards.{done_by, places};
+ghost use Rattle.transfer_worker.specs.Order.{Popped, Pushed, ShowsHeld};
 ghost use Rattle.lent_parts.specs.Names.{IsBoardOf, IsPassOf};
 
 use crate::name::PartsName;
-use job_board::{BoardPass, JobBoard};
 use std::marker::PhantomData;
 use std::sync::Wait;
+use transfer_worker::{BoardPass, JobBoard};
 
-/// The board of a name, in the memory of the process.
+/// The board with a name, in the memory of the process.
 #[derive(Drop)]
 pub struct LentBoard<B: PartsName, J> {
     board: JobBoard<J>,
@@ -18,7 +18,7 @@ pub struct LentBoard<B: PartsName, J> {
     ghost named: { IsBoardOf B.board board },
 }
 
-/// A pass of the board of a name.
+/// A pass of the board with a name.
 #[derive(Drop)]
 pub struct LentPass<B: PartsName, J> {
     pub(crate) pass: BoardPass<J>,
@@ -27,7 +27,7 @@ pub struct LentPass<B: PartsName, J> {
 }
 
 impl<B: PartsName, J> LentPass<B, J> {
-    /// A pass of the board that the name names.
+    /// A pass of the board with this name.
     pub fn new(pass: BoardPass<J>) -> LentPass<B, J>
         requires named { IsPassOf B.board pass }
         ensures pass { result.pass ≡ pass }
@@ -40,7 +40,7 @@ impl<B: PartsName, J> LentPass<B, J> {
 }
 
 impl<B: PartsName, J> LentBoard<B, J> {
-    /// The board that the name names.
+    /// The board with this name.
     pub fn new(board: JobBoard<J>) -> LentBoard<B, J>
         requires named { IsBoardOf B.board board }
         ensures board { result.board ≡ board }
@@ -51,7 +51,7 @@ impl<B: PartsName, J> LentBoard<B, J> {
         }
     }
 
-    /// The board, for calls with passes of it.
+    /// The board, for calls with its passes.
     pub fn board(&self) -> &JobBoard<J>
         ensures board { result.now ≡ self.now.board }
         ensures named { IsBoardOf B.board result.now }
@@ -59,7 +59,7 @@ impl<B: PartsName, J> LentBoard<B, J> {
         &self.board
     }
 
-    /// Puts a job behind those that wait, as `JobBoard::push`.
+    /// Appends a job to those that wait, as `JobBoard::push`.
     pub fn push<R: Wait>(&self, rt: &R, pass: &mut LentPass<B, J>, job: J) -> Result<(), J>
         ensures pushed { MatchResult result
             (λ _. Pushed (done_by pass.old.pass) job (done_by pass.new.pass))

@@ -1,4 +1,4 @@
-//! A desk, as threads are lent it.
+//! A desk, as lent to threads.
 
 ghost use Rattle.std.specs.Prelude.{◌≡◌};
 ghost use Rattle.lent_parts.specs.Names.{IsNamed};
@@ -8,7 +8,7 @@ use lane_desk::Desk;
 use std::alloc::{Allocator, Global};
 use std::marker::PhantomData;
 
-/// The desk of a name.
+/// The desk with a name.
 pub struct LentDesk<B: PartsName, N, A: Allocator = Global> {
     desk: Desk<N, A>,
     name: PhantomData<B>,
@@ -16,7 +16,7 @@ pub struct LentDesk<B: PartsName, N, A: Allocator = Global> {
 }
 
 impl<B: PartsName, N, A: Allocator> LentDesk<B, N, A> {
-    /// The desk that the name names.
+    /// The desk with this name.
     pub fn new(desk: Desk<N, A>) -> LentDesk<B, N, A>
         requires named { IsNamed B.desk B.lanes desk }
         ensures desk { result.desk ≡ desk }
@@ -27,7 +27,7 @@ impl<B: PartsName, N, A: Allocator> LentDesk<B, N, A> {
         }
     }
 
-    /// The desk, for calls of its seats.
+    /// The desk, for calls with its seats.
     pub fn desk(&self) -> &Desk<N, A>
         ensures desk { result.now ≡ self.now.desk }
         ensures named { IsNamed B.desk B.lanes result.now }
@@ -35,7 +35,7 @@ impl<B: PartsName, N, A: Allocator> LentDesk<B, N, A> {
         &self.desk
     }
 
-    /// The desk, once no thread has it any more.
+    /// Returns the desk, once no thread has it any more.
     pub fn into_desk(self) -> Desk<N, A>
         ensures desk { result ≡ self.desk }
         ensures named { IsNamed B.desk B.lanes result }

@@ -1,4 +1,4 @@
-//! The name of the parts that are lent.
+//! Names of the parts that are lent.
 
 ghost use Rattle.std.specs.Prelude.{ℕ};
 ghost use Rattle.atomic_table.specs.Seated.{TableId};
@@ -16,7 +16,7 @@ pub trait PartsName {
     ghost board: { TableId };
 }
 
-// The name is picked where the parts are lent.
+// The name is chosen where the parts are lent.
 impl PartsName for Brand {
     ghost desk = { no_table };
 

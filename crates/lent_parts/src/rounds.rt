@@ -1,11 +1,11 @@
-//! The rounds of a desk with its book, as whoever runs one is lent them.
+//! The rounds of a desk with its book, as lent to the thread that holds a round.
 
 ghost use Rattle.std.specs.Prelude.{◌≡◌, ◌+◌, ◌/◌, Some, sum, IfOk, IfErr, OnOk, OnErr};
 ghost use Rattle.limit_tree.specs.Outline.{limits as seen};
 ghost use Rattle.limit_tree.specs.Sharing.{IsBest};
 ghost use Rattle.lent_parts.specs.Names.{RoundsAt};
-ghost use Rattle.round_desk.specs.Turns.{turns};
-ghost use Rattle.round_desk.specs.Rounded.{IsRound, IsRefusedRound};
+ghost use Rattle.lane_desk.specs.Turns.{turns};
+ghost use Rattle.lane_desk.specs.Rounded.{IsRound, IsRefusedRound};
 
 use crate::desk::LentDesk;
 use crate::name::PartsName;
@@ -14,7 +14,7 @@ use line_rates::Limits;
 use std::alloc::Allocator;
 use std::marker::PhantomData;
 
-/// The rounds of the desk of a name, with its book. They cannot be dropped.
+/// The rounds of the desk with a name, with its book. They cannot be dropped.
 pub struct LentRounds<B: PartsName, N> {
     rounds: Rounds<N>,
     name: PhantomData<B>,
@@ -22,7 +22,7 @@ pub struct LentRounds<B: PartsName, N> {
 }
 
 impl<B: PartsName, N> LentRounds<B, N> {
-    /// The rounds of the desk, before any seat has come back.
+    /// The rounds of the desk, before any seat was returned.
     pub fn new(rounds: Rounds<N>) -> LentRounds<B, N>
         requires named { RoundsAt B.desk B.lanes rounds.desk }
         ensures rounds { result.rounds ≡ rounds }
@@ -65,7 +65,7 @@ impl<B: PartsName, N> LentRounds<B, N> {
         self.rounds.round(alloc, desk.desk(), limits, moment)
     }
 
-    /// The rounds, once no thread has them any more.
+    /// Returns the rounds, once no thread has them any more.
     pub fn into_rounds(self) -> Rounds<N>
         ensures rounds { (result ≡ self.rounds) × RoundsAt B.desk B.lanes result.desk }
     {

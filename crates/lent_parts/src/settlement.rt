@@ -1,4 +1,4 @@
-//! How all parts of a desk that were lent are settled.
+//! Settling all lent parts of a desk.
 
 ghost use Rattle.std.specs.Prelude.{◌≡◌, ◌+◌, ◌≤◌, [], length, vec_capacity};
 ghost use Rattle.lane_desk.specs.Workers.{AreWorkers, moved_by_all};
@@ -13,8 +13,8 @@ use lane_desk::{Worked, settle_all};
 use std::alloc::Allocator;
 use std::sync::Wait;
 
-// Gathers workers that stand in the order of their lanes. The type of a worker does not say in which place it stands: it waits
-// for ever where one stands in another than its lane's.
+// Gathers workers in the order of their lanes. The type of a worker does not contain its lane: this waits for ever if one
+// is not in its lane's place.
 fn gather<R: Wait, B: PartsName, N, A: Allocator>(
     rt: &R,
     mut workers: Vec<LentWorker<B, N>, A>,
@@ -37,11 +37,11 @@ fn gather<R: Wait, B: PartsName, N, A: Allocator>(
     workers.destroy_empty();
 }
 
-/// Gathers all that was lent of a desk, closes it, and settles the book: the octets issued are those that the tallies tell as
-/// moved and those given back. The workers stand in the order of their lanes, and there is room for as many.
+/// Gathers everything lent of a desk, closes it, and settles the book: the octets issued are those moved and those given
+/// back in the tallies. The workers are in the order of their lanes, and there is room for as many.
 ///
-/// That they are of this desk is known of their types. That each lane's worker is there, and in its place, is looked at: if it
-/// were not so, this would wait for ever.
+/// Their types say that they are of this desk. That each lane's worker is there, and in its place, is checked: otherwise
+/// this would wait for ever.
 pub fn settle_lent<R: Wait, B: PartsName, N, A: Allocator, D: Allocator>(
     rt: &R,
     desk: LentDesk<B, N, D>,

@@ -1,8 +1,8 @@
-//! A lane's seat with its tally, as a worker's thread is lent it.
+//! A lane's seat with its tally, as lent to a worker's thread.
 
 ghost use Rattle.std.specs.Prelude.{◌≡◌, ◌+◌, ◌↔◌, sum, true, false};
 ghost use Rattle.desk_rule.specs.declared.view.SeatState.TheVariants.{Free};
-ghost use Rattle.lane_seats.specs.Seats.{seat_view, IsSameSeat};
+ghost use Rattle.lane_desk.specs.Seats.{seat_view, IsSameSeat};
 ghost use Rattle.lent_parts.specs.Names.{SitsAt};
 ghost use Rattle.transfer_worker.specs.Runs.{worker};
 ghost use Rattle.transfer_worker.specs.Transfers.{known};
@@ -19,8 +19,8 @@ use std::sync::Wait;
 use transfer_worker::{Gate, LaneJob, Ran, run_job};
 use virtual_tree::{Sink, Source};
 
-/// A seat of the desk of a name, with the tally of all that it took: what was moved and what was given back add up to it. It
-/// cannot be dropped.
+/// A seat of the desk with a name, with the tally of everything that it took: the octets moved and given back add up to
+/// that. It cannot be dropped.
 pub struct LentWorker<B: PartsName, N> {
     pub(crate) seat: LaneSeat<N>,
     pub(crate) tally: Tally<N>,
@@ -30,7 +30,7 @@ pub struct LentWorker<B: PartsName, N> {
 }
 
 impl<B: PartsName, N> LentWorker<B, N> {
-    /// A seat of the desk, with a tally of all that it took.
+    /// A seat of the desk, with a tally of everything that it took.
     pub fn new(seat: LaneSeat<N>, tally: Tally<N>) -> LentWorker<B, N>
         requires named { SitsAt B.desk B.lanes seat }
         requires told { tally.moved + tally.back ≡ sum (seat_view seat).taken }
@@ -50,7 +50,8 @@ impl<B: PartsName, N> LentWorker<B, N> {
         self.seat.lane()
     }
 
-    /// Whether nobody sits there, so that a job may be run. It is so until a gate has said `Stop` to a worker that had asked.
+    /// Returns whether no worker sits there, so that a job may be run. It is true until a gate has said `Stop` to a worker
+    /// that had asked.
     pub fn is_free(&self) -> bool
         ensures free { (result ≡ true) ↔ ((seat_view self.now.seat).state ≡ Free) }
     {
@@ -94,7 +95,7 @@ impl<B: PartsName, N> LentWorker<B, N> {
         )
     }
 
-    /// The seat and the tally, once no thread has them any more.
+    /// Returns the seat and the tally, once no thread has them any more.
     pub fn into_worked(self) -> Worked<N>
         ensures seat { (result.seat ≡ self.seat) × SitsAt B.desk B.lanes result.seat }
         ensures tally { result.tally ≡ self.tally }

@@ -7,8 +7,8 @@ use Rattle.std.proofs.lemmas.List.{length-map, drop-map, take-append-le, drop-ap
 use Rattle.std.proofs.lemmas.List.Elements.{filter_map-append}
 use Rattle.std.proofs.lemmas.List.Sums.{sum-map, sum_by-cons, sum_by-append, sum_by-take-drop, sum_by-drop_more}
 use Rattle.limit_tree.specs.Outline.{deeper, behind, places, layer_kind, layer_kids, kind_of, kids_of, leaf_count, leaf_want, cut, absorb_step, absorb_stack, absorbed, first_or_zero}
-use Rattle.limit_tree.specs.declared.place.Kind.{Kind}
-use Rattle.limit_tree.specs.declared.place.Kind.TheVariants.{Branch, Leaf}
+use Rattle.limit_tree.specs.declared.place.NodeKind.{NodeKind}
+use Rattle.limit_tree.specs.declared.place.NodeKind.TheVariants.{Branch, Leaf}
 use Rattle.limit_tree.specs.declared.place.Place.{Place}
 use Rattle.limit_tree.specs.declared.node.Node.{Node}
 use Rattle.limit_tree.specs.declared.node.Node.TheOpen.{Node-F}
@@ -45,7 +45,7 @@ has_kids-drop level zero ps has = has
 has_kids-drop level (suc m) [] has = tt
 has_kids-drop level (suc m) (x ∷ ps) has = has_kids-drop level m ps has.1
 
-step-append : (level kids : ℕ) (kind : Kind) (s r : List ℕ) → kids ≤ length s → absorb_step level kids kind (s ++ r) ≡ absorb_step level kids kind s ++ r
+step-append : (level kids : ℕ) (kind : NodeKind) (s r : List ℕ) → kids ≤ length s → absorb_step level kids kind (s ++ r) ≡ absorb_step level kids kind s ++ r
 step-append level kids (Leaf want floor) s r has = refl
 step-append level kids (Branch limit) s r has =
     ap (λ (xs : List ℕ). cut limit (sum xs) ∷ drop kids (s ++ r)) (take-append-le kids s r has) ∙
@@ -71,7 +71,7 @@ abbrev pub absorb_of : {A : Type 0} → ℕ → Node A → ℕ
 absorb_of level n = first_or_zero (absorb_stack level (places n))
 
 -- what a node takes in, from what its kids do
-abbrev pub absorb_layer : ℕ → Kind → ℕ → ℕ
+abbrev pub absorb_layer : ℕ → NodeKind → ℕ → ℕ
 absorb_layer level (Leaf want floor) below = min want (max floor level)
 absorb_layer level (Branch limit) below = cut limit below
 
@@ -168,7 +168,7 @@ first-append : (level : ℕ) (ps : List Place) (s : List ℕ) → 0 < length ps 
 first-append level [] s some = absurd (omega arith)
 first-append level (x ∷ ps) s some = go x.kind
   where
-    go : (k : Kind) → first_or_zero (absorb_step level x.kids k (absorb_stack level ps) ++ s) ≡ first_or_zero (absorb_step level x.kids k (absorb_stack level ps))
+    go : (k : NodeKind) → first_or_zero (absorb_step level x.kids k (absorb_stack level ps) ++ s) ≡ first_or_zero (absorb_step level x.kids k (absorb_stack level ps))
     go (Leaf want floor) = refl
     go (Branch limit) = refl
 
@@ -212,7 +212,7 @@ absorbed_below {A} level n k j below =
 pub sum_wants-cons : (x : Place) (ps : List Place) → sum (wants_in ps) ≤ sum (wants_in (x ∷ ps))
 sum_wants-cons x ps = go x.kind
   where
-    go : (k : Kind) → sum (wants_in ps) ≤ sum (cons_option (leaf_want k) (wants_in ps))
+    go : (k : NodeKind) → sum (wants_in ps) ≤ sum (cons_option (leaf_want k) (wants_in ps))
     go (Branch limit) = omega arith
     go (Leaf want floor) = omega (arith, sum_by-cons (λ x. x) want (wants_in ps))
 
@@ -241,7 +241,7 @@ sum_wants_below {A} n =
     omega (arith, sum_wants-cons (layer_root (out-Node A n)) (map deeper below)))
 
 -- no tree takes in more than its leaves want
-step-wants : (level kids : ℕ) (k : Kind) (s ws : List ℕ) → sum s ≤ sum ws → sum (absorb_step level kids k s) ≤ sum (cons_option (leaf_want k) ws)
+step-wants : (level kids : ℕ) (k : NodeKind) (s ws : List ℕ) → sum s ≤ sum ws → sum (absorb_step level kids k s) ≤ sum (cons_option (leaf_want k) ws)
 step-wants level kids (Leaf want floor) s ws most =
     omega (arith, most, min-le_left want (max floor level), sum_by-cons (λ x. x) want ws, sum_by-cons (λ x. x) (min want (max floor level)) s)
 step-wants level kids (Branch None) s ws most =

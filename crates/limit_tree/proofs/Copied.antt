@@ -5,8 +5,8 @@ use Rattle.std.proofs.lemmas.List.{length-map}
 use Rattle.std.proofs.Math.Seq.{set-append_seam}
 use Rattle.std.proofs.lemmas.List.{at_drop_all}
 use Rattle.limit_tree.specs.Outline.{leaf_count, leaf_want, places, kids_of, kind_of, moved, root_place}
-use Rattle.limit_tree.specs.declared.place.Kind.{Kind}
-use Rattle.limit_tree.specs.declared.place.Kind.TheVariants.{Branch, Leaf}
+use Rattle.limit_tree.specs.declared.place.NodeKind.{NodeKind}
+use Rattle.limit_tree.specs.declared.place.NodeKind.TheVariants.{Branch, Leaf}
 use Rattle.limit_tree.specs.declared.place.Place.{Place}
 use Rattle.limit_tree.specs.declared.node.Node.{Node}
 use Rattle.limit_tree.proofs.Places.{places_of_all, length_places_out}
@@ -21,16 +21,16 @@ copied-start depth n node kids unseen was now is below =
     ap (λ (ps : List Place). ps ++ map (moved depth n) (places_of_all kids)) is ∙ ap (λ (ps : List Place). was ++ unseen ∷ [] ++ map (moved depth n) ps) (sym below)
 
 -- a branch tells what the trees below it tell, and a leaf its own number
-pub told-branch : {A : Type 0} (f : Kind → Option ℕ) (node : Node A) (kids : List (Node A)) (limit : Option ℕ) (was : List ℕ) → f (Branch limit) ≡ None → kind_of node ≡ Branch limit → places_of_all (kids_of node) ≡ places_of_all kids
+pub told-branch : {A : Type 0} (f : NodeKind → Option ℕ) (node : Node A) (kids : List (Node A)) (limit : Option ℕ) (was : List ℕ) → f (Branch limit) ≡ None → kind_of node ≡ Branch limit → places_of_all (kids_of node) ≡ places_of_all kids
     → was ++ told f (places_of_all kids) ≡ was ++ told f (places node)
 told-branch f node kids limit was none kind below =
-    ap (λ (ws : List ℕ). was ++ ws) (sym (told-out f node ∙ (ap (λ (k : Kind). cons_option (f k) (told f (places_of_all (kids_of node)))) kind ∙
+    ap (λ (ws : List ℕ). was ++ ws) (sym (told-out f node ∙ (ap (λ (k : NodeKind). cons_option (f k) (told f (places_of_all (kids_of node)))) kind ∙
     (ap (λ (o : Option ℕ). cons_option o (told f (places_of_all (kids_of node)))) none ∙ ap (told f) below))))
 
-pub told-leaf : {A : Type 0} (f : Kind → Option ℕ) (node : Node A) (want floor number : ℕ) (was now : List ℕ) → f (Leaf want floor) ≡ Some number → kind_of node ≡ Leaf want floor → places_of_all (kids_of node) ≡ []
+pub told-leaf : {A : Type 0} (f : NodeKind → Option ℕ) (node : Node A) (want floor number : ℕ) (was now : List ℕ) → f (Leaf want floor) ≡ Some number → kind_of node ≡ Leaf want floor → places_of_all (kids_of node) ≡ []
     → now ≡ was ++ number ∷ [] → now ≡ was ++ told f (places node)
 told-leaf f node want floor number was now own kind none is =
-    is ∙ ap (λ (ws : List ℕ). was ++ ws) (sym (told-out f node ∙ (ap (λ (k : Kind). cons_option (f k) (told f (places_of_all (kids_of node)))) kind ∙
+    is ∙ ap (λ (ws : List ℕ). was ++ ws) (sym (told-out f node ∙ (ap (λ (k : NodeKind). cons_option (f k) (told f (places_of_all (kids_of node)))) kind ∙
     (ap (λ (o : Option ℕ). cons_option o (told f (places_of_all (kids_of node)))) own ∙ ap (λ (ps : List Place). number ∷ told f ps) none))))
 
 -- nothing stands below a leaf

@@ -2,8 +2,8 @@
 use Rattle.std.proofs.Common.{◌≡◌, ℕ, ◌+◌, List, [], ◌∷◌, ◌++◌, map, length, get_or, drop, ◌<◌, refl, sym, ap, ◌∙◌, arith, Option, Some, None}
 use Rattle.limit_tree.specs.Outline.{leaf_count, deeper, behind, beside, places, layer_kind, kind_of, kids_of}
 use Rattle.limit_tree.specs.Faults.{node_fault, or_else, first_fault}
-use Rattle.limit_tree.specs.declared.place.Kind.{Kind}
-use Rattle.limit_tree.specs.declared.place.Kind.TheVariants.{Branch, Leaf}
+use Rattle.limit_tree.specs.declared.place.NodeKind.{NodeKind}
+use Rattle.limit_tree.specs.declared.place.NodeKind.TheVariants.{Branch, Leaf}
 use Rattle.limit_tree.specs.declared.place.Place.{Place}
 use Rattle.limit_tree.specs.declared.node.Node.{Node}
 use Rattle.limit_tree.specs.declared.fault.TreeFault.{TreeFault}
@@ -38,7 +38,7 @@ first_fault-append d n l (x ∷ p) q =
 pub first_fault-beside : (d n l : ℕ) (p : List Place) (ps : List (List Place)) → first_fault d n l (beside (p ∷ ps)) ≡ or_else (first_fault d n l p) (first_fault d (n + length p) (l + leaf_count p) (beside ps))
 first_fault-beside d n l p ps = first_fault-append d n l p _ ∙ ap (or_else (first_fault d n l p)) (first_fault-behind d (n + length p) l (leaf_count p) (beside ps))
 
-at_root : (d n l : ℕ) (k : Kind) (below : List Place) → or_else (node_fault (d + 0) n (l + 0) k) (first_fault d (n + 1) l (map deeper below)) ≡ or_else (node_fault d n l k) (first_fault (d + 1) (n + 1) l below)
+at_root : (d n l : ℕ) (k : NodeKind) (below : List Place) → or_else (node_fault (d + 0) n (l + 0) k) (first_fault d (n + 1) l (map deeper below)) ≡ or_else (node_fault d n l k) (first_fault (d + 1) (n + 1) l below)
 at_root d n l k below =
     let a : d + 0 ≡ d = omega arith in
     let b : l + 0 ≡ l = omega arith in

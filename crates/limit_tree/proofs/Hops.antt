@@ -6,8 +6,8 @@ use Rattle.std.proofs.lemmas.List.Sums.{sum_by-cons, sum_by-take-drop}
 use Rattle.limit_tree.specs.Outline.{limits, cut, absorb_step, absorb_stack, absorbed, first_or_zero}
 use Rattle.limit_tree.specs.Flat.{IsRow, HasRow, IsTreeAt, IsShaped, taken_in, taken_below}
 use Rattle.std.proofs.lemmas.Option.{slice_get_within}
-use Rattle.limit_tree.specs.declared.place.Kind.{Kind}
-use Rattle.limit_tree.specs.declared.place.Kind.TheVariants.{Branch, Leaf}
+use Rattle.limit_tree.specs.declared.place.NodeKind.{NodeKind}
+use Rattle.limit_tree.specs.declared.place.NodeKind.TheVariants.{Branch, Leaf}
 use Rattle.limit_tree.specs.declared.place.Place.{Place}
 use Rattle.limit_tree.proofs.Looks.{some_within}
 use Rattle.limit_tree.proofs.Absorbs.{stack-wants, sum_wants-drop}
@@ -18,8 +18,8 @@ drop-at [] k p e = absurd (cc)
 drop-at (x ∷ ps) zero p e = let same : x ≡ p = cc in ap (λ (y : Place). y ∷ ps) same
 drop-at (x ∷ ps) (suc k) p e = let next : suc k + 1 ≡ suc (k + 1) = omega arith in drop-at ps k p e ∙ ap (λ (n : ℕ). p ∷ drop n (x ∷ ps)) (sym next)
 
-stack-at : (level : ℕ) (ps : List Place) (k : ℕ) (p : Place) (kind : Kind) → slice_get ps k ≡ Some p → p.kind ≡ kind → absorb_stack level (drop k ps) ≡ absorb_step level p.kids kind (absorb_stack level (drop (k + 1) ps))
-stack-at level ps k p kind got is = ap (absorb_stack level) (drop-at ps k p got) ∙ ap (λ (x : Kind). absorb_step level p.kids x (absorb_stack level (drop (k + 1) ps))) is
+stack-at : (level : ℕ) (ps : List Place) (k : ℕ) (p : Place) (kind : NodeKind) → slice_get ps k ≡ Some p → p.kind ≡ kind → absorb_stack level (drop k ps) ≡ absorb_step level p.kids kind (absorb_stack level (drop (k + 1) ps))
+stack-at level ps k p kind got is = ap (absorb_stack level) (drop-at ps k p got) ∙ ap (λ (x : NodeKind). absorb_step level p.kids x (absorb_stack level (drop (k + 1) ps))) is
 
 pub absorbed-leaf : (level : ℕ) (ps : List Place) (k : ℕ) (p : Place) (want floor : ℕ) → slice_get ps k ≡ Some p → p.kind ≡ Leaf want floor → absorbed level ps k ≡ min want (max floor level)
 absorbed-leaf level ps k p want floor got is = ap first_or_zero (stack-at level ps k p (Leaf want floor) got is)
@@ -42,7 +42,7 @@ row-drop level ps fuel hops (suc n) at first last past row fits =
     ap (drop (suc n)) (hops at row.0 row.1 (omega (arith, next))) ∙
     row-drop level ps fuel hops n (at + row.0.nodes) (first + row.0.leaves) last past row.3 (omega arith)
 
-hop-kind : (level : ℕ) (ps : List Place) (fuel : ℕ) → Hops level ps fuel → (k : ℕ) (p : Place) → slice_get ps k ≡ Some p → p.nodes ≤ suc fuel → IsTreeAt ps k p → (kind : Kind) → p.kind ≡ kind → absorb_stack level (drop k ps) ≡ absorbed level ps k ∷ absorb_stack level (drop (k + p.nodes) ps)
+hop-kind : (level : ℕ) (ps : List Place) (fuel : ℕ) → Hops level ps fuel → (k : ℕ) (p : Place) → slice_get ps k ≡ Some p → p.nodes ≤ suc fuel → IsTreeAt ps k p → (kind : NodeKind) → p.kind ≡ kind → absorb_stack level (drop k ps) ≡ absorbed level ps k ∷ absorb_stack level (drop (k + p.nodes) ps)
 hop-kind level ps fuel hops k p got fits tree (Leaf want floor) is =
     let one = tree.leaf want floor is in
     stack-at level ps k p (Leaf want floor) got is ∙

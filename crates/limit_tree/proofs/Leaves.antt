@@ -7,8 +7,8 @@ use Rattle.std.proofs.lemmas.List.Sums.{sum_by-cons, sum_by-le}
 use Rattle.std.proofs.lemmas.Bool.{ltb-false}
 use Rattle.limit_tree.specs.Outline.{is_leaf_kind, own_floor, leaf_count, floor_sum, leaf_want, leaf_floor, deeper, behind}
 use Rattle.limit_tree.specs.Faults.{kind_fault, node_fault, or_else, first_fault}
-use Rattle.limit_tree.specs.declared.place.Kind.{Kind}
-use Rattle.limit_tree.specs.declared.place.Kind.TheVariants.{Branch, Leaf}
+use Rattle.limit_tree.specs.declared.place.NodeKind.{NodeKind}
+use Rattle.limit_tree.specs.declared.place.NodeKind.TheVariants.{Branch, Leaf}
 use Rattle.limit_tree.specs.declared.place.Place.{Place}
 use Rattle.limit_tree.specs.declared.bounds.TheConstants.{MAX_DEPTH, MAX_NODES, MAX_LEAVES, MAX_WANT}
 use Rattle.limit_tree.specs.declared.fault.TreeFault.{TreeFault}
@@ -29,15 +29,15 @@ pub floors_in-deeper : (p : List Place) → floors_in (map deeper p) ≡ floors_
 floors_in-deeper [] = refl
 floors_in-deeper (x ∷ p) = ap (cons_option (leaf_floor x.kind)) (floors_in-deeper p)
 
-length-want : (k : Kind) (ws : List ℕ) (n : ℕ) → length ws ≡ n → length (cons_option (leaf_want k) ws) ≡ own_leaves k + n
+length-want : (k : NodeKind) (ws : List ℕ) (n : ℕ) → length ws ≡ n → length (cons_option (leaf_want k) ws) ≡ own_leaves k + n
 length-want (Branch limit) ws n e = omega arith
 length-want (Leaf want floor) ws n e = omega arith
 
-length-floor : (k : Kind) (fs : List ℕ) (n : ℕ) → length fs ≡ n → length (cons_option (leaf_floor k) fs) ≡ own_leaves k + n
+length-floor : (k : NodeKind) (fs : List ℕ) (n : ℕ) → length fs ≡ n → length (cons_option (leaf_floor k) fs) ≡ own_leaves k + n
 length-floor (Branch limit) fs n e = omega arith
 length-floor (Leaf want floor) fs n e = omega arith
 
-sum-floor : (k : Kind) (fs : List ℕ) (n : ℕ) → sum fs ≡ n → sum (cons_option (leaf_floor k) fs) ≡ own_floor k + n
+sum-floor : (k : NodeKind) (fs : List ℕ) (n : ℕ) → sum fs ≡ n → sum (cons_option (leaf_floor k) fs) ≡ own_floor k + n
 sum-floor (Branch limit) fs n e = omega arith
 sum-floor (Leaf want floor) fs n e = omega (arith, sum_by-cons (λ x. x) floor fs)
 
@@ -62,7 +62,7 @@ no_fault : (b : Bool) (f : TreeFault) (o : Option TreeFault) → cond b (Some f)
 no_fault true f o e = absurd (cc)
 no_fault false f o e = (refl, e)
 
-own_part : (depth nodes leaves : ℕ) (k : Kind) → node_fault depth nodes leaves k ≡ None → kind_fault k ≡ None
+own_part : (depth nodes leaves : ℕ) (k : NodeKind) → node_fault depth nodes leaves k ≡ None → kind_fault k ≡ None
 own_part depth nodes leaves k h =
     let deep = no_fault (nat_lt MAX_DEPTH depth) TooDeep (if nat_le MAX_NODES nodes || (is_leaf_kind k && nat_le MAX_LEAVES leaves) then Some TooManyLeaves else kind_fault k) h in
     (no_fault (nat_le MAX_NODES nodes || (is_leaf_kind k && nat_le MAX_LEAVES leaves)) TooManyLeaves (kind_fault k) deep.1).1
@@ -101,7 +101,7 @@ sound_leaves d n l (p ∷ ps) e =
     let parts = or_else-parts (node_fault (d + p.depth) n (l + p.first) p.kind) (first_fault d (n + 1) l ps) e in
     go p.kind (own_part (d + p.depth) n (l + p.first) p.kind parts.0) (sound_leaves d (n + 1) l ps parts.1)
   where
-    go : (k : Kind) → kind_fault k ≡ None → AreSoundLeaves (wants_in ps) (floors_in ps) → AreSoundLeaves (cons_option (leaf_want k) (wants_in ps)) (cons_option (leaf_floor k) (floors_in ps))
+    go : (k : NodeKind) → kind_fault k ≡ None → AreSoundLeaves (wants_in ps) (floors_in ps) → AreSoundLeaves (cons_option (leaf_want k) (wants_in ps)) (cons_option (leaf_floor k) (floors_in ps))
     go (Branch limit) h rest = rest
     go (Leaf want floor) h rest = let own = sound_leaf want floor h in one_leaf_more want floor (wants_in ps) (floors_in ps) own.0 own.1 rest
 

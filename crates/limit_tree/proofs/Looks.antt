@@ -8,8 +8,8 @@ use Rattle.std.proofs.lemmas.Option.{slice_get_past}
 use Rattle.std.proofs.lemmas.List.Elements.{filter_map-append}
 use Rattle.limit_tree.specs.Sharing.{Branch as SharedBranch, IsBranch, IsFull, IsFullAbove, IsDeepestFull, sum_over}
 use Rattle.limit_tree.specs.Outline.{leaf_want, leaf_floor, leaf_range, branch_of, limits, IsFullPlace, IsFullOver}
-use Rattle.limit_tree.specs.declared.place.Kind.{Kind}
-use Rattle.limit_tree.specs.declared.place.Kind.TheVariants.{Branch, Leaf}
+use Rattle.limit_tree.specs.declared.place.NodeKind.{NodeKind}
+use Rattle.limit_tree.specs.declared.place.NodeKind.TheVariants.{Branch, Leaf}
 use Rattle.limit_tree.specs.declared.place.Place.{Place}
 use Rattle.limit_tree.proofs.Nested.{range_of}
 
@@ -28,16 +28,16 @@ slice_get-other (y ∷ xs) x (suc k) e = slice_get-other xs x k (λ p. e (omega 
 
 -- a leaf more, and a branch more
 pub wants-leaf : (seen : List Place) (p : Place) (want floor : ℕ) → p.kind ≡ Leaf want floor → (limits (seen ++ p ∷ [])).wants ≡ (limits seen).wants ++ want ∷ []
-wants-leaf seen p want floor e = filter_map-append (λ (x : Place). leaf_want x.kind) seen (p ∷ []) ∙ ap (λ (k : Kind). (limits seen).wants ++ cons_option (leaf_want k) []) e
+wants-leaf seen p want floor e = filter_map-append (λ (x : Place). leaf_want x.kind) seen (p ∷ []) ∙ ap (λ (k : NodeKind). (limits seen).wants ++ cons_option (leaf_want k) []) e
 
 pub floors-leaf : (seen : List Place) (p : Place) (want floor : ℕ) → p.kind ≡ Leaf want floor → (limits (seen ++ p ∷ [])).floors ≡ (limits seen).floors ++ floor ∷ []
-floors-leaf seen p want floor e = filter_map-append (λ (x : Place). leaf_floor x.kind) seen (p ∷ []) ∙ ap (λ (k : Kind). (limits seen).floors ++ cons_option (leaf_floor k) []) e
+floors-leaf seen p want floor e = filter_map-append (λ (x : Place). leaf_floor x.kind) seen (p ∷ []) ∙ ap (λ (k : NodeKind). (limits seen).floors ++ cons_option (leaf_floor k) []) e
 
 pub wants-branch : (seen : List Place) (p : Place) (limit : Option ℕ) → p.kind ≡ Branch limit → (limits (seen ++ p ∷ [])).wants ≡ (limits seen).wants
-wants-branch seen p limit e = filter_map-append (λ (x : Place). leaf_want x.kind) seen (p ∷ []) ∙ (ap (λ (k : Kind). (limits seen).wants ++ cons_option (leaf_want k) []) e ∙ append-nil (limits seen).wants)
+wants-branch seen p limit e = filter_map-append (λ (x : Place). leaf_want x.kind) seen (p ∷ []) ∙ (ap (λ (k : NodeKind). (limits seen).wants ++ cons_option (leaf_want k) []) e ∙ append-nil (limits seen).wants)
 
 pub floors-branch : (seen : List Place) (p : Place) (limit : Option ℕ) → p.kind ≡ Branch limit → (limits (seen ++ p ∷ [])).floors ≡ (limits seen).floors
-floors-branch seen p limit e = filter_map-append (λ (x : Place). leaf_floor x.kind) seen (p ∷ []) ∙ (ap (λ (k : Kind). (limits seen).floors ++ cons_option (leaf_floor k) []) e ∙ append-nil (limits seen).floors)
+floors-branch seen p limit e = filter_map-append (λ (x : Place). leaf_floor x.kind) seen (p ∷ []) ∙ (ap (λ (k : NodeKind). (limits seen).floors ++ cons_option (leaf_floor k) []) e ∙ append-nil (limits seen).floors)
 
 at_place : Option Place → Option SharedBranch
 at_place o = option_and_then (λ (x : Place). branch_of x.kind x.first x.leaves) o
@@ -64,7 +64,7 @@ branch_last seen p b is = ap (option_and_then (λ (x : Place). branch_of x.kind 
 pub full-place : (p : Place) (limit sum : ℕ) (g : List ℕ) → p.kind ≡ Branch (Some limit) → sum ≡ sum_over (leaf_range p.first p.leaves) g → sum ≡ limit → IsFullPlace p g
 full-place p limit sum g kind is same = (
   record { limit = Some limit; holds = leaf_range p.first p.leaves },
-  ap (λ (k : Kind). branch_of k p.first p.leaves) kind,
+  ap (λ (k : NodeKind). branch_of k p.first p.leaves) kind,
   ap (λ (n : ℕ). Some n) (sym same ∙ is),
 )
 
@@ -73,7 +73,7 @@ some_nat a b e = cc
 
 pub full-place-sum : (p : Place) (limit sum : ℕ) (g : List ℕ) → p.kind ≡ Branch (Some limit) → sum ≡ sum_over (leaf_range p.first p.leaves) g → IsFullPlace p g → sum ≡ limit
 full-place-sum p limit sum g kind is full =
-    go full.0 (sym (ap (λ (k : Kind). branch_of k p.first p.leaves) kind) ∙ full.1) full.2
+    go full.0 (sym (ap (λ (k : NodeKind). branch_of k p.first p.leaves) kind) ∙ full.1) full.2
   where
     limit_in : Option SharedBranch → Option ℕ
     limit_in o = option_and_then (λ (b : SharedBranch). b.limit) o

@@ -1,8 +1,8 @@
 -- Nodes further down and behind more leaves.
 use Rattle.std.proofs.Common.{◌≡◌, ℕ, ◌+◌, ◌<◌, List, [], ◌∷◌, ◌++◌, map, length, get_or, drop, refl, ap, ◌∙◌, arith}
 use Rattle.std.proofs.lemmas.List.{map-append}
-use Rattle.limit_tree.specs.declared.place.Kind.{Kind}
-use Rattle.limit_tree.specs.declared.place.Kind.TheVariants.{Branch, Leaf}
+use Rattle.limit_tree.specs.declared.place.NodeKind.{NodeKind}
+use Rattle.limit_tree.specs.declared.place.NodeKind.TheVariants.{Branch, Leaf}
 use Rattle.limit_tree.specs.declared.place.Place.{Place}
 use Rattle.limit_tree.specs.Outline.{leaf_count, floor_sum, own_floor, deeper, behind, moved, places, root_place, layer_kind, layer_kids, kids_of}
 use Rattle.limit_tree.specs.declared.node.Node.{Node}
@@ -43,10 +43,10 @@ leaf_count-moved d f [] = refl
 leaf_count-moved d f (x ∷ q) = omega (arith, leaf_count-moved d f q, leaf_count-cons x q, leaf_count-cons (moved d f x) (map (moved d f) q))
 
 -- a place from its numbers
-abbrev place_from : ℕ → ℕ → ℕ → ℕ → ℕ → ℕ → Kind → Place
+abbrev place_from : ℕ → ℕ → ℕ → ℕ → ℕ → ℕ → NodeKind → Place
 place_from depth first leaves nodes kids floors kind = record { depth = depth; first = first; leaves = leaves; nodes = nodes; kids = kids; floors = floors; kind = kind }
 
-same_place : (a b c d e a' b' c' d' e' kids : ℕ) (k : Kind) → a ≡ a' → b ≡ b' → c ≡ c' → d ≡ d' → e ≡ e' → place_from a b c d kids e k ≡ place_from a' b' c' d' kids e' k
+same_place : (a b c d e a' b' c' d' e' kids : ℕ) (k : NodeKind) → a ≡ a' → b ≡ b' → c ≡ c' → d ≡ d' → e ≡ e' → place_from a b c d kids e k ≡ place_from a' b' c' d' kids e' k
 same_place a b c d e a' b' c' d' e' kids k p q r s t =
     ap (λ (x : ℕ). place_from x b c d kids e k) p ∙
     (ap (λ (x : ℕ). place_from a' x c d kids e k) q ∙

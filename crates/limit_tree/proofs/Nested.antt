@@ -11,8 +11,8 @@ use Rattle.std.proofs.lemmas.Option.{slice_get_past}
 use Rattle.limit_tree.specs.Sharing.{Branch as SharedBranch, IsBranch, HasNestedBranches, IsInside}
 use Rattle.limit_tree.specs.Outline.{leaf_count, leaf_floor, leaf_range, branch_of, limits, deeper, behind, places, layer_kids, leaf_alone, branch_over}
 use Rattle.limit_tree.specs.Laws.{LaterIsInside}
-use Rattle.limit_tree.specs.declared.place.Kind.{Kind}
-use Rattle.limit_tree.specs.declared.place.Kind.TheVariants.{Branch, Leaf}
+use Rattle.limit_tree.specs.declared.place.NodeKind.{NodeKind}
+use Rattle.limit_tree.specs.declared.place.NodeKind.TheVariants.{Branch, Leaf}
 use Rattle.limit_tree.specs.declared.place.Place.{Place}
 use Rattle.limit_tree.specs.declared.node.Node.{Node}
 use Rattle.limit_tree.specs.declared.node.Node.TheOpen.{Node-F}
@@ -216,7 +216,7 @@ summed-roll x kids = subst IsSummed (sym (places_roll x)) (summed-layer x kids)
 pub summed-tree : {A : Type 0} (n : Node A) → IsSummedTree n
 summed-tree {A} = ind-Node A IsSummedTree (λ x y is. summed-roll x (subst KidsSummed is (elim y as (λ z. KidsSummed (map-Node A ((n : Node A) × IsSummedTree n) (Node A) (λ e. e.0) z)) [ LeafOf want floor ↦ summed-nothing | BranchOf limit kids ↦ summed-all kids.items ])))
 
-pub range_of : (k : Kind) (first leaves : ℕ) (b : SharedBranch) → branch_of k first leaves ≡ Some b → ((i : ℕ) → b.holds i ≡ leaf_range first leaves i) × ((k ≡ Branch b.limit))
+pub range_of : (k : NodeKind) (first leaves : ℕ) (b : SharedBranch) → branch_of k first leaves ≡ Some b → ((i : ℕ) → b.holds i ≡ leaf_range first leaves i) × ((k ≡ Branch b.limit))
 range_of (Leaf want floor) first leaves b e = absurd (cc)
 range_of (Branch limit) first leaves b e = (λ i. ap (λ (o : SharedBranch). o.holds i) (sym (some_same e)), ap (λ (o : SharedBranch). Branch o.limit) (some_same e))
   where

@@ -1,7 +1,7 @@
 -- The first branch above whose limit the floors are, of trees side by side, and of a tree under its root.
 use Rattle.std.proofs.Common.{◌≡◌, ℕ, ◌+◌, List, [], ◌∷◌, ◌++◌, map, length, get_or, drop, ◌<◌, refl, sym, ap, ◌∙◌, arith, Option, Some, None}
 use Rattle.limit_tree.specs.Outline.{own_floor, leaf_count, floor_sum, deeper, behind, places, layer_kind, layer_kids, kind_of, kids_of}
-use Rattle.limit_tree.specs.declared.place.Kind.TheVariants.{Branch}
+use Rattle.limit_tree.specs.declared.place.NodeKind.TheVariants.{Branch}
 use Rattle.limit_tree.specs.Faults.{or_else, over_limit, first_over}
 use Rattle.limit_tree.specs.declared.place.Place.{Place}
 use Rattle.limit_tree.specs.declared.node.Node.{Node}

@@ -3,7 +3,7 @@ use Rattle.std.proofs.Common.{◌≡◌, ℕ, ◌+◌, cond, List, [], ◌∷◌
 use Rattle.std.proofs.Math.Seq.{drop-cons}
 use Rattle.std.proofs.lemmas.List.{length-map}
 use Rattle.std.proofs.lemmas.List.Sums.{sum_by-append, sum_by-cons}
-use Rattle.limit_tree.specs.declared.place.Kind.{Kind}
+use Rattle.limit_tree.specs.declared.place.NodeKind.{NodeKind}
 use Rattle.limit_tree.specs.declared.place.Place.{Place}
 use Rattle.limit_tree.specs.Outline.{is_leaf_kind, own_floor, leaf_count, floor_sum, deeper, behind, beside, leaf_alone, branch_over, place_step, places, layer_kind, layer_kids, kind_of, kids_of}
 use Rattle.limit_tree.specs.declared.node.Node.{Node}
@@ -17,7 +17,7 @@ abbrev pub places_of_all : {A : Type 0} → List (Node A) → List Place
 places_of_all kids = beside (map places kids)
 
 -- what a node by itself adds to the leaves and the floors
-abbrev pub own_leaves : Kind → ℕ
+abbrev pub own_leaves : NodeKind → ℕ
 own_leaves kind = cond (is_leaf_kind kind) 1 0
 
 abbrev leaf_of : Place → ℕ

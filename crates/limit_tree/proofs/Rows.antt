@@ -9,8 +9,8 @@ use Rattle.std.proofs.lemmas.List.Elements.{filter_map-append}
 use Rattle.limit_tree.specs.Sharing.{sum_below, sum_over, IsBranch}
 use Rattle.limit_tree.specs.Outline.{limits, leaf_count, leaf_want, leaf_floor, leaf_range, branch_of, absorbed, cut}
 use Rattle.limit_tree.specs.Flat.{IsRow, IsShaped, IsFlat, taken_in, taken_below}
-use Rattle.limit_tree.specs.declared.place.Kind.{Kind}
-use Rattle.limit_tree.specs.declared.place.Kind.TheVariants.{Branch, Leaf}
+use Rattle.limit_tree.specs.declared.place.NodeKind.{NodeKind}
+use Rattle.limit_tree.specs.declared.place.NodeKind.TheVariants.{Branch, Leaf}
 use Rattle.limit_tree.specs.declared.place.Place.{Place}
 use Rattle.limit_tree.proofs.Sums.{sum_in}
 use Rattle.limit_tree.proofs.RangeSums.{sum_in-range_none, sum_in-range_more, sum_in-range_all}
@@ -34,10 +34,10 @@ leaf_numbers ps k p want floor shaped got kind = (
     parts = sym (take-append-drop k ps) ∙ ap (λ (qs : List Place). take k ps ++ qs) (drop-at ps k p got)
 
     wants : wants_in ps ≡ wants_in (take k ps) ++ want ∷ wants_in rest
-    wants = ap wants_in parts ∙ (filter_map-append (λ (x : Place). leaf_want x.kind) (take k ps) (p ∷ rest) ∙ ap (λ (x : Kind). wants_in (take k ps) ++ cons_option (leaf_want x) (wants_in rest)) kind)
+    wants = ap wants_in parts ∙ (filter_map-append (λ (x : Place). leaf_want x.kind) (take k ps) (p ∷ rest) ∙ ap (λ (x : NodeKind). wants_in (take k ps) ++ cons_option (leaf_want x) (wants_in rest)) kind)
 
     floors : floors_in ps ≡ floors_in (take k ps) ++ floor ∷ floors_in rest
-    floors = ap floors_in parts ∙ (filter_map-append (λ (x : Place). leaf_floor x.kind) (take k ps) (p ∷ rest) ∙ ap (λ (x : Kind). floors_in (take k ps) ++ cons_option (leaf_floor x) (floors_in rest)) kind)
+    floors = ap floors_in parts ∙ (filter_map-append (λ (x : Place). leaf_floor x.kind) (take k ps) (p ∷ rest) ∙ ap (λ (x : NodeKind). floors_in (take k ps) ++ cons_option (leaf_floor x) (floors_in rest)) kind)
 
 -- the sum of the first numbers of a list
 abbrev pub sum_first : List ℕ → ℕ → ℕ
@@ -71,7 +71,7 @@ row-floors ps fuel shaped most (suc n) at first last past row fits =
     let to : sum_first (limits ps).floors (p.first + p.leaves) ≡ sum_first (limits ps).floors (first + p.leaves) = ap (λ (x : ℕ). sum_first (limits ps).floors (x + p.leaves)) row.2 in
     omega (arith, one, from, to, taken-more 0 ps at n p shaped row.1, row-floors ps fuel shaped most n (at + p.nodes) (first + p.leaves) last past row.3 (omega arith))
 
-kind-floors : (ps : List Place) (fuel : ℕ) → IsShaped ps → AtMostFloors ps fuel → (k : ℕ) (p : Place) → slice_get ps k ≡ Some p → p.nodes ≤ suc fuel → (kind : Kind) → p.kind ≡ kind → absorbed 0 ps k + sum_first (limits ps).floors p.first ≤ sum_first (limits ps).floors (p.first + p.leaves)
+kind-floors : (ps : List Place) (fuel : ℕ) → IsShaped ps → AtMostFloors ps fuel → (k : ℕ) (p : Place) → slice_get ps k ≡ Some p → p.nodes ≤ suc fuel → (kind : NodeKind) → p.kind ≡ kind → absorbed 0 ps k + sum_first (limits ps).floors p.first ≤ sum_first (limits ps).floors (p.first + p.leaves)
 kind-floors ps fuel shaped most k p got fits (Leaf want floor) is =
     let one = (shaped k p got).leaf want floor is in
     let ends : p.first + p.leaves ≡ suc p.first = omega (arith, one.1) in
@@ -91,7 +91,7 @@ at_most-floors ps (suc fuel) shaped = λ k p got fits. kind-floors ps fuel shape
 
 -- a node of the kind of a branch is one
 pub is_branch : (ps : List Place) (k : ℕ) (p : Place) (most : ℕ) → slice_get ps k ≡ Some p → p.kind ≡ Branch (Some most) → IsBranch (limits ps) k (record { limit = Some most; holds = leaf_range p.first p.leaves })
-is_branch ps k p most got kind = ap (option_and_then (λ (x : Place). branch_of x.kind x.first x.leaves)) got ∙ ap (λ (x : Kind). branch_of x p.first p.leaves) kind
+is_branch ps k p most got kind = ap (option_and_then (λ (x : Place). branch_of x.kind x.first x.leaves)) got ∙ ap (λ (x : NodeKind). branch_of x p.first p.leaves) kind
 
 -- so that the kids of a branch keep its limit at level 0
 pub taken-floors : (ps : List Place) (k : ℕ) (p : Place) (most : ℕ) → IsFlat ps → slice_get ps k ≡ Some p → p.kind ≡ Branch (Some most) → taken_below 0 ps k ≤ most

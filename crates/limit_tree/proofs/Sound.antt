@@ -8,8 +8,8 @@ use Rattle.std.proofs.lemmas.List.{get_or-drop}
 use Rattle.limit_tree.specs.Sharing.{IsLimited, sum_over, IsLimitTree}
 use Rattle.limit_tree.specs.Outline.{leaf_count, floor_sum, leaf_range, limits, places}
 use Rattle.limit_tree.specs.Faults.{or_else, over_limit, first_over, first_fault, tree_fault, IsSound}
-use Rattle.limit_tree.specs.declared.place.Kind.{Kind}
-use Rattle.limit_tree.specs.declared.place.Kind.TheVariants.{Branch, Leaf}
+use Rattle.limit_tree.specs.declared.place.NodeKind.{NodeKind}
+use Rattle.limit_tree.specs.declared.place.NodeKind.TheVariants.{Branch, Leaf}
 use Rattle.limit_tree.specs.declared.place.Place.{Place}
 use Rattle.limit_tree.specs.declared.node.Node.{Node}
 use Rattle.limit_tree.specs.declared.fault.TreeFault.{TreeFault}
@@ -55,7 +55,7 @@ none_over n (x ∷ ps) e zero p got m =
     is_first : slice_get (x ∷ ps) 0 ≡ Some p → x ≡ p
     is_first got = cc
 
-    none_at : (n m floors : ℕ) (k : Kind) → over_limit n floors k ≡ None → over_limit m floors k ≡ None
+    none_at : (n m floors : ℕ) (k : NodeKind) → over_limit n floors k ≡ None → over_limit m floors k ≡ None
     none_at n m floors (Leaf want floor) e = refl
     none_at n m floors (Branch None) e = refl
     none_at n m floors (Branch (Some limit)) e = go (nat_lt limit floors) e
@@ -79,7 +79,7 @@ floors-limited : (outline : List Place) → IsOrdered outline (leaf_count outlin
 floors-limited outline ordered summed none k most b is limited =
     let at : IsPlaceOf outline k b = branch_place outline k b is in
     let kind : at.place.kind ≡ Branch (Some most) = at.kind ∙ ap Branch limited in
-    let fits : at.place.floors ≤ most = within_limit 0 at.place.floors most (subst (λ (o : Kind). over_limit 0 at.place.floors o ≡ None) kind (none_over 0 outline none k at.place at.found 0)) in
+    let fits : at.place.floors ≤ most = within_limit 0 at.place.floors most (subst (λ (o : NodeKind). over_limit 0 at.place.floors o ≡ None) kind (none_over 0 outline none k at.place at.found 0)) in
     let range : at.place.first + at.place.leaves ≤ length (floors_in outline) = omega (arith, ordered.bounded k at.place at.found, length-floors_in outline) in
     let part : sum_over b.holds (floors_in outline) ≡ at.place.floors =
     sum_in-same (length (floors_in outline)) b.holds (leaf_range at.place.first at.place.leaves) (λ i. slice_index (floors_in outline) i) at.holds ∙

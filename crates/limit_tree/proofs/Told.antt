@@ -3,8 +3,8 @@ use Rattle.std.proofs.Common.{◌≡◌, ℕ, ◌+◌, ◌<◌, List, [], ◌∷
 use Rattle.std.specs.List.{filter_map, cons_option}
 use Rattle.std.proofs.lemmas.List.Elements.{filter_map-append}
 use Rattle.limit_tree.specs.Outline.{leaf_count, deeper, behind, places, kind_of, kids_of, layer_kind}
-use Rattle.limit_tree.specs.declared.place.Kind.{Kind}
-use Rattle.limit_tree.specs.declared.place.Kind.TheVariants.{Branch, Leaf}
+use Rattle.limit_tree.specs.declared.place.NodeKind.{NodeKind}
+use Rattle.limit_tree.specs.declared.place.NodeKind.TheVariants.{Branch, Leaf}
 use Rattle.limit_tree.specs.declared.place.Place.{Place}
 use Rattle.limit_tree.specs.declared.node.Node.{Node}
 use Rattle.limit_tree.specs.declared.node.Node.TheOpen.{Node-F}
@@ -13,19 +13,19 @@ use Rattle.limit_tree.specs.declared.node.Node.TheViews.{out-Node}
 use Rattle.limit_tree.proofs.Places.{places_of_all, places_of_all-drop, layer_root, places_out}
 
 -- a number of each leaf
-abbrev pub told : (Kind → Option ℕ) → List Place → List ℕ
+abbrev pub told : (NodeKind → Option ℕ) → List Place → List ℕ
 told f ps = filter_map (λ (p : Place). f p.kind) ps
 
-told-behind : (f : Kind → Option ℕ) (n : ℕ) (p : List Place) → told f (map (behind n) p) ≡ told f p
+told-behind : (f : NodeKind → Option ℕ) (n : ℕ) (p : List Place) → told f (map (behind n) p) ≡ told f p
 told-behind f n [] = refl
 told-behind f n (x ∷ p) = ap (cons_option (f x.kind)) (told-behind f n p)
 
-told-deeper : (f : Kind → Option ℕ) (p : List Place) → told f (map deeper p) ≡ told f p
+told-deeper : (f : NodeKind → Option ℕ) (p : List Place) → told f (map deeper p) ≡ told f p
 told-deeper f [] = refl
 told-deeper f (x ∷ p) = ap (cons_option (f x.kind)) (told-deeper f p)
 
 -- the trees from the i-th kid on
-pub told-more : {A : Type 0} (f : Kind → Option ℕ) (kids : List (Node A)) (i : ℕ) (kid : Node A) → i < length kids → kid ≡ get_or kids i kid → told f (places_of_all (drop i kids)) ≡ told f (places kid) ++ told f (places_of_all (drop (i + 1) kids))
+pub told-more : {A : Type 0} (f : NodeKind → Option ℕ) (kids : List (Node A)) (i : ℕ) (kid : Node A) → i < length kids → kid ≡ get_or kids i kid → told f (places_of_all (drop i kids)) ≡ told f (places kid) ++ told f (places_of_all (drop (i + 1) kids))
 told-more {A} f kids i kid less is =
     let others = places_of_all (drop (i + 1) kids) in
     ap (told f) (places_of_all-drop kids i kid less is) ∙
@@ -33,7 +33,7 @@ told-more {A} f kids i kid less is =
     ap (λ (ws : List ℕ). told f (places kid) ++ ws) (told-behind f (leaf_count (places kid)) others))
 
 -- a tree, from the trees below its root
-pub told-out : {A : Type 0} (f : Kind → Option ℕ) (n : Node A) → told f (places n) ≡ cons_option (f (kind_of n)) (told f (places_of_all (kids_of n)))
+pub told-out : {A : Type 0} (f : NodeKind → Option ℕ) (n : Node A) → told f (places n) ≡ cons_option (f (kind_of n)) (told f (places_of_all (kids_of n)))
 told-out {A} f n = ap (told f) (places_out n) ∙ go (out-Node A n)
   where
     go : (x : Node-F A (Node A)) → told f (layer_root x ∷ map deeper (places_of_all (kids_of n))) ≡ cons_option (f (layer_kind x)) (told f (places_of_all (kids_of n)))
@@ -41,7 +41,7 @@ told-out {A} f n = ap (told f) (places_out n) ∙ go (out-Node A n)
     go (BranchOf limit kids) = ap (cons_option (f (Branch limit))) (told-deeper f (places_of_all (kids_of n)))
 
 -- one kid more in a table
-pub table-more : {A : Type 0} (f : Kind → Option ℕ) (kids : List (Node A)) (i : ℕ) (kid : Node A) (was now all : List ℕ) → i < length kids → kid ≡ get_or kids i kid → now ≡ was ++ told f (places kid) → was ++ told f (places_of_all (drop i kids)) ≡ all → now ++ told f (places_of_all (drop (i + 1) kids)) ≡ all
+pub table-more : {A : Type 0} (f : NodeKind → Option ℕ) (kids : List (Node A)) (i : ℕ) (kid : Node A) (was now all : List ℕ) → i < length kids → kid ≡ get_or kids i kid → now ≡ was ++ told f (places kid) → was ++ told f (places_of_all (drop i kids)) ≡ all → now ++ told f (places_of_all (drop (i + 1) kids)) ≡ all
 table-more f kids i kid was now all less is more before =
     ap (λ (ws : List ℕ). ws ++ told f (places_of_all (drop (i + 1) kids))) more ∙
     (append_assoc was (told f (places kid)) (told f (places_of_all (drop (i + 1) kids))) ∙

@@ -1,9 +1,9 @@
--- How the numbers of a tree's nodes and their depths go together.
+-- Numbers and depths of a tree's nodes.
 use Rattle.std.specs.Prelude.{◌≡◌, ℕ, ◌<◌, List, Some, IsTrue, slice_get}
 use Rattle.limit_tree.specs.Outline.{leaf_range}
 use Rattle.limit_tree.specs.declared.place.Place.{Place}
 
--- Of two nodes with a common leaf the one of the larger number stands deeper.
+-- Of two nodes with a common leaf, the one with the larger number is deeper.
 abbrev pub LaterIsDeeper : List Place → Type 0
 LaterIsDeeper outline =
     (j k i : ℕ) (p q : Place) → slice_get outline j ≡ Some p → slice_get outline k ≡ Some q → j < k →

@@ -1,32 +1,32 @@
--- The shape of a tree's nodes in preorder, and what trees side by side take in.
+-- The shape of a tree's nodes in preorder, and what trees side by side absorb.
 use Rattle.std.specs.Prelude.{◌≡◌, ℕ, zero, suc, ◌+◌, ◌*◌, ◌<◌, ◌≤◌, List, length, slice_get, slice_index, sum, take, drop, Some, Option, unwrap_or}
 use Rattle.std.specs.Option.{option_map}
 use Rattle.limit_tree.specs.Sharing.{IsLimitTree}
 use Rattle.limit_tree.specs.Outline.{leaf_count, limits, absorb_stack}
 use Rattle.limit_tree.specs.Laws.{LaterIsInside}
-use Rattle.limit_tree.specs.declared.place.Kind.TheVariants.{Branch, Leaf}
+use Rattle.limit_tree.specs.declared.place.NodeKind.TheVariants.{Branch, Leaf}
 use Rattle.limit_tree.specs.declared.place.Place.{Place}
 use Rattle.limit_tree.specs.declared.bounds.TheConstants.{MAX_NODES, MAX_LEAVES, MAX_WANT}
 
--- what so many trees side by side, the first of which has a number, take in up to a level
+-- sum of the octets that `trees` trees side by side, the first of them at node `at`, absorb up to `level`
 abbrev pub taken_in : ℕ → List Place → ℕ → ℕ → ℕ
 taken_in level outline at trees = sum (take trees (absorb_stack level (drop at outline)))
 
--- and what the kids of the node of a number do
+-- sum of the octets that the kids of a node absorb up to `level`
 abbrev pub taken_below : ℕ → List Place → ℕ → ℕ
 taken_below level outline node = taken_in level outline (node + 1) (unwrap_or (option_map (λ p. p.kids) (slice_get outline node)) 0)
 
--- So many trees side by side: the first of them has a node's number and begins with a leaf's, and behind the
--- last of them come the next node and the next leaf.
+-- A row of trees side by side: the first begins at node `at` and leaf `first`; the node after the last is
+-- `last`, and the leaf after the last is `past`.
 abbrev pub IsRow : List Place → ℕ → ℕ → ℕ → ℕ → ℕ → Type 0
 IsRow outline at first zero last past = (at ≡ last) × (first ≡ past)
 IsRow outline at first (suc trees) last past = (p : Place) × (slice_get outline at ≡ Some p) × (p.first ≡ first) × IsRow outline (at + p.nodes) (first + p.leaves) trees last past
 
--- the same, wherever they end
+-- the same, for some end
 abbrev pub HasRow : List Place → ℕ → ℕ → Type 0
 HasRow outline at trees = (first : ℕ) × (last : ℕ) × (past : ℕ) × IsRow outline at first trees last past
 
--- The node of a number: a leaf is one node, and the trees of a branch's kids are all the nodes below it.
+-- The tree of node `k`: a leaf is one node, and the trees of a branch's kids are all the nodes below it.
 pub record IsTreeAt (outline : List Place) (k : ℕ) (p : Place) : Type 0 where
   pub some : 1 ≤ p.nodes
   pub inside : k + p.nodes ≤ length outline
@@ -37,7 +37,7 @@ pub record IsTreeAt (outline : List Place) (k : ℕ) (p : Place) : Type 0 where
 abbrev pub IsShaped : List Place → Type 0
 IsShaped outline = (k : ℕ) (p : Place) → slice_get outline k ≡ Some p → IsTreeAt outline k p
 
--- What is known of the nodes of a tree without a fault.
+-- The properties of the nodes of a tree without a fault.
 pub record IsFlat (outline : List Place) : Type 0 where
   pub shaped : IsShaped outline
   pub root : IsRow outline 0 0 1 (length outline) (length (limits outline).wants)

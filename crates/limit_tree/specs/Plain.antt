@@ -1,4 +1,4 @@
--- The definitions of sharing without floors, as the field has them.
+-- The definitions of sharing without floors, as they are usual in the field.
 use Rattle.std.specs.Prelude.{◌≡◌, ℕ, ◌+◌, ◌<◌, ◌↔◌, List, length, Option, Some, IsTrue, slice_index, slice_get}
 use Rattle.limit_tree.specs.Sharing.{Branch, LimitTree, IsBranch, IsWanted, IsLimited, IsWithin, IsAscending, IsGreater, IsBest, IsFull, IsUnmet, IsBackedBy}
 
@@ -6,7 +6,7 @@ use Rattle.limit_tree.specs.Sharing.{Branch, LimitTree, IsBranch, IsWanted, IsLi
 abbrev pub HasNoFloors : LimitTree → Type 0
 HasNoFloors t = (i : ℕ) → slice_index t.floors i ≡ 0
 
--- each leaf has at most its want, and each branch with a limit at most that
+-- each leaf has at most its want, and each branch at most its limit, if it has one
 pub record IsPlainWithin (t : LimitTree) (g : List ℕ) : Type 0 where
   pub wanted : IsWanted t g
   pub limits : IsLimited t g
@@ -16,7 +16,7 @@ pub record IsPlainBest (t : LimitTree) (g : List ℕ) : Type 0 where
   pub within : IsPlainWithin t g
   pub greatest : (h sorted_g sorted_h : List ℕ) → IsPlainWithin t h → IsAscending g sorted_g → IsAscending h sorted_h → IsGreater sorted_g sorted_h → ⊥
 
--- the branch is full and holds the leaf, and no grant in it exceeds that of the leaf by two or more
+-- the branch is full and holds leaf i, and no grant in it exceeds that of leaf i by two or more
 pub record IsPlainBottleneck (b : Branch) (g : List ℕ) (i : ℕ) : Type 0 where
   pub full : IsFull b g
   pub holds : IsTrue (b.holds i)
@@ -27,7 +27,7 @@ pub record IsPlainBackedBy (t : LimitTree) (g : List ℕ) (c : List (Option ℕ)
   pub leaves : length c ≡ length t.wants
   pub backed : (i : ℕ) → i < length g → IsUnmet t g i → (k : ℕ) × (b : Branch) × (slice_get c i ≡ Some (Some k)) × IsBranch t k b × IsPlainBottleneck b g i
 
--- Without floors the definitions are the plain ones.
+-- Without floors, the definitions are the plain ones.
 pub record IsPlain (t : LimitTree) (g : List ℕ) : Type 0 where
   pub within : IsWithin t g ↔ IsPlainWithin t g
   pub best : IsBest t g ↔ IsPlainBest t g

@@ -1,4 +1,4 @@
--- What a size counts.
+-- The size of a tree.
 use Rattle.std.specs.Prelude.{◌≡◌, List, length}
 use Rattle.limit_tree.specs.declared.place.Place.{Place}
 use Rattle.limit_tree.specs.declared.size.Size.{Size}

@@ -1,13 +1,13 @@
-//! What a tree, or a node in it, takes in up to a level.
+//! Octets that a tree, or one of its nodes, absorbs up to a level.
 ghost use Rattle.std.specs.Prelude.{◌≡◌, ◌<◌, ◌≤◌, ◌^◌, length, sum, IfErr, IfOk};
 ghost use Rattle.limit_tree.specs.Outline.{places, limits, absorb_stack, absorbed, cut, first_or_zero};
 
 use super::node::Node;
 use std::alloc::Allocator;
 
-/// What a tree takes in up to a level, in octets: a leaf the level, or its floor where that is greater, but at
-/// most its want; a branch what its kids take in, cut to its limit.
-pub fn absorb_tree<A: Allocator>(node: &Node<A>, level: u64) -> u64
+/// Octets that a tree absorbs up to a level: a leaf the level, at least its floor and at most its want; a
+/// branch the sum of what its kids absorb, cut to its limit.
+pub(crate) fn absorb_tree<A: Allocator>(node: &Node<A>, level: u64) -> u64
     requires wants { sum (limits (places node.now)).wants < 2 ^ 63 }
     ensures absorbed { result ≡ first_or_zero (absorb_stack level (places node.now)) }
     ensures most { result ≤ sum (limits (places node.now)).wants }
@@ -24,9 +24,13 @@ pub fn absorb_tree<A: Allocator>(node: &Node<A>, level: u64) -> u64
     }
 }
 
-/// What the node of a number takes in up to a level, in octets, or else how many nodes the tree has. The
-/// root has the number 0.
-pub fn absorb_in<A: Allocator>(node: &Node<A>, number: usize, level: u64) -> Result<u64, usize>
+/// Octets that node `number` absorbs up to a level; `Err` with the number of nodes in the tree if there is no
+/// such node. The root is node 0.
+pub(crate) fn absorb_in<A: Allocator>(
+    node: &Node<A>,
+    number: usize,
+    level: u64,
+) -> Result<u64, usize>
     requires nodes { length (places node.now) < 2 ^ 63 }
     requires wants { sum (limits (places node.now)).wants < 2 ^ 63 }
     ensures absorbed { IfOk result (λ octets. octets ≡ absorbed level (places node.now) number) }
@@ -53,8 +57,8 @@ pub fn absorb_in<A: Allocator>(node: &Node<A>, number: usize, level: u64) -> Res
     }
 }
 
-/// At most a limit, if there is one.
-pub fn at_most(limit: Option<u64>, octets: u64) -> u64
+/// Cuts octets to a limit, if there is one.
+pub(crate) fn at_most(limit: Option<u64>, octets: u64) -> u64
     ensures cut { result ≡ cut limit octets }
 {
     match limit {

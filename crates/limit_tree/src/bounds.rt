@@ -1,12 +1,12 @@
-//! The numbers that a tree keeps.
+//! Bounds of a tree's numbers.
 
-/// How deep a node may stand; the root stands at depth 0.
+/// Largest depth of a node; the root is at depth 0.
 pub const MAX_DEPTH: usize = 16;
 
-/// How many nodes a tree may have.
+/// Most nodes in a tree.
 pub const MAX_NODES: usize = 4_194_304;
 
-/// How many leaves a tree may have.
+/// Most leaves in a tree.
 pub const MAX_LEAVES: usize = 4_096;
 
 /// The largest want, in octets.

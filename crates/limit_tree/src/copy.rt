@@ -4,30 +4,30 @@ ghost use Rattle.limit_tree.specs.Outline.{places, limits, leaf_count, floor_sum
 ghost use Rattle.limit_tree.specs.Copies.{AreCopiedBehind};
 
 use super::node::Node;
-use super::place::{Kind, Place};
+use super::place::{NodeKind, Place};
 use super::size::{Size, place_of};
 use std::alloc::{AllocError, Allocator};
 
 /// Nodes in preorder, and the wants and the floors of their leaves.
 #[derive(Drop)]
-pub struct Copying<A: Allocator> {
+pub(crate) struct Copying<A: Allocator> {
     pub places: Vec<Place, A>,
     pub wants: Vec<u64, A>,
     pub floors: Vec<u64, A>,
 }
 
-/// Stands for a node until the nodes below it are copied.
-pub const UNSEEN: Place = Place {
+/// Placeholder for a node until the nodes below it are copied.
+pub(crate) const UNSEEN: Place = Place {
     depth: 0,
     first: 0,
     leaves: 0,
     nodes: 0,
     kids: 0,
     floors: 0,
-    kind: Kind::Branch { limit: None },
+    kind: NodeKind::Branch { limit: None },
 };
 
-// Puts a node in its place, where the nodes below it stand behind that already.
+// Writes a node at its index, once the nodes below it are copied.
 fn settle<B: Allocator, A: Allocator>(
     node: &Node<B>,
     depth: usize,
@@ -53,9 +53,9 @@ fn settle<B: Allocator, A: Allocator>(
     copy.places[number] = place_of(node, size, depth, first);
 }
 
-/// Copies a tree that stands at a depth, behind the nodes that were copied, and answers the sum of its floors. Visits each
-/// node once: its size is known when the nodes below it are copied.
-pub fn copy_tree<B: Allocator, A: Allocator>(
+/// Appends a tree at a given depth to the copy, and returns the sum of its floors. Visits each node once: its size is
+/// known when the nodes below it are copied.
+pub(crate) fn copy_tree<B: Allocator, A: Allocator>(
     node: &Node<B>,
     depth: usize,
     copy: &mut Copying<A>,

@@ -1,9 +1,9 @@
-//! Why a tree is refused.
+//! Faults of trees.
 ghost use Rattle.std.specs.Prelude.{◌≡◌, ◌+◌, ◌<◌, ◌≤◌, ◌^◌, length, MatchResult, IfOk, None, Some};
 ghost use Rattle.std.specs.Option.{option_map};
 ghost use Rattle.limit_tree.specs.Outline.{places, leaf_count, floor_sum, kind_of};
 ghost use Rattle.limit_tree.specs.Faults.{first_fault, node_fault, first_over, over_limit, or_else};
-ghost use Rattle.limit_tree.specs.declared.place.Kind.TheVariants.{Branch};
+ghost use Rattle.limit_tree.specs.declared.place.NodeKind.TheVariants.{Branch};
 
 use super::bounds::{MAX_DEPTH, MAX_LEAVES, MAX_LIMIT, MAX_NODES, MAX_WANT};
 use super::node::Node;
@@ -11,11 +11,11 @@ use super::walk::Passed;
 use std::alloc::Allocator;
 use thiserror::Error;
 
-/// Why a tree is refused. The first node in preorder that has a fault decides, and at one node the order is
-/// that below; `FloorsOverLimit` is looked for only where there is no other fault.
+/// Why a tree is refused. The first node in preorder with a fault decides; for one node, the order is that
+/// below. `FloorsOverLimit` is reported only if there is no other fault.
 #[derive(Clone, Copy, Debug, PartialEq, Eq, Error)]
 pub enum TreeFault {
-    /// A node stands deeper than `MAX_DEPTH`.
+    /// A node is deeper than `MAX_DEPTH`.
     #[error("TooDeep")]
     TooDeep,
     /// There are more than `MAX_LEAVES` leaves or `MAX_NODES` nodes.
@@ -30,12 +30,12 @@ pub enum TreeFault {
     /// A leaf's floor is above its want.
     #[error("FloorTooLarge")]
     FloorTooLarge,
-    /// The floors below this branch add up to more than its limit; it is the first such one in preorder.
+    /// The floors below this branch add up to more than its limit. It is the first such branch in preorder.
     #[error("FloorsOverLimit")]
     FloorsOverLimit(usize),
 }
 
-// The fault of a node alone.
+// The fault of a node's own numbers.
 fn check_alone<A: Allocator>(node: &Node<A>, depth: usize, passed: Passed) -> Result<(), TreeFault>
     ensures within { IfOk result (λ _. (depth ≤ MAX_DEPTH) × (passed.nodes < MAX_NODES)) }
     ensures fault { MatchResult result
@@ -69,8 +69,8 @@ fn check_alone<A: Allocator>(node: &Node<A>, depth: usize, passed: Passed) -> Re
     }
 }
 
-/// Looks for the first fault of a tree at a depth, behind the nodes and leaves that were passed.
-pub fn check_tree<A: Allocator>(
+/// Looks for the first fault of a tree at `depth`, after the nodes and leaves already passed.
+pub(crate) fn check_tree<A: Allocator>(
     node: &Node<A>,
     depth: usize,
     passed: Passed,
@@ -103,19 +103,19 @@ pub fn check_tree<A: Allocator>(
     Ok(next)
 }
 
-/// The floors of a tree.
+/// The floors of a tree, summed.
 #[derive(Clone, Copy)]
-pub struct Floors {
-    /// How many nodes it has.
+pub(crate) struct FloorSum {
+    /// Number of nodes.
     pub nodes: usize,
-    /// Their sum, in octets.
+    /// Sum of the floors, in octets.
     pub sum: u64,
-    /// The first branch above whose limit they are.
+    /// The first branch whose limit is less than the floors below it.
     pub over: Option<usize>,
 }
 
-/// The floors of a tree whose root has a number.
-pub fn floors_of<A: Allocator>(node: &Node<A>, number: usize) -> Floors
+/// The floors of a tree whose root has `number`.
+pub(crate) fn floors_of<A: Allocator>(node: &Node<A>, number: usize) -> FloorSum
     requires nodes { number + length (places node.now) < 2 ^ 63 }
     requires floors { floor_sum (places node.now) < 2 ^ 63 }
     ensures nodes { result.nodes ≡ length (places node.now) }
@@ -123,13 +123,13 @@ pub fn floors_of<A: Allocator>(node: &Node<A>, number: usize) -> Floors
     ensures over { result.over ≡ first_over number (places node.now) }
 {
     match node {
-        Node::Leaf { floor, .. } => Floors {
+        Node::Leaf { floor, .. } => FloorSum {
             nodes: 1,
             sum: *floor,
             over: None,
         },
         Node::Branch { limit, kids } => {
-            let mut below = Floors {
+            let mut below = FloorSum {
                 nodes: 1,
                 sum: 0,
                 over: None,
@@ -140,7 +140,7 @@ pub fn floors_of<A: Allocator>(node: &Node<A>, number: usize) -> Floors
                 below.sum += more.sum;
                 below.over = first_of(below.over, more.over);
             }
-            Floors {
+            FloorSum {
                 over: first_of(over(*limit, number, below.sum), below.over),
                 ..below
             }
@@ -148,7 +148,7 @@ pub fn floors_of<A: Allocator>(node: &Node<A>, number: usize) -> Floors
     }
 }
 
-// The first of two, if there is one.
+// The first of two options that is present.
 fn first_of(first: Option<usize>, next: Option<usize>) -> Option<usize>
     ensures first { result ≡ or_else first next }
 {
@@ -158,7 +158,7 @@ fn first_of(first: Option<usize>, next: Option<usize>) -> Option<usize>
     }
 }
 
-// The branch of a number, where the floors below it are above its limit.
+// The branch with `number`, if the floors below it add up to more than its limit.
 fn over(limit: Option<u64>, number: usize, floors: u64) -> Option<usize>
     ensures over { result ≡ over_limit number floors (Branch limit) }
 {

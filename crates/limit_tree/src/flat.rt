@@ -1,4 +1,4 @@
-//! A tree whose nodes lie in preorder in an array, without pointers.
+//! A tree as an array of nodes in preorder, without pointers.
 ghost use Rattle.std.specs.Prelude.{◌≡◌, ◌+◌, ◌*◌, ◌<◌, ◌≤◌, ◌^◌, ◌↔◌, length, slice_get, slice_index, sum, IsTrue, Some, IfOk};
 ghost use Rattle.std.specs.Option.{option_and_then};
 ghost use Rattle.limit_tree.specs.Sharing.{IsWanted, IsLimitTree, Branch, IsBranch, IsFull};
@@ -9,15 +9,14 @@ ghost use Rattle.limit_tree.specs.Flat.{taken_in, taken_below, HasRow, IsFlat};
 use super::absorb::at_most;
 use super::bounds::{MAX_LEAVES, MAX_NODES, MAX_WANT};
 use super::copy::Copying;
-use super::place::{Kind, Place};
+use super::place::{NodeKind, Place};
 use super::recall::recall;
 use super::tree::Tree;
 use std::alloc::{AllocError, Allocator, Global};
 use std::marker::Model;
 
-/// A tree whose nodes lie in preorder in an array, each with its end, its limit, or its want and floor, and
-/// whose wants and floors lie in arrays by leaf. Contracts see it as its nodes, like the `Tree` that it was
-/// made of.
+/// A tree as arrays: its nodes in preorder, each with its end and its limit, or its want and floor; and the wants
+/// and floors by leaf. Contracts see it as its list of nodes, as they see the `Tree` it was made of.
 #[derive(Drop)]
 pub struct Flat<A: Allocator = Global> {
     places: Vec<Place, A>,
@@ -38,7 +37,7 @@ impl<A: Allocator> Model for Flat<A> {
 }
 
 impl<A: Allocator> Flat<A> {
-    /// The nodes of a tree. Takes memory three times, and O(nodes) time; `AllocError` comes only where memory ran
+    /// Copies the nodes of a tree. Three allocations, O(nodes) time. Returns `AllocError` only if memory runs
     /// out.
     pub fn of<B: Allocator>(alloc: A, tree: &Tree<B>) -> Result<Flat<A>, AllocError>
     where
@@ -65,7 +64,7 @@ impl<A: Allocator> Flat<A> {
         })
     }
 
-    /// How many leaves the tree has.
+    /// Number of leaves.
     pub fn leaves(&self) -> usize
         ensures leaves { result ≡ length (limits self.now).wants }
         ensures most { result ≤ MAX_LEAVES }
@@ -76,7 +75,7 @@ impl<A: Allocator> Flat<A> {
         self.wants.len()
     }
 
-    /// How many nodes the tree has.
+    /// Number of nodes.
     pub fn nodes(&self) -> usize
         ensures nodes { result ≡ length self.now }
         ensures most { result ≤ MAX_NODES }
@@ -85,7 +84,7 @@ impl<A: Allocator> Flat<A> {
         self.places.len()
     }
 
-    /// The node of a number.
+    /// The node with a given number.
     pub fn place(&self, node: usize) -> Place
         requires node { node < length self.now }
         ensures place { slice_get self.now node ≡ Some result }
@@ -94,18 +93,18 @@ impl<A: Allocator> Flat<A> {
         place_at(&self.places, node)
     }
 
-    /// The limit of a branch that has one.
+    /// The limit of a branch, if it has one.
     pub fn limit(&self, node: usize) -> Option<u64>
         requires node { node < length self.now }
         ensures limit { result ≡ option_and_then (λ b. b.limit) ((limits self.now).branch node) }
     {
         match self.place(node).kind {
-            Kind::Branch { limit } => limit,
-            Kind::Leaf { .. } => None,
+            NodeKind::Branch { limit } => limit,
+            NodeKind::Leaf { .. } => None,
         }
     }
 
-    /// Whether the leaf is the node or stands below it.
+    /// Returns whether the leaf is the node itself or below it.
     pub fn under(&self, node: usize, leaf: usize) -> bool
         requires node { node < length self.now }
         ensures under { result ≡ leaves_under self.now node leaf }
@@ -114,7 +113,7 @@ impl<A: Allocator> Flat<A> {
         self.place(node).holds(leaf)
     }
 
-    /// Whether the node is a branch whose limit is reached. Takes O(leaves below) time.
+    /// Returns whether the node is a branch whose limit is used up by the grants. O(leaves below) time.
     pub fn is_full(&self, node: usize, grants: &[u64]) -> bool
         requires node { node < length self.now }
         requires grants { IsWanted (limits self.now) grants.now }
@@ -141,8 +140,8 @@ impl<A: Allocator> Flat<A> {
         self.floors[leaf]
     }
 
-    /// What the node takes in up to a level, in octets: a leaf the level, or its floor where that is greater, but
-    /// at most its want; a branch what its kids take in, cut to its limit. Takes O(nodes below) time.
+    /// Octets that the node absorbs up to a level: a leaf the level, at least its floor and at most its want; a
+    /// branch the sum of what its kids absorb, cut to its limit. O(nodes below) time.
     pub fn absorb(&self, node: usize, level: u64) -> u64
         requires node { node < length self.now }
         ensures absorbed { result ≡ absorbed level self.now node }
@@ -151,7 +150,7 @@ impl<A: Allocator> Flat<A> {
         absorb_row(&self.places, node, 1, level)
     }
 
-    /// What the kids of a node take in up to a level, together, in octets. Takes O(nodes below) time.
+    /// Sum of what the kids of a node absorb up to a level, in octets. O(nodes below) time.
     pub fn absorb_below(&self, node: usize, level: u64) -> u64
         requires node { node < length self.now }
         ensures absorbed { result ≡ taken_below level self.now node }
@@ -159,8 +158,8 @@ impl<A: Allocator> Flat<A> {
     {
         let place = self.place(node);
         match place.kind {
-            Kind::Branch { .. } => absorb_row(&self.places, node + 1, place.kids, level),
-            Kind::Leaf { .. } => 0,
+            NodeKind::Branch { .. } => absorb_row(&self.places, node + 1, place.kids, level),
+            NodeKind::Leaf { .. } => 0,
         }
     }
 }
@@ -172,7 +171,7 @@ fn place_at(places: &[Place], node: usize) -> Place
     places[node]
 }
 
-// What so many trees side by side take in up to a level, together; the first of them has a number.
+// Sum of what `trees` trees side by side absorb up to a level; the first of them is node `first`.
 fn absorb_row(places: &[Place], first: usize, trees: usize, level: u64) -> u64
     requires flat { IsFlat places.now }
     requires row { HasRow places.now first trees }
@@ -183,8 +182,8 @@ fn absorb_row(places: &[Place], first: usize, trees: usize, level: u64) -> u64
     for _tree in 0..trees {
         let place = place_at(places, node);
         total += match place.kind {
-            Kind::Leaf { want, floor } => level.max(floor).min(want),
-            Kind::Branch { limit } => {
+            NodeKind::Leaf { want, floor } => level.max(floor).min(want),
+            NodeKind::Branch { limit } => {
                 let below = absorb_row(places, node + 1, place.kids, level);
                 at_most(limit, below)
             }

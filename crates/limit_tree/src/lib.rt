@@ -1,8 +1,8 @@
-//! Limit trees: limits that nest over transfers, each of which waits with some octets and may be guaranteed some.
+//! Limit trees: nested limits over transfers, each of which wants a number of octets and may have a guaranteed minimum.
 //!
-//! A [`Node`] is a leaf, or a branch over kids with a limit or without; [`Tree::new`] accepts those whose numbers are in
-//! range and whose floors fit, and each [`Tree`] is a limit tree in the sense of `specs/Sharing.antt`. [`Flat`] has the nodes
-//! of a tree in arrays, in preorder, for who walks it often.
+//! A [`Node`] is a leaf, or a branch over kids with or without a limit. [`Tree::new`] accepts trees whose numbers are in
+//! range and whose floors fit the limits; each [`Tree`] is a limit tree in the sense of `specs/Sharing.antt`. [`Flat`] has
+//! the nodes of a tree in arrays, in preorder, for callers that walk it often.
 //!
 //! ```text
 //! let alloc = rt.alloc();
@@ -37,6 +37,6 @@ pub use fault::TreeFault;
 pub use flat::Flat;
 pub use laws::{absorbed_is_taken_in, no_floors_is_plain};
 pub use node::Node;
-pub use place::{Kind, Place};
+pub use place::{NodeKind, Place};
 pub use tree::Tree;
 pub use walk::{Passed, Visitor};

@@ -1,29 +1,29 @@
-//! Visitors that look for one node.
+//! Visitors that search for one node.
 ghost use Rattle.std.specs.Prelude.{◌≡◌, ◌+◌, ◌<◌, ◌≤◌, ◌^◌, ◌↔◌, IsTrue, length, sum};
 ghost use Rattle.limit_tree.specs.Outline.{IsFullOver};
 
-use super::place::{Kind, Place};
+use super::place::{NodeKind, Place};
 use super::walk::Visitor;
 
-/// Looks for the node of a number.
+/// Searches for the node with a given number.
 #[derive(Clone, Copy)]
-pub struct NodeLook {
+pub(crate) struct FindNode {
     pub number: usize,
     pub leaves: usize,
     pub found: Option<Place>,
 }
 
-impl NodeLook {
+impl FindNode {
     ghost use Rattle.std.specs.Prelude.{◌≡◌, []};
     ghost use Rattle.limit_tree.specs.Looks.{SoughtNode};
 
-    /// A look for the node of a number, in a tree of so many leaves.
-    pub fn new(number: usize, leaves: usize) -> NodeLook
+    /// A search for node `number` in a tree of `leaves` leaves.
+    pub fn new(number: usize, leaves: usize) -> FindNode
         ensures number { result.number ≡ number }
         ensures leaves { result.leaves ≡ leaves }
         ensures start { SoughtNode result [] result }
     {
-        NodeLook {
+        FindNode {
             number,
             leaves,
             found: None,
@@ -31,7 +31,7 @@ impl NodeLook {
     }
 }
 
-impl Visitor for NodeLook {
+impl Visitor for FindNode {
     ghost use Rattle.limit_tree.specs.Looks.{SoughtNode};
 
     ghost leaves = { λ s. s.leaves };
@@ -45,26 +45,26 @@ impl Visitor for NodeLook {
     }
 }
 
-/// Looks for the want and the floor of a leaf.
+/// Searches for the want and the floor of a leaf.
 #[derive(Clone, Copy)]
-pub struct LeafLook {
+pub(crate) struct FindLeaf {
     pub leaf: usize,
     pub leaves: usize,
     pub want: Option<u64>,
     pub floor: Option<u64>,
 }
 
-impl LeafLook {
+impl FindLeaf {
     ghost use Rattle.std.specs.Prelude.{◌≡◌, []};
     ghost use Rattle.limit_tree.specs.Looks.{SoughtLeaf};
 
-    /// A look for a leaf, in a tree of so many leaves.
-    pub fn new(leaf: usize, leaves: usize) -> LeafLook
+    /// A search for a leaf in a tree of `leaves` leaves.
+    pub fn new(leaf: usize, leaves: usize) -> FindLeaf
         ensures leaf { result.leaf ≡ leaf }
         ensures leaves { result.leaves ≡ leaves }
         ensures start { SoughtLeaf result [] result }
     {
-        LeafLook {
+        FindLeaf {
             leaf,
             leaves,
             want: None,
@@ -73,7 +73,7 @@ impl LeafLook {
     }
 }
 
-impl Visitor for LeafLook {
+impl Visitor for FindLeaf {
     ghost use Rattle.limit_tree.specs.Looks.{SoughtLeaf};
 
     ghost leaves = { λ s. s.leaves };
@@ -82,38 +82,38 @@ impl Visitor for LeafLook {
 
     fn visit(&mut self, _number: usize, place: Place) {
         match place.kind {
-            Kind::Leaf { want, floor } => {
+            NodeKind::Leaf { want, floor } => {
                 if place.first == self.leaf {
                     self.want = Some(want);
                     self.floor = Some(floor);
                 }
             }
-            Kind::Branch { .. } => {}
+            NodeKind::Branch { .. } => {}
         }
     }
 }
 
-/// Looks for the last full branch above a leaf.
+/// Searches for the last full branch above a leaf.
 #[derive(Drop)]
-pub struct FullLook<'a> {
+pub(crate) struct FindFull<'a> {
     pub leaf: usize,
     pub grants: &'a [u64],
     pub found: Option<usize>,
     ghost fits: { sum grants.now < 2 ^ 63 },
 }
 
-impl<'a> FullLook<'a> {
+impl<'a> FindFull<'a> {
     ghost use Rattle.std.specs.Prelude.{◌≡◌, ◌<◌, ◌^◌, [], sum};
     ghost use Rattle.limit_tree.specs.Looks.{SoughtFull};
 
-    /// A look above a leaf, by the grants of all leaves.
-    pub fn new(leaf: usize, grants: &'a [u64]) -> FullLook<'a>
+    /// A search above a leaf, with the grants of all leaves.
+    pub fn new(leaf: usize, grants: &'a [u64]) -> FindFull<'a>
         requires fits { sum grants.now < 2 ^ 63 }
         ensures leaf { result.leaf ≡ leaf }
         ensures grants { result.grants.now ≡ grants.now }
         ensures start { SoughtFull result [] result }
     {
-        FullLook {
+        FindFull {
             leaf,
             grants,
             found: None,
@@ -121,7 +121,7 @@ impl<'a> FullLook<'a> {
     }
 }
 
-impl<'a> Visitor for FullLook<'a> {
+impl<'a> Visitor for FindFull<'a> {
     ghost use Rattle.std.specs.Prelude.{length};
     ghost use Rattle.limit_tree.specs.Looks.{SoughtFull};
 
@@ -136,8 +136,8 @@ impl<'a> Visitor for FullLook<'a> {
     }
 }
 
-/// Whether the place is that of a full branch that holds the leaf.
-pub fn is_full_over(place: Place, grants: &[u64], leaf: usize) -> bool
+/// Returns whether the node is a full branch that holds the leaf.
+pub(crate) fn is_full_over(place: Place, grants: &[u64], leaf: usize) -> bool
     requires inside { place.first + place.leaves ≤ length grants.now }
     requires fits { sum grants.now < 2 ^ 64 }
     ensures full { IsTrue result ↔ IsFullOver place grants.now leaf }

@@ -1,7 +1,7 @@
 use std::alloc::{Allocator, Global};
 
-/// A tree of limits as it is built: branches, which may have a limit in octets, and leaves, each a transfer
-/// that wants some octets and has a guaranteed floor. `Tree::new` checks its numbers.
+/// A tree of limits under construction: branches, each with or without a limit in octets, and leaves, each
+/// a transfer with the octets that it wants and its guaranteed floor. `Tree::new` checks the numbers.
 #[derive(Drop)]
 pub enum Node<A: Allocator = Global> {
     Branch {

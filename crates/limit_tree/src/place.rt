@@ -1,42 +1,43 @@
-//! What a node is, and where it stands in its tree.
+//! A node's kind and its position in the tree.
 ghost use Rattle.std.specs.Prelude.{◌≡◌, ◌+◌, ◌<◌, ◌≤◌, ◌^◌, ◌↔◌, IsTrue, length, sum};
 ghost use Rattle.limit_tree.specs.Sharing.{sum_over};
 ghost use Rattle.limit_tree.specs.Outline.{leaf_range, IsFullPlace};
 
-/// What a node is by itself.
+/// The kind of a node, with its own numbers.
 #[derive(Clone, Copy, Debug, PartialEq, Eq)]
-pub enum Kind {
+pub enum NodeKind {
     Branch { limit: Option<u64> },
     Leaf { want: u64, floor: u64 },
 }
 
-/// A node in its tree. Nodes and leaves are numbered in preorder from 0.
+/// A node with its position in the tree. Nodes and leaves are numbered in preorder from 0.
 #[derive(Clone, Copy, Debug, PartialEq, Eq)]
 pub struct Place {
-    /// How many branches stand above it.
+    /// Number of branches above it.
     pub depth: usize,
-    /// The number of its first leaf.
+    /// Number of its first leaf.
     pub first: usize,
-    /// How many leaves it has; a leaf is its own only one.
+    /// Number of leaves below it; 1 for a leaf, which counts itself.
     pub leaves: usize,
-    /// How many nodes its tree has, itself among them.
+    /// Number of nodes in its tree, itself included.
     pub nodes: usize,
-    /// How many kids it has.
+    /// Number of kids.
     pub kids: usize,
-    /// The sum of the floors of its leaves, in octets.
+    /// Sum of the floors of its leaves, in octets.
     pub floors: u64,
-    pub kind: Kind,
+    pub kind: NodeKind,
 }
 
 impl Place {
-    /// Whether the leaf is one of its leaves.
+    /// Returns whether the leaf is one of its leaves.
     pub fn holds(self, leaf: usize) -> bool
         ensures holds { result ≡ leaf_range self.first self.leaves leaf }
     {
         self.first <= leaf && leaf - self.first < self.leaves
     }
 
-    /// The sum of the grants of its leaves, by the grants of all leaves, in octets.
+    /// Sum of the grants of its leaves, in octets. `grants` has one entry for each leaf of the
+    /// whole tree.
     pub fn sum(self, grants: &[u64]) -> u64
         requires inside { self.first + self.leaves ≤ length grants.now }
         requires fits { sum grants.now < 2 ^ 64 }
@@ -49,18 +50,19 @@ impl Place {
         total
     }
 
-    /// Whether it is a branch whose limit its leaves use up, by the grants of all leaves.
+    /// Returns whether it is a branch whose limit is used up by its leaves. `grants` has one entry for each
+    /// leaf of the whole tree.
     pub fn is_full(self, grants: &[u64]) -> bool
         requires inside { self.first + self.leaves ≤ length grants.now }
         requires fits { sum grants.now < 2 ^ 64 }
         ensures full { IsTrue result ↔ IsFullPlace self grants.now }
     {
         match self.kind {
-            Kind::Branch { limit } => match limit {
+            NodeKind::Branch { limit } => match limit {
                 Some(most) => self.sum(grants) == most,
                 None => false,
             },
-            Kind::Leaf { .. } => false,
+            NodeKind::Leaf { .. } => false,
         }
     }
 }

@@ -1,7 +1,7 @@
-//! What the type of a value promises, where a contract needs it.
+//! Recalls the invariant of a value's type, for contracts that need it.
 
-/// Has the prover recall what the type of `self` promises, its invariant: it does where a part of a value is looked at.
-/// Nothing happens when it runs.
+/// Makes the prover recall the invariant of the type of `self`, which it does at any access to a part of a value. No
+/// effect at run time.
 macro_rules! recall {
     ($part:expr) => {
         let _ = &$part;

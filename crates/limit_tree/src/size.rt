@@ -1,21 +1,21 @@
-//! How much a tree holds.
+//! Sizes of trees.
 ghost use Rattle.std.specs.Prelude.{◌≡◌, ◌<◌, ◌^◌, length, IfSome};
 ghost use Rattle.limit_tree.specs.Outline.{places, leaf_count, floor_sum, root_place};
 ghost use Rattle.limit_tree.specs.Sizes.{IsSizeOf};
 
 use super::node::Node;
-use super::place::{Kind, Place};
+use super::place::{NodeKind, Place};
 use std::alloc::Allocator;
 
-/// How much a tree holds.
+/// The size of a tree: its nodes, leaves and floors.
 #[derive(Clone, Copy)]
-pub struct Size {
+pub(crate) struct Size {
     pub nodes: usize,
     pub leaves: usize,
     pub floors: u64,
 }
 
-/// The size of a tree that is one node. Most nodes may be such, and are counted without a call of `size_of_tree`.
+/// The size of a tree of one node. Most nodes may be leaves; these are counted without a call of `size_of_tree`.
 fn size_of_one<A: Allocator>(node: &Node<A>) -> Option<Size>
     ensures nodes { IfSome result (λ s. s.nodes ≡ length (places node.now)) }
     ensures leaves { IfSome result (λ s. s.leaves ≡ leaf_count (places node.now)) }
@@ -41,8 +41,8 @@ fn size_of_one<A: Allocator>(node: &Node<A>) -> Option<Size>
     }
 }
 
-/// The size of a tree, by its nodes one by one.
-pub fn size_of_tree<A: Allocator>(node: &Node<A>) -> Size
+/// The size of a tree, counted node by node.
+pub(crate) fn size_of_tree<A: Allocator>(node: &Node<A>) -> Size
     requires nodes { length (places node.now) < 2 ^ 63 }
     requires leaves { leaf_count (places node.now) < 2 ^ 63 }
     requires floors { floor_sum (places node.now) < 2 ^ 63 }
@@ -76,20 +76,25 @@ pub fn size_of_tree<A: Allocator>(node: &Node<A>) -> Size
     }
 }
 
-/// The place of a node at a depth, with so many leaves before it, by the size of its tree.
-pub fn place_of<A: Allocator>(node: &Node<A>, size: Size, depth: usize, first: usize) -> Place
+/// The position of a node at a depth, after `first` leaves, from the size of its tree.
+pub(crate) fn place_of<A: Allocator>(
+    node: &Node<A>,
+    size: Size,
+    depth: usize,
+    first: usize,
+) -> Place
     requires size { IsSizeOf size (places node.now) }
     ensures place { result ≡ root_place depth first node.now }
 {
     let (kids, kind) = match node {
         Node::Leaf { want, floor } => (
             0,
-            Kind::Leaf {
+            NodeKind::Leaf {
                 want: *want,
                 floor: *floor,
             },
         ),
-        Node::Branch { limit, kids } => (kids.len(), Kind::Branch { limit: *limit }),
+        Node::Branch { limit, kids } => (kids.len(), NodeKind::Branch { limit: *limit }),
     };
     Place {
         depth,

@@ -1,13 +1,13 @@
-//! The wants and the floors of a tree's leaves, in tables.
+//! The wants and floors of a tree's leaves, in tables.
 ghost use Rattle.std.specs.Prelude.{◌≡◌, ◌+◌, ◌≤◌, ◌++◌, length, take};
 ghost use Rattle.limit_tree.specs.Outline.{places, limits, leaf_count};
 
 use super::node::Node;
 use std::alloc::Allocator;
 
-/// Puts the wants and the floors of the leaves of a tree into tables, from a place on, and answers the place behind
-/// the last of them.
-pub fn leaves_into<A: Allocator>(
+/// Writes the wants and floors of a tree's leaves into tables, from an index on, and returns the index after the
+/// last of them.
+pub(crate) fn leaves_into<A: Allocator>(
     node: &Node<A>,
     first: usize,
     wants: &mut [u64],

@@ -1,4 +1,4 @@
-//! A tree whose numbers were checked.
+//! A tree with checked numbers.
 ghost use Rattle.std.specs.Prelude.{◌≡◌, ◌+◌, ◌*◌, ◌<◌, ◌≤◌, ◌^◌, ◌↔◌, [], length, slice_get, slice_index, sum, take, IsTrue, IsSome, Some, None, MatchResult, IfOk, IfSome, ℕ};
 ghost use Rattle.std.specs.Option.{option_and_then};
 ghost use Rattle.limit_tree.specs.Sharing.{sum_over, IsWanted, IsLimitTree, Branch, IsBranch, IsFull, IsDeepestFull};
@@ -13,9 +13,9 @@ use super::absorb::absorb_in;
 use super::bounds::{MAX_LEAVES, MAX_NODES, MAX_WANT};
 use super::copy::{Copying, copy_tree};
 use super::fault::{TreeFault, check_tree, floors_of};
-use super::look::{FullLook, LeafLook, NodeLook};
+use super::look::{FindFull, FindLeaf, FindNode};
 use super::node::Node;
-use super::place::{Kind, Place};
+use super::place::{NodeKind, Place};
 use super::recall::recall;
 use super::size::size_of_tree;
 use super::tables::leaves_into;
@@ -23,8 +23,8 @@ use super::walk::{Passed, Visitor, walk_tree};
 use std::alloc::{AllocError, Allocator, Global};
 use std::marker::Model;
 
-/// A tree of limits whose numbers were checked. Contracts see it as its nodes in preorder (`places`), and by
-/// `limits` as a limit tree.
+/// A tree of limits with checked numbers. Contracts see it as its nodes in preorder (`places`), and through `limits` as
+/// a limit tree.
 #[derive(Drop)]
 pub struct Tree<A: Allocator = Global> {
     root: Node<A>,
@@ -51,8 +51,7 @@ const NOTHING: Passed = Passed {
 };
 
 impl<A: Allocator> Tree<A> {
-    /// Checks the numbers of a tree: takes O(nodes) time, and no memory. The first node in preorder that has a
-    /// fault decides.
+    /// Checks the numbers of a tree. O(nodes) time, no memory. The first node in preorder with a fault decides.
     pub fn new(root: Node<A>) -> Result<Tree<A>, TreeFault>
         ensures new { MatchResult result (λ t. (t ≡ places root)
             × (tree_fault (places root) ≡ None)) (λ e. tree_fault (places root) ≡ Some e) }
@@ -68,7 +67,7 @@ impl<A: Allocator> Tree<A> {
         }
     }
 
-    /// How many leaves the tree has.
+    /// Number of leaves.
     pub fn leaves(&self) -> usize
         ensures leaves { result ≡ length (limits self.now).wants }
         ensures most { result ≤ MAX_LEAVES }
@@ -79,7 +78,7 @@ impl<A: Allocator> Tree<A> {
         self.leaves
     }
 
-    /// How many nodes the tree has.
+    /// Number of nodes.
     pub fn nodes(&self) -> usize
         ensures nodes { result ≡ length self.now }
         ensures most { result ≤ MAX_NODES }
@@ -87,8 +86,8 @@ impl<A: Allocator> Tree<A> {
         self.nodes
     }
 
-    /// The nodes of a tree have the shape of a tree, and their numbers no fault. Of two with a common leaf the later one
-    /// stands deeper.
+    /// The nodes of a tree have the shape of a tree, and their numbers have no fault. Of two nodes with a common leaf,
+    /// the later one is deeper.
     pub fn nodes_are_a_tree(&self)
         ensures flat { IsFlat self.now }
         ensures deeper { LaterIsDeeper self.now }
@@ -96,8 +95,8 @@ impl<A: Allocator> Tree<A> {
         recall!(self.leaves);
     }
 
-    /// Shows a visitor each node in preorder. Takes O(nodes * depth) time, in which each node is counted once for each
-    /// branch above it, but for last kids.
+    /// Shows a visitor each node in preorder. O(nodes * depth) time: each node is counted once for each branch above it,
+    /// except in last kids.
     pub fn walk<V: Visitor>(&self, visitor: &mut V)
         requires leaves { V.leaves visitor.old ≡ length (limits self.now).wants }
         ensures same { V.leaves visitor.new ≡ V.leaves visitor.old }
@@ -107,7 +106,7 @@ impl<A: Allocator> Tree<A> {
         let _passed = walk_tree(&self.root, size, 0, NOTHING, visitor);
     }
 
-    /// Copies the nodes, and the wants and the floors of the leaves. Takes O(nodes) time.
+    /// Copies the nodes, and the wants and floors of the leaves. O(nodes) time.
     pub(crate) fn copy_into<B: Allocator>(&self, copy: &mut Copying<B>) -> Result<(), AllocError>
         requires places { copy.old.places.items ≡ [] }
         requires wants { copy.old.wants.items ≡ [] }
@@ -120,7 +119,7 @@ impl<A: Allocator> Tree<A> {
         Ok(())
     }
 
-    /// Puts the wants and the floors of the leaves into tables, in octets, each from its start on. Takes O(nodes) time.
+    /// Writes the wants and floors of the leaves, in octets, to the start of each table. O(nodes) time.
     pub fn leaves_into(&self, wants: &mut [u64], floors: &mut [u64])
         requires room { length (limits self.now).wants ≤ length wants.old }
         requires tables { length floors.old ≡ length wants.old }
@@ -133,13 +132,13 @@ impl<A: Allocator> Tree<A> {
         let _last = leaves_into(&self.root, 0, wants, floors);
     }
 
-    /// The node of a number.
+    /// The node with a given number.
     pub fn place(&self, node: usize) -> Place
         requires node { node < length self.now }
         ensures place { slice_get self.now node ≡ Some result }
         ensures inside { result.first + result.leaves ≤ length (limits self.now).wants }
     {
-        let mut look = NodeLook::new(node, self.leaves);
+        let mut look = FindNode::new(node, self.leaves);
         self.walk(&mut look);
         match look.found {
             Some(place) => place,
@@ -147,29 +146,29 @@ impl<A: Allocator> Tree<A> {
         }
     }
 
-    /// The limit of a branch that has one.
+    /// The limit of a branch, if it has one.
     pub fn limit(&self, node: usize) -> Option<u64>
         requires node { node < length self.now }
         ensures limit { result ≡ option_and_then (λ b. b.limit) ((limits self.now).branch node) }
     {
         match self.place(node).kind {
-            Kind::Branch { limit } => limit,
-            Kind::Leaf { .. } => None,
+            NodeKind::Branch { limit } => limit,
+            NodeKind::Leaf { .. } => None,
         }
     }
 
-    /// Whether the node is a branch.
+    /// Returns whether the node is a branch.
     pub fn is_branch(&self, node: usize) -> bool
         requires node { node < length self.now }
         ensures branch { IsTrue result ↔ IsSome ((limits self.now).branch node) }
     {
         match self.place(node).kind {
-            Kind::Branch { .. } => true,
-            Kind::Leaf { .. } => false,
+            NodeKind::Branch { .. } => true,
+            NodeKind::Leaf { .. } => false,
         }
     }
 
-    /// Whether the leaf is the node or stands below it.
+    /// Returns whether the leaf is the node itself or below it.
     pub fn under(&self, node: usize, leaf: usize) -> bool
         requires node { node < length self.now }
         ensures under { result ≡ leaves_under self.now node leaf }
@@ -190,7 +189,7 @@ impl<A: Allocator> Tree<A> {
         self.place(node).sum(grants)
     }
 
-    /// Whether the node is a branch whose limit is reached.
+    /// Returns whether the node is a branch whose limit is used up by the grants.
     pub fn is_full(&self, node: usize, grants: &[u64]) -> bool
         requires node { node < length self.now }
         requires grants { IsWanted (limits self.now) grants.now }
@@ -201,8 +200,8 @@ impl<A: Allocator> Tree<A> {
         self.place(node).is_full(grants)
     }
 
-    /// What the node takes in up to a level, in octets: a leaf the level, or its floor where that is greater, but
-    /// at most its want; a branch what its kids take in, cut to its limit.
+    /// Octets that the node absorbs up to a level: a leaf the level, at least its floor and at most its want; a branch
+    /// the sum of what its kids absorb, cut to its limit.
     pub fn absorb(&self, node: usize, level: u64) -> u64
         requires node { node < length self.now }
         ensures absorbed { result ≡ absorbed level self.now node }
@@ -215,14 +214,14 @@ impl<A: Allocator> Tree<A> {
         }
     }
 
-    /// The deepest full branch above the leaf. Takes O(nodes * depth) time.
+    /// The deepest full branch above the leaf. O(nodes * depth) time.
     pub fn full_above(&self, leaf: usize, grants: &[u64]) -> Option<usize>
         requires leaf { leaf < length (limits self.now).wants }
         requires grants { IsWanted (limits self.now) grants.now }
         ensures deepest { IsDeepestFull (limits self.now) grants.now leaf result }
     {
         recall!(self.leaves);
-        let mut look = FullLook::new(leaf, grants);
+        let mut look = FindFull::new(leaf, grants);
         self.walk(&mut look);
         look.found
     }
@@ -249,11 +248,11 @@ impl<A: Allocator> Tree<A> {
         }
     }
 
-    fn leaf(&self, leaf: usize) -> LeafLook
+    fn leaf(&self, leaf: usize) -> FindLeaf
         ensures want { result.want ≡ slice_get (limits self.now).wants leaf }
         ensures floor { result.floor ≡ slice_get (limits self.now).floors leaf }
     {
-        let mut look = LeafLook::new(leaf, self.leaves);
+        let mut look = FindLeaf::new(leaf, self.leaves);
         self.walk(&mut look);
         look
     }

@@ -1,4 +1,4 @@
-//! A walk over a tree in preorder.
+//! Walks over a tree in preorder.
 ghost use Rattle.std.specs.Prelude.{◌≡◌, ◌+◌, ◌<◌, ◌≤◌, ◌^◌, ◌++◌, List, length, map};
 ghost use Rattle.limit_tree.specs.declared.place.Place.{Place};
 ghost use Rattle.limit_tree.specs.Outline.{places, leaf_count, floor_sum, moved};
@@ -9,19 +9,19 @@ use super::place::Place;
 use super::size::{Size, place_of, size_of_tree};
 use std::alloc::Allocator;
 
-/// What is shown the nodes of a tree in preorder, one by one.
+/// A visitor, which is shown the nodes of a tree in preorder, one by one.
 pub trait Visitor {
     ghost use Rattle.std.specs.Prelude.{◌≡◌, ◌+◌, ◌≤◌, ◌++◌, ◌∷◌, [], ℕ, List, length};
     ghost use Rattle.limit_tree.specs.declared.place.Place.{Place};
     ghost use Rattle.limit_tree.specs.Outline.{leaf_count};
 
-    /// How many leaves the tree has.
+    /// Number of leaves of the tree.
     ghost leaves: { Self → ℕ };
 
-    /// What a visitor has become since it was shown these nodes.
+    /// The relation between a visitor before and after it was shown these nodes.
     ghost Saw: { Self → List Place → Self → Type 0 };
 
-    /// Takes one node more: its number, which counts the nodes that were seen, and its place.
+    /// Visits one more node. `number` is the number of nodes seen before it.
     fn visit(&mut self, number: usize, place: Place)
         requires inside { place.first + place.leaves ≤ leaves self.old }
         ensures leaves { leaves self.new ≡ leaves self.old }
@@ -30,14 +30,14 @@ pub trait Visitor {
             → Saw start (seen ++ place ∷ []) self.new };
 }
 
-/// How many nodes and leaves a walk has passed.
+/// Number of nodes and leaves that a walk has passed.
 #[derive(Clone, Copy, Debug, PartialEq, Eq)]
 pub struct Passed {
     pub nodes: usize,
     pub leaves: usize,
 }
 
-/// The size of the next of so many kids, which together have the size of the rest.
+/// The size of the next kid, if `kids` kids remain, which together have the size `rest`.
 fn size_of_next<A: Allocator>(kid: &Node<A>, kids: usize, rest: Size) -> Size
     requires nodes { length (places kid.now) < 2 ^ 63 }
     requires leaves { leaf_count (places kid.now) < 2 ^ 63 }
@@ -48,9 +48,9 @@ fn size_of_next<A: Allocator>(kid: &Node<A>, kids: usize, rest: Size) -> Size
     if kids == 1 { rest } else { size_of_tree(kid) }
 }
 
-/// Shows a visitor a tree of a size that stands at a depth, behind the nodes and leaves that were passed. The last
-/// kid of a branch has what the others leave of its size; each other one is counted.
-pub fn walk_tree<A: Allocator, V: Visitor>(
+/// Shows a visitor a tree of known size at `depth`, after the nodes and leaves already passed. The size of a
+/// branch's last kid is what the others leave; each other kid is counted.
+pub(crate) fn walk_tree<A: Allocator, V: Visitor>(
     node: &Node<A>,
     size: Size,
     depth: usize,

@@ -1,10 +1,10 @@
-//! The octets of a control text that urgent data took.
+//! Restores the octets of a control text that were lost as urgent data.
 //!
-//! A client that aborts a transfer may send a part of its line as urgent data (RFC 854, the Synch of Telnet; RFC 959, section
-//! 4.1.3). A socket that does not read urgent data among the rest loses one octet then: the LF of `ABOR CR LF`, or the second
-//! IAC of `IAC IP IAC DM`. A [`Mender`] stands between what is read and the reader of lines. It ends an open line that is
-//! just `ABOR CR` once nothing more has come for a while, and takes out a DM that stands where a line begins, and not behind
-//! an IAC. All else passes as it is: octet for octet, however the text is cut.
+//! A client that aborts a transfer may send a part of its line as urgent data (RFC 854, the Synch of Telnet; RFC 959,
+//! section 4.1.3). A socket that does not read urgent data in line then loses one octet: the LF of `ABOR CR LF`, or the
+//! second IAC of `IAC IP IAC DM`. A [`Mender`] is between the socket and the reader of lines. It ends an open line of
+//! exactly `ABOR CR` once nothing more has come for a while, and removes a DM at the start of a line that is not after an
+//! IAC. Everything else passes unchanged: octet for octet, however the text is cut.
 //!
 //! ```text
 //! let mut mender = Mender::new();

@@ -1,4 +1,4 @@
-//! What is known of the open line.
+//! The state of the open line.
 
 ghost use Rattle.std.specs.Prelude.{◌≡◌, ◌≤◌, [], ◌∷◌, length, take};
 ghost use Rattle.line_mender.specs.Mended.{at_start, letter_at, line_after, after, is_stray, after_all, kept, is_cut, after_silence};
@@ -13,13 +13,13 @@ const DATA_MARK: u8 = 242;
 
 const IAC: u8 = 255;
 
-/// Where a text that ends without ABOR CR stands.
+/// The state of a text that does not end with a part of ABOR CR.
 const OTHER: u8 = 6;
 
-/// What takes a control text as it is read, and hands it on with the octets that urgent data took.
+/// Takes a control text as it is read, and passes it on with the octets restored that were lost as urgent data.
 #[derive(Drop)]
 pub struct Mender {
-    // how many octets of ABOR CR the open line is, or 6 where it is another
+    // the number of octets of ABOR CR in the open line, or 6 if it is another
     line: u8,
     behind_iac: bool,
     is_late: bool,
@@ -67,7 +67,7 @@ fn line_after(line: u8, octet: u8) -> u8
 }
 
 impl Mender {
-    /// Nothing has come yet: a line begins.
+    /// A mender at the start of a line.
     pub fn new() -> Mender
         ensures start { result ≡ at_start }
     {
@@ -78,7 +78,7 @@ impl Mender {
         }
     }
 
-    // Takes the next octet. Returns whether it is to be taken out.
+    // Takes the next octet. Returns whether it is to be removed.
     fn take(&mut self, octet: u8) -> bool
         ensures stray { result ≡ is_stray self.old octet }
         ensures after { self.new ≡ after self.old octet }
@@ -93,7 +93,7 @@ impl Mender {
         is_stray
     }
 
-    /// Takes the octets that were read, and brings those that are kept to the front of the buffer. Returns how many.
+    /// Takes the octets read, and moves those that are kept to the start of the buffer. Returns their number.
     pub fn mend(&mut self, buffer: &mut [u8]) -> usize
         ensures kept { take result buffer.new ≡ kept self.old buffer.old }
         ensures count { result ≤ length buffer.old }
@@ -111,15 +111,16 @@ impl Mender {
         count
     }
 
-    /// Whether the open line is just ABOR and CR, so that a read which waited in vain is worth a `silence`.
+    /// Returns whether the open line is exactly ABOR and CR; a read that then returns nothing should be followed by
+    /// `silence`.
     pub fn is_cut(&self) -> bool
         ensures cut { result ≡ is_cut self.now }
     {
         self.line == 5
     }
 
-    /// For a while nothing has come. Returns whether an LF is to be handed on: where the open line is just ABOR and CR. The
-    /// LF itself is taken out if it comes next.
+    /// Reports that nothing has come for a while. Returns whether an LF is to be passed on, which is if the open line is
+    /// exactly ABOR and CR. If the LF itself comes next, it is removed.
     pub fn silence(&mut self) -> bool
         ensures cut { result ≡ is_cut self.old }
         ensures after { self.new ≡ after_silence self.old }

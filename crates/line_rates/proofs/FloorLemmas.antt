@@ -14,8 +14,8 @@ use Rattle.limit_tree.specs.declared.bounds.TheConstants.{MAX_DEPTH, MAX_NODES, 
 use Rattle.limit_tree.specs.declared.fault.TreeFault.{TreeFault}
 use Rattle.limit_tree.specs.declared.fault.TreeFault.TheVariants.{TooDeep, TooManyLeaves, WantTooLarge, LimitTooLarge, FloorTooLarge, FloorsOverLimit}
 use Rattle.limit_tree.specs.declared.node.Node.{Node}
-use Rattle.limit_tree.specs.declared.place.Kind.{Kind}
-use Rattle.limit_tree.specs.declared.place.Kind.TheVariants.{Branch, Leaf}
+use Rattle.limit_tree.specs.declared.place.NodeKind.{NodeKind}
+use Rattle.limit_tree.specs.declared.place.NodeKind.TheVariants.{Branch, Leaf}
 use Rattle.limit_tree.specs.declared.place.Place.{Place}
 use Rattle.limit_tree.proofs.Leaves.{floors_in, length-floors_in}
 use Rattle.limit_tree.proofs.Nested.{ordered-tree, summed-tree}
@@ -91,7 +91,7 @@ fit_in_order r tick asks order p fit n most e =
     omega arith
 
 -- no node's own fault is that of floors above a limit
-own_fault : (depth nodes leaves : ℕ) (kind : Kind) (k : ℕ) → node_fault depth nodes leaves kind ≡ Some (FloorsOverLimit k) → ⊥
+own_fault : (depth nodes leaves : ℕ) (kind : NodeKind) (k : ℕ) → node_fault depth nodes leaves kind ≡ Some (FloorsOverLimit k) → ⊥
 own_fault depth nodes leaves kind k e = deep (nat_lt MAX_DEPTH depth) e
   where
     deep : (b : Bool) → cond b (Some TooDeep) (cond (nat_le MAX_NODES nodes || (is_leaf_kind kind && nat_le MAX_LEAVES leaves)) (Some TooManyLeaves) (kind_fault kind)) ≡ Some (FloorsOverLimit k) → ⊥
@@ -102,7 +102,7 @@ own_fault depth nodes leaves kind k e = deep (nat_lt MAX_DEPTH depth) e
         many true f = absurd (cc)
         many false f = own kind f
           where
-            own : (kind : Kind) → kind_fault kind ≡ Some (FloorsOverLimit k) → ⊥
+            own : (kind : NodeKind) → kind_fault kind ≡ Some (FloorsOverLimit k) → ⊥
             own (Branch None) f = absurd (cc)
             own (Branch (Some limit)) f = limit_is (nat_lt MAX_LIMIT limit) f
               where
@@ -136,7 +136,7 @@ record IsOver (ps : List Place) : Type 0 where
   kind : place.kind ≡ Branch (Some most)
   over : most < place.floors
 
-over_branch : (n : ℕ) (floors : ℕ) (kind : Kind) (k : ℕ) → over_limit n floors kind ≡ Some k → (most : ℕ) × (kind ≡ Branch (Some most)) × (most < floors)
+over_branch : (n : ℕ) (floors : ℕ) (kind : NodeKind) (k : ℕ) → over_limit n floors kind ≡ Some k → (most : ℕ) × (kind ≡ Branch (Some most)) × (most < floors)
 over_branch n floors (Leaf want floor) k e = absurd (cc)
 over_branch n floors (Branch None) k e = absurd (cc)
 over_branch n floors (Branch (Some limit)) k e = go (nat_lt limit floors) refl e

@@ -9,8 +9,8 @@ use Rattle.std.proofs.lemmas.List.Sorted.{list_any-IsPermutation, IsPermutation-
 use Rattle.limit_tree.specs.Sharing.{Branch as SharedBranch}
 use Rattle.limit_tree.specs.Outline.{is_leaf_kind, limits, places, branch_of, deeper, branch_over}
 use Rattle.limit_tree.specs.declared.node.Node.{Node}
-use Rattle.limit_tree.specs.declared.place.Kind.{Kind}
-use Rattle.limit_tree.specs.declared.place.Kind.TheVariants.{Branch, Leaf}
+use Rattle.limit_tree.specs.declared.place.NodeKind.{NodeKind}
+use Rattle.limit_tree.specs.declared.place.NodeKind.TheVariants.{Branch, Leaf}
 use Rattle.limit_tree.specs.declared.place.Place.{Place}
 use Rattle.line_rates.specs.declared.ask.Ask.{Ask}
 use Rattle.line_rates.specs.declared.ask.Name.{Name}
@@ -40,7 +40,7 @@ branch_in ms k = option_and_then (λ p. branch_of p.kind p.first p.leaves) (slic
 mark_named : (r : Rates) (tick : ℕ) (named : Name → Bool) (asks : List Ask) (o : Option Name) (p : Place) → IsMarkBy r tick named asks o p → AreNamed r tick asks o (branch_of p.kind p.first p.leaves)
 mark_named r tick named asks None p h = leafy p.kind h
   where
-    leafy : (k : Kind) → is_leaf_kind k ≡ true → AreNamed r tick asks None (branch_of k p.first p.leaves)
+    leafy : (k : NodeKind) → is_leaf_kind k ≡ true → AreNamed r tick asks None (branch_of k p.first p.leaves)
     leafy (Branch limit) e = absurd (cc)
     leafy (Leaf want floor) e = tt
 mark_named r tick named asks (Some n) p h = subst (λ k. AreNamed r tick asks (Some n) (branch_of k p.first p.leaves)) (sym h.kind) (record { limit = refl; holds = h.holds })

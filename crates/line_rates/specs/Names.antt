@@ -1,4 +1,4 @@
--- The names under which octets are counted, and what an ask is guaranteed.
+-- The names that octets are counted under, and the floor of an ask.
 use Rattle.std.specs.Prelude.{ℕ, ◌/◌, Bool, true, false, ◌&&◌, nat_eq, min, Option, Some, None}
 use Rattle.std.specs.FinMap as map
 use Rattle.line_rates.specs.declared.ask.Way.{Way}
@@ -18,7 +18,7 @@ abbrev pub is_number : Option ℕ → ℕ → Bool
 is_number None n = false
 is_number (Some m) n = nat_eq m n
 
--- the ask bears the name
+-- the ask counts under the name
 abbrev pub bears : Rates → Name → Ask → Bool
 bears rates Server a = true
 bears rates (Direction way) a = same_way a.way way
@@ -29,7 +29,7 @@ bears rates (Session way user session) a = same_way a.way way && (nat_eq a.user 
 abbrev pub want_of : Ask → ℕ
 want_of a = a.want
 
--- what an ask is guaranteed, the same at every tick: a tenth of what its session is guaranteed a second, in whole
--- octets, but at most its want
+-- the floor of an ask, the same at every tick: a tenth of its session's guarantee in octets per second, rounded
+-- down, and at most its want
 abbrev pub floor_of : Rates → Ask → ℕ
 floor_of rates a = min a.want (floor_rate (map.get rates.users a.user) a.way / 10)

@@ -1,4 +1,4 @@
--- Names and the tree of a tick without groups and without floors, as they are then said.
+-- Names and the tree of a tick as they are stated without groups and floors.
 use Rattle.std.specs.Prelude.{◌≡◌, ◌↔◌, ℕ, Bool, true, false, ◌||◌, ◌&&◌, nat_eq, List, map, slice_get, Option, Some, None, IsTrue, ⊤}
 use Rattle.std.specs.FinMap as finite
 use Rattle.std.specs.List.{list_any}
@@ -33,7 +33,7 @@ abbrev pub bears_plain_in : PlainName → Option Ask → Bool
 bears_plain_in n None = false
 bears_plain_in n (Some a) = bears_plain n a
 
--- the server's, and each that an ask bears
+-- the server's name, and each that an ask counts under
 abbrev pub is_plain_server : PlainName → Bool
 is_plain_server PlainServer = true
 is_plain_server n = false
@@ -41,7 +41,7 @@ is_plain_server n = false
 abbrev pub is_plain_name : List Ask → PlainName → Bool
 is_plain_name asks n = is_plain_server n || list_any (bears_plain n) asks
 
--- the branch of a name: the limit of its rate in the tick, over the leaves whose asks bear it
+-- the branch of a name: the limit of its rate in the tick, over the leaves that count under it
 pub record IsPlainNamed (rates : Rates) (tick : ℕ) (asks : List Ask) (n : PlainName) (b : Branch) : Type 0 where
   pub limit : b.limit ≡ rate_limit (plain_rate rates n) tick
   pub holds : (i : ℕ) → b.holds i ≡ bears_plain_in n (slice_get asks i)
@@ -52,8 +52,8 @@ ArePlainNamed rates tick asks (Some n) (Some b) = IsPlainNamed rates tick asks n
 ArePlainNamed rates tick asks None (Some b) = ⊥
 ArePlainNamed rates tick asks (Some n) None = ⊥
 
--- One leaf for each ask, with its want; one branch for the server and for each name that an ask bears, with the leaves
--- that bear it; no others.
+-- One leaf for each ask, with its want; one branch for the server and for each name that an ask counts under, over the
+-- leaves that do; no others.
 pub record IsPlainTickTree (rates : Rates) (tick : ℕ) (asks : List Ask) (t : LimitTree) : Type 0 where
   pub wants : t.wants ≡ map want_of asks
   pub name : ℕ → Option PlainName
@@ -65,7 +65,7 @@ pub record IsPlainTickTree (rates : Rates) (tick : ℕ) (asks : List Ask) (t : L
 abbrev pub zero_of : Ask → ℕ
 zero_of a = 0
 
--- no user is in a group, and no session is guaranteed anything
+-- no user is in a group, and no session has a guarantee
 pub record IsPlainRates (rates : Rates) : Type 0 where
   pub groups : (user : ℕ) → group_of rates user ≡ None
   pub floors : (user : ℕ) (way : Way) → floor_rate (finite.get rates.users user) way ≡ 0

@@ -1,4 +1,4 @@
--- The queue of asks, of which those of one name stand side by side.
+-- The queue of asks, in which asks with the same name are adjacent.
 use Rattle.std.specs.Prelude.{◌≡◌, ◌≢◌, ℕ, ◌<◌, ◌≤◌, List, map, length, slice_index_or, Option}
 use Rattle.std.specs.List.{All, AllAdjacentBelow}
 use Rattle.limit_tree.specs.Sharing.{LimitTree}
@@ -10,7 +10,7 @@ use Rattle.line_rates.specs.Grown.{key, AreGrown}
 use Rattle.line_rates.specs.Rates.{Rates}
 use Rattle.line_rates.specs.TickTree.{Asker, ask_in, IsPlan}
 
--- an ask in the queue with its lane
+-- an ask in the queue, with its lane
 abbrev pub asker_of : Queued → Asker
 asker_of x = x.asker
 
@@ -20,7 +20,7 @@ askers queue = map asker_of queue
 abbrev pub asks_of : List Queued → List Ask
 asks_of queue = map ask_in (askers queue)
 
--- the trees of a queue, which stands in the order of their leaves now
+-- the trees of a queue; `new` is the queue in the order of their leaves
 abbrev pub AreGrownOver : {A : Type 0} → Rates → ℕ → ℕ → List Queued → List Queued → List (Node A) → Type 0
 AreGrownOver r tick level old new kids = AreGrown r tick level (askers old) (askers new) kids
 
@@ -31,15 +31,15 @@ IsPlanOf r tick queue t lanes = IsPlan r tick (askers queue) t lanes
 abbrev pub name_of : Queued → Option Name
 name_of x = x.name
 
--- each has its name at the level
+-- each ask has its name at the level
 abbrev pub AreNamedAt : Rates → ℕ → List Queued → Type 0
 AreNamedAt r level queue = All (λ x. x.name ≡ key r level x.asker.1) queue
 
--- neighbours of one name have one first
+-- adjacent asks with the same name have the same first ask
 abbrev pub AreNumbered : List Queued → Type 0
 AreNumbered queue = AllAdjacentBelow (λ x y. x.name ≡ y.name → x.first ≡ y.first) queue (length queue)
 
--- what stands between two of one name has that name
+-- any ask between two with the same name has that name
 abbrev pub IsContiguous : List Queued → Type 0
 IsContiguous queue = (i j k : ℕ) (d : Queued) → i ≤ j → j ≤ k → k < length queue
     → (slice_index_or queue i d).name ≡ (slice_index_or queue k d).name → (slice_index_or queue i d).name ≡ (slice_index_or queue j d).name
@@ -48,7 +48,7 @@ pub record AreTogether (r : Rates) (level : ℕ) (queue : List Queued) : Type 0 
   pub named : AreNamedAt r level queue
   pub contiguous : IsContiguous queue
 
--- so many at the front have the name of the first, and the next has another
+-- the first `count` asks of the queue have the name of the first, and the next has another
 pub record IsRun (queue : List Queued) (count : ℕ) : Type 0 where
   pub some : 0 < count
   pub within : count ≤ length queue

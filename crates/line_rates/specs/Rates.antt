@@ -1,4 +1,4 @@
--- The rates of a line, of its groups and of its users, in octets a second; 0 is no limit.
+-- The rates of a line, its groups and its users, in octets per second; 0 is no limit.
 use Rattle.std.specs.Prelude.{ℕ, Option, Some, None, refl}
 use Rattle.std.specs.Coded.{Coded, code_by, coded×, coded_ℕ, coded_option}
 use Rattle.std.specs.FinMap as map
@@ -10,11 +10,11 @@ use Rattle.line_rates.specs.declared.ask.Name.TheVariants.{Server, Direction, Gr
 use Rattle.line_rates.specs.declared.row.GroupRate.{GroupRate}
 use Rattle.line_rates.specs.declared.row.UserRate.{UserRate}
 
--- the groups' rows, by their numbers
+-- the groups' rows by number
 abbrev pub Groups : Type 0
 Groups = map.FinMap nat_cmp GroupRate
 
--- the users' rows, by their numbers
+-- the users' rows by number
 abbrev pub Users : Type 0
 Users = map.FinMap nat_cmp UserRate
 
@@ -25,7 +25,7 @@ pub record Rates : Type 0 where
   pub groups : Groups
   pub users : Users
 
--- the one of two rates that is for a way
+-- the one of two rates that applies to a way
 abbrev pub way_of : ℕ → ℕ → Way → ℕ
 way_of down up Down = down
 way_of down up Up = up
@@ -34,7 +34,7 @@ abbrev pub group_in : Option UserRate → Option ℕ
 group_in None = None
 group_in (Some row) = row.group
 
--- the group of a user
+-- the group of a user, if they are in one
 abbrev pub group_of : Rates → ℕ → Option ℕ
 group_of rates user = group_in (map.get rates.users user)
 
@@ -50,12 +50,12 @@ abbrev pub session_rate : Option UserRate → Way → ℕ
 session_rate None way = 0
 session_rate (Some row) way = way_of row.session_down row.session_up way
 
--- what each session of a user is guaranteed
+-- the guarantee of each session of a user
 abbrev pub floor_rate : Option UserRate → Way → ℕ
 floor_rate None way = 0
 floor_rate (Some row) way = way_of row.session_down_floor row.session_up_floor way
 
--- the rate of a name: 0, which is no limit, where none is stated
+-- the rate of a name; 0, which is no limit, if none is stated
 abbrev pub rate_of : Rates → Name → ℕ
 rate_of rates Server = rates.server
 rate_of rates (Direction way) = way_of rates.down rates.up way
@@ -63,7 +63,7 @@ rate_of rates (Group way group) = group_rate (map.get rates.groups group) way
 rate_of rates (User way user) = user_rate (map.get rates.users user) way
 rate_of rates (Session way user session) = session_rate (map.get rates.users user) way
 
--- codes, by which proofs tell values apart
+-- codes, by which proofs distinguish values
 abbrev pub group_code : Coded GroupRate
 group_code = code_by (ℕ × (ℕ × ℕ)) (coded× coded_ℕ (coded× coded_ℕ coded_ℕ)) (λ r. (r.group, (r.down, r.up))) (λ p. record { group = p.0; down = p.1.0; up = p.1.1 }) (λ _. refl)
 

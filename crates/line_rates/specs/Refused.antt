@@ -1,4 +1,4 @@
--- Why a plan is refused.
+-- Faults of plans.
 use Rattle.std.specs.Prelude.{◌≡◌, ℕ, List, map, Some, IsPermutation, ⊤}
 use Rattle.limit_tree.specs.Outline.{limits, places}
 use Rattle.limit_tree.specs.Faults.{tree_fault}
@@ -10,7 +10,7 @@ use Rattle.line_rates.specs.declared.fault.PlanFault.TheVariants.{Tree, Memory}
 use Rattle.line_rates.specs.Rates.{Rates}
 use Rattle.line_rates.specs.TickTree.{Asker, ask_in, IsTickTree}
 
--- a tree of the tick, over the asks in some order, that has the fault
+-- the tree of the tick over the asks, in some order, has the fault
 pub record HasFault (A : Type 0) (rates : Rates) (tick : ℕ) (asks : List Asker) (fault : TreeFault) : Type 0 where
   pub order : List Asker
   pub root : Node A

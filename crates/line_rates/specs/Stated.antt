@@ -1,4 +1,4 @@
--- Rates as they are stated, in rows, and the first fault of rates that cannot be kept.
+-- Rates as stated in rows, and the first fault of rates that cannot be kept.
 use Rattle.std.specs.Prelude.{ℕ, ◌+◌, ◌<◌, ◌≤◌, Bool, false, ◌||◌, not, nat_eq, nat_lt, if◌then◌else◌, List, map, count_by, length, slice_index_or, Option, Some, None}
 use Rattle.std.specs.Bool.{MatchBool}
 use Rattle.std.specs.FinMap as finite
@@ -17,7 +17,7 @@ group_number row = row.group
 abbrev pub user_number : UserRate → ℕ
 user_number row = row.user
 
--- rows, by their numbers
+-- rows by number
 abbrev pub by_number : {X : Type 0} → (X → ℕ) → List X → finite.FinMap nat_cmp X
 by_number number rows = finite.from_entries (map (λ row. (number row, row)) rows)
 
@@ -43,16 +43,16 @@ has_large_user users = list_any is_large_user users
 abbrev pub has_large_rate : ℕ → ℕ → ℕ → List GroupRate → List UserRate → Bool
 has_large_rate server down up groups users = is_too_large server || is_too_large down || is_too_large up || has_large_group groups || has_large_user users
 
--- a number stands more than once
+-- some number occurs more than once
 abbrev pub has_twice : List ℕ → Bool
 has_twice numbers = list_any (λ n. nat_lt 1 (count_by (nat_eq n) numbers)) numbers
 
--- there is such a group, and it has no row
+-- the user has a group, and the group has no row
 abbrev pub has_no_row : List GroupRate → Option ℕ → Bool
 has_no_row groups None = false
 has_no_row groups (Some group) = not (finite.contains_key (by_number group_number groups) group)
 
--- a user is in a group that has no row
+-- some user is in a group that has no row
 abbrev pub has_stray_user : List GroupRate → List UserRate → Bool
 has_stray_user groups users = list_any (λ row. has_no_row groups row.group) users
 
@@ -72,7 +72,7 @@ IsRising number rows = AllAdjacentBelow (λ x y. number x < number y) rows (leng
 abbrev pub HasTie : {X : Type 0} → (X → ℕ) → List X → Type 0
 HasTie {X} number rows = (k : ℕ) × (k + 1 < length rows) × ((d : X) → number (slice_index_or rows (k + 1) d) ≤ number (slice_index_or rows k d))
 
--- whether each row's number is below that of the next
+-- the result says whether each row's number is below that of the next
 abbrev pub TellsRising : {X : Type 0} → (X → ℕ) → List X → Bool → Type 0
 TellsRising number rows rises = MatchBool rises (IsRising number rows) (HasTie number rows)
 
@@ -88,7 +88,7 @@ pub record FitsUser (row : UserRate) : Type 0 where
   pub session_down_floor : row.session_down_floor ≤ MAX_RATE
   pub session_up_floor : row.session_up_floor ≤ MAX_RATE
 
--- how limits keep their rates and rows
+-- how limits store their rates and rows
 pub record IsKept (server down up : ℕ) (groups : List GroupRate) (users : List UserRate) : Type 0 where
   pub server_fits : server ≤ MAX_RATE
   pub down_fits : down ≤ MAX_RATE

@@ -1,4 +1,4 @@
--- The tree of a tick: sets of asks by the names that they bear.
+-- The tree of a tick: sets of asks by the names that they count under.
 use Rattle.std.specs.Prelude.{◌≡◌, ℕ, Bool, true, false, ◌||◌, List, map, slice_get, Option, Some, None, IsTrue, IsPermutation, ⊤}
 use Rattle.std.specs.List.{list_any}
 use Rattle.limit_tree.specs.Sharing.{Branch, LimitTree}
@@ -13,7 +13,7 @@ abbrev pub bears_in : Rates → Name → Option Ask → Bool
 bears_in rates n None = false
 bears_in rates n (Some a) = bears rates n a
 
--- the leaf's ask bears the name
+-- the ask of the leaf counts under the name
 abbrev pub bears_at : Rates → Name → List Ask → ℕ → Bool
 bears_at rates n asks i = bears_in rates n (slice_get asks i)
 
@@ -21,24 +21,24 @@ abbrev pub is_server : Name → Bool
 is_server Server = true
 is_server n = false
 
--- the names of the branches: the server's, and each that an ask bears
+-- the names of the branches: the server's, and each that an ask counts under
 abbrev pub is_name : Rates → List Ask → Name → Bool
 is_name rates asks n = is_server n || list_any (bears rates n) asks
 
--- the branch of a name in a tick: the limit of its rate, over the leaves whose asks bear it
+-- the branch of a name in a tick: the limit of its rate, over the leaves that count under it
 pub record IsNamed (rates : Rates) (tick : ℕ) (asks : List Ask) (n : Name) (b : Branch) : Type 0 where
   pub limit : b.limit ≡ rate_limit (rate_of rates n) tick
   pub holds : (i : ℕ) → b.holds i ≡ bears_at rates n asks i
 
--- a number is that of a branch just where it has a name, and the branch is that of the name
+-- a number has a branch exactly if it has a name, and the branch is that of the name
 abbrev pub AreNamed : Rates → ℕ → List Ask → Option Name → Option Branch → Type 0
 AreNamed rates tick asks None None = ⊤
 AreNamed rates tick asks (Some n) (Some b) = IsNamed rates tick asks n b
 AreNamed rates tick asks None (Some b) = ⊥
 AreNamed rates tick asks (Some n) None = ⊥
 
--- One leaf for each ask, with its want and floor; one branch for the server and for each name that an ask bears,
--- with the leaves that bear it; no others. `name` is the name of a branch number.
+-- One leaf for each ask, with its want and floor; one branch for the server and for each name that an ask counts
+-- under, over the leaves that do; no others. `name` is the name of a branch number.
 pub record IsTickTree (rates : Rates) (tick : ℕ) (asks : List Ask) (t : LimitTree) : Type 0 where
   pub wants : t.wants ≡ map want_of asks
   pub floors : t.floors ≡ map (floor_of rates) asks
@@ -58,7 +58,7 @@ ask_in x = x.1
 abbrev pub lane_in : Asker → ℕ
 lane_in x = x.0
 
--- A plan: the asks in some order, whose lanes it tells, are the leaves of its tree.
+-- A plan: the asks in some order are the leaves of its tree, and `lanes` has their lanes in that order.
 pub record IsPlan (rates : Rates) (tick : ℕ) (asks : List Asker) (t : LimitTree) (lanes : List ℕ) : Type 0 where
   pub order : List Asker
   pub all : IsPermutation asks order

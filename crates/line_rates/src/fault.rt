@@ -1,4 +1,4 @@
-//! Why rates, and the trees of ticks, are refused.
+//! Faults of rates and of the trees of ticks.
 
 use limit_tree::TreeFault;
 use std::alloc::AllocError;
@@ -10,7 +10,7 @@ pub enum LimitsFault {
     /// A rate is above `MAX_RATE`.
     #[error("RateTooLarge")]
     RateTooLarge,
-    /// Two rows have the number of one group, or of one user.
+    /// Two rows are for the same group or the same user.
     #[error("Twice")]
     Twice,
     /// A user is in a group that has no row.

@@ -1,4 +1,4 @@
-//! The rates of a line, of its groups and of its users.
+//! The rates of a line, its groups and its users.
 
 ghost use Rattle.std.specs.Prelude.{◌≡◌, ◌≤◌, IfOk, IfSome};
 ghost use Rattle.std.specs.Result.{result_err};
@@ -20,13 +20,13 @@ use crate::rows::{
 use std::alloc::{Allocator, Global};
 use std::marker::Model;
 
-/// The rates of a line, of its groups and of its users. Contracts see the rows as finite maps from numbers to rates.
+/// The rates of a line, its groups and its users. Contracts see the rows as finite maps from numbers to rates.
 #[derive(Drop)]
 pub struct Limits<A: Allocator = Global> {
     server: u64,
     down: u64,
     up: u64,
-    // in the order of their numbers
+    // sorted by number
     groups: Vec<GroupRate, A>,
     users: Vec<UserRate, A>,
 }
@@ -55,8 +55,8 @@ fn has_large_rate(server: u64, down: u64, up: u64, groups: &[GroupRate], users: 
 }
 
 impl<A: Allocator> Limits<A> {
-    /// The limits that the rates of the server, of its two ways, of groups and of users set. The rows may come in any
-    /// order; a user or a group without a row has no limit of its own. Takes no memory, and O(n log n) time.
+    /// The limits set by the rates of the server, its two ways, groups and users. The rows may come in any order; a user or
+    /// group without a row has no limit of its own. No memory, O(n log n) time.
     pub fn of(
         server: u64,
         down: u64,
@@ -92,7 +92,7 @@ impl<A: Allocator> Limits<A> {
         })
     }
 
-    /// The users' rows, by rising numbers.
+    /// The users' rows, sorted by number.
     pub fn users(&self) -> &[UserRate]
         ensures rows { by_number user_number result.now ≡ self.now.users }
         ensures rising { IsRising user_number result.now }
@@ -101,7 +101,7 @@ impl<A: Allocator> Limits<A> {
         self.users.as_slice()
     }
 
-    /// The groups' rows, by rising numbers.
+    /// The groups' rows, sorted by number.
     pub fn groups(&self) -> &[GroupRate]
         ensures rows { by_number group_number result.now ≡ self.now.groups }
         ensures rising { IsRising group_number result.now }
@@ -110,7 +110,7 @@ impl<A: Allocator> Limits<A> {
         self.groups.as_slice()
     }
 
-    /// The row of a user.
+    /// The row of a user, if there is one.
     pub fn user_row(&self, user: u32) -> Option<UserRate>
         ensures row { result ≡ finite.get self.now.users user }
         ensures fits { IfSome result FitsUser }
@@ -118,7 +118,7 @@ impl<A: Allocator> Limits<A> {
         find_user(&self.users, user)
     }
 
-    /// The row of a group.
+    /// The row of a group, if there is one.
     pub fn group_row(&self, group: u32) -> Option<GroupRate>
         ensures row { result ≡ finite.get self.now.groups group }
         ensures fits { IfSome result FitsGroup }
@@ -126,7 +126,7 @@ impl<A: Allocator> Limits<A> {
         find_group(&self.groups, group)
     }
 
-    /// The group of a user.
+    /// The group of a user, if they are in one.
     pub fn group_of(&self, user: u32) -> Option<u32>
         ensures group { result ≡ group_of self.now user }
     {
@@ -136,7 +136,7 @@ impl<A: Allocator> Limits<A> {
         }
     }
 
-    /// The rate of a name, in octets a second: 0, which is no limit, where none is stated.
+    /// The rate of a name, in octets per second; 0, which is no limit, if none is stated.
     pub fn rate(&self, name: Name) -> u64
         ensures rate { result ≡ rate_of self.now name }
         ensures most { result ≤ MAX_RATE }
@@ -159,8 +159,8 @@ impl<A: Allocator> Limits<A> {
         }
     }
 
-    /// What an ask is guaranteed in any tick, in octets: a tenth of what its session is guaranteed a second, rounded
-    /// down, but at most its want.
+    /// The floor of an ask in any tick, in octets: a tenth of its session's guarantee per second, rounded down, and at most
+    /// its want.
     pub fn floor(&self, ask: Ask) -> u64
         ensures floor { result ≡ floor_of self.now ask }
     {
@@ -172,7 +172,7 @@ impl<A: Allocator> Limits<A> {
         }
     }
 
-    /// Puts other rates in place of those of the server and of its two ways.
+    /// Replaces the rates of the server and its two ways.
     pub fn put_line(&mut self, server: u64, down: u64, up: u64)
         requires server { server ≤ MAX_RATE }
         requires down { down ≤ MAX_RATE }
@@ -184,7 +184,7 @@ impl<A: Allocator> Limits<A> {
         self.up = up;
     }
 
-    /// Puts other rates in place of those of a group, if it has a row. It takes no memory, and a binary search.
+    /// Replaces the rates of a group, if it has a row. No memory, one binary search.
     pub fn put_group(&mut self, row: GroupRate)
         requires fits { FitsGroup row }
         ensures put { self.new ≡ with_group self.old row }
@@ -192,8 +192,8 @@ impl<A: Allocator> Limits<A> {
         replace_group(&mut self.groups, row);
     }
 
-    /// Puts other rates in place of those of a user, if they have a row. It takes no memory, and a binary search. The row's group
-    /// is taken as it is given: a group without a row limits nobody.
+    /// Replaces the rates of a user, if they have a row. No memory, one binary search. The row's group is not checked: a
+    /// group without a row limits nobody.
     pub fn put_user(&mut self, row: UserRate)
         requires fits { FitsUser row }
         ensures put { self.new ≡ with_user self.old row }

@@ -1,4 +1,4 @@
-//! The names that an ask bears, in the order in which their branches nest.
+//! The names that an ask counts under, in the order in which their branches nest.
 
 ghost use Rattle.std.specs.Prelude.{◌≡◌, ◌≤◌, IfSome};
 ghost use Rattle.line_rates.specs.Grown.{key};
@@ -7,8 +7,8 @@ use crate::ask::{Ask, Name};
 use crate::limits::Limits;
 use std::alloc::Allocator;
 
-/// The name of an ask at a level: the server's, that of its way, its group's if it has one, its user's and its session's.
-pub fn name_at<A: Allocator>(limits: &Limits<A>, ask: Ask, level: usize) -> Option<Name>
+/// The name of an ask at a level: the server's, its way's, its group's if it has one, its user's and its session's.
+pub(crate) fn name_at<A: Allocator>(limits: &Limits<A>, ask: Ask, level: usize) -> Option<Name>
     ensures key { result ≡ key limits.now level ask }
     ensures level { IfSome result (λ _. level ≤ 4) }
 {

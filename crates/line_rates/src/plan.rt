@@ -16,7 +16,7 @@ use crate::trees::{branch, grow};
 use limit_tree::Tree;
 use std::alloc::{AllocError, Allocator, Global};
 
-/// The tree of a tick, and the lane of each of its leaves.
+/// The tree of a tick, with the lane of each leaf.
 #[derive(Drop)]
 pub struct Plan<A: Allocator = Global> {
     /// The tree, with a leaf for each ask.
@@ -35,7 +35,7 @@ fn lanes_of<A: Allocator>(alloc: A, queue: &[Queued]) -> Result<Vec<u8, A>, Allo
     Ok(lanes)
 }
 
-// The plan for a queue, which is left in the order of its leaves.
+// The plan for a queue. Leaves the queue in the order of the leaves.
 fn plan_queue<L: Allocator, A: Allocator + Clone>(
     alloc: &A,
     limits: &Limits<L>,
@@ -57,10 +57,10 @@ fn plan_queue<L: Allocator, A: Allocator + Clone>(
     }
 }
 
-/// The tree of a tick for some asks, each with the number of its lane: a branch for the server, beneath it one for each
-/// way that is asked for, then for groups beside users without one, users, sessions and, as leaves, the asks. At each
-/// level they stand in the order of first ask. Takes O(n log n) time for n asks, with binary searches for the user of
-/// each, and for the user or the group of each branch.
+/// The tree of a tick for asks, each with the number of its lane: a branch for the server, below it one for each way in
+/// use, then groups beside users without one, users, sessions, and the asks as leaves. At each level, branches are in
+/// the order of their first ask. O(n log n) time for n asks, with binary searches for the user of each ask and for the
+/// user or group of each branch.
 pub fn tree_of<L: Allocator, A: Allocator + Clone>(
     alloc: A,
     limits: &Limits<L>,

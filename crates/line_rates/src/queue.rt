@@ -10,19 +10,22 @@ use std::alloc::{AllocError, Allocator};
 
 /// An ask in the queue.
 #[derive(Clone, Copy)]
-pub struct Queued {
-    /// The number of its lane, and the ask.
+pub(crate) struct Queued {
+    /// Its lane, and the ask.
     pub asker: (u8, Ask),
-    /// Its number among all asks, in the order in which they came.
+    /// Its index in the order in which the asks came.
     pub number: usize,
-    /// Its name at the level at hand.
+    /// Its name at the current level.
     pub name: Option<Name>,
-    /// The number of the first ask with that name.
+    /// The index of the first ask with that name.
     pub first: usize,
 }
 
-/// The asks in the order in which they came.
-pub fn queue_of<A: Allocator>(alloc: A, asks: &[(u8, Ask)]) -> Result<Vec<Queued, A>, AllocError>
+/// The queue of asks in the order in which they came.
+pub(crate) fn queue_of<A: Allocator>(
+    alloc: A,
+    asks: &[(u8, Ask)],
+) -> Result<Vec<Queued, A>, AllocError>
     ensures askers { IfOk result (λ queue. askers queue.items ≡ asks.now) }
 {
     let mut queue = Vec::with_capacity(alloc, asks.len())?;
@@ -37,7 +40,7 @@ pub fn queue_of<A: Allocator>(alloc: A, asks: &[(u8, Ask)]) -> Result<Vec<Queued
     Ok(queue)
 }
 
-// Gives each ask its name at a level, and tells of each that it is the first.
+// Sets the name of each ask at a level, and itself as the first ask with that name.
 fn give_names<A: Allocator>(limits: &Limits<A>, level: usize, queue: &mut [Queued])
     ensures same { askers queue.new ≡ askers queue.old }
     ensures named { AreNamedAt limits.now level queue.new }
@@ -53,7 +56,7 @@ fn give_names<A: Allocator>(limits: &Limits<A>, level: usize, queue: &mut [Queue
     }
 }
 
-// The number of the first with the name of an ask, which stands behind those of that name that came before it.
+// The first ask with the name of `it`, if all earlier asks with that name are directly before it.
 fn first_of(before: Queued, it: Queued) -> usize
     ensures first { it.name ≡ before.name → result ≡ before.first }
 {
@@ -64,8 +67,7 @@ fn first_of(before: Queued, it: Queued) -> usize
     }
 }
 
-// Tells each ask the number of the first that has its name, where those of one name stand side by side, by their
-// numbers.
+// Sets for each ask the first ask with its name. Asks with the same name are adjacent and sorted by index.
 fn give_firsts(queue: &mut [Queued])
     ensures askers { askers queue.new ≡ askers queue.old }
     ensures names { map name_of queue.new ≡ map name_of queue.old }
@@ -79,9 +81,9 @@ fn give_firsts(queue: &mut [Queued])
     }
 }
 
-/// Brings those of one name at a level side by side, in the order of first ask. Takes O(n log n) time for n asks, with
-/// a binary search for the user of each.
-pub fn arrange<A: Allocator>(limits: &Limits<A>, level: usize, queue: &mut [Queued])
+/// Makes asks with the same name at a level adjacent, in the order of their first ask. O(n log n) time for n asks,
+/// with a binary search for the user of each.
+pub(crate) fn arrange<A: Allocator>(limits: &Limits<A>, level: usize, queue: &mut [Queued])
     ensures all { IsPermutation (askers queue.old) (askers queue.new) }
     ensures together { AreTogether limits.now level queue.new }
 {
@@ -91,8 +93,8 @@ pub fn arrange<A: Allocator>(limits: &Limits<A>, level: usize, queue: &mut [Queu
     queue.sort_unstable_by_key(|it| (it.first, it.name, it.number));
 }
 
-/// How many at the front of a queue have the name of the first.
-pub fn run(queue: &[Queued]) -> usize
+/// Length of the leading run of asks with one name.
+pub(crate) fn run(queue: &[Queued]) -> usize
     requires some { 0 < length queue.now }
     ensures run { IsRun queue.now result }
 {

@@ -1,4 +1,4 @@
-//! Rows of rates in the order of their numbers.
+//! Rows of rates, sorted by number.
 
 ghost use Rattle.std.specs.Prelude.{◌≡◌, ◌||◌, IfSome, IsPermutation};
 ghost use Rattle.std.specs.FinMap as finite;
@@ -29,8 +29,8 @@ fn is_large_user(row: UserRate) -> bool
         || row.session_up_floor > MAX_RATE
 }
 
-/// Whether a rate of some group is above `MAX_RATE`.
-pub fn has_large_group(groups: &[GroupRate]) -> bool
+/// Returns whether a rate of some group is above `MAX_RATE`.
+pub(crate) fn has_large_group(groups: &[GroupRate]) -> bool
     ensures large { result ≡ has_large_group groups.now }
 {
     for row in groups {
@@ -41,8 +41,8 @@ pub fn has_large_group(groups: &[GroupRate]) -> bool
     false
 }
 
-/// Whether a rate of some user is above `MAX_RATE`.
-pub fn has_large_user(users: &[UserRate]) -> bool
+/// Returns whether a rate of some user is above `MAX_RATE`.
+pub(crate) fn has_large_user(users: &[UserRate]) -> bool
     ensures large { result ≡ has_large_user users.now }
 {
     for row in users {
@@ -53,24 +53,24 @@ pub fn has_large_user(users: &[UserRate]) -> bool
     false
 }
 
-/// Puts groups in the order of their numbers.
-pub fn sort_groups<A: Allocator>(groups: &mut Vec<GroupRate, A>)
+/// Sorts groups by number.
+pub(crate) fn sort_groups<A: Allocator>(groups: &mut Vec<GroupRate, A>)
     ensures same { IsPermutation groups.old.items groups.new.items }
     ensures sorted { IsNonDecreasingBy group_number groups.new.items }
 {
     groups.sort_unstable_by_key(|row| row.group);
 }
 
-/// Puts users in the order of their numbers.
-pub fn sort_users<A: Allocator>(users: &mut Vec<UserRate, A>)
+/// Sorts users by number.
+pub(crate) fn sort_users<A: Allocator>(users: &mut Vec<UserRate, A>)
     ensures same { IsPermutation users.old.items users.new.items }
     ensures sorted { IsNonDecreasingBy user_number users.new.items }
 {
     users.sort_unstable_by_key(|row| row.user);
 }
 
-/// Whether each group's number is above that of the one before it.
-pub fn groups_rise(groups: &[GroupRate]) -> bool
+/// Returns whether each group's number is above that of the one before it.
+pub(crate) fn groups_rise(groups: &[GroupRate]) -> bool
     ensures rise { TellsRising group_number groups.now result }
 {
     for place in 1..groups.len() {
@@ -81,8 +81,8 @@ pub fn groups_rise(groups: &[GroupRate]) -> bool
     true
 }
 
-/// Whether each user's number is above that of the one before them.
-pub fn users_rise(users: &[UserRate]) -> bool
+/// Returns whether each user's number is above that of the one before them.
+pub(crate) fn users_rise(users: &[UserRate]) -> bool
     ensures rise { TellsRising user_number users.now result }
 {
     for place in 1..users.len() {
@@ -94,7 +94,7 @@ pub fn users_rise(users: &[UserRate]) -> bool
 }
 
 /// The row of a group, by binary search.
-pub fn find_group(groups: &[GroupRate], group: u32) -> Option<GroupRate>
+pub(crate) fn find_group(groups: &[GroupRate], group: u32) -> Option<GroupRate>
     requires rising { IsRising group_number groups.now }
     ensures row { result ≡ finite.get (by_number group_number groups.now) group }
     ensures stands { IfSome result (Contains groups.now) }
@@ -106,7 +106,7 @@ pub fn find_group(groups: &[GroupRate], group: u32) -> Option<GroupRate>
 }
 
 /// The row of a user, by binary search.
-pub fn find_user(users: &[UserRate], user: u32) -> Option<UserRate>
+pub(crate) fn find_user(users: &[UserRate], user: u32) -> Option<UserRate>
     requires rising { IsRising user_number users.now }
     ensures row { result ≡ finite.get (by_number user_number users.now) user }
     ensures stands { IfSome result (Contains users.now) }
@@ -130,8 +130,8 @@ fn is_stray(groups: &[GroupRate], group: Option<u32>) -> bool
     }
 }
 
-/// Whether some user is in a group that has no row.
-pub fn has_stray_user(groups: &[GroupRate], users: &[UserRate]) -> bool
+/// Returns whether some user is in a group that has no row.
+pub(crate) fn has_stray_user(groups: &[GroupRate], users: &[UserRate]) -> bool
     requires rising { IsRising group_number groups.now }
     ensures stray { result ≡ has_stray_user groups.now users.now }
 {
@@ -143,7 +143,7 @@ pub fn has_stray_user(groups: &[GroupRate], users: &[UserRate]) -> bool
     false
 }
 
-/// Returns the place of a group's row, if it has one.
+/// The index of a group's row, if it has one.
 fn place_of_group(groups: &[GroupRate], group: u32) -> Option<usize>
     requires rising { IsRising group_number groups.now }
     ensures place { FindsPlace group_number groups.now group result }
@@ -154,7 +154,7 @@ fn place_of_group(groups: &[GroupRate], group: u32) -> Option<usize>
     }
 }
 
-/// Returns the place of a user's row, if they have one.
+/// The index of a user's row, if they have one.
 fn place_of_user(users: &[UserRate], user: u32) -> Option<usize>
     requires rising { IsRising user_number users.now }
     ensures place { FindsPlace user_number users.now user result }
@@ -165,8 +165,8 @@ fn place_of_user(users: &[UserRate], user: u32) -> Option<usize>
     }
 }
 
-/// Puts a row in place of that of its group, if there is one.
-pub fn replace_group<A: Allocator>(groups: &mut Vec<GroupRate, A>, row: GroupRate)
+/// Replaces the row of a group, if it has one.
+pub(crate) fn replace_group<A: Allocator>(groups: &mut Vec<GroupRate, A>, row: GroupRate)
     requires rising { IsRising group_number groups.old.items }
     requires all_fit { All FitsGroup groups.old.items }
     requires fits { FitsGroup row }
@@ -181,8 +181,8 @@ pub fn replace_group<A: Allocator>(groups: &mut Vec<GroupRate, A>, row: GroupRat
     }
 }
 
-/// Puts a row in place of that of its user, if there is one.
-pub fn replace_user<A: Allocator>(users: &mut Vec<UserRate, A>, row: UserRate)
+/// Replaces the row of a user, if they have one.
+pub(crate) fn replace_user<A: Allocator>(users: &mut Vec<UserRate, A>, row: UserRate)
     requires rising { IsRising user_number users.old.items }
     requires all_fit { All FitsUser users.old.items }
     requires fits { FitsUser row }

@@ -12,7 +12,7 @@ use limit_tree::Node;
 use std::alloc::{AllocError, Allocator};
 
 /// A branch over trees.
-pub fn branch<A: Allocator>(limit: Option<u64>, kids: Vec<Node<A>, A>) -> Node<A>
+pub(crate) fn branch<A: Allocator>(limit: Option<u64>, kids: Vec<Node<A>, A>) -> Node<A>
     ensures places { places result ≡ branch_places limit kids.items }
 {
     Node::Branch { limit, kids }
@@ -24,9 +24,10 @@ fn leaf<A: Allocator>(want: u64, floor: u64) -> Node<A>
     Node::Leaf { want, floor }
 }
 
-/// The trees of a queue by its names from a level down, in a tick. Asks that bear one name at the level go under one
-/// branch, in the place of the first; an ask with no further name is a leaf. The queue is left in the order of the leaves.
-pub fn grow<L: Allocator, A: Allocator + Clone>(
+/// The trees of a queue by its names from a level down, in a tick. Asks with the same name at the level are under one
+/// branch, in the place of the first; an ask without a further name is a leaf. Leaves the queue in the order of the
+/// leaves.
+pub(crate) fn grow<L: Allocator, A: Allocator + Clone>(
     alloc: &A,
     limits: &Limits<L>,
     tick: u64,

@@ -6,10 +6,10 @@ use borrow.Author.Tests.{ltb-true}
 use Rattle.virtual_tree.specs.declared.fault.StoreFault.{StoreFault}
 use Rattle.virtual_tree.specs.declared.fault.StoreFault.TheVariants as fault
 use Rattle.virtual_tree.specs.Calls.{in_answer}
-use Rattle.file_tree.specs.Tree.{Spot, Tree, size_at, total}
-use Rattle.file_tree.specs.Tree.Node.{File}
+use Rattle.memory_store.specs.Tree.{Spot, Tree, size_at, total}
+use Rattle.memory_store.specs.Tree.Node.{File}
 use Rattle.memory_store.specs.InMemory.{Memory, Upload, Changes, left_by, filled, finish_octets}
-use Rattle.file_tree.proofs.Trees.{total-insert, size_within}
+use Rattle.memory_store.proofs.Trees.{total-insert, size_within}
 
 -- a refusal that was decided
 pub refuses : {P X : Type 0} (old : Memory) (decided : Result P StoreFault) (told : P → X) (tree : P → Tree) (why : StoreFault) → decided ≡ Err why → Changes old (Err why) old decided told tree

@@ -6,18 +6,18 @@ use Rattle.std.specs.FinMap.{get, insert, get-insert}
 use Rattle.std.specs.Cmp.{tied_itself}
 use Rattle.std.specs.Ordering.{is_eq}
 use Rattle.virtual_path.specs.Path.{Path}
-use Rattle.ftp_terms.specs.declared.entries.Kind.{Kind}
-use Rattle.ftp_terms.specs.declared.entries.Kind.TheVariants as kind
+use Rattle.ftp_terms.specs.declared.entries.EntryKind.{EntryKind}
+use Rattle.ftp_terms.specs.declared.entries.EntryKind.TheVariants as kind
 use Rattle.virtual_tree.specs.declared.fault.StoreFault.{StoreFault}
 use Rattle.virtual_tree.specs.declared.fault.StoreFault.TheVariants as fault
 use Rattle.virtual_tree.specs.declared.mode.WriteMode.{WriteMode}
 use Rattle.virtual_tree.specs.declared.mode.WriteMode.TheVariants.{New, At, Append}
 use Rattle.virtual_tree.specs.Calls.{in_answer, Target, Writes}
-use Rattle.file_tree.specs.Tree.{Node, Spot, Tree, spot_of, node_in, node_at, total}
-use Rattle.file_tree.specs.Tree.Node.{Directory, File}
+use Rattle.memory_store.specs.Tree.{Node, Spot, Tree, spot_of, node_in, node_at, total}
+use Rattle.memory_store.specs.Tree.Node.{Directory, File}
 use Rattle.memory_store.specs.InMemory.{Memory, Upload, Opening, target_of, kind_in, kind_at, vacancy, opened, open_new, open_absent, open_node, filled, finished, finish_node, if_found, unit_of, left_by}
 use Rattle.memory_store.specs.Uploads.{octets_in, kept_by, FinishPutsWhatCame}
-use Rattle.file_tree.specs.Orders.{paths_total}
+use Rattle.memory_store.specs.Orders.{paths_total}
 
 no_answer : {X : Type 0} (why : StoreFault) (x : X) → (let refused : Result X StoreFault = Err why in refused) ≡ Ok x → ⊥
 no_answer why x e = cc
@@ -43,7 +43,7 @@ abbrev IsOpening : Spot → ℕ → Result Opening StoreFault → Type 0
 IsOpening spot kept (Err why) = Unit {0}
 IsOpening spot kept (Ok opening) = (opening.upload.spot ≡ spot) × (opening.upload.kept ≡ kept) × (opening.upload.octets ≡ [])
 
-new_opens : (tree : Tree) (spot : Spot) (moment : ℕ) (above here : Option Kind) → IsOpening spot 0 (open_new tree moment (vacancy spot above here))
+new_opens : (tree : Tree) (spot : Spot) (moment : ℕ) (above here : Option EntryKind) → IsOpening spot 0 (open_new tree moment (vacancy spot above here))
 new_opens tree spot moment None here = tt
 new_opens tree spot moment (Some kind.File) here = tt
 new_opens tree spot moment (Some kind.Directory) (Some found) = tt

@@ -1,8 +1,8 @@
--- How the values of stores in memory are told apart.
+-- Codes, by which proofs distinguish values of stores in memory.
 use Rattle.std.specs.Prelude.{ℕ, List, refl}
 use Rattle.std.specs.Coded.{Coded, code_by, coded×, coded_ℕ, coded_list}
-use Rattle.file_tree.specs.Codes.{spot_code, tree_code}
-use Rattle.file_tree.specs.Tree.{Spot, Tree}
+use Rattle.memory_store.specs.TreeCodes.{spot_code, tree_code}
+use Rattle.memory_store.specs.Tree.{Spot, Tree}
 use Rattle.memory_store.specs.InMemory.{Memory, Upload}
 
 abbrev pub memory_code : Coded Memory

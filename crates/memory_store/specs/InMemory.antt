@@ -1,35 +1,36 @@
--- What each call makes of a store in memory.
+-- The effect of each call on a store in memory.
 use Rattle.std.specs.Prelude.{ℕ, ◌≡◌, ◌≢◌, Bool, cond, List, [], ◌++◌, length, take, drop, Option, Some, None, Result, Ok, Err, nat_lt, nat_eq, option_map, option_and_then, unwrap_or}
 use Rattle.std.specs.FinMap.{get, insert, remove}
 use Rattle.virtual_path.specs.Path.{Path, parent_of}
 use Rattle.virtual_tree.specs.declared.fault.StoreFault.{StoreFault}
 use Rattle.virtual_tree.specs.declared.fault.StoreFault.TheVariants as fault
 use Rattle.ftp_terms.specs.declared.entries.Meta.{Meta}
-use Rattle.ftp_terms.specs.declared.entries.Kind.{Kind}
-use Rattle.ftp_terms.specs.declared.entries.Kind.TheVariants as kind
+use Rattle.ftp_terms.specs.declared.entries.EntryKind.{EntryKind}
+use Rattle.ftp_terms.specs.declared.entries.EntryKind.TheVariants as kind
 use Rattle.virtual_tree.specs.declared.mode.WriteMode.{WriteMode}
 use Rattle.virtual_tree.specs.declared.mode.WriteMode.TheVariants.{New, At, Append}
 use Rattle.virtual_tree.specs.Calls.{Entry, in_answer, Exchange, Target}
 use Rattle.virtual_tree.specs.Calls.Exchange.{Stat, Listing, OpenRead, OpenWrite, Finish, MakeDir, RemoveDir, RemoveFile, Rename}
-use Rattle.file_tree.specs.Tree.{Node, Spot, Tree, spot_of, node_at, meta_of, kind_of, octets_of, total, children_in, listing, begins_with, renamed}
-use Rattle.file_tree.specs.Tree.Node.{Directory, File}
+use Rattle.memory_store.specs.Tree.{Node, Spot, Tree, spot_of, node_at, meta_of, kind_of, octets_of, total, children_in, listing, begins_with, renamed}
+use Rattle.memory_store.specs.Tree.Node.{Directory, File}
 
--- a store in memory: what it holds, and the most octets that its files may hold
+-- a store in memory: its contents, and the most octets that its files may have
 pub record Memory : Type 0 where
   pub tree : Tree
   pub capacity : ℕ
 
--- octets on their way into a file: its spot, how many of its octets stay in front, and what came
+-- an upload: the spot of its file, how many of the file's octets are kept before the new ones, and
+-- those received
 pub record Upload : Type 0 where
   pub spot : Spot
   pub kept : ℕ
   pub octets : List ℕ
 
--- where they go
+-- the target of an upload
 abbrev pub target_of : Upload → Target
 target_of upload = record { path = upload.spot; kept = upload.kept }
 
--- the answer where something stands, and else that nothing does
+-- the result for an entry that exists; otherwise `NotFound`
 abbrev pub if_found : {X : Type 0} → (Node → Result X StoreFault) → Option Node → Result X StoreFault
 if_found answer None = Err fault.NotFound
 if_found answer (Some node) = answer node
@@ -39,27 +40,27 @@ if_found answer (Some node) = answer node
 abbrev pub meta_told : Node → Result Meta StoreFault
 meta_told node = Ok (meta_of node)
 
--- a file's octets from an offset on; None: a directory
+-- a file's octets from an offset on; None is a directory
 abbrev pub octets_from : ℕ → Option (List ℕ) → Result (List ℕ) StoreFault
 octets_from offset None = Err fault.IsDir
 octets_from offset (Some octets) = cond (nat_lt (length octets) offset) (Err fault.PastEnd) (Ok (drop offset octets))
 
--- ---- calls that change the tree: what decides, and then what is left
+-- ---- calls that change the tree: the decision, and then the tree afterwards
 
--- what kind of node stands at a spot, or at a path
-abbrev pub kind_in : Tree → Spot → Option Kind
+-- the kind of the node at a spot, or at a path
+abbrev pub kind_in : Tree → Spot → Option EntryKind
 kind_in tree spot = option_map kind_of (get tree spot)
 
-abbrev pub kind_at : Tree → Path → Option Kind
+abbrev pub kind_at : Tree → Path → Option EntryKind
 kind_at tree path = option_map kind_of (node_at tree path)
 
-abbrev pub listing_told : Tree → Path → Option Kind → Result (List Entry) StoreFault
+abbrev pub listing_told : Tree → Path → Option EntryKind → Result (List Entry) StoreFault
 listing_told tree path None = Err fault.NotFound
 listing_told tree path (Some kind.File) = Err fault.NotDir
 listing_told tree path (Some kind.Directory) = Ok (listing tree path)
 
--- whether an entry may be made, by what stands above it and at its spot
-abbrev pub vacancy : Spot → Option Kind → Option Kind → Result Spot StoreFault
+-- whether an entry may be created, given the kinds of its directory and of an entry at its spot
+abbrev pub vacancy : Spot → Option EntryKind → Option EntryKind → Result Spot StoreFault
 vacancy spot None here = Err fault.NotFound
 vacancy spot (Some kind.File) here = Err fault.NotDir
 vacancy spot (Some kind.Directory) (Some found) = Err fault.Exists
@@ -73,7 +74,7 @@ abbrev pub spot_to_make : Tree → Path → Option Spot → Result Spot StoreFau
 spot_to_make tree path None = Err fault.Exists
 spot_to_make tree path (Some spot) = vacant tree path spot
 
-abbrev pub bare_only : Bool → Spot → Option Kind → Result Spot StoreFault
+abbrev pub bare_only : Bool → Spot → Option EntryKind → Result Spot StoreFault
 bare_only is_bare spot None = Err fault.NotFound
 bare_only is_bare spot (Some kind.File) = Err fault.NotDir
 bare_only is_bare spot (Some kind.Directory) = cond is_bare (Ok spot) (Err fault.NotEmpty)
@@ -87,7 +88,7 @@ abbrev pub spot_of_bare : Tree → Path → Option Spot → Result Spot StoreFau
 spot_of_bare tree path None = Err fault.NotEmpty
 spot_of_bare tree path (Some spot) = bare_only (is_bare tree path) spot (kind_in tree spot)
 
-abbrev pub file_only : Spot → Option Kind → Result Spot StoreFault
+abbrev pub file_only : Spot → Option EntryKind → Result Spot StoreFault
 file_only spot None = Err fault.NotFound
 file_only spot (Some kind.Directory) = Err fault.IsDir
 file_only spot (Some kind.File) = Ok spot
@@ -97,7 +98,7 @@ abbrev pub spot_of_file : Tree → Option Spot → Result Spot StoreFault
 spot_of_file tree None = Err fault.IsDir
 spot_of_file tree (Some spot) = file_only spot (kind_in tree spot)
 
--- what is renamed, and its spot before and afterwards
+-- the entry to be renamed, and its spots before and afterwards
 pub record Move : Type 0 where
   pub node : Node
   pub before : Spot
@@ -117,12 +118,12 @@ move_of tree from to None target = Err fault.Inside
 move_of tree from to (Some before) None = Err fault.Inside
 move_of tree from to (Some before) (Some afterwards) = if_found (move_to tree from to before afterwards) (get tree before)
 
--- what is renamed between two paths, or why nothing is
+-- the rename between two paths, or why it is refused
 abbrev pub move_between : Tree → Path → Path → Result Move StoreFault
 move_between tree from to = move_of tree from to (spot_of from) (spot_of to)
 
--- a directory takes along all that stands beneath it
-abbrev pub moved_by_kind : Tree → Move → Kind → Tree
+-- a directory moves with everything beneath it
+abbrev pub moved_by_kind : Tree → Move → EntryKind → Tree
 moved_by_kind tree move kind.Directory = renamed tree move.before move.afterwards
 moved_by_kind tree move kind.File = remove (insert tree move.afterwards move.node) move.before
 
@@ -131,7 +132,7 @@ moved_tree tree move = moved_by_kind tree move (kind_of move.node)
 
 -- ---- files that are written
 
--- a file open for writing: the tree by then, and what is to come
+-- a file opened for writing: the tree afterwards, and the upload
 pub record Opening : Type 0 where
   pub tree : Tree
   pub upload : Upload
@@ -143,13 +144,13 @@ abbrev pub open_new : Tree → ℕ → Result Spot StoreFault → Result Opening
 open_new tree moment (Err why) = Err why
 open_new tree moment (Ok spot) = Ok (opening (insert tree spot (File [] moment)) spot 0)
 
--- where nothing stands
+-- if there is no entry
 abbrev pub open_absent : Tree → Path → Spot → ℕ → WriteMode → Result Opening StoreFault
 open_absent tree path spot moment New = open_new tree moment (vacant tree path spot)
 open_absent tree path spot moment (At offset) = Err fault.NotFound
 open_absent tree path spot moment Append = open_new tree moment (vacant tree path spot)
 
--- where a file with these octets stands; None: a directory
+-- if there is a file with these octets; None is a directory
 abbrev pub open_octets : Tree → Spot → ℕ → WriteMode → Option (List ℕ) → Result Opening StoreFault
 open_octets tree spot moment mode None = Err fault.IsDir
 open_octets tree spot moment New (Some octets) = Ok (opening (insert tree spot (File [] moment)) spot 0)
@@ -165,11 +166,12 @@ abbrev pub opened : Tree → Path → WriteMode → ℕ → Option Spot → Resu
 opened tree path mode moment None = Err fault.IsDir
 opened tree path mode moment (Some spot) = open_node tree path spot moment mode (get tree spot)
 
--- the tree once the file at the upload's spot is its first octets, followed by those that came
+-- the tree after the file at the upload's spot was set to its first octets, followed by those
+-- received
 abbrev pub filled : Tree → Upload → ℕ → List ℕ → Tree
 filled tree upload moment octets = insert tree upload.spot (File (take upload.kept octets ++ upload.octets) moment)
 
--- by the octets of the file that stands there; None: a directory
+-- given the octets of the file at the spot; None is a directory
 abbrev pub finish_octets : Memory → Upload → ℕ → Option (List ℕ) → Result Tree StoreFault
 finish_octets memory upload moment None = Err fault.IsDir
 finish_octets memory upload moment (Some octets) =
@@ -184,16 +186,16 @@ finished memory upload moment = if_found (finish_node memory upload moment) (get
 
 -- ---- the relation
 
--- this answer, or that memory ran out; and the store is as it was
+-- this result or lack of memory, and the store is unchanged
 abbrev pub Tells : {X : Type 0} → Memory → Result X StoreFault → Memory → Result X StoreFault → Type 0
 Tells old answer new wanted = (answer ≢ Err fault.Memory → answer ≡ wanted) × (new ≡ old)
 
--- the store by what was decided, where a refusal leaves it as it was
+-- the store after a decision; a refusal leaves it unchanged
 abbrev pub left_by : {P : Type 0} → Memory → (P → Tree) → Result P StoreFault → Memory
 left_by old tree (Ok decided) = record { tree = tree decided; capacity = old.capacity }
 left_by old tree (Err why) = old
 
--- this answer, and the store that it leaves; or that memory ran out, and the store is as it was
+-- this result and the store after it; or lack of memory, and the store is unchanged
 abbrev pub Changes : {P X : Type 0} → Memory → Result X StoreFault → Memory → Result P StoreFault → (P → X) → (P → Tree) → Type 0
 Changes old answer new decided told tree =
     (answer ≢ Err fault.Memory → (answer ≡ in_answer told decided) × (new ≡ left_by old tree decided))
@@ -221,10 +223,10 @@ InMemory old (RemoveFile path answer) new =
 InMemory old (Rename from to answer) new =
     Changes old answer new (move_of old.tree from to (spot_of from) (spot_of to)) unit_of (moved_tree old.tree)
 
--- the octets at a spot, none where no file stands
+-- the octets at a spot; none if there is no file
 abbrev pub octets_at : Tree → Spot → List ℕ
 octets_at tree spot = unwrap_or (option_and_then octets_of (get tree spot)) []
 
--- the octets that the files would hold once those of an upload have come
+-- number of octets in the files once an upload is finished
 abbrev pub would_hold : Memory → Upload → ℕ → ℕ
 would_hold memory upload moment = total (filled memory.tree upload moment (octets_at memory.tree upload.spot))

@@ -1,4 +1,4 @@
--- Proofs, and nothing to be believed: that each step of a store in memory keeps the laws of the trait `Store`. They stand
+-- Proofs, not definitions to be believed: each step of a store in memory keeps the laws of the trait `Store`. They are
 -- here since the toolchain wants the proof of a trait's law among the definitions.
 use Rattle.std.proofs.Common.{◌≡◌, ◌≢◌, ℕ, eqb, eq-eqb, ◌<◌, Bool, true, false, cond, not, T, List, [], Option, Some, None, Result, Ok, Err, length, nat_lt, unwrap_or, lit<, ◌^◌, option_and_then, refl, sym, ap, ◌∙◌, subst}
 use borrow.Author.Tests.{ltb-true}
@@ -7,16 +7,16 @@ use Rattle.std.specs.FinMap.{get}
 use Rattle.virtual_path.specs.Path.{Path}
 use Rattle.virtual_tree.specs.declared.fault.StoreFault.{StoreFault}
 use Rattle.virtual_tree.specs.declared.fault.StoreFault.TheVariants as fault
-use Rattle.ftp_terms.specs.declared.entries.Kind.{Kind}
-use Rattle.ftp_terms.specs.declared.entries.Kind.TheVariants as kind
+use Rattle.ftp_terms.specs.declared.entries.EntryKind.{EntryKind}
+use Rattle.ftp_terms.specs.declared.entries.EntryKind.TheVariants as kind
 use Rattle.virtual_tree.specs.declared.mode.WriteMode.{WriteMode}
 use Rattle.virtual_tree.specs.declared.mode.WriteMode.TheVariants.{New, At, Append}
 use Rattle.virtual_tree.specs.Calls.{in_answer, Exchange, refusal, PassesCapacity}
 use Rattle.virtual_tree.specs.Calls.Exchange.{Stat, Listing, OpenRead, OpenWrite, Finish, MakeDir, RemoveDir, RemoveFile, Rename}
-use Rattle.file_tree.specs.Tree.{Node, Spot, Tree, spot_of, node_at, octets_of, total, begins_with}
+use Rattle.memory_store.specs.Tree.{Node, Spot, Tree, spot_of, node_at, octets_of, total, begins_with}
 use Rattle.memory_store.specs.InMemory.{Memory, Upload, Move, InMemory, would_hold, if_found, meta_told, listing_told, octets_from, vacancy, vacant, spot_to_make, bare_only, is_bare, spot_of_bare, file_only, spot_of_file, outside_itself, move_to, move_of, open_new, open_absent, open_octets, open_node, opened, filled, unit_of, finish_octets, finish_node, finished, octets_at}
 
--- neither the device nor the capacity
+-- neither `Device` nor `Full`
 abbrev is_plain : StoreFault → Bool
 is_plain fault.Full = false
 is_plain fault.Device = false
@@ -26,7 +26,7 @@ both_ways : (b : Bool) → T (not b) → T b → ⊥
 both_ways true h p = h
 both_ways false h p = p
 
--- their numbers tell them apart
+-- numbers that distinguish faults
 abbrev fault_number : StoreFault → ℕ
 fault_number fault.NotFound = 1
 fault_number fault.NotDir = 2
@@ -54,7 +54,7 @@ plain-if_found : {X : Type 0} (answer : Node → Result X StoreFault) → ((node
 plain-if_found answer h None = tt
 plain-if_found answer h (Some node) = h node
 
-plain-listing : (tree : Tree) (path : Path) (found : Option Kind) → Plain (listing_told tree path found)
+plain-listing : (tree : Tree) (path : Path) (found : Option EntryKind) → Plain (listing_told tree path found)
 plain-listing tree path None = tt
 plain-listing tree path (Some kind.File) = tt
 plain-listing tree path (Some kind.Directory) = tt
@@ -63,7 +63,7 @@ plain-octets_from : (offset : ℕ) (octets : Option (List ℕ)) → Plain (octet
 plain-octets_from offset None = tt
 plain-octets_from offset (Some octets) = plain-cond (nat_lt (length octets) offset) _ _ tt tt
 
-plain-vacancy : (spot : Spot) (above here : Option Kind) → Plain (vacancy spot above here)
+plain-vacancy : (spot : Spot) (above here : Option EntryKind) → Plain (vacancy spot above here)
 plain-vacancy spot None here = tt
 plain-vacancy spot (Some kind.File) here = tt
 plain-vacancy spot (Some kind.Directory) (Some found) = tt
@@ -76,7 +76,7 @@ plain-spot_to_make : (tree : Tree) (path : Path) (spot : Option Spot) → Plain 
 plain-spot_to_make tree path None = tt
 plain-spot_to_make tree path (Some spot) = plain-vacant tree path spot
 
-plain-bare_only : (bare : Bool) (spot : Spot) (found : Option Kind) → Plain (bare_only bare spot found)
+plain-bare_only : (bare : Bool) (spot : Spot) (found : Option EntryKind) → Plain (bare_only bare spot found)
 plain-bare_only bare spot None = tt
 plain-bare_only bare spot (Some kind.File) = tt
 plain-bare_only bare spot (Some kind.Directory) = plain-cond bare _ _ tt tt
@@ -85,7 +85,7 @@ plain-spot_of_bare : (tree : Tree) (path : Path) (spot : Option Spot) → Plain 
 plain-spot_of_bare tree path None = tt
 plain-spot_of_bare tree path (Some spot) = plain-bare_only (is_bare tree path) spot _
 
-plain-file_only : (spot : Spot) (found : Option Kind) → Plain (file_only spot found)
+plain-file_only : (spot : Spot) (found : Option EntryKind) → Plain (file_only spot found)
 plain-file_only spot None = tt
 plain-file_only spot (Some kind.File) = tt
 plain-file_only spot (Some kind.Directory) = tt
@@ -127,7 +127,7 @@ plain-opened : (tree : Tree) (path : Path) (mode : WriteMode) (moment : ℕ) (sp
 plain-opened tree path mode moment None = tt
 plain-opened tree path mode moment (Some spot) = plain-open_node tree path spot moment mode (get tree spot)
 
--- ---- an answer's fault is plain where the decision's is
+-- ---- a result's fault is plain if the decision's is
 
 abbrev refused : (X : Type 0) → StoreFault → Result X StoreFault
 refused X why = Err why
@@ -152,12 +152,12 @@ plain-in_answer : {X P : Type 0} (told : P → X) (decided : Result P StoreFault
 plain-in_answer told (Ok x) p = tt
 plain-in_answer told (Err why) p = p
 
--- a fault that is not plain, and not want of memory
+-- a fault that is neither plain nor lack of memory
 pub record IsGrave (why : StoreFault) : Type 0 where
   pub not_plain : T (not (is_plain why))
   pub not_memory : why ≢ fault.Memory
 
--- what was wanted, where the answer is such a fault
+-- the decision, if the result is such a fault
 wanted_by : (X : Type 0) (answer wanted : Result X StoreFault) (why : StoreFault) → why ≢ fault.Memory → (answer ≢ Err fault.Memory → answer ≡ wanted) → result_err answer ≡ Some why → refused X why ≡ wanted
 wanted_by X (Ok x) wanted why other told is = absurd (nothing_some why is)
 wanted_by X (Err found) wanted why other told is =
@@ -171,7 +171,7 @@ abbrev OnlyFinish : Exchange (List ℕ) Upload → Type 0
 OnlyFinish (Finish upload moment answer) = Unit {0}
 OnlyFinish _ = ⊥
 
--- whatever is refused but by Finish, is refused plainly
+-- any refusal except one of Finish is plain
 plain_step : (old new : Memory) (exchange : Exchange (List ℕ) Upload) (why : StoreFault) → IsGrave why → InMemory old exchange new → refusal exchange ≡ Some why → OnlyFinish exchange
 plain_step old new (Stat path answer) why grave step is = (refused_by answer _ why grave (plain-if_found meta_told (λ node. tt) (node_at old.tree path)) step.0 is)
 plain_step old new (Listing path answer) why grave step is = (refused_by answer _ why grave (plain-listing old.tree path _) step.0 is)
@@ -191,7 +191,7 @@ plain_step old new (Rename from to answer) why grave step is =
 
 -- ---- Finish
 
--- not the device; and full only past the capacity
+-- not `Device`; and `Full` only above the capacity
 record IsFinish (memory : Memory) (after : ℕ) (decided : Result Tree StoreFault) : Type 0 where
   not_device : decided ≡ refused Tree fault.Device → ⊥
   full : decided ≡ refused Tree fault.Full → memory.capacity < after
@@ -244,7 +244,7 @@ device_is_grave = record { not_plain = tt; not_memory = λ e. differ 7 8 tt (ap 
 full_is_grave : IsGrave fault.Full
 full_is_grave = record { not_plain = tt; not_memory = λ e. differ 6 8 tt (ap fault_number e) }
 
--- what was decided, where the answer is a fault other than want of memory
+-- the decision, if the result is a fault other than lack of memory
 decided_by : (old new : Memory) (upload : Upload) (moment : ℕ) (answer : Result (Unit {0}) StoreFault) (why : StoreFault) → why ≢ fault.Memory
     → InMemory old (Finish upload moment answer) new → result_err answer ≡ Some why → finished old upload moment ≡ Err why
 decided_by old new upload moment answer why other step is =

@@ -1,3 +1,7 @@
+pub mod TreeCodes
+pub mod Held
+pub mod Orders
+pub mod Tree
 pub mod Codes
 pub mod InMemory
 pub mod Laws

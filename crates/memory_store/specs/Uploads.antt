@@ -1,4 +1,4 @@
--- What an upload leaves, over the calls that it takes.
+-- The effect of an upload, over all its calls.
 use Rattle.std.specs.Prelude.{ℕ, ◌≡◌, List, [], ◌++◌, length, take, Option, Some, Ok}
 use Rattle.std.specs.List.{concat}
 use Rattle.virtual_path.specs.Path.{Path}
@@ -6,24 +6,25 @@ use Rattle.virtual_tree.specs.declared.mode.WriteMode.{WriteMode}
 use Rattle.virtual_tree.specs.declared.mode.WriteMode.TheVariants.{New, At, Append}
 use Rattle.virtual_tree.specs.Calls.{Writes}
 use Rattle.virtual_tree.specs.Calls.Exchange.{OpenWrite, Finish}
-use Rattle.file_tree.specs.Tree.{Node, node_at}
-use Rattle.file_tree.specs.Tree.Node.{File}
+use Rattle.memory_store.specs.Tree.{Node, node_at}
+use Rattle.memory_store.specs.Tree.Node.{File}
 use Rattle.memory_store.specs.InMemory.{Memory, Upload, InMemory, target_of}
 
--- the octets of what stands at a path, none where no file stands
+-- the octets of the file at a path; none if there is no file
 abbrev pub octets_in : Option Node → List ℕ
 octets_in (Some (File octets moment)) = octets
 octets_in _ = []
 
--- how many octets of a file stay in front of what comes
+-- number of octets of a file that are kept before the new ones
 abbrev pub kept_by : WriteMode → List ℕ → ℕ
 kept_by New octets = 0
 kept_by (At offset) octets = offset
 kept_by Append octets = length octets
 
--- A file was opened, in a store that held `first`; these pieces were written through the sink that was given, and maybe
--- others were refused; and the sink's `finish`, in a store that by then held `before`, was carried out. Then the file is
--- the first octets that it had right before, as many as the mode said when it was opened, followed by the pieces.
+-- A file was opened in a store with contents `first`; these pieces were written through the sink that was returned, and
+-- perhaps others were refused; and the sink's `finish` succeeded, in a store that had the contents `before` by then.
+-- Then the file is the first octets that it had directly before, as many as the mode kept when it was opened, followed
+-- by the pieces.
 abbrev pub FinishPutsWhatCame : Type 0
 FinishPutsWhatCame = (first opened before after : Memory) (path : Path) (mode : WriteMode) (moment later : ℕ)
     (given brought : Upload) (pieces : List (List ℕ))

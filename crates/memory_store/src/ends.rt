@@ -1,8 +1,8 @@
-//! What files in memory are read from and written through.
+//! Sources and sinks of files in memory.
 
 ghost use Rattle.std.specs.Prelude.{◌≡◌, ◌≤◌, min, take, length, Some};
 
-use file_tree::Spot;
+use crate::spot::Spot;
 use std::alloc::Allocator;
 use std::marker::Model;
 use std::sync::Arc;
@@ -17,7 +17,7 @@ pub struct MemSource<A: Allocator> {
 
 impl<A: Allocator> Model for MemSource<A> {
     ghost use Rattle.std.specs.Prelude.{List, ℕ, drop, length, ◌≤◌};
-    ghost use Rattle.file_tree.specs.Held.{shared};
+    ghost use Rattle.memory_store.specs.Held.{shared};
 
     ghost Value = { List ℕ };
 
@@ -26,7 +26,7 @@ impl<A: Allocator> Model for MemSource<A> {
     ghost invariant = { λ source. source.at ≤ length (shared source.octets) };
 }
 
-/// The octets that came for a file; `finish` puts them into it.
+/// The octets received for a file; `finish` puts them into it.
 #[derive(Drop)]
 pub struct MemSink<A: Allocator> {
     pub(crate) spot: Spot<A>,
@@ -45,7 +45,7 @@ impl<A: Allocator> Model for MemSink<A> {
     ghost view = { λ sink. record { spot = sink.spot; kept = sink.kept; octets = sink.octets.items } };
 }
 
-/// Copies as much as there is room for, and answers how much.
+/// Copies as many octets as there is room for, and returns their number.
 fn copy_front(buffer: &mut [u8], octets: &[u8]) -> usize
     ensures count { result ≡ min (length buffer.old) (length octets.now) }
     ensures copied { take result buffer.new ≡ take result octets.now }

@@ -1,6 +1,7 @@
 //! A store of files and directories in memory.
 //!
-//! [`MemStore`] is a `Store`, and what each of its calls makes of it is a function of what it held.
+//! [`MemStore`] is a `Store`, and what each of its calls answers and leaves is a function of its contents: a finite map from
+//! paths to directories and files, with a limit to the octets of all files together.
 //!
 //! ```text
 //! let mut store = MemStore::new(rt.alloc(), 1_000_000)?; // of so many octets at most
@@ -11,9 +12,12 @@
 #![tactic(auto)]
 
 mod ends;
+mod entry;
+mod files;
 mod laws;
 mod memory;
 mod renaming;
+mod spot;
 mod vacancy;
 mod writing;
 

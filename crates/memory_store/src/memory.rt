@@ -6,20 +6,22 @@ ghost use Rattle.std.specs.FinMap as map;
 ghost use Rattle.std.specs.List.Sorted.{IsStrictlySortedBy};
 ghost use Rattle.std.specs.Ordering.{nat_cmp};
 ghost use Rattle.virtual_tree.specs.Calls.{in_answer, entries_of, names_of};
-ghost use Rattle.file_tree.specs.Tree.{listing};
+ghost use Rattle.memory_store.specs.Tree.{listing};
 
 use crate::ends::{MemSink, MemSource};
+use crate::entry::Entry;
+use crate::files::Files;
+use crate::spot::Spot;
 use crate::writing::open_from;
-use file_tree::{Entry, Files, Spot};
-use ftp_terms::{Kind, Meta};
+use ftp_terms::{EntryKind, Meta};
 use std::alloc::{AllocError, Allocator, Global};
 use std::marker::Model;
 use virtual_path::VPath;
-use virtual_tree::{Listed, Store, StoreFault, WriteMode};
+use virtual_tree::{ListedEntry, Store, StoreFault, WriteMode};
 
 /// Directories and files in memory.
 ///
-/// What was written through a sink stands in the file once `finish` has put it there. A refused
+/// Octets written through a sink are in the file once `finish` has put them there. A refused
 /// `finish` leaves the file as `open_write` left it.
 #[derive(Drop)]
 pub struct MemStore<A: Allocator = Global> {
@@ -40,7 +42,7 @@ impl<A: Allocator> Model for MemStore<A> {
 }
 
 impl<A: Allocator + Clone> MemStore<A> {
-    /// An empty store, whose files may hold this many octets.
+    /// An empty store, whose files may have `capacity` octets together.
     pub fn new(alloc: A, capacity: u64) -> Result<MemStore<A>, AllocError>
         ensures empty { IfOk result (λ store. store.tree ≡ map.empty) }
         ensures capacity { IfOk result (λ store. store.capacity ≡ capacity) }
@@ -53,7 +55,7 @@ impl<A: Allocator + Clone> MemStore<A> {
         })
     }
 
-    /// The entry at a spot once more.
+    /// Another handle to the entry at a spot.
     pub(crate) fn share(&self, spot: &Spot<A>) -> Result<Option<Entry<A>>, AllocError>
         ensures { IfOk result (λ found. found ≡ map.get self.now.tree spot.now) }
     {
@@ -67,7 +69,7 @@ impl<A: Allocator + Clone> MemStore<A> {
     }
 
     /// The entries of a directory.
-    fn listing(&self, path: &VPath<A>) -> Result<Vec<Listed<A>, A>, StoreFault>
+    fn listing(&self, path: &VPath<A>) -> Result<Vec<ListedEntry<A>, A>, StoreFault>
         ensures entries { result ≢ Err StoreFault.Memory
             → in_answer entries_of result ≡ Ok (listing self.now.tree path.now) }
         ensures rising { IfOk result
@@ -108,11 +110,11 @@ impl<A: Allocator + Clone> Store<A> for MemStore<A> {
         }
     }
 
-    fn list(&mut self, path: &VPath<A>) -> Result<Vec<Listed<A>, A>, StoreFault> {
+    fn list(&mut self, path: &VPath<A>) -> Result<Vec<ListedEntry<A>, A>, StoreFault> {
         match self.kind_at(path)? {
             None => Err(StoreFault::NotFound),
-            Some(Kind::File) => Err(StoreFault::NotDir),
-            Some(Kind::Directory) => self.listing(path),
+            Some(EntryKind::File) => Err(StoreFault::NotDir),
+            Some(EntryKind::Directory) => self.listing(path),
         }
     }
 

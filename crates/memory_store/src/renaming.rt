@@ -1,19 +1,20 @@
-//! Entries of a store in memory that are renamed.
+//! Renaming of entries of a store in memory.
 
 ghost use Rattle.std.specs.Prelude.{◌≡◌, IfOk, MatchResult, Ok, Err, Some, None};
 ghost use Rattle.std.specs.FinMap as map;
 ghost use Rattle.memory_terms.specs.Lack.{Unless};
-ghost use Rattle.file_tree.specs.Tree.{begins_with};
+ghost use Rattle.memory_store.specs.Tree.{begins_with};
 ghost use Rattle.memory_store.specs.InMemory.{vacant, move_between, moved_tree, unit_of, Changes};
 
+use crate::entry::Entry;
 use crate::memory::MemStore;
-use file_tree::{Entry, Spot};
-use ftp_terms::Kind;
+use crate::spot::Spot;
+use ftp_terms::EntryKind;
 use std::alloc::Allocator;
 use virtual_path::VPath;
 use virtual_tree::StoreFault;
 
-/// An entry that is renamed, and its two spots.
+/// An entry to be renamed, and its two spots.
 #[derive(Drop)]
 pub(crate) struct Moving<A: Allocator> {
     pub(crate) entry: Entry<A>,
@@ -22,7 +23,7 @@ pub(crate) struct Moving<A: Allocator> {
 }
 
 impl<A: Allocator + Clone> MemStore<A> {
-    /// What is to be renamed, and where it stands before and afterwards.
+    /// The entry to be renamed, and its spots before and afterwards.
     pub(crate) fn moving(&self, from: &VPath<A>, to: &VPath<A>) -> Result<Moving<A>, StoreFault>
         ensures decided { MatchResult result
             (λ moving. move_between self.now.tree from.now to.now
@@ -82,8 +83,8 @@ impl<A: Allocator + Clone> MemStore<A> {
             afterwards,
         } = moving;
         match entry.kind() {
-            Kind::File => self.files.shift(&before, afterwards, entry)?,
-            Kind::Directory => {
+            EntryKind::File => self.files.shift(&before, afterwards, entry)?,
+            EntryKind::Directory => {
                 self.files = self
                     .files
                     .renamed(&self.alloc, from, to, &before, &afterwards)?;
@@ -93,7 +94,7 @@ impl<A: Allocator + Clone> MemStore<A> {
     }
 }
 
-/// Whether a path is `front` or beneath it.
+/// Returns whether a path is `front` or beneath it.
 fn begins_with<A: Allocator>(path: &VPath<A>, front: &VPath<A>) -> bool
     ensures { result ≡ begins_with front.now path.now }
 {

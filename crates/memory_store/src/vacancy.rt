@@ -1,20 +1,20 @@
-//! What stands at a path of a store in memory, and what may be made or removed there.
+//! The entry at a path of a store in memory, and whether one may be created or removed there.
 
 ghost use Rattle.std.specs.Prelude.{◌≡◌, ◌≢◌, IfOk, Ok, Err, Some, None};
 ghost use Rattle.virtual_path.specs.Path.{parent_of};
 ghost use Rattle.memory_store.specs.InMemory.{kind_in, kind_at, vacant, spot_to_make, spot_of_bare, spot_of_file};
-ghost use Rattle.file_tree.specs.Tree.{spot_of};
+ghost use Rattle.memory_store.specs.Tree.{spot_of};
 
 use crate::memory::MemStore;
-use file_tree::Spot;
-use ftp_terms::Kind;
+use crate::spot::Spot;
+use ftp_terms::EntryKind;
 use std::alloc::{AllocError, Allocator};
 use virtual_path::VPath;
 use virtual_tree::StoreFault;
 
 impl<A: Allocator + Clone> MemStore<A> {
-    /// What kind of entry stands at a spot.
-    pub(crate) fn kind_in(&self, spot: &Spot<A>) -> Option<Kind>
+    /// The kind of the entry at a spot.
+    pub(crate) fn kind_in(&self, spot: &Spot<A>) -> Option<EntryKind>
         ensures { result ≡ kind_in self.now.tree spot.now }
     {
         match self.files.get(spot) {
@@ -23,36 +23,36 @@ impl<A: Allocator + Clone> MemStore<A> {
         }
     }
 
-    /// What kind of entry stands above a path.
-    pub(crate) fn kind_above(&self, path: &VPath<A>) -> Result<Option<Kind>, AllocError>
+    /// The kind of the entry above a path.
+    pub(crate) fn kind_above(&self, path: &VPath<A>) -> Result<Option<EntryKind>, AllocError>
         ensures { IfOk result (λ kind. kind ≡ kind_at self.now.tree (parent_of path.now)) }
     {
         match Spot::above(&self.alloc, path)? {
-            None => Ok(Some(Kind::Directory)),
+            None => Ok(Some(EntryKind::Directory)),
             Some(spot) => Ok(self.kind_in(&spot)),
         }
     }
 
-    /// What kind of entry stands at a path.
-    pub(crate) fn kind_at(&self, path: &VPath<A>) -> Result<Option<Kind>, AllocError>
+    /// The kind of the entry at a path.
+    pub(crate) fn kind_at(&self, path: &VPath<A>) -> Result<Option<EntryKind>, AllocError>
         ensures { IfOk result (λ kind. kind ≡ kind_at self.now.tree path.now) }
     {
         match Spot::of(&self.alloc, path)? {
-            None => Ok(Some(Kind::Directory)),
+            None => Ok(Some(EntryKind::Directory)),
             Some(spot) => Ok(self.kind_in(&spot)),
         }
     }
 
-    /// The spot, if an entry may be made there.
+    /// The spot, if an entry may be created there.
     pub(crate) fn vacant(&self, path: &VPath<A>, spot: Spot<A>) -> Result<Spot<A>, StoreFault>
         ensures { result ≢ Err StoreFault.Memory → result ≡ vacant self.now.tree path.now spot }
     {
         let above = self.kind_above(path)?;
         match (above, self.kind_in(&spot)) {
             (None, _) => Err(StoreFault::NotFound),
-            (Some(Kind::File), _) => Err(StoreFault::NotDir),
-            (Some(Kind::Directory), Some(_)) => Err(StoreFault::Exists),
-            (Some(Kind::Directory), None) => Ok(spot),
+            (Some(EntryKind::File), _) => Err(StoreFault::NotDir),
+            (Some(EntryKind::Directory), Some(_)) => Err(StoreFault::Exists),
+            (Some(EntryKind::Directory), None) => Ok(spot),
         }
     }
 
@@ -74,8 +74,8 @@ impl<A: Allocator + Clone> MemStore<A> {
             None => Err(StoreFault::IsDir),
             Some(spot) => match self.kind_in(&spot) {
                 None => Err(StoreFault::NotFound),
-                Some(Kind::Directory) => Err(StoreFault::IsDir),
-                Some(Kind::File) => Ok(spot),
+                Some(EntryKind::Directory) => Err(StoreFault::IsDir),
+                Some(EntryKind::File) => Ok(spot),
             },
         }
     }
@@ -90,8 +90,8 @@ impl<A: Allocator + Clone> MemStore<A> {
         let is_bare = self.files.is_bare(&self.alloc, path)?;
         match self.kind_in(&spot) {
             None => Err(StoreFault::NotFound),
-            Some(Kind::File) => Err(StoreFault::NotDir),
-            Some(Kind::Directory) => {
+            Some(EntryKind::File) => Err(StoreFault::NotDir),
+            Some(EntryKind::Directory) => {
                 if is_bare {
                     Ok(spot)
                 } else {

@@ -1,15 +1,16 @@
-//! Files of a store in memory that are opened, written and ended.
+//! Files of a store in memory that are opened, written and finished.
 
 ghost use Rattle.std.specs.Prelude.{◌≡◌, ◌++◌, ◌≤◌, ◌+◌, ◌-◌, ◌<◌, ◌^◌, [], IfOk, Ok, Some, take, length, false, nat_lt};
 ghost use Rattle.std.specs.FinMap as map;
-ghost use Rattle.file_tree.specs.Held.{shared};
+ghost use Rattle.memory_store.specs.Held.{shared};
 ghost use Rattle.memory_store.specs.InMemory.{vacant, finish_octets, unit_of, Changes, opening, open_new, open_absent, open_octets, open_node, octets_from, Opens};
-ghost use Rattle.file_tree.specs.Tree.{size_at, total};
-ghost use Rattle.file_tree.specs.Tree.Node.{File};
+ghost use Rattle.memory_store.specs.Tree.{size_at, total};
+ghost use Rattle.memory_store.specs.Tree.Node.{File};
 
 use crate::ends::{MemSink, MemSource};
+use crate::entry::Entry;
 use crate::memory::MemStore;
-use file_tree::{Entry, Spot};
+use crate::spot::Spot;
 use std::alloc::{AllocError, Allocator};
 use std::sync::Arc;
 use virtual_path::VPath;
@@ -55,7 +56,7 @@ impl<A: Allocator + Clone> MemStore<A> {
         })
     }
 
-    /// The octets, to be shared with those who read them.
+    /// The octets, ready to be shared with their readers.
     pub(crate) fn shared(&self, octets: Vec<u8, A>) -> Result<Arc<Vec<u8, A>, A>, AllocError>
         ensures { IfOk result (λ kept. shared kept ≡ octets.items) }
     {
@@ -63,7 +64,7 @@ impl<A: Allocator + Clone> MemStore<A> {
         Ok(Arc::new(alloc, octets)?)
     }
 
-    /// The first octets, this many.
+    /// The first `kept` octets.
     pub(crate) fn first(&self, octets: &[u8], kept: usize) -> Result<Arc<Vec<u8, A>, A>, AllocError>
         requires { kept ≤ length octets.now }
         ensures { IfOk result (λ first. shared first ≡ take kept octets.now) }
@@ -73,7 +74,7 @@ impl<A: Allocator + Clone> MemStore<A> {
         Ok(first)
     }
 
-    /// The first octets, this many, and then a copy of the others.
+    /// The first `kept` octets, followed by a copy of the others.
     pub(crate) fn copied(
         &self,
         octets: &[u8],
@@ -89,7 +90,7 @@ impl<A: Allocator + Clone> MemStore<A> {
         Ok(joined)
     }
 
-    /// The first octets, this many, and then the others, which are moved where nothing stays before them.
+    /// The first `kept` octets, followed by the others, which are moved if nothing is kept before them.
     #[tactic(auto, using(crate::proofs::Fills::none_kept))]
     pub(crate) fn joined(
         &self,
@@ -107,7 +108,7 @@ impl<A: Allocator + Clone> MemStore<A> {
         self.copied(octets, kept, others.as_slice())
     }
 
-    /// The file's first octets, this many, open to be written behind them.
+    /// The file cut to its first octets, open for writing after them.
     pub(crate) fn open_cut(
         &mut self,
         spot: Spot<A>,
@@ -129,7 +130,7 @@ impl<A: Allocator + Clone> MemStore<A> {
         Ok(sink)
     }
 
-    /// The whole file, open to be written behind its octets.
+    /// The whole file, open for writing after its octets.
     pub(crate) fn open_end(
         &mut self,
         spot: Spot<A>,
@@ -176,7 +177,7 @@ impl<A: Allocator + Clone> MemStore<A> {
         self.open_empty(spot, moment)
     }
 
-    /// What stands at no spot, open for writing.
+    /// A spot without an entry, opened for writing.
     pub(crate) fn open_absent(
         &mut self,
         path: &VPath<A>,
@@ -212,7 +213,7 @@ impl<A: Allocator + Clone> MemStore<A> {
         }
     }
 
-    /// Whether the capacity would be passed, once a file that held `before` octets holds `kept` and `came`.
+    /// Returns whether the capacity would be exceeded once a file of `before` octets has `kept` and `came`.
     pub(crate) fn is_passed(&self, before: usize, kept: usize, came: usize) -> bool
         requires within { before ≤ total self.now.tree }
         requires kept { kept ≤ before }
@@ -224,7 +225,7 @@ impl<A: Allocator + Clone> MemStore<A> {
         others > self.capacity || came as u64 > self.capacity - others
     }
 
-    /// Puts what came behind the first octets of a file, which holds `octets`.
+    /// Appends what was received to the first octets of a file, which has `octets`.
     pub(crate) fn fill(
         &mut self,
         spot: Spot<A>,

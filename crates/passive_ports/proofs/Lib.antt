@@ -1,3 +1,6 @@
+mod Unleased
+mod Leasing
+mod Givings
 pub mod BitLemmas
 pub mod PortLemmas
 pub mod CountLemmas

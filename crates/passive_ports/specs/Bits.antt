@@ -6,12 +6,12 @@ use Rattle.std.specs.Int.{bit_at}
 abbrev pub has_bit : List ℕ → ℕ → Bool
 has_bit words k = nat_eq (bit_at (slice_index words (k / 64)) (k % 64)) 1
 
--- this bit is now so, and every other is as it was
+-- this bit has the value, and all others are unchanged
 pub record PutsBit (old new : List ℕ) (k : ℕ) (value : Bool) : Type 0 where
   pub put : has_bit new k ≡ value
   pub others : (other : ℕ) → other ≢ k → has_bit new other ≡ has_bit old other
 
--- a clear bit, and all below it are set
+-- bit k is clear, and all below it are set
 pub record IsLowestClear (words : List ℕ) (k : ℕ) : Type 0 where
   pub within : k < 64 * length words
   pub is_clear : has_bit words k ≡ false

@@ -1,3 +1,5 @@
+pub mod Resting
+pub mod Opening
 pub mod Bits
 pub mod Ports
 pub mod Connections

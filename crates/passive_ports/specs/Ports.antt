@@ -7,13 +7,13 @@ use Rattle.passive_ports.specs.Bits.{has_bit}
 use Rattle.passive_ports.specs.declared.fault.PoolFault.{PoolFault}
 use Rattle.passive_ports.specs.declared.fault.PoolFault.TheVariants.{EmptyRange}
 
--- the ports from `first` to `last`, and those of them that are leased
+-- the ports from `first` to `last`, and the leased ones among them
 pub record Ports : Type 0 where
   pub first : ℕ
   pub last : ℕ
   pub leased : set.FinSet nat_cmp
 
--- none is leased at first
+-- initially none is leased
 abbrev pub opened : ℕ → ℕ → Ports
 opened first last = record { first = first; last = last; leased = set.empty }
 
@@ -34,7 +34,7 @@ pub record IsLowestFree (ports : Ports) (port : ℕ) : Type 0 where
   pub free : IsFree ports port
   pub lowest : (other : ℕ) → IsFree ports other → port ≤ other
 
--- all are leased
+-- all ports are leased
 abbrev pub AllAreLeased : Ports → Type 0
 AllAreLeased ports = (port : ℕ) → IsFree ports port → ⊥
 
@@ -44,9 +44,9 @@ with_lease ports port = record ports { leased = set.insert ports.leased port }
 abbrev pub without_lease : Ports → ℕ → Ports
 without_lease ports port = record ports { leased = set.remove ports.leased port }
 
--- How a pool keeps them: a bit for each port, set where it is leased.
+-- The stored form: one bit for each port, set if it is leased.
 
--- the ports of the first so many bits that are set, where bit 0 is that of the port `first`
+-- the ports whose bits are set among the first ones, if bit 0 is that of port `first`
 abbrev pub marked : ℕ → List ℕ → ℕ → set.FinSet nat_cmp
 marked first words zero = set.empty
 marked first words (suc k) = cond (has_bit words k) (set.insert (marked first words k) (first + k)) (marked first words k)
@@ -58,7 +58,7 @@ pub record IsPool (first last : ℕ) (words : List ℕ) : Type 0 where
   pub ordered : first ≤ last
   pub room : last - first < 64 * length words
 
--- a code, by which proofs tell values apart
+-- a code, by which proofs distinguish values
 abbrev pub ports_code : Coded Ports
 ports_code = code_by (ℕ × (ℕ × set.FinSet nat_cmp)) (coded× coded_ℕ (coded× coded_ℕ (set.code coded_ℕ)))
     (λ p. (p.first, (p.last, p.leased))) (λ p. record { first = p.0; last = p.1.0; leased = p.1.1 }) (λ _. refl)

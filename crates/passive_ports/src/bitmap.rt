@@ -1,4 +1,4 @@
-//! A row of bits whose lowest clear bit is found word by word.
+//! A bitmap whose lowest clear bit is found word by word.
 
 ghost use Rattle.std.specs.Prelude.{◌≡◌, ℕ, ◌*◌, ◌/◌, ◌<◌, ◌≤◌, false, length, replicate, IfOk, MatchOption};
 ghost use Rattle.passive_ports.specs.Bits.{has_bit, PutsBit, IsLowestClear, AreAllSet};
@@ -6,12 +6,12 @@ ghost use Rattle.passive_ports.specs.Bits.{has_bit, PutsBit, IsLowestClear, AreA
 use std::alloc::{AllocError, Allocator, Global};
 use std::marker::Model;
 
-/// The most words of a bitmap, which have 65,536 bits.
-pub const MAX_WORDS: usize = 1024;
+/// Most words of a bitmap, with 65,536 bits together.
+pub(crate) const MAX_WORDS: usize = 1024;
 
-/// A row of bits, in words of 64.
+/// Bits in words of 64.
 #[derive(Drop)]
-pub struct Bitmap<A: Allocator = Global> {
+pub(crate) struct Bitmap<A: Allocator = Global> {
     words: Vec<u64, A>,
 }
 
@@ -27,7 +27,7 @@ impl<A: Allocator> Model for Bitmap<A> {
 }
 
 impl<A: Allocator> Bitmap<A> {
-    /// Clear bits, from 0 to at least `last`.
+    /// A bitmap of clear bits that has room for bit `last`.
     pub fn new(alloc: A, last: u16) -> Result<Bitmap<A>, AllocError>
         ensures room { IfOk result (λ words. last < 64 * length words) }
         ensures clear { IfOk result (λ words. (k : ℕ) → has_bit words k ≡ false) }
@@ -52,7 +52,7 @@ impl<A: Allocator> Bitmap<A> {
         write_bit(&mut self.words, place, value);
     }
 
-    /// The lowest clear bit: of 65,536 bits, at most 1,024 words are read.
+    /// The lowest clear bit. At most 1,024 words are read, for 65,536 bits.
     pub fn lowest_clear(&self) -> Option<usize>
         ensures lowest { MatchOption result (AreAllSet self.now) (IsLowestClear self.now) }
     {
@@ -85,7 +85,7 @@ fn write_bit(words: &mut [u64], place: usize, value: bool)
     }
 }
 
-/// The lowest clear bit, found by looking at each word in turn.
+/// The lowest clear bit, found word by word.
 fn find_clear(words: &[u64]) -> Option<usize>
     requires { length words.now ≤ MAX_WORDS }
     ensures lowest { MatchOption result (AreAllSet words.now) (IsLowestClear words.now) }

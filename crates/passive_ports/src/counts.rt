@@ -1,4 +1,4 @@
-//! How many connections each address has.
+//! The number of connections of each address.
 
 ghost use Rattle.std.specs.Prelude.{◌≡◌, ◌-◌, ◌<◌, OnOk, OnErr};
 ghost use Rattle.std.specs.BTreeMap.{IsUnchanged};
@@ -7,17 +7,17 @@ ghost use Rattle.passive_ports.specs.Connections.{count_in, SetsCount};
 use std::alloc::{AllocError, Allocator};
 use std::collections::BTreeMap;
 
-/// The addresses that have a connection, each with how many it has.
-pub type Counts<A> = BTreeMap<[u8; 4], usize, A>;
+/// The addresses with connections, each with their number.
+pub(crate) type Counts<A> = BTreeMap<[u8; 4], usize, A>;
 
-pub fn count_in<A: Allocator>(counts: &Counts<A>, address: [u8; 4]) -> usize
+pub(crate) fn count_in<A: Allocator>(counts: &Counts<A>, address: [u8; 4]) -> usize
     ensures count { result ≡ count_in counts.now address }
 {
     counts.get(&address).copied().unwrap_or(0)
 }
 
 /// Sets a count that is not 0.
-pub fn set_count<A: Allocator + Clone>(
+pub(crate) fn set_count<A: Allocator + Clone>(
     counts: &mut Counts<A>,
     address: [u8; 4],
     count: usize,
@@ -30,8 +30,8 @@ pub fn set_count<A: Allocator + Clone>(
     Ok(())
 }
 
-/// Takes one from the count of an address.
-pub fn count_down<A: Allocator>(counts: &mut Counts<A>, address: [u8; 4])
+/// Subtracts one from the count of an address.
+pub(crate) fn count_down<A: Allocator>(counts: &mut Counts<A>, address: [u8; 4])
     ensures down { SetsCount counts.old counts.new address (count_in counts.old address - 1) }
 {
     let rest = count_in(counts, address).saturating_sub(1);

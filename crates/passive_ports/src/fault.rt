@@ -1,9 +1,9 @@
-//! Why a call is refused.
+//! Refusals.
 
 use std::alloc::AllocError;
 use thiserror::Error;
 
-/// Why a pool of ports cannot be made. They are looked for in this order.
+/// Why a pool of ports cannot be made. They are checked in this order.
 #[derive(Clone, Copy, Debug, PartialEq, Eq, Error)]
 pub enum PoolFault {
     /// The first port is above the last, or 0.
@@ -24,7 +24,7 @@ impl From<AllocError> for PoolFault {
     }
 }
 
-/// Why a connection is not admitted. They are looked for in this order.
+/// Why a connection is not admitted. They are checked in this order.
 #[derive(Clone, Copy, Debug, PartialEq, Eq, Error)]
 pub enum AdmitFault {
     #[error("too many connections")]

@@ -1,4 +1,4 @@
-//! A pool of ports, of which the lowest that is free is leased.
+//! A pool of ports that leases the lowest free one.
 
 ghost use Rattle.std.specs.Prelude.{◌≡◌, false, Some, IfOk, IfSome, IfNone};
 ghost use Rattle.std.specs.Bool.{OnTrue};
@@ -11,9 +11,9 @@ use crate::fault::PoolFault;
 use std::alloc::{Allocator, Global};
 use std::marker::Model;
 
-/// The ports from a first to a last, each leased or free.
+/// The ports from `first` to `last`, each leased or free.
 ///
-/// A leased port is the caller's to listen on, for PASV (RFC 959, section 4.1.2) and EPSV (RFC 2428, section 3).
+/// The caller may listen on a leased port, for PASV (RFC 959, section 4.1.2) and EPSV (RFC 2428, section 3).
 #[derive(Drop)]
 pub struct PortPool<A: Allocator = Global> {
     first: u16,
@@ -35,7 +35,7 @@ impl<A: Allocator> Model for PortPool<A> {
 }
 
 impl<A: Allocator> PortPool<A> {
-    /// The ports from `first` to `last`, all free. No later call takes memory.
+    /// The ports from `first` to `last`, all free. No later call allocates.
     pub fn new(alloc: A, first: u16, last: u16) -> Result<PortPool<A>, PoolFault>
         ensures opened { IfOk result (λ ports. ports ≡ opened first last) }
         ensures refused { RefusedFor PoolFault.Memory (range_fault first last) result }
@@ -51,7 +51,7 @@ impl<A: Allocator> PortPool<A> {
         })
     }
 
-    /// Leases the lowest free port. All are leased: none.
+    /// Leases the lowest free port; `None` if all are leased.
     pub fn lease(&mut self) -> Option<u16>
         ensures lowest { IfSome result (IsLowestFree self.old) }
         ensures leased { IfSome result (λ port. self.new ≡ with_lease self.old port) }
@@ -67,7 +67,7 @@ impl<A: Allocator> PortPool<A> {
         Some(self.first + place as u16)
     }
 
-    /// Takes a leased port back, and answers whether it was leased.
+    /// Takes a leased port back. Returns whether it was leased.
     pub fn give_back(&mut self, port: u16) -> bool
         ensures was_leased { result ≡ set.contains self.old.leased port }
         ensures returned { self.new ≡ without_lease self.old port }
@@ -80,7 +80,7 @@ impl<A: Allocator> PortPool<A> {
         true
     }
 
-    /// Whether a port is leased.
+    /// Returns whether a port is leased.
     pub fn is_leased(&self, port: u16) -> bool
         ensures leased { result ≡ set.contains self.now.leased port }
         ensures within { OnTrue result (IsWithin self.now port) }

@@ -12,11 +12,11 @@ use std::alloc::{AllocError, Allocator, Global};
 use std::collections::BTreeMap;
 use std::marker::Model;
 
-/// Connections by their keys, at most so many in all and so many of one IPv4 address.
+/// Connections by key, with a limit to all of them and one per IPv4 address.
 #[derive(Drop)]
 pub struct Registry<A: Allocator = Global> {
     max: usize,
-    // 0: no limit
+    // 0 is no limit
     max_of_address: usize,
     addresses: Slab<[u8; 4], A>,
     counts: Counts<A>,
@@ -35,8 +35,8 @@ impl<A: Allocator> Model for Registry<A> {
 }
 
 impl<A: Allocator + Clone> Registry<A> {
-    /// No connection yet, and at most `max` at a time, `max_of_address` of them from one address. For the second, 0
-    /// sets no limit; for the first, it admits none.
+    /// A registry without connections, for at most `max` at a time, `max_of_address` of them from one address. A
+    /// `max` of 0 admits none; a `max_of_address` of 0 is no limit.
     pub fn new(alloc: A, max: usize, max_of_address: usize) -> Result<Registry<A>, AllocError>
         ensures none { IfOk result (λ admitted. admitted ≡ none_admitted max max_of_address) }
     {
@@ -49,7 +49,8 @@ impl<A: Allocator + Clone> Registry<A> {
         })
     }
 
-    /// Admits a connection of an address, and answers its key, which no other connection has until this one leaves.
+    /// Admits a connection from an address, and returns its key, which no other connection has until this one
+    /// leaves.
     pub fn admit(&mut self, address: [u8; 4]) -> Result<usize, AdmitFault>
         ensures admitted { IfOk result (Admits self.old self.new address) }
         ensures refused { RefusedFor AdmitFault.Memory (limit_fault self.old address) result }
@@ -69,7 +70,7 @@ impl<A: Allocator + Clone> Registry<A> {
 }
 
 impl<A: Allocator> Registry<A> {
-    /// Removes a connection, and answers whether it was there. Takes no memory.
+    /// Removes a connection. Returns whether it was there. No memory.
     pub fn leave(&mut self, key: usize) -> bool
         ensures was_there { result ≡ map.contains_key self.old.connections key }
         ensures removed { self.new ≡ without self.old key }
@@ -84,7 +85,7 @@ impl<A: Allocator> Registry<A> {
         }
     }
 
-    /// How many connections there are.
+    /// Number of connections.
     pub fn count(&self) -> usize
         ensures count { result ≡ map.len self.now.connections }
         ensures within { IsWithinLimits self.now }
@@ -92,7 +93,7 @@ impl<A: Allocator> Registry<A> {
         self.addresses.len()
     }
 
-    /// How many connections come from an address.
+    /// Number of connections from an address.
     pub fn count_of_address(&self, address: [u8; 4]) -> usize
         ensures count { result ≡ count_of self.now.connections address }
     {
@@ -100,7 +101,7 @@ impl<A: Allocator> Registry<A> {
     }
 }
 
-/// Whether a count is as high as a limit, where 0 sets no limit.
+/// Returns whether a count has reached a limit; 0 is no limit.
 fn reaches(count: usize, limit: usize) -> bool
     ensures { result ≡ reaches count limit }
 {

@@ -1,11 +1,11 @@
-//! Public calls of the programs' crates where all is well. The examples show the others.
+//! Public calls of the programs' crates on their normal path. The examples have the others.
 
 use crate::ends::{Files, Given};
 use crate::expect::{holds, same, tells};
 use crate::texts::{LOGIN, LUNCH, LUNCH_GRANTS, MIGRATED, SMALL, WELCOME};
 use command_line::{SheetWords, WordsFault};
-use program::{STANDARD_INPUT, run_check_config, run_migrate, run_script};
-use sheet_program::{Ending, Told, as_words, run_sheet_words, tell};
+use ftpd_program::{STANDARD_INPUT, run_check_config, run_migrate, run_script};
+use sheets_program::{Ending, Told, as_words, run_sheet_words, tell};
 
 #[test]
 fn grants_are_checked(rt: HostRuntime) {
@@ -28,6 +28,7 @@ fn words_are_refused(rt: HostRuntime) {
     let told = Told {
         name: "sheets",
         ending: &ending,
+        output: None,
     };
     tells(&rt, &told, "error: no such word\n");
 }
@@ -55,16 +56,16 @@ fn texts_are_words(rt: HostRuntime) {
 #[test]
 fn a_configuration_is_reported(rt: HostRuntime) {
     let mut output = Vec::new(rt.alloc());
-    let refusal = run_check_config(rt.alloc(), &mut SMALL.as_bytes(), &mut output);
-    holds(&rt, matches!(refusal, Ok(None)));
+    let reported = run_check_config(rt.alloc(), &mut SMALL.as_bytes(), &mut output);
+    holds(&rt, reported.is_ok());
     holds(&rt, output.starts_with(b"listens on 127.0.0.1:2121\n"));
 }
 
 #[test]
 fn a_configuration_is_migrated(rt: HostRuntime) {
     let mut output = Vec::new(rt.alloc());
-    let refusal = run_migrate(rt.alloc(), &mut SMALL.as_bytes(), &mut output);
-    holds(&rt, matches!(refusal, Ok(None)));
+    let migrated = run_migrate(rt.alloc(), &mut SMALL.as_bytes(), &mut output);
+    holds(&rt, migrated.is_ok());
     same(&rt, &output, MIGRATED);
 }
 

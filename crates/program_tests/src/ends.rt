@@ -1,22 +1,22 @@
-//! Ends that give and take octets in pieces, and that fail in mid-stream.
+//! Ends that read and write octets in pieces, and that fail midway.
 
-use program::{Openings, STANDARD_INPUT};
+use ftpd_program::{Openings, STANDARD_INPUT};
 use std::io;
 use std::io::{ErrorKind, Read, Write};
-use text_ends::Outside;
+use text_io::Outside;
 
-/// How an end gives its text.
+/// The way in which an end returns its text.
 #[derive(Clone, Copy)]
 pub(crate) enum Given<'t> {
     /// At once.
     Whole(&'t str),
-    /// At most so many octets at a time, and then a fault.
+    /// At most this number of octets at a time, and then a fault.
     Broken(&'t str, usize),
-    /// Octet by octet, each behind an interruption.
+    /// Octet by octet, each after an interruption.
     Interrupted(&'t str),
 }
 
-/// Gives its octets, at most `step` and at least one at a time, and then ends or fails.
+/// A reader that returns at most `step` and at least one octet at a time, and then ends or fails.
 #[derive(Drop)]
 pub(crate) struct GivenReader<'t> {
     pub rest: &'t [u8],
@@ -65,7 +65,7 @@ impl Read for GivenReader<'_> {
     }
 }
 
-/// The file `file`, and standard input, where it can be opened.
+/// The file `file`, and standard input, if it can be opened.
 #[derive(Clone, Copy)]
 pub(crate) struct Files<'t> {
     pub file: Given<'t>,
@@ -75,17 +75,24 @@ pub(crate) struct Files<'t> {
 impl<'t> Openings for Files<'t> {
     type End = Outside<GivenReader<'t>>;
 
-    fn open(&mut self, path: &str) -> Option<Outside<GivenReader<'t>>> {
+    fn open(&mut self, path: &str) -> io::Result<Outside<GivenReader<'t>>> {
         let given = match path {
-            "file" => self.file,
-            STANDARD_INPUT => self.input?,
-            _ => return None,
+            "file" => Some(self.file),
+            STANDARD_INPUT => self.input,
+            _ => None,
         };
-        Some(Outside(given.reader()))
+        match given {
+            Some(given) => Ok(Outside(given.reader())),
+            None => Err(io::Error::from(ErrorKind::NotFound)),
+        }
+    }
+
+    fn reason(_end: &Outside<GivenReader<'t>>) -> Option<io::Error> {
+        None
     }
 }
 
-/// Takes `left` octets and then fails.
+/// A writer that takes `left` octets and then fails.
 #[derive(Drop)]
 pub(crate) struct FailingWriter<'a> {
     pub taken: &'a mut Vec<u8>,

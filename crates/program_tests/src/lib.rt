@@ -1,5 +1,5 @@
-//! Tests of the programs and of their commands by public calls, where no run of a program shows it: what calls answer, ends
-//! that fail in mid-stream, and memory that is refused. What runs show stands in `runs/`.
+//! Tests of the programs and of their commands by public calls, for what no run of a program shows: results of calls,
+//! ends that fail midway, and refused memory. The runs are in `runs/`.
 #![tactic(auto)]
 
 #[cfg(test)]

@@ -1,25 +1,26 @@
-//! Runs whose ends fail in mid-stream: what is told, and what has then been written.
+//! Runs whose ends fail midway: the fault, and the output up to it.
 
 use crate::ends::{FailingWriter, Files, Given};
 use crate::expect::{holds, same, tells};
 use crate::servers::Noting;
 use crate::texts::{LOGIN, LUNCH, LUNCH_GRANTS, LUNCH_LINES, SMALL, WELCOME};
-use program::{STANDARD_INPUT, run_words};
-use sheet_check::run_check;
+use ftpd_program::{STANDARD_INPUT, Told, run_words};
+use sheet_check::{CheckFault, run_check};
 use std::process::Abort;
-use text_ends::Outside;
-use whole_texts::ProgramFault;
+use text_io::{Outside, TextFault};
 
-/// What the file `file` and standard input give, how many octets the output takes, and what it would be given in all.
+/// The file `file`, standard input, the number of octets that the output takes, and all that is written to it.
 type Run<'a> = (Given<'a>, Option<Given<'a>>, usize, &'a str);
 
 const READ_FAULT: &str = "ftpd: ReadFault\n";
+
+const NO_INPUT: &str = "/dev/stdin: entity not found\nftpd: ReadFault\n";
 
 const WRITE_FAULT: &str = "ftpd: WriteFault\n";
 
 const ALL: usize = usize::MAX;
 
-/// By these words, such a run of `ftpd` tells a fault, and has written what the output takes.
+/// Checks that such a run of `ftpd` by these words ends with a fault, and has written what the output takes.
 fn breaks_off(rt: &(impl Abort + AllocGlobal), words: &[&str], run: &Run<'_>) {
     let (file, input, left, output) = *run;
     let mut taken = Vec::new(rt.alloc());
@@ -30,8 +31,16 @@ fn breaks_off(rt: &(impl Abort + AllocGlobal), words: &[&str], run: &Run<'_>) {
     let mut files = Files { file, input };
     let mut server = Noting::new();
     let ending = run_words(rt.alloc(), words, &mut files, &mut server, &mut writer);
-    let told = if left == ALL { READ_FAULT } else { WRITE_FAULT };
-    tells(rt, &ending, told);
+    let told = match (left == ALL, words.contains(&"script") && input.is_none()) {
+        (_, true) => NO_INPUT,
+        (true, false) => READ_FAULT,
+        (false, false) => WRITE_FAULT,
+    };
+    let shown = Told {
+        ending: &ending,
+        output: None,
+    };
+    tells(rt, &shown, told);
     holds(rt, ending.status() == 1);
     let most = output.as_bytes();
     holds(rt, taken.as_slice() == &most[..left.min(most.len())]);
@@ -76,21 +85,25 @@ fn checks(rt: HostRuntime) {
     }
 }
 
-/// Where the sheet breaks off, nothing of the grants is read.
+/// If the sheet breaks off, nothing of the grants is read.
 #[test]
 fn grants_are_not_read(rt: HostRuntime) {
     let mut output = Vec::new(rt.alloc());
     let mut sheet = Outside(Given::Broken(LUNCH, 20).reader());
     let mut grants = LUNCH_GRANTS.as_bytes();
     let answer = run_check(rt.alloc(), &mut sheet, &mut grants, &mut output);
-    holds(&rt, answer == Err(ProgramFault::ReadFault));
+    holds(
+        &rt,
+        answer == Err(CheckFault::SheetText(TextFault::ReadFault)),
+    );
     same(&rt, grants, LUNCH_GRANTS);
     holds(&rt, output.is_empty());
 }
 
 const TALK: Option<Given<'static>> = Some(Given::Whole(LOGIN));
 
-/// A session that cannot be opened, a configuration that breaks off, and sessions that do: their replies are written.
+/// A session that cannot be opened, a configuration that breaks off, and sessions that break off: their replies are
+/// written.
 static SESSIONS: [Run<'static>; 10] = [
     (Given::Whole(SMALL), None, ALL, ""),
     (Given::Broken(SMALL, 1), TALK, ALL, ""),

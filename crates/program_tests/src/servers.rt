@@ -1,18 +1,18 @@
-//! The command `serve`, by a server that serves nobody and notes what it is called with.
+//! The command `serve`, by a server that serves nobody and notes its calls.
 
 use crate::ends::{Files, Given};
 use crate::expect::{holds, same, tells};
 use crate::texts::SMALL;
-use program::{Ending, Server, ServerFault, run_words};
+use ftpd_program::{Ending, Server, ServerFault, Told, run_words};
 use server_config::Config;
 use std::alloc::Global;
 use std::process::Abort;
-use text_ends::TextWriter;
+use text_io::TextWriter;
 
-/// Writes `ready`, and answers as it is told to.
+/// A server that writes `ready`, and returns a given result.
 #[derive(Drop)]
 pub(crate) struct Noting {
-    /// How often it was called.
+    /// Number of its calls.
     calls: u8,
     /// The port of the last configuration.
     port: u16,
@@ -56,14 +56,23 @@ impl<W: TextWriter> Server<W> for Noting {
     }
 }
 
-/// By these words, on a file of that text.
-fn served(
+/// Checks that the ending prints as this text.
+fn is_told(rt: &(impl Abort + AllocGlobal), ending: &Ending<'_>, wanted: &str) {
+    let told = Told {
+        ending,
+        output: None,
+    };
+    tells(rt, &told, wanted);
+}
+
+/// Runs `serve` by these words, on a file of this text.
+fn served<'w>(
     rt: &(impl Abort + AllocGlobal),
-    words: &[&str],
+    words: &'w [&'w str],
     text: &str,
     server: &mut Noting,
     output: &mut Vec<u8>,
-) -> Ending {
+) -> Ending<'w> {
     let mut files = Files {
         file: Given::Whole(text),
         input: None,
@@ -90,7 +99,7 @@ fn a_server_is_called(rt: HostRuntime) {
     }
 }
 
-/// Faults of a server, and what they are told as.
+/// Faults of a server, and their names.
 static FAULTS: [(ServerFault, &str); 6] = [
     (ServerFault::Bind, "ftpd: Bind\n"),
     (ServerFault::NoThread, "ftpd: NoThread\n"),
@@ -108,14 +117,14 @@ fn faults_are_told(rt: HostRuntime) {
         server.fault = Some(*fault);
         let ending = served(&rt, &["serve", "file"], SMALL, &mut server, &mut output);
         holds(&rt, ending.status() == 1);
-        tells(&rt, &ending, told);
+        is_told(&rt, &ending, told);
     }
 }
 
 const OUT_OF_RANGE: &str =
     "top: version: out of range; it must be a number from 1 to 2\nftpd: OutOfRange\n";
 
-/// A configuration that is refused: the server is not called.
+/// If a configuration is refused, the server is not called.
 #[test]
 fn a_refusal_calls_no_server(rt: HostRuntime) {
     let mut output = Vec::new(rt.alloc());
@@ -128,6 +137,6 @@ fn a_refusal_calls_no_server(rt: HostRuntime) {
         &mut output,
     );
     holds(&rt, ending.status() == 1);
-    tells(&rt, &ending, OUT_OF_RANGE);
+    is_told(&rt, &ending, OUT_OF_RANGE);
     holds(&rt, server.calls == 0 && output.is_empty());
 }

@@ -3,12 +3,12 @@
 use crate::expect::{holds, same, tells};
 use crate::texts::{LUNCH, LUNCH_GRANTS, LUNCH_LINES};
 use linked_list_allocator::LocalHeap;
-use scarce_memory::leave_hole;
-use share_text::{Sheet, read_sheet};
-use sheet_check::{run_check, verdict_of};
-use sheet_share::{Share, lines_of, run_share, sharing_of};
+use sheet_check::{CheckFault, run_check, verdict_of};
+use sheet_share::{Share, ShareFault, lines_of, run_share, sharing_of};
+use sheet_text::{Sheet, read_sheet};
 use std::process::Abort;
-use whole_texts::{ProgramFault, read_whole};
+use test_scarce_memory::leave_hole;
+use text_io::{TextFault, read_whole};
 
 // Room for the buffer of a read, and some more.
 const HEAP: usize = 131_072;
@@ -27,7 +27,7 @@ const UNMET: Share = Share {
     full: Some("/ann"),
 };
 
-/// What is asked for while memory is short.
+/// The calls that are made while memory is short.
 #[derive(Clone, Copy)]
 enum Asked {
     NoLines,
@@ -37,10 +37,10 @@ enum Asked {
     Text,
 }
 
-/// What is asked for, its text, the least room that is tried, and how many rooms are too small at least.
+/// The call, its text, the least room that is tried, and the least number of rooms that are too small.
 type Row = (Asked, &'static str, usize, usize);
 
-/// A text is refused its buffer, then itself.
+/// A text for which first its buffer is refused, then itself.
 static ROWS: [Row; 5] = [
     (Asked::NoLines, "total 0\n", 0, 1),
     (
@@ -54,14 +54,14 @@ static ROWS: [Row; 5] = [
     (Asked::Text, LUNCH, 65_280, 1),
 ];
 
-/// What is asked for has this text.
+/// Checks that the call returns this text.
 fn answer<'h>(
     rt: &impl Abort,
     heap: &'h LocalHeap,
     sheet: &Sheet<'_, &'h LocalHeap>,
     asked: Asked,
     text: &str,
-) -> Result<(), ProgramFault> {
+) -> Result<(), CheckFault> {
     match asked {
         Asked::NoLines => same(rt, lines_of(heap, &[])?.as_str().as_bytes(), text),
         Asked::Lines => same(rt, lines_of(heap, &[MET, UNMET])?.as_str().as_bytes(), text),
@@ -83,7 +83,7 @@ fn answer<'h>(
     Ok(())
 }
 
-/// Whether one hole of some octets is too small; there is memory once the rest is given back.
+/// Returns whether one hole of this number of octets is too small, and the call succeeds once the rest is free again.
 fn is_refused<'h>(
     rt: &(impl Abort + AllocGlobal),
     heap: &'h LocalHeap,
@@ -96,12 +96,15 @@ fn is_refused<'h>(
     let first = answer(rt, heap, sheet, asked, text);
     drop(rest);
     holds(rt, answer(rt, heap, sheet, asked, text).is_ok());
-    holds(rt, matches!(first, Ok(()) | Err(ProgramFault::Memory)));
+    holds(
+        rt,
+        matches!(first, Ok(()) | Err(CheckFault::Text(TextFault::Memory))),
+    );
     first.is_err()
 }
 
-/// How many rooms are too small before one is enough. They rise by less than the least growth, so that each growth is the first
-/// that is refused.
+/// Number of rooms that are too small before one is enough. They rise by less than the least growth, so that each
+/// growth is the first that is refused.
 fn count_refused<'h>(
     rt: &(impl Abort + AllocGlobal),
     heap: &'h LocalHeap,
@@ -125,27 +128,27 @@ fn answers(rt: HostRuntime) {
     }
 }
 
-// What the output holds before the program runs.
+// Contents of the output before the program runs.
 const BEFORE: &str = "before\n";
 
-/// The buffer of a read is refused.
+/// Checks that the buffer of a read is refused.
 fn are_not_read(rt: &impl Abort, heap: &LocalHeap, output: &mut Vec<u8>) {
     let shared = run_share(heap, &mut LUNCH.as_bytes(), output);
-    holds(rt, shared == Err(ProgramFault::Memory));
+    holds(rt, shared == Err(ShareFault::Text(TextFault::Memory)));
     let (mut sheet, mut grants) = (LUNCH.as_bytes(), LUNCH_GRANTS.as_bytes());
     let judged = run_check(heap, &mut sheet, &mut grants, output);
-    holds(rt, judged == Err(ProgramFault::Memory));
+    holds(rt, judged == Err(CheckFault::SheetText(TextFault::Memory)));
 }
 
-/// A list that cannot grow refuses the lines, and stays as it is.
+/// Checks that a list that cannot grow refuses the lines, and is unchanged.
 fn are_not_written(rt: &(impl Abort + AllocGlobal), heap: &LocalHeap) {
     let mut output = Vec::new(heap);
     let shared = run_share(rt.alloc(), &mut LUNCH.as_bytes(), &mut output);
-    holds(rt, shared == Err(ProgramFault::WriteFault));
+    holds(rt, shared == Err(ShareFault::Text(TextFault::WriteFault)));
     holds(rt, output.is_empty());
 }
 
-/// Where memory runs out, nothing is written.
+/// If memory runs out, nothing is written.
 #[test]
 fn runs(rt: HostRuntime) {
     let heap = LocalHeap::new(rt.alloc(), 32).expect(&rt, "a heap");
@@ -153,5 +156,5 @@ fn runs(rt: HostRuntime) {
     are_not_read(&rt, &heap, &mut output);
     same(&rt, &output, BEFORE);
     are_not_written(&rt, &heap);
-    tells(&rt, &ProgramFault::Memory, "Memory");
+    tells(&rt, &TextFault::Memory, "Memory");
 }

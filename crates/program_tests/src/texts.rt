@@ -1,4 +1,4 @@
-//! The texts that tests speak of.
+//! The texts that the tests use.
 
 pub(crate) const LUNCH: &str = "limit / 10\nwant /a 10\nwant /b 10\nwant /c 10\n";
 

@@ -4,10 +4,9 @@ use crate::ends::{FailingWriter, Given};
 use crate::expect::{holds, same};
 use crate::texts::LUNCH_LINES;
 use std::process::Abort;
-use text_ends::Outside;
-use whole_texts::{ProgramFault, read_whole, write_whole};
+use text_io::{Outside, TextFault, read_whole, write_whole};
 
-/// How a text is given, and what is read; none of one that breaks off.
+/// A text as its reader returns it, and what is read; None if it breaks off.
 static READ: [(Given<'static>, Option<&str>); 8] = [
     (Given::Whole(""), Some("")),
     (Given::Whole("limit / 10\n"), Some("limit / 10\n")),
@@ -19,15 +18,12 @@ static READ: [(Given<'static>, Option<&str>); 8] = [
     (Given::Broken("limit / 10\n", 100), None),
 ];
 
-/// All that is given is read, to its end or to its fault.
+/// Checks that the text is read to its end, or to its fault.
 fn is_read(rt: &(impl Abort + AllocGlobal), given: Given<'_>, wanted: Option<&str>) {
     let mut reader = given.reader();
     match (read_whole(rt.alloc(), &mut Outside(&mut reader)), wanted) {
         (Ok(octets), Some(text)) => same(rt, &octets, text),
-        (answer, _) => holds(
-            rt,
-            answer == Err(ProgramFault::ReadFault) && wanted.is_none(),
-        ),
+        (answer, _) => holds(rt, answer == Err(TextFault::ReadFault) && wanted.is_none()),
     }
     holds(rt, reader.rest.is_empty());
 }
@@ -39,7 +35,7 @@ fn texts_are_read(rt: HostRuntime) {
     }
 }
 
-/// A text, and how many octets of it the writer takes.
+/// A text, and the number of its octets that the writer takes.
 static WRITTEN: [(&str, usize); 8] = [
     ("abc", 0),
     ("abc", 1),
@@ -51,7 +47,7 @@ static WRITTEN: [(&str, usize); 8] = [
     (LUNCH_LINES, LUNCH_LINES.len()),
 ];
 
-/// What the writer takes is the front of the text.
+/// Checks that the writer has the front of the text.
 fn is_written(rt: &(impl Abort + AllocGlobal), text: &str, left: usize) {
     let mut taken = Vec::new(rt.alloc());
     let mut writer = Outside(FailingWriter {
@@ -59,7 +55,7 @@ fn is_written(rt: &(impl Abort + AllocGlobal), text: &str, left: usize) {
         left,
     });
     let wanted = if left < text.len() {
-        Err(ProgramFault::WriteFault)
+        Err(TextFault::WriteFault)
     } else {
         Ok(())
     };

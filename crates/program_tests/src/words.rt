@@ -1,4 +1,4 @@
-//! What the words of command lines are read as.
+//! The commands that words of command lines are read as.
 
 use crate::expect::holds;
 use command_line::{SheetWords, Words, read_sheet_words, read_words};
@@ -38,7 +38,7 @@ fn words_on_a_server(rt: HostRuntime) {
     holds(&rt, command == Words::Serve { config, stop_file });
 }
 
-/// Both programs take the words as that command.
+/// Checks that both programs read the words as that command.
 fn are_of_both(rt: &(impl Abort + AllocGlobal), words: &[&str], wanted: SheetWords<'_>) {
     let command = read_words(rt.alloc(), words).expect(rt, "a command of ftpd");
     holds(rt, command == Words::Sheet(wanted));

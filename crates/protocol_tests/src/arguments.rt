@@ -4,9 +4,9 @@ use crate::expect::same;
 use crate::told::check_line;
 use ftp_wire::{ExtendedPort, HostPort, LineFault, read_eprt, read_port};
 
-/// Lines, and what each stands for: the command as it is written, or the reply to a fault.
+/// Lines and their meaning: the command as it is written, or the reply to a fault.
 static LINES: &[(&str, &str)] = &[
-    // codes that are not known
+    // codes that are unknown
     ("CLNT x", "500 Unknown command"),
     ("LPRT x", "500 Unknown command"),
     ("PRET x", "500 Unknown command"),
@@ -85,7 +85,7 @@ static LINES: &[(&str, &str)] = &[
     ("PASS se cret", "PASS se cret"),
     ("CWD a\tb", "501 Bad argument"),
     ("PASS a\tb", "501 Bad argument"),
-    // where data connections go
+    // addresses of data connections
     ("PORT 10,0,0,1,20,0", "PORT 10,0,0,1,20,0"),
     ("PORT 10,0,0,1,20,256", "501 Bad argument"),
     ("PORT 10,0,0,1,20", "501 Bad argument"),

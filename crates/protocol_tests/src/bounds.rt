@@ -6,7 +6,8 @@ use ftp_wire::LineReader;
 use std::alloc::Global;
 use std::process::Abort;
 
-/// A start, and one octet so many times; how many octets are kept then; an end, and what all stand for.
+/// A start, and one octet repeated; the number of octets stored then; an end, and the meaning of all
+/// together.
 type Flood = (
     &'static [u8],
     u8,

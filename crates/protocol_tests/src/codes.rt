@@ -1,8 +1,8 @@
-//! Each code that is known, without an argument and with one.
+//! Each known code, without an argument and with one.
 
 use crate::told::check_line;
 
-/// A code, what it stands for alone, and what it stands for with the argument `x`.
+/// A code, its meaning alone, and its meaning with the argument `x`.
 static CODES: &[(&str, &str, &str)] = &[
     // without an argument
     ("CDUP", "CDUP", "501 Argument not wanted"),
@@ -32,7 +32,7 @@ static CODES: &[(&str, &str, &str)] = &[
     ("XCWD", "501 Argument missing", "CWD x"),
     ("XRMD", "501 Argument missing", "RMD x"),
     ("XMKD", "501 Argument missing", "MKD x"),
-    // with an argument of a form of its own, and those that can do without
+    // with an argument of a form of its own, required or optional
     ("TYPE", "501 Argument missing", "501 Bad argument"),
     ("MODE", "501 Argument missing", "501 Bad argument"),
     ("STRU", "501 Argument missing", "501 Bad argument"),

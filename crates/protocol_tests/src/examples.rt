@@ -1,8 +1,8 @@
-//! What the heads of these crates show of their use. `tools/examples` sees that the two have the same lines.
+//! The examples in the heads of these crates. `tools/examples` checks that both have the same lines.
 
 use crate::expect::{holds, same_octets as same, says};
 use ftp_reply::{Reply, ReplyCode, list_line};
-use ftp_terms::{Kind, Letter, Letters, LineText, Meta};
+use ftp_terms::{EntryKind, Letter, Letters, LineText, Meta};
 use ftp_wire::{LineItem, LineReader, write_command};
 use std::alloc::AllocError;
 use std::process::Abort;
@@ -11,7 +11,7 @@ fn ftp_terms(rt: &(impl Abort + AllocGlobal)) -> Result<(), AllocError> {
     let letters = Letters::read("elr").unwrap_or(Letters::NONE);
     holds(rt, letters.holds(Letter::Retrieve));
     holds(rt, !letters.holds(Letter::Store));
-    let meta = Meta::new(Kind::File, 120, 951_827_696); // seconds since 1970
+    let meta = Meta::new(EntryKind::File, 120, 951_827_696); // seconds since 1970
     let text = LineText::with_number(rt.alloc(), "", meta.size, " octets")?;
     holds(rt, text.as_str() == "120 octets");
     Ok(())
@@ -21,7 +21,7 @@ fn ftp_reply(rt: &(impl Abort + AllocGlobal), output: &mut Vec<u8>) -> Result<()
     let text = LineText::with_number(rt.alloc(), "Restarting at ", 120, "")?;
     Reply::one_line(ReplyCode::new(350), text).write_to(output)?; // a `Vec` of octets
     same(rt, output, b"350 Restarting at 120\r\n");
-    let meta = Meta::new(Kind::File, 120, 951_827_696);
+    let meta = Meta::new(EntryKind::File, 120, 951_827_696);
     let line = list_line(rt.alloc(), &meta, "a.txt")?;
     let wanted = "-rw-r--r-- 1 ftp ftp          120 Feb 29  2000 a.txt";
     holds(rt, line.as_str() == wanted);

@@ -1,4 +1,4 @@
-//! What tests expect. A call costs the prover less than an `assert_eq!` in its place.
+//! Expectations of the tests. A call costs the prover less than an `assert_eq!` in its place.
 
 ghost use Rattle.std.specs.Prelude.{IsTrue};
 
@@ -8,14 +8,14 @@ use std::alloc::{AllocError, Allocator};
 use std::fmt::Debug;
 use std::process::Abort;
 
-/// Stops the test where this does not hold.
+/// Stops the test if this is false.
 pub(crate) fn holds(rt: &impl Abort, fact: bool)
     ensures so { IsTrue fact }
 {
     assert!(rt; fact);
 }
 
-/// Stops the test where the two are not the same.
+/// Stops the test if the two differ.
 pub(crate) fn same<T: PartialEq + Debug>(rt: &impl Abort, found: &T, wanted: &T) {
     assert_eq!(rt; found, wanted);
 }
@@ -25,13 +25,13 @@ pub(crate) fn same_octets(rt: &impl Abort, found: &[u8], wanted: &[u8]) {
     assert_eq!(rt; found, wanted);
 }
 
-/// Stops the test where what a line tells, with its end, is not the item that is wanted.
+/// Stops the test if a line with its end does not read as the expected item.
 pub(crate) fn same_line(rt: &impl Abort, found: &[u8], wanted: &str, line: &str) {
     let found = std::str::from_utf8(found).expect(rt, "UTF-8");
     assert_eq!(rt; found.strip_suffix("\r\n"), Some(wanted), "{line}");
 }
 
-/// A call has given this text.
+/// A call has returned this text.
 pub(crate) fn gives<A: Allocator>(
     rt: &impl Abort,
     text: Result<LineText<A>, AllocError>,
@@ -41,7 +41,7 @@ pub(crate) fn gives<A: Allocator>(
     assert_eq!(rt; text.as_str(), wanted);
 }
 
-/// The reply is written as these octets, behind what a buffer holds.
+/// The reply is written as these octets, after those that a buffer has.
 pub(crate) fn says(rt: &(impl Abort + AllocGlobal), reply: Reply, wanted: &[u8]) {
     let mut octets = Vec::from_slice(rt.alloc(), b"before ").expect(rt, "memory");
     reply.write_to(&mut octets).expect(rt, "memory");

@@ -1,4 +1,4 @@
-//! Each call that gives a text, writes a reply or a command, or reads, with each of its growths refused in turn.
+//! Each call that returns a text, writes a reply or a command, or reads, with each of its growths refused in turn.
 
 use crate::expect::{gives, holds, same};
 use crate::replies::{FEATURES, features};
@@ -11,23 +11,23 @@ use std::process::Abort;
 
 const ROOM: usize = 16384;
 
-/// The calls that are refused.
+/// The calls with refused memory.
 #[derive(Clone, Copy)]
 enum Call<'a> {
-    /// With what is given.
+    /// With its expected text.
     Give(Text, &'static str),
     WriteReply(&'a Reply),
     WriteCommand(&'a Command<String>),
     Feed,
 }
 
-/// All memory that a heap has left, but for so much.
+/// Takes everything that a heap has left, except this much.
 fn all_but<'h>(rt: &impl Abort, heap: &'h LocalHeap, room: usize) -> Vec<u8, &'h LocalHeap> {
     let size = heap.free().saturating_sub(room);
     Vec::with_capacity(heap, size).expect(rt, "one piece of memory")
 }
 
-/// Whether the call gives its text in so little memory. With more it does.
+/// Returns whether the call returns its text with this little memory. With more it does.
 fn text_outcome(rt: &impl Abort, heap: &LocalHeap, room: usize, text: Text, wanted: &str) -> bool {
     let rest = all_but(rt, heap, room);
     let first = given(rt, heap, text).is_ok();
@@ -36,7 +36,7 @@ fn text_outcome(rt: &impl Abort, heap: &LocalHeap, room: usize, text: Text, want
     first
 }
 
-/// Whether the line of a command fits so little memory. With more it does.
+/// Returns whether the line of a command fits into this little memory. With more it does.
 fn line_outcome(rt: &impl Abort, heap: &LocalHeap, room: usize, command: &Command<String>) -> bool {
     let rest = all_but(rt, heap, room);
     let first = write_command(heap, command).is_ok();
@@ -46,8 +46,7 @@ fn line_outcome(rt: &impl Abort, heap: &LocalHeap, room: usize, command: &Comman
     first
 }
 
-/// Whether a reply is written behind what a buffer holds, which after a refusal holds what it held. With more memory
-/// it is written.
+/// Returns whether a reply is appended to a buffer, which is unchanged after a refusal. With more memory it is appended.
 fn reply_outcome(rt: &impl Abort, heap: &LocalHeap, room: usize, reply: &Reply) -> bool {
     let mut buffer = Vec::from_slice(heap, b"before").expect(rt, "memory");
     let rest = all_but(rt, heap, room);
@@ -60,8 +59,8 @@ fn reply_outcome(rt: &impl Abort, heap: &LocalHeap, room: usize, reply: &Reply) 
     first
 }
 
-/// Whether a reader tells of its first piece in so little memory. With more the rest of the lines is told, and all of
-/// them where the first piece was refused.
+/// Returns whether a reader reads its first piece with this little memory. With more, the rest of the lines is read, and
+/// all of them if the first piece was refused.
 fn feed_outcome(rt: &impl Abort, heap: &LocalHeap, room: usize) -> bool {
     let mut reader = LineReader::new(heap);
     let rest = all_but(rt, heap, room);
@@ -83,7 +82,7 @@ fn feed_outcome(rt: &impl Abort, heap: &LocalHeap, room: usize) -> bool {
     first
 }
 
-/// Whether a call succeeds on a heap with so little room left.
+/// Returns whether a call succeeds on a heap with this little room left.
 fn outcome(rt: &impl Abort, alloc: Global, call: Call, room: usize) -> bool {
     let heap = LocalHeap::new(alloc, ROOM).expect(rt, "memory");
     match call {
@@ -94,7 +93,7 @@ fn outcome(rt: &impl Abort, alloc: Global, call: Call, room: usize) -> bool {
     }
 }
 
-/// With rising room the call succeeds at last. Where it takes memory, it is refused at first.
+/// With rising room, the call succeeds eventually. If it takes memory, it is refused at first.
 fn check_call(rt: &impl Abort, alloc: Global, call: Call, takes_memory: bool) {
     let mut refused = false;
     let mut answered = false;

@@ -6,10 +6,10 @@ use ftp_terms::LineText;
 use std::alloc::Global;
 use std::process::Abort;
 
-pub const FEATURES: &[u8] = b"211-Features\r\n EPRT\r\n 211 is no end\r\n\r\n211 End\r\n";
+pub(crate) const FEATURES: &[u8] = b"211-Features\r\n EPRT\r\n 211 is no end\r\n\r\n211 End\r\n";
 
 /// A reply of several lines, as `FEATURES`.
-pub fn features(rt: &impl Abort, alloc: Global) -> Reply {
+pub(crate) fn features(rt: &impl Abort, alloc: Global) -> Reply {
     let mut inner = Vec::new(alloc);
     for line in [" EPRT", "211 is no end", ""] {
         inner.push(LineText::fixed(line)).expect(rt, "memory");

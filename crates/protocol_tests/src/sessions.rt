@@ -6,7 +6,7 @@ use ftp_wire::{LONGEST_HELD, LineReader, items_stay, only_items, spellings_apart
 use std::alloc::Global;
 use std::process::Abort;
 
-/// Lines of a session, and what each stands for: the command as it is written, or the reply to a fault.
+/// Lines of a session and their meaning: the command as it is written, or the reply to a fault.
 static SESSION: [(&[u8], &str); 32] = [
     (b"USER ann\r\n", "USER ann\r\n"),
     (b"pass\r\n", "PASS\r\n"),
@@ -42,7 +42,7 @@ static SESSION: [(&[u8], &str); 32] = [
     (b"NOO\xff\xfa\xff", ""),
 ];
 
-/// The octets of the session, or what they stand for.
+/// The octets of the session, or their meaning.
 fn session(rt: &impl Abort, alloc: Global, is_told: bool) -> Vec<u8> {
     let mut octets = Vec::new(alloc);
     for (line, item) in &SESSION {

@@ -1,20 +1,20 @@
-//! The calls that give a text of one line, and what they give. `refused` carries them out.
+//! The calls that return a text of one line, with the expected texts. `refused` carries them out.
 
 ghost use Rattle.ftp_terms.specs.Lines.{IsLine};
 
 use crate::expect::{holds, same, same_octets};
 use ftp_reply::{list_line, listings_have_one_text, mdtm_line, mdtm_text, mlst_entry, quoted_path};
-use ftp_terms::{Facts, Kind, LATEST, Letters, LineText, Meta, is_line_text};
+use ftp_terms::{EntryKind, Facts, LATEST, Letters, LineText, Meta, is_line_text};
 use ftp_wire::{HostPort, facts_text, port_text, starred_facts_text};
 use std::alloc::{AllocError, Allocator};
 use std::process::Abort;
 
-/// Kind, size and moment of an entry.
-type Of = (Kind, u64, u64);
+/// EntryKind, size and moment of an entry.
+type Of = (EntryKind, u64, u64);
 
-/// A call that gives a text.
+/// A call that returns a text.
 #[derive(Clone, Copy)]
-pub enum Text {
+pub(crate) enum Text {
     Made(&'static str),
     WithNumber(&'static str, u64, &'static str),
     Joined(&'static str, &'static str, &'static str),
@@ -29,7 +29,7 @@ pub enum Text {
     StarredFacts(Facts),
 }
 
-/// The text of a row, which stands on one line.
+/// The text of a row, which is on one line.
 fn line(rt: &impl Abort, text: &'static str) -> &'static str
     ensures line { IsLine result.now }
 {
@@ -47,8 +47,8 @@ fn made<A: Allocator>(rt: &impl Abort, alloc: A, text: &str) -> Result<LineText<
     Ok(LineText::made(text))
 }
 
-/// What a call gives.
-pub fn given<A: Allocator>(
+/// The text that a call returns.
+pub(crate) fn given<A: Allocator>(
     rt: &impl Abort,
     alloc: A,
     text: Text,
@@ -79,11 +79,11 @@ pub fn given<A: Allocator>(
 /// 2000-02-29 12:34:56.
 const LEAP_DAY: u64 = 951_827_696;
 
-const FILE: Of = (Kind::File, 3, LEAP_DAY);
+const FILE: Of = (EntryKind::File, 3, LEAP_DAY);
 
-const LARGE: Of = (Kind::File, u64::MAX, 0);
+const LARGE: Of = (EntryKind::File, u64::MAX, 0);
 
-const FOLDER: Of = (Kind::Directory, 0, 0);
+const FOLDER: Of = (EntryKind::Directory, 0, 0);
 
 const SIZE_ALONE: Facts = Facts {
     size: true,
@@ -101,7 +101,7 @@ const READS: Letters = Letters {
     ..Letters::NONE
 };
 
-pub static TEXTS: &[(Text, &str)] = &[
+pub(crate) static TEXTS: &[(Text, &str)] = &[
     (Text::Made("made"), "made"),
     (
         Text::WithNumber("Restarting at ", u64::MAX, "."),
@@ -115,15 +115,15 @@ pub static TEXTS: &[(Text, &str)] = &[
     (Text::Joined("a", "", "\u{e9}b"), "a\u{e9}b"),
     // lines of listings
     (
-        Text::ListLine((Kind::File, 120, LEAP_DAY)),
+        Text::ListLine((EntryKind::File, 120, LEAP_DAY)),
         "-rw-r--r-- 1 ftp ftp          120 Feb 29  2000 x",
     ),
     (
-        Text::ListLine((Kind::Directory, 120, 0)),
+        Text::ListLine((EntryKind::Directory, 120, 0)),
         "drwxr-xr-x 1 ftp ftp            0 Jan  1  1970 x",
     ),
     (
-        Text::ListLine((Kind::File, 1_234_567_890_123, LATEST)),
+        Text::ListLine((EntryKind::File, 1_234_567_890_123, LATEST)),
         "-rw-r--r-- 1 ftp ftp 1234567890123 Dec 31  9999 x",
     ),
     (
@@ -209,9 +209,9 @@ fn moments(rt: HostRuntime) {
     same_octets(&rt, &mdtm_text(LEAP_DAY), b"20000229123456");
     same_octets(&rt, &mdtm_text(0), b"19700101000000");
     same_octets(&rt, &mdtm_text(LATEST), b"99991231235959");
-    let late = Meta::new(Kind::File, 3, LATEST + 1); // told as the latest
+    let late = Meta::new(EntryKind::File, 3, LATEST + 1); // told as the latest
     same(&rt, &late.modified, &LATEST);
-    holds(&rt, late == Meta::new(Kind::File, 3, u64::MAX));
-    holds(&rt, late != Meta::new(Kind::Directory, 3, LATEST));
+    holds(&rt, late == Meta::new(EntryKind::File, 3, u64::MAX));
+    holds(&rt, late != Meta::new(EntryKind::Directory, 3, LATEST));
     listings_have_one_text();
 }

@@ -1,4 +1,4 @@
-//! What a reader tells, as octets: a command as it is written, a fault as its reply.
+//! The output of a reader, as octets: a command as it is written, a fault as its reply.
 
 use crate::expect::same_line;
 use ftp_wire::{LineItem, LineReader, write_command};
@@ -15,8 +15,8 @@ fn add_item(rt: &impl Abort, alloc: Global, out: &mut Vec<u8>, item: &LineItem) 
     }
 }
 
-/// Adds what a reader tells of these octets.
-pub fn add_told(
+/// Adds the output of a reader for these octets.
+pub(crate) fn add_told(
     rt: &impl Abort,
     alloc: Global,
     out: &mut Vec<u8>,
@@ -29,8 +29,8 @@ pub fn add_told(
     }
 }
 
-/// What a new reader tells of octets that come in these pieces.
-pub fn told(rt: &impl Abort, alloc: Global, pieces: &[&[u8]]) -> Vec<u8> {
+/// The output of a new reader for octets in these pieces.
+pub(crate) fn told(rt: &impl Abort, alloc: Global, pieces: &[&[u8]]) -> Vec<u8> {
     let mut reader = LineReader::new(alloc);
     let mut out = Vec::new(alloc);
     for piece in pieces {
@@ -39,8 +39,8 @@ pub fn told(rt: &impl Abort, alloc: Global, pieces: &[&[u8]]) -> Vec<u8> {
     out
 }
 
-/// A line in two parts, without its end, stands for an item.
-pub fn check_line(rt: &impl Abort, alloc: Global, code: &str, rest: &str, item: &str) {
+/// A line in two parts, without its end, reads as an item.
+pub(crate) fn check_line(rt: &impl Abort, alloc: Global, code: &str, rest: &str, item: &str) {
     let line = format!(in alloc; "{code}{rest}\r\n").expect(rt, "memory");
     let found = told(rt, alloc, &[line.as_bytes()]);
     same_line(rt, found.as_slice(), item, line.as_str());

@@ -15,7 +15,7 @@ static NAMED: [(&str, Letter); 8] = [
     ("w", Letter::Store),
 ];
 
-/// The text stands for this letter alone.
+/// The text is this letter alone.
 fn check_letter(rt: &impl Abort, text: &str, letter: Letter) {
     let held = Letters::read(text).unwrap_or(Letters::NONE);
     for (_, other) in &NAMED {

@@ -1,11 +1,11 @@
--- Admission without groups, and without guarantees, as it is then said.
+-- Admission as it is stated without groups, and without guarantees.
 use Rattle.std.specs.Prelude.{◌≡◌, ◌<◌, ◌+◌, ℕ, Bool, true, ◌&&◌, Option, Some, None}
 use Rattle.std.specs.List.{All}
 use Rattle.rate_floors.specs.declared.find.UserSessions.{UserSessions}
 use Rattle.rate_floors.specs.declared.fits.TheConstants.{MAX_PROMISED}
 use Rattle.rate_floors.specs.Promises.{Promises, admits, counted, user_of, is_small, session_fits, user_fits, line_fits}
 
--- what is promised to a user's counted sessions is within the rates of each session, of the user and of the line
+-- the guarantees of all counted sessions are within the rates of each session, of the user and of the line
 abbrev pub fits_plainly : Promises → Option UserSessions → Bool
 fits_plainly after None = true
 fits_plainly after (Some entry) =
@@ -21,14 +21,14 @@ HasNoGroups p = All (λ (entry : UserSessions). entry.row.group ≡ None) p.user
 abbrev pub NoGroupsIsPlain : Type 0
 NoGroupsIsPlain = (p : Promises) (user : ℕ) → HasNoGroups p → admits p user ≡ admits_plainly p user
 
--- no session of the user is guaranteed anything
+-- no session of the user has a guarantee
 abbrev pub IsWithoutFloors : UserSessions → Type 0
 IsWithoutFloors entry = (entry.row.session_down_floor ≡ 0) × (entry.row.session_up_floor ≡ 0)
 
 abbrev pub HasNoFloors : Promises → Type 0
 HasNoFloors p = All IsWithoutFloors p.users
 
--- the number of each user's counted sessions can grow
+-- the number of each user's counted sessions can increase
 abbrev pub CanGrow : Promises → Type 0
 CanGrow p = All (λ (entry : UserSessions). entry.sessions < MAX_PROMISED) p.users
 

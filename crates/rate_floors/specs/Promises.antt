@@ -1,4 +1,4 @@
--- What counted sessions are promised, and when one more still fits, in octets a second.
+-- The guarantees of counted sessions in octets per second, and when those of one more still fit.
 use Rattle.std.specs.Prelude.{◌≡◌, ℕ, ◌+◌, ◌-◌, ◌*◌, ◌^◌, ◌<◌, ◌≤◌, Bool, true, false, ◌&&◌, ◌||◌, nat_eq, nat_le, nat_lt, if◌then◌else◌, List, map, sum_by, length, slice_index_or, Option, Some, None, MatchOption, refl}
 use Rattle.std.specs.Coded.{Coded, code_by, coded×, coded_ℕ, coded_list}
 use Rattle.std.specs.FinMap as finite
@@ -14,7 +14,7 @@ use Rattle.rate_floors.specs.declared.find.GroupPromise.{GroupPromise}
 use Rattle.rate_floors.specs.declared.find.UserSessions.{UserSessions}
 use Rattle.rate_floors.specs.declared.fits.TheConstants.{MAX_PROMISED}
 
--- the rates, and each user that has a row with the number of their counted sessions
+-- the rates, and each user with a row with the number of their counted sessions
 pub record Promises : Type 0 where
   pub rates : Rates
   pub users : List UserSessions
@@ -37,27 +37,27 @@ group_key entry = entry.row.group
 abbrev pub group_row : GroupPromise → GroupRate
 group_row entry = entry.row
 
--- what each session of a user is guaranteed
+-- the guarantee of each session of a user
 abbrev pub floor_in : UserRate → Way → ℕ
 floor_in row way = way_of row.session_down_floor row.session_up_floor way
 
--- what a user's counted sessions are promised
+-- sum of the guarantees of a user's counted sessions
 abbrev pub promised_user : Way → UserSessions → ℕ
 promised_user way entry = entry.sessions * floor_in entry.row way
 
--- what all are promised
+-- sum of the guarantees of all counted sessions
 abbrev pub promised : List UserSessions → Way → ℕ
 promised users way = sum_by (promised_user way) users
 
--- what those of the users in a group are promised
+-- sum of the guarantees of counted sessions of users in a group
 abbrev pub promised_group : List UserSessions → Way → ℕ → ℕ
 promised_group users way group = sum_by (λ entry. if is_number entry.row.group group then promised_user way entry else 0) users
 
--- what a user's counted sessions are promised with one more
+-- sum of the guarantees of a user's counted sessions and one more
 abbrev pub promised_with_more : Way → UserSessions → ℕ
 promised_with_more way entry = (entry.sessions + 1) * floor_in entry.row way
 
--- another number of counted sessions of a user
+-- sets the number of counted sessions of a user
 abbrev pub with_sessions : (ℕ → ℕ) → ℕ → UserSessions → UserSessions
 with_sessions change user entry =
     if nat_eq (user_key entry) user then record { row = entry.row; sessions = change entry.sessions } else entry
@@ -71,18 +71,18 @@ one_more sessions = sessions + 1
 abbrev pub one_less : ℕ → ℕ
 one_less sessions = sessions - 1
 
--- one more session of a user is counted, and one less
+-- counts one more session of a user; one less
 abbrev pub counted : Promises → ℕ → Promises
 counted = changed one_more
 
 abbrev pub released : Promises → ℕ → Promises
 released = changed one_less
 
--- the user with their counted sessions, if they have a row
+-- the user with the number of their counted sessions, if they have a row
 abbrev pub user_of : Promises → ℕ → Option UserSessions
 user_of p user = finite.get (by_number user_key p.users) user
 
--- a sum is within a rate, where a rate of 0 is no limit
+-- a sum is within a rate; a rate of 0 is no limit
 abbrev pub keeps : ℕ → ℕ → Bool
 keeps sum rate = nat_eq rate 0 || nat_le sum rate
 
@@ -100,25 +100,25 @@ group_fits p (Some group) =
 abbrev pub line_fits : Promises → Bool
 line_fits p = keeps (promised p.users Down) p.rates.down && keeps (promised p.users Up) p.rates.up && keeps (promised p.users Down + promised p.users Up) p.rates.server
 
--- sums stay so small, and so many sessions can be one more
+-- the sums are at most `MAX_PROMISED`, and the number of sessions is below it
 abbrev pub is_small : Promises → ℕ → Bool
 is_small p sessions = nat_le (promised p.users Down + promised p.users Up) MAX_PROMISED && nat_lt sessions MAX_PROMISED
 
--- What is promised to a user's counted sessions fits: within the rates of each session, of the user, of their group,
--- of each way, and of the server, for which both ways are added.
+-- The guarantees fit with one more session of a user: within the rates of each session, of the user, of their group,
+-- of each way, and of the server, which limits the sum of both ways.
 abbrev pub fits : Promises → Option UserSessions → Bool
 fits after None = true
 fits after (Some entry) = is_small after entry.sessions && (session_fits entry.row && user_fits entry.row (entry.sessions + 1) && group_fits after entry.row.group && line_fits after)
 
--- one more session of a user fits; that of a user without a row always does
+-- one more session of a user fits; for a user without a row it always does
 abbrev pub admits : Promises → ℕ → Bool
 admits p user = fits (counted p user) (user_of p user)
 
--- what is promised to a user's counted sessions is within the rates of each session and of the user
+-- the guarantees of a user's counted sessions are within the rates of each session and of the user
 abbrev pub entry_fits : UserSessions → Bool
 entry_fits entry = nat_eq entry.sessions 0 || (session_fits entry.row && user_fits entry.row entry.sessions)
 
--- What is promised to counted sessions is within all rates; each user with a row stands once.
+-- The guarantees of counted sessions are within all rates, and each user with a row occurs once.
 pub record PromisesFit (p : Promises) : Type 0 where
   pub rows : p.rates.users ≡ by_number user_number (map user_row p.users)
   pub rising : IsRising user_key p.users
@@ -130,7 +130,7 @@ abbrev pub has_session : Option UserSessions → Bool
 has_session None = false
 has_session (Some entry) = nat_lt 0 entry.sessions
 
--- a session of a user is counted
+-- some session of the user is counted
 abbrev pub has_counted : Promises → ℕ → Bool
 has_counted p user = has_session (user_of p user)
 
@@ -140,20 +140,20 @@ no_session row = record { row = row; sessions = 0 }
 abbrev pub no_promise : GroupRate → GroupPromise
 no_promise row = record { row = row; down = 0; up = 0 }
 
--- a number stands at a place
+-- the row with number q is at index i
 abbrev pub IsAt : {X : Type 0} → (X → ℕ) → List X → ℕ → ℕ → Type 0
 IsAt {X} number rows q i = (i < length rows) × ((d : X) → finite.get (by_number number rows) q ≡ Some (slice_index_or rows i d)) × ((d : X) → number (slice_index_or rows i d) ≡ q)
 
--- where a number stands, if it does
+-- the index of the row with number q, if there is one
 abbrev pub FindsPlace : {X : Type 0} → (X → ℕ) → List X → ℕ → Option ℕ → Type 0
 FindsPlace number rows q place = MatchOption place (finite.get (by_number number rows) q ≡ None) (IsAt number rows q)
 
--- what a group is promised is within its rates with one more session of a user
+-- the guarantees in a group, with one more session of a user, are within the group's rates
 abbrev pub keeps_one_more : GroupPromise → UserRate → Bool
 keeps_one_more entry row =
     keeps (entry.down + row.session_down_floor) entry.row.down && keeps (entry.up + row.session_up_floor) entry.row.up
 
--- the group of a user gets and loses what one session of theirs is promised
+-- adds the guarantees of one session to the sums of the user's group, or subtracts them
 abbrev pub with_floors : (ℕ → ℕ → ℕ) → UserRate → GroupPromise → GroupPromise
 with_floors change row entry =
     if is_number row.group (group_key entry) then record { row = entry.row; down = change entry.down row.session_down_floor; up = change entry.up row.session_up_floor } else entry
@@ -172,12 +172,12 @@ abbrev pub IsInGroup : List GroupPromise → Option ℕ → ℕ → Type 0
 IsInGroup groups None i = ⊥
 IsInGroup groups (Some group) i = IsAt group_key groups group i
 
--- the sums of a user's group, and what one more session of theirs is promised, fit into a number
+-- the sums of a user's group plus the guarantees of one session fit into 64 bits
 abbrev pub HasRoom : List GroupPromise → UserRate → Type 0
 HasRoom groups row = (i : ℕ) (d : GroupPromise) → i < length groups → is_number row.group (group_key (slice_index_or groups i d)) ≡ true
     → ((slice_index_or groups i d).down + row.session_down_floor < 2 ^ 64) × ((slice_index_or groups i d).up + row.session_up_floor < 2 ^ 64)
 
--- they have what one session of theirs is promised
+-- the sums of a user's group are at least the guarantees of one session
 abbrev pub HasFloors : List GroupPromise → UserRate → Type 0
 HasFloors groups row = (i : ℕ) (d : GroupPromise) → i < length groups → is_number row.group (group_key (slice_index_or groups i d)) ≡ true
     → (row.session_down_floor ≤ (slice_index_or groups i d).down) × (row.session_up_floor ≤ (slice_index_or groups i d).up)
@@ -186,12 +186,12 @@ pub record IsPromised (users : List UserSessions) (entry : GroupPromise) : Type 
   pub down : entry.down ≡ promised_group users Down entry.row.group
   pub up : entry.up ≡ promised_group users Up entry.row.group
 
--- what rates and rows are seen as
+-- the promises that rates and rows represent
 abbrev pub seen : ℕ → ℕ → ℕ → List GroupPromise → List UserSessions → Promises
 seen server down up groups users =
     record { rates = stated server down up (map group_row groups) (map user_row users); users = users }
 
--- how the sums are kept
+-- the stored sums are those of the definitions
 pub record IsTold (down up : ℕ) (groups : List GroupPromise) (users : List UserSessions) : Type 0 where
   pub down_told : down ≡ promised users Down
   pub up_told : up ≡ promised users Up
@@ -202,7 +202,7 @@ pub record IsTold (down up : ℕ) (groups : List GroupPromise) (users : List Use
   pub groups_rise : IsRising group_key groups
   pub groups_told : All (IsPromised users) groups
 
--- how promises are kept: in sums, and so that they fit
+-- how promises are stored: in sums, which fit
 pub record IsKept (server down up promised_down promised_up : ℕ) (groups : List GroupPromise) (users : List UserSessions) : Type 0 where
   pub told : IsTold promised_down promised_up groups users
   pub fit : PromisesFit (seen server down up groups users)
@@ -211,7 +211,8 @@ pub record IsKept (server down up promised_down promised_up : ℕ) (groups : Lis
 abbrev pub HasNoSessions : Promises → Type 0
 HasNoSessions p = All (λ (entry : UserSessions). entry.sessions ≡ 0) p.users
 
--- the promises after one more session of a user, where it is admitted, and after one is released, where one is counted
+-- the promises after `admit`, which counts a session if it fits, and after `release`, which takes back one if any is
+-- counted
 abbrev pub after_admit : Promises → ℕ → Promises
 after_admit p user = if admits p user then counted p user else p
 

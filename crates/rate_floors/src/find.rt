@@ -1,4 +1,4 @@
-//! The rows of groups and users, with what is counted of each.
+//! Rows of groups and users, with what is counted for each.
 
 ghost use Rattle.std.specs.Prelude.{◌≡◌, MatchOption, map};
 ghost use Rattle.line_rates.specs.Stated.{IsRising};
@@ -7,28 +7,29 @@ ghost use Rattle.rate_floors.specs.Promises.{group_key, user_key, FindsPlace, Is
 use line_rates::{GroupRate, UserRate};
 use std::alloc::Allocator;
 
-/// The rates of a group, and what is promised to the counted sessions of its users, in octets a second.
+/// The rates of a group, and the sums of the guarantees of its users' counted sessions, in octets per
+/// second.
 #[derive(Clone, Copy, Debug, PartialEq, Eq)]
 pub struct GroupPromise {
     /// The rates of the group.
     pub row: GroupRate,
-    /// What is promised down.
+    /// Sum of the guarantees of downloads.
     pub down: u64,
-    /// What is promised up.
+    /// Sum of the guarantees of uploads.
     pub up: u64,
 }
 
-/// The rates of a user, and how many of their sessions are counted.
+/// The rates of a user, and the number of their counted sessions.
 #[derive(Clone, Copy, Debug, PartialEq, Eq)]
 pub struct UserSessions {
     /// The rates of the user.
     pub row: UserRate,
-    /// The number of sessions.
+    /// The number of counted sessions.
     pub sessions: u64,
 }
 
-/// The place of a user, by binary search.
-pub fn find_user(users: &[UserSessions], user: u32) -> Option<usize>
+/// The index of a user's row, by binary search.
+pub(crate) fn find_user(users: &[UserSessions], user: u32) -> Option<usize>
     requires rising { IsRising user_key users.now }
     ensures place { FindsPlace user_key users.now user result }
 {
@@ -48,8 +49,8 @@ fn find_number(groups: &[GroupPromise], group: u32) -> Option<usize>
     }
 }
 
-/// The place of a user's group, if they are in one that has a row.
-pub fn find_group(groups: &[GroupPromise], group: Option<u32>) -> Option<usize>
+/// The index of the row of a user's group, if they are in one that has a row.
+pub(crate) fn find_group(groups: &[GroupPromise], group: Option<u32>) -> Option<usize>
     requires rising { IsRising group_key groups.now }
     ensures place { MatchOption result (HasNone groups.now group) (IsInGroup groups.now group) }
 {
@@ -59,8 +60,8 @@ pub fn find_group(groups: &[GroupPromise], group: Option<u32>) -> Option<usize>
     }
 }
 
-/// Adds what a session of a user is promised to what their group is.
-pub fn add<A: Allocator>(groups: &mut Vec<GroupPromise, A>, row: UserRate)
+/// Adds the guarantees of one session of a user to the sums of their group.
+pub(crate) fn add<A: Allocator>(groups: &mut Vec<GroupPromise, A>, row: UserRate)
     requires rising { IsRising group_key groups.old.items }
     requires room { HasRoom groups.old.items row }
     ensures added { groups.new.items ≡ map (with_floors added row) groups.old.items }
@@ -75,8 +76,8 @@ pub fn add<A: Allocator>(groups: &mut Vec<GroupPromise, A>, row: UserRate)
     }
 }
 
-/// Takes what a session of a user is promised from what their group is.
-pub fn take<A: Allocator>(groups: &mut Vec<GroupPromise, A>, row: UserRate)
+/// Subtracts the guarantees of one session of a user from the sums of their group.
+pub(crate) fn take<A: Allocator>(groups: &mut Vec<GroupPromise, A>, row: UserRate)
     requires rising { IsRising group_key groups.old.items }
     requires floors { HasFloors groups.old.items row }
     ensures taken { groups.new.items ≡ map (with_floors taken row) groups.old.items }

@@ -1,4 +1,4 @@
-//! The sessions that are counted, and what they are promised.
+//! Counted sessions and their guarantees.
 
 ghost use Rattle.std.specs.Prelude.{◌≡◌, ◌+◌, ◌*◌, ◌<◌, ◌≤◌, ◌^◌, IsTrue, IfOk, Some, map};
 ghost use Rattle.line_rates.specs.declared.ask.Way.TheVariants.{Down, Up};
@@ -10,7 +10,7 @@ use line_rates::{GroupRate, Limits, Name, UserRate, Way};
 use std::alloc::{AllocError, Allocator, Global};
 use std::marker::Model;
 
-/// The sessions of each user that are counted, and the sums of what they are promised.
+/// The number of counted sessions of each user, and the sums of their guarantees.
 #[derive(Drop)]
 pub struct Floors<A: Allocator = Global> {
     server: u64,
@@ -18,7 +18,7 @@ pub struct Floors<A: Allocator = Global> {
     up: u64,
     promised_down: u64,
     promised_up: u64,
-    // in the order of their numbers
+    // sorted by number
     groups: Vec<GroupPromise, A>,
     users: Vec<UserSessions, A>,
 }
@@ -69,7 +69,7 @@ fn no_promises<A: Allocator>(
 }
 
 impl<A: Allocator + Clone> Floors<A> {
-    /// The guarantees of limits, with no session counted.
+    /// The guarantees of limits, with no session counted. Returns `AllocError` only if memory runs out.
     pub fn of<L: Allocator>(alloc: A, limits: &Limits<L>) -> Result<Floors<A>, AllocError>
         ensures rates { IfOk result (λ f. f.rates ≡ limits.now) }
         ensures none { IfOk result (λ f. HasNoSessions f) }
@@ -89,15 +89,15 @@ impl<A: Allocator + Clone> Floors<A> {
 }
 
 impl<A: Allocator> Floors<A> {
-    /// Whatever is called, what the counted sessions are promised is within all rates.
+    /// After any calls, the guarantees of the counted sessions are within all rates.
     pub fn promises_fit(&self)
         ensures fit { PromisesFit self.now }
     {
-        // the prover recalls what the type promises where a part of a value is looked at
+        // makes the prover recall the type's invariant, as any access to a part of a value does
         let _ = &self.users;
     }
 
-    // What all counted sessions are promised with one more of a user.
+    // Sums of the guarantees of all counted sessions and one more of a user, down and up.
     fn line_after(&self, entry: UserSessions) -> (u64, u64)
         requires stands { user_of self.now (user_key entry) ≡ Some entry }
         ensures down { result.0 ≡ promised (counted self.now (user_key entry)).users Down }
@@ -111,7 +111,7 @@ impl<A: Allocator> Floors<A> {
         (down, up)
     }
 
-    // Whether sums and counts stay small with one more session of a user.
+    // Returns whether sums and counts stay within `MAX_PROMISED` with one more session of a user.
     fn is_small(&self, entry: UserSessions) -> bool
         requires stands { user_of self.now (user_key entry) ≡ Some entry }
         ensures small { result ≡ is_small (counted self.now (user_key entry)) entry.sessions }
@@ -123,7 +123,7 @@ impl<A: Allocator> Floors<A> {
         down + up <= MAX_PROMISED && entry.sessions < MAX_PROMISED
     }
 
-    // Whether one more session of a user is within the rates of the ways and of the server.
+    // Returns whether one more session of a user is within the rates of the ways and of the server.
     fn line_fits(&self, entry: UserSessions) -> bool
         requires stands { user_of self.now (user_key entry) ≡ Some entry }
         ensures fits { result ≡ line_fits (counted self.now (user_key entry)) }
@@ -132,7 +132,7 @@ impl<A: Allocator> Floors<A> {
         keeps(down, self.down) && keeps(up, self.up) && keeps(down + up, self.server)
     }
 
-    // Whether it is within the rates of the user's group.
+    // Returns whether one more session of a user is within the rates of the user's group.
     fn group_fits(&self, entry: UserSessions) -> bool
         requires stands { user_of self.now (user_key entry) ≡ Some entry }
         ensures fits { result ≡ group_fits (counted self.now (user_key entry)) entry.row.group }
@@ -143,7 +143,7 @@ impl<A: Allocator> Floors<A> {
         }
     }
 
-    // Whether one more session of a user fits.
+    // Returns whether one more session of a user fits.
     fn fits(&self, entry: UserSessions) -> bool
         requires stands { user_of self.now (user_key entry) ≡ Some entry }
         ensures fits { result ≡ admits self.now (user_key entry) }
@@ -155,9 +155,9 @@ impl<A: Allocator> Floors<A> {
                 && self.line_fits(entry))
     }
 
-    /// Counts one more session of a user where what all counted sessions are promised then fits within the rates of each
-    /// session, of the user, of their group, of each way and of the server, and else answers that it does not. A user
-    /// without a row is always admitted, and not counted.
+    /// Admits one more session of `user` and counts it, if all guarantees still fit the rates of session, user, group,
+    /// way and server. Otherwise returns `false` and changes nothing. A session of a user without a row is always
+    /// admitted and not counted.
     pub fn admit(&mut self, user: u32) -> bool
         ensures admits { result ≡ admits self.old user }
         ensures counted { self.new ≡ after_admit self.old user }
@@ -179,7 +179,7 @@ impl<A: Allocator> Floors<A> {
         true
     }
 
-    /// Takes a session of a user back, if one is counted, and else answers that none is.
+    /// Takes back one session of `user`, if one is counted. Otherwise returns `false` and changes nothing.
     pub fn release(&mut self, user: u32) -> bool
         ensures has { result ≡ has_counted self.old user }
         ensures released { self.new ≡ after_release self.old user }

@@ -1,8 +1,8 @@
-//! Guaranteed rates: whether one more session's guarantee still fits.
+//! Guaranteed rates: admits sessions while their guarantees fit.
 //!
 //! `Floors::of` starts from the limits that an administrator states, with no session counted. `admit` counts one more
-//! session of a user where what is then guaranteed fits within all rates above it, and else refuses it; `release` takes one
-//! back. Neither takes memory, and each costs two binary searches and a few sums.
+//! session of a user if all guarantees then fit the rates above it, and otherwise refuses it; `release` takes one back.
+//! Neither allocates; each does two binary searches and a few sums.
 //!
 //! ```text
 //! let alloc = rt.alloc();

@@ -4,12 +4,12 @@ use Rattle.std.specs.Prelude.{slice_get}
 use Rattle.std.proofs.Math.Nat.{two-pow-succ}
 use Rattle.std.proofs.lemmas.List.Sums.{sum_by-append, sum_by-cons}
 use Rattle.limit_tree.specs.Outline.{is_leaf_kind}
-use Rattle.limit_tree.specs.declared.place.Kind.{Kind}
-use Rattle.limit_tree.specs.declared.place.Kind.TheVariants.{Branch, Leaf}
+use Rattle.limit_tree.specs.declared.place.NodeKind.{NodeKind}
+use Rattle.limit_tree.specs.declared.place.NodeKind.TheVariants.{Branch, Leaf}
 use Rattle.limit_tree.specs.declared.place.Place.{Place}
 use Rattle.round_allocator.specs.Levels.{branch_count}
 
-abbrev own_branches : Kind → ℕ
+abbrev own_branches : NodeKind → ℕ
 own_branches kind = cond (not (is_leaf_kind kind)) 1 0
 
 abbrev branch_of_place : Place → ℕ
@@ -20,7 +20,7 @@ take-at [] k p e = absurd (cc)
 take-at (x ∷ ps) zero p e = let same : x ≡ p = cc in ap (λ (y : Place). y ∷ []) same
 take-at (x ∷ ps) (suc k) p e = let next : suc k + 1 ≡ suc (k + 1) = omega arith in ap (λ (n : ℕ). take n (x ∷ ps)) next ∙ ap (λ (qs : List Place). x ∷ qs) (take-at ps k p e)
 
-branches-more : (ps : List Place) (k : ℕ) (p : Place) (kind : Kind) → slice_get ps k ≡ Some p → p.kind ≡ kind → branch_count (take (k + 1) ps) ≡ branch_count (take k ps) + own_branches kind
+branches-more : (ps : List Place) (k : ℕ) (p : Place) (kind : NodeKind) → slice_get ps k ≡ Some p → p.kind ≡ kind → branch_count (take (k + 1) ps) ≡ branch_count (take k ps) + own_branches kind
 branches-more ps k p kind got is =
     ap branch_count (take-at ps k p got) ∙
     (sum_by-append branch_of_place (take k ps) (p ∷ []) ∙

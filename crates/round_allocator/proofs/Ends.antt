@@ -8,7 +8,7 @@ use Rattle.limit_tree.specs.Sharing.{Branch as SharedBranch, IsBranch, IsWithin,
 use Rattle.limit_tree.specs.Outline.{limits, leaf_range}
 use Rattle.limit_tree.specs.Flat.{IsFlat, IsRow}
 use Rattle.limit_tree.specs.declared.bounds.TheConstants.{MAX_WANT}
-use Rattle.limit_tree.specs.declared.place.Kind.TheVariants.{Branch}
+use Rattle.limit_tree.specs.declared.place.NodeKind.TheVariants.{Branch}
 use Rattle.limit_tree.specs.declared.place.Place.{Place}
 use Rattle.limit_tree.proofs.Sums.{sum_in-same}
 use Rattle.limit_tree.proofs.RangeSums.{leaf_range-inside}
@@ -16,17 +16,17 @@ use Rattle.limit_tree.proofs.Nested.{branch_place}
 use Rattle.limit_tree.proofs.Rows.{sum_over-ends, is_branch}
 use Rattle.round_allocator.specs.Rounds.{HasBottlenecks}
 use Rattle.round_allocator.specs.Levels.{IsPouring, HasNeck, upto}
-use Rattle.round_allocator.specs.declared.level.Share.{Share}
+use Rattle.round_allocator.specs.declared.level.LevelShare.{LevelShare}
 
 -- all leaves of a tree have their grants
-abbrev pub IsPoured : List Place → Share → List ℕ → ℕ → List ℕ → Type 0
+abbrev pub IsPoured : List Place → LevelShare → List ℕ → ℕ → List ℕ → Type 0
 IsPoured outline share old rest g = IsPouring outline 0 1 0 share old (length outline) 0 (length (limits outline).wants) rest g
 
 -- in whichever row the tree stands
-abbrev pub ArePoured : List Place → Share → List ℕ → ℕ → List ℕ → Type 0
+abbrev pub ArePoured : List Place → LevelShare → List ℕ → ℕ → List ℕ → Type 0
 ArePoured outline share old rest g = (begin last past : ℕ) → IsRow outline 0 begin 1 last past → IsPouring outline 0 1 begin share old last 0 past rest g
 
-pub poured-within : (outline : List Place) (share : Share) (old : List ℕ) (rest : ℕ) (g : List ℕ) → IsFlat outline → length old ≡ length (limits outline).wants → IsPoured outline share old rest g → IsWithin (limits outline) g
+pub poured-within : (outline : List Place) (share : LevelShare) (old : List ℕ) (rest : ℕ) (g : List ℕ) → IsFlat outline → length old ≡ length (limits outline).wants → IsPoured outline share old rest g → IsWithin (limits outline) g
 poured-within outline share old rest g flat leaves poured =
     let size : length g ≡ length (limits outline).wants = poured.size ∙ leaves in
     record {
@@ -40,7 +40,7 @@ poured-within outline share old rest g flat leaves poured =
           omega (arith, keeps.0, keeps.1, same, sum_over-ends p.first p.leaves g (omega (arith, size, keeps.0)));
     }
 
-pub poured-bottlenecks : (outline : List Place) (share : Share) (old : List ℕ) (rest : ℕ) (g : List ℕ) → IsFlat outline → length old ≡ length (limits outline).wants → share.level ≡ MAX_WANT → IsPoured outline share old rest g → HasBottlenecks (limits outline) g
+pub poured-bottlenecks : (outline : List Place) (share : LevelShare) (old : List ℕ) (rest : ℕ) (g : List ℕ) → IsFlat outline → length old ≡ length (limits outline).wants → share.level ≡ MAX_WANT → IsPoured outline share old rest g → HasBottlenecks (limits outline) g
 poured-bottlenecks outline share old rest g flat leaves top poured i unmet = elim (cases_lt i (length (limits outline).wants)) [
   | inr past ↦ absurd (omega (arith, get_or_past (limits outline).wants i 0 past, unmet))
   | inl inside ↦ elim (poured.filled.settled i (omega arith) inside unmet) [
@@ -67,5 +67,5 @@ poured-bottlenecks outline share old rest g flat leaves top poured i unmet = eli
         )
 
 -- no leaf wants more than the level at which the pass begins
-abbrev pub top_share : Share
+abbrev pub top_share : LevelShare
 top_share = record { level = MAX_WANT; spare = 0 }

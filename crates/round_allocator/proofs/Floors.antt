@@ -3,8 +3,8 @@ use Rattle.std.proofs.Common.{◌≡◌, ℕ, zero, suc, ◌+◌, ◌≤◌, ◌
 use Rattle.std.specs.Prelude.{slice_get, slice_index}
 use Rattle.limit_tree.specs.Outline.{limits, absorbed, cut}
 use Rattle.limit_tree.specs.Flat.{IsRow, IsFlat, taken_in, taken_below}
-use Rattle.limit_tree.specs.declared.place.Kind.{Kind}
-use Rattle.limit_tree.specs.declared.place.Kind.TheVariants.{Branch, Leaf}
+use Rattle.limit_tree.specs.declared.place.NodeKind.{NodeKind}
+use Rattle.limit_tree.specs.declared.place.NodeKind.TheVariants.{Branch, Leaf}
 use Rattle.limit_tree.specs.declared.place.Place.{Place}
 use Rattle.limit_tree.specs.declared.bounds.TheConstants.{MAX_WANT}
 use Rattle.limit_tree.proofs.Hops.{absorbed-leaf, absorbed-branch, taken-more, row-last, same-node, taken_below-is}
@@ -37,7 +37,7 @@ cut_above : (limit : Option ℕ) (x : ℕ) → ((most : ℕ) → limit ≡ Some 
 cut_above None x fits = refl
 cut_above (Some most) x fits = let le = fits most refl in omega arith
 
-kind_floors : (ps : List Place) (fuel : ℕ) → IsFlat ps → AreFloors ps fuel → (k : ℕ) (p : Place) → slice_get ps k ≡ Some p → p.nodes ≤ suc fuel → (kind : Kind) → p.kind ≡ kind → absorbed 0 ps k + sum_first (limits ps).floors p.first ≡ sum_first (limits ps).floors (p.first + p.leaves)
+kind_floors : (ps : List Place) (fuel : ℕ) → IsFlat ps → AreFloors ps fuel → (k : ℕ) (p : Place) → slice_get ps k ≡ Some p → p.nodes ≤ suc fuel → (kind : NodeKind) → p.kind ≡ kind → absorbed 0 ps k + sum_first (limits ps).floors p.first ≡ sum_first (limits ps).floors (p.first + p.leaves)
 kind_floors ps fuel flat are k p got fits (Leaf want floor) is =
     let one = (flat.shaped k p got).leaf want floor is in
     let ends : p.first + p.leaves ≡ suc p.first = omega (arith, one.1) in

@@ -8,14 +8,14 @@ use Rattle.std.proofs.lemmas.List.{take_all, drop_all}
 use Rattle.limit_tree.specs.Sharing.{IsNotTooGreat}
 use Rattle.limit_tree.specs.Outline.{limits, cut}
 use Rattle.limit_tree.specs.Flat.{IsRow, IsShaped, IsFlat, taken_in, taken_below}
-use Rattle.limit_tree.specs.declared.place.Kind.TheVariants.{Branch, Leaf}
+use Rattle.limit_tree.specs.declared.place.NodeKind.TheVariants.{Branch, Leaf}
 use Rattle.limit_tree.specs.declared.place.Place.{Place}
 use Rattle.limit_tree.proofs.Sums.{sum_below-same}
 use Rattle.limit_tree.proofs.Hops.{absorbed-leaf, absorbed-branch, taken-more, taken-one, taken-wants, taken_below-is, same-node}
 use Rattle.limit_tree.proofs.Rows.{leaf_numbers}
 use Rattle.round_allocator.specs.Levels.{upto, HasNeck, KeepsLimit, IsFilled, IsPouring, IsOpen, IsRoomy, IsCut, IsPlan, IsLeafGrant}
-use Rattle.round_allocator.specs.declared.level.Share.{Share}
-use Rattle.round_allocator.specs.declared.level.Plan.{Plan}
+use Rattle.round_allocator.specs.declared.level.LevelShare.{LevelShare}
+use Rattle.round_allocator.specs.declared.level.Split.{Split}
 
 -- the leaves before leaf n have as much
 abbrev pub Agree : List ℕ → List ℕ → ℕ → Type 0
@@ -94,7 +94,7 @@ filled-nothing outline g at first level = record {
 }
 
 -- before the first tree
-pub pouring-start : (outline : List Place) (at trees first : ℕ) (share : Share) (g : List ℕ) → IsPouring outline at trees first share g at trees first share.spare g
+pub pouring-start : (outline : List Place) (at trees first : ℕ) (share : LevelShare) (g : List ℕ) → IsPouring outline at trees first share g at trees first share.spare g
 pouring-start outline at trees first share g = record {
   size = refl;
   order = omega arith;
@@ -106,11 +106,11 @@ pouring-start outline at trees first share g = record {
 }
 
 -- with so many octets spare
-abbrev pub left_of : Share → ℕ → Share
+abbrev pub left_of : LevelShare → ℕ → LevelShare
 left_of share left = record { level = share.level; spare = left }
 
 -- one tree more
-pub pouring-more : (outline : List Place) (at trees first : ℕ) (share : Share) (old : List ℕ) (node more now left : ℕ) (g : List ℕ) (p : Place) (rest : ℕ) (h : List ℕ) → IsShaped outline → slice_get outline node ≡ Some p
+pub pouring-more : (outline : List Place) (at trees first : ℕ) (share : LevelShare) (old : List ℕ) (node more now left : ℕ) (g : List ℕ) (p : Place) (rest : ℕ) (h : List ℕ) → IsShaped outline → slice_get outline node ≡ Some p
     → IsPouring outline at trees first share old node (suc more) now left g → IsPouring outline node 1 now (left_of share left) g (node + p.nodes) 0 (now + p.leaves) rest h
     → IsPouring outline at trees first share old (node + p.nodes) more (now + p.leaves) rest h
 pouring-more outline at trees first share old node more now left g p rest h shaped got was one =
@@ -136,7 +136,7 @@ pouring-more outline at trees first share old node more now left g p rest h shap
     }
 
 -- one leaf
-pub pouring-leaf : (outline : List Place) (share : Share) (g : List ℕ) (node : ℕ) (p : Place) (want floor grant rest : ℕ) → IsShaped outline → slice_get outline node ≡ Some p → p.kind ≡ Leaf want floor → p.first < length g → IsLeafGrant want floor share grant rest
+pub pouring-leaf : (outline : List Place) (share : LevelShare) (g : List ℕ) (node : ℕ) (p : Place) (want floor grant rest : ℕ) → IsShaped outline → slice_get outline node ≡ Some p → p.kind ≡ Leaf want floor → p.first < length g → IsLeafGrant want floor share grant rest
     → IsPouring outline node 1 p.first share g (node + p.nodes) 0 (p.first + p.leaves) rest (set g p.first grant)
 pouring-leaf outline share g node p want floor grant rest shaped got kind inside leaf =
     let h = set g p.first grant in
@@ -176,7 +176,7 @@ pouring-leaf outline share g node p want floor grant rest shaped got kind inside
     not_branch most e = cc
 
 -- What a branch adds to its kids: its own limit, and a neck for those at its own level.
-abbrev IsKidsOf : List Place → Place → ℕ → Share → List ℕ → ℕ → List ℕ → Type 0
+abbrev IsKidsOf : List Place → Place → ℕ → LevelShare → List ℕ → ℕ → List ℕ → Type 0
 IsKidsOf outline p node share g rest h = IsPouring outline (node + 1) p.kids p.first share g (node + p.nodes) 0 (p.first + p.leaves) rest h
 
 kind_limit : (limit : Option ℕ) (most : ℕ) (p q : Place) → p ≡ q → p.kind ≡ Branch limit → q.kind ≡ Branch (Some most) → limit ≡ Some most
@@ -239,7 +239,7 @@ none_some limit most none some = go (sym none ∙ some)
     go : None ≡ Some most → ⊥
     go e = cc
 
-branch-open : (outline : List Place) (share : Share) (g : List ℕ) (node : ℕ) (p : Place) (limit : Option ℕ) (plan : Plan) (rest : ℕ) (h : List ℕ) → IsShaped outline → slice_get outline node ≡ Some p → p.kind ≡ Branch limit → IsOpen limit share plan → IsKidsOf outline p node plan.share g rest h
+branch-open : (outline : List Place) (share : LevelShare) (g : List ℕ) (node : ℕ) (p : Place) (limit : Option ℕ) (plan : Split) (rest : ℕ) (h : List ℕ) → IsShaped outline → slice_get outline node ≡ Some p → p.kind ≡ Branch limit → IsOpen limit share plan → IsKidsOf outline p node plan.share g rest h
     → IsPouring outline node 1 p.first share g (node + p.nodes) 0 (p.first + p.leaves) (plan.kept + rest) h
 branch-open outline share g node p limit plan rest h shaped got kind free kids =
     let level = free.level in
@@ -257,7 +257,7 @@ branch-open outline share g node p limit plan rest h shaped got kind free kids =
       all = elim kids.all [ inl none ↦ inl (omega (arith, free.kept)) | inr all ↦ inr (omega (arith, all, high)) ];
     }
 
-branch-roomy : (outline : List Place) (share : Share) (g : List ℕ) (node : ℕ) (p : Place) (limit : Option ℕ) (plan : Plan) (rest : ℕ) (h : List ℕ) → IsShaped outline → slice_get outline node ≡ Some p → p.kind ≡ Branch limit → IsRoomy outline node limit share plan → IsKidsOf outline p node plan.share g rest h
+branch-roomy : (outline : List Place) (share : LevelShare) (g : List ℕ) (node : ℕ) (p : Place) (limit : Option ℕ) (plan : Split) (rest : ℕ) (h : List ℕ) → IsShaped outline → slice_get outline node ≡ Some p → p.kind ≡ Branch limit → IsRoomy outline node limit share plan → IsKidsOf outline p node plan.share g rest h
     → IsPouring outline node 1 p.first share g (node + p.nodes) 0 (p.first + p.leaves) (plan.kept + rest) h
 branch-roomy outline share g node p limit plan rest h shaped got kind roomy kids =
     let most = roomy.most in
@@ -287,7 +287,7 @@ branch-roomy outline share g node p limit plan rest h shaped got kind roomy kids
       ];
     }
 
-branch-cut : (outline : List Place) (share : Share) (g : List ℕ) (node : ℕ) (p : Place) (limit : Option ℕ) (plan : Plan) (rest : ℕ) (h : List ℕ) → IsShaped outline → slice_get outline node ≡ Some p → p.kind ≡ Branch limit → IsCut outline node limit share plan → IsKidsOf outline p node plan.share g rest h
+branch-cut : (outline : List Place) (share : LevelShare) (g : List ℕ) (node : ℕ) (p : Place) (limit : Option ℕ) (plan : Split) (rest : ℕ) (h : List ℕ) → IsShaped outline → slice_get outline node ≡ Some p → p.kind ≡ Branch limit → IsCut outline node limit share plan → IsKidsOf outline p node plan.share g rest h
     → IsPouring outline node 1 p.first share g (node + p.nodes) 0 (p.first + p.leaves) (plan.kept + rest) h
 branch-cut outline share g node p limit plan rest h shaped got kind less kids =
     let most = less.most in
@@ -318,14 +318,14 @@ branch-cut outline share g node p limit plan rest h shaped got kind less kids =
     }
 
 -- one branch
-pub pouring-branch : (outline : List Place) (share : Share) (g : List ℕ) (node : ℕ) (p : Place) (limit : Option ℕ) (plan : Plan) (rest : ℕ) (h : List ℕ) → IsShaped outline → slice_get outline node ≡ Some p → p.kind ≡ Branch limit → IsPlan outline node limit share plan → IsKidsOf outline p node plan.share g rest h
+pub pouring-branch : (outline : List Place) (share : LevelShare) (g : List ℕ) (node : ℕ) (p : Place) (limit : Option ℕ) (plan : Split) (rest : ℕ) (h : List ℕ) → IsShaped outline → slice_get outline node ≡ Some p → p.kind ≡ Branch limit → IsPlan outline node limit share plan → IsKidsOf outline p node plan.share g rest h
     → IsPouring outline node 1 p.first share g (node + p.nodes) 0 (p.first + p.leaves) (plan.kept + rest) h
 pouring-branch outline share g node p limit plan rest h shaped got kind (inl free) kids = branch-open outline share g node p limit plan rest h shaped got kind free kids
 pouring-branch outline share g node p limit plan rest h shaped got kind (inr (inl roomy)) kids = branch-roomy outline share g node p limit plan rest h shaped got kind roomy kids
 pouring-branch outline share g node p limit plan rest h shaped got kind (inr (inr less)) kids = branch-cut outline share g node p limit plan rest h shaped got kind less kids
 
 -- one tree more of a row
-pub pouring-next : (outline : List Place) (at trees first : ℕ) (share : Share) (old : List ℕ) (node n more now left : ℕ) (g : List ℕ) (p : Place) (rest : ℕ) (h : List ℕ) (last past : ℕ) → IsShaped outline → slice_get outline node ≡ Some p → n ≡ suc more → IsRow outline node now n last past
+pub pouring-next : (outline : List Place) (at trees first : ℕ) (share : LevelShare) (old : List ℕ) (node n more now left : ℕ) (g : List ℕ) (p : Place) (rest : ℕ) (h : List ℕ) (last past : ℕ) → IsShaped outline → slice_get outline node ≡ Some p → n ≡ suc more → IsRow outline node now n last past
     → IsPouring outline at trees first share old node n now left g → IsPouring outline node 1 p.first (left_of share left) g (node + p.nodes) 0 (p.first + p.leaves) rest h
     → (next : ℕ) × IsRow outline (node + p.nodes) next more last past × IsPouring outline at trees first share old (node + p.nodes) more next rest h
 pouring-next outline at trees first share old node n more now left g p rest h last past shaped got is row was one =
@@ -342,7 +342,7 @@ pouring-next outline at trees first share old node n more now left g p rest h la
         )
 
 -- behind the last tree
-pub pouring-end : (outline : List Place) (at trees first : ℕ) (share : Share) (old : List ℕ) (node n now left : ℕ) (g : List ℕ) (last past : ℕ) → n ≡ 0 → IsRow outline node now n last past → IsPouring outline at trees first share old node n now left g → (node ≡ last) × IsPouring outline at trees first share old last 0 past left g
+pub pouring-end : (outline : List Place) (at trees first : ℕ) (share : LevelShare) (old : List ℕ) (node n now left : ℕ) (g : List ℕ) (last past : ℕ) → n ≡ 0 → IsRow outline node now n last past → IsPouring outline at trees first share old node n now left g → (node ≡ last) × IsPouring outline at trees first share old last 0 past left g
 pouring-end outline at trees first share old node n now left g last past is row was =
     let ends = subst (λ (k : ℕ). IsRow outline node now k last past) is row in
     let done = subst (λ (k : ℕ). IsPouring outline at trees first share old node k now left g) is was in
@@ -352,13 +352,13 @@ taken_below-wants : (level : ℕ) (outline : List Place) (node : ℕ) → taken_
 taken_below-wants level outline node = taken-wants level outline (node + 1) (unwrap_or (option_map (λ (p : Place). p.kids) (slice_get outline node)) 0)
 
 -- a plan passes on no higher level
-pub plan-level : (outline : List Place) (node : ℕ) (limit : Option ℕ) (share : Share) (plan : Plan) → IsPlan outline node limit share plan → plan.share.level ≤ share.level
+pub plan-level : (outline : List Place) (node : ℕ) (limit : Option ℕ) (share : LevelShare) (plan : Split) → IsPlan outline node limit share plan → plan.share.level ≤ share.level
 plan-level outline node limit share plan (inl free) = omega (arith, free.level)
 plan-level outline node limit share plan (inr (inl roomy)) = omega (arith, roomy.level)
 plan-level outline node limit share plan (inr (inr less)) = omega (arith, less.lower)
 
 -- and no more spare octets than are wanted
-pub plan-spare : (outline : List Place) (node : ℕ) (limit : Option ℕ) (share : Share) (plan : Plan) → IsPlan outline node limit share plan → share.spare ≤ sum (limits outline).wants → plan.share.spare ≤ sum (limits outline).wants
+pub plan-spare : (outline : List Place) (node : ℕ) (limit : Option ℕ) (share : LevelShare) (plan : Split) → IsPlan outline node limit share plan → share.spare ≤ sum (limits outline).wants → plan.share.spare ≤ sum (limits outline).wants
 plan-spare outline node limit share plan (inl free) few = omega (arith, free.spare)
 plan-spare outline node limit share plan (inr (inl roomy)) few = omega (arith, roomy.spare)
 plan-spare outline node limit share plan (inr (inr less)) few = omega (arith, less.found.fits, less.found.greatest, taken_below-wants (plan.share.level + 1) outline node)

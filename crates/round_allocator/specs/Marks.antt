@@ -2,12 +2,12 @@
 use Rattle.std.specs.Prelude.{◌≡◌, ℕ, ◌<◌, ◌≤◌, List, length, Option, Some, None, slice_get}
 use Rattle.limit_tree.specs.Sharing.{LimitTree, IsFullAbove, IsDeepestFull}
 
--- the last full branch that holds the leaf, of those with numbers below n
+-- the last full branch that holds leaf i, among those with numbers below n
 abbrev pub IsLastFull : LimitTree → List ℕ → ℕ → ℕ → Option ℕ → Type 0
 IsLastFull t g n i None = (k : ℕ) → k < n → IsFullAbove t g i k → ⊥
 IsLastFull t g n i (Some k) = IsFullAbove t g i k × ((m : ℕ) → m < n → IsFullAbove t g i m → m ≤ k)
 
--- the leaf is marked with it
+-- the mark of leaf i is that branch
 abbrev pub HasMark : LimitTree → List ℕ → ℕ → ℕ → List (Option ℕ) → Type 0
 HasMark t g n i marks = (mark : Option ℕ) × (slice_get marks i ≡ Some mark) × IsLastFull t g n i mark
 

@@ -1,4 +1,4 @@
--- What an allotment gives.
+-- Properties of an allotment.
 use Rattle.std.specs.Prelude.{◌≡◌, ℕ, ◌<◌, List, length, Option, Some, None, slice_get}
 use Rattle.limit_tree.specs.Sharing.{Branch, LimitTree, IsBranch, HasRoom, IsUnmet, IsBottleneck, IsDeepestFull}
 
@@ -10,7 +10,7 @@ IsExhausted t g = (i : ℕ) → HasRoom t g i → ⊥
 abbrev pub HasBottlenecks : LimitTree → List ℕ → Type 0
 HasBottlenecks t g = (i : ℕ) → IsUnmet t g i → (k : ℕ) × (b : Branch) × IsBranch t k b × IsBottleneck t b g i
 
--- an unmet leaf's entry is its last full branch, and that of another is none
+-- the entry of an unmet leaf is its last full branch; that of any other leaf is none
 pub record IsEntry (t : LimitTree) (g : List ℕ) (i : ℕ) (entry : Option ℕ) : Type 0 where
   pub unmet : IsUnmet t g i → IsDeepestFull t g i entry
   pub met : (IsUnmet t g i → ⊥) → entry ≡ None

@@ -1,4 +1,4 @@
-//! Grants by levels: a pass over the nodes in preorder.
+//! Grants by levels, in one pass over the nodes in preorder.
 ghost use Rattle.std.specs.Prelude.{◌≡◌, ◌+◌, ◌*◌, ◌<◌, ◌≤◌, ◌^◌, ℕ, length, take, sum, IfOk};
 ghost use Rattle.limit_tree.specs.Sharing.{IsWithin};
 ghost use Rattle.limit_tree.specs.Outline.{limits};
@@ -7,18 +7,18 @@ ghost use Rattle.round_allocator.specs.Rounds.{HasBottlenecks};
 ghost use Rattle.round_allocator.specs.Levels.{IsPouring, branch_count};
 ghost use Rattle.round_allocator.specs.declared.level.TheConstants.{MAX_PROBES};
 
-use super::level::{Share, leaf_grant, share_out};
+use super::level::{LevelShare, leaf_grant, share_out};
 use super::probe::{ProbedTree, Probes, unprobed};
-use limit_tree::{Flat, Kind, MAX_WANT};
+use limit_tree::{Flat, MAX_WANT, NodeKind};
 use std::alloc::{AllocError, Allocator};
 
-// Gives the leaves of so many trees side by side, the first of which has a number, what they take in up to a
-// level, and of the spare octets one to each leaf with room, the lowest leaf number first. What is still spare.
+// Grants the leaves of trees side by side, from node `at` on, what they absorb up to a level, and one spare
+// octet each to leaves with room, the lowest leaf number first. Returns the octets still spare.
 fn fill<A: Allocator>(
     tree: &ProbedTree<'_, A>,
     first: usize,
     trees: usize,
-    share: Share,
+    share: LevelShare,
     grants: &mut [u64],
     probes: &mut Probes,
 ) -> u64
@@ -38,17 +38,17 @@ fn fill<A: Allocator>(
     let mut left = share.spare;
     for _tree in 0..trees {
         let place = tree.place(node);
-        let here = Share {
+        let here = LevelShare {
             level: share.level,
             spare: left,
         };
         match place.kind {
-            Kind::Leaf { want, floor } => {
+            NodeKind::Leaf { want, floor } => {
                 let grant = leaf_grant(want, floor, here);
                 grants[place.first] = grant.octets;
                 left = grant.rest;
             }
-            Kind::Branch { limit } => {
+            NodeKind::Branch { limit } => {
                 let plan = share_out(tree, node, limit, here, probes);
                 let rest = fill(tree, node + 1, place.kids, plan.share, grants, probes);
                 left = plan.kept + rest;
@@ -59,23 +59,26 @@ fn fill<A: Allocator>(
     left
 }
 
-/// Grants, in octets, and how many probes they took.
+/// Grants, in octets, and the number of probes they took.
 #[derive(Drop)]
-pub struct Counted<B: Allocator> {
+pub(crate) struct Counted<B: Allocator> {
     pub grants: Vec<u64, B>,
     pub probes: u64,
 }
 
-// So many grants of 0 octets.
+// A list of zero grants, one for each leaf.
 fn zeros<B: Allocator>(alloc: B, leaves: usize) -> Result<Vec<u64, B>, AllocError>
     ensures leaves { IfOk result (λ g. length g.items ≡ leaves) }
 {
     vec![in alloc; 0; leaves]
 }
 
-/// The grants of the leaves of a tree, in octets, by the levels of its branches: takes memory once, and
-/// O(nodes * depth) time, some `MAX_PROBES` times. `AllocError` comes only where memory ran out.
-pub fn give<A: Allocator, B: Allocator>(alloc: B, flat: &Flat<A>) -> Result<Counted<B>, AllocError>
+/// The grants of the leaves of a tree, in octets, by the levels of its branches. One allocation, O(nodes *
+/// depth) time for each of at most `MAX_PROBES` probes. Returns `AllocError` only if memory runs out.
+pub(crate) fn give<A: Allocator, B: Allocator>(
+    alloc: B,
+    flat: &Flat<A>,
+) -> Result<Counted<B>, AllocError>
     ensures within { IfOk result (λ r. IsWithin (limits flat.now) r.grants.items) }
     ensures bottlenecks { IfOk result (λ r. HasBottlenecks (limits flat.now) r.grants.items) }
     ensures counted { IfOk result (λ r. r.probes ≤ MAX_PROBES * branch_count flat.now) }
@@ -84,7 +87,7 @@ pub fn give<A: Allocator, B: Allocator>(alloc: B, flat: &Flat<A>) -> Result<Coun
     let _nodes = flat.nodes();
     let mut grants = zeros(alloc, leaves)?;
     let (tree, mut probes) = unprobed(flat);
-    let top = Share {
+    let top = LevelShare {
         level: MAX_WANT,
         spare: 0,
     };

@@ -7,41 +7,41 @@ ghost use Rattle.round_allocator.specs.declared.level.TheConstants.{MAX_PROBES};
 use super::probe::{ProbedTree, Probes};
 use std::alloc::Allocator;
 
-/// How many probes of a branch there are at most: one at the level that it is handed, and 32 of a binary search, where its
-/// kids take in too much there, since the levels go up to `MAX_WANT`, which is below 2^32.
+/// Most probes of one branch: one at the level that it is handed, and, if its kids absorb too much there, 32 of a binary
+/// search, since levels go up to `MAX_WANT`, which is below 2^32.
 pub const MAX_PROBES: u64 = 33;
 
-/// A level, and octets that may be given above it, one a leaf.
+/// A level, and the octets that may be granted above it, one for each leaf.
 #[derive(Clone, Copy)]
-pub struct Share {
+pub(crate) struct LevelShare {
     pub level: u64,
     pub spare: u64,
 }
 
-/// What a branch passes on to its kids, and the octets that it keeps from them.
+/// The share that a branch passes on to its kids, and the octets that it withholds from them.
 #[derive(Clone, Copy)]
-pub struct Plan {
-    pub share: Share,
+pub(crate) struct Split {
+    pub share: LevelShare,
     pub kept: u64,
 }
 
-/// What a leaf is given, and the octets that are still spare.
+/// The grant of a leaf, and the octets still spare.
 #[derive(Clone, Copy)]
-pub struct Grant {
+pub(crate) struct LeafGrant {
     pub octets: u64,
     pub rest: u64,
 }
 
-/// Two levels: at the lower the kids of a branch keep its limit, at the higher they do not.
+/// Two levels: at the lower one the kids of a branch keep its limit, at the higher one they exceed it.
 #[derive(Clone, Copy)]
-pub struct Window {
+pub(crate) struct Window {
     pub low: u64,
     pub high: u64,
-    /// What they take in at the lower level.
+    /// Octets that the kids absorb at the lower level.
     pub taken: u64,
 }
 
-// Halves a window by one probe, unless its levels are neighbours.
+// Halves a window by one probe, unless its levels are adjacent.
 fn narrow<A: Allocator>(
     tree: &ProbedTree<'_, A>,
     node: usize,
@@ -78,15 +78,15 @@ fn narrow<A: Allocator>(
     }
 }
 
-// The greatest level below one that is too high, and what the limit leaves there: at most 32 probes, since at level 0 the
-// kids of the branch take in their floors.
+// The greatest level below a level that is too high, and what is left of the limit there. At most 32 probes: at level 0
+// the kids of the branch absorb their floors, which fit.
 fn search<A: Allocator>(
     tree: &ProbedTree<'_, A>,
     node: usize,
     most: u64,
     level: u64,
     probes: &mut Probes,
-) -> Share
+) -> LevelShare
     requires branch { IsBranchAt tree.now node (Some most) }
     requires room { probes.old + 32 < 2 ^ 63 }
     requires level { level < 2 ^ 32 }
@@ -104,21 +104,21 @@ fn search<A: Allocator>(
     for _step in 0..32u32 {
         window = narrow(tree, node, most, window, probes);
     }
-    Share {
+    LevelShare {
         level: window.low,
         spare: most - window.taken,
     }
 }
 
-/// How a branch with so many spare octets above a level shares them with its kids: at most `MAX_PROBES` probes, one where
-/// what its kids take in fits its limit, none where it has no limit.
-pub fn share_out<A: Allocator>(
+/// The division of the spare octets above a level among the kids of a branch. At most `MAX_PROBES` probes: one if what
+/// its kids absorb fits its limit, none if it has no limit.
+pub(crate) fn share_out<A: Allocator>(
     tree: &ProbedTree<'_, A>,
     node: usize,
     limit: Option<u64>,
-    share: Share,
+    share: LevelShare,
     probes: &mut Probes,
-) -> Plan
+) -> Split
     requires branch { IsBranchAt tree.now node limit }
     requires room { probes.old + MAX_PROBES < 2 ^ 63 }
     requires level { share.level < 2 ^ 32 }
@@ -126,38 +126,38 @@ pub fn share_out<A: Allocator>(
     ensures counted { probes.new ≤ probes.old + MAX_PROBES }
 {
     let Some(most) = limit else {
-        return Plan { share, kept: 0 };
+        return Split { share, kept: 0 };
     };
     let taken = tree.probe(node, share.level, probes);
     if taken <= most {
         let spare = share.spare.min(most - taken);
-        return Plan {
-            share: Share {
+        return Split {
+            share: LevelShare {
                 level: share.level,
                 spare,
             },
             kept: share.spare - spare,
         };
     }
-    Plan {
+    Split {
         share: search(tree, node, most, share.level, probes),
         kept: share.spare,
     }
 }
 
-/// What a leaf is given up to a level, in octets, and one more where one is spare and it has room for it.
-pub fn leaf_grant(want: u64, floor: u64, share: Share) -> Grant
+/// The grant of a leaf up to a level, in octets, with one octet more if there are spare octets and the leaf has room.
+pub(crate) fn leaf_grant(want: u64, floor: u64, share: LevelShare) -> LeafGrant
     requires floor { floor ≤ want }
     requires level { share.level < 2 ^ 32 }
     ensures grant { IsLeafGrant want floor share result.octets result.rest }
 {
     if share.spare > 0 && floor <= share.level && share.level < want {
-        return Grant {
+        return LeafGrant {
             octets: share.level + 1,
             rest: share.spare - 1,
         };
     }
-    Grant {
+    LeafGrant {
         octets: share.level.max(floor).min(want),
         rest: share.spare,
     }

@@ -1,5 +1,5 @@
-//! Grants for the leaves of a limit tree, max-min fair in whole octets: by the rule that the next octet goes to
-//! the leaf that has the least among those with room.
+//! Grants for the leaves of a limit tree, max-min fair in whole octets: the next octet always goes to the leaf
+//! with the smallest grant among those with room.
 //!
 //! ```text
 //! let alloc = rt.alloc();

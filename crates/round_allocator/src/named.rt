@@ -1,4 +1,4 @@
-//! The certificate of an allotment, and the allotment.
+//! Allotments with their certificates.
 ghost use Rattle.std.specs.Prelude.{◌≡◌, ◌+◌, ◌*◌, ◌<◌, ◌≤◌, ◌⊎◌, ℕ, length, slice_get, Some, IfOk};
 ghost use Rattle.limit_tree.specs.Sharing.{IsWanted, IsWithin, IsBackedBy, IsBest};
 ghost use Rattle.limit_tree.specs.Outline.{limits};
@@ -12,7 +12,7 @@ use grant_certificate::{Certificate, backed_is_best};
 use limit_tree::{Flat, Tree};
 use std::alloc::{AllocError, Allocator};
 
-// Marks so many leaves from a first one on with a node.
+// Marks the `leaves` leaves from leaf `first` on with a node.
 fn mark(marks: &mut [Option<u32>], first: usize, leaves: usize, node: u32)
     requires inside { first + leaves ≤ length marks.old }
     ensures size { length marks.new ≡ length marks.old }
@@ -26,7 +26,7 @@ fn mark(marks: &mut [Option<u32>], first: usize, leaves: usize, node: u32)
     }
 }
 
-// No mark for any of so many leaves.
+// A list of empty marks, one for each leaf.
 fn no_marks<B: Allocator>(alloc: B, leaves: usize) -> Result<Vec<Option<u32>, B>, AllocError>
     ensures leaves { IfOk result (λ m. length m.items ≡ leaves) }
     ensures none { IfOk result (λ m. (i : ℕ) → i < leaves → slice_get m.items i ≡ Some None) }
@@ -34,7 +34,7 @@ fn no_marks<B: Allocator>(alloc: B, leaves: usize) -> Result<Vec<Option<u32>, B>
     vec![in alloc; None; leaves]
 }
 
-// Marks each leaf with the last full branch among the first nodes, where one more is looked at.
+// Marks each leaf with the last full branch among the first nodes, after one more node.
 fn mark_full<A: Allocator>(flat: &Flat<A>, grants: &[u64], node: usize, marks: &mut [Option<u32>])
     requires node { node < length flat.now }
     requires grants { IsWanted (limits flat.now) grants.now }
@@ -52,7 +52,7 @@ fn mark_full<A: Allocator>(flat: &Flat<A>, grants: &[u64], node: usize, marks: &
     }
 }
 
-// The last full branch above each leaf: takes O(nodes + leaves * depth) time.
+// The last full branch above each leaf. O(nodes + leaves * depth) time.
 fn full_above<A: Allocator, B: Allocator>(
     alloc: B,
     flat: &Flat<A>,
@@ -68,7 +68,7 @@ fn full_above<A: Allocator, B: Allocator>(
     Ok(marks)
 }
 
-// The entry of a leaf: the deepest full branch above it, where it has less than it wants.
+// The entry of a leaf: the deepest full branch above it if it has less than it wants, otherwise none.
 fn entry<A: Allocator>(
     flat: &Flat<A>,
     grants: &[u64],
@@ -105,8 +105,8 @@ fn name<A: Allocator, B: Allocator + Clone>(
     Ok(Certificate::new(entries))
 }
 
-/// The grants of the leaves of a tree, in octets, their certificate, as `allot` gives them, and how many probes
-/// were taken: sums of what the kids of one branch take in up to one level.
+/// The grants of the leaves of a tree, in octets, and their certificate, as `allot` returns them, with the number of
+/// probes: sums of what the kids of one branch absorb up to one level.
 pub fn allot_counted<A: Allocator, B: Allocator + Clone>(
     alloc: B,
     tree: &Tree<A>,
@@ -126,12 +126,12 @@ pub fn allot_counted<A: Allocator, B: Allocator + Clone>(
     Ok((grants, certificate, probes))
 }
 
-/// The grants of the leaves of a tree, in octets, and their certificate: those of giving one octet at a time, from
-/// the floors on, to the leaf with the least grant among those with room, the lowest leaf number first. They are
-/// best. Each leaf that has less than it wants names the deepest full branch above it, and no other names one.
-/// That they are best is proved; that of several best lists they are those of that rule, tests show.
-/// Takes memory a few times, and O(nodes * depth) time some `MAX_PROBES` times, whatever the wants are. `AllocError` comes
-/// only where memory ran out.
+/// The grants of the leaves of a tree, in octets, and their certificate. The grants are those of handing out one octet at
+/// a time, from the floors on, to the leaf with the smallest grant among those with room, the lowest leaf number first.
+/// They are best. The entry of each leaf that has less than it wants is the deepest full branch above it; all other
+/// entries are none. It is proved that the grants are best; that, of several best lists, they are those of this rule is
+/// only tested. A few allocations, O(nodes * depth) time for each of at most `MAX_PROBES` probes, for any wants. Returns
+/// `AllocError` only if memory runs out.
 pub fn allot<A: Allocator, B: Allocator + Clone>(
     alloc: B,
     tree: &Tree<A>,

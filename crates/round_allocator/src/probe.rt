@@ -1,4 +1,4 @@
-//! Counted looks at what the kids of a branch take in.
+//! Counted probes of what the kids of a branch absorb.
 ghost use Rattle.std.specs.Prelude.{◌≡◌, ℕ, ◌+◌, ◌*◌, ◌<◌, ◌≤◌, ◌^◌, length, slice_get, sum, Option, Some};
 ghost use Rattle.limit_tree.specs.Sharing.{IsLimitTree};
 ghost use Rattle.limit_tree.specs.Outline.{limits};
@@ -9,9 +9,9 @@ use limit_tree::{Flat, MAX_NODES, MAX_WANT, Place};
 use std::alloc::Allocator;
 use std::marker::Model;
 
-/// A tree of which its nodes can be read, and what the kids of a node take in by a counted probe alone.
+/// A tree whose nodes can be read freely, while what the kids of a node absorb is read by a counted probe only.
 #[derive(Drop)]
-pub struct ProbedTree<'t, A: Allocator> {
+pub(crate) struct ProbedTree<'t, A: Allocator> {
     flat: &'t Flat<A>,
 }
 
@@ -24,9 +24,9 @@ impl<'t, A: Allocator> Model for ProbedTree<'t, A> {
     ghost view = { λ t. t.flat.now };
 }
 
-/// How many probes a tree had. Only a probe raises it.
+/// Number of probes of a tree. Only a probe increases it.
 #[derive(Drop)]
-pub struct Probes {
+pub(crate) struct Probes {
     count: u64,
 }
 
@@ -39,7 +39,7 @@ impl Model for Probes {
 }
 
 impl Probes {
-    /// How many they are.
+    /// The number.
     pub fn count(&self) -> u64
         ensures count { result ≡ self.now }
     {
@@ -47,8 +47,8 @@ impl Probes {
     }
 }
 
-/// A tree that has had no probe yet.
-pub fn unprobed<'t, A: Allocator>(flat: &'t Flat<A>) -> (ProbedTree<'t, A>, Probes)
+/// A tree with no probes yet.
+pub(crate) fn unprobed<'t, A: Allocator>(flat: &'t Flat<A>) -> (ProbedTree<'t, A>, Probes)
     ensures tree { result.0 ≡ flat.now }
     ensures none { result.1 ≡ 0 }
 {
@@ -56,7 +56,7 @@ pub fn unprobed<'t, A: Allocator>(flat: &'t Flat<A>) -> (ProbedTree<'t, A>, Prob
 }
 
 impl<'t, A: Allocator> ProbedTree<'t, A> {
-    /// What holds of the tree.
+    /// The properties of the tree.
     pub fn is_flat(&self)
         ensures flat { IsFlat self.now }
         ensures few { length self.now ≤ MAX_NODES }
@@ -67,7 +67,7 @@ impl<'t, A: Allocator> ProbedTree<'t, A> {
         let _leaves = self.flat.leaves();
     }
 
-    /// The node of a number.
+    /// The node with a given number.
     pub fn place(&self, node: usize) -> Place
         requires node { node < length self.now }
         ensures place { slice_get self.now node ≡ Some result }
@@ -76,7 +76,7 @@ impl<'t, A: Allocator> ProbedTree<'t, A> {
         self.flat.place(node)
     }
 
-    /// What the kids of a node take in up to a level, in octets: one probe.
+    /// Sum of the octets that the kids of a node absorb up to a level: one probe.
     pub fn probe(&self, node: usize, level: u64, probes: &mut Probes) -> u64
         requires node { node < length self.now }
         requires room { probes.old < 2 ^ 63 }
@@ -87,8 +87,8 @@ impl<'t, A: Allocator> ProbedTree<'t, A> {
         self.flat.absorb_below(node, level)
     }
 
-    /// The floors of the leaves of a node, together, in octets: what the kids of a branch take in up to level 0. It is no
-    /// probe, and takes O(leaves below) time.
+    /// Sum of the floors of the leaves of a node, in octets: what the kids of a branch absorb up to level 0. Not a probe.
+    /// O(leaves below) time.
     pub fn floors(&self, node: usize) -> u64
         requires node { node < length self.now }
         ensures taken { (limit : Option ℕ) → IsBranchAt self.now node limit
@@ -100,7 +100,7 @@ impl<'t, A: Allocator> ProbedTree<'t, A> {
     }
 }
 
-// The floors of so many leaves from a first one on, together.
+// Sum of the floors of the `leaves` leaves from leaf `first` on.
 fn floor_sum<A: Allocator>(flat: &Flat<A>, first: usize, leaves: usize) -> u64
     requires inside { first + leaves ≤ length (limits flat.now).wants }
     ensures sum { result + upto (limits flat.now).floors first

@@ -1,10 +1,10 @@
--- What a rate has earned and no round has granted.
+-- Credits: what a rate has earned and no round has granted.
 use Rattle.std.specs.Prelude.{ℕ, ◌-◌, ◌≤◌, Bool, ◌&&◌, not, nat_eq}
 use Rattle.line_rates.specs.declared.rate.TheConstants.{MAX_RATE}
 use Rattle.round_pace.specs.declared.credit.Credit.{Credit}
 use Rattle.round_pace.specs.Earned.{refilled, most_kept}
 
--- a rate that limits can have, and no more left than is kept
+-- a rate that limits can have, with at most what is kept left
 pub record IsCredit (c : Credit) : Type 0 where
   pub rate_fits : c.rate ≤ MAX_RATE
   pub left_fits : c.left ≤ most_kept c.rate

@@ -1,4 +1,4 @@
--- What a round is handed, and when the next one may be held.
+-- The limits that a round is handed, and the earliest moment of the next one.
 use Rattle.std.specs.Prelude.{◌≡◌, ℕ, ◌+◌, ◌-◌, ◌*◌, ◌^◌, ◌&&◌, ◌||◌, min, nat_le, if◌then◌else◌, List, map}
 use Rattle.std.specs.List.{fold}
 use Rattle.line_rates.specs.declared.row.GroupRate.{GroupRate}
@@ -24,7 +24,7 @@ abbrev pub refill_user : ℕ → ℕ → UserPace → UserPace
 refill_user begun tick u =
     record { row = u.row; down = refill_row begun tick u.down; up = refill_row begun tick u.up }
 
--- all rows after the refill, at the first round of a tick
+-- all rows after the refill, in the first round of a tick
 abbrev pub refill_all : ℕ → Paced → Paced
 refill_all tick p = if nat_le p.begun tick then record {
   begun = tick + 1;
@@ -43,14 +43,14 @@ credit_rate c = as_rate c.rate c.left
 abbrev pub session_rate : ℕ → ℕ → ℕ → ℕ
 session_rate rate begun tick = as_rate rate (session_offered rate begun tick)
 
--- what a session is guaranteed in a round, in the first round of a tick
+-- the guarantee of a session in a round, in the first round of a tick
 abbrev pub floor_rate : ℕ → ℕ → ℕ → ℕ
 floor_rate floor begun tick = if nat_le begun tick then 10 * floor_in begun tick floor else 0
 
 abbrev pub offer_group : GroupPace → GroupRate
 offer_group g = record { group = g.group; down = credit_rate g.down; up = credit_rate g.up }
 
--- a user's row for a round in a tick, where so many ticks had begun before it
+-- a user's row for a round in a tick, after `begun` ticks had begun before it
 abbrev pub offer_user : ℕ → ℕ → UserPace → UserRate
 offer_user begun tick u = record {
   user = u.row.user;
@@ -72,7 +72,7 @@ put_users begun tick rates users = fold (λ r u. with_user r (offer_user begun t
 abbrev pub put_line : Rates → Paced → Rates
 put_line rates p = with_line rates (credit_rate p.server) (credit_rate p.down) (credit_rate p.up)
 
--- the rates that a round is handed, as they are put over those of the round before
+-- the rates that a round is handed; they replace those of the round before
 abbrev pub offer_all : ℕ → ℕ → Paced → Rates
 offer_all begun tick p = put_users begun tick (put_groups (put_line p.offered p) p.groups) p.users
 
@@ -88,7 +88,7 @@ with_offered rates p = record {
   offered = rates;
 }
 
--- The pace after a round was offered in a tick: the rows are filled if it is the first of the tick, the moment is a
+-- The pace after a round was offered in a tick: the rows are refilled if it is the first of the tick, the moment is a
 -- second later, and the rates are those of the rows.
 abbrev pub offer_round : ℕ → Paced → Paced
 offer_round tick p = with_offered (offer_all p.begun tick (refill_all tick p)) (refill_all tick p)
@@ -98,14 +98,14 @@ abbrev pub left_rates : ℕ → ℕ → Paced → Rates
 left_rates begun tick p = stated (credit_rate p.server) (credit_rate p.down) (credit_rate p.up)
     (map offer_group p.groups) (map (offer_user begun tick) p.users)
 
--- What is handed in are the rates of the rows, and no other row.
+-- The rates handed in are those of the rows, and there is no other row.
 abbrev pub HandsRowsIn : Type 0
 HandsRowsIn = (begun tick : ℕ) (p : Paced) → IsRising group_key p.groups → IsRising pace_number p.users
     → AreTheGroups p.offered p.groups → AreTheUsers p.offered p.users
     → offer_all begun tick p ≡ left_rates begun tick p
 
--- when the next round may be held: now in a tick that has not begun and while something can be granted, and else as the
--- next tick begins
+-- The earliest moment of the next round: now, if the tick has not begun or something can be granted; otherwise the
+-- start of the next tick.
 abbrev pub due_in : Paced → ℕ → Due
 due_in p now =
     if nat_le p.begun (tick_of now) then Now

@@ -1,4 +1,4 @@
--- The rates of a line as they are paced.
+-- Paced rates of a line.
 use Rattle.std.specs.Prelude.{◌≡◌, ℕ, List, map, refl}
 use Rattle.std.specs.Coded.{Coded, code_by, coded×, coded_ℕ, coded_list}
 use Rattle.std.specs.FinMap as finite
@@ -13,7 +13,7 @@ use Rattle.round_pace.specs.declared.paced.GroupPace.{GroupPace}
 use Rattle.round_pace.specs.declared.paced.UserPace.{UserPace}
 use Rattle.round_pace.specs.Credits.{IsCredit}
 
--- how many real ticks have begun, the moment of the last round, the rows, and the rates that were handed in last
+-- the number of real ticks begun, the moment of the last round, the rows, and the rates handed in last
 pub record Paced : Type 0 where
   pub begun : ℕ
   pub moment : ℕ
@@ -41,7 +41,7 @@ group_key g = g.group
 abbrev pub pace_number : UserPace → ℕ
 pace_number u = u.row.user
 
--- rates have a row for just the groups and users that are paced
+-- the rates have rows for exactly the groups and users that are paced
 abbrev pub AreTheGroups : Rates → List GroupPace → Type 0
 AreTheGroups rates groups = (q : ℕ) → is_some (finite.get rates.groups q)
     ≡ is_some (finite.get (by_number group_key groups) q)
@@ -50,7 +50,7 @@ abbrev pub AreTheUsers : Rates → List UserPace → Type 0
 AreTheUsers rates users = (q : ℕ) → is_some (finite.get rates.users q)
     ≡ is_some (finite.get (by_number pace_number users) q)
 
--- what the rows are: those of the rates that are handed in, by rising numbers
+-- the rows: those of the rates handed in, sorted by number
 pub record IsPaced (server down up : Credit) (groups : List GroupPace) (users : List UserPace) (offered : Rates) : Type 0 where
   pub server_fits : IsCredit server
   pub down_fits : IsCredit down
@@ -72,7 +72,7 @@ paced_user u = u.row
 abbrev pub paced_rates : Paced → Rates
 paced_rates p = stated p.server.rate p.down.rate p.up.rate (map paced_group p.groups) (map paced_user p.users)
 
--- nothing has been earned under a rate
+-- a credit with nothing earned
 abbrev pub no_credit : ℕ → Credit
 no_credit rate = record { rate = rate; left = 0 }
 
@@ -82,7 +82,7 @@ new_group row = record { group = row.group; down = no_credit row.down; up = no_c
 abbrev pub new_user : UserRate → UserPace
 new_user row = record { row = row; down = no_credit row.down; up = no_credit row.up }
 
--- the pace of some rates, under which nothing has been earned
+-- the pace of some rates, with nothing earned
 pub record IsPacedFrom (begun : ℕ) (rates : Rates) (p : Paced) : Type 0 where
   pub group_rows : List GroupRate
   pub user_rows : List UserRate
@@ -101,7 +101,7 @@ pub record IsPacedFrom (begun : ℕ) (rates : Rates) (p : Paced) : Type 0 where
     offered = rates;
   }
 
--- codes, by which proofs tell values apart
+-- codes, by which proofs distinguish values
 abbrev pub credit_code : Coded Credit
 credit_code = code_by (ℕ × ℕ) (coded× coded_ℕ coded_ℕ) (λ c. (c.rate, c.left))
     (λ p. record { rate = p.0; left = p.1 }) (λ _. refl)

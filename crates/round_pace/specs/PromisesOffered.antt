@@ -1,4 +1,4 @@
--- The rates that a round is handed, with what counted sessions are guaranteed in it.
+-- The rates that a round is handed, with the guarantees of counted sessions.
 use Rattle.std.specs.Prelude.{◌≡◌, ℕ, ◌*◌, ◌≤◌, map}
 use Rattle.std.specs.FinMap as finite
 use Rattle.line_rates.specs.declared.ask.Way.{Way}
@@ -12,7 +12,7 @@ use Rattle.rate_floors.specs.Promises.{Promises, PromisesFit, user_row}
 use Rattle.round_pace.specs.Earned.{share, as_rate, refilled, session_left}
 use Rattle.round_pace.specs.FloorsFit.{ticks_due}
 
--- what is left under the rates: of the server, the ways, the groups, the users, and of each session of a user
+-- the octets left under the rates of the server, the ways, the groups, the users, and each session of a user
 pub record Lefts : Type 0 where
   pub server : ℕ
   pub way : Way → ℕ
@@ -20,7 +20,7 @@ pub record Lefts : Type 0 where
   pub user : UserRate → Way → ℕ
   pub session : UserRate → Way → ℕ
 
--- at least what the rates earn in so many ticks
+-- at least what the rates earn in `ticks` ticks
 pub record HasEarned (ticks : ℕ) (p : Promises) (left : Lefts) : Type 0 where
   pub server : share p.rates.server ticks ≤ left.server
   pub way : (w : Way) → share (way_of p.rates.down p.rates.up w) ticks ≤ left.way w
@@ -44,7 +44,7 @@ offered_row ticks left row = record {
 abbrev pub offered_entry : ℕ → Lefts → UserSessions → UserSessions
 offered_entry ticks left entry = record { row = offered_row ticks left entry.row; sessions = entry.sessions }
 
--- the rates that are handed in, with the same counted sessions
+-- the rates handed in, with the same counted sessions
 pub record IsOffered (ticks : ℕ) (p : Promises) (left : Lefts) (q : Promises) : Type 0 where
   pub server : q.rates.server ≡ as_rate p.rates.server left.server
   pub down : q.rates.down ≡ as_rate p.rates.down (left.way Down)
@@ -54,13 +54,13 @@ pub record IsOffered (ticks : ℕ) (p : Promises) (left : Lefts) (q : Promises) 
   pub users : q.users ≡ map (offered_entry ticks left) p.users
   pub rows : q.rates.users ≡ by_number user_number (map user_row q.users)
 
--- What counted sessions are promised, where it fits the stated rates, fits those that are handed in: with the ticks that
--- are due in the first round of a tick, and with none in later ones.
+-- Guarantees that fit the stated rates fit those handed in: with the ticks that are due in the first round of a tick,
+-- and with none in later rounds.
 abbrev pub PromisesStayFit : Type 0
 PromisesStayFit = (ticks : ℕ) (p q : Promises) (left : Lefts) → PromisesFit p → HasEarned ticks p left
     → IsOffered ticks p left q → PromisesFit q
 
--- A row has earned the ticks that are due as a tick begins, and so has a session.
+-- As a tick begins, a row has earned the ticks that are due, and so has a session.
 abbrev pub EarnsItsTicks : Type 0
 EarnsItsTicks = (rate left begun tick : ℕ) → rate ≤ MAX_RATE → begun ≤ tick
     → (share rate (ticks_due begun tick) ≤ refilled rate left begun tick)

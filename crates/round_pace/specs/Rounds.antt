@@ -1,30 +1,30 @@
--- Rounds under a rate, and what they grant in a second.
+-- Rounds under a rate, and their grants in a second.
 use Rattle.std.specs.Prelude.{◌≡◌, ℕ, ◌+◌, ◌-◌, ◌*◌, ◌/◌, ◌<◌, ◌≤◌, Bool, ◌&&◌, nat_eq, nat_le, nat_lt, if◌then◌else◌, List, [], ◌∷◌, sum_by}
 use Rattle.line_rates.specs.declared.rate.TheConstants.{MAX_RATE}
 use Rattle.round_pace.specs.Earned.{tick_of, offered, session_offered, uncut, most_kept, share}
 
--- a round: its real moment in microseconds, and what it granted under the rate
+-- a round: its real moment in microseconds, and its grants under the rate in octets
 pub record Round : Type 0 where
   pub now : ℕ
   pub granted : ℕ
 
--- what is left after a round
+-- octets left after a round
 abbrev pub left_after : ℕ → ℕ → ℕ → Round → ℕ
 left_after rate left begun r = offered rate left begun (tick_of r.now) - r.granted
 
--- so many ticks have begun after a round
+-- number of ticks begun after a round
 abbrev pub begun_after : Round → ℕ
 begun_after r = tick_of r.now + 1
 
--- Rounds from where so much is left and so many ticks have begun: none comes in an earlier tick than the one before it,
--- and each grants at most what it is offered.
+-- Rounds from a state with `left` octets and `begun` ticks: no round is in an earlier tick than the one before it, and
+-- each grants at most what it is offered.
 abbrev pub AreRounds : ℕ → ℕ → ℕ → List Round → Type 0
 AreRounds rate left begun [] = Unit {0}
 AreRounds rate left begun (r ∷ rs) = (begun ≤ begun_after r)
     × (r.granted ≤ offered rate left begun (tick_of r.now))
     × AreRounds rate (left_after rate left begun r) (begun_after r) rs
 
--- what those rounds grant that a test tells
+-- sum of the grants of rounds that pass a test
 abbrev pub granted_where : (Round → Bool) → List Round → ℕ
 granted_where test rounds = sum_by (λ r. if test r then r.granted else 0) rounds
 
@@ -41,7 +41,7 @@ abbrev pub KeepsSeconds : Type 0
 KeepsSeconds = (rate begun : ℕ) (rounds : List Round) → AreRounds rate 0 begun rounds
     → (second : ℕ) → granted_where (is_in second) rounds ≤ rate
 
--- and in a second that begins at any microsecond at most the rate and what is kept.
+-- and in a second that begins at any microsecond at most the rate plus the most that is kept.
 abbrev pub KeepsWindows : Type 0
 KeepsWindows = (rate begun : ℕ) (rounds : List Round) → AreRounds rate 0 begun rounds
     → (start : ℕ) → granted_where (is_from start) rounds ≤ rate + most_kept rate
@@ -51,14 +51,14 @@ abbrev pub AreIn : ℕ → List Round → Type 0
 AreIn second [] = Unit {0}
 AreIn second (r ∷ rs) = (r.now / 1000000 ≡ second) × AreIn second rs
 
--- no refill comes to more than what is kept
+-- no refill is cut to the most that is kept
 abbrev pub AreUncut : ℕ → ℕ → ℕ → List Round → Type 0
 AreUncut rate left begun [] = Unit {0}
 AreUncut rate left begun (r ∷ rs) =
     (begun ≤ tick_of r.now → uncut rate left begun (tick_of r.now) ≤ most_kept rate)
     × AreUncut rate (left_after rate left begun r) (begun_after r) rs
 
--- what is left after all rounds, and how many ticks have begun then
+-- octets left after all rounds, and the number of ticks begun
 abbrev pub left_last : ℕ → ℕ → ℕ → List Round → ℕ
 left_last rate left begun [] = left
 left_last rate left begun (r ∷ rs) = left_last rate (left_after rate left begun r) (begun_after r) rs
@@ -70,14 +70,14 @@ begun_last begun (r ∷ rs) = begun_last (begun_after r) rs
 abbrev pub granted_of : Round → ℕ
 granted_of r = r.granted
 
--- What the rounds of a second have granted, and what is left then, is what was earned in the second.
+-- The grants of a second's rounds plus what is left are what was earned in the second.
 abbrev pub LosesNothing : Type 0
 LosesNothing = (rate left begun second : ℕ) (r : Round) (rs : List Round) → begun ≤ 500 * second
     → AreRounds rate left begun (r ∷ rs) → AreIn second (r ∷ rs) → AreUncut rate left begun (r ∷ rs)
     → sum_by granted_of (r ∷ rs) + left_last rate left begun (r ∷ rs)
     ≡ share rate (begun_last begun (r ∷ rs) - 500 * second)
 
--- whenever a tick begins nothing is left of the one before it, nor is at the end
+-- when a tick begins, nothing is left of the tick before it, and nothing is left at the end
 abbrev pub AreDrained : ℕ → ℕ → ℕ → List Round → Type 0
 AreDrained rate left begun [] = left ≡ 0
 AreDrained rate left begun (r ∷ rs) = (begun ≤ tick_of r.now → left ≡ 0)
@@ -88,8 +88,8 @@ abbrev pub ArePrompt : ℕ → List Round → Type 0
 ArePrompt begun [] = Unit {0}
 ArePrompt begun (r ∷ rs) = (tick_of r.now < begun + 49) × ArePrompt (begun_after r) rs
 
--- Rounds of a second that come in time from its beginning to its last tick, and leave nothing of a tick to the next,
--- grant just the rate. A tick may have many rounds, of which some grant less than they are offered.
+-- Rounds of one second that come in time from its beginning to its last tick, and leave nothing of a tick to the next,
+-- grant exactly the rate. A tick may have several rounds, some of which grant less than they are offered.
 abbrev pub ReachesRates : Type 0
 ReachesRates = (rate left begun second : ℕ) (r : Round) (rs : List Round) → rate ≤ MAX_RATE → begun ≤ 500 * second
     → AreRounds rate left begun (r ∷ rs) → AreIn second (r ∷ rs)
@@ -97,14 +97,14 @@ ReachesRates = (rate left begun second : ℕ) (r : Round) (rs : List Round) → 
     → ArePrompt (500 * second) (r ∷ rs) → begun_last begun (r ∷ rs) ≡ 500 * second + 500
     → sum_by granted_of (r ∷ rs) ≡ rate
 
--- Rounds under a session's rate: in those in which the session does not ask it is granted nothing.
+-- Rounds under a session's rate. A round in which the session does not ask grants it nothing.
 abbrev pub AreSessionRounds : ℕ → ℕ → List Round → Type 0
 AreSessionRounds rate begun [] = Unit {0}
 AreSessionRounds rate begun (r ∷ rs) = (begun ≤ begun_after r)
     × (r.granted ≤ session_offered rate begun (tick_of r.now))
     × AreSessionRounds rate (begun_after r) rs
 
--- They are rounds as under any other rate, so a session's rate is kept as others are.
+-- They are rounds as under any other rate, so a session's rate is kept in the same way.
 abbrev pub SessionsAreRounds : Type 0
 SessionsAreRounds = (rate left begun : ℕ) (rounds : List Round) → AreSessionRounds rate begun rounds
     → AreRounds rate left begun rounds

@@ -1,4 +1,4 @@
--- What a user's transfer has nothing left under, in a tick that has begun.
+-- Users' transfers with nothing left in a tick that has begun.
 use Rattle.std.specs.Prelude.{ℕ, ◌*◌, ◌-◌, ◌^◌, Bool, false, ◌||◌, not, nat_eq, nat_le, min, if◌then◌else◌, List, Option, Some, None}
 use Rattle.std.specs.FinMap as finite
 use Rattle.line_rates.specs.declared.ask.Way.{Way}
@@ -24,7 +24,7 @@ abbrev pub session_of : Way → UserRate → ℕ
 session_of Down row = row.session_down
 session_of Up row = row.session_up
 
--- a session's share is offered as a tick begins, and none later
+-- The user has a session rate, which is offered only as a tick begins, or nothing left.
 abbrev pub is_spent : Way → UserPace → Bool
 is_spent way u = not (nat_eq (session_of way u.row) 0) || is_dry (credit_of way u.down u.up)
 
@@ -43,8 +43,8 @@ abbrev pub is_group_spent : Way → List GroupPace → Option ℕ → Bool
 is_group_spent way groups None = false
 is_group_spent way groups (Some group) = is_group_row_spent way (finite.get (by_number group_key groups) group)
 
---- when the next round may be held for a user's transfer: now in a tick that has not begun and while something can be granted to
---- it, and else as the next tick begins
+-- The earliest moment of the next round for a user's transfer: now, if the tick has not begun or something can be granted
+-- to it; otherwise the start of the next tick.
 abbrev pub due_for_in : Way → ℕ → Paced → ℕ → Due
 due_for_in way user p now =
     if nat_le p.begun (tick_of now) then Now

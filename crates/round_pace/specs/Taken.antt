@@ -1,4 +1,4 @@
--- What is left once octets were granted.
+-- Credits after octets were granted.
 use Rattle.std.specs.Prelude.{ℕ, nat_eq, if◌then◌else◌, List, map, Option, Some, None}
 use Rattle.std.specs.FinMap as finite
 use Rattle.line_rates.specs.declared.ask.Way.{Way}
@@ -30,11 +30,12 @@ abbrev pub group_in : Option UserPace → Option ℕ
 group_in None = None
 group_in (Some u) = u.row.group
 
--- the group of a user that has a row
+-- the group of a user, if they have a row and are in one
 abbrev pub group_of : List UserPace → ℕ → Option ℕ
 group_of users user = group_in (finite.get (by_number pace_number users) user)
 
--- the rows after octets of a user, and of those of a group, were granted
+-- the rows after octets were granted to a user; those of groups after octets were granted to a user
+-- in a group
 abbrev pub take_users : Way → ℕ → ℕ → List UserPace → List UserPace
 take_users way user octets users =
     map (λ u. if nat_eq (pace_number u) user then take_user way octets u else u) users
@@ -44,7 +45,7 @@ take_groups way None octets groups = groups
 take_groups way (Some group) octets groups =
     map (λ g. if nat_eq (group_key g) group then take_group way octets g else g) groups
 
--- octets of a way were granted to a user
+-- the pace after octets of a way were granted to a user
 abbrev pub take_octets : Way → ℕ → ℕ → Paced → Paced
 take_octets way user octets p = record {
   begun = p.begun;

@@ -1,4 +1,4 @@
-//! What a rate has earned and no round has granted.
+//! Credits: what a rate has earned and no round has granted.
 
 ghost use Rattle.std.specs.Prelude.{◌≡◌, ◌≤◌};
 ghost use Rattle.round_pace.specs.Credits.{IsCredit, refill_row, take_row, is_dry};
@@ -7,26 +7,26 @@ ghost use Rattle.round_pace.specs.FloorsFit.{floor_in};
 
 use line_rates::MAX_RATE;
 
-/// How long a real tick lasts, in microseconds.
+/// Length of a real tick, in microseconds.
 pub const TICK_MICROS: u64 = 2_000;
 
-/// How many real ticks a second has.
+/// Number of real ticks in a second.
 pub const TICKS: u64 = 500;
 
-/// The most that a round can be offered under a rate.
+/// The most that a round can be offered under a rate, in octets.
 pub const MOST_OFFERED: u64 = 109_951_162_777;
 
-/// A rate in octets a second, and what it has earned and no round has granted.
+/// A rate in octets per second, with what it has earned and no round has granted.
 #[derive(Clone, Copy, Debug, PartialEq, Eq)]
 pub struct Credit {
     /// The rate; 0 is no limit.
     pub rate: u64,
-    /// What is left.
+    /// Octets left.
     pub left: u64,
 }
 
-/// What a rate has earned once so many ticks of a second have begun, in whole octets.
-pub fn share(rate: u64, ticks: u64) -> u64
+/// Earnings of a rate after `ticks` ticks of a second have begun, in whole octets.
+pub(crate) fn share(rate: u64, ticks: u64) -> u64
     requires rate { rate ≤ MAX_RATE }
     requires ticks { ticks ≤ 500 }
     ensures share { result ≡ share rate ticks }
@@ -34,23 +34,23 @@ pub fn share(rate: u64, ticks: u64) -> u64
     ticks * rate / TICKS
 }
 
-/// The most that a rate keeps: what it earns in a tenth of a second.
-pub fn most_kept(rate: u64) -> u64
+/// The most that a rate keeps: a tenth of it and one octet, and at most `MOST_OFFERED`.
+pub(crate) fn most_kept(rate: u64) -> u64
     requires rate { rate ≤ MAX_RATE }
     ensures most { result ≡ most_kept rate }
 {
     (rate / 10 + 1).min(MOST_OFFERED)
 }
 
-/// How many ticks of a tick's second had begun when so many had begun in all.
-pub fn begun_in(begun: u64, tick: u64) -> u64
+/// Number of ticks begun in the second of `tick`, if `begun` had begun in all.
+pub(crate) fn begun_in(begun: u64, tick: u64) -> u64
     ensures begun { result ≡ begun_in begun tick }
 {
     begun.saturating_sub(tick / TICKS * TICKS)
 }
 
-/// What is left under a rate as a tick begins, where so many ticks had begun before.
-pub fn refilled(credit: Credit, begun: u64, tick: u64) -> u64
+/// Octets left under a rate as a tick begins, if `begun` ticks had begun before.
+pub(crate) fn refilled(credit: Credit, begun: u64, tick: u64) -> u64
     requires rate { credit.rate ≤ MAX_RATE }
     requires later { begun ≤ tick }
     ensures left { result ≡ refilled credit.rate credit.left begun tick }
@@ -61,8 +61,8 @@ pub fn refilled(credit: Credit, begun: u64, tick: u64) -> u64
     carried.saturating_add(earned).min(most_kept(credit.rate))
 }
 
-/// The rate that lets just what is left through in a tick that is a multiple of ten; 0, which is no limit, of a rate of 0.
-pub fn as_rate(credit: Credit) -> u64
+/// The rate that allows exactly what is left in a tick that is a multiple of ten; 0, which is no limit, for a rate of 0.
+pub(crate) fn as_rate(credit: Credit) -> u64
     requires left { credit.left ≤ MOST_OFFERED }
     ensures rate { result ≡ as_rate credit.rate credit.left }
     ensures most { result ≤ MAX_RATE }
@@ -73,8 +73,8 @@ pub fn as_rate(credit: Credit) -> u64
     10 * credit.left + 1
 }
 
-/// What the first round of a tick is offered under a session's rate, where so many ticks had begun before.
-pub fn session_left(rate: u64, begun: u64, tick: u64) -> u64
+/// Offer to the first round of a tick under a session's rate, in octets, if `begun` ticks had begun before.
+pub(crate) fn session_left(rate: u64, begun: u64, tick: u64) -> u64
     requires rate { rate ≤ MAX_RATE }
     requires later { begun ≤ tick }
     ensures left { result ≡ session_left rate begun tick }
@@ -83,8 +83,8 @@ pub fn session_left(rate: u64, begun: u64, tick: u64) -> u64
     earned.min(most_kept(rate))
 }
 
-/// What a session is guaranteed in the first round of a tick, where so many ticks had begun before.
-pub fn floor_in(floor: u64, begun: u64, tick: u64) -> u64
+/// The guarantee of a session in the first round of a tick, if `begun` ticks had begun before.
+pub(crate) fn floor_in(floor: u64, begun: u64, tick: u64) -> u64
     requires rate { floor ≤ MAX_RATE }
     requires later { begun ≤ tick }
     ensures floor { result ≡ floor_in begun tick floor }
@@ -93,8 +93,8 @@ pub fn floor_in(floor: u64, begun: u64, tick: u64) -> u64
     share(floor, ticks.min(TICKS / 10))
 }
 
-/// A credit as a tick begins, where so many ticks had begun before.
-pub fn refill_row(credit: Credit, begun: u64, tick: u64) -> Credit
+/// A credit as a tick begins, if `begun` ticks had begun before.
+pub(crate) fn refill_row(credit: Credit, begun: u64, tick: u64) -> Credit
     requires credit { IsCredit credit }
     requires later { begun ≤ tick }
     ensures row { result ≡ refill_row begun tick credit }
@@ -106,8 +106,8 @@ pub fn refill_row(credit: Credit, begun: u64, tick: u64) -> Credit
     }
 }
 
-/// A credit less octets that were granted.
-pub fn take_row(credit: Credit, octets: u64) -> Credit
+/// A credit less granted octets.
+pub(crate) fn take_row(credit: Credit, octets: u64) -> Credit
     requires credit { IsCredit credit }
     ensures row { result ≡ take_row octets credit }
     ensures fits { IsCredit result }
@@ -118,8 +118,8 @@ pub fn take_row(credit: Credit, octets: u64) -> Credit
     }
 }
 
-/// Whether a rate has nothing left.
-pub fn is_dry(credit: Credit) -> bool
+/// Returns whether a rate has nothing left.
+pub(crate) fn is_dry(credit: Credit) -> bool
     ensures dry { result ≡ is_dry credit }
 {
     credit.rate != 0 && credit.left == 0

@@ -1,6 +1,6 @@
-//! When a round may be held.
+//! The earliest moment of a round.
 
-/// When a round may be held.
+/// The earliest moment of a round.
 #[derive(Clone, Copy, Debug, PartialEq, Eq)]
 pub enum Due {
     /// At once.

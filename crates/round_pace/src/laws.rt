@@ -6,30 +6,30 @@ ghost use Rattle.round_pace.specs.Offered.{HandsRowsIn};
 ghost use Rattle.round_pace.specs.FloorsFit.{FloorsFitOffers, FloorFitsSession};
 ghost use Rattle.round_pace.specs.PromisesOffered.{PromisesStayFit, EarnsItsTicks};
 
-/// What is offered is what is left, and nothing else.
+/// The limits offered are exactly the octets left.
 pub fn credits_are_offered()
     ensures offered { OffersCredits }
 {}
 
-/// Whatever rounds are held, what they grant under a rate in one second of the clock is within the rate, and what they
-/// grant in a second at any place within the rate and what is kept.
+/// For any rounds, the grants under a rate in one second of the clock are within the rate, and those in a second from
+/// any moment within the rate plus the most that is kept.
 pub fn rates_are_kept()
     ensures seconds { KeepsSeconds }
     ensures windows { KeepsWindows }
     ensures sessions { SessionsAreRounds }
 {}
 
-/// What a second's rounds have granted and what is left are what was earned, where no refill was cut.
+/// If no refill was cut, the grants of a second's rounds plus what is left are what was earned.
 pub fn nothing_is_lost()
     ensures lost { LosesNothing }
 {}
 
-/// A rate is reached where each round grants all that it is offered, and rounds come in time.
+/// A rate is reached if each round grants all that it is offered and rounds come in time.
 pub fn rates_are_reached()
     ensures reached { ReachesRates }
 {}
 
-/// What counted sessions are guaranteed, where it is within the rates, is within what a tick's first round is offered.
+/// Guarantees of counted sessions that are within the rates are within what a tick's first round is offered.
 pub fn floors_fit_what_is_offered()
     ensures rows { FloorsFitOffers }
     ensures sessions { FloorFitsSession }

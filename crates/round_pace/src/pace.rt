@@ -1,4 +1,4 @@
-//! The pace of rounds over the rates of a line.
+//! The pace of rounds under the rates of a line.
 
 ghost use Rattle.std.specs.Prelude.{◌≡◌, ◌<◌, ◌^◌, IfOk, map};
 ghost use Rattle.std.specs.List.{All};
@@ -20,7 +20,7 @@ use line_rates::{GroupRate, Limits, Name, UserRate, Way};
 use std::alloc::{AllocError, Allocator, Global};
 use std::marker::Model;
 
-/// What rates have earned and no round has granted, and the limits that a round is handed.
+/// The credits of all rates, and the limits that a round is handed.
 #[derive(Drop)]
 pub struct Pace<A: Allocator = Global> {
     begun: u64,
@@ -86,7 +86,7 @@ fn new_users<A: Allocator>(alloc: A, rows: &[UserRate]) -> Result<Vec<UserPace, 
 }
 
 impl<A: Allocator + Clone> Pace<A> {
-    /// The pace of the rates of limits, with nothing earned, from a moment on in microseconds.
+    /// The pace of the rates of limits, with nothing earned, from `now` in microseconds.
     pub fn of(alloc: A, limits: Limits<A>, now: u64) -> Result<Pace<A>, AllocError>
         ensures rates { IfOk result (λ p. IsPacedFrom (tick_of now) limits p) }
     {
@@ -115,7 +115,7 @@ impl<A: Allocator + Clone> Pace<A> {
 }
 
 impl<A: Allocator> Pace<A> {
-    // Fills the rows where a tick begins.
+    // Refills the rows if a tick begins.
     fn begin(&mut self, tick: u64)
         requires tick { tick < 2 ^ 63 }
         ensures begun { self.new ≡ refill_all tick self.old }
@@ -147,8 +147,7 @@ impl<A: Allocator> Pace<A> {
         self.moment = self.moment.saturating_add(1_000);
     }
 
-    /// The moment of a round that is held now, in milliseconds of its own count; `limits` tells its limits. Takes no
-    /// memory.
+    /// The moment of a round that is held now, in milliseconds of its own count; `limits` returns its limits. No memory.
     pub fn offer(&mut self, now: u64) -> u64
         ensures round { self.new ≡ offer_round (tick_of now) self.old }
         ensures handed { self.new.offered ≡ left_rates self.old.begun (tick_of now) self.new }
@@ -168,8 +167,8 @@ impl<A: Allocator> Pace<A> {
         &self.offered
     }
 
-    /// Takes octets that a round granted to a user: from what is left under the rates of the server, of the way, of the
-    /// user and of their group.
+    /// Subtracts octets granted to a user from what is left under the rates of the server, the way, the user and their
+    /// group.
     pub fn took(&mut self, way: Way, user: u32, octets: u64)
         ensures taken { self.new ≡ take_octets way user octets self.old }
     {
@@ -181,8 +180,8 @@ impl<A: Allocator> Pace<A> {
         take_users(&mut self.users, user, way, octets);
     }
 
-    /// When the next round may be held: at once where it is the first of its tick or something can be granted, and else
-    /// as the next tick begins.
+    /// The earliest moment of the next round: at once if it is the first of its tick or something can be granted; otherwise
+    /// the start of the next tick.
     pub fn due(&self, now: u64) -> Due
         ensures due { result ≡ due_in self.now now }
     {
@@ -195,8 +194,8 @@ impl<A: Allocator> Pace<A> {
         Due::Now
     }
 
-    /// When the next round may be held for a transfer of a user: at once where it is the first of its tick or something can be
-    /// granted to that transfer, and else as the next tick begins.
+    /// The earliest moment of the next round for a transfer of a user: at once if it is the first of its tick or something
+    /// can be granted to that transfer; otherwise the start of the next tick.
     pub fn due_for(&self, way: Way, user: u32, now: u64) -> Due
         ensures due { result ≡ due_for_in way user self.now now }
     {

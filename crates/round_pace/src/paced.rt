@@ -1,4 +1,4 @@
-//! The rates of groups and users, paced.
+//! Paced rates of groups and users.
 
 ghost use Rattle.std.specs.Prelude.{◌≡◌, ◌≤◌, map, Some};
 ghost use Rattle.std.specs.List.{All};
@@ -14,30 +14,30 @@ use crate::credit::{Credit, as_rate, floor_in, is_dry, refill_row, session_left,
 use line_rates::{GroupRate, Limits, MAX_RATE, UserRate, Way};
 use std::alloc::Allocator;
 
-/// A group's rates with what is left under each.
+/// A group's rates, with what is left under each.
 #[derive(Clone, Copy, Debug, PartialEq, Eq)]
 pub struct GroupPace {
     /// The number of the group.
     pub group: u32,
-    /// What its users get down.
+    /// The credit of its users' downloads.
     pub down: Credit,
-    /// What they get up.
+    /// The credit of their uploads.
     pub up: Credit,
 }
 
-/// A user's rates with what is left under each.
+/// A user's rates, with what is left under each.
 #[derive(Clone, Copy, Debug, PartialEq, Eq)]
 pub struct UserPace {
     /// The rates.
     pub row: UserRate,
-    /// What the user gets down.
+    /// The credit of the user's downloads.
     pub down: Credit,
-    /// What the user gets up.
+    /// The credit of the user's uploads.
     pub up: Credit,
 }
 
 /// The rate that is handed in for what is left of a credit.
-pub fn credit_rate(credit: Credit) -> u64
+pub(crate) fn credit_rate(credit: Credit) -> u64
     requires credit { IsCredit credit }
     ensures rate { result ≡ credit_rate credit }
     ensures most { result ≤ MAX_RATE }
@@ -125,8 +125,8 @@ fn refill_user(user: UserPace, begun: u64, tick: u64) -> UserPace
     }
 }
 
-/// Fills the rows of groups as a tick begins.
-pub fn refill_groups<A: Allocator>(groups: &mut Vec<GroupPace, A>, begun: u64, tick: u64)
+/// Refills the rows of groups as a tick begins.
+pub(crate) fn refill_groups<A: Allocator>(groups: &mut Vec<GroupPace, A>, begun: u64, tick: u64)
     requires paces { All IsGroupPace groups.old.items }
     requires later { begun ≤ tick }
     ensures rows { groups.new.items ≡ map (refill_group begun tick) groups.old.items }
@@ -137,8 +137,8 @@ pub fn refill_groups<A: Allocator>(groups: &mut Vec<GroupPace, A>, begun: u64, t
     }
 }
 
-/// Fills the rows of users as a tick begins.
-pub fn refill_users<A: Allocator>(users: &mut Vec<UserPace, A>, begun: u64, tick: u64)
+/// Refills the rows of users as a tick begins.
+pub(crate) fn refill_users<A: Allocator>(users: &mut Vec<UserPace, A>, begun: u64, tick: u64)
     requires paces { All IsUserPace users.old.items }
     requires later { begun ≤ tick }
     ensures rows { users.new.items ≡ map (refill_user begun tick) users.old.items }
@@ -149,8 +149,8 @@ pub fn refill_users<A: Allocator>(users: &mut Vec<UserPace, A>, begun: u64, tick
     }
 }
 
-/// Hands the rows of groups in.
-pub fn put_groups<L: Allocator>(offered: &mut Limits<L>, groups: &[GroupPace])
+/// Writes the rows of groups into the limits.
+pub(crate) fn put_groups<L: Allocator>(offered: &mut Limits<L>, groups: &[GroupPace])
     requires paces { All IsGroupPace groups.now }
     ensures put { offered.new ≡ put_groups offered.old groups.now }
 {
@@ -159,8 +159,13 @@ pub fn put_groups<L: Allocator>(offered: &mut Limits<L>, groups: &[GroupPace])
     }
 }
 
-/// Hands the rows of users in.
-pub fn put_users<L: Allocator>(offered: &mut Limits<L>, users: &[UserPace], begun: u64, tick: u64)
+/// Writes the rows of users into the limits.
+pub(crate) fn put_users<L: Allocator>(
+    offered: &mut Limits<L>,
+    users: &[UserPace],
+    begun: u64,
+    tick: u64,
+)
     requires paces { All IsUserPace users.now }
     ensures put { offered.new ≡ put_users begun tick offered.old users.now }
 {
@@ -169,8 +174,8 @@ pub fn put_users<L: Allocator>(offered: &mut Limits<L>, users: &[UserPace], begu
     }
 }
 
-/// The credit of what goes down, less octets that went a way.
-pub fn take_if_down(credit: Credit, way: Way, octets: u64) -> Credit
+/// The credit of downloads, less octets that went `way`.
+pub(crate) fn take_if_down(credit: Credit, way: Way, octets: u64) -> Credit
     requires credit { IsCredit credit }
     ensures row { result ≡ take_if_down way octets credit }
     ensures fits { IsCredit result }
@@ -181,8 +186,8 @@ pub fn take_if_down(credit: Credit, way: Way, octets: u64) -> Credit
     }
 }
 
-/// The credit of what goes up, less octets that went a way.
-pub fn take_if_up(credit: Credit, way: Way, octets: u64) -> Credit
+/// The credit of uploads, less octets that went `way`.
+pub(crate) fn take_if_up(credit: Credit, way: Way, octets: u64) -> Credit
     requires credit { IsCredit credit }
     ensures row { result ≡ take_if_up way octets credit }
     ensures fits { IsCredit result }
@@ -217,7 +222,7 @@ fn take_user(user: UserPace, way: Way, octets: u64) -> UserPace
     }
 }
 
-// The place of a user's row, by binary search.
+// The index of a user's row, by binary search.
 fn find_user(users: &[UserPace], user: u32) -> Option<usize>
     requires rising { IsRising pace_number users.now }
     ensures place { FindsPlace pace_number users.now user result }
@@ -228,7 +233,7 @@ fn find_user(users: &[UserPace], user: u32) -> Option<usize>
     }
 }
 
-// The place of a group's row, by binary search.
+// The index of a group's row, by binary search.
 fn find_group(groups: &[GroupPace], group: u32) -> Option<usize>
     requires rising { IsRising group_key groups.now }
     ensures place { FindsPlace group_key groups.now group result }
@@ -239,8 +244,8 @@ fn find_group(groups: &[GroupPace], group: u32) -> Option<usize>
     }
 }
 
-/// The group of a user that has a row.
-pub fn group_of(users: &[UserPace], user: u32) -> Option<u32>
+/// The group of a user, if they have a row and are in one.
+pub(crate) fn group_of(users: &[UserPace], user: u32) -> Option<u32>
     requires rising { IsRising pace_number users.now }
     ensures group { result ≡ group_of users.now user }
 {
@@ -250,8 +255,13 @@ pub fn group_of(users: &[UserPace], user: u32) -> Option<u32>
     }
 }
 
-/// Takes octets from the row of a user, if they have one.
-pub fn take_users<A: Allocator>(users: &mut Vec<UserPace, A>, user: u32, way: Way, octets: u64)
+/// Subtracts octets from the row of a user, if they have one.
+pub(crate) fn take_users<A: Allocator>(
+    users: &mut Vec<UserPace, A>,
+    user: u32,
+    way: Way,
+    octets: u64,
+)
     requires paces { All IsUserPace users.old.items }
     requires rising { IsRising pace_number users.old.items }
     ensures taken { users.new.items ≡ take_users way user octets users.old.items }
@@ -275,8 +285,8 @@ fn take_from_group<A: Allocator>(groups: &mut Vec<GroupPace, A>, group: u32, way
     }
 }
 
-/// Takes octets from the row of a group, if there is one.
-pub fn take_groups<A: Allocator>(
+/// Subtracts octets from the row of a group, if there is one.
+pub(crate) fn take_groups<A: Allocator>(
     groups: &mut Vec<GroupPace, A>,
     group: Option<u32>,
     way: Way,
@@ -294,7 +304,7 @@ pub fn take_groups<A: Allocator>(
 }
 
 /// The credit of a way.
-pub fn credit_of(down: Credit, up: Credit, way: Way) -> Credit
+pub(crate) fn credit_of(down: Credit, up: Credit, way: Way) -> Credit
     ensures credit { result ≡ credit_of way down up }
 {
     match way {
@@ -312,15 +322,16 @@ fn session_of(row: UserRate, way: Way) -> u64
     }
 }
 
-// Whether the user has a rate for each session, or nothing left.
+// Returns whether the user has a session rate, or nothing left.
 fn is_spent(user: UserPace, way: Way) -> bool
     ensures spent { result ≡ is_spent way user }
 {
     session_of(user.row, way) != 0 || is_dry(credit_of(user.down, user.up, way))
 }
 
-/// Whether nothing is left for a user's transfers one way under the rates of the user and of each session, in a tick that has begun.
-pub fn is_user_spent(users: &[UserPace], user: u32, way: Way) -> bool
+/// Returns whether nothing is left for a user's transfers of one way, under the rates of the user and of each session, in a
+/// tick that has begun.
+pub(crate) fn is_user_spent(users: &[UserPace], user: u32, way: Way) -> bool
     requires rising { IsRising pace_number users.now }
     ensures spent { result ≡ is_user_spent way users.now user }
 {
@@ -330,8 +341,8 @@ pub fn is_user_spent(users: &[UserPace], user: u32, way: Way) -> bool
     }
 }
 
-/// Whether a group has nothing left one way.
-pub fn is_group_spent(groups: &[GroupPace], group: Option<u32>, way: Way) -> bool
+/// Returns whether a group has nothing left for one way.
+pub(crate) fn is_group_spent(groups: &[GroupPace], group: Option<u32>, way: Way) -> bool
     requires rising { IsRising group_key groups.now }
     ensures spent { result ≡ is_group_spent way groups.now group }
 {

@@ -1,3 +1,4 @@
+pub mod Served
 pub mod Scripts
 pub use Rattle.session_host.specs.Sessions
 pub use Rattle.session_host.specs.ControlFault

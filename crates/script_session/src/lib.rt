@@ -1,4 +1,6 @@
-//! A control session without sockets: its text comes from any reader, its data go nowhere.
+//! A control session without sockets: its text comes from any reader, and its data connections lead nowhere.
+//!
+//! [`serve_text`] runs a session for given users, guarantees and store; [`serve_config`] for those of a configuration.
 //!
 //! ```text
 //! let mut input: &[u8] = b"USER ann\r\nPASS secret\r\n";
@@ -21,9 +23,13 @@
 //! ```
 #![tactic(auto)]
 
+mod fault;
 mod script;
+mod serving;
 mod side;
 
+pub use fault::SessionFault;
 pub use script::serve_text;
+pub use serving::serve_config;
 pub use session_host::ControlFault;
 pub use side::{ScriptSide, StillClock};

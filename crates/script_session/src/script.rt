@@ -17,16 +17,16 @@ use rate_floors::Floors;
 use session_host::{ControlFault, Silent, SoleHost, run_alone};
 use session_table::Settings;
 use std::alloc::{Allocator, Global};
-use text_ends::{TextReader, TextWriter};
+use text_io::{TextReader, TextWriter};
 
 /// The address of the client.
 const HOME: [u8; 4] = [127, 0, 0, 1];
 
-/// A whole control session of the client 127.0.0.1, at the moment 0: its text is what the reader gives, and its replies
-/// are written. Each passive port is this one; a download is taken whole and thrown away, an upload brings no octets.
-/// However it ends, the floors are as they were.
+/// Serves a whole control session of the client 127.0.0.1, at the moment 0: takes its text from the reader, and writes
+/// its replies. Each passive port is `port`; a download is read to its end and dropped, an upload brings no octets.
+/// However the session ends, the floors are unchanged.
 ///
-/// `ReadFault` comes also after 4,294,967,295 reads, of at most 4,096 octets each.
+/// `ReadFault` is also the result after 4,294,967,295 reads, of at most 4,096 octets each.
 pub fn serve_text<F: Allocator + Clone, R: TextReader, W: TextWriter>(
     alloc: Global,
     reader: &mut R,
@@ -39,7 +39,8 @@ pub fn serve_text<F: Allocator + Clone, R: TextReader, W: TextWriter>(
 ) -> Result<(), ControlFault>
     ensures whole { (side : ScriptSide Upload) × IsServed
         (IsRow {A = Global} {R = List ℕ} InMemory users.now.users)
-        (AloneDoes StandsStill AnswersScript StaysSilent R.remaining R.may_fail W.contents W.may_refuse)
+        (AloneDoes StandsStill AnswersScript StaysSilent R.remaining R.may_fail W.contents
+        W.may_refuse)
         u32.MAX result (new_session settings home_address)
         (script_parts store.old floors.old (unasked port) reader.old writer.old)
         (script_parts store.new floors.new side reader.new writer.new) }

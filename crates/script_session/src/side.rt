@@ -8,7 +8,7 @@ use session_table::{End, Job};
 use std::alloc::Allocator;
 use virtual_tree::{Source, StoreFault};
 
-/// A clock that stands still, at the beginning of 1970.
+/// A clock that always shows the beginning of 1970.
 #[derive(Clone, Copy, Debug)]
 pub struct StillClock;
 
@@ -20,16 +20,16 @@ impl Moments for StillClock {
     }
 }
 
-/// Tells the same passive port each time. A transfer ends as it begins: a download is taken whole and thrown away, an
-/// upload brings no octets. What it has to tell waits until it is asked.
+/// A data side without sockets. Each passive port is the same. A transfer ends as it begins: a download is read to its
+/// end and dropped, an upload brings no octets. An event waits until the next look.
 #[derive(Drop)]
 pub struct ScriptSide<K> {
     pub port: u16,
-    /// What it has to tell.
+    /// The event that waits, if any.
     pub came: Option<DataEvent<K>>,
 }
 
-/// How the reading of a file ends that the store refuses to go on with.
+/// The end of a transfer whose file the store cannot read on.
 fn end_of(fault: StoreFault) -> End
     ensures sent { IsSent result }
 {
@@ -39,7 +39,7 @@ fn end_of(fault: StoreFault) -> End
     }
 }
 
-/// Reads a file to its end, by a buffer.
+/// Reads a file to its end, through a buffer.
 fn drain<R: Source>(source: &mut R, buffer: &mut [u8]) -> End
     ensures sent { IsSent result }
 {

@@ -1,23 +1,71 @@
 -- Tables that the same document states have the same rates.
-use Rattle.std.proofs.Common.{◌≡◌, ℕ, ◌+◌, false, cond, List, [], ◌∷◌, Option, Some, None, option_map, Ok, refl, sym, ap, subst, ◌∙◌}
+use Rattle.std.proofs.Common.{◌≡◌, ℕ, ◌+◌, Bool, cond, List, [], ◌∷◌, Option, Some, None, option_map, Result, Ok, refl, sym, ap, subst, ◌∙◌}
 use Rattle.std.specs.Borrow.{Bor}
-use Rattle.std.specs.Option.{is_some}
 use Rattle.std.specs.Prelude.{bytes_eq, codes}
-use Rattle.toml.specs.Data.{Data, Items, no_items, item, Members, get_member}
-use Rattle.config_keys.specs.Keys.{Judged, held, as_line}
-use Rattle.config_keys.specs.declared.kind.Kind.TheVariants.{Line}
+use Rattle.toml.specs.Data.{Data, table, Items, no_items, item, Members, get_member}
+use Rattle.config_file.specs.declared.kind.Kind.{Kind}
+use Rattle.config_file.specs.declared.kind.Kind.TheVariants as kind
 use Rattle.config_rates.specs.Groups.{number_named, group_in}
 use Rattle.config_rates.specs.Rows.{numbered, group_row, user_row}
-use Rattle.config_tables.specs.Rows.{AreRows}
-use Rattle.config_tables.specs.Users.{IsGroup, IsUser, IsGroupOfUser}
-use Rattle.config_tables.specs.declared.stated.GroupTable.{GroupTable}
-use Rattle.config_tables.specs.declared.stated.UserTable.{UserTable}
+use Rattle.config_file.specs.Keys.{AllHeld, JudgesFound, KeyRow, needed, optional}
+use Rattle.config_file.specs.Lists.{AreRows}
+use Rattle.config_file.specs.TableKeys.{group_rows, group_values, rate_row, text_of, user_rows, user_values}
+use Rattle.config_file.specs.Values.{Held, nothing, number, text, text_if, Reads}
+use Rattle.config_file.specs.declared.stated.GroupTable.{GroupTable}
+use Rattle.config_file.specs.declared.stated.UserTable.{UserTable}
 use Rattle.line_rates.specs.declared.row.GroupRate.{GroupRate}
 use Rattle.line_rates.specs.declared.row.UserRate.{UserRate}
 
--- what is judged has one value
-pub one : {A : Type 0} {judged : Judged A} {x y : A} → judged ≡ Ok x → judged ≡ Ok y → x ≡ y
-one p q = cc
+-- ---- what is judged has one value
+
+-- keys that are read by a function of what is found
+abbrev IsPlain : Kind → Type 0
+IsPlain kind.Address = ⊥
+IsPlain kind.Password = ⊥
+IsPlain _ = Unit {0}
+
+ok_same : {A B : Type 0} {judged : Result A B} {x y : A} → Ok x ≡ judged → Ok y ≡ judged → x ≡ y
+ok_same p q = cc
+
+reads_once : (of : Kind) (found : Data) (x y : Held) → IsPlain of → Reads of found (Ok x) → Reads of found (Ok y) → x ≡ y
+reads_once kind.Text found x y is a b = ok_same a b
+reads_once kind.Line found x y is a b = ok_same a b
+reads_once kind.Password found x y is a b = absurd is
+reads_once kind.Flag found x y is a b = ok_same a b
+reads_once (kind.Number low high) found x y is a b = ok_same a b
+reads_once kind.Address found x y is a b = absurd is
+reads_once kind.Table found x y is a b = ok_same a b
+reads_once kind.Rows found x y is a b = ok_same a b
+
+pub found_once : (row : KeyRow) (found : Option Data) (x y : Held) → IsPlain row.kind → JudgesFound row found (Ok x) → JudgesFound row found (Ok y) → x ≡ y
+found_once row (Some found) x y is a b = reads_once row.kind found x y is a b
+found_once row None x y is a b = ok_same a b
+
+abbrev pub number_of : Held → ℕ
+number_of (number n) = n
+number_of _ = 0
+
+-- the number at a key
+pub numbers_once : (row : KeyRow) (found : Option Data) (m n : ℕ) → IsPlain row.kind → JudgesFound row found (Ok (number m)) → JudgesFound row found (Ok (number n)) → m ≡ n
+numbers_once row found m n is a b = ap number_of (found_once row found (number m) (number n) is a b)
+
+abbrev text_held : Held → List ℕ
+text_held (text s) = s
+text_held _ = []
+
+texts_once : (row : KeyRow) (found : Option Data) (s t : List ℕ) → IsPlain row.kind → JudgesFound row found (Ok (text s)) → JudgesFound row found (Ok (text t)) → s ≡ t
+texts_once row found s t is a b = ap text_held (found_once row found (text s) (text t) is a b)
+
+abbrev optional_held : Held → Option (List ℕ)
+optional_held (text s) = Some s
+optional_held _ = None
+
+held_if : (s : Option (List ℕ)) → optional_held (text_if s) ≡ s
+held_if None = refl
+held_if (Some s) = refl
+
+ifs_once : (row : KeyRow) (found : Option Data) (s t : Option (List ℕ)) → IsPlain row.kind → JudgesFound row found (Ok (text_if s)) → JudgesFound row found (Ok (text_if t)) → s ≡ t
+ifs_once row found s t is a b = sym (held_if s) ∙ ap optional_held (found_once row found (text_if s) (text_if t) is a b) ∙ held_if t
 
 -- rows of the same data, of which each two that the same members state are alike
 abbrev pub AreAlike : {R : Type 0} → (R → R → Type 0) → List R → List R → Type 0
@@ -25,15 +73,20 @@ AreAlike Alike [] [] = Unit {0}
 AreAlike Alike (x ∷ xs) (y ∷ ys) = Alike x y × AreAlike Alike xs ys
 AreAlike Alike _ _ = ⊥
 
-pub rows_alike : {R : Type 0} (States : Members → R → Type 0) (Alike : R → R → Type 0) → ((members : Members) (x y : R) → States members x → States members y → Alike x y)
-    → (known other : List (List ℕ)) (rows : Items) (xs ys : List R) → AreRows States known rows xs → AreRows States other rows ys → AreAlike Alike xs ys
-rows_alike States Alike each known other no_items [] [] a b = tt
-rows_alike States Alike each known other no_items [] (y ∷ ys) a b = absurd b
-rows_alike States Alike each known other no_items (x ∷ xs) ys a b = absurd a
-rows_alike States Alike each known other (item d rows) [] ys a b = absurd a
-rows_alike States Alike each known other (item d rows) (x ∷ xs) [] a b = absurd b
-rows_alike States Alike each known other (item d rows) (x ∷ xs) (y ∷ ys) a b =
-    (each a.0.0 x y a.0.3 (subst (λ (members : Members). States members y) (one b.0.1 a.0.1) b.0.3), rows_alike States Alike each known other rows xs ys a.1 b.1)
+members_of : {x y : Members} → table x ≡ table y → x ≡ y
+members_of e = cc
+
+pub rows_alike : {R : Type 0} (keys : List KeyRow) (Values : R → List Held) (Alike : R → R → Type 0)
+    → ((members : Members) (x y : R) → AllHeld keys members (Values x) → AllHeld keys members (Values y) → Alike x y)
+    → (first second : Bool) (rows : Items) (xs ys : List R) → AreRows first keys Values rows xs → AreRows second keys Values rows ys → AreAlike Alike xs ys
+rows_alike keys Values Alike each first second no_items [] [] a b = tt
+rows_alike keys Values Alike each first second no_items [] (y ∷ ys) a b = absurd b
+rows_alike keys Values Alike each first second no_items (x ∷ xs) ys a b = absurd a
+rows_alike keys Values Alike each first second (item d rows) [] ys a b = absurd a
+rows_alike keys Values Alike each first second (item d rows) (x ∷ xs) [] a b = absurd b
+rows_alike keys Values Alike each first second (item d rows) (x ∷ xs) (y ∷ ys) a b =
+    let same : b.0.0 ≡ a.0.0 = members_of (sym b.0.1 ∙ a.0.1) in
+    (each a.0.0 x y a.0.2.1 (subst (λ (members : Members). AllHeld keys members (Values y)) same b.0.2.1), rows_alike keys Values Alike each first second rows xs ys a.1 b.1)
 
 -- ---- groups
 
@@ -42,8 +95,12 @@ pub record GroupsAlike (x y : GroupTable) : Type 0 where
   down : x.down_rate ≡ y.down_rate
   up : x.up_rate ≡ y.up_rate
 
-pub groups_alike : (members : Members) (x y : GroupTable) → IsGroup members x → IsGroup members y → GroupsAlike x y
-groups_alike members x y a b = record { name = one a.name b.name; down = one a.down_rate b.down_rate; up = one a.up_rate b.up_rate }
+pub groups_alike : (members : Members) (x y : GroupTable) → AllHeld group_rows members (group_values x) → AllHeld group_rows members (group_values y) → GroupsAlike x y
+groups_alike members x y a b = record {
+  name = texts_once (needed (codes "name") kind.Line) (get_member (codes "name") members) x.name.now y.name.now tt a.0 b.0;
+  down = numbers_once (rate_row (codes "down_rate")) (get_member (codes "down_rate") members) x.down_rate y.down_rate tt a.1.0 b.1.0;
+  up = numbers_once (rate_row (codes "up_rate")) (get_member (codes "up_rate") members) x.up_rate y.up_rate tt a.1.1.0 b.1.1.0;
+}
 
 row_same : (k : ℕ) (x y : GroupTable) → GroupsAlike x y → group_row k x ≡ group_row k y
 row_same k x y a =
@@ -67,12 +124,8 @@ numbers_same name (x ∷ xs) (y ∷ ys) are =
 
 -- ---- users
 
-abbrev pub name_of : Option (Bor (List ℕ)) → Option (List ℕ)
-name_of None = None
-name_of (Some name) = Some name.now
-
 pub record UsersAlike (x y : UserTable) : Type 0 where
-  group : name_of x.group ≡ name_of y.group
+  group : text_of x.group ≡ text_of y.group
   down : x.down_rate ≡ y.down_rate
   up : x.up_rate ≡ y.up_rate
   session_down : x.session_down_rate ≡ y.session_down_rate
@@ -80,32 +133,22 @@ pub record UsersAlike (x y : UserTable) : Type 0 where
   session_down_floor : x.session_down_floor ≡ y.session_down_floor
   session_up_floor : x.session_up_floor ≡ y.session_up_floor
 
-not_stated : (found : Option Data) (text : List ℕ) → held Line None as_line found ≡ Ok text → is_some found ≡ false → ⊥
-not_stated None text is not_there = absurd (cc)
-not_stated (Some d) text is not_there = absurd (cc)
-
-group_same : (members : Members) (x y : Option (Bor (List ℕ))) → IsGroupOfUser members x → IsGroupOfUser members y → name_of x ≡ name_of y
-group_same members None None a b = refl
-group_same members None (Some name) a b = absurd (not_stated (get_member (codes "group") members) name.now b a)
-group_same members (Some name) None a b = absurd (not_stated (get_member (codes "group") members) name.now a b)
-group_same members (Some name) (Some other) a b = ap Some (one a b)
-
-pub users_alike : (members : Members) (x y : UserTable) → IsUser members x → IsUser members y → UsersAlike x y
+pub users_alike : (members : Members) (x y : UserTable) → AllHeld user_rows members (user_values x) → AllHeld user_rows members (user_values y) → UsersAlike x y
 users_alike members x y a b = record {
-  group = group_same members x.group y.group a.group b.group;
-  down = one a.down_rate b.down_rate;
-  up = one a.up_rate b.up_rate;
-  session_down = one a.session_down_rate b.session_down_rate;
-  session_up = one a.session_up_rate b.session_up_rate;
-  session_down_floor = one a.session_down_floor b.session_down_floor;
-  session_up_floor = one a.session_up_floor b.session_up_floor;
+  group = ifs_once (optional (codes "group") kind.Line nothing) (get_member (codes "group") members) (text_of x.group) (text_of y.group) tt a.1.1.1.1.1.1.1.1.1.1.1.1.0 b.1.1.1.1.1.1.1.1.1.1.1.1.0;
+  down = numbers_once (rate_row (codes "down_rate")) (get_member (codes "down_rate") members) x.down_rate y.down_rate tt a.1.1.1.1.0 b.1.1.1.1.0;
+  up = numbers_once (rate_row (codes "up_rate")) (get_member (codes "up_rate") members) x.up_rate y.up_rate tt a.1.1.1.1.1.0 b.1.1.1.1.1.0;
+  session_down = numbers_once (rate_row (codes "session_down_rate")) (get_member (codes "session_down_rate") members) x.session_down_rate y.session_down_rate tt a.1.1.1.1.1.1.0 b.1.1.1.1.1.1.0;
+  session_up = numbers_once (rate_row (codes "session_up_rate")) (get_member (codes "session_up_rate") members) x.session_up_rate y.session_up_rate tt a.1.1.1.1.1.1.1.0 b.1.1.1.1.1.1.1.0;
+  session_down_floor = numbers_once (rate_row (codes "session_down_floor")) (get_member (codes "session_down_floor") members) x.session_down_floor y.session_down_floor tt a.1.1.1.1.1.1.1.1.0 b.1.1.1.1.1.1.1.1.0;
+  session_up_floor = numbers_once (rate_row (codes "session_up_floor")) (get_member (codes "session_up_floor") members) x.session_up_floor y.session_up_floor tt a.1.1.1.1.1.1.1.1.1.0 b.1.1.1.1.1.1.1.1.1.0;
 }
 
 abbrev named_in : List GroupTable → Option (List ℕ) → Option ℕ
 named_in groups None = None
 named_in groups (Some name) = number_named groups name
 
-in_named : (groups : List GroupTable) (group : Option (Bor (List ℕ))) → group_in groups group ≡ named_in groups (name_of group)
+in_named : (groups : List GroupTable) (group : Option (Bor (List ℕ))) → group_in groups group ≡ named_in groups (text_of group)
 in_named groups None = refl
 in_named groups (Some name) = refl
 
@@ -115,7 +158,7 @@ named_same xs ys (Some name) more = numbers_same name xs ys more
 
 groups_in_same : (xs ys : List GroupTable) (x y : UserTable) → AreAlike GroupsAlike xs ys → UsersAlike x y → group_in xs x.group ≡ group_in ys y.group
 groups_in_same xs ys x y groups a =
-    in_named xs x.group ∙ ap (named_in xs) a.group ∙ named_same xs ys (name_of y.group) groups ∙ sym (in_named ys y.group)
+    in_named xs x.group ∙ ap (named_in xs) a.group ∙ named_same xs ys (text_of y.group) groups ∙ sym (in_named ys y.group)
 
 abbrev made : ℕ → Option ℕ → ℕ → ℕ → ℕ → ℕ → ℕ → ℕ → UserRate
 made k group down up session_down session_up down_floor up_floor = record { user = k; group = group; down = down; up = up; session_down = session_down; session_up = session_up; session_down_floor = down_floor; session_up_floor = up_floor }

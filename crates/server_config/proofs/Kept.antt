@@ -1,5 +1,5 @@
 -- The same configuration is that of a document and of the same with version 2.
-use Rattle.std.proofs.Common.{◌≡◌, ◌≤◌, ℕ, pos, Bool, true, false, ◌||◌, cond, List, [], ◌∷◌, Option, Some, None, Result, Ok, Err, IfErr, IfOk, String, Global, string_bytes, length, if◌then◌else◌, inr, refl, sym, ap, subst, ◌∙◌}
+use Rattle.std.proofs.Common.{◌≡◌, ◌≤◌, ℕ, pos, Bool, true, false, not, ◌||◌, cond, List, [], ◌∷◌, Option, Some, None, Result, Ok, Err, IfErr, IfOk, String, Global, string_bytes, length, if◌then◌else◌, inr, refl, sym, ap, subst, ◌∙◌}
 use Rattle.std.specs.Option.{is_some}
 use Rattle.std.proofs.lemmas.Map.Text.{is_eq-slice_cmp}
 use Rattle.std.proofs.lemmas.Slice.Eq.{bytes_eq-Decides}
@@ -10,15 +10,19 @@ use Rattle.std.specs.declared.cmp.Ordering.{Ordering}
 use Rattle.std.specs.declared.cmp.Ordering.TheVariants.{Less, Equal, Greater}
 use Rattle.std.specs.Prelude.{bytes_eq, codes}
 use Rattle.toml.specs.Data.{Data, integer, Items, no_items, item, Members, no_members, member, get_member}
+use Rattle.toml.specs.View.{items_view}
 use Rattle.toml.specs.Parse.{parse_document}
 use Rattle.toml.specs.Text.{IsDocumentText}
-use Rattle.config_keys.specs.Keys.{held, as_inner, as_rows, first_stray, is_among, keys_in, stray}
-use Rattle.config_keys.specs.declared.kind.Kind.TheVariants.{Table, Rows}
-use Rattle.config_tables.specs.Rows.{AreRows}
-use Rattle.config_tables.specs.Tables.{IsTables, is_grouped, plain_top_keys, top_keys}
-use Rattle.config_tables.specs.Users.{IsUser, plain_user_keys, user_keys}
-use Rattle.config_tables.specs.declared.stated.UserTable.{UserTable}
-use Rattle.config_tables.specs.declared.tables.Tables.{Tables}
+use Rattle.config_file.specs.Keys.{JudgesFound, KeyRow, first_stray, is_among, is_known, keys_in, keys_of, stray}
+use Rattle.config_file.specs.Lists.{AreRows}
+use Rattle.config_file.specs.TableKeys.{list_row, user_rows, user_values}
+use Rattle.config_file.specs.Tables.{IsTables, is_grouped, top_rows}
+use Rattle.config_file.specs.Keys.{needed}
+use Rattle.config_file.specs.Values.{Held, number}
+use Rattle.config_file.specs.declared.keys.TheConstants.{LATEST_VERSION}
+use Rattle.config_file.specs.declared.kind.Kind.TheVariants.{Number, Table}
+use Rattle.config_file.specs.declared.stated.UserTable.{UserTable}
+use Rattle.config_file.specs.declared.tables.Tables.{Tables}
 use Rattle.server_config.specs.Configs.{IsMadeOf, IsConfig, IsConfigText}
 use Rattle.server_config.specs.Migrated.{IsMigrated, IsUnmigrated, IsUnprinted, IsVersioned}
 use Rattle.server_config.specs.declared.config.Config.{Config}
@@ -85,38 +89,49 @@ or_later : (a b : Bool) → b ≡ true → (a || b) ≡ true
 or_later true b is = refl
 or_later false b is = is
 
-top_more : (grouped : Bool) (k : List ℕ) → is_among (top_keys grouped) k ≡ true → is_among (top_keys true) k ≡ true
-top_more true k is = is
-top_more false k is = or_later (bytes_eq (codes "group") k) (is_among plain_top_keys k) is
+or_true : (a : Bool) → (a || true) ≡ true
+or_true true = refl
+or_true false = refl
 
-user_more : (grouped : Bool) (k : List ℕ) → is_among (user_keys grouped) k ≡ true → is_among (user_keys true) k ≡ true
-user_more true k is = is
-user_more false k is = or_later (bytes_eq (codes "group") k) (is_among plain_user_keys k) is
+-- what a file without groups knows, one with groups does
+more_known : (grouped : Bool) (rows : List KeyRow) (k : List ℕ) → is_among (keys_of grouped rows) k ≡ true → is_among (keys_of true rows) k ≡ true
+more_known grouped [] k is = cc
+more_known grouped (row ∷ rows) k is = go (is_known grouped row.key) is (more_known grouped rows k)
+  where
+    go : (known : Bool) → is_among (if known then row.key ∷ keys_of grouped rows else keys_of grouped rows) k ≡ true
+        → (is_among (keys_of grouped rows) k ≡ true → is_among (keys_of true rows) k ≡ true) → is_among (keys_of true (row ∷ rows)) k ≡ true
+    go true any rec = rw (or_true (not (bytes_eq row.key (codes "group")))) (first (bytes_eq row.key k) any rec)
+      where
+        first : (same : Bool) → (same || is_among (keys_of grouped rows) k) ≡ true → (is_among (keys_of grouped rows) k ≡ true → is_among (keys_of true rows) k ≡ true)
+            → (same || is_among (keys_of true rows) k) ≡ true
+        first true any rec = refl
+        first false any rec = rec any
+    go false any rec = rw (or_true (not (bytes_eq row.key (codes "group")))) (or_later (bytes_eq row.key k) (is_among (keys_of true rows) k) (rec any))
 
 -- the keys at the top
-version_known : (k : List ℕ) → bytes_eq (codes "version") k ≡ true → is_among (top_keys true) k ≡ true
+version_known : (k : List ℕ) → bytes_eq (codes "version") k ≡ true → is_among (keys_of true top_rows) k ≡ true
 version_known k is =
     let one : codes "version" ≡ k = (bytes_eq-Decides (codes "version") k).0 is in
-    subst (λ (x : List ℕ). is_among (top_keys true) x ≡ true) one refl
+    subst (λ (x : List ℕ). is_among (keys_of true top_rows) x ≡ true) one refl
 
-top_known : (old new : Members) (grouped : Bool) → IsVersioned old new → stray (top_keys grouped) old ≡ None → stray (top_keys true) new ≡ None
-top_known old new grouped versioned none = none_strays (top_keys true) (keys_in new) (λ k is. known k (has_value k new is))
+top_known : (old new : Members) (grouped : Bool) → IsVersioned old new → stray (keys_of grouped top_rows) old ≡ None → stray (keys_of true top_rows) new ≡ None
+top_known old new grouped versioned none = none_strays (keys_of true top_rows) (keys_in new) (λ k is. known k (has_value k new is))
   where
-    known : (k : List ℕ) → is_some (get_member k new) ≡ true → is_among (top_keys true) k ≡ true
+    known : (k : List ℕ) → is_some (get_member k new) ≡ true → is_among (keys_of true top_rows) k ≡ true
     known k found = go (bytes_eq (codes "version") k) refl (ap is_some (versioned k))
       where
         go : (b : Bool) → bytes_eq (codes "version") k ≡ b
-            → is_some (get_member k new) ≡ is_some (cond b (Some (integer (pos 2))) (get_member k old)) → is_among (top_keys true) k ≡ true
+            → is_some (get_member k new) ≡ is_some (cond b (Some (integer (pos 2))) (get_member k old)) → is_among (keys_of true top_rows) k ≡ true
         go true is same = version_known k is
-        go false is same = top_more grouped k (known_of (top_keys grouped) (keys_in old) k none (stands k old (sym same ∙ found)))
+        go false is same = more_known grouped top_rows k (known_of (keys_of grouped top_rows) (keys_in old) k none (stands k old (sym same ∙ found)))
 
 -- the rows of users
-users_known : (grouped : Bool) (rows : Items) (users : List UserTable) → AreRows IsUser (user_keys grouped) rows users → AreRows IsUser (user_keys true) rows users
+users_known : (grouped : Bool) (rows : Items) (users : List UserTable) → AreRows grouped user_rows user_values rows users → AreRows true user_rows user_values rows users
 users_known grouped no_items [] are = tt
 users_known grouped no_items (user ∷ users) are = absurd are
 users_known grouped (item d rows) [] are = absurd are
 users_known grouped (item d rows) (user ∷ users) are = (
-  (are.0.0, are.0.1, none_strays (user_keys true) (keys_in are.0.0) (λ k is. user_more grouped k (known_of (user_keys grouped) (keys_in are.0.0) k are.0.2 is)), are.0.3),
+  (are.0.0, are.0.1, (none_strays (keys_of true user_rows) (keys_in are.0.0) (λ k is. more_known grouped user_rows k (known_of (keys_of grouped user_rows) (keys_in are.0.0) k are.0.2.0 is)), are.0.2.1)),
   users_known grouped rows users are.1,
 )
 
@@ -128,22 +143,51 @@ version_of old new versioned = versioned (codes "version")
 has_groups : (old new : Members) → IsVersioned old new → is_grouped new ≡ true
 has_groups old new versioned = rw (version_of old new versioned) refl
 
+-- what stands at another key stays
+kept_at : (row : KeyRow) (old new : Option Data) (held : Held) → new ≡ old → JudgesFound row old (Ok held) → JudgesFound row new (Ok held)
+kept_at row old new held same is = subst (λ found. JudgesFound row found (Ok held)) (sym same) is
+
+abbrev version_row : KeyRow
+version_row = needed (codes "version") (Number 1 LATEST_VERSION)
+
+second_version : (found : Option Data) → found ≡ Some (integer (pos 2)) → JudgesFound version_row found (Ok (number 2))
+second_version found is = rw is refl
+
 pub tables_kept : (old new : Members) (tables : Tables) → IsVersioned old new → IsTables old tables → IsTables new (record tables { version = 2 })
 tables_kept old new tables versioned is =
     let grouped : is_grouped new ≡ true = has_groups old new versioned in
     record {
-      known = subst (λ (b : Bool). stray (top_keys b) new ≡ None) (sym grouped) (top_known old new (is_grouped old) versioned is.known);
-      version = rw (version_of old new versioned) refl;
-      server = (is.server.0, ap (held Table None as_inner) (versioned (codes "server")) ∙ is.server.1, is.server.2);
-      groups = (is.groups.0, ap (held Rows (Some no_items) as_rows) (versioned (codes "group")) ∙ is.groups.1, is.groups.2);
-      users = (
-        is.users.0,
-        ap (held Rows (Some no_items) as_rows) (versioned (codes "user")) ∙ is.users.1,
-        subst (λ (b : Bool). AreRows IsUser (user_keys b) is.users.0 tables.users.items) (sym grouped) (users_known (is_grouped old) is.users.0 tables.users.items is.users.2),
+      top = record is.top { version = 2 };
+      stated = (
+        subst (λ (b : Bool). stray (keys_of b top_rows) new ≡ None) (sym grouped) (top_known old new (is_grouped old) versioned is.stated.0),
+        (
+          second_version (get_member (codes "version") new) (version_of old new versioned),
+          (
+            kept_at (needed (codes "server") Table) _ _ _ (versioned (codes "server")) is.stated.1.1.0,
+            (
+              kept_at (list_row (codes "group")) _ _ _ (versioned (codes "group")) is.stated.1.1.1.0,
+              (
+                kept_at (list_row (codes "user")) _ _ _ (versioned (codes "user")) is.stated.1.1.1.1.0,
+                (
+                  kept_at (list_row (codes "dir")) _ _ _ (versioned (codes "dir")) is.stated.1.1.1.1.1.0,
+                  (
+                    kept_at (list_row (codes "file")) _ _ _ (versioned (codes "file")) is.stated.1.1.1.1.1.1.0,
+                    tt,
+                  ),
+                ),
+              ),
+            ),
+          ),
+        ),
       );
+      version = refl;
+      server = is.server;
+      groups = is.groups;
+      users = subst (λ (b : Bool). AreRows b user_rows user_values (items_view is.top.users.now) tables.users.items) (sym grouped)
+          (users_known (is_grouped old) (items_view is.top.users.now) tables.users.items is.users);
       overrides = is.overrides;
-      dirs = (is.dirs.0, ap (held Rows (Some no_items) as_rows) (versioned (codes "dir")) ∙ is.dirs.1, is.dirs.2);
-      files = (is.files.0, ap (held Rows (Some no_items) as_rows) (versioned (codes "file")) ∙ is.files.1, is.files.2);
+      dirs = is.dirs;
+      files = is.files;
     }
 
 made_kept : (tables : Tables) (config : Config) → IsMadeOf tables config → IsMadeOf (record tables { version = 2 }) config

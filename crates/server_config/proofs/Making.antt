@@ -6,11 +6,11 @@ use Rattle.line_rates.specs.declared.row.GroupRate.{GroupRate}
 use Rattle.line_rates.specs.declared.row.UserRate.{UserRate}
 use Rattle.toml.specs.Data.{Members}
 use Rattle.config_rates.specs.Rows.{group_rows, user_rows, rates_of}
-use Rattle.config_server.specs.declared.stated.ServerTable.{ServerTable}
-use Rattle.config_tables.specs.Tables.{IsTables}
-use Rattle.config_tables.specs.declared.stated.GroupTable.{GroupTable}
-use Rattle.config_tables.specs.declared.stated.UserTable.{UserTable}
-use Rattle.config_tables.specs.declared.tables.Tables.{Tables}
+use Rattle.config_file.specs.declared.stated.ServerTable.{ServerTable}
+use Rattle.config_file.specs.Tables.{IsTables}
+use Rattle.config_file.specs.declared.stated.GroupTable.{GroupTable}
+use Rattle.config_file.specs.declared.stated.UserTable.{UserTable}
+use Rattle.config_file.specs.declared.tables.Tables.{Tables}
 use Rattle.server_config.specs.Configs.{IsMadeOf, IsConfig}
 use Rattle.server_config.specs.declared.config.Config.{Config}
 use Rattle.server_config.specs.declared.fault.ConfigFault.{ConfigFault}

@@ -1,10 +1,10 @@
 -- The numbers of users are their places in the file.
-use Rattle.std.proofs.Common.{◌≡◌, ℕ, zero, suc, ◌+◌, Bool, true, false, cond, List, [], ◌∷◌, Option, Some, None, Result, Ok, Err, Vec, Global, is_some, slice_get, refl, sym, ap, subst, ◌∙◌, arith}
+use Rattle.std.proofs.Common.{◌≡◌, ℕ, zero, suc, ◌+◌, Bool, true, false, cond, List, [], ◌∷◌, Option, Some, Result, Ok, Err, Vec, Global, is_some, slice_get, refl, sym, ap, subst, ◌∙◌, arith}
 use Rattle.std.specs.Cmp.Lexicographic.{slice_cmp}
 use Rattle.std.specs.FinMap as finite
 use Rattle.std.specs.FinMap.{get-insert}
 use Rattle.std.specs.Ordering.{eq_by_cmp, nat_cmp}
-use Rattle.std.specs.Prelude.{bytes_eq, nat_eq}
+use Rattle.std.specs.Prelude.{nat_eq}
 use Rattle.std.proofs.lemmas.Bool.{eq-eqb}
 use Rattle.std.proofs.lemmas.Cmp.{nat_list_cmp_total}
 use Rattle.std.proofs.lemmas.Grind.{common_steps}
@@ -19,12 +19,11 @@ use Rattle.authorizer.proofs.Maps.{equal_keys}
 use Rattle.authorizer.proofs.Outcomes.{IsAdded, is-added, IsChanged, is-changed, is-overridden}
 use Rattle.config_rates.specs.Groups.{group_in}
 use Rattle.config_rates.specs.Rows.{numbered, user_row, user_rows}
-use Rattle.config_tables.specs.declared.stated.GroupTable.{GroupTable}
-use Rattle.config_tables.specs.declared.stated.OverrideTable.{OverrideTable}
-use Rattle.config_tables.specs.declared.stated.UserTable.{UserTable}
-use Rattle.config_users.specs.Added.{AddsAccount, AddsRule, AddsRules, AddsUser, AddsUsers}
+use Rattle.config_file.specs.declared.stated.GroupTable.{GroupTable}
+use Rattle.config_file.specs.declared.stated.OverrideTable.{OverrideTable}
+use Rattle.config_file.specs.declared.stated.UserTable.{UserTable}
+use Rattle.config_users.specs.Added.{AddsAccount, AddsRules, AddsUser, AddsUsers}
 use Rattle.line_rates.specs.Stated.{user_number}
-use Rattle.line_rates.specs.declared.row.UserRate.{UserRate}
 use Rattle.line_rates.proofs.RowLemmas.{first_row, get-by_number}
 use Rattle.server_config.specs.Numbers.{HasNumber, NumbersAgree}
 

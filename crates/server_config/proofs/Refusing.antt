@@ -1,34 +1,83 @@
 -- What refuses a configuration: seen from its tables, from its document, and from its text.
-use Rattle.std.proofs.Common.{◌≡◌, ℕ, List, Some, Result, Ok, Err, IfErr, refl, subst, inl, inr}
+use Rattle.std.proofs.Common.{◌≡◌, ℕ, List, Vec, Global, Some, Result, Ok, Err, IfErr, refl, sym, subst, inl, inr}
 use Rattle.authorizer.specs.Numbers.{no_users}
 use Rattle.authorizer.specs.Users.{Accounts}
 use Rattle.toml.specs.Data.{Members}
 use Rattle.toml.specs.Parse.{parse_document}
-use Rattle.config_rates.specs.Groups.{AreApart, AreGrouped}
-use Rattle.config_store.specs.Made.{IsStoreProblem, Tells}
-use Rattle.config_store.specs.declared.fault.StoreFaultAt.{StoreFaultAt}
-use Rattle.config_tables.specs.Tables.{IsTables}
-use Rattle.config_tables.specs.declared.stated.DirTable.{DirTable}
-use Rattle.config_tables.specs.declared.stated.FileTable.{FileTable}
-use Rattle.config_tables.specs.declared.tables.Tables.{Tables}
-use Rattle.config_users.specs.Added.{AddsUsers}
-use Rattle.server_config.specs.Refused.{IsFaultOf, IsFaultOfTables, IsFaultOfText, TellsStore}
+use Rattle.authorizer.specs.declared.fault.AuthorizerFault.{AuthorizerFault}
+use Rattle.config_rates.specs.Groups.{AreApart, AreGrouped, IsFault, IsProblem}
+use Rattle.config_rates.specs.declared.fault.GroupProblem.{GroupProblem}
+use Rattle.config_store.specs.Made.{IsStoreProblem}
+use Rattle.config_store.specs.declared.fault.StoreProblem.{StoreProblem}
+use Rattle.config_file.specs.Refused.{IsFirstFault, Tells as Tells_table}
+use Rattle.config_file.specs.declared.fault.Fault.{Fault}
+use Rattle.config_file.specs.declared.fault.KeyFault.{KeyFault}
+use Rattle.config_file.specs.Lists.{FaultIs, Place}
+use Rattle.config_file.specs.Tables.{IsTables}
+use Rattle.config_file.specs.declared.stated.DirTable.{DirTable}
+use Rattle.config_file.specs.declared.stated.FileTable.{FileTable}
+use Rattle.config_file.specs.declared.stated.GroupTable.{GroupTable}
+use Rattle.config_file.specs.declared.stated.OverrideTable.{OverrideTable}
+use Rattle.config_file.specs.declared.stated.UserTable.{UserTable}
+use Rattle.config_file.specs.declared.tables.Tables.{Tables}
+use Rattle.config_users.specs.Added.{AddsUsers, IsFirstRefusal}
+use Rattle.server_config.specs.Refused.{IsAt, IsFaultOf, IsFaultOfTables, IsFaultOfText, TellsGroup, TellsKey, TellsStore, TellsUser, owned_place}
 use Rattle.server_config.specs.declared.config.Config.{Config}
 use Rattle.server_config.specs.declared.fault.ConfigFault.{ConfigFault}
+use Rattle.server_config.specs.declared.fault.OwnedHeader.{OwnedHeader}
 use Rattle.server_config.specs.declared.fault.ConfigFault.TheVariants.{NotToml, Key, BadGroup, BadUser, BadStore, BadDate, TooDeep, TooLong, Memory}
-use Rattle.server_config.proofs.Making.{moved}
+use Rattle.server_config.proofs.Making.{moved, moved_all}
 
--- what is served is refused, where groups and users are not
-pub store_refused : (tables : Tables) (ds : List DirTable) (fs : List FileTable) (users : Accounts) (fault : StoreFaultAt) (answer : ConfigFault)
+-- what is true of a fault is true of its table
+at_place : {P : Type 0} (Is : Place → P → Type 0) (fault : Fault P) (header : OwnedHeader) (problem : P) → FaultIs Is fault → IsAt fault header problem → Is (owned_place header) problem
+at_place Is fault header problem is at = subst (λ place. Is place problem) (sym at.same) (subst (FaultIs Is) at.is is)
+
+-- groups are refused
+pub groups_refused : (tables : Tables) (gs : List GroupTable) (us : List UserTable) (fault : Fault GroupProblem) (answer : ConfigFault)
+    → gs ≡ tables.groups.items → us ≡ tables.users.items → IsFault gs us fault → TellsGroup fault answer → IsFaultOfTables tables answer
+groups_refused tables gs us fault (BadGroup header problem) same_groups same_users refused told =
+    moved (λ (g : List GroupTable) (u : List UserTable). IsProblem g u (owned_place header) problem) gs tables.groups.items us tables.users.items
+    same_groups same_users (at_place (IsProblem gs us) fault header problem refused told)
+groups_refused tables gs us fault (NotToml line error) same_groups same_users refused told = absurd told
+groups_refused tables gs us fault (Key header key problem) same_groups same_users refused told = absurd told
+groups_refused tables gs us fault (BadUser header problem) same_groups same_users refused told = absurd told
+groups_refused tables gs us fault (BadStore header problem) same_groups same_users refused told = absurd told
+groups_refused tables gs us fault BadDate same_groups same_users refused told = absurd told
+groups_refused tables gs us fault TooDeep same_groups same_users refused told = absurd told
+groups_refused tables gs us fault TooLong same_groups same_users refused told = absurd told
+groups_refused tables gs us fault Memory same_groups same_users refused told = tt
+
+-- a user is refused, and groups are not
+pub users_refused : (tables : Tables) (gs : List GroupTable) (us : List UserTable) (os : List (Vec OverrideTable Global)) (fault : Fault AuthorizerFault) (answer : ConfigFault)
+    → gs ≡ tables.groups.items → us ≡ tables.users.items → os ≡ tables.overrides.items → AreApart gs → AreGrouped gs us
+    → FaultIs (IsFirstRefusal gs us os) fault → TellsUser fault answer → IsFaultOfTables tables answer
+users_refused tables gs us os fault (BadUser header problem) same_groups same_users same_rules apart grouped refused told = (
+  subst (λ (g : List GroupTable). AreApart g) same_groups apart,
+  moved (λ (g : List GroupTable) (u : List UserTable). AreGrouped g u) gs tables.groups.items us tables.users.items same_groups same_users grouped,
+  moved_all (λ (g : List GroupTable) (u : List UserTable) (o : List (Vec OverrideTable Global)). IsFirstRefusal g u o (owned_place header) problem)
+      gs tables.groups.items us tables.users.items os tables.overrides.items same_groups same_users same_rules
+      (at_place (IsFirstRefusal gs us os) fault header problem refused told),
+)
+users_refused tables gs us os fault (NotToml line error) same_groups same_users same_rules apart grouped refused told = absurd told
+users_refused tables gs us os fault (Key header key problem) same_groups same_users same_rules apart grouped refused told = absurd told
+users_refused tables gs us os fault (BadGroup header problem) same_groups same_users same_rules apart grouped refused told = absurd told
+users_refused tables gs us os fault (BadStore header problem) same_groups same_users same_rules apart grouped refused told = absurd told
+users_refused tables gs us os fault BadDate same_groups same_users same_rules apart grouped refused told = absurd told
+users_refused tables gs us os fault TooDeep same_groups same_users same_rules apart grouped refused told = absurd told
+users_refused tables gs us os fault TooLong same_groups same_users same_rules apart grouped refused told = absurd told
+users_refused tables gs us os fault Memory same_groups same_users same_rules apart grouped refused told = tt
+
+-- what is served is refused, and groups and users are not
+pub store_refused : (tables : Tables) (ds : List DirTable) (fs : List FileTable) (users : Accounts) (fault : Fault StoreProblem) (answer : ConfigFault)
     → ds ≡ tables.dirs.items → fs ≡ tables.files.items → AreApart tables.groups.items → AreGrouped tables.groups.items tables.users.items
     → AddsUsers tables.groups.items tables.users.items tables.overrides.items no_users users
-    → Tells (IsStoreProblem tables.server ds fs) fault → TellsStore fault answer → IsFaultOfTables tables answer
+    → FaultIs (IsStoreProblem tables.server ds fs) fault → TellsStore fault answer → IsFaultOfTables tables answer
 store_refused tables ds fs users fault (BadStore header problem) same_dirs same_files apart grouped adds refused told = (
   apart,
   grouped,
   (users, adds),
-  moved (λ (d : List DirTable) (f : List FileTable). IsStoreProblem tables.server d f problem) ds tables.dirs.items fs tables.files.items
-      same_dirs same_files (subst (Tells (IsStoreProblem tables.server ds fs)) told.1 refused),
+  moved (λ (d : List DirTable) (f : List FileTable). IsStoreProblem tables.server d f (owned_place header) problem) ds tables.dirs.items fs tables.files.items
+      same_dirs same_files (at_place (IsStoreProblem tables.server ds fs) fault header problem refused told),
 )
 store_refused tables ds fs users fault (NotToml line error) same_dirs same_files apart grouped adds refused told = absurd told
 store_refused tables ds fs users fault (Key header key problem) same_dirs same_files apart grouped adds refused told = absurd told
@@ -69,3 +118,17 @@ pub text_refused : (octets : List ℕ) (document : Members) (answer : Result Con
     → IfErr answer (IsFaultOf document) → IfErr answer (IsFaultOfText octets)
 text_refused octets document (Ok config) parsed is = tt
 text_refused octets document (Err fault) parsed is = document_refused octets document fault parsed is
+
+-- the first fault of a document is told
+pub key_refused : (document : Members) (fault : Fault KeyFault) (answer : ConfigFault) → Tells_table (IsFirstFault document) fault → TellsKey fault answer → IsFaultOf document answer
+key_refused document fault (Key header key problem) first told =
+    let here = subst (Tells_table (IsFirstFault document)) told.2 first in
+    rw (told.3.0, told.3.1, told.3.2) here
+key_refused document fault (NotToml line error) first told = absurd told
+key_refused document fault (BadGroup header problem) first told = absurd told
+key_refused document fault (BadUser header problem) first told = absurd told
+key_refused document fault (BadStore header problem) first told = absurd told
+key_refused document fault BadDate first told = absurd told
+key_refused document fault TooDeep first told = absurd told
+key_refused document fault TooLong first told = absurd told
+key_refused document fault Memory first told = inl refl

@@ -1,4 +1,4 @@
--- What a configuration is: what its text states, key by key, and what is made of that.
+-- A configuration: the tables that its text states, key by key, and the values that are made of them.
 use Rattle.std.specs.Prelude.{◌≡◌, ◌≤◌, ℕ, List, Some}
 use Rattle.std.specs.List.{AllByRecursion}
 use Rattle.toml.specs.Data.{Members}
@@ -7,13 +7,13 @@ use Rattle.authorizer.specs.Numbers.{no_users}
 use Rattle.config_rates.specs.Groups.{AreApart, HasGroup}
 use Rattle.config_rates.specs.Rows.{rates_of}
 use Rattle.config_store.specs.Made.{IsStoreOf}
-use Rattle.config_tables.specs.Tables.{IsTables}
-use Rattle.config_tables.specs.declared.tables.Tables.{Tables}
+use Rattle.config_file.specs.Tables.{IsTables}
+use Rattle.config_file.specs.declared.tables.Tables.{Tables}
 use Rattle.config_users.specs.Added.{AddsUsers}
 use Rattle.server_config.specs.Settings.{AreSettings, AreNumbers}
 use Rattle.server_config.specs.declared.config.Config.{Config}
 
--- what the tables of a file make
+-- the configuration that the tables of a file make
 pub record IsMadeOf (tables : Tables) (config : Config) : Type 0 where
   pub settings : AreSettings tables.server config.settings
   pub numbers : AreNumbers tables.server config.numbers

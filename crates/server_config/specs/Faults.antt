@@ -1,7 +1,7 @@
 -- The names of faults.
 use Rattle.std.specs.Prelude.{ℕ, List, codes}
-use Rattle.config_keys.specs.declared.fault.Problem.{Problem}
-use Rattle.config_keys.specs.declared.fault.Problem.TheVariants.{Unknown, Missing, WrongKind, OutOfRange}
+use Rattle.config_file.specs.declared.fault.Problem.{Problem}
+use Rattle.config_file.specs.declared.fault.Problem.TheVariants.{Unknown, Missing, WrongKind, OutOfRange}
 use Rattle.server_config.specs.declared.fault.ConfigFault.{ConfigFault}
 use Rattle.server_config.specs.declared.fault.ConfigFault.TheVariants.{NotToml, Key, BadGroup, BadUser, BadStore, BadDate, TooDeep, TooLong, Memory}
 

@@ -1,6 +1,5 @@
 pub mod Configs
 pub mod Faults
-pub mod Known
 pub mod Migrated
 pub mod Numbers
 pub mod Refused

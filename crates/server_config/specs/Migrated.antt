@@ -8,8 +8,8 @@ use Rattle.toml.specs.Data.{Members, integer, get_member, members_depth, members
 use Rattle.toml.specs.Parse.{parse_document}
 use Rattle.toml.specs.Text.{IsDocumentText}
 use Rattle.config_rates.specs.Rows.{rates_of}
-use Rattle.config_tables.specs.Tables.{IsTables}
-use Rattle.config_tables.specs.declared.tables.Tables.{Tables}
+use Rattle.config_file.specs.Tables.{IsTables}
+use Rattle.config_file.specs.declared.tables.Tables.{Tables}
 use Rattle.server_config.specs.Configs.{IsConfigText}
 use Rattle.server_config.specs.Refused.{IsFaultOfText}
 use Rattle.server_config.specs.declared.config.Config.{Config}
@@ -22,7 +22,7 @@ abbrev pub IsVersioned : Members → Members → Type 0
 IsVersioned old new = (key : List ℕ) → get_member key new ≡ cond (bytes_eq (codes "version") key) (Some (integer (pos 2))) (get_member key old)
 
 -- The text prints the document of the octets with version 2, and is read as that document: both texts are of one configuration,
--- with its users, its store, its limits at every tick and all else.
+-- with its users, its store, its limits at every tick and everything more.
 pub record IsMigrated (octets text : List ℕ) : Type 0 where
   pub old : Members
   pub new : Members

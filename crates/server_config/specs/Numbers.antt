@@ -3,8 +3,8 @@ use Rattle.std.specs.Prelude.{◌≡◌, ℕ, List, Some, slice_get}
 use Rattle.std.specs.FinMap as finite
 use Rattle.authorizer.specs.Users.{Accounts, User}
 use Rattle.config_rates.specs.Rows.{user_row}
-use Rattle.config_tables.specs.declared.stated.UserTable.{UserTable}
-use Rattle.config_tables.specs.declared.tables.Tables.{Tables}
+use Rattle.config_file.specs.declared.stated.UserTable.{UserTable}
+use Rattle.config_file.specs.declared.tables.Tables.{Tables}
 use Rattle.server_config.specs.Configs.{IsMadeOf}
 use Rattle.server_config.specs.declared.config.Config.{Config}
 
@@ -12,8 +12,8 @@ use Rattle.server_config.specs.declared.config.Config.{Config}
 abbrev pub HasNumber : Accounts → List ℕ → ℕ → Type 0
 HasNumber accounts name number = (user : User) × (finite.get accounts.users name ≡ Some user) × (user.number ≡ number)
 
--- Each user of a file has the number of their place there, from 0, with the authorizer, and in the limits the rates of their table
--- stand under that number.
+-- Each user of a file has the number of their place there, from 0, with the authorizer, and the limits have the rates of
+-- their table under that number.
 abbrev pub NumbersAgree : Type 0
 NumbersAgree = (tables : Tables) (config : Config) → IsMadeOf tables config → (k : ℕ) (user : UserTable) → slice_get tables.users.items k ≡ Some user
     → HasNumber config.users user.name.now k × (finite.get config.limits.users k ≡ Some (user_row tables.groups.items k user))

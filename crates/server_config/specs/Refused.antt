@@ -1,5 +1,5 @@
 -- Why a configuration is refused: seen from its tables, from its document, and from its text; and how it is told.
-use Rattle.std.specs.Prelude.{◌≡◌, ◌≢◌, ◌⊎◌, ℕ, List, Some, None, IsUtf8}
+use Rattle.std.specs.Prelude.{◌≡◌, ◌⊎◌, ℕ, List, Some, None, option_map, string_bytes, IsUtf8}
 use Rattle.toml.specs.Data.{Members}
 use Rattle.toml.specs.Errors.{IsMemory}
 use Rattle.toml.specs.Parse.{parse_document}
@@ -7,32 +7,42 @@ use Rattle.toml.specs.declared.de.error.Error.{Error}
 use Rattle.authorizer.specs.Numbers.{no_users}
 use Rattle.authorizer.specs.Users.{Accounts}
 use Rattle.config_rates.specs.Groups.{AreApart, AreGrouped, IsProblem}
-use Rattle.config_rates.specs.declared.fault.RowsFault.{RowsFault}
+use Rattle.config_rates.specs.declared.fault.GroupProblem.{GroupProblem}
 use Rattle.config_store.specs.Made.{IsStoreProblem}
-use Rattle.config_store.specs.declared.fault.StoreFaultAt.{StoreFaultAt}
-use Rattle.config_tables.specs.Tables.{AreNoTables, IsTables}
-use Rattle.config_tables.specs.declared.fault.Header.{Header}
-use Rattle.config_tables.specs.declared.fault.TableFault.{TableFault}
-use Rattle.config_tables.specs.declared.tables.Tables.{Tables}
+use Rattle.config_store.specs.declared.fault.StoreProblem.{StoreProblem}
+use Rattle.config_file.specs.Lists.{Place, place_of}
+use Rattle.config_file.specs.Refused.{IsFirstFault}
+use Rattle.config_file.specs.Tables.{IsTables}
+use Rattle.config_file.specs.declared.fault.Header.{Header}
+use Rattle.config_file.specs.declared.fault.KeyFault.{KeyFault}
+use Rattle.config_file.specs.declared.fault.Problem.{Problem}
+use Rattle.config_file.specs.declared.fault.Fault.{Fault}
+use Rattle.config_file.specs.declared.fault.Fault.TheVariants.{At}
+use Rattle.config_file.specs.declared.tables.Tables.{Tables}
 use Rattle.config_users.specs.Added.{AddsUsers, IsFirstRefusal}
-use Rattle.config_users.specs.declared.fault.UsersFault.{UsersFault}
+use Rattle.authorizer.specs.declared.fault.AuthorizerFault.{AuthorizerFault}
 use Rattle.server_config.specs.declared.fault.ConfigFault.{ConfigFault}
+use Rattle.server_config.specs.declared.fault.OwnedHeader.{OwnedHeader}
 use Rattle.server_config.specs.declared.fault.ConfigFault.TheVariants.{NotToml, Key, BadGroup, BadUser, BadStore, BadDate, TooDeep, TooLong, Memory}
+
+-- the place of a table
+abbrev pub owned_place : OwnedHeader → Place
+owned_place header = record { table = header.table; row = header.row; name = option_map string_bytes header.name }
 
 -- the groups are refused; or they are not, and a user is; or nobody is, and what is served is refused
 abbrev pub IsFaultOfTables : Tables → ConfigFault → Type 0
-IsFaultOfTables tables (BadGroup header problem) = IsProblem tables.groups.items tables.users.items problem
+IsFaultOfTables tables (BadGroup header problem) = IsProblem tables.groups.items tables.users.items (owned_place header) problem
 IsFaultOfTables tables (BadUser header problem) = AreApart tables.groups.items × AreGrouped tables.groups.items tables.users.items
-    × IsFirstRefusal tables.groups.items tables.users.items tables.overrides.items problem
+    × IsFirstRefusal tables.groups.items tables.users.items tables.overrides.items (owned_place header) problem
 IsFaultOfTables tables (BadStore header problem) = AreApart tables.groups.items × AreGrouped tables.groups.items tables.users.items
     × ((users : Accounts) × AddsUsers tables.groups.items tables.users.items tables.overrides.items no_users users)
-    × IsStoreProblem tables.server tables.dirs.items tables.files.items problem
+    × IsStoreProblem tables.server tables.dirs.items tables.files.items (owned_place header) problem
 IsFaultOfTables tables Memory = Unit {0}
 IsFaultOfTables tables _ = ⊥
 
--- the document states no tables by a key; or it does, and nothing can be made of them
+-- the fault of a key is the first of the document; or the document states tables, and nothing can be made of them
 abbrev pub IsFaultOf : Members → ConfigFault → Type 0
-IsFaultOf document (Key header key problem) = AreNoTables document
+IsFaultOf document (Key header key problem) = IsFirstFault document (owned_place header) (string_bytes key.name) problem
 IsFaultOf document (NotToml line error) = ⊥
 IsFaultOf document BadDate = ⊥
 IsFaultOf document TooDeep = ⊥
@@ -46,27 +56,35 @@ IsFaultOfText octets fault = (fault ≡ Memory) ⊎ ((document : Members) × (pa
 
 -- ---- how refusals are told
 
-abbrev pub IsKey : ConfigFault → Type 0
-IsKey (Key header key problem) = Unit {0}
-IsKey _ = ⊥
+-- the fault of this key
+abbrev pub IsKeyFault : Place → List ℕ → Problem → ConfigFault → Type 0
+IsKeyFault place name told (Key header key problem) = (owned_place header ≡ place) × (string_bytes key.name ≡ name) × (problem ≡ told)
+IsKeyFault place name told _ = ⊥
 
-abbrev pub TellsKey : TableFault → ConfigFault → Type 0
-TellsKey fault (Key header key problem) = fault ≢ TableFault.Memory
+abbrev pub TellsKey : Fault KeyFault → ConfigFault → Type 0
+TellsKey fault (Key header key problem) =
+    (place : Header) × (told : KeyFault) × (fault ≡ At place told) × IsKeyFault (place_of place) told.key.now told.problem (Key header key problem)
 TellsKey fault Memory = Unit {0}
 TellsKey fault _ = ⊥
 
-abbrev pub TellsGroup : RowsFault → ConfigFault → Type 0
-TellsGroup fault (BadGroup header problem) = (header : Header) × (fault ≡ RowsFault.Group header problem)
+-- the fault is this problem of this table
+pub record IsAt {P : Type 0} (fault : Fault P) (header : OwnedHeader) (problem : P) : Type 0 where
+  pub place : Header
+  pub is : fault ≡ At place problem
+  pub same : owned_place header ≡ place_of place
+
+abbrev pub TellsGroup : Fault GroupProblem → ConfigFault → Type 0
+TellsGroup fault (BadGroup header problem) = IsAt fault header problem
 TellsGroup fault Memory = Unit {0}
 TellsGroup fault _ = ⊥
 
-abbrev pub TellsUser : UsersFault → ConfigFault → Type 0
-TellsUser fault (BadUser header problem) = (header : Header) × (fault ≡ UsersFault.Refused header problem)
+abbrev pub TellsUser : Fault AuthorizerFault → ConfigFault → Type 0
+TellsUser fault (BadUser header problem) = IsAt fault header problem
 TellsUser fault Memory = Unit {0}
 TellsUser fault _ = ⊥
 
-abbrev pub TellsStore : StoreFaultAt → ConfigFault → Type 0
-TellsStore fault (BadStore header problem) = (header : Header) × (fault ≡ StoreFaultAt.Refused header problem)
+abbrev pub TellsStore : Fault StoreProblem → ConfigFault → Type 0
+TellsStore fault (BadStore header problem) = IsAt fault header problem
 TellsStore fault Memory = Unit {0}
 TellsStore fault _ = ⊥
 

@@ -1,14 +1,14 @@
--- What the table [server] sets for sessions, and its numbers.
+-- The settings that the table [server] makes for sessions, and its numbers.
 use Rattle.std.specs.Prelude.{◌≡◌, Option, Some, None}
 use Rattle.std.specs.declared.alloc.Global.{Global}
 use Rattle.std.specs.Net.Addr.{ipv4_octets}
 use Rattle.std.specs.declared.net.ipv4_addr.Ipv4Addr.{Ipv4Addr}
 use Rattle.ftp_terms.specs.LineText.{text_of}
-use Rattle.config_server.specs.declared.stated.ServerTable.{ServerTable}
+use Rattle.config_file.specs.declared.stated.ServerTable.{ServerTable}
 use Rattle.session_table.specs.declared.settings.Settings.{Settings}
 use Rattle.server_config.specs.declared.settings.ServerNumbers.{ServerNumbers}
 
--- the address that clients are told, or else that of the server
+-- the address for clients, or otherwise that of the server
 abbrev pub told_address : Option Ipv4Addr → Ipv4Addr → Ipv4Addr
 told_address None own = own
 told_address (Some stated) own = stated

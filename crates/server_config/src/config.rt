@@ -6,12 +6,12 @@ ghost use Rattle.toml.specs.View.{table_view};
 ghost use Rattle.server_config.specs.Configs.{IsMadeOf, IsConfig, IsConfigText};
 ghost use Rattle.server_config.specs.Refused.{IsFaultOf, IsFaultOfTables, IsFaultOfText};
 
-use crate::fault::{ConfigFault, not_toml, of_rows, of_store, of_table, of_users};
+use crate::fault::{ConfigFault, not_toml, of_groups, of_key, of_store, of_users};
 use crate::settings::{ServerNumbers, numbers_of, settings_of};
 use authorizer::Authorizer;
+use config_file::{Tables, read_tables};
 use config_rates::{limits_of, read_rows};
 use config_store::{ServedStore, make_store};
-use config_tables::{Tables, read_tables};
 use config_users::make_users;
 use line_rates::Limits;
 use session_table::Settings;
@@ -21,20 +21,20 @@ use toml::Table;
 /// The configuration of a server.
 #[derive(Drop)]
 pub struct Config {
-    /// What it sets for all of its sessions.
+    /// The settings of all of its sessions.
     pub settings: Settings,
     /// Its numbers.
     pub numbers: ServerNumbers,
     /// Its users.
     pub users: Authorizer,
-    /// What it serves.
+    /// The store.
     pub store: ServedStore,
     /// The rates of the line, of its groups and of its users, who have the authorizer's numbers.
     pub limits: Limits,
 }
 
 /// The table that a text is.
-pub fn read_document(alloc: Global, octets: &[u8]) -> Result<Table, ConfigFault>
+pub(crate) fn read_document(alloc: Global, octets: &[u8]) -> Result<Table, ConfigFault>
     ensures document { IfOk result (λ table. parse_document octets.now ≡ Some (table_view table)) }
     ensures refused { IfErr result (IsFaultOfText octets.now) }
 {
@@ -44,7 +44,7 @@ pub fn read_document(alloc: Global, octets: &[u8]) -> Result<Table, ConfigFault>
     }
 }
 
-/// What the tables of a file make.
+/// The configuration that the tables of a file make.
 fn made_of(alloc: Global, tables: &Tables) -> Result<Config, ConfigFault>
     requires paired { length tables.now.overrides.items ≡ length tables.now.users.items }
     ensures made { IfOk result (IsMadeOf tables.now) }
@@ -53,7 +53,7 @@ fn made_of(alloc: Global, tables: &Tables) -> Result<Config, ConfigFault>
     let (groups, users) = (tables.groups.as_slice(), tables.users.as_slice());
     let rows = match read_rows(alloc, groups, users) {
         Ok(rows) => rows,
-        Err(fault) => return Err(of_rows(alloc, fault)),
+        Err(fault) => return Err(of_groups(alloc, fault)),
     };
     let overrides = tables.overrides.as_slice();
     let authorizer = match make_users(alloc, users, overrides, rows.users.as_slice()) {
@@ -75,13 +75,14 @@ fn made_of(alloc: Global, tables: &Tables) -> Result<Config, ConfigFault>
 }
 
 /// The configuration that a document states.
-pub fn config_of(alloc: Global, document: &Table) -> Result<Config, ConfigFault>
+#[tactic(auto, using(crate::proofs::Refusing::key_refused))]
+pub(crate) fn config_of(alloc: Global, document: &Table) -> Result<Config, ConfigFault>
     ensures config { IfOk result (IsConfig (table_view document.now)) }
     ensures refused { IfErr result (IsFaultOf (table_view document.now)) }
 {
     match read_tables(alloc, document) {
         Ok(tables) => made_of(alloc, &tables),
-        Err(fault) => Err(of_table(alloc, fault)),
+        Err(fault) => Err(of_key(alloc, fault)),
     }
 }
 

@@ -1,4 +1,4 @@
-//! How deep a document nests.
+//! The depth of a document.
 
 ghost use Rattle.std.specs.Prelude.{◌≡◌, nat_le};
 ghost use Rattle.toml.specs.Data.{depth, items_depth, members_depth};
@@ -7,7 +7,7 @@ ghost use Rattle.toml.specs.View.{view, array_view, table_view};
 use toml::value::Array;
 use toml::{Table, Value};
 
-/// Whether the arrays and tables of a value nest at most so deep.
+/// Returns whether the arrays and tables of a value nest at most `depth` levels.
 #[cycle(depth)]
 fn is_within(value: &Value, levels: usize) -> bool
     ensures within { result ≡ nat_le (depth (view value.now)) levels }
@@ -31,9 +31,9 @@ fn are_within(array: &Array, levels: usize) -> bool
     true
 }
 
-/// Whether those of a document do.
+/// Returns whether those of a document do.
 #[cycle(depth)]
-pub fn table_within(table: &Table, levels: usize) -> bool
+pub(crate) fn table_within(table: &Table, levels: usize) -> bool
     ensures within { result ≡ nat_le (members_depth (table_view table.now)) levels }
 {
     'members: for (_key, member) in table.iter() {

@@ -1,20 +1,21 @@
-//! Why a configuration is refused, and where.
+//! Faults of a configuration, with their places.
 
-ghost use Rattle.std.specs.Prelude.{◌≡◌, IfOk};
-ghost use Rattle.server_config.specs.Refused.{IsKey, TellsGroup, TellsKey, TellsStore, TellsText, TellsUser};
+ghost use Rattle.std.specs.Prelude.{◌≡◌, IfErr, IfOk};
+ghost use Rattle.config_file.specs.Lists.{place_of};
+ghost use Rattle.server_config.specs.Refused.{IsAt, IsKeyFault, owned_place, TellsGroup, TellsKey, TellsStore, TellsText, TellsUser};
 ghost use Rattle.server_config.specs.Faults.{name_of};
+ghost use Rattle.server_config.specs.declared.fault.ConfigFault.TheVariants.{Memory};
 
 use crate::similar::similar_to;
 use authorizer::AuthorizerFault;
-use config_keys::Problem;
-use config_rates::{GroupProblem, RowsFault};
-use config_store::{StoreFaultAt, StoreProblem};
-use config_tables::{Header, TableFault, TableName};
-use config_users::UsersFault;
+use config_file::{Fault, Header, KeyFault, Problem, TableName};
+use config_rates::GroupProblem;
+use config_store::StoreProblem;
 use std::alloc::{AllocError, Global};
 use std::fmt;
+use thiserror::Error;
 
-/// The most characters of a name or a key that are shown.
+/// Maximum number of characters of a name or a key that are shown.
 const LONGEST_SHOWN: usize = 64;
 
 /// A table of a file.
@@ -27,7 +28,7 @@ pub struct OwnedHeader {
     pub name: Option<String>,
 }
 
-/// A key of a file, and the one that may have been meant where it is unknown.
+/// A key of a file, and the one that may have been meant if it is unknown.
 #[derive(Debug, Drop)]
 pub struct OwnedKey {
     pub name: String,
@@ -36,52 +37,61 @@ pub struct OwnedKey {
 
 /// A place in a text: a line, and a character of that line, both from 1.
 #[derive(Clone, Copy, Debug, PartialEq, Eq)]
-pub struct Place {
+pub struct TextPlace {
     pub line: usize,
     pub column: usize,
 }
 
-/// Why a configuration is refused. It prints as one line, which says where, and what was expected.
-#[derive(Debug, Drop)]
+/// The reason for which a configuration is refused. It prints as one line, with the place and the expected values.
+#[derive(Debug, Drop, Error)]
 pub enum ConfigFault {
-    /// The file is no UTF-8 or no TOML: where, and what is wrong there.
+    /// The file is no UTF-8 or no TOML: the place, and the problem there.
+    #[error("line {}, column {}: {}", .place.line, .place.column, .error.message())]
     NotToml {
-        place: Place,
+        place: TextPlace,
         error: toml::de::Error,
     },
     /// A key is unknown, missing, of the wrong kind or out of range.
+    #[error("{header}: {}: {problem}{}", Shown(.key.name.as_str()), Hint(.key.similar))]
     Key {
         header: OwnedHeader,
         key: OwnedKey,
         problem: Problem,
     },
     /// Two groups have one name, or a user's group is not there.
+    #[error("{header}: {problem}")]
     BadGroup {
         header: OwnedHeader,
         problem: GroupProblem,
     },
     /// The authorizer refuses a user or an override.
+    #[error("{header}: {problem}")]
     BadUser {
         header: OwnedHeader,
         problem: AuthorizerFault,
     },
     /// The store refuses a directory or a file, or there is no port for passive connections.
+    #[error("{header}: {problem}")]
     BadStore {
         header: OwnedHeader,
         problem: StoreProblem,
     },
     /// The file has a date that no TOML text can write, so its table cannot be printed.
+    #[error("a date cannot be written")]
     BadDate,
     /// The file nests deeper than is read, so what is printed of it could not be read back.
+    #[error("a value that is not read nests too deep to be written")]
     TooDeep,
-    /// What would be printed of the file is longer than what is read.
+    /// The text that would be printed is longer than a text that is read.
+    #[error("in version 2 the text is longer than a configuration may be")]
     TooLong,
     /// Memory ran out.
+    #[error("out of memory")]
     Memory,
 }
 
 impl ConfigFault {
-    /// The name of the fault, which the program's last line tells.
+    /// The name of the fault, as in the last line of the program.
     pub fn name(&self) -> &'static str
         ensures name { result.now ≡ name_of self.now }
     {
@@ -115,16 +125,21 @@ impl From<AllocError> for ConfigFault {
     }
 }
 
-/// Shows a text of the file on one line: its first characters, control characters as `?`.
-fn show<W: fmt::Write>(f: &mut fmt::Formatter<W>, text: &str) -> fmt::Result {
-    for character in text.chars().take(LONGEST_SHOWN) {
-        f.write_char(if character.is_control() {
-            '?'
-        } else {
-            character
-        })?;
+/// A text of the file as it is shown on one line: its first characters, control characters as `?`.
+#[derive(Clone, Copy)]
+struct Shown<'a>(&'a str);
+
+impl fmt::Display for Shown<'_> {
+    fn fmt<W: fmt::Write>(&self, f: &mut fmt::Formatter<W>) -> fmt::Result {
+        for character in self.0.chars().take(LONGEST_SHOWN) {
+            f.write_char(if character.is_control() {
+                '?'
+            } else {
+                character
+            })?;
+        }
+        Ok(())
     }
-    Ok(())
 }
 
 impl fmt::Display for OwnedHeader {
@@ -133,50 +148,29 @@ impl fmt::Display for OwnedHeader {
         if self.row > 0 {
             write!(f, " {}", self.row)?;
         }
-        if let Some(name) = &self.name {
-            f.write_str(" ")?;
-            show(f, name.as_str())?;
+        match &self.name {
+            Some(name) => write!(f, " {}", Shown(name.as_str())),
+            None => Ok(()),
         }
-        Ok(())
     }
 }
 
-impl fmt::Display for ConfigFault {
+/// A hint at a key that may have been meant.
+#[derive(Clone, Copy)]
+struct Hint(Option<&'static str>);
+
+impl fmt::Display for Hint {
     fn fmt<W: fmt::Write>(&self, f: &mut fmt::Formatter<W>) -> fmt::Result {
-        match self {
-            ConfigFault::NotToml { place, error } => {
-                let Place { line, column } = place;
-                write!(f, "line {line}, column {column}: {}", error.message())
-            }
-            ConfigFault::Key {
-                header,
-                key,
-                problem,
-            } => {
-                write!(f, "{header}: ")?;
-                show(f, key.name.as_str())?;
-                write!(f, ": {problem}")?;
-                match key.similar {
-                    Some(similar) => write!(f, "; a similar key is {similar}"),
-                    None => Ok(()),
-                }
-            }
-            ConfigFault::BadGroup { header, problem } => write!(f, "{header}: {problem}"),
-            ConfigFault::BadUser { header, problem } => write!(f, "{header}: {problem}"),
-            ConfigFault::BadStore { header, problem } => write!(f, "{header}: {problem}"),
-            ConfigFault::BadDate => f.write_str("a date cannot be written"),
-            ConfigFault::TooDeep => f.write_str(
-                "a value that is not read nests too deep to be written",
-            ),
-            ConfigFault::TooLong => {
-                f.write_str("in version 2 the text is longer than a configuration may be")
-            }
-            ConfigFault::Memory => f.write_str("out of memory"),
+        match self.0 {
+            Some(similar) => write!(f, "; a similar key is {similar}"),
+            None => Ok(()),
         }
     }
 }
 
-fn owned(alloc: Global, header: Header) -> Result<OwnedHeader, AllocError> {
+fn owned(alloc: Global, header: Header) -> Result<OwnedHeader, AllocError>
+    ensures place { IfOk result (λ owned. owned_place owned ≡ place_of header.entry) }
+{
     let name = match header.name {
         Some(name) => Some(String::from_str(alloc, name)?),
         None => None,
@@ -189,7 +183,7 @@ fn owned(alloc: Global, header: Header) -> Result<OwnedHeader, AllocError> {
 }
 
 /// The fault of text that is no TOML.
-pub fn not_toml(octets: &[u8], error: toml::de::Error) -> ConfigFault
+pub(crate) fn not_toml(octets: &[u8], error: toml::de::Error) -> ConfigFault
     ensures told { TellsText error result }
 {
     let Some(range) = error.span() else {
@@ -201,9 +195,9 @@ pub fn not_toml(octets: &[u8], error: toml::de::Error) -> ConfigFault
     }
 }
 
-/// Where so many octets of a text are behind. A character of several octets counts once.
-fn place_of(octets: &[u8], count: usize) -> Place {
-    let mut place = Place { line: 1, column: 1 };
+/// The place after `count` octets of a text. A character of several octets counts once.
+fn place_of(octets: &[u8], count: usize) -> TextPlace {
+    let mut place = TextPlace { line: 1, column: 1 };
     for octet in octets.iter().take(count) {
         if *octet == b'\n' {
             place.line = place.line.saturating_add(1);
@@ -221,7 +215,7 @@ fn key_fault(
     key: &str,
     problem: Problem,
 ) -> Result<ConfigFault, AllocError>
-    ensures told { IfOk result IsKey }
+    ensures told { IfOk result (IsKeyFault (place_of header.entry) key.now problem) }
 {
     let similar = match problem {
         Problem::Unknown => similar_to(alloc, header.table, key)?,
@@ -237,59 +231,58 @@ fn key_fault(
     })
 }
 
+/// Makes the header and the problem of a fault.
+fn located<P: Drop>(alloc: Global, fault: Fault<P>) -> Result<(OwnedHeader, P), ConfigFault>
+    ensures at { IfOk result (λ found. IsAt fault.entry found.0 found.1) }
+    ensures memory { IfErr result (λ why. why ≡ Memory) }
+{
+    match fault {
+        Fault::At { header, problem } => Ok((owned(alloc, header)?, problem)),
+        Fault::Memory => Err(ConfigFault::Memory),
+    }
+}
+
 /// The fault of a table's key.
-pub fn of_table(alloc: Global, fault: TableFault) -> ConfigFault
+pub(crate) fn of_key(alloc: Global, fault: Fault<KeyFault>) -> ConfigFault
     ensures told { TellsKey fault.entry result }
 {
     match fault {
-        TableFault::Key { header, fault } => {
-            match key_fault(alloc, header, fault.key, fault.problem) {
+        Fault::At { header, problem } => {
+            match key_fault(alloc, header, problem.key, problem.problem) {
                 Ok(fault) => fault,
                 Err(_) => ConfigFault::Memory,
             }
         }
-        TableFault::Memory => ConfigFault::Memory,
+        Fault::Memory => ConfigFault::Memory,
     }
 }
 
 /// The fault of groups.
-pub fn of_rows(alloc: Global, fault: RowsFault) -> ConfigFault
+pub(crate) fn of_groups(alloc: Global, fault: Fault<GroupProblem>) -> ConfigFault
     ensures told { TellsGroup fault.entry result }
 {
-    match fault {
-        RowsFault::Group { header, problem } => match owned(alloc, header) {
-            Ok(header) => ConfigFault::BadGroup { header, problem },
-            Err(_) => ConfigFault::Memory,
-        },
-        RowsFault::Memory => ConfigFault::Memory,
+    match located(alloc, fault) {
+        Ok((header, problem)) => ConfigFault::BadGroup { header, problem },
+        Err(memory) => memory,
     }
 }
 
 /// The fault of users.
-pub fn of_users(alloc: Global, fault: UsersFault) -> ConfigFault
+pub(crate) fn of_users(alloc: Global, fault: Fault<AuthorizerFault>) -> ConfigFault
     ensures told { TellsUser fault.entry result }
 {
-    match fault {
-        UsersFault::Refused { header, fault } => match owned(alloc, header) {
-            Ok(header) => ConfigFault::BadUser {
-                header,
-                problem: fault,
-            },
-            Err(_) => ConfigFault::Memory,
-        },
-        UsersFault::Memory => ConfigFault::Memory,
+    match located(alloc, fault) {
+        Ok((header, problem)) => ConfigFault::BadUser { header, problem },
+        Err(memory) => memory,
     }
 }
 
 /// The fault of a store.
-pub fn of_store(alloc: Global, fault: StoreFaultAt) -> ConfigFault
+pub(crate) fn of_store(alloc: Global, fault: Fault<StoreProblem>) -> ConfigFault
     ensures told { TellsStore fault.entry result }
 {
-    match fault {
-        StoreFaultAt::Refused { header, problem } => match owned(alloc, header) {
-            Ok(header) => ConfigFault::BadStore { header, problem },
-            Err(_) => ConfigFault::Memory,
-        },
-        StoreFaultAt::Memory => ConfigFault::Memory,
+    match located(alloc, fault) {
+        Ok((header, problem)) => ConfigFault::BadStore { header, problem },
+        Err(memory) => memory,
     }
 }

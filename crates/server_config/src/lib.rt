@@ -20,7 +20,7 @@ mod settings;
 mod similar;
 
 pub use config::Config;
-pub use fault::{ConfigFault, OwnedHeader, OwnedKey, Place};
+pub use fault::{ConfigFault, OwnedHeader, OwnedKey, TextPlace};
 pub use migration::{DEEPEST, LONGEST_TEXT, migrate, same_branches};
 pub use numbers::numbers_agree;
 pub use settings::ServerNumbers;

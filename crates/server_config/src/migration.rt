@@ -12,10 +12,10 @@ use crate::fault::ConfigFault;
 use std::alloc::{AllocError, Global};
 use toml::{Table, Value};
 
-/// How many levels the TOML reader goes down.
+/// Maximum number of levels that the TOML reader goes down.
 pub const DEEPEST: usize = 80;
 
-/// The most octets of a configuration that is read.
+/// Maximum number of octets of a configuration.
 pub const LONGEST_TEXT: usize = 4_194_304;
 
 /// States version 2 in a document.

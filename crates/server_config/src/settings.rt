@@ -1,9 +1,9 @@
-//! What a configuration sets for sessions, and the numbers of its server.
+//! The settings of sessions, and the numbers of a server.
 
 ghost use Rattle.std.specs.Prelude.{IfOk};
 ghost use Rattle.server_config.specs.Settings.{AreSettings, AreNumbers};
 
-use config_server::ServerTable;
+use config_file::ServerTable;
 use ftp_terms::LineText;
 use session_table::Settings;
 use std::alloc::{AllocError, Global};
@@ -11,26 +11,26 @@ use std::alloc::{AllocError, Global};
 /// The numbers of a server.
 #[derive(Clone, Copy, Debug, PartialEq, Eq)]
 pub struct ServerNumbers {
-    /// Where it listens.
+    /// The address that it listens on.
     pub address: [u8; 4],
     /// The port of control connections.
     pub port: u16,
-    /// How many connections there may be at once, from 1 to 512.
+    /// Maximum number of connections at once, from 1 to 512.
     pub max_cons: u16,
-    /// How many of them from one address; 0 is no limit.
+    /// Maximum number of them from one address; 0 for no limit.
     pub max_cons_per_address: u16,
     /// The first port of passive connections.
     pub passive_first: u16,
     /// The last one, not below the first.
     pub passive_last: u16,
-    /// How many transfers run at once, from 1 to 64.
+    /// Maximum number of transfers at once, from 1 to 64.
     pub lanes: u16,
-    /// After how many sessions the server ends; 0 is never.
+    /// Number of sessions after which the server ends; 0 for never.
     pub sessions: u64,
 }
 
-/// What a table sets for sessions. The address that PASV tells is the one that is stated for this, or else the server's.
-pub fn settings_of(alloc: Global, server: &ServerTable) -> Result<Settings, AllocError>
+/// The settings of sessions that a table states. The address in replies to PASV is the stated one, or otherwise the server's.
+pub(crate) fn settings_of(alloc: Global, server: &ServerTable) -> Result<Settings, AllocError>
     ensures settings { IfOk result (AreSettings server.now) }
 {
     let banner = String::from_str(alloc, server.banner)?;
@@ -48,7 +48,7 @@ pub fn settings_of(alloc: Global, server: &ServerTable) -> Result<Settings, Allo
 }
 
 /// The numbers that a table states.
-pub fn numbers_of(server: &ServerTable) -> ServerNumbers
+pub(crate) fn numbers_of(server: &ServerTable) -> ServerNumbers
     ensures numbers { AreNumbers server.now result }
 {
     ServerNumbers {

@@ -1,44 +1,44 @@
-//! How a server ends.
+//! Stages of a server's end.
 
 use std::sync::atomic::{AtomicU64, Ordering};
 
-/// What is to end.
+/// A stage of the end.
 #[derive(Clone, Copy, Debug, PartialEq, Eq)]
-pub enum Stage {
-    /// No more sessions are admitted, and those that there are end.
+pub enum ShutdownStage {
+    /// No more sessions are admitted, and the present ones end.
     Sessions,
     /// The lanes and rounds end too: no session is left.
     Lanes,
 }
 
-/// How far a server has gone on its way to the end. It never goes back.
+/// The progress of a server to its end. It never goes back.
 #[derive(Drop)]
-pub struct Ending {
+pub struct ServerShutdown {
     word: AtomicU64,
 }
 
-fn number(stage: Stage) -> u64 {
+fn number(stage: ShutdownStage) -> u64 {
     match stage {
-        Stage::Sessions => 1,
-        Stage::Lanes => 2,
+        ShutdownStage::Sessions => 1,
+        ShutdownStage::Lanes => 2,
     }
 }
 
-impl Ending {
-    /// Nothing is to end yet.
-    pub fn new() -> Ending {
-        Ending {
+impl ServerShutdown {
+    /// A server that is not to end yet.
+    pub fn new() -> ServerShutdown {
+        ServerShutdown {
             word: AtomicU64::new(0),
         }
     }
 
-    /// This is to end from now on.
-    pub fn begin(&self, stage: Stage) {
+    /// Begins a stage.
+    pub fn begin(&self, stage: ShutdownStage) {
         self.word.fetch_max(number(stage), Ordering::SeqCst);
     }
 
-    /// Whether this is to end.
-    pub fn has_begun(&self, stage: Stage) -> bool {
+    /// Returns whether a stage has begun.
+    pub fn has_begun(&self, stage: ShutdownStage) -> bool {
         self.word.load(Ordering::SeqCst) >= number(stage)
     }
 }

@@ -1,6 +1,6 @@
-//! The house of a server.
+//! The shared parts of a server.
 
-use crate::ending::Ending;
+use crate::ending::ServerShutdown;
 use crate::lane::LaneSign;
 use authorizer::Authorizer;
 use data_sockets::{DataConnection, Served, TransferCell};
@@ -8,9 +8,8 @@ use event_word::{EventCount, SharedEventCount};
 use ftp_terms::LineText;
 use handler_hooks::Hooks;
 use lent_parts::{LentBoard, LentPass, PartsName};
-use passive_ports::Registry;
+use passive_ports::{Registry, RestingPorts};
 use rate_floors::Floors;
-use resting_ports::RestingPorts;
 use server_config::ServerNumbers;
 use session_table::Settings;
 use std::alloc::{AllocError, Global};
@@ -19,18 +18,19 @@ use std::sync::Mutex;
 use transfer_worker::LaneJob;
 use virtual_tree::Store;
 
-/// What the threads of a server share, with its store `S`, the handler `H` of its owner, and the name `B` of its board.
+/// The parts that the threads of a server share, with its store `S`, the handler `H` of its owner, and the name `B` of its
+/// board.
 #[derive(Drop)]
 pub struct House<S: Store<Global>, H: Hooks, B: PartsName> {
     pub users: Authorizer,
     pub settings: Settings,
     pub numbers: ServerNumbers,
-    /// The store of all sessions that have none of their own.
+    /// The store of all sessions without one of their own.
     pub store: Mutex<S>,
-    /// A store for each connection, by its number, over what the other one serves too; none if that can be had only once. By its
-    /// own a session waits for no call of another's.
+    /// A store for each connection, by its number, over the same files as the shared one; empty if there can be only one.
+    /// With its own, a session waits for no call of another's.
     pub own_stores: Vec<Mutex<S>>,
-    /// The connection of each client that was admitted, by its number, until its thread takes it.
+    /// The connection of each admitted client, by its number, until its thread takes it.
     pub arrivals: Vec<Mutex<Option<TcpStream>>>,
     pub floors: Mutex<Floors>,
     /// The owner's callbacks.
@@ -39,21 +39,21 @@ pub struct House<S: Store<Global>, H: Hooks, B: PartsName> {
     pub registry: Mutex<Registry>,
     /// The transfers that wait for a lane.
     pub board: LentBoard<B, LaneJob<Served<Global, S::Source>, S::Sink, DataConnection>>,
-    /// The pass by which sessions push them.
+    /// The pass with which sessions push them.
     pub pass: Mutex<LentPass<B, LaneJob<Served<Global, S::Source>, S::Sink, DataConnection>>>,
-    /// Rises as a transfer is pushed: idle lanes wait on it.
+    /// Increased when a transfer is pushed; idle lanes wait on it.
     pub jobs: SharedEventCount,
-    /// Where the end of each session's transfer is told, by the number of its connection.
+    /// For each session, by the number of its connection, the cell for the ends of its transfers.
     pub cells: Vec<TransferCell<S::Sink>>,
-    /// For each lane, what rounds tell it.
+    /// For each lane, what rounds report to it.
     pub lanes: Vec<LaneSign>,
-    /// Rises as a lane wants a round.
+    /// Increased when a lane needs a round.
     pub bell: EventCount,
-    pub ending: Ending,
+    pub ending: ServerShutdown,
 }
 
 impl<S: Store<Global>, H: Hooks, B: PartsName> House<S, H, B> {
-    /// The store by which the session of a connection works.
+    /// The store of the session of a connection.
     pub fn store_of(&self, key: usize) -> &Mutex<S> {
         match self.own_stores.get(key) {
             Some(own) => own,

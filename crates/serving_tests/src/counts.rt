@@ -1,4 +1,4 @@
-//! Counts that threads wait on. The function that bears the crate's name is the example at its head.
+//! Counts that threads wait on. The function with the crate's name is the example in its head.
 
 use super::expect::holds;
 use event_word::{EventCount, SharedEventCount, micros};
@@ -15,7 +15,7 @@ fn event_word(rt: HostRuntime) {
     assert!(rt; bell.seen() != seen);
 }
 
-// Signals one count and waits for the other, turn by turn. A wake-up that is lost takes a minute.
+// Signals one count and waits for the other, in turns. A lost wake-up takes a minute.
 fn take_turns<R: Wait + Clock>(
     rt: &R,
     mine: &EventCount,
@@ -48,7 +48,7 @@ fn no_signal_is_lost(rt: HostRuntime) {
     }
 }
 
-// Waits until a count is another than 0.
+// Waits until a count is not 0.
 fn await_first<R: Wait>(rt: &R, count: &SharedEventCount) {
     for _ in rt.forever() {
         if count.seen() != 0 {

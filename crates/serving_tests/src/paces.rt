@@ -1,4 +1,4 @@
-//! The pace of rounds. The function that bears the crate's name is the example at its head.
+//! The pace of rounds. The function with the crate's name is the example in its head.
 
 use super::expect::holds;
 use line_rates::{GroupRate, Limits, Name, UserRate, Way};
@@ -46,7 +46,7 @@ fn pace_of_a_user(rt: &(impl Abort + AllocGlobal)) -> Pace {
     Pace::of(rt.alloc(), limits, 4_000_000).expect(rt, "memory")
 }
 
-// What is handed in of the user down and of the group up, of a session, and of what it is guaranteed.
+// The rates handed in: of the user down and of the group up, of a session, and its guarantee.
 fn rates(pace: &Pace) -> (u64, u64, u64, u64) {
     let limits = pace.limits();
     match limits.user_row(3) {
@@ -60,15 +60,15 @@ fn rates(pace: &Pace) -> (u64, u64, u64, u64) {
     }
 }
 
-/// Rounds: when they are held, what is handed in, and what they grant the user down and up.
+/// Rounds: their moments, the rates handed in, and their grants to the user down and up.
 static ROUNDS: [(u64, (u64, u64, u64, u64), u64, u64); 6] = [
-    // the first tick: a five-hundredth of each rate, ten times and one more; what is guaranteed ten times
+    // the first tick: a five-hundredth of each rate, ten times, and one more; the guarantee ten times
     (4_000_000, (101, 201, 11, 10), 4, 20),
-    // again in it: what is left, and nothing for a session
+    // the same tick: what is left, and nothing for a session
     (4_001_999, (61, 1, 1, 0), 6, 0),
-    // three ticks later, in one go
+    // three ticks later, together
     (4_007_000, (301, 601, 31, 30), 0, 0),
-    // late: no more than a tenth of a second and an octet
+    // late: at most a tenth of a second and an octet
     (4_900_000, (5_011, 10_011, 511, 500), 501, 1_001),
     // the second's last tick
     (4_999_000, (4_901, 9_801, 491, 490), 0, 0),

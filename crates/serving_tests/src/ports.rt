@@ -1,11 +1,11 @@
-//! Ports that rest. The function that bears the crate's name is the example at its head.
+//! Ports that rest. The function with the crate's name is the example in its head.
 
 use super::expect::holds;
 use linked_list_allocator::LocalHeap;
-use resting_ports::{MOST_TRIES, PoolFault, PortHost, RestingPorts, open_passive};
-use scarce_memory::{HEAP, leave_hole};
+use passive_ports::{MOST_TRIES, PoolFault, PortHost, RestingPorts, open_passive};
 use std::process::Abort;
 use std::test::Fail;
+use test_scarce_memory::{HEAP, leave_hole};
 
 #[test]
 fn resting_ports(rt: HostRuntime) -> Result<(), Fail> {
@@ -16,7 +16,7 @@ fn resting_ports(rt: HostRuntime) -> Result<(), Fail> {
     Ok(())
 }
 
-/// Of four ports in turn: a lease and the port that it gives, or a port that is given back and whether it was in use.
+/// Calls on four ports: a lease with its result, or a port that is given back with whether it was in use.
 enum Call {
     Lease(Option<u16>),
     Back(u16, bool),
@@ -30,11 +30,11 @@ static CALLS: [Call; 17] = [
     Call::Lease(Some(6)),
     Call::Lease(Some(7)),
     Call::Back(6, true),
-    // as many rest as may: the one that has rested longest is ready
+    // as many rest as may: the one that has rested longest becomes ready
     Call::Back(7, true),
     Call::Lease(Some(5)),
     Call::Lease(Some(8)),
-    // none is ready: those at rest are
+    // none is ready: those at rest become ready
     Call::Lease(Some(6)),
     Call::Lease(Some(7)),
     Call::Lease(None),
@@ -93,7 +93,7 @@ impl PortHost<u16> for Bench {
     }
 }
 
-// Which port is opened, and which is leased then, of a hundred ports.
+// The port that is opened, and the one that is leased next, of a hundred ports.
 fn opened(rt: &(impl Abort + AllocGlobal), from: u16) -> (Option<(u16, u16)>, Option<u16>) {
     let ports = RestingPorts::new(rt.alloc(), 1, 100).expect(rt, "ports");
     let mut bench = Bench { ports, from };
@@ -110,7 +110,7 @@ fn ports_are_tried(rt: HostRuntime) {
     holds(&rt, opened(&rt, 66) == (None, Some(51)));
 }
 
-// Whether ports open over this heap. If not, memory ran out.
+// Returns whether ports open over this heap. If not, memory ran out.
 fn opens(rt: &impl Abort, heap: &LocalHeap) -> bool {
     match RestingPorts::new(heap, 1, 200) {
         Ok(_) => true,

@@ -1,8 +1,8 @@
-//! Data connections over the loopback address, and what a session and a lane hand each other.
+//! Data connections over the loopback address, and what a session and a lane exchange.
 
 use crate::expect::holds;
 use data_sockets::{
-    DataConnection, Listing, Served, Told, TransferCell, accept_from, listen, socket_address,
+    DataConnection, Listing, Served, TransferCell, TransferEnd, accept_from, listen, socket_address,
 };
 use line_rates::Way;
 use session_table::{End, Octets};
@@ -27,7 +27,7 @@ fn data_sockets(rt: HostRuntime) {
         &rt,
         matches!(
             told,
-            Some(Told {
+            Some(TransferEnd {
                 end: End::Done,
                 sink: Some(3)
             })

@@ -1,4 +1,5 @@
-//! Control text with the octets that urgent data took. The function that bears the crate's name is the example at its head.
+//! Control text with the octets restored that were lost as urgent data. The function with the crate's name is the example
+//! in its head.
 
 use super::expect::holds;
 use line_mender::Mender;
@@ -16,7 +17,7 @@ fn line_mender(rt: HostRuntime) {
     assert!(rt; &late[..6] == b"NOOP\r\n".as_slice());
 }
 
-// What is handed on of pieces that are read one after another, behind each of which nothing comes for a while.
+// The octets passed on for pieces that are read one after another, each followed by a silence.
 fn mended(rt: &(impl Abort + AllocGlobal), pieces: &[&[u8]]) -> Vec<u8> {
     let mut mender = Mender::new();
     let mut all = Vec::new(rt.alloc());
@@ -37,9 +38,9 @@ fn mended(rt: &(impl Abort + AllocGlobal), pieces: &[&[u8]]) -> Vec<u8> {
     all
 }
 
-/// What is read in pieces, and what is handed on.
+/// The pieces read, and the octets passed on.
 static ROWS: [(&[&[u8]], &[u8]); 7] = [
-    // of ABOR CR LF the LF was urgent, and what follows is whole
+    // the LF of ABOR CR LF was urgent, and what follows is complete
     (
         &[b"NOOP\r\nabor\r", b"QUIT\r\n"],
         b"NOOP\r\nabor\r\nQUIT\r\n",
@@ -48,7 +49,7 @@ static ROWS: [(&[&[u8]], &[u8]); 7] = [
     (&[b"ABOR\r", b"\n", b"\n"], b"ABOR\r\n\n"),
     // the second IAC of IAC IP IAC DM was urgent
     (&[b"\xff\xf4\xf2ABOR\r\n"], b"\xff\xf4ABOR\r\n"),
-    // none was
+    // no octet was urgent
     (
         &[b"\xff\xf4\xff", b"\xf2ABOR\r\n"],
         b"\xff\xf4\xff\xf2ABOR\r\n",

@@ -3,6 +3,7 @@ use Rattle.std.proofs.Common.{◌≡◌, ◌∙◌, ℕ, Bool, true, false, cond
 use Rattle.std.proofs.lemmas.Bool.{false≢true}
 use Rattle.authorizer.specs.Users.{Users}
 use Rattle.ftp_wire.specs.Items.{Item}
+use Rattle.rate_floors.specs.Promises.{Promises}
 use Rattle.virtual_tree.specs.Calls.{Exchange}
 use Rattle.session_events.specs.Leaving.{leaving_actions, left_by, logout_actions}
 use Rattle.session_events.specs.declared.closing.Leaving.{Leaving}
@@ -13,7 +14,7 @@ use Rattle.session_table.specs.declared.actions.HookCall.TheVariants as hook
 use Rattle.session_table.specs.declared.inputs.End.{End}
 use Rattle.session_table.specs.declared.inputs.Input.TheVariants as input
 use Rattle.session_table.specs.declared.stages.Stage.TheVariants as stage
-use Rattle.session_table.specs.Plans.{Ran}
+use Rattle.session_table.specs.Plans.{RanByStore}
 use Rattle.session_table.specs.Plans.Plan.{Then}
 use Rattle.session_table.specs.Table.{SessionStep, aborts, beside, closed_row, ended_row, idle}
 use Rattle.session_table.specs.Views.{View, is_closed, is_inside, runs}
@@ -21,21 +22,21 @@ use Rattle.session_core.specs.Turns.{closed_at, ready_at}
 use Rattle.session_core.proofs.Plans.{ran_then, step_by}
 use Rattle.session_core.proofs.Tables.{at_closed, at_end, at_ready}
 
-module _ {S A R K : Type 0} (Step : S → Exchange R K → S → Type 0) (users : Users) (admits : ℕ → Bool) (view after : View) (held : List Item) (moment : ℕ) where
-  pub end_step : (end : End) (sink : Option K) (old new : S) (actions : List (Action A R K)) → Ran Step (ended_row users view moment end sink) old new after actions
-      → SessionStep Step users admits view held moment (input.TransferEnded end sink) old new after held actions
-  end_step end sink old new actions ran = step_by Step users admits view held moment (input.TransferEnded end sink) (beside held (ended_row users view moment end sink)) old new after held actions
-      (at_end users admits view held moment end sink) ran refl
+module _ {S A R K : Type 0} (Step : S → Exchange R K → S → Type 0) (users : Users) (promises : Promises) (view after : View) (held : List Item) (moment : ℕ) where
+  pub end_step : (end : End) (sink : Option K) (old new : S) (actions : List (Action A R K)) → RanByStore Step (ended_row users view moment end sink) old new after actions
+      → SessionStep Step users view held moment (input.TransferEnded end sink) old new promises promises after held actions
+  end_step end sink old new actions ran = step_by Step users view held moment (input.TransferEnded end sink) (beside held (ended_row users view moment end sink)) old new promises promises after held actions
+      (at_end users view held moment end sink) (ran promises) refl
 
   pub ready_step : (port : Option ℕ) (store : S) (kept : List Item) (actions : List (Action A R K)) → Then after actions ≡ ready_at users view port → kept ≡ held
-      → SessionStep Step users admits view held moment (input.DataReady port) store store after kept actions
-  ready_step port store kept actions is same = step_by Step users admits view held moment (input.DataReady port) (beside held (ready_at users view port)) store store after kept actions
-      (at_ready users admits view held moment port) (ran_then Step (ready_at users view port) after actions store is) same
+      → SessionStep Step users view held moment (input.DataReady port) store store promises promises after kept actions
+  ready_step port store kept actions is same = step_by Step users view held moment (input.DataReady port) (beside held (ready_at users view port)) store store promises promises after kept actions
+      (at_ready users view held moment port) (ran_then Step (ready_at users view port) after actions store promises is) same
 
   pub closed_step : (store : S) (actions : List (Action A R K)) → Then after actions ≡ closed_at view
-      → SessionStep Step users admits view held moment input.Closed store store after held actions
-  closed_step store actions is = step_by Step users admits view held moment input.Closed (beside held (closed_at view)) store store after held actions
-      (at_closed users admits view held moment) (ran_then Step (closed_at view) after actions store is) refl
+      → SessionStep Step users view held moment input.Closed store store promises promises after held actions
+  closed_step store actions is = step_by Step users view held moment input.Closed (beside held (closed_at view)) store store promises promises after held actions
+      (at_closed users view held moment) (ran_then Step (closed_at view) after actions store promises is) refl
 
 module _ {A R K : Type 0} where
   -- behind Closed nothing is to be done

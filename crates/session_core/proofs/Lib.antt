@@ -1,4 +1,3 @@
-pub mod Apart
 pub mod DataRows
 pub mod Plans
 pub mod Tables

@@ -6,8 +6,6 @@ use Rattle.ftp_wire.specs.Items.{Item}
 use Rattle.ftp_wire.specs.Reading.{item_of}
 use Rattle.ftp_wire.specs.declared.commands.Command.TheVariants as command
 use Rattle.ftp_wire.specs.declared.items.LineItem.{LineItem}
-use Rattle.rate_floors.specs.Promises.{Promises}
-use Rattle.session_core.specs.Counted.{counted_by_command, counted_by_item}
 use Rattle.session_core.specs.Turns.{asks_store, closed_at, gives_up, is_login, ready_at, ready_in, taken_by, turn_of}
 use Rattle.session_core.specs.declared.turns.Turn.{Turn}
 use Rattle.session_core.specs.declared.turns.Turn.TheVariants as turn
@@ -19,138 +17,138 @@ use Rattle.session_table.specs.declared.inputs.Input.{Input}
 use Rattle.session_table.specs.declared.inputs.Input.TheVariants as input
 use Rattle.session_table.specs.declared.stages.Control.{Control}
 use Rattle.session_table.specs.declared.stages.Control.TheVariants.{Open, Quitting, Closing}
-use Rattle.session_laws.specs.Steps.{counts_lines, holds_some, is_due, is_open}
+use Rattle.session_table.specs.Steps.{counts_lines, holds_some, is_due, is_open}
 use Rattle.session_table.specs.Table.{Taken, after_closed, beside, closed_row, controlled, ended_row, held_row, holds, idle, in_turn, meanwhile, most_held, open_row, served, table}
 use Rattle.session_table.specs.Views.{View, is_busy, is_closed}
 
-module _ {A R K : Type 0} (users : Users) (admits : ℕ → Bool) (view : View) (held : List Item) (moment : ℕ) where
+module _ {A R K : Type 0} (users : Users) (view : View) (held : List Item) (moment : ℕ) where
   -- while the control connection is open
-  pub at_open : (told : Input A K) → counts_lines view ≡ true → table {R = R} users admits view held moment told ≡ open_row users admits view held moment told
+  pub at_open : (told : Input A K) → counts_lines view ≡ true → table {R = R} users view held moment told ≡ open_row users view held moment told
   at_open told counts = by (is_closed view.stage) view.control counts
     where
       by : (closed : Bool) (control : Control) → (not closed && is_open control) ≡ true
-          → cond closed (beside held (after_closed users view moment told)) (controlled users admits view held moment told control) ≡ open_row {R = R} users admits view held moment told
+          → cond closed (beside held (after_closed users view moment told)) (controlled users view held moment told control) ≡ open_row {R = R} users view held moment told
       by false Open is = refl
       by false Quitting is = absurd (false≢true is)
       by false Closing is = absurd (false≢true is)
       by true control is = absurd (false≢true is)
 
   -- a line counts for nothing else
-  pub at_shut_line : (item : LineItem A) → counts_lines view ≡ false → table {R = R} {K = K} users admits view held moment (input.Line item) ≡ beside held (idle view)
+  pub at_shut_line : (item : LineItem A) → counts_lines view ≡ false → table {R = R} {K = K} users view held moment (input.Line item) ≡ beside held (idle view)
   at_shut_line item shut = by (is_closed view.stage) view.control shut
     where
       by : (closed : Bool) (control : Control) → (not closed && is_open control) ≡ false
-          → cond closed (beside held (after_closed users view moment (input.Line item))) (controlled users admits view held moment (input.Line item) control) ≡ beside {A = A} {R = R} {K = K} held (idle view)
+          → cond closed (beside held (after_closed users view moment (input.Line item))) (controlled users view held moment (input.Line item) control) ≡ beside {A = A} {R = R} {K = K} held (idle view)
       by true control is = refl
       by false Open is = absurd (true≢false is)
       by false Quitting is = refl
       by false Closing is = refl
 
-  pub at_shut_held : counts_lines view ≡ false → table {A = A} {R = R} {K = K} users admits view held moment input.Held ≡ beside held (idle view)
+  pub at_shut_held : counts_lines view ≡ false → table {A = A} {R = R} {K = K} users view held moment input.Held ≡ beside held (idle view)
   at_shut_held shut = by (is_closed view.stage) view.control shut
     where
       by : (closed : Bool) (control : Control) → (not closed && is_open control) ≡ false
-          → cond closed (beside held (after_closed users view moment input.Held)) (controlled users admits view held moment input.Held control) ≡ beside {A = A} {R = R} {K = K} held (idle view)
+          → cond closed (beside held (after_closed users view moment input.Held)) (controlled users view held moment input.Held control) ≡ beside {A = A} {R = R} {K = K} held (idle view)
       by true control is = refl
       by false Open is = absurd (true≢false is)
       by false Quitting is = refl
       by false Closing is = refl
 
   -- the end of a transfer counts whatever became of the control connection
-  pub at_end : (end : End) (sink : Option K) → table {A = A} {R = R} users admits view held moment (input.TransferEnded end sink) ≡ beside held (ended_row users view moment end sink)
+  pub at_end : (end : End) (sink : Option K) → table {A = A} {R = R} users view held moment (input.TransferEnded end sink) ≡ beside held (ended_row users view moment end sink)
   at_end end sink = by (is_closed view.stage) view.control
     where
       by : (closed : Bool) (control : Control)
-          → cond closed (beside held (after_closed users view moment (input.TransferEnded end sink))) (controlled users admits view held moment (input.TransferEnded end sink) control) ≡ beside {A = A} {R = R} held (ended_row users view moment end sink)
+          → cond closed (beside held (after_closed users view moment (input.TransferEnded end sink))) (controlled users view held moment (input.TransferEnded end sink) control) ≡ beside {A = A} {R = R} held (ended_row users view moment end sink)
       by true control = refl
       by false Open = refl
       by false Quitting = refl
       by false Closing = refl
 
-  pub at_ready : (port : Option ℕ) → table {A = A} {R = R} {K = K} users admits view held moment (input.DataReady port) ≡ beside held (ready_at users view port)
+  pub at_ready : (port : Option ℕ) → table {A = A} {R = R} {K = K} users view held moment (input.DataReady port) ≡ beside held (ready_at users view port)
   at_ready port = by (is_closed view.stage) view.control
     where
       by : (closed : Bool) (control : Control)
-          → cond closed (beside held (after_closed users view moment (input.DataReady port))) (controlled users admits view held moment (input.DataReady port) control) ≡ beside {A = A} {R = R} {K = K} held (cond closed (idle view) (ready_in users view port control))
+          → cond closed (beside held (after_closed users view moment (input.DataReady port))) (controlled users view held moment (input.DataReady port) control) ≡ beside {A = A} {R = R} {K = K} held (cond closed (idle view) (ready_in users view port control))
       by true control = refl
       by false Open = refl
       by false Quitting = refl
       by false Closing = refl
 
-  pub at_closed : table {A = A} {R = R} {K = K} users admits view held moment input.Closed ≡ beside held (closed_at view)
+  pub at_closed : table {A = A} {R = R} {K = K} users view held moment input.Closed ≡ beside held (closed_at view)
   at_closed = by (is_closed view.stage) view.control
     where
       by : (closed : Bool) (control : Control)
-          → cond closed (beside held (after_closed users view moment input.Closed)) (controlled users admits view held moment input.Closed control) ≡ beside {A = A} {R = R} {K = K} held (cond closed (idle view) (closed_row view))
+          → cond closed (beside held (after_closed users view moment input.Closed)) (controlled users view held moment input.Closed control) ≡ beside {A = A} {R = R} {K = K} held (cond closed (idle view) (closed_row view))
       by true control = refl
       by false Open = refl
       by false Quitting = refl
       by false Closing = refl
 
   -- a line while something has begun, by what becomes of it
-  pub meanwhile_by : (item : Item) → meanwhile {A = A} {R = R} {K = K} users admits view held moment item ≡ taken_by users admits view held moment item (turn_of item)
+  pub meanwhile_by : (item : Item) → meanwhile {A = A} {R = R} {K = K} users view held moment item ≡ taken_by users view held moment item (turn_of item)
   meanwhile_by (Ok command.Abor) = refl
   meanwhile_by (Ok command.Noop) = refl
   meanwhile_by (Ok (command.Stat None)) = refl
   meanwhile_by (Ok command.Quit) = refl
   meanwhile_by _ = refl
 
-  pub meanwhile_at : (item : Item) (t : Turn) → turn_of item ≡ t → meanwhile {A = A} {R = R} {K = K} users admits view held moment item ≡ taken_by users admits view held moment item t
-  meanwhile_at item t is = meanwhile_by item ∙ ap (taken_by users admits view held moment item) is
+  pub meanwhile_at : (item : Item) (t : Turn) → turn_of item ≡ t → meanwhile {A = A} {R = R} {K = K} users view held moment item ≡ taken_by users view held moment item t
+  meanwhile_at item t is = meanwhile_by item ∙ ap (taken_by users view held moment item) is
 
   -- a line, while something has begun and while nothing has
   pub at_busy_line : (item : LineItem A) → counts_lines view ≡ true → is_busy view.begun ≡ true
-      → table {R = R} {K = K} users admits view held moment (input.Line item) ≡ meanwhile users admits view held moment (item_of item)
+      → table {R = R} {K = K} users view held moment (input.Line item) ≡ meanwhile users view held moment (item_of item)
   at_busy_line item counts busy = at_open (input.Line item) counts ∙ by (is_busy view.begun) busy
     where
-      by : (b : Bool) → b ≡ true → cond b (meanwhile {A = A} {R = R} {K = K} users admits view held moment (item_of item)) (in_turn users admits view moment (item_of item) held) ≡ meanwhile users admits view held moment (item_of item)
+      by : (b : Bool) → b ≡ true → cond b (meanwhile {A = A} {R = R} {K = K} users view held moment (item_of item)) (in_turn users view moment (item_of item) held) ≡ meanwhile users view held moment (item_of item)
       by true is = refl
       by false is = absurd (false≢true is)
 
   pub at_idle_line : (item : LineItem A) → counts_lines view ≡ true → is_busy view.begun ≡ false
-      → table {R = R} {K = K} users admits view held moment (input.Line item) ≡ in_turn users admits view moment (item_of item) held
+      → table {R = R} {K = K} users view held moment (input.Line item) ≡ in_turn users view moment (item_of item) held
   at_idle_line item counts idle = at_open (input.Line item) counts ∙ by (is_busy view.begun) idle
     where
-      by : (b : Bool) → b ≡ false → cond b (meanwhile {A = A} {R = R} {K = K} users admits view held moment (item_of item)) (in_turn users admits view moment (item_of item) held) ≡ in_turn users admits view moment (item_of item) held
+      by : (b : Bool) → b ≡ false → cond b (meanwhile {A = A} {R = R} {K = K} users view held moment (item_of item)) (in_turn users view moment (item_of item) held) ≡ in_turn users view moment (item_of item) held
       by false is = refl
       by true is = absurd (true≢false is)
 
   -- where no line is due, none is taken
-  pub at_not_due : is_due view held ≡ false → table {A = A} {R = R} {K = K} users admits view held moment input.Held ≡ beside held (idle view)
+  pub at_not_due : is_due view held ≡ false → table {A = A} {R = R} {K = K} users view held moment input.Held ≡ beside held (idle view)
   at_not_due none = by (counts_lines view) refl
     where
       waits : (busy : Bool) (waiting : List Item) → (not busy && holds_some waiting) ≡ false
-          → cond busy (beside {A = A} {R = R} {K = K} waiting (idle view)) (held_row users admits view moment waiting) ≡ beside waiting (idle view)
+          → cond busy (beside {A = A} {R = R} {K = K} waiting (idle view)) (held_row users view moment waiting) ≡ beside waiting (idle view)
       waits true waiting is = refl
       waits false [] is = refl
       waits false (first ∷ others) is = absurd (true≢false is)
 
-      by : (b : Bool) → counts_lines view ≡ b → table {A = A} {R = R} {K = K} users admits view held moment input.Held ≡ beside held (idle view)
+      by : (b : Bool) → counts_lines view ≡ b → table {A = A} {R = R} {K = K} users view held moment input.Held ≡ beside held (idle view)
       by false shut = at_shut_held shut
       by true counts = at_open input.Held counts ∙ waits (is_busy view.begun) held (sym (ap (λ (b : Bool). (b && not (is_busy view.begun)) && holds_some held) counts) ∙ none)
 
   -- where one is due, it is the first
-  pub at_due : is_due view held ≡ true → table {A = A} {R = R} {K = K} users admits view held moment input.Held ≡ held_row users admits view moment held
+  pub at_due : is_due view held ≡ true → table {A = A} {R = R} {K = K} users view held moment input.Held ≡ held_row users view moment held
   at_due due = by (counts_lines view) refl
     where
       takes : (busy : Bool) (waiting : List Item) → (not busy && holds_some waiting) ≡ true
-          → cond busy (beside {A = A} {R = R} {K = K} waiting (idle view)) (held_row users admits view moment waiting) ≡ held_row users admits view moment waiting
+          → cond busy (beside {A = A} {R = R} {K = K} waiting (idle view)) (held_row users view moment waiting) ≡ held_row users view moment waiting
       takes false waiting is = refl
       takes true waiting is = absurd (false≢true is)
 
-      by : (b : Bool) → counts_lines view ≡ b → table {A = A} {R = R} {K = K} users admits view held moment input.Held ≡ held_row users admits view moment held
+      by : (b : Bool) → counts_lines view ≡ b → table {A = A} {R = R} {K = K} users view held moment input.Held ≡ held_row users view moment held
       by false shut = absurd (false≢true (sym (ap (λ (b : Bool). (b && not (is_busy view.begun)) && holds_some held) shut) ∙ due))
       by true counts = at_open input.Held counts ∙ takes (is_busy view.begun) held (sym (ap (λ (b : Bool). (b && not (is_busy view.begun)) && holds_some held) counts) ∙ due)
 
 -- a line behind those that wait, and a line while none waits
-pub in_turn_behind : {A R K : Type 0} (users : Users) (admits : ℕ → Bool) (view : View) (moment : ℕ) (item : Item) (held : List Item) → 0 < length held
-    → in_turn {A = A} {R = R} {K = K} users admits view moment item held ≡ holds view held item
-in_turn_behind users admits view moment item [] some = absurd (omega (arith, some))
-in_turn_behind users admits view moment item (first ∷ others) some = refl
+pub in_turn_behind : {A R K : Type 0} (users : Users) (view : View) (moment : ℕ) (item : Item) (held : List Item) → 0 < length held
+    → in_turn {A = A} {R = R} {K = K} users view moment item held ≡ holds view held item
+in_turn_behind users view moment item [] some = absurd (omega (arith, some))
+in_turn_behind users view moment item (first ∷ others) some = refl
 
-pub in_turn_alone : {A R K : Type 0} (users : Users) (admits : ℕ → Bool) (view : View) (moment : ℕ) (item : Item) (held : List Item) → held ≡ []
-    → in_turn {A = A} {R = R} {K = K} users admits view moment item held ≡ record { plan = served users admits view moment item; held = [] }
-in_turn_alone users admits view moment item held none = ap (in_turn users admits view moment item) none
+pub in_turn_alone : {A R K : Type 0} (users : Users) (view : View) (moment : ℕ) (item : Item) (held : List Item) → held ≡ []
+    → in_turn {A = A} {R = R} {K = K} users view moment item held ≡ record { plan = served users view moment item; held = [] }
+in_turn_alone users view moment item held none = ap (in_turn users view moment item) none
 
 -- a line more is held where there is room
 pub holds_few : {A R K : Type 0} (view : View) (held : List Item) (item : Item) → length held < most_held
@@ -163,33 +161,3 @@ holds_few {A} {R} {K} view held item few = by (nat_lt (length held) most_held) (
     by : (b : Bool) → b ≡ true → cond b (record { plan = idle view; held = held ++ item ∷ [] }) full ≡ record { plan = idle view; held = held ++ item ∷ [] }
     by true is = refl
     by false is = absurd (false≢true is)
-
--- what is served at once counts no session
-pub at_once_counts_none : (users : Users) (view : View) (item : Item) (promises : Promises) → turn_of item ≡ turn.AtOnce → counted_by_item users view item promises ≡ promises
-at_once_counts_none users view (Ok (command.Pass text)) promises is = absurd (true≢false (ap is_at_once is))
-  where
-    is_at_once : Turn → Bool
-    is_at_once turn.AtOnce = false
-    is_at_once turn.AtTheEnd = true
-    is_at_once turn.Held = true
-at_once_counts_none users view _ promises is = refl
-
--- nor does a command that asks the store
-pub asking_counts_none : (users : Users) (view : View) (line : Line) (promises : Promises) → asks_store line ≡ true → counted_by_command users view line promises ≡ promises
-asking_counts_none users view (command.Pass text) promises is = absurd (false≢true is)
-asking_counts_none users view _ promises is = refl
-
--- nor does one that is none of logins
-pub settled_counts_none : (users : Users) (view : View) (line : Line) (promises : Promises) → is_login line ≡ false → counted_by_command users view line promises ≡ promises
-settled_counts_none users view (command.Pass text) promises is = absurd (true≢false is)
-settled_counts_none users view _ promises is = refl
-
-abbrev is_good : {X Y : Type 0} → Result X Y → Bool
-is_good (Ok x) = true
-is_good (Err y) = false
-
--- nor one that is refused
-pub refused_counts_none : (users : Users) (view : View) (line : Line) (why : Refusal) (promises : Promises) → judged users view line ≡ Err why → counted_by_command users view line promises ≡ promises
-unfolding judged
-refused_counts_none users view (command.Pass text) why promises is = absurd (true≢false (ap is_good is))
-refused_counts_none users view _ why promises is = refl

@@ -1,4 +1,5 @@
--- What comes of the data side, as an input, and what is left to be done when the control connection is gone.
+-- Events of the data side as inputs, and the actions that are left at the end of the control
+-- connection.
 use Rattle.std.specs.Prelude.{List, [], Option, Some, None}
 use Rattle.session_core.specs.declared.events.DataEvent.{DataEvent}
 use Rattle.session_core.specs.declared.events.DataEvent.TheVariants.{Ready, Ended}
@@ -12,7 +13,7 @@ abbrev pub input_of : {A K : Type 0} → DataEvent K → Input A K
 input_of (Ready port) = input.DataReady port
 input_of (Ended end sink) = input.TransferEnded end sink
 
--- nothing is left to be done where it was gone before
+-- none if it had ended before
 abbrev pub leaving_by : {A R K : Type 0} → Option (Leaving A) → List (Action A R K)
 leaving_by None = []
 leaving_by (Some leaving) = leaving_actions leaving

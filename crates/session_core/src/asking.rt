@@ -1,28 +1,27 @@
-//! The rows that ask the store.
+//! The rows that call the store.
 
-ghost use Rattle.std.specs.Prelude.{◌≡◌, ℕ, Bool, IfOk, OnErr, false, true};
+ghost use Rattle.std.specs.Prelude.{◌≡◌, ℕ, IfOk, OnErr, false, true};
 ghost use Rattle.std.specs.String.{string_bytes};
 ghost use Rattle.authorizer.specs.Users.{Users};
 ghost use Rattle.ftp_wire.specs.Commands.{with_texts};
 ghost use Rattle.session_core.specs.Turns.{asks_store, keeps_path};
-ghost use Rattle.session_table.specs.Plans.{Ran, Stops};
+ghost use Rattle.session_table.specs.Plans.{RanByStore, Stops};
 ghost use Rattle.session_table.specs.Table.{row};
 
 use crate::turns::keeps_path;
 use authorizer::Authorizer;
 use ftp_wire::Command;
-use session_files::{
-    change_directory, make_directory, remove_directory, remove_file, rename_from, rename_to,
+use session_file_rows::{
+    Style, append, change_directory, list, list_facts, make_directory, remove_directory,
+    remove_file, rename_from, rename_to, retrieve, store_file, tell_entry, tell_listing,
     tell_moment, tell_size,
 };
-use session_listings::{Style, list, list_facts, tell_entry, tell_listing};
 use session_state::{Location, State};
 use session_table::Action;
-use session_transfers::{append, retrieve, store_file};
 use std::alloc::{AllocError, Allocator};
 use virtual_tree::Store;
 
-/// The row of a command that asks the store, and may keep a path of the location that it names.
+/// The row of a command that calls the store and may keep a path of its location.
 fn ask_keeping<A: Allocator + Clone, S: Store<A>>(
     state: &mut State<A>,
     store: &mut S,
@@ -31,14 +30,14 @@ fn ask_keeping<A: Allocator + Clone, S: Store<A>>(
     moment: u64,
 ) -> Result<Vec<Action<A, S::Source, S::Sink>, A>, AllocError>
     requires keeps { keeps_path (with_texts string_bytes command.now) ≡ true }
-    ensures row { (users : Users) → (admits : ℕ → Bool) → IfOk result (λ actions.
-        Ran S.Step
-        (row users admits state.old moment location (with_texts string_bytes command.now))
+    ensures row { (users : Users) → IfOk result (λ actions.
+        RanByStore S.Step
+        (row users state.old moment location (with_texts string_bytes command.now))
         store.old store.new state.new actions.items) }
     ensures unchanged { OnErr result (state.new ≡ state.old) }
-    ensures stops { (users : Users) → (admits : ℕ → Bool) → OnErr result (
+    ensures stops { (users : Users) → OnErr result (
         Stops {A = A} {R = S.Source} {K = S.Sink} S.Step
-        (row users admits state.old moment location (with_texts string_bytes command.now))
+        (row users state.old moment location (with_texts string_bytes command.now))
         store.old store.new) }
 {
     match command {
@@ -51,7 +50,7 @@ fn ask_keeping<A: Allocator + Clone, S: Store<A>>(
     }
 }
 
-/// The row of a command that asks the store, and keeps nothing of the location that it names.
+/// The row of a command that calls the store and keeps no path.
 fn ask_at<A: Allocator + Clone, S: Store<A>>(
     state: &mut State<A>,
     users: &Authorizer<A>,
@@ -61,15 +60,15 @@ fn ask_at<A: Allocator + Clone, S: Store<A>>(
 ) -> Result<Vec<Action<A, S::Source, S::Sink>, A>, AllocError>
     requires asks { asks_store (with_texts string_bytes command.now) ≡ true }
     requires lets_go { keeps_path (with_texts string_bytes command.now) ≡ false }
-    ensures row { (admits : ℕ → Bool) → (moment : ℕ) → IfOk result (λ actions.
-        Ran S.Step
-        (row users.now.users admits state.old moment location.now
+    ensures row { (moment : ℕ) → IfOk result (λ actions.
+        RanByStore S.Step
+        (row users.now.users state.old moment location.now
         (with_texts string_bytes command.now))
         store.old store.new state.new actions.items) }
     ensures unchanged { OnErr result (state.new ≡ state.old) }
-    ensures stops { (admits : ℕ → Bool) → (moment : ℕ) → OnErr result (
+    ensures stops { (moment : ℕ) → OnErr result (
         Stops {A = A} {R = S.Source} {K = S.Sink} S.Step
-        (row users.now.users admits state.old moment location.now
+        (row users.now.users state.old moment location.now
         (with_texts string_bytes command.now))
         store.old store.new) }
 {
@@ -89,7 +88,7 @@ fn ask_at<A: Allocator + Clone, S: Store<A>>(
     }
 }
 
-/// The row of a command that asks the store, at the location that it names.
+/// The row of a command that calls the store.
 pub(crate) fn ask<A: Allocator + Clone, S: Store<A>>(
     state: &mut State<A>,
     users: &Authorizer<A>,
@@ -99,14 +98,14 @@ pub(crate) fn ask<A: Allocator + Clone, S: Store<A>>(
     moment: u64,
 ) -> Result<Vec<Action<A, S::Source, S::Sink>, A>, AllocError>
     requires asks { asks_store (with_texts string_bytes command.now) ≡ true }
-    ensures row { (admits : ℕ → Bool) → IfOk result (λ actions.
-        Ran S.Step
-        (row users.now.users admits state.old moment location (with_texts string_bytes command.now))
+    ensures row { IfOk result (λ actions.
+        RanByStore S.Step
+        (row users.now.users state.old moment location (with_texts string_bytes command.now))
         store.old store.new state.new actions.items) }
     ensures unchanged { OnErr result (state.new ≡ state.old) }
-    ensures stops { (admits : ℕ → Bool) → OnErr result (
+    ensures stops { OnErr result (
         Stops {A = A} {R = S.Source} {K = S.Sink} S.Step
-        (row users.now.users admits state.old moment location (with_texts string_bytes command.now))
+        (row users.now.users state.old moment location (with_texts string_bytes command.now))
         store.old store.new) }
 {
     if keeps_path(command) {

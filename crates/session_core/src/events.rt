@@ -1,7 +1,8 @@
-//! What comes of the data side, and the end of the control connection, where nothing may be lost for lack of memory.
+//! Events of the data side, and the end of the control connection: nothing is lost for lack of memory.
 
-ghost use Rattle.std.specs.Prelude.{◌≡◌, ℕ, Bool, [], IfErr, IfOk, IsErr, Ok, OnErr, true};
+ghost use Rattle.std.specs.Prelude.{◌≡◌, ℕ, [], IfErr, IfOk, IsErr, Ok, OnErr, true};
 ghost use Rattle.authorizer.specs.Users.{Users};
+ghost use Rattle.rate_floors.specs.Promises.{Promises};
 ghost use Rattle.session_core.specs.Events.{input_of, leaving_by};
 ghost use Rattle.session_table.specs.declared.inputs.Input.TheVariants.{Closed};
 
@@ -12,7 +13,7 @@ use session_table::{Action, End, Text};
 use std::alloc::{AllocError, Allocator};
 use virtual_tree::Store;
 
-/// What the data side has to tell a session, with a store's sinks `K`.
+/// An event of the data side, with a store's sinks `K`.
 #[derive(Drop)]
 pub enum DataEvent<K> {
     /// The passive port, if one was free.
@@ -21,7 +22,7 @@ pub enum DataEvent<K> {
     Ended { end: End, sink: Option<K> },
 }
 
-/// What an end led to, or the end itself where memory ran out.
+/// The actions of an end, or the end itself if memory ran out.
 fn given_back<T, K: Drop>(
     answer: Result<T, AllocError>,
     end: End,
@@ -37,7 +38,7 @@ fn given_back<T, K: Drop>(
     }
 }
 
-/// What an end led to; where memory ran out, the end is dropped.
+/// The actions of an end; if memory ran out, the end is dropped.
 pub(crate) fn lacking<T, K: Drop>(answer: Result<T, DataEvent<K>>) -> Result<T, AllocError>
     ensures ok { IfOk result (λ value. answer ≡ Ok value) }
     ensures err { OnErr result (IsErr answer) }
@@ -61,9 +62,9 @@ impl<A: Allocator + Clone> Session<A> {
         sink: Option<S::Sink>,
         moment: u64,
     ) -> Result<Vec<Action<A, S::Source, S::Sink>, A>, DataEvent<S::Sink>>
-        ensures row { (admits : ℕ → Bool) → IfOk result (λ actions.
-            SessionStep S.Step users.now.users admits self.old.view self.old.held
-            moment (input_of (DataEvent.Ended end sink)) store.old store.new
+        ensures row { (promises : Promises) → IfOk result (λ actions.
+            SessionStep S.Step users.now.users self.old.view self.old.held
+            moment (input_of (DataEvent.Ended end sink)) store.old store.new promises promises
             self.new.view self.new.held actions.items) }
         ensures unchanged { OnErr result (self.new ≡ self.old) }
         ensures untouched { OnErr result (store.new ≡ store.old) }
@@ -80,9 +81,9 @@ impl<A: Allocator + Clone> Session<A> {
         users: &Authorizer<A>,
         port: Option<u16>,
     ) -> Result<Vec<Action<A, S::Source, S::Sink>, A>, DataEvent<S::Sink>>
-        ensures row { (admits : ℕ → Bool) → (moment : ℕ) → (store : S) → IfOk result (λ actions.
-            SessionStep S.Step users.now.users admits self.old.view self.old.held
-            moment (input_of (DataEvent.Ready port)) store store
+        ensures row { (promises : Promises) → (moment : ℕ) → (store : S) → IfOk result (λ actions.
+            SessionStep S.Step users.now.users self.old.view self.old.held
+            moment (input_of (DataEvent.Ready port)) store store promises promises
             self.new.view self.new.held actions.items) }
         ensures unchanged { OnErr result (self.new ≡ self.old) }
         ensures back { IfErr result (λ back. back ≡ DataEvent.Ready port) }
@@ -93,7 +94,7 @@ impl<A: Allocator + Clone> Session<A> {
         }
     }
 
-    /// What came of the data side, as `step` takes it. Where memory runs out nothing is done, and what came is given back.
+    /// Takes an event of the data side, as `step` does. If memory runs out nothing is done, and the event is returned.
     /// The moment is in milliseconds since 1970.
     pub fn take_event<S: Store<A>>(
         &mut self,
@@ -102,9 +103,9 @@ impl<A: Allocator + Clone> Session<A> {
         event: DataEvent<S::Sink>,
         moment: u64,
     ) -> Result<Vec<Action<A, S::Source, S::Sink>, A>, DataEvent<S::Sink>>
-        ensures row { (admits : ℕ → Bool) → IfOk result (λ actions.
-            SessionStep S.Step users.now.users admits self.old.view self.old.held
-            moment (input_of event) store.old store.new
+        ensures row { (promises : Promises) → IfOk result (λ actions.
+            SessionStep S.Step users.now.users self.old.view self.old.held
+            moment (input_of event) store.old store.new promises promises
             self.new.view self.new.held actions.items) }
         ensures unchanged { OnErr result (self.new ≡ self.old) }
         ensures untouched { OnErr result (store.new ≡ store.old) }
@@ -116,13 +117,13 @@ impl<A: Allocator + Clone> Session<A> {
         }
     }
 
-    /// The control connection is gone, as `step` takes `Closed`: what is then to be done, if it was not gone before. It takes
-    /// no memory, but an empty text.
+    /// Ends the control connection, as `step` does at `Closed`. Returns the actions that are left; None if it had ended
+    /// before. Takes no memory: the empty text `nobody` becomes the name.
     pub fn leave<S: Store<A>>(&mut self, nobody: Text<A>) -> Option<Leaving<A>>
         requires nobody { nobody ≡ [] }
-        ensures row { (users : Users) → (admits : ℕ → Bool) → (moment : ℕ) → (store : S) →
-            SessionStep {A = A} {R = S.Source} {K = S.Sink} S.Step users admits
-            self.old.view self.old.held moment Closed store store
+        ensures row { (users : Users) → (promises : Promises) → (moment : ℕ) → (store : S) →
+            SessionStep {A = A} {R = S.Source} {K = S.Sink} S.Step users
+            self.old.view self.old.held moment Closed store store promises promises
             self.new.view self.new.held (leaving_by result) }
         ensures closed { is_closed self.new.view.stage ≡ true }
     {
@@ -132,8 +133,8 @@ impl<A: Allocator + Clone> Session<A> {
         Some(leave(&mut self.state, nobody))
     }
 
-    /// What comes of the data side after the control connection has gone, as `step` takes it: a sink that comes back is
-    /// finished, and nothing is to be done. It takes no memory.
+    /// Takes an event of the data side after the end of the control connection, as `step` does: a returned sink is
+    /// finished, and there are no actions. Takes no memory.
     pub fn take_event_silently<S: Store<A>>(
         &mut self,
         store: &mut S,
@@ -141,10 +142,10 @@ impl<A: Allocator + Clone> Session<A> {
         moment: u64,
     )
         requires closed { is_closed self.old.view.stage ≡ true }
-        ensures row { (users : Users) → (admits : ℕ → Bool) →
-            SessionStep {A = A} {R = S.Source} S.Step users admits
-            self.old.view self.old.held moment (input_of event) store.old store.new
-            self.new.view self.new.held [] }
+        ensures row { (users : Users) → (promises : Promises) →
+            SessionStep {A = A} {R = S.Source} S.Step users
+            self.old.view self.old.held moment (input_of event)
+            store.old store.new promises promises self.new.view self.new.held [] }
         ensures closed { is_closed self.new.view.stage ≡ true }
     {
         match event {

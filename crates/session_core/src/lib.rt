@@ -1,4 +1,7 @@
-//! The session machine: each input of a control connection gets the row of the session table.
+//! The session machine: `step` is the row of the session table for each input.
+//!
+//! `order.rt` finds the first refusal of a line, or the location of its command; `served.rt` serves a line that is not
+//! refused.
 //!
 //! ```text
 //! let mut session = Session::new(rt.alloc(), settings(), PEER)?; // of a client at that address
@@ -11,14 +14,14 @@
 #![tactic(auto)]
 
 mod asking;
+mod commands;
 mod events;
-mod laws;
+mod order;
 mod served;
 mod session;
 mod settled;
 mod turns;
 
 pub use events::DataEvent;
-pub use laws::others_ask_no_floors;
 pub use session::{MOST_HELD, Session};
 pub use session_events::{Leaving, LoggedOut};

@@ -1,28 +1,27 @@
-//! One line that is served: the first refusal that holds, or else the row of its command.
+//! One served line: the first refusal, or the row of its command.
 
-ghost use Rattle.std.specs.Prelude.{◌≡◌, IfOk, OnErr, OnOk};
+ghost use Rattle.std.specs.Prelude.{◌≡◌, IfOk, OnErr};
 ghost use Rattle.std.specs.String.{string_bytes};
 ghost use Rattle.ftp_wire.specs.Commands.{with_texts};
 ghost use Rattle.ftp_wire.specs.Reading.{item_of};
-ghost use Rattle.rate_floors.specs.Promises.{admits};
-ghost use Rattle.session_core.specs.Counted.{counted_by_command, counted_by_item};
 ghost use Rattle.session_table.specs.Judged.{judged};
 ghost use Rattle.session_table.specs.Plans.{Ran, Stops};
 ghost use Rattle.session_table.specs.Table.{judged_row, left, row, served};
 
 use crate::asking::ask;
+use crate::commands::{is_rnfr, needs_data};
+use crate::order::judge;
 use crate::settled::settle;
 use crate::turns::asks_store;
 use authorizer::Authorizer;
 use ftp_wire::{Command, LineItem};
 use rate_floors::Floors;
-use session_judge::{is_rnfr, judge, needs_data};
 use session_state::{Location, State};
 use session_table::{Action, Answer};
 use std::alloc::{AllocError, Allocator};
 use virtual_tree::Store;
 
-/// The row of a command that is not refused, at the location that it names.
+/// The row of a command that is not refused, at its location.
 fn row<A: Allocator + Clone, F: Allocator + Clone, S: Store<A>>(
     state: &mut State<A>,
     users: &Authorizer<A>,
@@ -34,19 +33,13 @@ fn row<A: Allocator + Clone, F: Allocator + Clone, S: Store<A>>(
 ) -> Result<Vec<Action<A, S::Source, S::Sink>, A>, AllocError>
     ensures row { IfOk result (λ actions.
         Ran S.Step
-        (row users.now.users (admits floors.old) state.old moment location
-        (with_texts string_bytes command.now))
-        store.old store.new state.new actions.items) }
+        (row users.now.users state.old moment location (with_texts string_bytes command.now))
+        store.old store.new floors.old floors.new state.new actions.items) }
     ensures unchanged { OnErr result (state.new ≡ state.old) }
     ensures stops { OnErr result (
         Stops {A = A} {R = S.Source} {K = S.Sink} S.Step
-        (row users.now.users (admits floors.old) state.old moment location
-        (with_texts string_bytes command.now))
+        (row users.now.users state.old moment location (with_texts string_bytes command.now))
         store.old store.new) }
-    ensures counted { OnOk result (
-        floors.new
-        ≡ counted_by_command users.now.users state.old
-        (with_texts string_bytes command.now) floors.old) }
     ensures uncounted { OnErr result (floors.new ≡ floors.old) }
 {
     if asks_store(command) {
@@ -55,7 +48,7 @@ fn row<A: Allocator + Clone, F: Allocator + Clone, S: Store<A>>(
     settle(state, users, floors, command)
 }
 
-/// The first refusal of a command that holds, or else its row.
+/// The first refusal of a command, or its row.
 fn serve_judged<A: Allocator + Clone, F: Allocator + Clone, S: Store<A>>(
     state: &mut State<A>,
     users: &Authorizer<A>,
@@ -66,21 +59,17 @@ fn serve_judged<A: Allocator + Clone, F: Allocator + Clone, S: Store<A>>(
 ) -> Result<Vec<Action<A, S::Source, S::Sink>, A>, AllocError>
     ensures row { IfOk result (λ actions.
         Ran S.Step
-        (judged_row users.now.users (admits floors.old) state.old moment
+        (judged_row users.now.users state.old moment
         (with_texts string_bytes command.now)
         (judged users.now.users state.old (with_texts string_bytes command.now)))
-        store.old store.new state.new actions.items) }
+        store.old store.new floors.old floors.new state.new actions.items) }
     ensures unchanged { OnErr result (state.new ≡ state.old) }
     ensures stops { OnErr result (
         Stops {A = A} {R = S.Source} {K = S.Sink} S.Step
-        (judged_row users.now.users (admits floors.old) state.old moment
+        (judged_row users.now.users state.old moment
         (with_texts string_bytes command.now)
         (judged users.now.users state.old (with_texts string_bytes command.now)))
         store.old store.new) }
-    ensures counted { OnOk result (
-        floors.new
-        ≡ counted_by_command users.now.users state.old
-        (with_texts string_bytes command.now) floors.old) }
     ensures uncounted { OnErr result (floors.new ≡ floors.old) }
 {
     match judge(state, users, command)? {
@@ -89,7 +78,7 @@ fn serve_judged<A: Allocator + Clone, F: Allocator + Clone, S: Store<A>>(
     }
 }
 
-/// What RNFR named is forgotten by any next line, and a command that moves data leaves no offset.
+/// Forgets the path that RNFR named, unless this is RNFR, and the offset after a command that moves data.
 fn leave<A: Allocator + Clone>(state: &mut State<A>, command: &Command<String<A>>)
     ensures left { state.new ≡ left (with_texts string_bytes command.now) state.old }
 {
@@ -101,7 +90,7 @@ fn leave<A: Allocator + Clone>(state: &mut State<A>, command: &Command<String<A>
     }
 }
 
-/// A line that is served.
+/// Serves a line.
 pub(crate) fn serve<A: Allocator + Clone, F: Allocator + Clone, S: Store<A>>(
     state: &mut State<A>,
     users: &Authorizer<A>,
@@ -112,15 +101,13 @@ pub(crate) fn serve<A: Allocator + Clone, F: Allocator + Clone, S: Store<A>>(
 ) -> Result<Vec<Action<A, S::Source, S::Sink>, A>, AllocError>
     ensures row { IfOk result (λ actions.
         Ran S.Step
-        (served users.now.users (admits floors.old) state.old moment (item_of item.now))
-        store.old store.new state.new actions.items) }
+        (served users.now.users state.old moment (item_of item.now))
+        store.old store.new floors.old floors.new state.new actions.items) }
     ensures unchanged { OnErr result (state.new ≡ state.old) }
     ensures stops { OnErr result (
         Stops {A = A} {R = S.Source} {K = S.Sink} S.Step
-        (served users.now.users (admits floors.old) state.old moment (item_of item.now))
+        (served users.now.users state.old moment (item_of item.now))
         store.old store.new) }
-    ensures counted { OnOk result (
-        floors.new ≡ counted_by_item users.now.users state.old (item_of item.now) floors.old) }
     ensures uncounted { OnErr result (floors.new ≡ floors.old) }
 {
     match item {

@@ -1,10 +1,7 @@
-//! A session, and the lines that it holds.
+//! A session, and its held lines.
 
-ghost use Rattle.std.specs.Prelude.{◌≡◌, ◌<◌, ◌≤◌, ◌+◌, [], ◌∷◌, ◌++◌, cond, IfOk, OnErr, OnOk, vec_len, vec_capacity};
-ghost use Rattle.rate_floors.specs.Promises.{admits};
-ghost use Rattle.session_core.specs.Counted.{asks_floors, counted_by_step};
+ghost use Rattle.std.specs.Prelude.{◌≡◌, [], ◌∷◌, ◌++◌, IfOk, OnErr};
 ghost use Rattle.session_core.specs.Turns.{IsTaken, closed_at, gives_up, ready_at};
-ghost use Rattle.session_table.specs.declared.actions.Action.TheVariants.{Abort};
 ghost use Rattle.session_table.specs.declared.inputs.Input.TheVariants.{Held, Line};
 
 use crate::events::lacking;
@@ -14,14 +11,14 @@ use authorizer::Authorizer;
 use ftp_wire::LineItem;
 use rate_floors::Floors;
 use session_events::{close, take_port};
-use session_login::greet;
-use session_state::{State, put, with_room};
+use session_state::{State, put, put_abort, room_for};
+use session_state_rows::greet;
 use session_table::{Action, Answer, Control, Input, Refusal, Settings, Stage};
 use std::alloc::{AllocError, Allocator, Global};
 use std::marker::Model;
 use virtual_tree::Store;
 
-/// The most lines that are held.
+/// Maximum number of held lines.
 pub const MOST_HELD: usize = 16;
 
 /// A control connection, from its greeting to its end.
@@ -33,23 +30,11 @@ pub struct Session<A: Allocator = Global> {
 
 impl<A: Allocator> Model for Session<A> {
     ghost use Rattle.ftp_wire.specs.Reading.{items_of};
-    ghost use Rattle.session_laws.specs.Steps.{Standing};
+    ghost use Rattle.session_table.specs.Steps.{Standing};
 
     ghost Value = { Standing };
 
     ghost view = { λ session. record { view = session.state; held = items_of session.held.items } };
-}
-
-/// A transfer that runs is aborted.
-fn put_abort<A: Allocator, R: Drop, K: Drop>(actions: &mut Vec<Action<A, R, K>, A>, runs: bool)
-    requires room { vec_len actions.old < vec_capacity actions.old }
-    ensures items { actions.new.items ≡ actions.old.items ++ cond runs (Abort ∷ []) [] }
-    ensures len { vec_len actions.new ≤ vec_len actions.old + 1 }
-    ensures kept { vec_capacity actions.old ≤ vec_capacity actions.new }
-{
-    if runs {
-        put(actions, Action::Abort);
-    }
 }
 
 impl<A: Allocator + Clone> Session<A> {
@@ -57,11 +42,11 @@ impl<A: Allocator + Clone> Session<A> {
     ghost use Rattle.session_table.specs.Plans.{Stops};
     ghost use Rattle.session_table.specs.Plans.Plan.{Then};
     ghost use Rattle.session_table.specs.StateRows.{greeting};
-    ghost use Rattle.session_laws.specs.Steps.{SessionStops, Took, counts_lines, is_due};
+    ghost use Rattle.session_table.specs.Steps.{SessionStops, Took, asks_floors, counts_lines, is_due};
     ghost use Rattle.session_table.specs.Table.{SessionStep, holds, idle, meanwhile};
     ghost use Rattle.session_table.specs.Views.{fresh, is_closed};
 
-    /// A session as it begins, of a client at this address.
+    /// A new session of a client at this address.
     pub fn new(alloc: A, settings: Settings<A>, peer: [u8; 4]) -> Result<Session<A>, AllocError>
         ensures fresh { IfOk result (λ session.
             session ≡ record { view = fresh settings peer; held = [] }) }
@@ -71,7 +56,7 @@ impl<A: Allocator + Clone> Session<A> {
         Ok(Session { state, held })
     }
 
-    /// What a new client is told, before any line comes.
+    /// Makes the greeting, which comes before any line.
     pub fn greet<R: Drop, K: Drop>(&self) -> Result<Vec<Action<A, R, K>, A>, AllocError>
         ensures row { IfOk result (λ actions.
             Then self.now.view actions.items ≡ greeting self.now.view) }
@@ -85,22 +70,22 @@ impl<A: Allocator + Clone> Session<A> {
         self.state.stage() == Stage::Closed
     }
 
-    /// Whether lines count.
+    /// Returns whether lines are served or held, and not ignored.
     fn is_open(&self) -> bool
         ensures open { result ≡ counts_lines self.now.view }
     {
         !self.is_closed() && self.state.control() == Control::Open
     }
 
-    /// Whether the input `Held` takes a line.
+    /// Returns whether the input `Held` takes a line.
     pub fn held_due(&self) -> bool
         ensures due { result ≡ is_due self.now.view self.now.held }
     {
         self.is_open() && !self.state.is_busy() && !self.held.is_empty()
     }
 
-    /// Whether the step of this input asks the floors whether a session is admitted, and counts it: it serves PASS. No
-    /// other step looks at them, so a host lends them to such a step alone.
+    /// Returns whether the step of this input serves PASS. No other step asks for admission (`others_ask_no_floors` of
+    /// `session_table`), so a host lends the floors to such a step alone.
     pub fn asks_floors<K>(&self, input: &Input<A, K>) -> bool
         ensures asks { result ≡ asks_floors self.now.held input.now }
     {
@@ -117,17 +102,17 @@ impl<A: Allocator + Clone> Session<A> {
     fn nothing<R: Drop, K: Drop>(&self) -> Result<Vec<Action<A, R, K>, A>, AllocError>
         ensures idle { IfOk result (λ actions. actions.items ≡ []) }
     {
-        with_room(self.state.alloc()?, 0)
+        room_for(&self.state, 0)
     }
 
-    /// A line too many: the control connection is to be closed.
+    /// Takes one line too many: aborts a running transfer and closes the control connection.
     fn give_up<R: Drop, K: Drop>(&mut self) -> Result<Vec<Action<A, R, K>, A>, AllocError>
         ensures row { IfOk result (λ actions.
             Then self.new.view actions.items ≡ gives_up self.old.view) }
         ensures held { self.new.held ≡ self.old.held }
         ensures unchanged { OnErr result (self.new ≡ self.old) }
     {
-        let mut actions = with_room(self.state.alloc()?, 3)?;
+        let mut actions = room_for(&self.state, 3)?;
         let refused = Answer::Refusal(Refusal::TooManyHeldLines);
         put(&mut actions, Action::Say(refused));
         put_abort(&mut actions, self.state.runs());
@@ -136,7 +121,7 @@ impl<A: Allocator + Clone> Session<A> {
         Ok(actions)
     }
 
-    /// A line more waits, behind those that do.
+    /// Holds one line more.
     fn keep<R: Drop, K: Drop>(
         &mut self,
         item: LineItem<A>,
@@ -152,7 +137,7 @@ impl<A: Allocator + Clone> Session<A> {
         Ok(actions)
     }
 
-    /// A line that must wait, behind those that do; the 17th ends the control connection.
+    /// Holds a line; the 17th ends the control connection.
     fn hold<R: Drop, K: Drop>(
         &mut self,
         item: LineItem<A>,
@@ -168,7 +153,7 @@ impl<A: Allocator + Clone> Session<A> {
         self.keep(item)
     }
 
-    /// A line while something has begun.
+    /// A line while a transfer runs or a passive port is awaited.
     fn take_meanwhile<F: Allocator + Clone, S: Store<A>>(
         &mut self,
         users: &Authorizer<A>,
@@ -179,14 +164,15 @@ impl<A: Allocator + Clone> Session<A> {
     ) -> Result<Vec<Action<A, S::Source, S::Sink>, A>, AllocError>
         ensures row { IfOk result (λ actions.
             Took S.Step
-            (meanwhile users.now.users (admits floors.old) self.old.view self.old.held moment
-            (item_of item)) store.old store.new self.new actions.items) }
+            (meanwhile users.now.users self.old.view self.old.held moment
+            (item_of item)) store.old store.new floors.old floors.new
+            self.new actions.items) }
         ensures unchanged { OnErr result (self.new ≡ self.old) }
         ensures stops { OnErr result (
             Stops {A = A} {R = S.Source} {K = S.Sink} S.Step
-            (meanwhile users.now.users (admits floors.old) self.old.view self.old.held moment
+            (meanwhile users.now.users self.old.view self.old.held moment
             (item_of item)).plan store.old store.new) }
-        ensures uncounted { floors.new ≡ floors.old }
+        ensures uncounted { OnErr result (floors.new ≡ floors.old) }
     {
         match turn_of(&item) {
             Turn::AtOnce => {
@@ -204,7 +190,7 @@ impl<A: Allocator + Clone> Session<A> {
         }
     }
 
-    /// A line as it comes.
+    /// A new line.
     fn take_line<F: Allocator + Clone, S: Store<A>>(
         &mut self,
         users: &Authorizer<A>,
@@ -214,17 +200,14 @@ impl<A: Allocator + Clone> Session<A> {
         moment: u64,
     ) -> Result<Vec<Action<A, S::Source, S::Sink>, A>, AllocError>
         ensures row { IfOk result (λ actions.
-            SessionStep S.Step users.now.users (admits floors.old) self.old.view self.old.held
-            moment (Line item) store.old store.new self.new.view self.new.held actions.items) }
+            SessionStep S.Step users.now.users self.old.view self.old.held
+            moment (Line item) store.old store.new floors.old floors.new
+            self.new.view self.new.held actions.items) }
         ensures unchanged { OnErr result (self.new ≡ self.old) }
         ensures stops { OnErr result (
             SessionStops {A = A} {R = S.Source} {K = S.Sink} S.Step users.now.users
-            (admits floors.old) self.old.view self.old.held moment (Line item)
+            self.old.view self.old.held moment (Line item)
             store.old store.new) }
-        ensures counted { OnOk result (
-            floors.new
-            ≡ counted_by_step {A = A} {K = S.Sink} users.now.users self.old.view self.old.held
-            (Line item) floors.old) }
         ensures uncounted { OnErr result (floors.new ≡ floors.old) }
     {
         if !self.is_open() {
@@ -242,7 +225,7 @@ impl<A: Allocator + Clone> Session<A> {
         answer
     }
 
-    /// The first of the lines that wait.
+    /// The first of the held lines.
     fn take_held<F: Allocator + Clone, S: Store<A>>(
         &mut self,
         users: &Authorizer<A>,
@@ -251,16 +234,13 @@ impl<A: Allocator + Clone> Session<A> {
         moment: u64,
     ) -> Result<Vec<Action<A, S::Source, S::Sink>, A>, AllocError>
         ensures row { IfOk result (λ actions.
-            SessionStep S.Step users.now.users (admits floors.old) self.old.view self.old.held
-            moment Held store.old store.new self.new.view self.new.held actions.items) }
+            SessionStep S.Step users.now.users self.old.view self.old.held
+            moment Held store.old store.new floors.old floors.new
+            self.new.view self.new.held actions.items) }
         ensures unchanged { OnErr result (self.new ≡ self.old) }
         ensures stops { OnErr result (
             SessionStops {A = A} {R = S.Source} {K = S.Sink} S.Step users.now.users
-            (admits floors.old) self.old.view self.old.held moment Held store.old store.new) }
-        ensures counted { OnOk result (
-            floors.new
-            ≡ counted_by_step {A = A} {K = S.Sink} users.now.users self.old.view self.old.held
-            Held floors.old) }
+            self.old.view self.old.held moment Held store.old store.new) }
         ensures uncounted { OnErr result (floors.new ≡ floors.old) }
     {
         if !self.held_due() {
@@ -271,7 +251,7 @@ impl<A: Allocator + Clone> Session<A> {
         Ok(actions)
     }
 
-    /// A passive port came, or none was free; behind CloseControl and Closed it counts no more.
+    /// A passive port, or that none was free; after CloseControl and Closed it is ignored.
     pub(crate) fn take_port<R: Drop, K: Drop>(
         &mut self,
         users: &Authorizer<A>,
@@ -302,11 +282,11 @@ impl<A: Allocator + Clone> Session<A> {
         close(&mut self.state)
     }
 
-    /// What an input makes of the session, and what is to be done: the row of the session table. The
-    /// moment is in milliseconds since 1970.
+    /// Takes an input and returns the actions: the row of the session table. The moment is in
+    /// milliseconds since 1970.
     ///
-    /// `Err` is lack of memory: the session and the floors are then as they were, the store is as looks at it, if any,
-    /// leave it, and a sink that came back is dropped. `take_event` gives it back instead.
+    /// `Err` is lack of memory: the session and the floors are then unchanged, the store is as its looks, if any, left
+    /// it, and a sink that came back is dropped. `take_event` returns it instead.
     pub fn step<F: Allocator + Clone, S: Store<A>>(
         &mut self,
         users: &Authorizer<A>,
@@ -316,16 +296,13 @@ impl<A: Allocator + Clone> Session<A> {
         moment: u64,
     ) -> Result<Vec<Action<A, S::Source, S::Sink>, A>, AllocError>
         ensures row { IfOk result (λ actions.
-            SessionStep S.Step users.now.users (admits floors.old) self.old.view self.old.held
-            moment input store.old store.new self.new.view self.new.held actions.items) }
+            SessionStep S.Step users.now.users self.old.view self.old.held
+            moment input store.old store.new floors.old floors.new
+            self.new.view self.new.held actions.items) }
         ensures unchanged { OnErr result (self.new ≡ self.old) }
         ensures stops { OnErr result (
             SessionStops {A = A} {R = S.Source} {K = S.Sink} S.Step users.now.users
-            (admits floors.old) self.old.view self.old.held moment input store.old store.new) }
-        ensures counted { OnOk result (
-            floors.new
-            ≡ counted_by_step {A = A} {K = S.Sink} users.now.users self.old.view self.old.held
-            input floors.old) }
+            self.old.view self.old.held moment input store.old store.new) }
         ensures uncounted { OnErr result (floors.new ≡ floors.old) }
     {
         match input {

@@ -1,13 +1,12 @@
-//! The rows on the session alone: no store is asked.
+//! The rows that make no call of the store.
 
-ghost use Rattle.std.specs.Prelude.{◌≡◌, ℕ, Bool, IfOk, OnErr, OnOk, [], false, option_map, true, unwrap_or};
+ghost use Rattle.std.specs.Prelude.{◌≡◌, ℕ, IfOk, OnErr, [], false, option_map, true, unwrap_or};
 ghost use Rattle.std.specs.String.{string_bytes};
 ghost use Rattle.authorizer.specs.Users.{Users};
 ghost use Rattle.ftp_wire.specs.Commands.{with_texts};
-ghost use Rattle.rate_floors.specs.Promises.{admits};
-ghost use Rattle.session_core.specs.Counted.{counted_by_command};
 ghost use Rattle.session_core.specs.Turns.{asks_store, is_login, is_on_data};
 ghost use Rattle.session_table.specs.Judged.{Location};
+ghost use Rattle.session_table.specs.Plans.{RanByFloors};
 ghost use Rattle.session_table.specs.Plans.Plan.{Then};
 ghost use Rattle.session_table.specs.Table.{row};
 
@@ -15,12 +14,12 @@ use crate::turns::{is_login, is_on_data};
 use authorizer::Authorizer;
 use ftp_wire::Command;
 use rate_floors::Floors;
-use session_login::{check_password, name_user, quit, reinitialize};
-use session_parameters::{
-    abort, connect_to, connect_to_extended, open_extended, open_passive, set_offset, set_option,
-    set_type, tell_directory, tell_features, tell_status,
-};
 use session_state::State;
+use session_state_rows::{
+    abort, check_password, connect_to, connect_to_extended, name_user, open_extended, open_passive,
+    quit, reinitialize, set_offset, set_option, set_type, tell_directory, tell_features,
+    tell_status,
+};
 use session_table::{Action, Notice, Passive};
 use std::alloc::{AllocError, Allocator};
 
@@ -33,7 +32,7 @@ fn text_or_none<A: Allocator>(text: &Option<String<A>>) -> &str
     }
 }
 
-/// The row of a command of logins.
+/// The row of USER, PASS, QUIT or REIN.
 fn settle_login<A: Allocator + Clone, F: Allocator + Clone, R: Drop, K: Drop>(
     state: &mut State<A>,
     users: &Authorizer<A>,
@@ -42,14 +41,10 @@ fn settle_login<A: Allocator + Clone, F: Allocator + Clone, R: Drop, K: Drop>(
 ) -> Result<Vec<Action<A, R, K>, A>, AllocError>
     requires login { is_login (with_texts string_bytes command.now) ≡ true }
     ensures row { IfOk result (λ actions. (moment : ℕ) (location : Location)
-        → Then state.new actions.items
-        ≡ row users.now.users (admits floors.old) state.old moment location
-        (with_texts string_bytes command.now)) }
+        → RanByFloors
+        (row users.now.users state.old moment location (with_texts string_bytes command.now))
+        floors.old floors.new state.new actions.items) }
     ensures unchanged { OnErr result (state.new ≡ state.old) }
-    ensures counted { OnOk result (
-        floors.new
-        ≡ counted_by_command users.now.users state.old
-        (with_texts string_bytes command.now) floors.old) }
     ensures uncounted { OnErr result (floors.new ≡ floors.old) }
 {
     match command {
@@ -67,10 +62,9 @@ fn settle_data<A: Allocator + Clone, R: Drop, K: Drop>(
     command: &Command<String<A>>,
 ) -> Result<Vec<Action<A, R, K>, A>, AllocError>
     requires data { is_on_data (with_texts string_bytes command.now) ≡ true }
-    ensures row { IfOk result (λ actions. (users : Users) (admits : ℕ → Bool) (moment : ℕ)
-        (location : Location)
+    ensures row { IfOk result (λ actions. (users : Users) (moment : ℕ) (location : Location)
         → Then state.new actions.items
-        ≡ row users admits state.old moment location (with_texts string_bytes command.now)) }
+        ≡ row users state.old moment location (with_texts string_bytes command.now)) }
     ensures unchanged { OnErr result (state.new ≡ state.old) }
 {
     match command {
@@ -84,7 +78,7 @@ fn settle_data<A: Allocator + Clone, R: Drop, K: Drop>(
     }
 }
 
-/// The row of any other command that asks no store.
+/// The row of any other command that makes no call of the store.
 fn settle_other<A: Allocator + Clone, R: Drop, K: Drop>(
     state: &mut State<A>,
     command: &Command<String<A>>,
@@ -92,10 +86,9 @@ fn settle_other<A: Allocator + Clone, R: Drop, K: Drop>(
     requires settled { asks_store (with_texts string_bytes command.now) ≡ false }
     requires no_login { is_login (with_texts string_bytes command.now) ≡ false }
     requires no_data { is_on_data (with_texts string_bytes command.now) ≡ false }
-    ensures row { IfOk result (λ actions. (users : Users) (admits : ℕ → Bool) (moment : ℕ)
-        (location : Location)
+    ensures row { IfOk result (λ actions. (users : Users) (moment : ℕ) (location : Location)
         → Then state.new actions.items
-        ≡ row users admits state.old moment location (with_texts string_bytes command.now)) }
+        ≡ row users state.old moment location (with_texts string_bytes command.now)) }
     ensures unchanged { OnErr result (state.new ≡ state.old) }
 {
     match command {
@@ -114,7 +107,7 @@ fn settle_other<A: Allocator + Clone, R: Drop, K: Drop>(
     }
 }
 
-/// The row of a command that asks no store.
+/// The row of a command that makes no call of the store.
 pub(crate) fn settle<A: Allocator + Clone, F: Allocator + Clone, R: Drop, K: Drop>(
     state: &mut State<A>,
     users: &Authorizer<A>,
@@ -123,14 +116,10 @@ pub(crate) fn settle<A: Allocator + Clone, F: Allocator + Clone, R: Drop, K: Dro
 ) -> Result<Vec<Action<A, R, K>, A>, AllocError>
     requires settled { asks_store (with_texts string_bytes command.now) ≡ false }
     ensures row { IfOk result (λ actions. (moment : ℕ) (location : Location)
-        → Then state.new actions.items
-        ≡ row users.now.users (admits floors.old) state.old moment location
-        (with_texts string_bytes command.now)) }
+        → RanByFloors
+        (row users.now.users state.old moment location (with_texts string_bytes command.now))
+        floors.old floors.new state.new actions.items) }
     ensures unchanged { OnErr result (state.new ≡ state.old) }
-    ensures counted { OnOk result (
-        floors.new
-        ≡ counted_by_command users.now.users state.old
-        (with_texts string_bytes command.now) floors.old) }
     ensures uncounted { OnErr result (floors.new ≡ floors.old) }
 {
     if is_login(command) {

@@ -1,16 +1,16 @@
-//! What becomes of a line, by its code alone.
+//! Kinds of commands.
 
 ghost use Rattle.std.specs.Prelude.{◌≡◌};
 ghost use Rattle.std.specs.String.{string_bytes};
 ghost use Rattle.ftp_wire.specs.Commands.{with_texts};
 ghost use Rattle.ftp_wire.specs.Reading.{item_of};
-ghost use Rattle.session_core.specs.Counted.{is_pass};
+ghost use Rattle.session_table.specs.Steps.{is_pass};
 ghost use Rattle.session_core.specs.Turns.{asks_store, is_login, is_on_data, keeps_path, turn_of};
 
 use ftp_wire::{Command, LineItem};
 use std::alloc::Allocator;
 
-/// Whether the row of a command asks the store.
+/// Returns whether the row of a command makes a call of the store.
 pub(crate) fn asks_store<A: Allocator>(command: &Command<String<A>>) -> bool
     ensures asks { result ≡ asks_store (with_texts string_bytes command.now) }
 {
@@ -36,7 +36,7 @@ pub(crate) fn asks_store<A: Allocator>(command: &Command<String<A>>) -> bool
     }
 }
 
-/// Whether the row of a command may keep a path of its location.
+/// Returns whether the row of a command may keep a path of its location.
 pub(crate) fn keeps_path<A: Allocator>(command: &Command<String<A>>) -> bool
     ensures keeps { result ≡ keeps_path (with_texts string_bytes command.now) }
 {
@@ -51,7 +51,7 @@ pub(crate) fn keeps_path<A: Allocator>(command: &Command<String<A>>) -> bool
     )
 }
 
-/// Whether the row of a command is one of logins.
+/// Returns whether the command is USER, PASS, QUIT or REIN.
 pub(crate) fn is_login<A: Allocator>(command: &Command<String<A>>) -> bool
     ensures login { result ≡ is_login (with_texts string_bytes command.now) }
 {
@@ -61,7 +61,7 @@ pub(crate) fn is_login<A: Allocator>(command: &Command<String<A>>) -> bool
     )
 }
 
-/// Whether the row of a command is on data connections.
+/// Returns whether the command is on data connections.
 pub(crate) fn is_on_data<A: Allocator>(command: &Command<String<A>>) -> bool
     ensures data { result ≡ is_on_data (with_texts string_bytes command.now) }
 {
@@ -76,19 +76,19 @@ pub(crate) fn is_on_data<A: Allocator>(command: &Command<String<A>>) -> bool
     )
 }
 
-/// Whether a line is PASS.
+/// Returns whether a line is PASS.
 pub(crate) fn is_pass<A: Allocator>(item: &LineItem<A>) -> bool
     ensures pass { result ≡ is_pass (item_of item.now) }
 {
     matches!(item, LineItem::Command(Command::Pass(_)))
 }
 
-/// What becomes of a line while something has begun.
+/// The handling of a line while a transfer runs or a passive port is awaited.
 #[derive(Clone, Copy, Debug, PartialEq, Eq)]
 pub(crate) enum Turn {
     /// ABOR, NOOP, and STAT without an argument are served at once.
     AtOnce,
-    /// QUIT waits for the end, and behind it no line counts.
+    /// QUIT waits for the end, and later lines are ignored.
     AtTheEnd,
     /// All others are held.
     Held,

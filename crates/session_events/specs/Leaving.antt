@@ -1,4 +1,4 @@
--- What is to be done when the control connection is gone.
+-- The actions that are left at the end of the control connection.
 use Rattle.std.specs.Prelude.{ℕ, Bool, cond, List, [], ◌∷◌, ◌++◌, Option, Some, None}
 use Rattle.session_events.specs.declared.closing.Leaving.{Leaving}
 use Rattle.session_events.specs.declared.closing.LoggedOut.{LoggedOut}
@@ -7,9 +7,10 @@ use Rattle.session_table.specs.declared.actions.Action.TheVariants.{Abort, Hook,
 use Rattle.session_table.specs.declared.actions.HookCall.TheVariants.{Logout, Disconnect}
 use Rattle.session_table.specs.Views.{View, is_inside}
 
--- whoever is logged in
+-- the user who is logged in, if any
 abbrev pub left_by : {A : Type 0} → View → Option (LoggedOut A)
-left_by view = cond (is_inside view.stage) (Some (record { name = view.name; number = view.number })) None
+left_by view =
+    cond (is_inside view.stage) (Some (record { name = view.name; number = view.number })) None
 
 module _ {A R K : Type 0} where
   abbrev pub abort_actions : Bool → List (Action A R K)
@@ -19,6 +20,8 @@ module _ {A R K : Type 0} where
   logout_actions None = []
   logout_actions (Some left) = Hook (Logout left.name) ∷ ReleaseFloor left.number ∷ []
 
-  -- what runs is aborted, a handler is told of who leaves, what they are guaranteed is released, and a handler is told of the end
+  -- a running transfer is aborted, the handler is called for the logout, the guaranteed rate is
+  -- released, and the handler is called for the end
   abbrev pub leaving_actions : Leaving A → List (Action A R K)
-  leaving_actions leaving = abort_actions leaving.aborts ++ logout_actions leaving.left ++ (Hook Disconnect ∷ [])
+  leaving_actions leaving =
+      abort_actions leaving.aborts ++ logout_actions leaving.left ++ (Hook Disconnect ∷ [])

@@ -1,49 +1,34 @@
 //! The end of the control connection.
 
-ghost use Rattle.std.specs.Prelude.{◌≡◌, ◌<◌, ◌≤◌, ◌+◌, [], ◌∷◌, ◌++◌, cond, IfOk, OnErr, vec_len, vec_capacity};
+ghost use Rattle.std.specs.Prelude.{◌≡◌, [], IfOk, OnErr};
 ghost use Rattle.session_events.specs.Leaving.{left_by};
-ghost use Rattle.session_table.specs.declared.actions.Action.TheVariants.{Abort};
 ghost use Rattle.session_table.specs.declared.stages.Stage.TheVariants.{Closed};
 ghost use Rattle.session_table.specs.Plans.Plan.{Then};
 ghost use Rattle.session_table.specs.Table.{closed_row};
 ghost use Rattle.session_table.specs.Views.{runs};
 
-use crate::ends::room;
-use session_login::put_leaving;
-use session_state::{State, put};
+use session_state::{State, put, put_abort, put_leaving, room_for};
 use session_table::{Action, HookCall, Text};
 use std::alloc::{AllocError, Allocator};
 
-/// A transfer that runs is aborted.
-fn put_abort<A: Allocator, R: Drop, K: Drop>(actions: &mut Vec<Action<A, R, K>, A>, runs: bool)
-    requires room { vec_len actions.old < vec_capacity actions.old }
-    ensures items { actions.new.items ≡ actions.old.items ++ cond runs (Abort ∷ []) [] }
-    ensures len { vec_len actions.new ≤ vec_len actions.old + 1 }
-    ensures kept { vec_capacity actions.old ≤ vec_capacity actions.new }
-{
-    if runs {
-        put(actions, Action::Abort);
-    }
-}
-
-/// Who was logged in when the control connection went.
+/// The user who was logged in at the end of the control connection.
 #[derive(Drop)]
 pub struct LoggedOut<A: Allocator> {
     pub name: Text<A>,
     pub number: u32,
 }
 
-/// What is to be done when the control connection is gone.
+/// The actions that are left at the end of the control connection.
 #[derive(Drop)]
 pub struct Leaving<A: Allocator> {
     /// A transfer runs, and is to be aborted.
     pub aborts: bool,
-    /// Whoever was logged in: a handler is told, and what they are guaranteed is released.
+    /// The user who was logged in, if any: the handler is called, and the guaranteed rate is released.
     pub left: Option<LoggedOut<A>>,
 }
 
-/// The control connection is gone: what runs is to be aborted, and whoever is logged in leaves. It takes no memory, but an
-/// empty text, which stands for the name from then on.
+/// Ends the control connection: a running transfer is to be aborted, and the user leaves. Takes no memory: the empty
+/// text `nobody` becomes the name.
 pub fn leave<A: Allocator + Clone>(state: &mut State<A>, nobody: Text<A>) -> Leaving<A>
     requires nobody { nobody ≡ [] }
     ensures silent { state.new ≡ record state.old { stage = Closed; name = [] } }
@@ -62,14 +47,14 @@ pub fn leave<A: Allocator + Clone>(state: &mut State<A>, nobody: Text<A>) -> Lea
     Leaving { aborts, left }
 }
 
-/// The control connection is gone: what runs is aborted, and whoever is logged in leaves.
+/// Ends the control connection: a running transfer is aborted, and the user leaves.
 pub fn close<A: Allocator + Clone, R: Drop, K: Drop>(
     state: &mut State<A>,
 ) -> Result<Vec<Action<A, R, K>, A>, AllocError>
     ensures row { IfOk result (λ actions. Then state.new actions.items ≡ closed_row state.old) }
     ensures unchanged { OnErr result (state.new ≡ state.old) }
 {
-    let mut actions = room(state, 4)?;
+    let mut actions = room_for(state, 4)?;
     let nobody = Text::empty(state.alloc()?);
     let was_inside = state.is_inside();
     let number = state.number();

@@ -1,7 +1,7 @@
 //! The end of a transfer (RFC 959, sections 4.2 and 5.4).
 
 ghost use Rattle.std.specs.Prelude.{◌≡◌, ◌≤◌, ◌<◌, ◌+◌, ◌++◌, [], IfOk, OnErr, true, vec_len, vec_capacity};
-ghost use Rattle.session_table.specs.Plans.{Ran};
+ghost use Rattle.session_table.specs.Plans.{RanByStore};
 ghost use Rattle.session_table.specs.Plans.Plan.{Then};
 ghost use Rattle.session_table.specs.StateRows.{farewell};
 ghost use Rattle.session_table.specs.Table.{and_quits, end_hook, end_reply, end_row, end_told, ended_row, ended_with};
@@ -11,25 +11,12 @@ ghost use Rattle.session_table.specs.declared.inputs.End.{End};
 ghost use Rattle.session_table.specs.Views.Begun.{Idle};
 
 use authorizer::Authorizer;
-use session_login::{Farewell, part};
-use session_state::{State, put, with_room};
+use session_state::{Farewell, State, part, put, room_for};
 use session_table::{Action, Answer, Control, End, Errand, HookCall, Notice, Refusal, Stage};
 use std::alloc::{AllocError, Allocator};
 use virtual_tree::{Store, StoreFault};
 
-/// Room for so many actions.
-pub(crate) fn room<A: Allocator + Clone, R: Drop, K: Drop>(
-    state: &State<A>,
-    count: usize,
-) -> Result<Vec<Action<A, R, K>, A>, AllocError>
-    ensures empty { IfOk result (λ actions. actions.items ≡ []) }
-    ensures len { IfOk result (λ actions. vec_len actions ≡ 0) }
-    ensures room { IfOk result (λ actions. vec_capacity actions ≡ count) }
-{
-    with_room(state.alloc()?, count)
-}
-
-/// The reply to the end of a transfer, with what `finish` answered.
+/// The reply to the end of a transfer, with the result of `finish`.
 fn end_told<A: Allocator>(end: End, finished: Result<(), StoreFault>) -> Answer<A>
     ensures reply { result ≡ end_told end finished }
 {
@@ -47,7 +34,7 @@ fn end_told<A: Allocator>(end: End, finished: Result<(), StoreFault>) -> Answer<
     }
 }
 
-/// The end of an aborted transfer is not told, nor one behind the end of the control connection.
+/// Appends the reply to the end of a transfer, unless it was aborted or the control connection is to be closed.
 fn put_reply<A: Allocator, R: Drop, K: Drop>(
     actions: &mut Vec<Action<A, R, K>, A>,
     control: Control,
@@ -69,7 +56,7 @@ fn put_reply<A: Allocator, R: Drop, K: Drop>(
     }
 }
 
-/// A handler is told of files alone.
+/// Appends the event for the handler; listings have none.
 fn put_hook<A: Allocator, R: Drop, K: Drop>(
     actions: &mut Vec<Action<A, R, K>, A>,
     errand: Errand<A>,
@@ -96,8 +83,8 @@ fn put_hook<A: Allocator, R: Drop, K: Drop>(
     }
 }
 
-/// A QUIT that waited is served behind what is done before.
-pub fn quit_if_waiting<A: Allocator + Clone, R: Drop, K: Drop>(
+/// Serves a QUIT that waited, after other actions.
+pub(crate) fn quit_if_waiting<A: Allocator + Clone, R: Drop, K: Drop>(
     state: &mut State<A>,
     users: &Authorizer<A>,
     parting: Farewell<A>,
@@ -114,7 +101,7 @@ pub fn quit_if_waiting<A: Allocator + Clone, R: Drop, K: Drop>(
     }
 }
 
-/// What is told of the end of a transfer that is over.
+/// Appends the replies and events of the end of a transfer.
 fn tell_end<A: Allocator + Clone, R: Drop, K: Drop>(
     state: &mut State<A>,
     users: &Authorizer<A>,
@@ -141,7 +128,7 @@ fn tell_end<A: Allocator + Clone, R: Drop, K: Drop>(
     quit_if_waiting(state, users, parting, actions);
 }
 
-/// What was begun is over: a sink that came back is finished, and the end is told.
+/// Finishes a returned sink, and reports the end.
 fn end_errand<A: Allocator + Clone, S: Store<A>>(
     state: &mut State<A>,
     users: &Authorizer<A>,
@@ -158,7 +145,7 @@ fn end_errand<A: Allocator + Clone, S: Store<A>>(
     requires farewell { parting ≡ farewell users.now.users state.old }
     requires empty { actions.old.items ≡ [] }
     requires room { vec_len actions.old + 6 ≤ vec_capacity actions.old }
-    ensures row { Ran S.Step
+    ensures row { RanByStore S.Step
         (ended_with users.now.users state.old moment (carried errand) was_aborted end sink)
         store.old store.new state.new actions.new.items }
 {
@@ -189,7 +176,7 @@ fn end_errand<A: Allocator + Clone, S: Store<A>>(
     }
 }
 
-/// The end of a transfer, with room for what is told of it.
+/// The end of a transfer, with room for its actions.
 fn end_within<A: Allocator + Clone, S: Store<A>>(
     state: &mut State<A>,
     users: &Authorizer<A>,
@@ -203,7 +190,7 @@ fn end_within<A: Allocator + Clone, S: Store<A>>(
     requires farewell { parting ≡ farewell users.now.users state.old }
     requires empty { actions.old.items ≡ [] }
     requires room { vec_len actions.old + 6 ≤ vec_capacity actions.old }
-    ensures row { Ran S.Step (ended_row users.now.users state.old moment end sink)
+    ensures row { RanByStore S.Step (ended_row users.now.users state.old moment end sink)
         store.old store.new state.new actions.new.items }
 {
     let was_aborted = state.is_aborted();
@@ -223,8 +210,8 @@ fn end_within<A: Allocator + Clone, S: Store<A>>(
     }
 }
 
-/// The end of a transfer. A sink that came back is finished in every case; where memory runs out, it is left where it is,
-/// and nothing is done. The moment is in milliseconds since 1970.
+/// The end of a transfer. A returned sink is finished in every case; if memory runs out, it remains with the caller and
+/// nothing is done. The moment is in milliseconds since 1970.
 pub fn end_transfer<A: Allocator + Clone, S: Store<A>>(
     state: &mut State<A>,
     users: &Authorizer<A>,
@@ -234,13 +221,13 @@ pub fn end_transfer<A: Allocator + Clone, S: Store<A>>(
     moment: u64,
 ) -> Result<Vec<Action<A, S::Source, S::Sink>, A>, AllocError>
     ensures row { IfOk result (λ actions.
-        Ran S.Step (ended_row users.now.users state.old moment end sink.old)
+        RanByStore S.Step (ended_row users.now.users state.old moment end sink.old)
         store.old store.new state.new actions.items) }
     ensures unchanged { OnErr result (state.new ≡ state.old) }
     ensures untouched { OnErr result (store.new ≡ store.old) }
     ensures kept { OnErr result (sink.new ≡ sink.old) }
 {
-    let mut actions = room(state, 6)?;
+    let mut actions = room_for(state, 6)?;
     let parting = Farewell::new(state, users)?;
     let came = sink.take();
     end_within(
@@ -256,8 +243,8 @@ pub fn end_transfer<A: Allocator + Clone, S: Store<A>>(
     Ok(actions)
 }
 
-/// The end of a transfer after the control connection has gone: a sink that came back is finished, and nothing is to be
-/// done. It takes no memory.
+/// The end of a transfer after the end of the control connection: a returned sink is finished, and there are no
+/// actions. Takes no memory.
 pub fn finish<A: Allocator + Clone, S: Store<A>>(
     state: &mut State<A>,
     store: &mut S,
@@ -266,7 +253,7 @@ pub fn finish<A: Allocator + Clone, S: Store<A>>(
 )
     requires closed { is_closed state.old.stage ≡ true }
     ensures row { (users : Users) (end : End) →
-        Ran {A = A} {R = S.Source} S.Step (ended_row users state.old moment end sink)
+        RanByStore {A = A} {R = S.Source} S.Step (ended_row users state.old moment end sink)
         store.old store.new state.new [] }
     ensures closed { is_closed state.new.stage ≡ true }
 {

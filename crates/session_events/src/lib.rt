@@ -1,5 +1,4 @@
-//! The inputs of a session that are no lines: the end of a transfer, a passive port, the end of the
-//! control connection.
+//! The inputs of a session other than lines: the end of a transfer, a passive port, the end of the control connection.
 //!
 //! ```text
 //! let told = end_transfer(state, users, store, End::Done, &mut None, 0);

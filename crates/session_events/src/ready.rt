@@ -5,16 +5,15 @@ ghost use Rattle.session_table.specs.Plans.Plan.{Then};
 ghost use Rattle.session_table.specs.declared.actions.Action.TheVariants.{Say};
 ghost use Rattle.session_table.specs.Table.{port_told, ready_as, ready_row};
 
-use crate::ends::{quit_if_waiting, room};
+use crate::ends::quit_if_waiting;
 use authorizer::Authorizer;
 use ftp_terms::LineText;
 use ftp_wire::{HostPort, port_text};
-use session_login::Farewell;
-use session_state::{State, made, put};
+use session_state::{Farewell, State, made, put, room_for};
 use session_table::{Action, Answer, Passive, Refusal};
 use std::alloc::{AllocError, Allocator};
 
-/// The reply that tells the port.
+/// The reply with the port.
 fn port_told<A: Allocator + Clone>(
     state: &State<A>,
     passive: Passive,
@@ -46,7 +45,7 @@ fn port_told<A: Allocator + Clone>(
     }
 }
 
-/// The reply that tells the port, with room for what a QUIT that waited has done.
+/// The reply with the port, with room for the actions of a QUIT that waited.
 fn say_port<A: Allocator + Clone, R: Drop, K: Drop>(
     state: &State<A>,
     passive: Passive,
@@ -57,7 +56,7 @@ fn say_port<A: Allocator + Clone, R: Drop, K: Drop>(
     ensures len { IfOk result (λ actions. vec_len actions ≡ 1) }
     ensures room { IfOk result (λ actions. 5 ≤ vec_capacity actions) }
 {
-    let mut actions = room(state, 5)?;
+    let mut actions = room_for(state, 5)?;
     let told = port_told(state, passive, port)?;
     put(&mut actions, Action::Say(told));
     Ok(actions)
@@ -92,7 +91,7 @@ fn tell_none<A: Allocator + Clone, R: Drop, K: Drop>(
         Then state.new actions.items ≡ ready_as users.now.users state.old passive None) }
     ensures unchanged { OnErr result (state.new ≡ state.old) }
 {
-    let mut actions = room(state, 5)?;
+    let mut actions = room_for(state, 5)?;
     let parting = Farewell::new(state, users)?;
     let none = Answer::Refusal(Refusal::NoPassivePort);
     put(&mut actions, Action::Say(none));
@@ -112,7 +111,7 @@ pub fn take_port<A: Allocator + Clone, R: Drop, K: Drop>(
     ensures unchanged { OnErr result (state.new ≡ state.old) }
 {
     match state.awaited() {
-        None => room(state, 0),
+        None => room_for(state, 0),
         Some(passive) => match port {
             Some(port) => tell_port(state, users, passive, port),
             None => tell_none(state, users, passive),

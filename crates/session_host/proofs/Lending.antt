@@ -4,7 +4,7 @@ use Rattle.handler_hooks.specs.Events.{Event}
 use Rattle.control_session.specs.Calls.{HostCall}
 use Rattle.control_session.specs.Calls.HostCall.{Lent, Tried, Released, Noted, Wrote, Broke, Read, ReadEnd, ReadFailed, Asked}
 use Rattle.control_session.specs.Floors.{FloorsBy}
-use Rattle.data_side.specs.Sides.{SideCall}
+use Rattle.control_session.specs.Sides.{SideCall}
 use Rattle.session_host.specs.Alone.{AloneDoes, Parts, SameLent, SoleDoes, parts}
 use Rattle.session_host.specs.declared.host.SoleHost.{SoleHost}
 

@@ -3,14 +3,14 @@ use Rattle.std.proofs.Common.{ℕ, inl, inr, List, [], ◌∷◌, Result, sym, a
 use Rattle.control_session.specs.Calls.{Chain, HostCall}
 use Rattle.control_session.specs.Calls.HostCall.{Asked}
 use Rattle.control_session.specs.Sessions.{IsServed, IsSession}
-use Rattle.data_side.specs.Sides.{Given}
-use Rattle.data_side.specs.Sides.SideCall.{Settles}
+use Rattle.control_session.specs.Sides.{Given}
+use Rattle.control_session.specs.Sides.SideCall.{Settles}
 use Rattle.control_session.specs.Rows.{Outcome}
 use Rattle.control_session.specs.Standing.{Closing}
 use Rattle.control_session.specs.Turns.{Situation, Went, concat}
 use Rattle.control_session.specs.declared.fault.ControlFault.{ControlFault}
 use Rattle.rate_floors.specs.Promises.{Promises}
-use Rattle.session_laws.specs.Steps.{Standing}
+use Rattle.session_table.specs.Steps.{Standing}
 use Rattle.session_table.specs.declared.actions.Action.{Action}
 
 module _ {G H A S R K : Type 0} (Does : G → HostCall A S R K → G → Type 0) (Sees : H → HostCall A S R K → H → Type 0) (see : G → H)

@@ -10,7 +10,7 @@ use Rattle.ftp_wire.specs.Reading.{OnlyReadsAs}
 use Rattle.handler_hooks.specs.Events.{Event, event_of}
 use Rattle.rate_floors.specs.Promises.{Promises}
 use Rattle.session_core.specs.declared.events.DataEvent.{DataEvent}
-use Rattle.session_laws.specs.Steps.{Standing}
+use Rattle.session_table.specs.Steps.{Standing}
 use Rattle.session_table.specs.Answers.{answer_form}
 use Rattle.session_table.specs.Views.{is_closed}
 use Rattle.session_table.specs.declared.actions.Action.{Action}
@@ -21,16 +21,16 @@ use Rattle.control_session.specs.Calls.HostCall.{Asked, Read, ReadEnd, ReadFaile
 use Rattle.control_session.specs.Rows.{Outcome}
 use Rattle.control_session.specs.Rows.Outcome.{Made, Stopped}
 use Rattle.control_session.specs.Sessions.{IsServed, IsSession, nothing}
-use Rattle.data_side.specs.Sides.{Given, SideCall}
-use Rattle.data_side.specs.Sides.Given.{Line, Held, Came, Closed}
-use Rattle.data_side.specs.Sides.SideCall.{Aborts, Connects, Drops, Looks, Opens, Settles, Starts}
-use Rattle.data_side.specs.Told.{text_of, texts}
+use Rattle.control_session.specs.Sides.{Given, SideCall}
+use Rattle.control_session.specs.Sides.Given.{Line, Held, Came, Closed}
+use Rattle.control_session.specs.Sides.SideCall.{Aborts, Connects, Drops, Looks, Opens, Settles, Starts}
+use Rattle.control_session.specs.Told.{text_of, texts}
 use Rattle.control_session.specs.Turns.{Carried, Carries, Heard, IsIdle, IsTurn, Move, Next, Runs, Situation, Went, asked_as, at, behind, concat, release_calls}
 use Rattle.control_session.specs.Turns.Move.{Takes, Tries, Asks, Reads, Ends, Fails, Pays}
 use Rattle.control_session.specs.declared.fault.ControlFault.{ControlFault}
-use Rattle.control_turns.proofs.Going.{concat_more}
-use Rattle.control_turns.specs.declared.fault.TurnFault.{TurnFault}
-use Rattle.control_turns.specs.declared.fault.TurnFault.TheVariants.{Write, Memory}
+use Rattle.control_session.proofs.Going.{concat_more}
+use Rattle.control_session.specs.declared.turn_fault.TurnFault.{TurnFault}
+use Rattle.control_session.specs.declared.turn_fault.TurnFault.TheVariants.{Write, Memory}
 use Rattle.session_host.specs.Alone.{AloneDoes, Parts}
 use Rattle.session_host.specs.Told.{Act, Acts, Follows, IsEndToEnd, IsTold, IsTurned, Scene, Serves, released, still_asked}
 use Rattle.session_host.specs.Told.Act.{Turns, Hears, Listens, Frees, Lacks}

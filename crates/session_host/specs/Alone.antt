@@ -1,15 +1,17 @@
--- What each call makes of a host that has all for one session: it changes just its part.
+-- The effect of each call on a host with all parts for one session: each call changes only its
+-- part.
 use Rattle.std.specs.Prelude.{ℕ, ◌≡◌, Bool, true, List, [], Option}
 use Rattle.std.specs.Io.KnownBytes.{Appends, Consumes, IsAtEnd}
 use Rattle.handler_hooks.specs.Events.{Event}
 use Rattle.rate_floors.specs.Promises.{Promises, after_release}
-use Rattle.text_ends.specs.Parts.{AppendsPart}
+use Rattle.text_io.specs.Parts.{AppendsPart}
 use Rattle.control_session.specs.Calls.{HostCall}
 use Rattle.control_session.specs.Calls.HostCall.{Lent, Tried, Released, Noted, Wrote, Broke, Read, ReadEnd, ReadFailed, Asked}
-use Rattle.data_side.specs.Sides.{SideCall}
+use Rattle.control_session.specs.Sides.{SideCall}
 use Rattle.session_host.specs.declared.host.SoleHost.{SoleHost}
 
--- What such a host has: the store, the floors, the clock, the data side, the client's text, what is written to it, and the handler.
+-- The parts of such a host: the store, the floors, the clock, the data side, the client's text, the
+-- replies written to it, and the handler.
 pub record Parts (S C D R W H : Type 0) : Type 0 where
   pub store : S
   pub promises : Promises
@@ -20,9 +22,18 @@ pub record Parts (S C D R W H : Type 0) : Type 0 where
   pub hooks : H
 
 module _ {S F C D R W H : Type 0} where
-  -- what a host has: it borrows all of it
+  -- the parts of a host, which borrows all of them
   abbrev pub parts : SoleHost S F C D R W H → Parts S C D R W H
-  parts host = record { store = host.store.now; promises = host.floors.now; clock = host.clock.now; side = host.side.now; reader = host.reader.now; writer = host.writer.now; hooks = host.hooks.now }
+  parts host =
+      record {
+        store = host.store.now;
+        promises = host.floors.now;
+        clock = host.clock.now;
+        side = host.side.now;
+        reader = host.reader.now;
+        writer = host.writer.now;
+        hooks = host.hooks.now;
+      }
 
   -- the references are those that were lent
   pub record SameLent (old new : SoleHost S F C D R W H) : Type 0 where
@@ -34,35 +45,50 @@ module _ {S F C D R W H : Type 0} where
     pub writer : new.writer.ghost_name ≡ old.writer.ghost_name
     pub hooks : new.hooks.ghost_name ≡ old.hooks.ghost_name
 
--- A is an allocator, S are stores, Q their sources and K their sinks. Gives is what the clock may give, Asks what a call makes of the
--- data side, Told what a call makes of the handler; the octets that are left to be read, and those that were written, are known or not.
-module _ {A S C D R W H Q K : Type 0} (Gives : C → ℕ → C → Type 0) (Asks : D → SideCall A Q K → D → Type 0) (Told : H → Event → H → Type 0)
-    (remaining : R → Option (List ℕ)) (may_fail : R → Bool) (contents : W → Option (List ℕ)) (may_refuse : W → List ℕ → Type 0) where
-  -- store and floors are lent at a moment that the clock gives; and all else stays as it was
-  pub record Lends (old : Parts S C D R W H) (moment : ℕ) (store store' : S) (promises promises' : Promises) (new : Parts S C D R W H) : Type 0 where
+-- A is an allocator, S are stores, Q their sources and K their sinks. Gives relates the moments of
+-- the clock, Asks is the effect of a call on the data side, Told the effect of a call on the
+-- handler; the octets left to read, and those written, are known or not.
+module _ {A S C D R W H Q K : Type 0} (Gives : C → ℕ → C → Type 0)
+    (Asks : D → SideCall A Q K → D → Type 0) (Told : H → Event → H → Type 0)
+    (remaining : R → Option (List ℕ)) (may_fail : R → Bool) (contents : W → Option (List ℕ))
+    (may_refuse : W → List ℕ → Type 0) where
+  -- store and floors are lent at a moment of the clock; all other parts are unchanged
+  pub record Lends (old : Parts S C D R W H) (moment : ℕ) (store store' : S)
+      (promises promises' : Promises) (new : Parts S C D R W H) : Type 0 where
     pub gives : Gives old.clock moment new.clock
     pub store_lent : store ≡ old.store
     pub promises_lent : promises ≡ old.promises
     pub rest : new ≡ record old { clock = new.clock; store = store'; promises = promises' }
 
-  -- octets are taken from the front of what is left
-  pub record Takes (old : Parts S C D R W H) (octets : List ℕ) (new : Parts S C D R W H) : Type 0 where
+  -- octets are taken from the front of those left to read
+  pub record Takes (old : Parts S C D R W H) (octets : List ℕ) (new : Parts S C D R W H) :
+      Type 0 where
     pub taken : Consumes (remaining old.reader) (remaining new.reader) octets
     pub fails : may_fail new.reader ≡ may_fail old.reader
     pub rest : new ≡ record old { reader = new.reader }
 
   abbrev pub AloneDoes : Parts S C D R W H → HostCall A S Q K → Parts S C D R W H → Type 0
-  AloneDoes old (Lent moment store store' promises promises') new = Lends old moment store store' promises promises' new
-  AloneDoes old (Tried moment store store' promises) new = Lends old moment store store' promises promises new
-  AloneDoes old (Released user) new = new ≡ record old { promises = after_release old.promises user }
-  AloneDoes old (Noted event) new = Told old.hooks event new.hooks × (new ≡ record old { hooks = new.hooks })
-  AloneDoes old (Wrote text) new = Appends (contents old.writer) (contents new.writer) text × (new ≡ record old { writer = new.writer })
-  AloneDoes old (Broke text) new = may_refuse old.writer text × AppendsPart (contents old.writer) (contents new.writer) text × (new ≡ record old { writer = new.writer })
+  AloneDoes old (Lent moment store store' promises promises') new =
+      Lends old moment store store' promises promises' new
+  AloneDoes old (Tried moment store store' promises) new =
+      Lends old moment store store' promises promises new
+  AloneDoes old (Released user) new =
+      new ≡ record old { promises = after_release old.promises user }
+  AloneDoes old (Noted event) new =
+      Told old.hooks event new.hooks × (new ≡ record old { hooks = new.hooks })
+  AloneDoes old (Wrote text) new =
+      Appends (contents old.writer) (contents new.writer) text
+      × (new ≡ record old { writer = new.writer })
+  AloneDoes old (Broke text) new =
+      may_refuse old.writer text × AppendsPart (contents old.writer) (contents new.writer) text
+      × (new ≡ record old { writer = new.writer })
   AloneDoes old (Read octets) new = Takes old octets new
   AloneDoes old ReadEnd new = Takes old [] new × IsAtEnd (remaining new.reader)
   AloneDoes old ReadFailed new = Takes old [] new × (may_fail old.reader ≡ true)
-  AloneDoes old (Asked call) new = Asks old.side call new.side × (new ≡ record old { side = new.side })
+  AloneDoes old (Asked call) new =
+      Asks old.side call new.side × (new ≡ record old { side = new.side })
 
   -- the host that borrows them
-  abbrev pub SoleDoes : {F : Type 0} → SoleHost S F C D R W H → HostCall A S Q K → SoleHost S F C D R W H → Type 0
+  abbrev pub SoleDoes : {F : Type 0} → SoleHost S F C D R W H → HostCall A S Q K
+      → SoleHost S F C D R W H → Type 0
   SoleDoes old call new = SameLent old new × AloneDoes (parts old) call (parts new)

@@ -8,4 +8,4 @@ pub use Rattle.control_session.specs.Sessions
 pub use Rattle.control_session.specs.Standing
 pub use Rattle.control_session.specs.Turns
 pub use Rattle.control_session.specs.declared.fault.ControlFault
-pub use Rattle.data_side.specs.Sides
+pub use Rattle.control_session.specs.Sides

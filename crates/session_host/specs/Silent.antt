@@ -1,4 +1,4 @@
--- A handler that is told of nothing.
+-- A handler without effect.
 use Rattle.std.specs.Prelude.{◌≡◌}
 use Rattle.handler_hooks.specs.Events.{Event}
 use Rattle.session_host.specs.declared.silent.Silent.{Silent}

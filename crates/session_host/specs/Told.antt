@@ -1,5 +1,5 @@
--- A control session end to end: what was written is the greeting and the replies of the session table, turn by turn, to the lines
--- of what was read.
+-- A control session end to end: the octets written are the greeting and the replies of the session
+-- table, turn by turn, to the lines that were read.
 use Rattle.std.specs.Prelude.{ℕ, ◌≡◌, ◌⊎◌, ◌||◌, List, [], ◌∷◌, ◌++◌, Bool, false, true, Option, Some, None, Result, OnOk, OnErr, IsErrOf}
 use Rattle.std.specs.Io.KnownBytes.{Appends, Consumes, IsAtEnd}
 use Rattle.ftp_wire.specs.Items.{Item}
@@ -7,17 +7,17 @@ use Rattle.ftp_wire.specs.Reading.{OnlyReadsAs}
 use Rattle.handler_hooks.specs.Events.{Event, event_of}
 use Rattle.rate_floors.specs.Promises.{Promises, after_release}
 use Rattle.session_core.specs.declared.events.DataEvent.{DataEvent}
-use Rattle.session_laws.specs.Laws.{releases}
-use Rattle.session_laws.specs.Steps.{Standing}
+use Rattle.session_table.specs.Laws.{releases}
+use Rattle.session_table.specs.Steps.{Standing}
 use Rattle.session_table.specs.Plans.Plan.{Then}
 use Rattle.session_table.specs.StateRows.{greeting}
 use Rattle.session_table.specs.Views.{is_closed}
 use Rattle.session_table.specs.declared.actions.Action.{Action}
 use Rattle.session_table.specs.declared.actions.Action.TheVariants.{Say, Hook, OpenPassive, ConnectTo, DropData, Start, Abort, CloseControl, ReleaseFloor}
-use Rattle.data_side.specs.Sides.{Given, SideCall}
-use Rattle.data_side.specs.Sides.Given.{Line, Held, Came, Closed}
-use Rattle.data_side.specs.Sides.SideCall.{Opens, Connects, Drops, Starts, Aborts, Looks, Settles}
-use Rattle.data_side.specs.Told.{closes, texts}
+use Rattle.control_session.specs.Sides.{Given, SideCall}
+use Rattle.control_session.specs.Sides.Given.{Line, Held, Came, Closed}
+use Rattle.control_session.specs.Sides.SideCall.{Opens, Connects, Drops, Starts, Aborts, Looks, Settles}
+use Rattle.control_session.specs.Told.{closes, texts}
 use Rattle.control_session.specs.Rows.{Outcome}
 use Rattle.control_session.specs.Rows.Outcome.{Made, Stopped}
 use Rattle.control_session.specs.Turns.{concat, due}
@@ -25,9 +25,10 @@ use Rattle.control_session.specs.declared.fault.ControlFault.{ControlFault}
 use Rattle.control_session.specs.declared.fault.ControlFault.TheVariants.{Memory}
 use Rattle.session_host.specs.Alone.{Parts}
 
--- Where a session stands: what it knows; what came of the data side and was not taken; whether the data side was asked since the
--- last line that was taken, and the last read; the lines that were taken so far; the users whose floors are still to be released;
--- whether the control connection is to be closed; whether a reply was lost, or memory ran out for a step; the store, the floors, the
+-- The situation of a session: its view; the event of the data side that was not taken; whether the
+-- data side was asked for an event since the last line that was taken and the last read; the lines
+-- taken so far; the users whose floors are still to be released; whether the control connection is
+-- to be closed; whether a reply was lost, or memory ran out for a step; the store, the floors, the
 -- clock, the data side and the handler.
 pub record Scene (S C D H K : Type 0) : Type 0 where
   pub session : Standing
@@ -48,48 +49,64 @@ abbrev pub released : List ℕ → Promises → Promises
 released [] promises = promises
 released (user ∷ users) promises = released users (after_release promises user)
 
--- nothing is left to be done: the data side was asked, what came of it was taken, and no held line is due
+-- nothing is left to do: the data side was asked, its event was taken, and no held line is due
 abbrev pub Rests : {S C D H K : Type 0} → Scene S C D H K → Type 0
 Rests now = (now.came ≡ None) × (now.asked ≡ true) × (due now.session ≡ false)
 
--- a line may ask something of the data side, which is then to be asked what comes of it
+-- a line may call the data side, which is then to be asked for an event
 abbrev pub still_asked : {K : Type 0} → Given K → Bool → Bool
 still_asked (Line item) asked = false
 still_asked Held asked = false
 still_asked (Came event) asked = asked
 still_asked Closed asked = asked
 
--- What may come next among these lines, what then is left of what came, and the lines that are taken then: what came of the data
--- side; a held line that is due, where the data side was asked and nothing came; the next line, where nothing is left to be done;
--- Closed at any time.
-abbrev pub Follows : {S C D H K : Type 0} → List Item → Scene S C D H K → Given K → Option (DataEvent K) → List Item → Type 0
-Follows items now (Came event) came taken = (now.came ≡ Some event) × (came ≡ None) × (taken ≡ now.taken)
-Follows items now Held came taken = (now.came ≡ None) × (now.asked ≡ true) × (due now.session ≡ true) × (came ≡ None) × (taken ≡ now.taken)
+-- The inputs that may come next among these lines, each with the event that is then left and the
+-- lines taken by then: the event of the data side; a held line that is due, if the data side was
+-- asked and had no event; the next line, if nothing is left to do; Closed at any time.
+abbrev pub Follows : {S C D H K : Type 0} → List Item → Scene S C D H K → Given K
+    → Option (DataEvent K) → List Item → Type 0
+Follows items now (Came event) came taken =
+    (now.came ≡ Some event) × (came ≡ None) × (taken ≡ now.taken)
+Follows items now Held came taken =
+    (now.came ≡ None) × (now.asked ≡ true) × (due now.session ≡ true) × (came ≡ None)
+    × (taken ≡ now.taken)
 Follows items now (Line item) came taken = Rests now × (now.closed ≡ false)
-    × ((rest : List Item) × (items ≡ now.taken ++ item ∷ rest)) × (came ≡ None) × (taken ≡ now.taken ++ item ∷ [])
+    × ((rest : List Item) × (items ≡ now.taken ++ item ∷ rest)) × (came ≡ None)
+    × (taken ≡ now.taken ++ item ∷ [])
 Follows items now Closed came taken = (came ≡ now.came) × (taken ≡ now.taken)
 
--- Asks is what a call makes of the data side, and Told what one makes of the handler.
-module _ {A D H Q K : Type 0} (Asks : D → SideCall A Q K → D → Type 0) (Told : H → Event → H → Type 0) where
-  -- just the calls of the actions are made, in order
+-- Asks is the effect of a call on the data side, and Told that of a call on the handler.
+module _ {A D H Q K : Type 0} (Asks : D → SideCall A Q K → D → Type 0)
+    (Told : H → Event → H → Type 0) where
+  -- exactly the calls of the actions are made, in order
   abbrev pub Serves : List (Action A Q K) → D → H → D → H → Type 0
   Serves [] side hooks side' hooks' = (side' ≡ side) × (hooks' ≡ hooks)
   Serves (Say reply ∷ actions) side hooks side' hooks' = Serves actions side hooks side' hooks'
-  Serves (Hook call ∷ actions) side hooks side' hooks' = (mid : H) × Told hooks (event_of call) mid × Serves actions side mid side' hooks'
-  Serves (OpenPassive ∷ actions) side hooks side' hooks' = (mid : D) × Asks side Opens mid × Serves actions mid hooks side' hooks'
-  Serves (ConnectTo to ∷ actions) side hooks side' hooks' = (mid : D) × Asks side (Connects to) mid × Serves actions mid hooks side' hooks'
-  Serves (DropData ∷ actions) side hooks side' hooks' = (mid : D) × Asks side Drops mid × Serves actions mid hooks side' hooks'
-  Serves (Start job ∷ actions) side hooks side' hooks' = (mid : D) × Asks side (Starts job) mid × Serves actions mid hooks side' hooks'
-  Serves (Abort ∷ actions) side hooks side' hooks' = (mid : D) × Asks side Aborts mid × Serves actions mid hooks side' hooks'
+  Serves (Hook call ∷ actions) side hooks side' hooks' =
+      (mid : H) × Told hooks (event_of call) mid × Serves actions side mid side' hooks'
+  Serves (OpenPassive ∷ actions) side hooks side' hooks' =
+      (mid : D) × Asks side Opens mid × Serves actions mid hooks side' hooks'
+  Serves (ConnectTo to ∷ actions) side hooks side' hooks' =
+      (mid : D) × Asks side (Connects to) mid × Serves actions mid hooks side' hooks'
+  Serves (DropData ∷ actions) side hooks side' hooks' =
+      (mid : D) × Asks side Drops mid × Serves actions mid hooks side' hooks'
+  Serves (Start job ∷ actions) side hooks side' hooks' =
+      (mid : D) × Asks side (Starts job) mid × Serves actions mid hooks side' hooks'
+  Serves (Abort ∷ actions) side hooks side' hooks' =
+      (mid : D) × Asks side Aborts mid × Serves actions mid hooks side' hooks'
   Serves (CloseControl ∷ actions) side hooks side' hooks' = Serves actions side hooks side' hooks'
-  Serves (ReleaseFloor user ∷ actions) side hooks side' hooks' = Serves actions side hooks side' hooks'
+  Serves (ReleaseFloor user ∷ actions) side hooks side' hooks' =
+      Serves actions side hooks side' hooks'
 
--- Row says which rows there are, Gives which moments the clock may give.
-module _ {A S C D H Q K : Type 0} (Row : Standing → Given K → ℕ → S → S → Promises → Outcome A Q K → Type 0)
-    (Gives : C → ℕ → C → Type 0) (Asks : D → SideCall A Q K → D → Type 0) (Told : H → Event → H → Type 0) where
-  -- An input is taken: its row, at a moment that the clock gives. Floors are released, the calls of its actions are made, and this is
-  -- what they say.
-  pub record IsTurned (items : List Item) (before : Scene S C D H K) (says : List ℕ) (after : Scene S C D H K) : Type 0 where
+-- Row is the relation of rows, Gives that of the moments of the clock.
+module _ {A S C D H Q K : Type 0}
+    (Row : Standing → Given K → ℕ → S → S → Promises → Outcome A Q K → Type 0)
+    (Gives : C → ℕ → C → Type 0) (Asks : D → SideCall A Q K → D → Type 0)
+    (Told : H → Event → H → Type 0) where
+  -- An input is taken by its row, at a moment of the clock. Floors are released, the calls of its
+  -- actions are made, and these are their texts.
+  pub record IsTurned (items : List Item) (before : Scene S C D H K) (says : List ℕ)
+      (after : Scene S C D H K) : Type 0 where
     pub given : Given K
     pub moment : ℕ
     pub promises : Promises
@@ -98,7 +115,8 @@ module _ {A S C D H Q K : Type 0} (Row : Standing → Given K → ℕ → S → 
     pub next : Follows items before given after.came after.taken
     pub gives : Gives before.clock moment after.clock
     pub asked : after.asked ≡ still_asked given before.asked
-    pub row : Row before.session given moment before.store after.store before.promises (Made promises after.session actions)
+    pub row : Row before.session given moment before.store after.store before.promises
+        (Made promises after.session actions)
     pub owes : releases actions ++ before.owed ≡ paid ++ after.owed
     pub promises_are : after.promises ≡ released paid promises
     pub serves : Serves Asks Told actions before.side before.hooks after.side after.hooks
@@ -106,32 +124,45 @@ module _ {A S C D H Q K : Type 0} (Row : Standing → Given K → ℕ → S → 
     pub lost : before.lost ≡ true → after.lost ≡ true
     pub says_is : says ≡ texts actions
 
-  -- what one thing is that a session does, beside writing, and what is said for it
-  pub data Act (items : List Item) (before : Scene S C D H K) (says : List ℕ) (after : Scene S C D H K) : Type 0 where
+  -- one act of a session, beside writing, and the text for it
+  pub data Act (items : List Item) (before : Scene S C D H K) (says : List ℕ)
+      (after : Scene S C D H K) : Type 0 where
     Turns : IsTurned items before says after → Act items before says after
-    -- the data side is asked what has come, or, once the session is closed, for the end of what still runs
-    Hears : (event : Option (DataEvent K)) → before.came ≡ None → after ≡ record before { came = event; asked = true; side = after.side }
-        → (Asks before.side (Looks event) after.side) ⊎ ((is_closed before.session.view.stage ≡ true) × Asks before.side (Settles event) after.side) → says ≡ [] → Act items before says after
-    -- something is read, or nothing has come yet: only where nothing is left to be done
-    Listens : Rests before → before.closed ≡ false → after ≡ record before { asked = false } → says ≡ [] → Act items before says after
+    -- the data side is asked for an event, or, once the session is closed, for the end of a
+    -- transfer that still runs
+    Hears : (event : Option (DataEvent K)) → before.came ≡ None
+        → after ≡ record before { came = event; asked = true; side = after.side }
+        → (Asks before.side (Looks event) after.side)
+        ⊎ ((is_closed before.session.view.stage ≡ true)
+        × Asks before.side (Settles event) after.side) → says ≡ [] → Act items before says after
+    -- something is read, or nothing has arrived yet: only if nothing is left to do
+    Listens : Rests before → before.closed ≡ false → after ≡ record before { asked = false }
+        → says ≡ [] → Act items before says after
     -- a floor that was owed is released
     Frees : (user : ℕ) (owed : List ℕ) → before.owed ≡ user ∷ owed
-        → after ≡ record before { owed = owed; promises = after_release before.promises user } → says ≡ [] → Act items before says after
-    -- there was no memory for the step of what came next: the floors stay, and the store is as that row's looks at it, if any, leave it
-    Lacks : (given : Given K) (moment : ℕ) (came : Option (DataEvent K)) (taken : List Item) → Follows items before given came taken → Gives before.clock moment after.clock
+        → after ≡ record before { owed = owed; promises = after_release before.promises user }
+        → says ≡ [] → Act items before says after
+    -- there was no memory for the step of the next input: the floors are unchanged, and the store
+    -- is as that row's looks, if any, left it
+    Lacks : (given : Given K) (moment : ℕ) (came : Option (DataEvent K)) (taken : List Item)
+        → Follows items before given came taken → Gives before.clock moment after.clock
         → Row before.session given moment before.store after.store before.promises Stopped
-        → after ≡ record before { lost = true; clock = after.clock; store = after.store } → says ≡ [] → Act items before says after
+        → after ≡ record before { lost = true; clock = after.clock; store = after.store }
+        → says ≡ [] → Act items before says after
 
-  -- one after another, each with what is said for it
+  -- one after another, each with its text
   abbrev pub Acts : List (List ℕ) → List Item → Scene S C D H K → Scene S C D H K → Type 0
   Acts [] items before after = after ≡ before
-  Acts (says ∷ more) items before after = (mid : Scene S C D H K) × Act items before says mid × Acts more items mid after
+  Acts (says ∷ more) items before after =
+      (mid : Scene S C D H K) × Act items before says mid × Acts more items mid after
 
-  module _ {R W T : Type 0} (remaining : R → Option (List ℕ)) (contents : W → Option (List ℕ)) (result : Result T ControlFault) (session : Standing)
+  module _ {R W T : Type 0} (remaining : R → Option (List ℕ)) (contents : W → Option (List ℕ))
+      (result : Result T ControlFault) (session : Standing)
       (old new : Parts S C D R W H) where
-    -- What was read stands for lines. From the greeting on, what the session does leads to where it is closed: the data side has
-    -- nothing more to tell it, and no floor is owed. Ok: all those lines were taken, up to one that closed the control connection or
-    -- to the end of the text, and what was written is what was said; Err: it is some of that, from its front.
+    -- The octets read are those of the lines. From the greeting on, the acts of the session lead to
+    -- its close: the data side has no further event for it, and no floor is owed. Ok: all those
+    -- lines were taken, up to one that closed the control connection or to the end of the text, and
+    -- the octets written are all its texts; Err: they are a part of these, from the front.
     pub record IsEndToEnd : Type 0 where
       pub read : List ℕ
       pub items : List Item
@@ -145,7 +176,20 @@ module _ {A S C D H Q K : Type 0} (Row : Standing → Given K → ℕ → S → 
       pub serves : Serves Asks Told actions old.side old.hooks side hooks
       pub said : List (List ℕ)
       pub acts : Acts said items
-          (record { session = session; came = None; asked = false; taken = []; owed = []; closed = false; lost = lost; store = old.store; promises = old.promises; clock = old.clock; side = side; hooks = hooks })
+          (record {
+            session = session;
+            came = None;
+            asked = false;
+            taken = [];
+            owed = [];
+            closed = false;
+            lost = lost;
+            store = old.store;
+            promises = old.promises;
+            clock = old.clock;
+            side = side;
+            hooks = hooks;
+          })
           last
       pub closed : is_closed last.session.view.stage ≡ true
       pub answered : last.came ≡ None
@@ -159,7 +203,8 @@ module _ {A S C D H Q K : Type 0} (Row : Standing → Given K → ℕ → S → 
       pub consumed : Consumes (remaining old.reader) (remaining new.reader) read
       pub heard : OnOk result (OnlyReadsAs read items)
       pub cut : OnErr result ((fed unfed : List ℕ) × (read ≡ fed ++ unfed) × OnlyReadsAs fed items)
-      pub over : OnOk result ((last.closed ≡ true) ⊎ (IsAtEnd (remaining new.reader) × (items ≡ last.taken)))
+      pub over : OnOk result ((last.closed ≡ true)
+          ⊎ (IsAtEnd (remaining new.reader) × (items ≡ last.taken)))
       pub appended : Appends (contents old.writer) (contents new.writer) written
       pub whole : OnOk result (written ≡ texts actions ++ concat said)
       pub part : (rest : List ℕ) × (texts actions ++ concat said ≡ written ++ rest)

@@ -14,10 +14,10 @@ use crate::host::SoleHost;
 use control_session::{ControlFault, DataSide, Host, Moments, run_control};
 use handler_hooks::Hooks;
 use std::alloc::{Allocator, Global};
-use text_ends::{TextReader, TextWriter};
+use text_io::{TextReader, TextWriter};
 use virtual_tree::Store;
 
-/// The session on any host.
+/// Runs the session on any host.
 fn run_on<H: Host<Global>, U: HasUsers, T: GivesSettings>(
     alloc: &Global,
     host: &mut H,
@@ -35,9 +35,9 @@ fn run_on<H: Host<Global>, U: HasUsers, T: GivesSettings>(
     run_control(alloc, host, users.users(), settings.settings(), peer, turns)
 }
 
-/// A whole control session of a client at this address, on a host of its own, as `run_control` serves it.
+/// Serves a whole control session of a client at this address, on a host of its own, as in `run_control`.
 ///
-/// However it ends, the floors are as they were.
+/// However it ends, the floors are unchanged.
 pub fn run_alone<
     's,
     'f,

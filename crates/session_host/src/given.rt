@@ -1,14 +1,14 @@
-//! What a session is given, by type parameters.
+//! Users and settings of a session, by type parameters.
 //!
-//! Users and settings hold fixed texts. A call that names them by their types can be given no host that borrows several
-//! things.
+//! Users and settings contain fixed texts. A call that names their types cannot take a host that borrows several
+//! values.
 
 ghost use Rattle.std.specs.Prelude.{◌≡◌};
 
 use authorizer::Authorizer;
 use session_table::Settings;
 
-/// What knows the users: they themselves do.
+/// A value that has the users.
 pub trait HasUsers {
     ghost use Rattle.authorizer.specs.Users.{Accounts};
 
@@ -26,7 +26,7 @@ impl HasUsers for Authorizer {
     }
 }
 
-/// What gives the settings of a session: they themselves do.
+/// A value that has the settings of a session.
 pub trait GivesSettings {
     ghost use Rattle.session_table.specs.declared.settings.Settings.{Settings};
     ghost use Rattle.std.specs.declared.alloc.Global.{Global};

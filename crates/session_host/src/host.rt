@@ -1,35 +1,36 @@
-//! The host of one session, which has all for itself.
+//! The host of one session, which owns all its parts.
 
 ghost use Rattle.std.specs.Prelude.{◌≡◌, ◌<◌};
 
 use authorizer::Authorizer;
-use control_session::{DataEvent, DataSide, Host, Leaving, Moments, Piece, Session};
+use control_session::{
+    DataEvent, DataSide, Host, Leaving, Moments, Piece, Session, close_by, end_by, step_by,
+};
 use ftp_wire::HostPort;
 use handler_hooks::{Hooks, tell};
-use lent_step::{close_by, end_by, step_by};
 use rate_floors::Floors;
 use session_table::{Action, HookCall, Input, Job, Text};
 use std::alloc::{Allocator, Global};
 use std::io;
-use text_ends::{TextReader, TextWriter};
+use text_io::{TextReader, TextWriter};
 use virtual_tree::Store;
 
-/// What is outside of a control session, lent to this session alone: nobody else changes any of it while the session lasts.
+/// The parts outside of a control session, lent to this session alone: no other session changes them while it runs.
 #[derive(Drop)]
 pub struct SoleHost<'s, 'f, 'c, 'd, 'r, 'w, 'h, S, F: Allocator, C, D, R, W, H> {
     pub store: &'s mut S,
     pub floors: &'f mut Floors<F>,
-    /// Asked once for each step.
+    /// The clock, read once for each step.
     pub clock: &'c mut C,
     pub side: &'d mut D,
-    /// Gives the client's text. A read waits until something has come.
+    /// The client's text. A read waits for octets.
     pub reader: &'r mut R,
-    /// Takes the replies.
+    /// The writer of the replies.
     pub writer: &'w mut W,
     pub hooks: &'h mut H,
 }
 
-/// What a read gave that gave so many octets.
+/// The result of a read of this number of octets.
 pub fn piece_of(count: usize) -> Piece
     ensures end { count ≡ 0 → result ≡ Piece.AtEnd }
     ensures octets { 0 < count → result ≡ Piece.Octets count }

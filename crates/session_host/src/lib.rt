@@ -1,6 +1,6 @@
-//! A host that has all that is outside of a control session for this session alone, and a session on it.
+//! A host that serves one control session alone, and a session on it.
 //!
-//! `specs/Alone.antt` says what each call makes of such a host.
+//! `specs/Alone.antt` has the effect of each call on such a host.
 #![tactic(auto)]
 
 mod alone;

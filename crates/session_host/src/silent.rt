@@ -1,4 +1,4 @@
-//! A handler that is told of nothing.
+//! A handler without effect.
 
 use handler_hooks::Hooks;
 

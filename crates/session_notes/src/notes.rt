@@ -1,4 +1,4 @@
-//! A handler that notes what it is told.
+//! A handler that writes a note of each event.
 
 use handler_hooks::Hooks;
 use jiff::Timestamp;
@@ -8,11 +8,11 @@ use server_house::{NotServed, ServerHooks};
 use std::net::Ipv4Addr;
 use std::time::Clock;
 
-/// Notes each event with its time, in UTC, with the peer's address and the number of the session.
+/// Writes each event with its time, in UTC, with the peer's address and the number of the session.
 #[derive(Drop)]
 pub struct Notes<L> {
     log: L,
-    // whose session the next events are about
+    // the peer of the session that the next events are about
     peer: [u8; 4],
     session: usize,
 }
@@ -33,7 +33,7 @@ fn time<R: Clock>(rt: &R) -> Timestamp {
 }
 
 impl<L: Log + Clock> Notes<L> {
-    /// Notes that go to this log.
+    /// Notes written to this log.
     pub fn new(log: L) -> Notes<L> {
         Notes {
             log,

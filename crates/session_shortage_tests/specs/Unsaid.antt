@@ -1,4 +1,4 @@
--- What a call makes of a host of tests is not said.
+-- The effect of a call on a host of tests is not specified.
 use Rattle.std.specs.Prelude.{⊤}
 use Rattle.control_session.specs.Calls.{HostCall}
 

@@ -1,14 +1,15 @@
-//! The host of a control session all of whose memory but that of its replies is a heap's. What it does is not said: its tests see
-//! what it wrote.
+//! The host of a control session that takes all memory but that of its replies from a heap. Its effects are not
+//! specified: the tests examine its output.
 
 ghost use Rattle.memory_store.specs.InMemory.{InMemory};
 ghost use Rattle.session_shortage_tests.specs.Unsaid.{AnyCall};
 
 use crate::told::{Sink, Source};
 use authorizer::Authorizer;
-use control_session::{DataEvent, DataSide, Host, Leaving, Piece, Session};
+use control_session::{
+    DataEvent, DataSide, Host, Leaving, Piece, Session, close_by, end_by, step_by,
+};
 use ftp_wire::HostPort;
-use lent_step::{close_by, end_by, step_by};
 use linked_list_allocator::LocalHeap;
 use memory_store::MemStore;
 use rate_floors::Floors;
@@ -16,11 +17,11 @@ use script_session::ScriptSide;
 use session_host::piece_of;
 use session_table::{Action, HookCall, Input, Job, Text};
 use std::io;
-use text_ends::{TextReader, TextWriter};
+use text_io::{TextReader, TextWriter};
 
 type Memory<'h> = &'h LocalHeap;
 
-/// It owns all that is outside of the session. The clock stands still.
+/// The host owns all that is outside of the session. Its clock always shows the same moment.
 #[derive(Drop)]
 pub(crate) struct HeapHost<'h, R> {
     pub store: MemStore<Memory<'h>>,

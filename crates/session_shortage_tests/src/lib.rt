@@ -1,5 +1,5 @@
-//! Tests of sessions where memory is refused: each growth of each step of the machine, and of each line of whole control sessions,
-//! in turn.
+//! Tests of sessions with refused memory: each growth of each step of the machine, and of each line of whole control
+//! sessions, in turn.
 #![tactic(auto)]
 
 #[cfg(test)]

@@ -1,23 +1,23 @@
-//! A reader that brings one line at a time, before one of which it takes the memory away.
+//! A reader that returns one line at a time, and takes the memory away before one of them.
 
 use crate::rows::Reply;
 use linked_list_allocator::LocalHeap;
-use scarce_memory::leave_hole;
 use std::io;
 use std::io::Read;
+use test_scarce_memory::leave_hole;
 
-/// Takes all but one hole of a heap before one of its lines, and gives it back before the next.
+/// Takes all but one hole of a heap before one of its lines, and frees it before the next.
 #[derive(Drop)]
 pub(crate) struct ScarceReader<'h, R: AllocGlobal> {
     pub rt: &'h R,
     pub heap: &'h LocalHeap,
-    /// The greeting, which no line leads to, and the lines.
+    /// The greeting, which has no line, and the lines.
     pub rows: &'h [Reply<'h>],
-    /// Which of them was the last.
+    /// Number of the last row.
     pub last: usize,
-    /// At which of them memory is short.
+    /// Number of the row at which memory is short.
     pub scarce: usize,
-    /// How many octets the hole has.
+    /// Size of the hole, in octets.
     pub hole: usize,
     pub taken: Vec<Vec<u8, &'h LocalHeap>>,
 }

@@ -4,13 +4,13 @@ use crate::server::{PEER, Server, make_server, settings};
 use crate::told::{Doings, Sink, put_doing};
 use ftp_wire::LineReader;
 use linked_list_allocator::LocalHeap;
-use scarce_memory::leave_hole;
 use session_core::Session;
 use session_table::{End, Input};
 use std::alloc::AllocError;
 use std::process::Abort;
+use test_scarce_memory::leave_hole;
 
-/// What stands for a step that memory ran out for.
+/// The word for a step for which memory ran out.
 pub(crate) const NO_MEMORY: &str = "[no memory]";
 
 #[derive(Drop)]
@@ -41,7 +41,7 @@ fn read_line<'h>(
     }
 }
 
-/// The words of what is to be done; a sink is kept.
+/// Returns the words of the actions; a sink is kept.
 fn told<'h>(
     rt: &(impl Abort + AllocGlobal),
     kept: &mut Option<Sink<'h>>,
@@ -54,7 +54,7 @@ fn told<'h>(
     octets
 }
 
-/// What a new session tells its client, as that of a room has told it.
+/// Returns the greeting of a new session, as that of a room writes it.
 fn begin<'h>(heap: &'h LocalHeap) -> Result<Doings<'h>, AllocError> {
     let session = Session::new(heap, settings(), PEER)?;
     session.greet()
@@ -68,7 +68,7 @@ impl<'h> Room<'h> {
         }
     }
 
-    /// The input that a word stands for, or that of a line; none where a session is to begin.
+    /// Returns the input for a word or a line; None for the word that begins a session.
     fn input_of(
         &mut self,
         rt: &impl Abort,
@@ -102,8 +102,7 @@ impl<'h> Room<'h> {
         self.session.step(users, floors, store, input, 0)
     }
 
-    /// What is done at a line, or at what a word stands for, while the heap has only one hole of some octets, or all its
-    /// memory.
+    /// Returns the actions for a line or a word, while the heap has only one hole of `hole` octets, or all its memory.
     pub fn give(
         &mut self,
         rt: &(impl Abort + AllocGlobal),

@@ -1,9 +1,9 @@
-//! What is said, line by line, where there is memory; and to control sessions where the store had none.
+//! Lines with their replies while there is memory; and those of control sessions whose store had none.
 
-/// A line, or a word that stands for an input, and what is done.
+/// A line, or the word of an input, and the actions.
 pub(crate) type Row<'a> = (&'a str, &'a str);
 
-/// The root, quotes in a name, and a name that stands already.
+/// The root, quotes in a name, and a name that exists already.
 pub(crate) static PATHS: [Row<'static>; 7] = [
     ("begin", "220 Ready\r\n[connected]"),
     ("USER ann\n", "331 Password required\r\n"),
@@ -49,7 +49,7 @@ pub(crate) static ABORTED: [Row<'static>; 11] = [
     ("closed", "[logout][release][disconnected]"),
 ];
 
-/// A line too many.
+/// One line too many.
 pub(crate) static HELD: [Row<'static>; 24] = [
     ("begin", "220 Ready\r\n[connected]"),
     ("USER ann\n", "331 Password required\r\n"),
@@ -77,13 +77,13 @@ pub(crate) static HELD: [Row<'static>; 24] = [
     ("closed", "[logout][release][disconnected]"),
 ];
 
-/// A line of a control session and its reply, and what the lines after it are told where the store had no memory for it.
+/// A line of a control session and its reply, and the reply to the lines after it if the store had no memory for it.
 pub(crate) type Reply<'a> = (&'a str, &'a str, &'a str);
 
-/// Of a line for which the store is not asked.
+/// For a line that makes no call of the store.
 const NEVER: &str = "";
 
-/// The same paths in a control session, behind its greeting.
+/// The same paths in a control session, after its greeting.
 pub(crate) static TALK: [Reply<'static>; 8] = [
     ("", "220 Ready\r\n", NEVER),
     ("USER ann\r\n", "331 Password required\r\n", NEVER),
@@ -103,7 +103,7 @@ pub(crate) static TALK: [Reply<'static>; 8] = [
     ("QUIT\r\n", "221 Goodbye\r\n", NEVER),
 ];
 
-/// The same where the name stands from the first.
+/// The same if the name exists from the start.
 pub(crate) const PATHS_AGAIN: &str =
     "220 Ready\r\n331 Password required\r\n230 Welcome\r\n250 Directory changed\r\n257 \"/\"\r\n550 Already exists\r\n550 Already exists\r\n221 Goodbye\r\n";
 

@@ -32,7 +32,7 @@ pub(crate) fn settings<A: Allocator>() -> Settings<A> {
     }
 }
 
-/// What one session of each user is guaranteed: more than half of the server's rate.
+/// The guarantee of one session of each user: more than half of the server's rate.
 fn guarantee(user: u32) -> UserRate {
     UserRate {
         user,
@@ -46,7 +46,7 @@ fn guarantee(user: u32) -> UserRate {
     }
 }
 
-/// There is room for one guaranteed session: who logs in finds it only where nobody before is counted still.
+/// There is room for one guaranteed session: a login fits only if no earlier session is still counted.
 fn make_floors(rt: &(impl Abort + AllocGlobal)) -> Floors {
     let alloc = rt.alloc();
     let mut users = Vec::new(alloc);
@@ -68,7 +68,7 @@ fn make_users<'h>(rt: &impl Abort, heap: &'h LocalHeap) -> Authorizer<&'h LocalH
     users
 }
 
-/// The directory in, and the file f of the octets a LF b.
+/// The directory in, and the file f with the octets a LF b.
 fn make_store<'h>(rt: &impl Abort, heap: &'h LocalHeap) -> MemStore<&'h LocalHeap> {
     let mut store = MemStore::new(heap, 1000).expect(rt, "memory");
     let root = VPath::root(heap);

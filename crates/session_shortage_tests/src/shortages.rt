@@ -6,14 +6,14 @@ use crate::talks::Talk;
 use crate::{steps, talks};
 use std::process::Abort;
 
-/// What is said: to a session step by step, or in a whole control session.
+/// The lines for a session step by step, or for a whole control session.
 #[derive(Clone, Copy)]
 enum Script<'a> {
     Steps(&'a [Row<'a>]),
     Whole(Talk<'a>),
 }
 
-/// Whether a row is refused in one hole of some octets.
+/// Returns whether a row is refused in one hole of `hole` octets.
 fn is_refused(
     rt: &(impl Abort + AllocGlobal),
     script: Script<'_>,
@@ -26,7 +26,7 @@ fn is_refused(
     }
 }
 
-/// How many growths of a row are refused before it passes.
+/// Number of growths of a row that are refused before it passes.
 fn count_refused(rt: &(impl Abort + AllocGlobal), script: Script<'_>, index: usize) -> usize {
     for step in 0..512usize {
         if !is_refused(rt, script, index, 16 * step) {
@@ -36,7 +36,7 @@ fn count_refused(rt: &(impl Abort + AllocGlobal), script: Script<'_>, index: usi
     panic!(rt; "never enough memory")
 }
 
-/// How many of the first rows of a script are refused at least once.
+/// Number of the first rows of a script that are refused at least once.
 fn count_rows(rt: &(impl Abort + AllocGlobal), script: Script<'_>, rows: usize) -> usize {
     let mut refused = 0usize;
     for index in 0..rows {
@@ -67,13 +67,13 @@ fn aborted_downloads(rt: HostRuntime) {
     check_steps(&rt, &ABORTED, 11);
 }
 
-/// A list that has room for a line more takes no memory.
+/// A list that has room for one line more takes no memory.
 #[test]
 fn held_lines(rt: HostRuntime) {
     check_steps(&rt, &HELD, 10);
 }
 
-/// The end of a session is refused nothing: it has what the reads took.
+/// The end of a session is refused nothing: it has the memory that the reads took.
 fn check_talk(rt: &(impl Abort + AllocGlobal), talk: Talk<'_>) {
     let count = talk.rows.len();
     let script = Script::Whole(talk);

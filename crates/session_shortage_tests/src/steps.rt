@@ -1,12 +1,12 @@
-//! A step of a session for which memory is short: the session, the floors and the store are as before, or the client is told so,
-//! and the line passes once there is memory.
+//! A step of a session while memory is short: the session, the floors and the store are as before, or the client gets a
+//! reply that says so, and the line passes once there is memory.
 
 use crate::expect::same;
 use crate::room::{NO_MEMORY, Room, make_room};
 use crate::rows::Row;
 use linked_list_allocator::LocalHeap;
-use scarce_memory::HEAP;
 use std::process::Abort;
+use test_scarce_memory::HEAP;
 
 fn follow<'h>(
     rt: &(impl Abort + AllocGlobal),
@@ -19,13 +19,13 @@ fn follow<'h>(
     }
 }
 
-/// What stands for a step that is refused memory, or is told where the store had none: the line may be said again.
+/// The result of a step that is refused memory, or the reply if the store had none: the line may be sent again.
 static REFUSALS: [&str; 2] = [NO_MEMORY, "451 Out of memory\r\n"];
 
-/// What is told at the end of a file where the store had no memory for it.
+/// The reply at the end of a file for which the store had no memory.
 const LOST: &str = "451 Out of memory\r\n[received]";
 
-/// Whether a line that told this was refused: it passes then, or at the end of a file the rows behind it.
+/// Returns whether a line with this result was refused: it passes then, or, at the end of a file, the rows after it do.
 fn was_refused<'h>(
     rt: &(impl Abort + AllocGlobal),
     heap: &'h LocalHeap,
@@ -48,7 +48,7 @@ fn was_refused<'h>(
     false
 }
 
-/// Whether a row behind those before it is refused while the heap has only one hole of some octets.
+/// Returns whether a row, after those before it, is refused while the heap has only one hole of `hole` octets.
 fn try_row<'h>(
     rt: &(impl Abort + AllocGlobal),
     heap: &'h LocalHeap,

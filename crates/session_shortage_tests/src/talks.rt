@@ -1,5 +1,5 @@
-//! A control session that is short of memory at its beginning or at one of its lines: what was written is the front of the
-//! replies, or tells that memory ran out, and a session after it passes.
+//! A control session that is short of memory at its beginning or at one of its lines: its output is the front of the
+//! replies, or reports that memory ran out, and a session after it passes.
 
 use crate::expect::holds;
 use crate::host::HeapHost;
@@ -9,15 +9,15 @@ use crate::server::{PEER, Server, make_server, settings};
 use authorizer::Authorizer;
 use control_session::{ControlFault, Host, run_control};
 use linked_list_allocator::LocalHeap;
-use scarce_memory::{HEAP, leave_hole};
 use script_session::ScriptSide;
 use session_table::Settings;
 use std::alloc::Allocator;
 use std::process::Abort;
-use text_ends::{Outside, TextReader};
+use test_scarce_memory::{HEAP, leave_hole};
+use text_io::{Outside, TextReader};
 
-/// The greeting and the lines of a session, what it writes on a store which one has changed, and which row is the first that
-/// changes it.
+/// The greeting and the lines of a session, its output on a store that one before has changed, and the number of the
+/// first row that changes it.
 #[derive(Clone, Copy)]
 pub(crate) struct Talk<'a> {
     pub rows: &'a [Reply<'a>],
@@ -25,7 +25,7 @@ pub(crate) struct Talk<'a> {
     pub change: usize,
 }
 
-/// What a session has written, how it ended, and the server as it left it.
+/// The output of a session, its result, and the server after it.
 #[derive(Drop)]
 struct Told<'h> {
     output: Vec<u8>,
@@ -33,7 +33,7 @@ struct Told<'h> {
     server: Server<'h>,
 }
 
-/// What a session is given. A call that names users and settings by their types can be given no host of a heap's.
+/// The parts of a session. A call that names users and settings by their types cannot take a host of a heap's.
 trait Given<A: Allocator> {
     fn users(&self) -> &Authorizer<A>;
 
@@ -58,7 +58,7 @@ fn run_on<A: Allocator + Clone, H: Host<A>, G: Given<A>>(
     run_control(alloc, host, given.users(), given.settings(), PEER, 100)
 }
 
-/// A session, all of whose memory but that of its replies is the heap's.
+/// Serves a session that takes all memory but that of its replies from the heap.
 fn serve<'h, R: TextReader + Drop>(
     heap: &'h LocalHeap,
     server: Server<'h>,
@@ -101,7 +101,7 @@ fn serve<'h, R: TextReader + Drop>(
     }
 }
 
-/// A session in which memory is short at one row, or at the end, which is counted as one row more.
+/// Serves a session in which memory is short at one row, or at the end, which counts as one row more.
 fn serve_rows<'h>(
     rt: &'h (impl Abort + AllocGlobal),
     heap: &'h LocalHeap,
@@ -128,7 +128,7 @@ fn serve_rows<'h>(
     serve(heap, server, reader, output)
 }
 
-/// What an output has behind the replies to some rows.
+/// Returns the rest of an output after the replies to some rows.
 fn behind<'o>(output: &'o [u8], rows: &[Reply<'_>]) -> Option<&'o [u8]> {
     let mut rest = output;
     for (_, reply, _) in rows {
@@ -137,18 +137,19 @@ fn behind<'o>(output: &'o [u8], rows: &[Reply<'_>]) -> Option<&'o [u8]> {
     Some(rest)
 }
 
-/// Whether an output is the replies to some rows.
+/// Returns whether an output is the replies to some rows.
 fn is_told(output: &[u8], rows: &[Reply<'_>]) -> bool {
     behind(output, rows) == Some(b"".as_slice())
 }
 
-/// What a refused line is told, at once or at the end of its transfer.
+/// Replies to a refused line, at once or at the end of its transfer.
 static REFUSALS: [&str; 2] = [
     "451 Out of memory\r\n",
     "150 Opening data connection\r\n451 Out of memory\r\n",
 ];
 
-/// Whether a line is told that the store had no memory for it, and those after it what they are told then.
+/// Returns whether the reply to a line is that the store had no memory for it, and those to the lines after it are
+/// `then`.
 fn is_refusal(output: &[u8], then: &str) -> bool {
     match output.strip_suffix(then.as_bytes()) {
         Some(refusal) => REFUSALS.iter().any(|it| it.as_bytes() == refusal),
@@ -156,10 +157,11 @@ fn is_refusal(output: &[u8], then: &str) -> bool {
     }
 }
 
-/// The end of a session, behind all its rows.
+/// The end of a session, after all its rows.
 const END: Reply<'static> = ("", "", "");
 
-/// Whether a session was refused memory at a row: it broke off there and has told a part of the row, or has told of it.
+/// Returns whether a session was refused memory at a row: it broke off there with a part of the row's replies, or its
+/// reply reports the refusal.
 fn was_refused(rt: &impl Abort, told: &Told<'_>, rows: &[Reply<'_>], index: usize) -> bool {
     let (before, others) = rows.split_at(index.min(rows.len()));
     let Some(rest) = behind(&told.output, before) else {
@@ -178,7 +180,7 @@ fn was_refused(rt: &impl Abort, told: &Told<'_>, rows: &[Reply<'_>], index: usiz
     false
 }
 
-/// A session with memory says what it should, on a store as another has left it.
+/// Serves a session with memory, and checks its output on a store that another has left.
 fn serve_later<'h>(
     rt: &'h (impl Abort + AllocGlobal),
     heap: &'h LocalHeap,
@@ -193,7 +195,8 @@ fn serve_later<'h>(
     holds(rt, is_again || is_told(&output, talk.rows), "what stands");
 }
 
-/// Whether a session with one hole of some octets at a row is refused. One after it, with memory, is not.
+/// Returns whether a session with one hole of `hole` octets at a row is refused. Checks that a session after it, with
+/// memory, is not.
 fn try_row<'h>(
     rt: &'h (impl Abort + AllocGlobal),
     heap: &'h LocalHeap,

@@ -1,4 +1,4 @@
-//! What is to be done, in words: replies end with CR LF, other actions stand in brackets.
+//! Actions in words: replies end with CR LF, other actions are in brackets.
 
 use linked_list_allocator::LocalHeap;
 use memory_store::{MemSink, MemSource};
@@ -31,7 +31,7 @@ fn hook_word<A: Allocator>(call: &HookCall<A>) -> &'static str {
     }
 }
 
-/// A transfer that starts; what is written through is kept.
+/// Writes a transfer that starts; its sink is kept.
 fn put_job<'h>(
     octets: &mut Vec<u8>,
     kept: &mut Option<Sink<'h>>,
@@ -47,7 +47,7 @@ fn put_job<'h>(
     }
 }
 
-/// What stands for an action that neither says nor starts anything.
+/// The word of an action that neither writes nor starts anything.
 fn word_of<'h>(action: &Doing<'h>) -> &'static str {
     match action {
         Action::Say(_) | Action::Start(_) => "",
@@ -61,7 +61,7 @@ fn word_of<'h>(action: &Doing<'h>) -> &'static str {
     }
 }
 
-/// What an action says or starts, or its word; a sink is kept.
+/// Writes the text of an action, or its word; a sink is kept.
 pub(crate) fn put_doing<'h>(
     octets: &mut Vec<u8>,
     kept: &mut Option<Sink<'h>>,

@@ -1,4 +1,4 @@
-//! Replies of one line with a text that was made.
+//! Replies of one line with a computed text.
 
 ghost use Rattle.std.specs.Prelude.{◌≡◌, ◌≤◌, IfOk};
 ghost use Rattle.ftp_reply.specs.Quoting.{quoted};
@@ -12,7 +12,7 @@ use ftp_terms::LineText;
 use session_table::Answer;
 use std::alloc::{AllocError, Allocator};
 
-/// A reply of one line with a text that was made.
+/// A reply of one line with a computed text.
 pub fn made<A: Allocator>(code: u16, text: LineText<A>) -> Answer<A>
     requires low { LOWEST_CODE ≤ code }
     requires high { code ≤ HIGHEST_CODE }
@@ -21,7 +21,7 @@ pub fn made<A: Allocator>(code: u16, text: LineText<A>) -> Answer<A>
     Answer::Made(Reply::one_line(ReplyCode::new(code), text))
 }
 
-/// A reply of one line with a text that the server was given.
+/// A reply of one line with a configured text.
 pub fn copied<A: Allocator>(alloc: A, code: u16, text: &str) -> Result<Answer<A>, AllocError>
     requires low { LOWEST_CODE ≤ code }
     requires high { code ≤ HIGHEST_CODE }

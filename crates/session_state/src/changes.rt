@@ -1,4 +1,4 @@
-//! The changes of what a session knows, one each.
+//! The changes of the state of a session.
 
 ghost use Rattle.std.specs.Prelude.{◌≡◌, ◌-◌, [], Some, None, MatchOption, false, option_map, true};
 
@@ -15,7 +15,7 @@ impl<A: Allocator> State<A> {
     ghost use Rattle.session_table.specs.declared.stages.Control.TheVariants.{Closing, Quitting};
     ghost use Rattle.session_table.specs.declared.stages.Stage.TheVariants.{Closed, Greeted, Inside};
 
-    /// What a new client finds. The user's name before is answered.
+    /// Resets all parameters to those of a new client. Returns the previous user name.
     pub fn begin_anew(&mut self, root: VPath<A>, name: Text<A>, stage: Stage) -> Text<A>
         requires root { root ≡ [] }
         ensures anew { self.new ≡ record (anew self.old) { stage = stage; name = name } }
@@ -36,7 +36,7 @@ impl<A: Allocator> State<A> {
         mem::replace(&mut self.name, name)
     }
 
-    /// The user of this number is logged in.
+    /// Logs the user with this number in.
     pub fn go_inside(&mut self, number: u32)
         ensures inside { self.new ≡ record self.old { stage = Inside; number = number } }
     {
@@ -44,7 +44,7 @@ impl<A: Allocator> State<A> {
         self.number = number;
     }
 
-    /// The control connection is to be closed, and nobody is named. The name before is answered.
+    /// Marks the control connection for closing and forgets the user. Returns the previous user name.
     pub fn go_away(&mut self, empty: Text<A>) -> Text<A>
         requires empty { empty ≡ [] }
         ensures away { self.new
@@ -56,14 +56,14 @@ impl<A: Allocator> State<A> {
         mem::replace(&mut self.name, empty)
     }
 
-    /// QUIT came, and waits for the end of what was begun.
+    /// Notes a QUIT that waits for the end of the work in progress.
     pub fn await_quit(&mut self)
         ensures quitting { self.new ≡ record self.old { control = Quitting } }
     {
         self.control = Control::Quitting;
     }
 
-    /// The control connection is gone. The user's name before is answered.
+    /// Marks the control connection as gone. Returns the previous user name.
     pub fn go_silent(&mut self, empty: Text<A>) -> Text<A>
         requires empty { empty ≡ [] }
         ensures closed { self.new ≡ record self.old { stage = Closed; name = [] } }
@@ -73,14 +73,14 @@ impl<A: Allocator> State<A> {
         mem::replace(&mut self.name, empty)
     }
 
-    /// The control connection is to be closed.
+    /// Marks the control connection for closing.
     pub fn close(&mut self)
         ensures closing { self.new ≡ record self.old { control = Closing } }
     {
         self.control = Control::Closing;
     }
 
-    /// A wrong password was the last.
+    /// Takes the last login attempt, and marks the control connection for closing.
     pub fn lose_last_attempt(&mut self)
         ensures lost { self.new ≡ record self.old { attempts_left = 0; control = Closing } }
     {
@@ -88,7 +88,7 @@ impl<A: Allocator> State<A> {
         self.control = Control::Closing;
     }
 
-    /// A wrong password was not the last.
+    /// Takes one login attempt, not the last.
     pub fn lose_attempt(&mut self)
         ensures lost { self.new
             ≡ record self.old { attempts_left = self.old.attempts_left - 1; stage = Greeted } }
@@ -103,7 +103,7 @@ impl<A: Allocator> State<A> {
         self.cwd = path;
     }
 
-    /// What octets of a file are sent as; the offset is 0 again.
+    /// Sets the data type, and the offset to 0.
     pub fn set_data_type(&mut self, data_type: DataType)
         ensures data_type { self.new ≡ record self.old { data_type = data_type; offset = 0 } }
     {
@@ -123,21 +123,21 @@ impl<A: Allocator> State<A> {
         self.facts = facts;
     }
 
-    /// EPSV ALL is in force.
+    /// Puts EPSV ALL in force (RFC 2428, section 4).
     pub fn forbid_plain(&mut self)
         ensures only_extended { self.new ≡ record self.old { only_extended = true } }
     {
         self.only_extended = true;
     }
 
-    /// A data connection is prepared.
+    /// Notes a prepared data connection.
     pub fn prepare(&mut self)
         ensures prepared { self.new ≡ record self.old { prepared = true } }
     {
         self.prepared = true;
     }
 
-    /// A passive port is awaited, instead of what was prepared.
+    /// Awaits a passive port, and forgets a prepared data connection.
     pub fn await_port(&mut self, passive: Passive)
         ensures awaited { self.new
             ≡ record self.old { prepared = false; begun = AwaitsPort passive } }
@@ -146,7 +146,7 @@ impl<A: Allocator> State<A> {
         self.work = Work::AwaitsPort(passive);
     }
 
-    /// A transfer begins, and uses up what was prepared.
+    /// Begins a transfer, which uses up the prepared data connection.
     pub fn begin(&mut self, errand: Errand<A>)
         ensures begun { self.new
             ≡ record self.old { prepared = false; begun = Transfers (carried errand) } }
@@ -155,7 +155,7 @@ impl<A: Allocator> State<A> {
         self.work = Work::Transfers(errand);
     }
 
-    /// A transfer that runs is aborted; its end is still to come.
+    /// Aborts a running transfer; its end is still to come.
     pub fn abort(&mut self)
         ensures aborted { self.new ≡ record self.old { begun = aborted self.old.begun } }
     {
@@ -165,14 +165,14 @@ impl<A: Allocator> State<A> {
         };
     }
 
-    /// A passive port came, or none was free.
+    /// Ends the wait for a passive port.
     pub fn end_waiting(&mut self)
         ensures ended { self.new ≡ record self.old { begun = Idle } }
     {
         self.work = Work::Idle;
     }
 
-    /// A transfer has ended, aborted or not; what it carried is answered.
+    /// Ends a transfer, aborted or not. Returns its content; None if no transfer runs.
     pub fn end_transfer(&mut self) -> Option<Errand<A>>
         ensures errand { option_map carried result ≡ running self.old.begun }
         ensures ended { MatchOption result
@@ -189,14 +189,14 @@ impl<A: Allocator> State<A> {
         }
     }
 
-    /// Keeps where a file or directory stands that is to be renamed.
+    /// Keeps the store's path of a file or directory to rename.
     pub fn keep_source(&mut self, source: VPath<A>)
         ensures source { self.new ≡ record self.old { source = Some source } }
     {
         self.source = Some(source);
     }
 
-    /// What RNFR named is forgotten.
+    /// Forgets the path that RNFR named.
     pub fn forget_source(&mut self)
         ensures source { self.new ≡ record self.old { source = None } }
     {

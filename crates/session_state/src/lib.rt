@@ -1,4 +1,4 @@
-//! What a session knows, where a path stands, and replies of one line.
+//! The state of a session, locations, and replies of one line.
 //!
 //! ```text
 //! state.change_directory(path); // each such call changes just what its name says
@@ -10,12 +10,14 @@
 
 mod answers;
 mod changes;
+mod leaving;
 mod location;
 mod room;
 mod state;
 mod told;
 
 pub use answers::{copied, made, path_answer};
+pub use leaving::{Farewell, part, put_abort, put_leaving};
 pub use location::Location;
-pub use room::{put, with_room};
+pub use room::{put, room_for, with_room};
 pub use state::State;

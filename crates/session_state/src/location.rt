@@ -1,4 +1,4 @@
-//! Where a path stands.
+//! Locations.
 
 ghost use Rattle.std.specs.Prelude.{◌≡◌};
 
@@ -6,7 +6,7 @@ use std::alloc::{Allocator, Global};
 use std::marker::Model;
 use virtual_path::VPath;
 
-/// Where a path stands: as the user sees it, and in the store.
+/// A location: the path as the user sees it, and the path in the store.
 #[derive(Drop)]
 pub struct Location<A: Allocator = Global> {
     path: VPath<A>,

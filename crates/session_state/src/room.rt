@@ -1,10 +1,12 @@
-//! Room that is got before it is used.
+//! Lists with room that is allocated before use.
 
 ghost use Rattle.std.specs.Prelude.{◌≡◌, ◌≤◌, ◌<◌, ◌+◌, [], ◌∷◌, ◌++◌, IfOk, vec_len, vec_capacity};
 
+use crate::state::State;
+use session_table::Action;
 use std::alloc::{AllocError, Allocator};
 
-/// An empty list with room for some items.
+/// An empty list with room for `count` items.
 pub fn with_room<T, A: Allocator>(alloc: A, count: usize) -> Result<Vec<T, A>, AllocError>
     ensures empty { IfOk result (λ items. items.items ≡ []) }
     ensures len { IfOk result (λ items. vec_len items ≡ 0) }
@@ -13,7 +15,7 @@ pub fn with_room<T, A: Allocator>(alloc: A, count: usize) -> Result<Vec<T, A>, A
     Vec::with_capacity(alloc, count)
 }
 
-/// Adds an item where there is room.
+/// Appends an item to a list that has room.
 pub fn put<T: Drop, A: Allocator>(items: &mut Vec<T, A>, item: T)
     requires room { vec_len items.old < vec_capacity items.old }
     ensures items { items.new.items ≡ items.old.items ++ item ∷ [] }
@@ -24,4 +26,16 @@ pub fn put<T: Drop, A: Allocator>(items: &mut Vec<T, A>, item: T)
         Ok(()) => {}
         Err(_) => unreachable!(),
     }
+}
+
+/// An empty list with room for `count` actions.
+pub fn room_for<A: Allocator + Clone, R: Drop, K: Drop>(
+    state: &State<A>,
+    count: usize,
+) -> Result<Vec<Action<A, R, K>, A>, AllocError>
+    ensures empty { IfOk result (λ actions. actions.items ≡ []) }
+    ensures len { IfOk result (λ actions. vec_len actions ≡ 0) }
+    ensures room { IfOk result (λ actions. vec_capacity actions ≡ count) }
+{
+    with_room(state.alloc()?, count)
 }

@@ -1,4 +1,4 @@
-//! What a session knows.
+//! The state of a session.
 
 ghost use Rattle.std.specs.Prelude.{◌≡◌, IfOk};
 ghost use Rattle.std.specs.Option.{option_copied};
@@ -11,7 +11,7 @@ use std::alloc::{AllocError, Allocator, Global};
 use std::marker::Model;
 use virtual_path::VPath;
 
-/// What a session knows: who is there, how far they have come, and what is prepared and begun.
+/// The state of a session: the user, the stage, the parameters and the work in progress.
 #[derive(Drop)]
 pub struct State<A: Allocator = Global> {
     pub(crate) settings: Settings<A>,
@@ -38,14 +38,33 @@ impl<A: Allocator> Model for State<A> {
 
     ghost Value = { View };
 
-    ghost view = { λ state. record { banner = text_of state.settings.banner; permits_foreign_addresses = state.settings.permits_foreign_addresses; permits_privileged_ports = state.settings.permits_privileged_ports; address = state.settings.address; peer = state.peer; stage = state.stage; control = state.control; name = state.name; number = state.number; attempts_left = state.attempts_left; cwd = state.cwd; data_type = state.data_type; offset = state.offset; facts = state.facts; only_extended = state.only_extended; prepared = state.prepared; source = state.source; begun = begun state.work } };
+    ghost view = { λ state. record {
+      banner = text_of state.settings.banner;
+      permits_foreign_addresses = state.settings.permits_foreign_addresses;
+      permits_privileged_ports = state.settings.permits_privileged_ports;
+      address = state.settings.address;
+      peer = state.peer;
+      stage = state.stage;
+      control = state.control;
+      name = state.name;
+      number = state.number;
+      attempts_left = state.attempts_left;
+      cwd = state.cwd;
+      data_type = state.data_type;
+      offset = state.offset;
+      facts = state.facts;
+      only_extended = state.only_extended;
+      prepared = state.prepared;
+      source = state.source;
+      begun = begun state.work;
+    } };
 }
 
 impl<A: Allocator + Clone> State<A> {
     ghost use Rattle.session_table.specs.StateRows.{is_foreign, is_last_attempt, is_privileged};
     ghost use Rattle.session_table.specs.Views.{awaited, fresh, has_transfer, is_aborted, is_busy, is_inside, runs};
 
-    /// A session as it begins, of a client at this address.
+    /// The state of a new session of a client at this address.
     pub fn new(alloc: A, settings: Settings<A>, peer: [u8; 4]) -> Result<State<A>, AllocError>
         ensures fresh { IfOk result (λ state. state ≡ fresh settings peer) }
     {
@@ -72,7 +91,7 @@ impl<A: Allocator + Clone> State<A> {
         })
     }
 
-    /// An allocator like the session's.
+    /// A clone of the session's allocator.
     pub fn alloc(&self) -> Result<A, AllocError> {
         self.alloc.clone()
     }
@@ -95,28 +114,28 @@ impl<A: Allocator + Clone> State<A> {
         self.control
     }
 
-    /// The name that was given by USER.
+    /// The name in the last USER.
     pub fn name(&self) -> &str
         ensures name { result.now ≡ self.now.name }
     {
         self.name.as_str()
     }
 
-    /// The user's number, as it was at the login.
+    /// The user's number at the login.
     pub fn number(&self) -> u32
         ensures number { result ≡ self.now.number }
     {
         self.number
     }
 
-    /// Whether one more wrong password is the last.
+    /// Returns whether the next wrong password is the last.
     pub fn is_last_attempt(&self) -> bool
         ensures last { result ≡ is_last_attempt self.now }
     {
         self.attempts_left <= 1
     }
 
-    /// What a client is greeted with.
+    /// The text of the greeting.
     pub fn banner(&self) -> &str
         ensures banner { result.now ≡ self.now.banner }
         ensures line { IsLine result.now }
@@ -124,7 +143,7 @@ impl<A: Allocator + Clone> State<A> {
         self.settings.banner.as_str()
     }
 
-    /// The address that PASV tells.
+    /// The address in the reply to PASV.
     pub fn address(&self) -> [u8; 4]
         ensures address { result ≡ self.now.address }
     {
@@ -143,7 +162,7 @@ impl<A: Allocator + Clone> State<A> {
         self.data_type
     }
 
-    /// The offset that REST stated.
+    /// The offset set by REST, in octets.
     pub fn offset(&self) -> u64
         ensures offset { result ≡ self.now.offset }
     {
@@ -157,28 +176,28 @@ impl<A: Allocator + Clone> State<A> {
         self.facts
     }
 
-    /// Whether EPSV ALL is in force.
+    /// Returns whether EPSV ALL is in force.
     pub fn forbids_plain(&self) -> bool
         ensures only_extended { result ≡ self.now.only_extended }
     {
         self.only_extended
     }
 
-    /// Whether a data connection is prepared.
+    /// Returns whether a data connection is prepared.
     pub fn is_prepared(&self) -> bool
         ensures prepared { result ≡ self.now.prepared }
     {
         self.prepared
     }
 
-    /// The store's path of what RNFR named.
+    /// The store's path that RNFR named, if any.
     pub fn source(&self) -> Option<&VPath<A>>
         ensures source { option_copied result ≡ self.now.source }
     {
         self.source.as_ref()
     }
 
-    /// The passive port that is awaited.
+    /// The command that awaits a passive port, if any.
     pub fn awaited(&self) -> Option<Passive>
         ensures awaited { result ≡ awaited self.now.begun }
     {
@@ -188,42 +207,42 @@ impl<A: Allocator + Clone> State<A> {
         }
     }
 
-    /// Whether something was begun that has not ended.
+    /// Returns whether a transfer runs, aborted or not, or a passive port is awaited.
     pub fn is_busy(&self) -> bool
         ensures busy { result ≡ is_busy self.now.begun }
     {
         !matches!(&self.work, Work::Idle)
     }
 
-    /// Whether a transfer was aborted whose end has not come.
+    /// Returns whether an aborted transfer has not ended.
     pub fn is_aborted(&self) -> bool
         ensures aborted { result ≡ is_aborted self.now.begun }
     {
         matches!(&self.work, Work::Aborted(_))
     }
 
-    /// Whether a transfer has not ended, aborted or not.
+    /// Returns whether a transfer has not ended, aborted or not.
     pub fn runs(&self) -> bool
         ensures runs { result ≡ runs self.now.begun }
     {
         matches!(&self.work, Work::Transfers(_) | Work::Aborted(_))
     }
 
-    /// Whether a transfer runs that was not aborted.
+    /// Returns whether a transfer runs and is not aborted.
     pub fn has_transfer(&self) -> bool
         ensures transfer { result ≡ has_transfer self.now.begun }
     {
         matches!(&self.work, Work::Transfers(_))
     }
 
-    /// Whether a data connection would go to another host than the client's, without leave.
+    /// Returns whether the address is another host than the client's and the settings forbid that.
     pub fn is_foreign(&self, to: HostPort) -> bool
         ensures foreign { result ≡ is_foreign self.now to }
     {
         to.address.as_slice() != self.peer.as_slice() && !self.settings.permits_foreign_addresses
     }
 
-    /// Whether a data connection would go to port 0, or to one below 1024 without leave.
+    /// Returns whether the port is 0, or below 1024 and the settings forbid that.
     pub fn is_privileged(&self, to: HostPort) -> bool
         ensures privileged { result ≡ is_privileged self.now to }
     {

@@ -12,7 +12,7 @@ impl<A: Allocator + Clone> State<A> {
     ghost use Rattle.session_table.specs.StateRows.{notes, refuses};
     ghost use Rattle.session_table.specs.declared.actions.Action.TheVariants.{Say};
 
-    /// One reply.
+    /// Makes the actions of one reply.
     pub fn tell<R: Drop, K: Drop>(
         &self,
         answer: Answer<A>,
@@ -24,7 +24,7 @@ impl<A: Allocator + Clone> State<A> {
         Ok(actions)
     }
 
-    /// One reply with a fixed text.
+    /// Makes the actions of one reply with a fixed text.
     pub fn note<R: Drop, K: Drop>(
         &self,
         notice: Notice,
@@ -34,7 +34,7 @@ impl<A: Allocator + Clone> State<A> {
         self.tell(Answer::Notice(notice))
     }
 
-    /// One reply, and what RNFR named is forgotten.
+    /// Makes the actions of one refusal, and forgets the path that RNFR named.
     pub fn refuse<R: Drop, K: Drop>(
         &mut self,
         refusal: Refusal,

@@ -1,4 +1,4 @@
--- What a client is told.
+-- Replies to a client.
 use Rattle.ftp_reply.specs.Replies.{ReplyForm, OneLine}
 use Rattle.session_table.specs.declared.answers.Answer.{Answer}
 use Rattle.session_table.specs.declared.answers.Answer.TheVariants as answer

@@ -1,4 +1,4 @@
--- What the table says of a command by its code: whether a login is needed, a letter and on which path, a data connection.
+-- The conditions of each command: a login, a letter at a path, a data connection.
 use Rattle.std.specs.Prelude.{ℕ, Bool, true, false, List, [], Option, Some, None, codes, unwrap_or}
 use Rattle.ftp_terms.specs.declared.letters.Letter.{Letter}
 use Rattle.ftp_terms.specs.declared.letters.Letter.TheVariants as letter
@@ -22,7 +22,7 @@ needs_login (command.Help _) = false
 needs_login (command.Opts _) = false
 needs_login _ = true
 
--- the letter that must be held, and the text of the path
+-- the letter that the command needs, and the text of its path
 abbrev pub asked : Line → Option (Letter × List ℕ)
 asked (command.Cwd text) = Some (letter.ChangeDirectory, text)
 asked command.Cdup = Some (letter.ChangeDirectory, codes "..")
@@ -53,7 +53,7 @@ needs_data (command.Nlst _) = true
 needs_data (command.Mlsd _) = true
 needs_data _ = false
 
--- what EPSV ALL forbids (RFC 2428, section 4)
+-- the commands that EPSV ALL forbids (RFC 2428, section 4)
 abbrev pub needs_plain : {T : Type 0} → Command T → Bool
 needs_plain (command.Port _) = true
 needs_plain (command.Eprt _) = true

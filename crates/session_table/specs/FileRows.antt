@@ -6,16 +6,17 @@ use Rattle.ftp_reply.specs.Replies.{OneLine}
 use Rattle.virtual_path.specs.Path.{Path, path_text}
 use Rattle.virtual_tree.specs.declared.fault.StoreFault.{StoreFault}
 use Rattle.virtual_tree.specs.declared.fault.StoreFault.TheVariants as fault
-use Rattle.ftp_terms.specs.declared.entries.Kind.{Kind}
-use Rattle.ftp_terms.specs.declared.entries.Kind.TheVariants as kind
+use Rattle.ftp_terms.specs.declared.entries.EntryKind.{EntryKind}
+use Rattle.ftp_terms.specs.declared.entries.EntryKind.TheVariants as kind
 use Rattle.ftp_terms.specs.declared.entries.Meta.{Meta}
 use Rattle.session_table.specs.declared.answers.Answer.{Answer}
 use Rattle.session_table.specs.declared.answers.Answer.TheVariants as answer
 use Rattle.session_table.specs.declared.notices.Notice.TheVariants as notice
 use Rattle.session_table.specs.declared.refusals.Refusal.TheVariants as refusal
+use Rattle.session_table.specs.Calls.Call.{MakeDir, RemoveDir, RemoveFile, Rename, Stat}
 use Rattle.session_table.specs.Judged.{Location}
 use Rattle.session_table.specs.Plans.{Plan}
-use Rattle.session_table.specs.Plans.Plan.{WithLine, AskStat, AskMakeDir, AskRemoveDir, AskRemoveFile, AskRename}
+use Rattle.session_table.specs.Plans.Plan.{Ask, WithLine}
 use Rattle.session_table.specs.StateRows.{is_ascii, notes, refuses, tells}
 use Rattle.session_table.specs.Texts.Told.{Moment}
 use Rattle.session_table.specs.Views.{View}
@@ -33,7 +34,7 @@ module _ {A R K : Type 0} where
   abbrev pub store_refuses : View → StoreFault → Plan A R K
   store_refuses view why = refuses view (refusal.Store why)
 
-  abbrev pub goes_to : View → Path → Kind → Plan A R K
+  abbrev pub goes_to : View → Path → EntryKind → Plan A R K
   goes_to view path kind.Directory = notes (record view { cwd = path }) notice.DirectoryChanged
   goes_to view path kind.File = store_refuses view fault.NotDir
 
@@ -42,21 +43,24 @@ module _ {A R K : Type 0} where
   cwd_by view path (Ok meta) = goes_to view path meta.kind
 
   abbrev pub cwd_row : View → Location → Plan A R K
-  cwd_row view location = AskStat location.stored (cwd_by view location.path)
+  cwd_row view location = Ask (Stat location.stored) (cwd_by view location.path)
 
-  -- a change of the store that was made tells this, and one that was refused the refusal
+  -- after a change of the store: this reply, or the store's refusal
   abbrev pub changed : View → Answer A → Result (Unit {0}) StoreFault → Plan A R K
   changed view reply answer = tells view (told_or reply answer)
 
   abbrev pub mkd_row : View → Location → Plan A R K
-  mkd_row view location = AskMakeDir location.stored (changed view (answer.Made (OneLine 257 (quoted (path_text location.path)))))
+  mkd_row view location =
+      Ask (MakeDir location.stored)
+      (changed view (answer.Made (OneLine 257 (quoted (path_text location.path)))))
 
   abbrev pub rmd_row : View → Location → Plan A R K
   rmd_row view location = cond (is_root location.path) (refuses view refusal.NotPermitted)
-      (AskRemoveDir location.stored (changed view (answer.Notice notice.DirectoryRemoved)))
+      (Ask (RemoveDir location.stored) (changed view (answer.Notice notice.DirectoryRemoved)))
 
   abbrev pub dele_row : View → Location → Plan A R K
-  dele_row view location = AskRemoveFile location.stored (changed view (answer.Notice notice.FileRemoved))
+  dele_row view location =
+      Ask (RemoveFile location.stored) (changed view (answer.Notice notice.FileRemoved))
 
   abbrev pub rnfr_by : View → Path → Result Meta StoreFault → Plan A R K
   rnfr_by view stored (Err why) = store_refuses view why
@@ -64,16 +68,17 @@ module _ {A R K : Type 0} where
 
   abbrev pub rnfr_row : View → Location → Plan A R K
   rnfr_row view location = cond (is_root location.path) (refuses view refusal.NotPermitted)
-      (AskStat location.stored (rnfr_by view location.stored))
+      (Ask (Stat location.stored) (rnfr_by view location.stored))
 
   abbrev pub rnto_from : View → Path → Option Path → Plan A R K
   rnto_from view stored None = refuses view refusal.NoSource
-  rnto_from view stored (Some source) = AskRename source stored (changed view (answer.Notice notice.Renamed))
+  rnto_from view stored (Some source) =
+      Ask (Rename source stored) (changed view (answer.Notice notice.Renamed))
 
   abbrev pub rnto_row : View → Location → Plan A R K
   rnto_row view location = rnto_from view location.stored view.source
 
-  abbrev pub size_of : View → ℕ → Kind → Plan A R K
+  abbrev pub size_of : View → ℕ → EntryKind → Plan A R K
   size_of view size kind.Directory = store_refuses view fault.IsDir
   size_of view size kind.File = tells view (answer.Made (OneLine 213 (decimal size)))
 
@@ -82,15 +87,18 @@ module _ {A R K : Type 0} where
   size_by view (Ok meta) = size_of view meta.size meta.kind
 
   abbrev pub size_row : View → Location → Plan A R K
-  size_row view location = cond (is_ascii view.data_type) (refuses view refusal.SizeNeedsImage) (AskStat location.stored (size_by view))
+  size_row view location =
+      cond (is_ascii view.data_type) (refuses view refusal.SizeNeedsImage)
+      (Ask (Stat location.stored) (size_by view))
 
-  abbrev pub moment_of : View → ℕ → Kind → Plan A R K
+  abbrev pub moment_of : View → ℕ → EntryKind → Plan A R K
   moment_of view modified kind.Directory = store_refuses view fault.IsDir
-  moment_of view modified kind.File = WithLine (Moment modified) (λ line. tells view (answer.Made (OneLine 213 line)))
+  moment_of view modified kind.File =
+      WithLine (Moment modified) (λ line. tells view (answer.Made (OneLine 213 line)))
 
   abbrev pub mdtm_by : View → Result Meta StoreFault → Plan A R K
   mdtm_by view (Err why) = store_refuses view why
   mdtm_by view (Ok meta) = moment_of view meta.modified meta.kind
 
   abbrev pub mdtm_row : View → Location → Plan A R K
-  mdtm_row view location = AskStat location.stored (mdtm_by view)
+  mdtm_row view location = Ask (Stat location.stored) (mdtm_by view)

@@ -1,4 +1,4 @@
--- The refusals of a line, in their order: the first that holds is the reply.
+-- The refusals of a line, in their order: the first whose condition holds is the reply.
 use Rattle.std.specs.Prelude.{ℕ, Bool, not, ◌&&◌, cond, List, [], ◌∷◌, Option, Some, None, Result, Ok, Err, is_none, nat_lt, option_map, unwrap_or}
 use Rattle.std.specs.FinMap as map
 use Rattle.ftp_terms.specs.declared.letters.Letter.{Letter}
@@ -10,12 +10,12 @@ use Rattle.session_table.specs.declared.refusals.Refusal.TheVariants as refusal
 use Rattle.session_table.specs.Commands.{Line, asked, is_appe, is_rnto, needs_data, needs_login, needs_plain}
 use Rattle.session_table.specs.Views.{View, is_inside}
 
--- where a path stands: as the user sees it, and in the store
+-- a location: the path as the user sees it, and the path in the store
 pub record Location : Type 0 where
   pub path : Path
   pub stored : Path
 
--- a command without a path stands nowhere
+-- the location of a command without a path
 abbrev pub nowhere : Location
 nowhere = record { path = []; stored = [] }
 
@@ -24,12 +24,12 @@ abbrev pub first_refusal : List (Bool × Refusal) → Option Refusal
 first_refusal [] = None
 first_refusal (row ∷ rows) = cond row.0 (Some row.1) (first_refusal rows)
 
--- a refusal, or what is left to say
+-- a refusal, or otherwise this result
 abbrev pub unless_refused : {X : Type 0} → Option Refusal → Result X Refusal → Result X Refusal
 unless_refused None otherwise = otherwise
 unless_refused (Some why) otherwise = Err why
 
--- the home of a user; of one that was removed, the root, where no letter is held
+-- the home of a user; the root for a removed user, who has no letter
 abbrev pub home_of : Users → List ℕ → Path
 home_of users name = unwrap_or (option_map (λ user. user.home) (map.get users name)) []
 
@@ -41,11 +41,12 @@ abbrev pub from_home : Path → Result Path PathFault → Result Location PathFa
 from_home home (Ok path) = stored_at path (joined home path)
 from_home home (Err fault) = Err fault
 
--- the location that a text names: the user's path from the current directory on, and the home followed by it
+-- the location of a text: the user's path, relative to the current directory, and the home followed
+-- by it
 abbrev pub located : Users → View → List ℕ → Result Location PathFault
 located users view text = from_home (home_of users view.name) (resolved view.cwd text)
 
--- 2 to 4: before the path is looked at
+-- 2 to 4: before the path is resolved
 abbrev pub at_once : View → Line → List (Bool × Refusal)
 at_once view command =
     (needs_login command && not (is_inside view.stage), refusal.LogInFirst)
@@ -61,15 +62,21 @@ at_location users view command letter path =
     ∷ (needs_data command && not view.prepared, refusal.NothingPrepared)
     ∷ []
 
--- 5 stands between them
-abbrev pub judged_at : Users → View → Line → Letter → Result Location PathFault → Result Location Refusal
+-- 5: the path, between them
+abbrev pub judged_at : Users → View → Line → Letter → Result Location PathFault
+    → Result Location Refusal
 judged_at users view command letter (Err fault) = Err (refusal.Path fault)
-judged_at users view command letter (Ok location) = unless_refused (first_refusal (at_location users view command letter location.path)) (Ok location)
+judged_at users view command letter (Ok location) =
+    unless_refused (first_refusal (at_location users view command letter location.path))
+    (Ok location)
 
 abbrev pub judged_path : Users → View → Line → Option (Letter × List ℕ) → Result Location Refusal
 judged_path users view command None = Ok nowhere
-judged_path users view command (Some wanted) = judged_at users view command wanted.0 (located users view wanted.1)
+judged_path users view command (Some wanted) =
+    judged_at users view command wanted.0 (located users view wanted.1)
 
--- what a command is refused, or the location that it names
+-- the first refusal of a command, or its location
 unfoldable pub judged : Users → View → Line → Result Location Refusal
-judged users view command = unless_refused (first_refusal (at_once view command)) (judged_path users view command (asked command))
+judged users view command =
+    unless_refused (first_refusal (at_once view command))
+    (judged_path users view command (asked command))

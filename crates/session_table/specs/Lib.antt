@@ -1,4 +1,8 @@
+pub mod Always
+pub mod Laws
+pub mod Steps
 pub mod Answers
+pub mod Calls
 pub mod Commands
 pub mod FileRows
 pub mod Judged

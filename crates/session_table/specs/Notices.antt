@@ -1,4 +1,4 @@
--- The replies with a fixed text that tell what was done or is wanted next.
+-- Replies with a fixed text that report success or a next step.
 use Rattle.std.specs.Prelude.{ℕ, List, codes}
 use Rattle.ftp_terms.specs.declared.data_type.DataType.TheVariants.{Ascii, Image}
 use Rattle.session_table.specs.declared.notices.Notice.{Notice}

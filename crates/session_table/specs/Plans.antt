@@ -1,61 +1,62 @@
--- What a line asks of the store, and what comes of each answer.
-use Rattle.std.specs.Prelude.{ℕ, ◌≡◌, ◌⊎◌, List, Result}
-use Rattle.virtual_path.specs.Path.{Path}
-use Rattle.virtual_tree.specs.Calls.{Entry, Exchange}
-use Rattle.virtual_tree.specs.Calls.Exchange.{Stat, Listing, OpenRead, OpenWrite, Finish, MakeDir, RemoveDir, RemoveFile, Rename}
-use Rattle.virtual_tree.specs.declared.fault.StoreFault.{StoreFault}
-use Rattle.ftp_terms.specs.declared.entries.Meta.{Meta}
-use Rattle.virtual_tree.specs.declared.mode.WriteMode.{WriteMode}
+-- The plan of an input: its calls of the store and of the guaranteed rates, and the result of each
+-- answer.
+use Rattle.std.specs.Prelude.{ℕ, ◌≡◌, ◌⊎◌, Bool, true, List}
+use Rattle.rate_floors.specs.Promises.{Promises, admits, after_admit}
+use Rattle.virtual_tree.specs.Calls.{Exchange}
 use Rattle.session_table.specs.declared.actions.Action.{Action}
+use Rattle.session_table.specs.Calls.{AnswerOf, Call, answered, is_look}
 use Rattle.session_table.specs.Texts.{Told, AreTold, IsTold}
 use Rattle.session_table.specs.Views.{View}
 
--- A plan ends with what the session knows then and what is to be done, or asks the store first.
--- R are what the store's files are read from, K what they are written through, A an allocator.
+-- A plan ends with the state of the session and the actions, or asks first. R is the type of the
+-- store's sources, K of its sinks, A of allocators.
 pub data Plan (A R K : Type 0) : Type 0 where
   Then : View → List (Action A R K) → Plan A R K
-  -- a line that tells something, as the moment of a file
+  -- a line with this content, as the time of a file
   WithLine : Told → (List ℕ → Plan A R K) → Plan A R K
-  -- lines that tell these, as those of a listing
+  -- lines with these contents, as those of a listing
   WithLines : List Told → (List (List ℕ) → Plan A R K) → Plan A R K
-  AskStat : Path → (Result Meta StoreFault → Plan A R K) → Plan A R K
-  AskList : Path → (Result (List Entry) StoreFault → Plan A R K) → Plan A R K
-  AskOpenRead : Path → ℕ → (Result R StoreFault → Plan A R K) → Plan A R K
-  AskOpenWrite : Path → WriteMode → ℕ → (Result K StoreFault → Plan A R K) → Plan A R K
-  AskFinish : K → ℕ → (Result (Unit {0}) StoreFault → Plan A R K) → Plan A R K
-  AskMakeDir : Path → (Result (Unit {0}) StoreFault → Plan A R K) → Plan A R K
-  AskRemoveDir : Path → (Result (Unit {0}) StoreFault → Plan A R K) → Plan A R K
-  AskRemoveFile : Path → (Result (Unit {0}) StoreFault → Plan A R K) → Plan A R K
-  AskRename : Path → Path → (Result (Unit {0}) StoreFault → Plan A R K) → Plan A R K
+  -- a call of the store
+  Ask : (call : Call K) → (AnswerOf R call → Plan A R K) → Plan A R K
+  -- asks for admission of one more session of the user with this number; if it is admitted, it is
+  -- counted
+  AskAdmit : ℕ → (Bool → Plan A R K) → Plan A R K
 
--- just the calls of the plan were made, in order, and this is what came of them
-abbrev pub Ran : {S A R K : Type 0} → (S → Exchange R K → S → Type 0) → Plan A R K → S → S → View → List (Action A R K) → Type 0
-Ran Step (Then view actions) old new view' actions' = (new ≡ old) × (view' ≡ view) × (actions' ≡ actions)
-Ran Step (WithLine told next) old new view' actions' = (line : List ℕ) × IsTold told line × Ran Step (next line) old new view' actions'
-Ran Step (WithLines told next) old new view' actions' = (lines : List (List ℕ)) × AreTold told lines × Ran Step (next lines) old new view' actions'
-Ran {S} Step (AskStat path next) old new view' actions' =
-    (answer : Result Meta StoreFault) × (mid : S) × Step old (Stat path answer) mid × Ran Step (next answer) mid new view' actions'
-Ran {S} Step (AskList path next) old new view' actions' =
-    (answer : Result (List Entry) StoreFault) × (mid : S) × Step old (Listing path answer) mid × Ran Step (next answer) mid new view' actions'
-Ran {S} {A} {R} Step (AskOpenRead path offset next) old new view' actions' =
-    (answer : Result R StoreFault) × (mid : S) × Step old (OpenRead path offset answer) mid × Ran Step (next answer) mid new view' actions'
-Ran {S} {A} {R} {K} Step (AskOpenWrite path mode moment next) old new view' actions' =
-    (answer : Result K StoreFault) × (mid : S) × Step old (OpenWrite path mode moment answer) mid × Ran Step (next answer) mid new view' actions'
-Ran {S} Step (AskFinish sink moment next) old new view' actions' =
-    (answer : Result (Unit {0}) StoreFault) × (mid : S) × Step old (Finish sink moment answer) mid × Ran Step (next answer) mid new view' actions'
-Ran {S} Step (AskMakeDir path next) old new view' actions' =
-    (answer : Result (Unit {0}) StoreFault) × (mid : S) × Step old (MakeDir path answer) mid × Ran Step (next answer) mid new view' actions'
-Ran {S} Step (AskRemoveDir path next) old new view' actions' =
-    (answer : Result (Unit {0}) StoreFault) × (mid : S) × Step old (RemoveDir path answer) mid × Ran Step (next answer) mid new view' actions'
-Ran {S} Step (AskRemoveFile path next) old new view' actions' =
-    (answer : Result (Unit {0}) StoreFault) × (mid : S) × Step old (RemoveFile path answer) mid × Ran Step (next answer) mid new view' actions'
-Ran {S} Step (AskRename from to next) old new view' actions' =
-    (answer : Result (Unit {0}) StoreFault) × (mid : S) × Step old (Rename from to answer) mid × Ran Step (next answer) mid new view' actions'
+-- Exactly the calls of the plan were made, in order, with this result.
+abbrev pub Ran : {S A R K : Type 0} → (S → Exchange R K → S → Type 0) → Plan A R K
+    → S → S → Promises → Promises → View → List (Action A R K) → Type 0
+Ran Step (Then view actions) old new promises promises' view' actions' =
+    (new ≡ old) × (promises' ≡ promises) × (view' ≡ view) × (actions' ≡ actions)
+Ran Step (WithLine told next) old new promises promises' view' actions' =
+    (line : List ℕ) × IsTold told line
+    × Ran Step (next line) old new promises promises' view' actions'
+Ran Step (WithLines told next) old new promises promises' view' actions' =
+    (lines : List (List ℕ)) × AreTold told lines
+    × Ran Step (next lines) old new promises promises' view' actions'
+Ran {S} {A} {R} Step (Ask call next) old new promises promises' view' actions' =
+    (answer : AnswerOf R call) × (mid : S) × Step old (answered call answer) mid
+    × Ran Step (next answer) mid new promises promises' view' actions'
+Ran Step (AskAdmit user next) old new promises promises' view' actions' =
+    Ran Step (next (admits promises user)) old new (after_admit promises user) promises' view'
+    actions'
 
--- Where want of memory may stop a plan: before its first call, or after looks at the store alone (stat and list).
-abbrev pub Stops : {S A R K : Type 0} → (S → Exchange R K → S → Type 0) → Plan A R K → S → S → Type 0
-Stops {S} Step (AskStat path next) old new =
-    (new ≡ old) ⊎ ((answer : Result Meta StoreFault) × (mid : S) × Step old (Stat path answer) mid × Stops Step (next answer) mid new)
-Stops {S} Step (AskList path next) old new =
-    (new ≡ old) ⊎ ((answer : Result (List Entry) StoreFault) × (mid : S) × Step old (Listing path answer) mid × Stops Step (next answer) mid new)
+-- a plan that does not ask for admission: the guarantees are unchanged
+abbrev pub RanByStore : {S A R K : Type 0} → (S → Exchange R K → S → Type 0) → Plan A R K
+    → S → S → View → List (Action A R K) → Type 0
+RanByStore Step plan old new view' actions' =
+    (promises : Promises) → Ran Step plan old new promises promises view' actions'
+
+-- a plan that makes no call of the store
+abbrev pub RanByFloors : {A R K : Type 0} → Plan A R K → Promises → Promises
+    → View → List (Action A R K) → Type 0
+RanByFloors plan promises promises' view' actions' =
+    Ran {S = Unit {0}} (λ old call new. ⊥) plan tt tt promises promises' view' actions'
+
+-- Lack of memory may stop a plan here: before its first call, or after calls that change nothing.
+abbrev pub Stops : {S A R K : Type 0} → (S → Exchange R K → S → Type 0) → Plan A R K → S → S
+    → Type 0
+Stops {S} {A} {R} Step (Ask call next) old new =
+    (new ≡ old)
+    ⊎ ((is_look call ≡ true) × (answer : AnswerOf R call) × (mid : S)
+    × Step old (answered call answer) mid × Stops Step (next answer) mid new)
 Stops Step plan old new = new ≡ old

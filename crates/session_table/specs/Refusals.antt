@@ -1,4 +1,4 @@
--- The replies with a fixed text that tell that a line, or a transfer, failed.
+-- Replies with a fixed text that report a failure of a line or of a transfer.
 use Rattle.std.specs.Prelude.{ℕ, List, codes}
 use Rattle.virtual_path.specs.declared.fault.PathFault.{PathFault}
 use Rattle.virtual_path.specs.declared.fault.PathFault.TheVariants as path
@@ -7,7 +7,7 @@ use Rattle.virtual_tree.specs.declared.fault.StoreFault.TheVariants as store
 use Rattle.session_table.specs.declared.refusals.Refusal.{Refusal}
 use Rattle.session_table.specs.declared.refusals.Refusal.TheVariants.{Store, Path, TooManyLogins, TooManyHeldLines, NoGuarantee, NoDataConnection, NoPassivePort, NothingPrepared, ConnectionLost, TransferAborted, OnlyExtended, ForeignAddress, PrivilegedPort, OffsetNeedsImage, ListsNoFile, NoSource, OffsetBeforeAppend, NoName, AlreadyInside, OtherProtocol, LogInFirst, LoginIncorrect, NotPermitted, SizeNeedsImage}
 
--- what a store refuses
+-- refusals of a store
 abbrev pub store_code : StoreFault → ℕ
 store_code store.NotFound = 550
 store_code store.NotDir = 550
@@ -32,7 +32,7 @@ store_text store.Memory = codes "Out of memory"
 store_text store.PastEnd = codes "Offset past the end"
 store_text store.Inside = codes "Not possible inside itself"
 
--- a text that names no path; want of memory is no reply of the table
+-- a text that is no path; lack of memory is no reply of the table
 abbrev pub path_code : PathFault → ℕ
 path_code path.BadName = 553
 path_code path.TooLong = 553

@@ -1,4 +1,4 @@
--- Rows of the table that ask nothing of the store: logins, the state of a session, its parameters, data connections.
+-- Rows of the table that make no call of the store: logins, parameters, data connections.
 use Rattle.std.specs.Prelude.{ℕ, ◌-◌, ◌==◌, ◌&&◌, ◌||◌, Bool, true, false, cond, not, List, [], ◌∷◌, ◌++◌, Option, Some, None, codes, bytes_eq, nat_le, nat_lt, option_map, unwrap_or}
 use Rattle.std.specs.FinMap as map
 use Rattle.std.specs.Fmt.{decimal}
@@ -34,7 +34,7 @@ use Rattle.session_table.specs.declared.stages.Stage.{Stage}
 use Rattle.session_table.specs.declared.stages.Stage.TheVariants as stage
 use Rattle.session_table.specs.Judged.{first_refusal}
 use Rattle.session_table.specs.Plans.{Plan}
-use Rattle.session_table.specs.Plans.Plan.{Then}
+use Rattle.session_table.specs.Plans.Plan.{Then, AskAdmit}
 use Rattle.session_table.specs.Views.{View, aborted, anew, has_transfer, is_inside}
 use Rattle.session_table.specs.Views.Begun.{AwaitsPort}
 
@@ -42,7 +42,7 @@ abbrev pub is_ascii : DataType → Bool
 is_ascii data_type.Ascii = true
 is_ascii data_type.Image = false
 
--- the features that RFC 2389, section 3.2, has told
+-- the features in the reply to FEAT (RFC 2389, section 3.2)
 abbrev pub features : Facts → List (List ℕ)
 features facts = codes " EPRT" ∷ codes " EPSV" ∷ codes " MDTM"
     ∷ (codes " MLST " ++ starred_facts_text facts)
@@ -63,29 +63,35 @@ is_privileged view to = (to.port == 0) || (nat_lt to.port 1024 && not view.permi
 abbrev pub quit_message : Users → List ℕ → Option (List ℕ)
 quit_message users name = option_map (λ user. user.quit) (map.get users name)
 
--- 8 of PORT and EPRT: where a data connection may not go
+-- 8 of PORT and EPRT: the refusal of an address
 unfoldable pub port_refusal : View → HostPort → Option Refusal
-port_refusal view to = first_refusal ((is_foreign view to, refusal.ForeignAddress) ∷ (is_privileged view to, refusal.PrivilegedPort) ∷ [])
+port_refusal view to =
+    first_refusal ((is_foreign view to, refusal.ForeignAddress)
+    ∷ (is_privileged view to, refusal.PrivilegedPort) ∷ [])
 
--- RFC 3659, section 5.2: an offset counts octets as they stand in the file
+-- an offset counts the octets of the file (RFC 3659, section 5.2)
 abbrev pub needs_image : View → ℕ → Bool
 needs_image view offset = nat_lt 0 offset && is_ascii view.data_type
 
--- this wrong password is the last
+-- the next wrong password is the last
 abbrev pub is_last_attempt : View → Bool
 is_last_attempt view = nat_le view.attempts_left 1
 
 module _ {A : Type 0} where
   abbrev pub facts_answer : Facts → Answer A
-  facts_answer facts = cond (has_facts facts) (answer.Made (OneLine 200 (codes "MLST OPTS " ++ facts_text facts))) (answer.Notice notice.NoFactsInForce)
+  facts_answer facts =
+      cond (has_facts facts) (answer.Made (OneLine 200 (codes "MLST OPTS " ++ facts_text facts)))
+      (answer.Notice notice.NoFactsInForce)
 
-  -- the reply of QUIT, by the user's message; one that was removed has none
+  -- the reply to QUIT, by the user's message; a removed user has none
   abbrev pub farewell_of : Option (List ℕ) → Answer A
   farewell_of None = answer.Notice notice.Goodbye
   farewell_of (Some message) = answer.Made (OneLine 221 message)
 
   abbrev pub farewell : Users → View → Answer A
-  farewell users view = cond (is_inside view.stage) (farewell_of (quit_message users view.name)) (answer.Notice notice.Goodbye)
+  farewell users view =
+      cond (is_inside view.stage) (farewell_of (quit_message users view.name))
+      (answer.Notice notice.Goodbye)
 
 module _ {A R K : Type 0} where
   -- one reply
@@ -95,22 +101,25 @@ module _ {A R K : Type 0} where
   abbrev pub notes : View → Notice → Plan A R K
   notes view what = tells view (answer.Notice what)
 
-  -- a refused command; what RNFR named is forgotten
+  -- a refused command; the path that RNFR named is forgotten
   abbrev pub refuses : View → Refusal → Plan A R K
   refuses view why = tells (record view { source = None }) (answer.Refusal why)
 
-  -- whoever is logged in leaves
+  -- the user who is logged in, if any, leaves
   abbrev pub leaves : View → List (Action A R K)
-  leaves view = cond (is_inside view.stage) (action.Hook (hook.Logout view.name) ∷ action.ReleaseFloor view.number ∷ []) []
+  leaves view =
+      cond (is_inside view.stage)
+      (action.Hook (hook.Logout view.name) ∷ action.ReleaseFloor view.number ∷ []) []
 
   abbrev pub drops : View → List (Action A R K)
   drops view = cond view.prepared (action.DropData ∷ []) []
 
-  -- what a new client is told
+  -- the greeting
   abbrev pub greeting : View → Plan A R K
-  greeting view = Then view (action.Say (answer.Made (OneLine 220 view.banner)) ∷ action.Hook hook.Connect ∷ [])
+  greeting view =
+      Then view (action.Say (answer.Made (OneLine 220 view.banner)) ∷ action.Hook hook.Connect ∷ [])
 
-  -- a new client, as far as the parameters go
+  -- the user leaves, and all parameters are those of a new client
   abbrev pub restarts : View → List ℕ → Stage → Answer A → Plan A R K
   restarts view name next reply = Then (record (anew view) { stage = next; name = name })
       (leaves view ++ (action.Say reply ∷ []) ++ drops view)
@@ -121,9 +130,10 @@ module _ {A R K : Type 0} where
   abbrev pub rein_row : View → Plan A R K
   rein_row view = restarts view [] stage.Greeted (answer.Made (OneLine 220 view.banner))
 
-  -- the user is told good-bye and leaves, behind what is done before
+  -- after other actions: the farewell, the leave of the user, and the close
   abbrev pub parts : View → Answer A → List (Action A R K) → Plan A R K
-  parts view reply before = Then (record view { stage = stage.Greeted; name = []; control = Closing })
+  parts view reply before =
+      Then (record view { stage = stage.Greeted; name = []; control = Closing })
       (before ++ (action.Say reply ∷ []) ++ leaves view ++ (action.CloseControl ∷ []))
 
   abbrev pub quit_after : Users → View → List (Action A R K) → Plan A R K
@@ -132,35 +142,45 @@ module _ {A R K : Type 0} where
   abbrev pub quit_row : Users → View → Plan A R K
   quit_row users view = quit_after users view []
 
-  -- a right password: the session is counted among those with a guaranteed rate, where it still fits
+  -- a right password: the session is admitted and counted, unless its guaranteed rate no longer
+  -- fits
   abbrev pub enters : Users → View → Bool → Plan A R K
-  enters users view true = Then (record view { stage = stage.Inside; number = number_of users view.name })
-      (action.Say (answer.Made (OneLine 230 (login_message users view.name))) ∷ action.Hook (hook.Login view.name) ∷ [])
-  enters users view false = Then (record view { control = Closing }) (action.Say (answer.Refusal refusal.NoGuarantee) ∷ action.CloseControl ∷ [])
+  enters users view true =
+      Then (record view { stage = stage.Inside; number = number_of users view.name })
+      (action.Say (answer.Made (OneLine 230 (login_message users view.name)))
+      ∷ action.Hook (hook.Login view.name) ∷ [])
+  enters users view false =
+      Then (record view { control = Closing })
+      (action.Say (answer.Refusal refusal.NoGuarantee) ∷ action.CloseControl ∷ [])
 
   -- a wrong password
   abbrev pub turned_away : View → Plan A R K
   turned_away view = cond (is_last_attempt view)
       (Then (record view { attempts_left = 0; control = Closing })
-      (action.Hook (hook.LoginFailed view.name) ∷ action.Say (answer.Refusal refusal.TooManyLogins) ∷ action.CloseControl ∷ []))
+      (action.Hook (hook.LoginFailed view.name) ∷ action.Say (answer.Refusal refusal.TooManyLogins)
+      ∷ action.CloseControl ∷ []))
       (Then (record view { attempts_left = view.attempts_left - 1; stage = stage.Greeted })
-      (action.Hook (hook.LoginFailed view.name) ∷ action.Say (answer.Refusal refusal.LoginIncorrect) ∷ []))
+      (action.Hook (hook.LoginFailed view.name) ∷ action.Say (answer.Refusal refusal.LoginIncorrect)
+      ∷ []))
 
-  abbrev pub pass_by : Users → (ℕ → Bool) → View → List ℕ → Stage → Plan A R K
-  pass_by users admits view password stage.Greeted = refuses view refusal.NoName
-  pass_by users admits view password stage.Named = cond (is_password users view.name password) (enters users view (admits (number_of users view.name))) (turned_away view)
-  pass_by users admits view password stage.Inside = refuses view refusal.AlreadyInside
-  pass_by users admits view password stage.Closed = refuses view refusal.NoName
+  abbrev pub pass_by : Users → View → List ℕ → Stage → Plan A R K
+  pass_by users view password stage.Greeted = refuses view refusal.NoName
+  pass_by users view password stage.Named = cond (is_password users view.name password)
+      (AskAdmit (number_of users view.name) (enters users view)) (turned_away view)
+  pass_by users view password stage.Inside = refuses view refusal.AlreadyInside
+  pass_by users view password stage.Closed = refuses view refusal.NoName
 
-  abbrev pub pass_row : Users → (ℕ → Bool) → View → List ℕ → Plan A R K
-  pass_row users admits view password = pass_by users admits view password view.stage
+  abbrev pub pass_row : Users → View → List ℕ → Plan A R K
+  pass_row users view password = pass_by users view password view.stage
 
   abbrev pub type_row : View → DataType → Plan A R K
-  type_row view wanted = notes (record view { data_type = wanted; offset = 0 }) (notice.TypeIs wanted)
+  type_row view wanted =
+      notes (record view { data_type = wanted; offset = 0 }) (notice.TypeIs wanted)
 
   abbrev pub rest_row : View → ℕ → Plan A R K
   rest_row view offset = cond (needs_image view offset) (refuses view refusal.OffsetNeedsImage)
-      (tells (record view { offset = offset }) (answer.Made (OneLine 350 (codes "Restart at " ++ decimal offset))))
+      (tells (record view { offset = offset })
+      (answer.Made (OneLine 350 (codes "Restart at " ++ decimal offset))))
 
   abbrev pub facts_row : View → Facts → Plan A R K
   facts_row view facts = tells (record view { facts = facts }) (facts_answer facts)
@@ -170,24 +190,30 @@ module _ {A R K : Type 0} where
   opts_row view (option.Mlst facts) = facts_row view facts
 
   abbrev pub feat_row : View → Plan A R K
-  feat_row view = tells view (answer.Made (SeveralLines 211 (codes "Features") (features view.facts) (codes "End")))
+  feat_row view =
+      tells view (answer.Made (SeveralLines 211 (codes "Features") (features view.facts)
+      (codes "End")))
 
   abbrev pub pwd_row : View → Plan A R K
   pwd_row view = tells view (answer.Made (OneLine 257 (quoted (path_text view.cwd))))
 
   -- STAT without an argument
   abbrev pub status_row : View → Plan A R K
-  status_row view = notes view (cond (has_transfer view.begun) notice.TransferInProgress notice.NoTransfer)
+  status_row view =
+      notes view (cond (has_transfer view.begun) notice.TransferInProgress notice.NoTransfer)
 
   abbrev pub abor_row : View → Plan A R K
   abor_row view = cond (has_transfer view.begun)
       (Then (record view { begun = aborted view.begun })
-      (action.Say (answer.Refusal refusal.TransferAborted) ∷ action.Abort ∷ action.Say (answer.Notice notice.AbortDone) ∷ []))
+      (action.Say (answer.Refusal refusal.TransferAborted) ∷ action.Abort
+      ∷ action.Say (answer.Notice notice.AbortDone) ∷ []))
       (notes view notice.NothingToAbort)
 
   abbrev pub port_by : View → HostPort → Option Refusal → Plan A R K
   port_by view to (Some why) = refuses view why
-  port_by view to None = Then (record view { prepared = true }) (action.Say (answer.Notice notice.Fine) ∷ action.ConnectTo to ∷ [])
+  port_by view to None =
+      Then (record view { prepared = true })
+      (action.Say (answer.Notice notice.Fine) ∷ action.ConnectTo to ∷ [])
 
   abbrev pub port_row : View → HostPort → Plan A R K
   port_row view to = port_by view to (port_refusal view to)
@@ -197,19 +223,11 @@ module _ {A R K : Type 0} where
   eprt_row view (port.Unsupported protocol) = refuses view refusal.OtherProtocol
 
   abbrev pub opens : View → Passive → Plan A R K
-  opens view passive = Then (record view { prepared = false; begun = AwaitsPort passive }) (action.OpenPassive ∷ [])
+  opens view passive =
+      Then (record view { prepared = false; begun = AwaitsPort passive }) (action.OpenPassive ∷ [])
 
   abbrev pub epsv_row : View → ExtendedPassive → Plan A R K
   epsv_row view extended.Same = opens view Extended
   epsv_row view extended.All = notes (record view { only_extended = true }) notice.OnlyExtended
-  epsv_row view (extended.Protocol protocol) = cond (protocol == 1) (opens view Extended) (refuses view refusal.OtherProtocol)
-
--- one thing where a right password is given for the user who was named, and else the other
-abbrev pub if_right_at : {F : Type 0} → Stage → Bool → F → F → F
-if_right_at stage.Greeted is_right counted otherwise = otherwise
-if_right_at stage.Named is_right counted otherwise = cond is_right counted otherwise
-if_right_at stage.Inside is_right counted otherwise = otherwise
-if_right_at stage.Closed is_right counted otherwise = otherwise
-
-abbrev pub if_right : {F : Type 0} → Users → View → List ℕ → F → F → F
-if_right users view password counted otherwise = if_right_at view.stage (is_password users view.name password) counted otherwise
+  epsv_row view (extended.Protocol protocol) =
+      cond (protocol == 1) (opens view Extended) (refuses view refusal.OtherProtocol)

@@ -1,4 +1,4 @@
--- Lines that a reply or a listing is made of, where a calendar's date is looked up: told apart by what they tell.
+-- Lines of replies and listings, by their content; a line may contain a date of the calendar.
 use Rattle.std.specs.Prelude.{ℕ, ◌≡◌, List, [], ◌∷◌, ◌++◌}
 use Rattle.std.specs.List.{flat_map}
 use Rattle.ftp_reply.specs.Dates.{IsTimeVal}
@@ -7,7 +7,7 @@ use Rattle.ftp_terms.specs.declared.entries.Meta.{Meta}
 use Rattle.ftp_terms.specs.declared.facts.Facts.{Facts}
 use Rattle.ftp_terms.specs.declared.letters.Letters.{Letters}
 
--- what a line tells
+-- the content of a line
 pub data Told : Type 0 where
   -- a moment, in seconds since 1970, by fourteen digits
   Moment : ℕ → Told
@@ -18,18 +18,19 @@ pub data Told : Type 0 where
   -- the facts of an entry, and its name or path
   FactLine : Meta → Facts → Letters → List ℕ → Told
 
--- the line tells it
+-- the line has this content
 abbrev pub IsTold : Told → List ℕ → Type 0
 IsTold (Moment seconds) line = IsTimeVal seconds line
 IsTold (LongLine meta name) line = IsListLine meta name line
 IsTold (NameLine name) line = line ≡ name
 IsTold (FactLine meta facts letters path) line = IsMlstEntry meta facts letters path line
 
--- the lines tell these, one each
+-- the lines have these contents, one each
 abbrev pub AreTold : List Told → List (List ℕ) → Type 0
 AreTold [] lines = lines ≡ []
 AreTold (told ∷ others) lines =
-    (line : List ℕ) × (rest : List (List ℕ)) × IsTold told line × AreTold others rest × (lines ≡ line ∷ rest)
+    (line : List ℕ) × (rest : List (List ℕ)) × IsTold told line × AreTold others rest
+    × (lines ≡ line ∷ rest)
 
 -- the octets of lines, each ended by CR LF
 abbrev pub ended_lines : List (List ℕ) → List ℕ

@@ -1,11 +1,12 @@
--- Rows of the table on transfers and listings (RFC 959, sections 4.1.3 and 5.4; RFC 3659, section 7).
+-- Rows of the table on transfers and listings (RFC 959, sections 4.1.3 and 5.4; RFC 3659, section
+-- 7).
 use Rattle.std.specs.Prelude.{ℕ, ◌-◌, false, cond, List, [], ◌∷◌, ◌++◌, Result, Ok, Err, codes, length, map, nat_lt, option_map, slice_index_or, unwrap_or}
 use Rattle.std.specs.FinMap as finite
 use Rattle.authorizer.specs.Users.{Users, letters_at}
 use Rattle.ftp_terms.specs.declared.letters.Letters.{Letters}
 use Rattle.ftp_reply.specs.Replies.{SeveralLines}
-use Rattle.ftp_terms.specs.declared.entries.Kind.{Kind}
-use Rattle.ftp_terms.specs.declared.entries.Kind.TheVariants as kind
+use Rattle.ftp_terms.specs.declared.entries.EntryKind.{EntryKind}
+use Rattle.ftp_terms.specs.declared.entries.EntryKind.TheVariants as kind
 use Rattle.ftp_terms.specs.declared.entries.Meta.{Meta}
 use Rattle.virtual_path.specs.Path.{Path, child_of, path_text}
 use Rattle.virtual_path.specs.declared.fault.PathFault.{PathFault}
@@ -19,10 +20,11 @@ use Rattle.session_table.specs.declared.actions.Job.TheVariants as job
 use Rattle.session_table.specs.declared.answers.Answer.TheVariants as answer
 use Rattle.session_table.specs.declared.notices.Notice.TheVariants as notice
 use Rattle.session_table.specs.declared.refusals.Refusal.TheVariants as refusal
+use Rattle.session_table.specs.Calls.{Call}
 use Rattle.session_table.specs.FileRows.{store_refuses}
 use Rattle.session_table.specs.Judged.{Location}
 use Rattle.session_table.specs.Plans.{Plan}
-use Rattle.session_table.specs.Plans.Plan.{Then, WithLine, WithLines, AskStat, AskList, AskOpenRead, AskOpenWrite}
+use Rattle.session_table.specs.Plans.Plan.{Then, WithLine, WithLines, Ask}
 use Rattle.session_table.specs.StateRows.{refuses, tells}
 use Rattle.session_table.specs.Texts.{Told, ended_lines}
 use Rattle.session_table.specs.Texts.Told.{LongLine, NameLine, FactLine}
@@ -30,20 +32,31 @@ use Rattle.session_table.specs.Views.{View, Carried}
 use Rattle.session_table.specs.Views.Carried.{Listing, Sending, Taking}
 use Rattle.session_table.specs.Views.Begun.{Transfers}
 
--- how a listing tells an entry
+-- the style of a listing
 pub data Style : Type 0 where
   LongLines : Style
   Names : Style
   FactLines : Style
 
 abbrev pub no_letters : Letters
-no_letters = record { change_directory = false; listing = false; retrieve = false; append_to = false; delete = false; rename = false; make_directory = false; store = false }
+no_letters =
+    record {
+      change_directory = false;
+      listing = false;
+      retrieve = false;
+      append_to = false;
+      delete = false;
+      rename = false;
+      make_directory = false;
+      store = false;
+    }
 
--- all letters that a user holds at a path; one that was removed holds none
+-- all letters that a user has at a path; a removed user has none
 abbrev pub letters_held : Users → List ℕ → Path → Letters
-letters_held users name path = unwrap_or (option_map (λ user. letters_at user path) (finite.get users name)) no_letters
+letters_held users name path =
+    unwrap_or (option_map (λ user. letters_at user path) (finite.get users name)) no_letters
 
--- the letters at the path of an entry; one whose path would be too long has no path
+-- the letters at the path of an entry; none if the path would be too long
 abbrev pub letters_by : Users → List ℕ → Result Path PathFault → Letters
 letters_by users name (Ok path) = letters_held users name path
 letters_by users name (Err fault) = no_letters
@@ -52,12 +65,13 @@ letters_by users name (Err fault) = no_letters
 abbrev pub entry_told : Users → View → Path → Style → Entry → Told
 entry_told users view above LongLines entry = LongLine entry.1 entry.0
 entry_told users view above Names entry = NameLine entry.0
-entry_told users view above FactLines entry = FactLine entry.1 view.facts (letters_by users view.name (child_of above entry.0)) entry.0
+entry_told users view above FactLines entry =
+    FactLine entry.1 view.facts (letters_by users view.name (child_of above entry.0)) entry.0
 
 abbrev pub last_name : Path → List ℕ
 last_name path = slice_index_or path (length path - 1) []
 
--- a file is listed by itself
+-- the entry of a file itself
 abbrev pub itself : Path → Meta → List Entry
 itself path meta = (last_name path, meta) ∷ []
 
@@ -66,7 +80,7 @@ abbrev pub store_mode : ℕ → WriteMode
 store_mode offset = cond (nat_lt 0 offset) (mode.At offset) mode.New
 
 module _ {A R K : Type 0} where
-  -- a transfer uses up what was prepared
+  -- a transfer uses up the prepared data connection
   abbrev pub starts : View → Carried → Job A R K → Plan A R K
   starts view errand what = Then (record view { prepared = false; begun = Transfers errand })
       (action.Say (answer.Notice notice.Opening) ∷ action.Start what ∷ [])
@@ -76,62 +90,77 @@ module _ {A R K : Type 0} where
   sends view path (Ok source) = starts view (Sending path) (job.SendFile source view.data_type)
 
   abbrev pub retr_row : View → Location → Plan A R K
-  retr_row view location = AskOpenRead location.stored view.offset (sends view location.path)
+  retr_row view location =
+      Ask (Call.OpenRead location.stored view.offset) (sends view location.path)
 
   abbrev pub takes : View → Path → Result K StoreFault → Plan A R K
   takes view path (Err why) = store_refuses view why
   takes view path (Ok sink) = starts view (Taking path) (job.TakeFile sink view.data_type)
 
   abbrev pub stor_row : View → ℕ → Location → Plan A R K
-  stor_row view moment location = AskOpenWrite location.stored (store_mode view.offset) moment (takes view location.path)
+  stor_row view moment location =
+      Ask (Call.OpenWrite location.stored (store_mode view.offset) moment)
+      (takes view location.path)
 
   abbrev pub appe_row : View → ℕ → Location → Plan A R K
-  appe_row view moment location = AskOpenWrite location.stored mode.Append moment (takes view location.path)
+  appe_row view moment location =
+      Ask (Call.OpenWrite location.stored mode.Append moment) (takes view location.path)
 
   -- the entries of a listing, one line each
-  abbrev pub lists : Users → View → Path → Style → (List (List ℕ) → Plan A R K) → List Entry → Plan A R K
-  lists users view above style next entries = WithLines (map (entry_told users view above style) entries) next
+  abbrev pub lists : Users → View → Path → Style → (List (List ℕ) → Plan A R K) → List Entry
+      → Plan A R K
+  lists users view above style next entries =
+      WithLines (map (entry_told users view above style) entries) next
 
-  abbrev pub listed_by : View → (List Entry → Plan A R K) → Result (List Entry) StoreFault → Plan A R K
+  abbrev pub listed_by : View → (List Entry → Plan A R K) → Result (List Entry) StoreFault
+      → Plan A R K
   listed_by view next (Err why) = store_refuses view why
   listed_by view next (Ok entries) = next entries
 
   -- a directory's entries, or the file itself
-  abbrev pub looked_in : View → Location → (List Entry → Plan A R K) → (Meta → Plan A R K) → Meta → Kind → Plan A R K
-  looked_in view location next of_file meta kind.Directory = AskList location.stored (listed_by view next)
+  abbrev pub looked_in : View → Location → (List Entry → Plan A R K) → (Meta → Plan A R K) → Meta
+      → EntryKind → Plan A R K
+  looked_in view location next of_file meta kind.Directory =
+      Ask (Call.Listing location.stored) (listed_by view next)
   looked_in view location next of_file meta kind.File = of_file meta
 
-  abbrev pub looked_by : View → Location → (List Entry → Plan A R K) → (Meta → Plan A R K) → Result Meta StoreFault → Plan A R K
+  abbrev pub looked_by : View → Location → (List Entry → Plan A R K) → (Meta → Plan A R K)
+      → Result Meta StoreFault → Plan A R K
   looked_by view location next of_file (Err why) = store_refuses view why
-  looked_by view location next of_file (Ok meta) = looked_in view location next of_file meta meta.kind
+  looked_by view location next of_file (Ok meta) =
+      looked_in view location next of_file meta meta.kind
 
   abbrev pub sends_lines : View → List (List ℕ) → Plan A R K
   sends_lines view lines = starts view Listing (job.Text (ended_lines lines))
 
   -- LIST and NLST
   abbrev pub list_row : Users → View → Style → Location → Plan A R K
-  list_row users view style location = AskStat location.stored (looked_by view location
+  list_row users view style location = Ask (Call.Stat location.stored) (looked_by view location
       (lists users view location.path style (sends_lines view))
       (λ meta. lists users view location.path style (sends_lines view) (itself location.path meta)))
 
   abbrev pub mlsd_row : Users → View → Location → Plan A R K
-  mlsd_row users view location = AskStat location.stored (looked_by view location
+  mlsd_row users view location = Ask (Call.Stat location.stored) (looked_by view location
       (lists users view location.path FactLines (sends_lines view))
       (λ meta. refuses view refusal.ListsNoFile))
 
   -- STAT with an argument
   abbrev pub status_lines : View → List (List ℕ) → Plan A R K
-  status_lines view lines = tells view (answer.Made (SeveralLines 213 (codes "Status") lines (codes "End")))
+  status_lines view lines =
+      tells view (answer.Made (SeveralLines 213 (codes "Status") lines (codes "End")))
 
   abbrev pub stat_row : Users → View → Location → Plan A R K
-  stat_row users view location = AskStat location.stored (looked_by view location
+  stat_row users view location = Ask (Call.Stat location.stored) (looked_by view location
       (lists users view location.path LongLines (status_lines view))
-      (λ meta. lists users view location.path LongLines (status_lines view) (itself location.path meta)))
+      (λ meta. lists users view location.path LongLines (status_lines view)
+      (itself location.path meta)))
 
   abbrev pub mlst_by : Users → View → Path → Result Meta StoreFault → Plan A R K
   mlst_by users view path (Err why) = store_refuses view why
-  mlst_by users view path (Ok meta) = WithLine (FactLine meta view.facts (letters_held users view.name path) (path_text path))
-      (λ line. tells view (answer.Made (SeveralLines 250 (codes "Listing") ((codes " " ++ line) ∷ []) (codes "End"))))
+  mlst_by users view path (Ok meta) =
+      WithLine (FactLine meta view.facts (letters_held users view.name path) (path_text path))
+      (λ line. tells view (answer.Made
+      (SeveralLines 250 (codes "Listing") ((codes " " ++ line) ∷ []) (codes "End"))))
 
   abbrev pub mlst_row : Users → View → Location → Plan A R K
-  mlst_row users view location = AskStat location.stored (mlst_by users view location.path)
+  mlst_row users view location = Ask (Call.Stat location.stored) (mlst_by users view location.path)

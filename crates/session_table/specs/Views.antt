@@ -1,4 +1,4 @@
--- What a session knows.
+-- The state of a session.
 use Rattle.std.specs.Prelude.{ℕ, Bool, true, false, List, [], Option, Some, None}
 use Rattle.ftp_terms.specs.declared.data_type.DataType.{DataType}
 use Rattle.ftp_terms.specs.declared.data_type.DataType.TheVariants.{Ascii}
@@ -16,13 +16,13 @@ use Rattle.session_table.specs.declared.stages.Stage.TheVariants as stage
 use Rattle.session_table.specs.declared.stages.Work.{Work}
 use Rattle.session_table.specs.declared.stages.Work.TheVariants as work
 
--- what a transfer carries; a file by the user's path
+-- the content of a transfer; a file by the user's path
 pub data Carried : Type 0 where
   Listing : Carried
   Sending : Path → Carried
   Taking : Path → Carried
 
--- what was begun and has not ended
+-- the work in progress
 pub data Begun : Type 0 where
   Idle : Begun
   AwaitsPort : Passive → Begun
@@ -41,7 +41,7 @@ begun (work.Transfers errand) = Transfers (carried errand)
 begun (work.Aborted errand) = Aborted (carried errand)
 
 pub record View : Type 0 where
-  -- what the server sets
+  -- settings of the server
   pub banner : List ℕ
   pub permits_foreign_addresses : Bool
   pub permits_privileged_ports : Bool
@@ -53,7 +53,7 @@ pub record View : Type 0 where
   -- the user, and the number that the user had at the login
   pub name : List ℕ
   pub number : ℕ
-  -- how many wrong passwords close the control connection
+  -- number of wrong passwords that close the control connection
   pub attempts_left : ℕ
   pub cwd : Path
   pub data_type : DataType
@@ -64,7 +64,7 @@ pub record View : Type 0 where
   pub only_extended : Bool
   -- a data connection is prepared
   pub prepared : Bool
-  -- the store's path of what RNFR named
+  -- the store's path that RNFR named
   pub source : Option Path
   pub begun : Begun
 
@@ -83,21 +83,21 @@ is_closed stage.Named = false
 is_closed stage.Inside = false
 is_closed stage.Closed = true
 
--- a transfer that was aborted counts as none
+-- an aborted transfer counts as none
 abbrev pub has_transfer : Begun → Bool
 has_transfer Idle = false
 has_transfer (AwaitsPort passive) = false
 has_transfer (Transfers errand) = true
 has_transfer (Aborted errand) = false
 
--- the passive port that is awaited
+-- the command that awaits a passive port
 abbrev pub awaited : Begun → Option Passive
 awaited Idle = None
 awaited (AwaitsPort passive) = Some passive
 awaited (Transfers errand) = None
 awaited (Aborted errand) = None
 
--- what a transfer carries whose end has not come
+-- the content of a transfer that has not ended
 abbrev pub running : Begun → Option Carried
 running Idle = None
 running (AwaitsPort passive) = None
@@ -117,7 +117,7 @@ aborted (AwaitsPort passive) = AwaitsPort passive
 aborted (Transfers errand) = Aborted errand
 aborted (Aborted errand) = Aborted errand
 
--- a transfer whose end has not come
+-- a transfer has not ended
 abbrev pub runs : Begun → Bool
 runs Idle = false
 runs (AwaitsPort passive) = false
@@ -131,11 +131,20 @@ is_busy (AwaitsPort passive) = true
 is_busy (Transfers errand) = true
 is_busy (Aborted errand) = true
 
--- what a new client finds: the parameters of RFC 959, section 5.1, but that data are never sent unprepared
+-- the parameters of a new client: those of RFC 959, section 5.1, except that data are never sent
+-- unprepared
 abbrev pub anew : View → View
-anew view = record view { cwd = []; data_type = Ascii; offset = 0; facts = all_facts; only_extended = false; prepared = false }
+anew view =
+    record view {
+      cwd = [];
+      data_type = Ascii;
+      offset = 0;
+      facts = all_facts;
+      only_extended = false;
+      prepared = false;
+    }
 
--- a session as it begins, of a client at this address
+-- a new session of a client at this address
 abbrev pub fresh : {A : Type 0} → Settings A → List ℕ → View
 fresh settings peer = record {
   banner = text_of settings.banner;

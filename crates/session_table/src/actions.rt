@@ -1,4 +1,4 @@
-//! What a session has done by whoever runs it.
+//! The actions of a session, which its host carries out.
 
 use crate::answers::Answer;
 use crate::text::{Octets, Text};
@@ -7,7 +7,7 @@ use ftp_wire::HostPort;
 use std::alloc::Allocator;
 use virtual_path::VPath;
 
-/// What a handler is told.
+/// An event for a handler.
 #[derive(Drop)]
 pub enum HookCall<A: Allocator> {
     Connect,
@@ -23,7 +23,7 @@ pub enum HookCall<A: Allocator> {
     IncompleteFileReceived(VPath<A>),
 }
 
-/// What a transfer moves, by a store's sources `R` and its sinks `K`.
+/// The octets that a transfer moves, with a store's sources `R` and its sinks `K`.
 #[derive(Drop)]
 pub enum Job<A: Allocator, R, K> {
     /// A listing is sent as it is.
@@ -32,21 +32,21 @@ pub enum Job<A: Allocator, R, K> {
     TakeFile(K, DataType),
 }
 
-/// One thing to do. They are done in the order in which they are told.
+/// One action. Actions are carried out in their order.
 #[derive(Drop)]
 pub enum Action<A: Allocator, R, K> {
     Say(Answer<A>),
     Hook(HookCall<A>),
-    /// Drops what was prepared, and opens a passive port, which is told by the input `DataReady`.
+    /// Drops a prepared data connection, and opens a passive port. The input `DataReady` reports it.
     OpenPassive,
-    /// Drops what was prepared; a transfer then connects there.
+    /// Drops a prepared data connection; the next transfer connects to this address.
     ConnectTo(HostPort),
     DropData,
-    /// Starts a transfer, whose end is told by the input `TransferEnded`.
+    /// Starts a transfer. The input `TransferEnded` reports its end.
     Start(Job<A, R, K>),
-    /// Aborts the transfer that runs. Its end is told all the same.
+    /// Aborts the running transfer. Its end is reported all the same.
     Abort,
     CloseControl,
-    /// Releases what the user of this number is guaranteed, once no transfer of the session is left.
+    /// Releases the guaranteed rate of the user with this number, once no transfer of the session is left.
     ReleaseFloor(u32),
 }

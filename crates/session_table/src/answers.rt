@@ -1,4 +1,4 @@
-//! What a client is told.
+//! Replies to a client.
 
 ghost use Rattle.std.specs.Prelude.{◌≡◌};
 ghost use Rattle.ftp_reply.specs.Replies.{OneLine};
@@ -20,7 +20,7 @@ pub enum Answer<A: Allocator = Global> {
     Refusal(Refusal),
     /// The line is no command.
     Fault(LineFault),
-    /// A reply with a text that was made.
+    /// A reply with a computed text.
     Made(Reply<A>),
 }
 
@@ -41,7 +41,7 @@ impl Refusal {
 }
 
 impl<A: Allocator> Answer<A> {
-    /// The reply that is written, without any memory.
+    /// Returns the reply to write. Takes no memory.
     pub fn into_reply(self) -> Reply<A>
         ensures form { result ≡ answer_form self }
     {

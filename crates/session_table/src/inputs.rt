@@ -1,15 +1,15 @@
-//! What a session is told.
+//! The inputs of a session.
 
 use ftp_wire::LineItem;
 use std::alloc::Allocator;
 
-/// How a transfer ended.
+/// The end of a transfer.
 #[derive(Clone, Copy, Debug, PartialEq, Eq)]
 pub enum End {
     Done,
     /// The data connection was lost.
     Lost,
-    /// The store's device failed.
+    /// The store's device reported an error.
     Local,
     Full,
     /// No data connection came, or no worker was free.
@@ -19,10 +19,10 @@ pub enum End {
     Aborted,
 }
 
-/// What a session is told, with a store's sinks `K`.
+/// An input of a session, with a store's sinks `K`.
 #[derive(Drop)]
 pub enum Input<A: Allocator, K> {
-    /// A line as it comes.
+    /// A line as it was read.
     Line(LineItem<A>),
     /// A held line may be taken.
     Held,

@@ -1,10 +1,11 @@
-//! The session table: which reply a line of a control connection gets, what is asked of the store,
-//! and what is to be done.
+//! The session table: the reply to each line of a control connection, the calls of the store, and the actions; and the
+//! laws of every step.
 //!
-//! The table itself stands in `specs/`, as one reads it: `Judged` has the refusals of a line, in their
-//! order; `StateRows`, `FileRows` and `TransferRows` have the row of each command as a plan, which
-//! asks the store or ends with what the session knows then and what is to be done; `Table` has each
-//! input in each stage. This crate has the types that it speaks of.
+//! The table itself is in `specs/`: `Judged` has the refusals of a line, in their order; `StateRows`, `FileRows` and
+//! `TransferRows` have the row of each command as a plan, which asks the store or the guaranteed rates, or ends with
+//! the state of the session and the actions; `Table` has each input in each stage. `Laws` has the laws of every step,
+//! whatever a client sends and a store answers: each function of `laws.rt` has one of them as its contract. The rest of
+//! the code is the types of the table.
 //!
 //! ```text
 //! let answer: Answer = Answer::Refusal(Refusal::LogInFirst);
@@ -15,6 +16,7 @@
 mod actions;
 mod answers;
 mod inputs;
+mod laws;
 mod notices;
 mod refusals;
 mod settings;
@@ -24,6 +26,11 @@ mod text;
 pub use actions::{Action, HookCall, Job};
 pub use answers::Answer;
 pub use inputs::{End, Input};
+pub use laws::{
+    admissions_are_rightful, calls_are_rightful, few_lines_are_held, floors_are_released_once,
+    no_calls_outside, no_transfer_unprepared, one_thing_is_asked, others_ask_no_floors,
+    sources_are_named,
+};
 pub use notices::Notice;
 pub use refusals::Refusal;
 pub use settings::Settings;

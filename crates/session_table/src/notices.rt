@@ -1,4 +1,4 @@
-//! Replies with a fixed text that tell what was done or is wanted next.
+//! Replies with a fixed text that report success or a next step.
 
 ghost use Rattle.std.specs.Prelude.{◌≡◌};
 ghost use Rattle.session_table.specs.Notices.{notice_code, notice_text};

@@ -1,4 +1,4 @@
-//! Replies with a fixed text that tell that a line, or a transfer, failed.
+//! Replies with a fixed text that report a failure of a line or of a transfer.
 
 ghost use Rattle.std.specs.Prelude.{◌≡◌};
 ghost use Rattle.session_table.specs.Refusals.{path_text_of, refusal_code, refusal_text, store_code, store_text};

@@ -1,19 +1,19 @@
-//! What a server sets for all of its sessions.
+//! Settings of a server for all of its sessions.
 
 use ftp_terms::LineText;
 use std::alloc::{Allocator, Global};
 
-/// What a server sets for all of its sessions.
+/// Settings of a server for all of its sessions.
 #[derive(Drop)]
 pub struct Settings<A: Allocator = Global> {
-    /// What a client is greeted with.
+    /// The text of the greeting.
     pub banner: LineText<A>,
-    /// How many wrong passwords close the control connection, from 1.
+    /// Number of wrong passwords that close the control connection, at least 1.
     pub login_attempts: u32,
-    /// Whether a data connection may go to another host than the client's.
+    /// Permits data connections to a host other than the client's.
     pub permits_foreign_addresses: bool,
-    /// Whether a data connection may go to a port below 1024.
+    /// Permits data connections to a port below 1024.
     pub permits_privileged_ports: bool,
-    /// The address that PASV tells.
+    /// The address in the reply to PASV.
     pub address: [u8; 4],
 }

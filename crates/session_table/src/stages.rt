@@ -1,9 +1,9 @@
-//! Where a session stands, and what it has begun.
+//! The stage of a session, and its work in progress.
 
 use std::alloc::{Allocator, Global};
 use virtual_path::VPath;
 
-/// How far a client has come.
+/// The stage of a login.
 #[derive(Clone, Copy, Debug, PartialEq, Eq)]
 pub enum Stage {
     /// Nobody is named.
@@ -16,18 +16,18 @@ pub enum Stage {
     Closed,
 }
 
-/// What becomes of the control connection.
+/// The state of the control connection.
 #[derive(Clone, Copy, Debug, PartialEq, Eq)]
 pub enum Control {
     /// Lines are served.
     Open,
-    /// QUIT came, and waits for the end of what was begun.
+    /// A QUIT waits for the end of the work in progress.
     Quitting,
-    /// The connection is to be closed: no line counts.
+    /// The connection is to be closed: lines are ignored.
     Closing,
 }
 
-/// Which command awaits a passive port, and so how it is told.
+/// The command that awaits a passive port. It decides the form of the reply.
 #[derive(Clone, Copy, Debug, PartialEq, Eq)]
 pub enum Passive {
     /// PASV (RFC 959, section 4.1.2).
@@ -36,7 +36,7 @@ pub enum Passive {
     Extended,
 }
 
-/// What a transfer carries; a file by the user's path.
+/// The content of a transfer; a file by the user's path.
 #[derive(Drop)]
 pub enum Errand<A: Allocator = Global> {
     Listing,
@@ -44,7 +44,7 @@ pub enum Errand<A: Allocator = Global> {
     Taking(VPath<A>),
 }
 
-/// What a session has begun and not ended.
+/// The work in progress of a session.
 #[derive(Drop)]
 pub enum Work<A: Allocator = Global> {
     Idle,

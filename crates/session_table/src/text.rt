@@ -1,4 +1,4 @@
-//! Texts and octets as contracts see them: as lists.
+//! Texts and octets, seen by contracts as lists.
 
 ghost use Rattle.std.specs.Prelude.{◌≡◌, ℕ, List, [], IfOk};
 ghost use Rattle.std.specs.String.{string_bytes};
@@ -19,7 +19,7 @@ impl<A: Allocator> Model for Text<A> {
 }
 
 impl<A: Allocator> Text<A> {
-    /// No text, which takes no memory.
+    /// An empty text, without memory.
     pub fn empty(alloc: A) -> Text<A>
         ensures empty { result ≡ [] }
     {
@@ -28,7 +28,7 @@ impl<A: Allocator> Text<A> {
         }
     }
 
-    /// A copy of a text. `Err` is want of memory.
+    /// Copies a text. `Err` is lack of memory.
     pub fn copy_of(alloc: A, text: &str) -> Result<Text<A>, AllocError>
         ensures text { IfOk result (λ copy. copy ≡ text.now) }
     {

@@ -1,13 +1,13 @@
-//! What tests expect. A call costs the prover less than an `assert!` in its place.
+//! Expectations of tests. A call costs the prover less than an `assert!` in its place.
 
 use std::process::Abort;
 
-/// Stops the test where this does not hold.
+/// Ends the test unless the fact is true.
 pub(crate) fn holds(rt: &impl Abort, fact: bool) {
     assert!(rt; fact);
 }
 
-/// The octets are these.
+/// Ends the test unless the octets are these.
 pub(crate) fn same(rt: &impl Abort, found: &[u8], wanted: &[u8]) {
     assert_eq!(rt; found, wanted);
 }

@@ -4,12 +4,12 @@ use crate::expect::holds;
 use crate::room::{PEER, settings};
 use ftp_wire::{Command, LineItem};
 use memory_store::{MemSink, MemSource};
-use session_core::{Session, others_ask_no_floors};
-use session_laws::{
-    calls_are_rightful, few_lines_are_held, floors_are_released_once, no_calls_outside,
-    no_transfer_unprepared, one_thing_is_asked, sources_are_named,
+use session_core::Session;
+use session_table::{
+    Input, admissions_are_rightful, calls_are_rightful, few_lines_are_held,
+    floors_are_released_once, no_calls_outside, no_transfer_unprepared, one_thing_is_asked,
+    others_ask_no_floors, sources_are_named,
 };
-use session_table::Input;
 use std::alloc::Global;
 
 #[test]
@@ -18,6 +18,7 @@ fn laws(_rt: HostRuntime) {
     no_calls_outside::<Global, MemSource<Global>, MemSink<Global>>();
     no_transfer_unprepared::<Global, MemSource<Global>, MemSink<Global>>();
     few_lines_are_held::<Global, MemSource<Global>, MemSink<Global>>();
+    admissions_are_rightful::<Global, MemSource<Global>, MemSink<Global>>();
     floors_are_released_once::<Global, MemSource<Global>, MemSink<Global>>();
     one_thing_is_asked::<Global, MemSource<Global>, MemSink<Global>>();
     sources_are_named::<Global, MemSource<Global>, MemSink<Global>>();

@@ -1,6 +1,6 @@
-//! Tests of sessions: what the head of each crate's `lib.rt` shows of its use, the octets of each fixed reply, and the laws of
-//! the table at a concrete type. `tools/examples` sees that the examples have the lines of those heads; what sessions do, line
-//! by line, stands in `runs/`.
+//! Tests of sessions: the examples in the head of each crate's `lib.rt`, the octets of each fixed reply, and the laws
+//! of the table at a concrete type. `tools/examples` compares the examples with those heads; whole sessions, line by
+//! line, are in `runs/`.
 #![tactic(auto)]
 
 #[cfg(test)]

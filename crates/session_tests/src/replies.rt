@@ -1,4 +1,4 @@
-//! The octets of each fixed reply, worked by hand from the table; and the example that bears the name of the table's crate.
+//! The octets of each fixed reply, worked by hand from the table; and the example with the name of the table's crate.
 
 use crate::expect::same;
 use ftp_reply::Reply;
@@ -100,7 +100,7 @@ static REFUSALS: [(Refusal, &str); 34] = [
     (Refusal::SizeNeedsImage, "550 SIZE needs TYPE I\r\n"),
 ];
 
-/// The reply is written as these octets.
+/// Checks that the reply is written as these octets.
 fn says(rt: &(impl Abort + AllocGlobal), reply: Reply, wanted: &[u8]) {
     let mut octets = Vec::new(rt.alloc());
     reply.write_to(&mut octets).expect(rt, "memory");
@@ -144,7 +144,7 @@ fn line_faults(rt: HostRuntime) {
     }
 }
 
-/// The octets of a listing are those of the list that it was made of.
+/// The octets of a listing are those of its list.
 #[test]
 fn octets_of_a_listing(rt: HostRuntime) {
     let list = Vec::from_slice(rt.alloc(), b"a\r\n").expect(&rt, "memory");

@@ -1,8 +1,8 @@
-//! What the sessions of these examples have, made once for all of them, and what is said to their clients.
+//! The values that the sessions of these examples share, made once for all of them, and checks of their replies.
 
 use crate::expect::same;
 use authorizer::Authorizer;
-use data_side::push_answer;
+use control_session::push_answer;
 use ftp_terms::LineText;
 use line_rates::Limits;
 use memory_store::{MemSink, MemSource, MemStore};
@@ -18,7 +18,7 @@ pub(crate) type Actions = Vec<Action<Global, MemSource<Global>, MemSink<Global>>
 /// The address of the client.
 pub(crate) const PEER: [u8; 4] = [127, 0, 0, 1];
 
-/// The user ann, nobody who is guaranteed a rate, an empty store, and a session that has begun.
+/// The user ann, no guaranteed rates, an empty store, and a session that has begun.
 #[derive(Drop)]
 pub(crate) struct Room {
     pub users: Authorizer,
@@ -68,7 +68,7 @@ pub(crate) fn location(rt: &(impl Abort + AllocGlobal), text: &str) -> Location 
     Location::new(path, stored)
 }
 
-/// A call has passed, and the replies among its actions are these.
+/// Checks that a call succeeded, and that the replies among its actions are these.
 pub(crate) fn says(rt: &(impl Abort + AllocGlobal), told: Result<Actions, AllocError>, text: &str) {
     let actions = told.expect(rt, "memory");
     let mut octets = Vec::new(rt.alloc());

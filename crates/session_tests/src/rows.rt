@@ -1,4 +1,4 @@
-//! What a session knows, and the rows of its table: examples that bear the names of their crates, on one session.
+//! The state of a session, and the rows of its table: examples with the names of their crates, on one session.
 
 use crate::expect::holds;
 use crate::room::{Actions, Room, location, make_room, says};
@@ -9,14 +9,10 @@ use handler_hooks::{Hooks, run_hooks};
 use memory_store::MemStore;
 use rate_floors::Floors;
 use session_events::{close, end_transfer, take_port};
-use session_files::{make_directory, rename_from};
-use session_judge::judge;
-use session_listings::{Style, list};
-use session_login::{check_password, greet, name_user};
-use session_parameters::{open_passive, set_offset, set_type};
+use session_file_rows::{Style, list, make_directory, rename_from, retrieve, store_file};
 use session_state::{Location, State};
+use session_state_rows::{check_password, greet, name_user, open_passive, set_offset, set_type};
 use session_table::{End, Notice, Passive};
-use session_transfers::{retrieve, store_file};
 use std::alloc::AllocError;
 use std::process::Abort;
 use virtual_path::VPath;
@@ -26,18 +22,6 @@ fn session_state(rt: &(impl Abort + AllocGlobal), state: &mut State, path: VPath
     holds(rt, state.cwd().text() == "/in");
     let told = state.note(Notice::DirectoryChanged); // actions, of which one is a reply
     says(rt, told, "250 Directory changed\r\n");
-}
-
-fn session_judge(
-    rt: &(impl Abort + AllocGlobal),
-    state: &mut State,
-    users: &Authorizer,
-) -> Result<(), AllocError> {
-    match judge(state, users, &Command::Pwd)? {
-        Ok(location) => holds(rt, location.stored().is_root()), // where the command acts
-        Err(refusal) => says(rt, state.refuse(refusal), "530 Log in first\r\n"),
-    }
-    Ok(())
 }
 
 fn session_login(
@@ -51,14 +35,14 @@ fn session_login(
     says(rt, told, "230 Welcome\r\n"); // else 530
 }
 
-fn session_parameters(rt: &(impl Abort + AllocGlobal), state: &mut State) {
+fn session_state_rows(rt: &(impl Abort + AllocGlobal), state: &mut State) {
     says(rt, set_type(state, DataType::Image), "200 Type is I\r\n");
     says(rt, set_offset(state, 1000), "350 Restart at 1000\r\n");
     let told = open_passive(state, Passive::Plain); // a port is asked for: the reply comes with it
     says(rt, told, "");
 }
 
-fn session_files(
+fn session_file_rows(
     rt: &(impl Abort + AllocGlobal),
     state: &mut State,
     store: &mut MemStore,
@@ -108,7 +92,7 @@ fn session_events(
     says(rt, close(state), ""); // what is left to drop, and to tell the handler
 }
 
-/// Counts the clients that came and are there.
+/// A handler that counts the clients that came and are there.
 #[derive(Drop)]
 struct Clients {
     there: u32,
@@ -146,27 +130,26 @@ fn handler_hooks(rt: &(impl Abort + AllocGlobal), greeting: &Actions) {
     holds(rt, clients.there == 1);
 }
 
-/// What a new client is told, and its handler.
+/// The greeting of a new client, and its handler.
 fn greeted(rt: &(impl Abort + AllocGlobal), state: &State) {
     let greeting = greet(state).expect(rt, "memory");
     handler_hooks(rt, &greeting);
 }
 
-/// A login, and what needs no transfer.
+/// A login, and commands without a transfer.
 fn in_session(rt: &(impl Abort + AllocGlobal), room: &mut Room) {
-    session_judge(rt, &mut room.state, &room.users).expect(rt, "memory");
     greeted(rt, &room.state);
     session_login(rt, &mut room.state, &room.users, &mut room.floors);
-    session_files(rt, &mut room.state, &mut room.store, location(rt, "/in"));
+    session_file_rows(rt, &mut room.state, &mut room.store, location(rt, "/in"));
     session_state(rt, &mut room.state, location(rt, "/in").into_path());
 }
 
-/// Transfers, and what prepares them.
+/// Transfers, and the commands that prepare them.
 fn in_transfers(rt: &(impl Abort + AllocGlobal), room: &mut Room, root: &Location) {
     let missing = location(rt, "/g");
     let place = location(rt, "/f");
     session_transfers(rt, &mut room.state, &mut room.store, missing, place);
-    session_parameters(rt, &mut room.state);
+    session_state_rows(rt, &mut room.state);
     session_listings(rt, &mut room.state, &room.users, &mut room.store, root);
     session_events(rt, &mut room.state, &room.users, &mut room.store);
 }

@@ -1,13 +1,12 @@
-//! Whole sessions: examples that bear the names of their crates.
+//! Whole sessions: examples with the names of their crates.
 
 use crate::expect::{holds, same};
 use crate::room::{PEER, Room, make_room, says, settings};
 use authorizer::Authorizer;
-use configured_session::serve_config;
 use ftp_wire::{Command, LineItem};
 use memory_store::MemStore;
 use rate_floors::Floors;
-use script_session::{ControlFault, serve_text};
+use script_session::{ControlFault, serve_config, serve_text};
 use server_config::Config;
 use session_core::Session;
 use session_table::Input;
@@ -16,7 +15,7 @@ use std::io;
 use std::io::Write;
 use std::process::Abort;
 use std::test::Fail;
-use text_ends::{Outside, TextWriter};
+use text_io::{Outside, TextWriter};
 
 /// The end of a long name.
 const LONG: &str = "abcdefghijklmnopqrstuvwxyzabcdefghijklmnopqrstuvwxyzabcdefghijklmnopqrstuvwxyz";
@@ -87,7 +86,7 @@ fn whole_sessions(rt: HostRuntime) {
     in_room(&rt, &mut room);
 }
 
-/// A client who takes a few octets of a reply at a time.
+/// A client that takes a few octets of a reply at a time.
 #[derive(Drop)]
 struct SlowClient {
     taken: Vec<u8>,
@@ -105,7 +104,7 @@ impl Write for SlowClient {
     }
 }
 
-/// Says a text to a session of this room.
+/// Sends a text to a session of this room.
 fn talk(
     rt: &(impl Abort + AllocGlobal),
     room: &mut Room,
@@ -146,7 +145,7 @@ fn make_many(rt: &(impl Abort + AllocGlobal)) -> Vec<u8> {
     text
 }
 
-/// A reply that is longer than a socket's buffer is written whole and in order, however few octets go at a time.
+/// A reply that is longer than a socket's buffer is written whole and in order, however few octets go out at a time.
 #[test]
 fn a_long_reply(rt: HostRuntime) {
     let mut room = make_room(&rt);

@@ -9,7 +9,7 @@ use Rattle.world_terms.specs.declared.event.LaneState.{LaneState}
 use Rattle.world_terms.specs.declared.event.LaneState.TheVariants as state
 use Rattle.world_terms.specs.Decisions.{AllPosted, asker_of, in_round, in_round_from}
 use Rattle.world_terms.specs.Lanes.{Lane}
-use Rattle.world_laws.specs.Kept.{IsSound, IsUnasked}
+use Rattle.share_world.specs.Kept.{IsSound, IsUnasked}
 use Rattle.share_world.specs.Turns.{HasAsk, due_ask, due_in}
 
 pub has_ask : (l : Lane) → IsSound l → HasAsk l

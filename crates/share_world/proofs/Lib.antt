@@ -1,3 +1,7 @@
+pub mod Effects
+pub mod Grants
+pub mod Kept
+pub mod Sittings
 pub mod Asking
 pub mod Deals
 pub mod Sharing

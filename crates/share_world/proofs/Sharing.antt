@@ -20,8 +20,8 @@ use Rattle.world_terms.specs.Lanes.{Lane, World, new_lane}
 use Rattle.world_terms.specs.Steps.{PassesMost}
 use Rattle.world_terms.specs.Sums.{shares}
 use Rattle.grant_ledger.specs.declared.ledger.TheConstants.{MAX_ISSUED, MAX_LANES}
-use Rattle.world_laws.proofs.Grants.{EachPosted, all_octets, given_sum, posted_all}
-use Rattle.world_laws.proofs.Kept.{shares_add}
+use Rattle.share_world.proofs.Grants.{EachPosted, all_octets, given_sum, posted_all}
+use Rattle.share_world.proofs.Kept.{shares_add}
 use Rattle.share_world.specs.Limited.{IsKept}
 use Rattle.share_world.specs.Shares.{AreOpen, dealt}
 use Rattle.share_world.specs.Turns.{HasAsk}

@@ -13,9 +13,9 @@ use Rattle.world_terms.specs.Decisions.{AllPosted}
 use Rattle.world_terms.specs.Lanes.{Lane, World}
 use Rattle.world_terms.specs.Steps.{Accepts, IsChange, LaneStep, Refuses, RefusesLane, Step, lane_of}
 use Rattle.world_terms.specs.Sums.{shares}
-use Rattle.world_laws.specs.Kept.{IsBooked, IsSound}
-use Rattle.world_laws.proofs.Effects.{effect}
-use Rattle.world_laws.proofs.Kept.{sum_set}
+use Rattle.share_world.specs.Kept.{IsBooked, IsSound}
+use Rattle.share_world.proofs.Effects.{effect}
+use Rattle.share_world.proofs.Kept.{sum_set}
 use Rattle.share_world.specs.Limited.{Limited}
 use Rattle.share_world.specs.Turns.{LaneReply, is_collect, is_decide}
 

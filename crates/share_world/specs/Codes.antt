@@ -1,4 +1,4 @@
--- Codes, by which proofs tell worlds apart.
+-- Codes, by which proofs distinguish worlds.
 use Rattle.std.specs.Prelude.{◌≡◌, ℕ, zero, suc, Bool, true, false, List, Option, refl}
 use Rattle.std.proofs.Common.{ap}
 use Rattle.std.specs.Coded.{Coded, code_by, coded×, coded_ℕ, coded_bool, coded_list, coded_option}

@@ -1,4 +1,4 @@
--- Grants dealt to lanes, by the numbers of the lanes.
+-- Grants assigned to lanes by number.
 use Rattle.std.specs.Prelude.{◌≡◌, ℕ, List, [], ◌∷◌, slice_get, slice_index_or, slice_set, Some, ⊤}
 use Rattle.grant_ledger.specs.Books.{NamesNot}
 use Rattle.limit_tree.specs.declared.fault.TreeFault.{TreeFault}
@@ -14,7 +14,7 @@ use Rattle.world_terms.specs.Decisions.{IsPosted, with_amount}
 use Rattle.world_terms.specs.Lanes.{Lane, new_lane}
 use Rattle.world_terms.specs.Steps.{HasOtherFault}
 
--- each amount decided for its lane
+-- each amount is decided for its lane
 abbrev pub dealt : List ℕ → List ℕ → List Lane → List Lane
 dealt [] amounts ls = ls
 dealt (i ∷ numbers) [] ls = ls
@@ -27,7 +27,7 @@ pub record IsOpen (i : ℕ) (ls : List Lane) : Type 0 where
   pub round : lane.shown.state ≡ state.Round
   pub posted : IsPosted lane
 
--- so are these lanes, each named once
+-- all these lanes are, and each occurs once
 abbrev pub AreOpen : List ℕ → List Lane → Type 0
 AreOpen [] ls = ⊤
 AreOpen (i ∷ numbers) ls = IsOpen i ls × NamesNot i numbers × AreOpen numbers ls
@@ -39,7 +39,7 @@ IsUnshared rates tick asks fault.FloorsOver = FloorsFit rates tick (map ask_in a
 IsUnshared rates tick asks fault.Memory = ⊤
 IsUnshared rates tick asks f = ⊥
 
--- what a fault of the tree of a tick is told as
+-- the refusal for a fault of the tree of a tick
 abbrev pub fault_for : TreeFault → StepFault
 fault_for (tree.FloorsOverLimit branch) = fault.FloorsOver
 fault_for f = fault.TooMuch

@@ -1,4 +1,4 @@
--- What an event makes of its lane, with its reply.
+-- The effect of an event on its lane, with its reply.
 use Rattle.std.specs.Prelude.{◌≡◌, Bool, true, false, Option, Some, None, Result, MatchResult}
 use Rattle.line_rates.specs.declared.ask.Ask.{Ask}
 use Rattle.world_terms.specs.declared.event.LaneState.{LaneState}

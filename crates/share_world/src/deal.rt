@@ -1,4 +1,4 @@
-//! Lanes side by side: what they ask, and what is dealt to them.
+//! Operations on all lanes: their asks, and the amounts decided for them.
 
 ghost use Rattle.std.specs.Prelude.{◌≡◌, ◌≤◌, ◌↔◌, length, All, IsTrue, IfOk};
 ghost use Rattle.grant_ledger.specs.declared.ledger.TheConstants.{MAX_LANES};
@@ -13,8 +13,8 @@ use limit_tree::MAX_WANT;
 use line_rates::Ask;
 use std::alloc::{AllocError, Allocator};
 
-/// So many lanes that no worker has, and that had no ask yet.
-pub fn new_lanes<A: Allocator + Clone>(
+/// New lanes: no worker has them, and they have had no ask.
+pub(crate) fn new_lanes<A: Allocator + Clone>(
     alloc: A,
     lanes: usize,
 ) -> Result<Vec<Lane<A>, A>, AllocError>
@@ -27,8 +27,8 @@ pub fn new_lanes<A: Allocator + Clone>(
     Ok(made)
 }
 
-/// Whether each amount that was decided is posted.
-pub fn all_posted<A: Allocator>(lanes: &[Lane<A>]) -> bool
+/// Returns whether all decided amounts are posted.
+pub(crate) fn all_posted<A: Allocator>(lanes: &[Lane<A>]) -> bool
     ensures posted { IsTrue result ↔ AllPosted lanes.now }
 {
     for lane in lanes {
@@ -39,8 +39,8 @@ pub fn all_posted<A: Allocator>(lanes: &[Lane<A>]) -> bool
     true
 }
 
-/// Whether the ask of a lane in Round wants more than a leaf may.
-pub fn has_large_want<A: Allocator>(lanes: &[Lane<A>]) -> bool
+/// Returns whether the ask of a lane in Round wants more than a leaf may.
+pub(crate) fn has_large_want<A: Allocator>(lanes: &[Lane<A>]) -> bool
     ensures large { result ≡ has_large_want lanes.now }
 {
     for lane in lanes {
@@ -54,7 +54,7 @@ pub fn has_large_want<A: Allocator>(lanes: &[Lane<A>]) -> bool
 }
 
 /// The asks of the lanes in Round, each with its lane.
-pub fn asks_in_round<A: Allocator>(
+pub(crate) fn asks_in_round<A: Allocator>(
     alloc: A,
     lanes: &[Lane<A>],
 ) -> Result<Vec<(u8, Ask), A>, AllocError>
@@ -72,7 +72,7 @@ pub fn asks_in_round<A: Allocator>(
 }
 
 /// Decides an amount for each of these lanes, in octets.
-pub fn deal<A: Allocator>(lanes: &mut Vec<Lane<A>, A>, numbers: &[u8], amounts: &[u64])
+pub(crate) fn deal<A: Allocator>(lanes: &mut Vec<Lane<A>, A>, numbers: &[u8], amounts: &[u64])
     requires each { length numbers.now ≡ length amounts.now }
     requires due { AreOpen numbers.now lanes.old.items }
     ensures dealt { lanes.new.items ≡ dealt numbers.now amounts.now lanes.old.items }

@@ -1,9 +1,9 @@
-//! Why no world is made.
+//! Faults of new worlds.
 
 use std::alloc::AllocError;
 use thiserror::Error;
 
-/// Why no world is made.
+/// Why a world cannot be made.
 #[derive(Clone, Copy, Debug, PartialEq, Eq, Error)]
 pub enum WorldFault {
     /// There would be more than `grant_ledger::MAX_LANES` lanes.

@@ -5,7 +5,7 @@ ghost use Rattle.world_terms.specs.Decisions.{IsPosted, with_amount};
 ghost use Rattle.world_terms.specs.Lanes.{amount, new_lane};
 ghost use Rattle.world_terms.specs.declared.event.LaneState.TheVariants as state;
 ghost use Rattle.world_terms.specs.declared.event.Event.TheVariants as event;
-ghost use Rattle.world_laws.specs.Kept.{IsSound};
+ghost use Rattle.share_world.specs.Kept.{IsSound};
 ghost use Rattle.share_world.specs.Turns.{LaneReply, HasAsk, due_ask, is_decide};
 
 use line_rates::Ask;
@@ -13,9 +13,9 @@ use std::alloc::{AllocError, Allocator};
 use std::marker::Model;
 use world_terms::{Event, EventAnswer, LaneState, StepFault};
 
-/// A lane: its state, its last ask, the amounts posted and taken, and what became of them, in octets.
+/// A lane: its state, its last ask, the amounts posted and taken, and their outcome, in octets.
 #[derive(Drop)]
-pub struct Lane<A: Allocator> {
+pub(crate) struct Lane<A: Allocator> {
     state: LaneState,
     ask: Option<Ask>,
     posted: Vec<u64, A>,
@@ -30,7 +30,7 @@ pub struct Lane<A: Allocator> {
 
 impl<A: Allocator> Model for Lane<A> {
     ghost use Rattle.world_terms.specs.Lanes.{Lane as LaneValue, shown, hidden};
-    ghost use Rattle.world_laws.specs.Kept.{IsSound};
+    ghost use Rattle.share_world.specs.Kept.{IsSound};
 
     ghost Value = { LaneValue };
 
@@ -40,7 +40,7 @@ impl<A: Allocator> Model for Lane<A> {
 }
 
 impl<A: Allocator + Clone> Lane<A> {
-    /// A lane that no worker has, and that had no ask yet.
+    /// A lane that no worker has, and that has had no ask.
     pub fn new(alloc: A) -> Result<Lane<A>, AllocError>
         ensures new { IfOk result (λ l. l ≡ new_lane) }
     {
@@ -58,7 +58,7 @@ impl<A: Allocator + Clone> Lane<A> {
 }
 
 impl<A: Allocator> Lane<A> {
-    /// An event of the lane. A refused one changes nothing.
+    /// Performs an event of the lane. A refused one changes nothing.
     pub fn turn(&mut self, event: Event) -> Result<EventAnswer, StepFault>
         requires lanes { is_decide event ≡ false }
         requires fits { self.old.hidden.moved + self.old.hidden.back + amount self.old.hidden.hand < 2 ^ 64 }
@@ -144,7 +144,7 @@ impl<A: Allocator> Lane<A> {
         Ok(EventAnswer::Taken(octets))
     }
 
-    // So many octets of the amount in hand were moved; the others are given back.
+    // Moves `octets` of the amount in hand, and gives the rest back.
     fn spend(&mut self, octets: u64) -> Result<EventAnswer, StepFault>
         requires fits { self.old.hidden.moved + self.old.hidden.back + amount self.old.hidden.hand < 2 ^ 64 }
         ensures turn { (i : ℕ) → LaneReply (event.Moved i octets) result self.old self.new }
@@ -174,14 +174,14 @@ impl<A: Allocator> Lane<A> {
         Ok(EventAnswer::Done)
     }
 
-    /// Whether no amount is decided and not posted.
+    /// Returns whether no amount is decided and not posted.
     pub fn is_posted(&self) -> bool
         ensures posted { IsTrue result ↔ IsPosted self.now }
     {
         self.decided.is_none()
     }
 
-    /// The ask that is to be answered, where the lane is in Round.
+    /// The ask to be answered, if the lane is in Round.
     pub fn due(&self) -> Option<Ask>
         ensures due { result ≡ due_ask self.now }
         ensures asked { HasAsk self.now }

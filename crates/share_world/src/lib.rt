@@ -1,8 +1,8 @@
-//! The core of sharing, which runs: a world of lanes and rounds that takes one event at a time.
+//! The core of sharing, which runs: a world of lanes and rounds that takes one event at a time, and its laws.
 //!
-//! [`World`] takes the events of `world_terms`, answers each, and keeps its books; what holds of every list of events are the
-//! laws of `world_laws`. Nothing of it runs in the server: the desk above is shown to make just these events, and tests
-//! compare the two.
+//! [`World`] takes the events of `world_terms`, answers each, and keeps its books. What holds of every list of events,
+//! whatever rounds and workers do, is stated in `specs/Laws.antt`; each function of `laws.rt` has one of these laws as its
+//! contract. The server runs none of it: the exchanges of its desk are proved to be these events, and tests compare the two.
 //!
 //! ```text
 //! let alloc = rt.alloc();
@@ -32,15 +32,16 @@
 mod deal;
 mod fault;
 mod lane;
+mod laws;
 mod share;
 mod world;
 
 pub use fault::WorldFault;
-pub use world::World;
-pub use world_laws::{
+pub use laws::{
     decisions_are_best, decisions_keep_floors, decisions_keep_limits,
     issued_is_the_sum_of_the_shares, moved_in_all_is_within_the_limits,
     moved_under_a_name_is_within_its_limits, taken_answers_the_last_ask, taken_begins_posted,
     taken_is_accounted_for,
 };
+pub use world::World;
 pub use world_terms::{Event, EventAnswer, LaneState, StepFault};

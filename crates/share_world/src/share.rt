@@ -13,7 +13,7 @@ use round_allocator::allot;
 use std::alloc::Allocator;
 use world_terms::StepFault;
 
-// What a fault of the tree of a tick is told as.
+// The refusal for a fault of the tree of a tick.
 fn fault_of(fault: TreeFault) -> StepFault
     ensures fault { result ≡ fault_for fault }
 {
@@ -23,8 +23,8 @@ fn fault_of(fault: TreeFault) -> StepFault
     }
 }
 
-/// The lanes of a plan for asks in a tick, each beside its number, and its best grants, which are sealed.
-pub fn share<A: Allocator + Clone>(
+/// The lanes of a plan for asks in a tick, in the order of its leaves, and its best grants, sealed.
+pub(crate) fn share<A: Allocator + Clone>(
     alloc: A,
     limits: &Limits<A>,
     tick: u64,

@@ -26,8 +26,8 @@ use std::alloc::{AllocError, Allocator, Global};
 use std::marker::Model;
 use world_terms::{Event, EventAnswer, StepFault};
 
-/// The lanes of a server, its limits, and what it has issued. Contracts see the lanes as `world_terms` defines them,
-/// beside the rates of the limits.
+/// The lanes of a server, its limits, and the octets issued. Contracts see the lanes as `world_terms` defines them, with
+/// the rates of the limits.
 #[derive(Drop)]
 pub struct World<A: Allocator = Global> {
     lanes: Vec<Lane<A>, A>,
@@ -53,8 +53,8 @@ impl<A: Allocator> Model for World<A> {
 }
 
 impl<A: Allocator + Clone> World<A> {
-    /// A world of so many lanes, at most `MAX_LANES`, in which nothing has happened. It keeps the allocator for what its
-    /// lists grow by.
+    /// A world of `lanes` lanes, at most `MAX_LANES`, in which nothing has happened. It keeps the allocator for its
+    /// lists, which grow.
     pub fn new(alloc: A, lanes: usize, limits: Limits<A>) -> Result<World<A>, WorldFault>
         ensures new { IfOk result (λ w. w ≡ record { rates = limits; world = new_world lanes }) }
         ensures few { IfOk result (λ _. lanes ≤ MAX_LANES) }
@@ -74,7 +74,7 @@ impl<A: Allocator + Clone> World<A> {
         })
     }
 
-    /// One event. A refused one changes nothing.
+    /// Performs one event. A refused one changes nothing.
     pub fn step(&mut self, event: Event) -> Result<EventAnswer, StepFault>
         ensures step { Step self.old.rates self.old.world event result self.new.world }
         ensures rates { self.new.rates ≡ self.old.rates }
@@ -85,7 +85,7 @@ impl<A: Allocator + Clone> World<A> {
         self.turn(event)
     }
 
-    /// The events in order, each with its reply. After lack of memory those before it stand.
+    /// Performs the events in order, and returns each with its reply. If memory runs out, the events before are kept.
     pub fn run(
         &mut self,
         events: &[Event],
@@ -108,7 +108,7 @@ impl<A: Allocator + Clone> World<A> {
         Ok(replies)
     }
 
-    // An event of one lane.
+    // Performs an event of one lane.
     fn turn(&mut self, event: Event) -> Result<EventAnswer, StepFault>
         requires lanes { is_decide event ≡ false }
         ensures step { Step self.old.rates self.old.world event result self.new.world }
@@ -124,7 +124,7 @@ impl<A: Allocator + Clone> World<A> {
         self.lanes[lane].turn(event)
     }
 
-    // A decision at a moment in milliseconds.
+    // Decides at a moment in milliseconds.
     fn decide(&mut self, moment: u64) -> Result<EventAnswer, StepFault>
         ensures step { Step self.old.rates self.old.world (event.Decide moment) result self.new.world }
         ensures rates { self.new.rates ≡ self.old.rates }
@@ -142,7 +142,7 @@ impl<A: Allocator + Clone> World<A> {
         Ok(EventAnswer::Decided { tick, total })
     }
 
-    // Whether the round may decide at a moment.
+    // Checks that the round may decide at a moment.
     fn check_ready(&self, moment: u64) -> Result<(), StepFault>
         ensures ready { IfOk result (λ _. IsReady self.now.world moment) }
         ensures refused { IfErr result (RefusesDecide self.now.rates self.now.world moment) }
@@ -176,7 +176,7 @@ impl<A: Allocator + Clone> World<A> {
 }
 
 impl<A: Allocator> World<A> {
-    /// How many lanes there are.
+    /// Number of lanes.
     pub fn lanes(&self) -> usize
         ensures lanes { result ≡ length self.now.world.lanes }
         ensures most { result ≤ MAX_LANES }
@@ -226,7 +226,7 @@ impl<A: Allocator> World<A> {
     }
 }
 
-// The lane of an event, 0 at a decision.
+// The lane of an event; 0 for a decision.
 fn lane_of(event: &Event) -> usize
     ensures lane { result ≡ lane_of event.now }
 {
@@ -242,7 +242,7 @@ fn lane_of(event: &Event) -> usize
     }
 }
 
-// Whether an event collects an ask.
+// Returns whether an event collects an ask.
 fn is_collect(event: &Event) -> bool
     ensures collect { result ≡ is_collect event.now }
 {

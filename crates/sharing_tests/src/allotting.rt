@@ -1,15 +1,15 @@
-//! The worked allotments, and those of random trees beside the plain rule's.
+//! The worked allotments, and those of random trees compared with the plain rule.
 use super::random_trees::{Numbers, Sizes, any_tree};
 use super::trees::Shape::{Branch, Leaf};
 use super::trees::{Shape, tree};
 use crate::expect::holds;
 use grant_certificate::{Certificate, Verdict, check};
 use limit_tree::{MAX_WANT, Tree};
-use plain_allotment::allot_plainly;
 use round_allocator::{allot, allot_counted};
 use std::process::Abort;
+use test_allotment::allot_plainly;
 
-// The other call of the allocator answers alike, and the checker finds that best; how many probes it took.
+// The other call of the allocator returns the same, and the checker accepts it; the number of probes.
 fn expect_best(
     rt: &(impl Abort + AllocGlobal),
     tree: &Tree,
@@ -26,22 +26,25 @@ fn expect_best(
     probes
 }
 
-/// What both calls of the allocator answer, which is alike, and which the checker finds best: grants, their
-/// certificate, and how many probes they took.
-pub fn granted(rt: &(impl Abort + AllocGlobal), tree: &Tree) -> (Vec<u64>, Certificate, u64) {
+/// The results of both calls of the allocator, which are equal and which the checker accepts: grants, their
+/// certificate, and the number of probes.
+pub(crate) fn granted(
+    rt: &(impl Abort + AllocGlobal),
+    tree: &Tree,
+) -> (Vec<u64>, Certificate, u64) {
     let (grants, certificate) = allot(rt.alloc(), tree).expect(rt, "memory");
     let probes = expect_best(rt, tree, &grants, &certificate);
     (grants, certificate, probes)
 }
 
-/// The tree gets these grants; how many probes they took.
-pub fn expect_grants(rt: &(impl Abort + AllocGlobal), tree: &Tree, wanted: &[u64]) -> u64 {
+/// The tree gets these grants; the number of probes.
+pub(crate) fn expect_grants(rt: &(impl Abort + AllocGlobal), tree: &Tree, wanted: &[u64]) -> u64 {
     let (grants, _certificate, probes) = granted(rt, tree);
     holds(rt, grants.as_slice() == wanted);
     probes
 }
 
-/// A tree, its grants, and how many probes they take. Other worked allotments stand in `runs/sheets.toml`.
+/// A tree, its grants, and the number of probes. Other worked allotments are in `runs/sheets.toml`.
 static ALLOTMENTS: [(Shape, &[u64], u64); 5] = [
     // Large wants take few probes: one at the level from above, and one for each halving of the levels below it.
     (
@@ -52,9 +55,9 @@ static ALLOTMENTS: [(Shape, &[u64], u64); 5] = [
         &[3_333_333_334, 3_333_333_333, 3_333_333_333],
         33,
     ),
-    // So it is where there is nothing to share.
+    // The same if there is nothing to share.
     (Branch(Some(0), &[Leaf(5, 0)]), &[0], 32),
-    // Where all fits there is one, and none where there is no limit, or nobody who wants.
+    // One if everything fits; none if there is no limit, or nobody wants anything.
     (
         Branch(
             Some(100),
@@ -82,7 +85,7 @@ const LARGE: Sizes = Sizes {
     levels: 4,
 };
 
-// Holds the grants of a random tree against those of the plain rule; whether it is one of several nodes, and its floors
+// Compares the grants of a random tree with those of the plain rule; whether the tree has several nodes and its floors
 // are within its limits.
 fn expect_plain(rt: &(impl Abort + AllocGlobal), numbers: &mut Numbers) -> bool {
     let (root, _made) = any_tree(rt, numbers, &LARGE);

@@ -1,4 +1,4 @@
-//! Trees of as many leaves, levels and nodes as there may be, and one more.
+//! Trees with the most leaves, levels and nodes allowed, and one more.
 use super::allotting::granted;
 use super::checking::total;
 use super::limits::expect_fault;
@@ -14,7 +14,7 @@ fn over(rt: &(impl Abort + AllocGlobal), limit: Option<u64>, node: Node) -> Node
     Node::Branch { limit, kids }
 }
 
-// A branch over so many leaves that want so many octets each.
+// A branch over `leaves` leaves that want the same number of octets each.
 fn row(rt: &(impl Abort + AllocGlobal), limit: Option<u64>, leaves: usize, want: u64) -> Node {
     let mut kids = Vec::new(rt.alloc());
     for _ in 0..leaves {
@@ -24,7 +24,7 @@ fn row(rt: &(impl Abort + AllocGlobal), limit: Option<u64>, leaves: usize, want:
     Node::Branch { limit, kids }
 }
 
-// A node below so many branches.
+// A node below `branches` branches.
 fn below(rt: &(impl Abort + AllocGlobal), branches: u32, node: Node) -> Node {
     let mut node = node;
     for _ in 0..branches {
@@ -33,7 +33,7 @@ fn below(rt: &(impl Abort + AllocGlobal), branches: u32, node: Node) -> Node {
     node
 }
 
-// A leaf below a branch with a limit of one octet, and beside that so many branches without kids.
+// A leaf below a branch with a limit of one octet, and beside it `branches` branches without kids.
 fn wide(rt: &(impl Abort + AllocGlobal), branches: usize) -> Node {
     let mut kids = Vec::new(rt.alloc());
     let leaf = Node::Leaf { want: 2, floor: 0 };
@@ -47,7 +47,7 @@ fn wide(rt: &(impl Abort + AllocGlobal), branches: usize) -> Node {
     Node::Branch { limit: None, kids }
 }
 
-// The tree of nodes that have no fault.
+// The tree of nodes without a fault.
 fn tree(rt: &impl Abort, root: Node) -> Tree {
     Tree::new(root).expect(rt, "a tree without a fault")
 }
@@ -64,7 +64,7 @@ fn one_more_is_refused(rt: HostRuntime) {
     expect_fault(&rt, nodes, Some(TreeFault::TooManyLeaves));
 }
 
-// Each call that takes memory answers, and the allotment is best.
+// Each call that allocates succeeds, and the allotment is best.
 fn expect_all(rt: &(impl Abort + AllocGlobal), tree: &Tree) -> (Vec<u64>, Certificate, u64) {
     let flat = Flat::of(rt.alloc(), tree).expect(rt, "memory");
     holds(
@@ -90,7 +90,7 @@ fn as_many_nodes_as_there_may_be(rt: HostRuntime) {
     expect_all(&rt, &tree);
 }
 
-// Each gets one octet, and is held back by the one branch.
+// Each gets one octet, and is limited by the one branch.
 fn expect_ones(rt: &impl Abort, grants: &[u64], entries: &[Option<u32>]) {
     holds(rt, grants.len() == MAX_LEAVES);
     for grant in grants {

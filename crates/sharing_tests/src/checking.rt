@@ -1,4 +1,4 @@
-//! What becomes of grants that are to be sealed. Worked verdicts stand in `runs/verdicts.toml`.
+//! The result of sealing grants. Worked verdicts are in `runs/verdicts.toml`.
 use super::trees::{USERS, tree};
 use crate::expect::holds;
 use grant_certificate::{Certificate, Flaw, Refused, Sealed, seal};
@@ -19,9 +19,9 @@ fn flaw_of(rt: &impl Abort, refused: &Refused, leaves: usize) -> Flaw {
     refused.flaw
 }
 
-/// What becomes of grants that are to be sealed: the sum of all, or their flaw. Either way the tree, the grants and the
-/// certificate are still there.
-pub fn total(
+/// The result of sealing grants: their sum, or their flaw. Either way the tree, the grants and the certificate are
+/// returned.
+pub(crate) fn total(
     rt: &impl Abort,
     tree: Tree,
     grants: Vec<u64>,

@@ -1,13 +1,13 @@
-//! The examples at the heads of the crates whose names these tests bear.
+//! The examples in the heads of the crates that these tests are named after.
 
 use grant_certificate::{Certificate, Verdict, check, seal};
 use limit_tree::{Node, Tree};
 use line_rates::{Ask, Limits, Way, tree_of};
-use plain_allotment::allot_plainly;
 use rate_floors::Floors;
 use round_allocator::allot;
 use std::alloc::{AllocError, Global};
 use std::test::Fail;
+use test_allotment::allot_plainly;
 
 /// Two transfers that wait with 50 and 10 octets, below a limit of 30.
 fn two(alloc: Global) -> Result<Node, AllocError> {
@@ -61,7 +61,7 @@ fn round_allocator(rt: HostRuntime) -> Result<(), Fail> {
 }
 
 #[test]
-fn plain_allotment(rt: HostRuntime) -> Result<(), Fail> {
+fn test_allotment(rt: HostRuntime) -> Result<(), Fail> {
     let alloc = rt.alloc();
     let tree = Tree::new(two(alloc)?)?; // a limit of 30 over wants of 50 and 10
     let grants = allot_plainly(alloc, &tree)?; // octets a leaf, as `allot` gives them by levels

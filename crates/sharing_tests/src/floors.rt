@@ -1,4 +1,4 @@
-//! Which sessions are admitted.
+//! Admission of sessions.
 
 use super::rates::{FREE, Rates, USER, limits_of};
 use crate::expect::holds;
@@ -6,7 +6,7 @@ use line_rates::{GroupRate, UserRate};
 use rate_floors::Floors;
 use std::process::Abort;
 
-/// What is asked of the guarantees: a session of a user is to be admitted, or one is over.
+/// A call on the guarantees: a session of a user is to be admitted, or has ended.
 enum Turn {
     Admit(u32),
     Release(u32),
@@ -14,7 +14,7 @@ enum Turn {
 
 use Turn::{Admit, Release};
 
-/// Sessions of users 1 and 2 are each guaranteed 80 and 15 of a server's 100.
+/// Sessions of users 1 and 2 have guarantees of 80 and 15 of a server's 100.
 const SHARED: Rates = Rates {
     server: 100,
     users: &[
@@ -61,7 +61,8 @@ const IN_A_GROUP: Rates = Rates {
     ..FREE
 };
 
-/// A session of user 1 has less than it is guaranteed, and user 2 has what two sessions are.
+/// A session of user 1 has a rate below its guarantee, and user 2 has a rate of the guarantees of
+/// two sessions.
 const LIMITED: Rates = Rates {
     users: &[
         UserRate {
@@ -80,7 +81,7 @@ const LIMITED: Rates = Rates {
     ..FREE
 };
 
-/// Rates, and what the guarantees of them answer to one turn after another.
+/// Rates, and the results of calls on their guarantees, one after another.
 static TURNS: [(Rates, &[(Turn, bool)]); 5] = [
     // One at a time.
     (

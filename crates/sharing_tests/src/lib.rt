@@ -1,5 +1,5 @@
-//! Tests of limit trees, of the allocator, of certificates and their seal, of trees as large as may be, of rates, of the
-//! trees of ticks and of guaranteed rates, by public calls alone.
+//! Tests of limit trees, of the allocator, of certificates and their seal, of trees of the largest size, of rates, of
+//! the trees of ticks and of guaranteed rates, by public calls alone.
 #![tactic(auto)]
 
 #[cfg(test)]

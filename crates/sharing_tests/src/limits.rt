@@ -11,15 +11,15 @@ use grant_certificate::{
     plain_backed_is_best, plain_backed_is_largest_at_each_level,
 };
 use limit_tree::{
-    Flat, Kind, MAX_LIMIT, MAX_WANT, Node, Place, Tree, TreeFault, absorbed_is_taken_in,
+    Flat, MAX_LIMIT, MAX_WANT, Node, NodeKind, Place, Tree, TreeFault, absorbed_is_taken_in,
     no_floors_is_plain,
 };
-use plain_allotment::runs_end_alike;
 use round_allocator::allot;
 use std::process::Abort;
+use test_allotment::runs_end_alike;
 
-/// A node of a tree: its place, whether the leaves 1 and 2 are under it, what it takes in up to the levels 0, 12 and 20,
-/// what its kids take in up to 12 and 20, the sum of the best grants under it, and whether they reach its limit.
+/// A node of a tree: its position, whether the leaves 1 and 2 are under it, what it absorbs up to the levels 0, 12 and
+/// 20, what its kids absorb up to 12 and 20, the sum of the best grants under it, and whether they reach its limit.
 struct Row {
     place: Place,
     under: (bool, bool),
@@ -36,7 +36,7 @@ const LEAF: Place = Place {
     nodes: 1,
     kids: 0,
     floors: 0,
-    kind: Kind::Leaf { want: 50, floor: 0 },
+    kind: NodeKind::Leaf { want: 50, floor: 0 },
 };
 
 const USER: Place = Place {
@@ -46,7 +46,7 @@ const USER: Place = Place {
     nodes: 2,
     kids: 1,
     floors: 0,
-    kind: Kind::Branch { limit: None },
+    kind: NodeKind::Branch { limit: None },
 };
 
 const ANN: Place = Place {
@@ -54,7 +54,7 @@ const ANN: Place = Place {
     leaves: 2,
     nodes: 3,
     kids: 2,
-    kind: Kind::Branch { limit: Some(30) },
+    kind: NodeKind::Branch { limit: Some(30) },
     ..USER
 };
 
@@ -65,10 +65,10 @@ const ROOT: Place = Place {
     nodes: 8,
     kids: 3,
     floors: 6,
-    kind: Kind::Branch { limit: Some(75) },
+    kind: NodeKind::Branch { limit: Some(75) },
 };
 
-/// The nodes of ann, bob and cy, to whom 6 octets are guaranteed.
+/// The nodes of ann, bob and cy, who has a guarantee of 6 octets.
 static NODES: [Row; 8] = [
     Row {
         place: ROOT,
@@ -134,7 +134,7 @@ static NODES: [Row; 8] = [
         place: Place {
             first: 3,
             floors: 6,
-            kind: Kind::Leaf { want: 10, floor: 6 },
+            kind: NodeKind::Leaf { want: 10, floor: 6 },
             ..LEAF
         },
         under: (false, false),
@@ -145,10 +145,10 @@ static NODES: [Row; 8] = [
     },
 ];
 
-fn limit_of(kind: Kind) -> Option<u64> {
+fn limit_of(kind: NodeKind) -> Option<u64> {
     match kind {
-        Kind::Branch { limit } => limit,
-        Kind::Leaf { .. } => None,
+        NodeKind::Branch { limit } => limit,
+        NodeKind::Leaf { .. } => None,
     }
 }
 
@@ -165,7 +165,7 @@ fn look_at_node(rt: &impl Abort, tree: &Tree, node: usize, row: &Row) {
     holds(rt, tree.absorb(node, 20) == twenty);
 }
 
-// The flat copy tells the same.
+// The flat copy returns the same.
 fn look_at_copy(rt: &impl Abort, flat: &Flat, node: usize, row: &Row) {
     holds(rt, node < flat.nodes() && flat.place(node) == row.place);
     holds(rt, flat.limit(node) == limit_of(row.place.kind));
@@ -180,7 +180,7 @@ fn look_at_copy(rt: &impl Abort, flat: &Flat, node: usize, row: &Row) {
     holds(rt, flat.absorb_below(node, 20) == twenty);
 }
 
-/// What leaves want, their floors, and the deepest branch above each that the best grants fill.
+/// Wants and floors of leaves, and the deepest branch above each that the best grants fill.
 static LEAVES: [(u64, u64, Option<usize>); 4] = [
     (50, 0, Some(1)),
     (50, 0, Some(1)),
@@ -201,7 +201,7 @@ fn look_at_leaves(rt: &impl Abort, tree: &Tree, flat: &Flat, leaves: &Leaves) {
     }
 }
 
-// Numbers behind those of the leaves stay.
+// Numbers after those of the leaves are unchanged.
 fn look_at_tables(rt: &impl Abort, tree: &Tree) {
     let mut wants = [7; 5];
     let mut floors = [7; 5];
@@ -211,7 +211,7 @@ fn look_at_tables(rt: &impl Abort, tree: &Tree) {
     holds(rt, floors.as_slice() == [0, 0, 0, 6, 7].as_slice());
 }
 
-// Of the tree and of its flat copy.
+// For the tree and its flat copy.
 fn look_at_grants(rt: &impl Abort, tree: &Tree, flat: &Flat, grants: &[u64])
     requires same { flat.now ≡ tree.now }
     requires wanted { IsWanted (limits tree.now) grants.now }
@@ -265,7 +265,7 @@ const TWO_LIMITS: Shape = Branch(
     ],
 );
 
-/// A node, a level, and what it takes in.
+/// A node, a level, and what it absorbs.
 static TAKEN_IN: [(usize, u64, u64); 9] = [
     // The floors,
     (0, 0, 6),
@@ -305,7 +305,7 @@ fn a_place_holds_its_leaves(rt: HostRuntime) {
         nodes: 3,
         kids: 2,
         floors: 0,
-        kind: Kind::Branch { limit: Some(30) },
+        kind: NodeKind::Branch { limit: Some(30) },
     };
     holds(
         &rt,
@@ -316,8 +316,8 @@ fn a_place_holds_its_leaves(rt: HostRuntime) {
     holds(&rt, !ann.is_full(&[7, 20, 9, 6]));
 }
 
-/// Nodes are refused as a tree for this fault, or are not refused.
-pub fn expect_fault(rt: &impl Abort, root: Node, fault: Option<TreeFault>) {
+/// Nodes are refused as a tree for this fault, or accepted.
+pub(crate) fn expect_fault(rt: &impl Abort, root: Node, fault: Option<TreeFault>) {
     holds(rt, Tree::new(root).err() == fault);
 }
 

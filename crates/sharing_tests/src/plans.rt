@@ -1,4 +1,4 @@
-//! The tree of a tick, the order in which its kids stand, and what it grants.
+//! The tree of a tick, the order of its kids, and its grants.
 
 use super::allotting::expect_grants;
 use super::rates::{FREE, Rates, TWO_GROUPS, USER, limits_of};
@@ -7,8 +7,8 @@ use limit_tree::{Tree, TreeFault};
 use line_rates::{Ask, GroupRate, Limits, PlanFault, UserRate, Way, tree_of};
 use std::process::Abort;
 
-/// What session 0 of user 0 asks for, down.
-pub const DOWN: Ask = Ask {
+/// An ask of session 0 of user 0, down.
+pub(crate) const DOWN: Ask = Ask {
     user: 0,
     session: 0,
     way: Way::Down,
@@ -19,7 +19,7 @@ pub const DOWN: Ask = Ask {
 const NO: Option<u64> = None;
 
 /// The tree of a tick: rates, a tick, and the asks of lanes; then the lanes of its leaves, each node's limit with its
-/// count of leaves, in preorder, and what the leaves are granted.
+/// number of leaves, in preorder, and the grants of the leaves.
 struct Row {
     rates: Rates,
     tick: u64,
@@ -29,7 +29,7 @@ struct Row {
     grants: &'static [u64],
 }
 
-/// A group with a rate has a user with rates, whose sessions have both.
+/// A group with a rate has a user with rates; its sessions are under both.
 const ONE_IN_A_GROUP: Rates = Rates {
     down: 90,
     groups: &[GroupRate {
@@ -48,7 +48,7 @@ const ONE_IN_A_GROUP: Rates = Rates {
     ..FREE
 };
 
-/// Of a server's rate of 30 each session of user 0 is guaranteed all.
+/// Each session of user 0 has a guarantee of all of a server's rate of 30.
 const ALL_OF_IT: Rates = Rates {
     server: 30,
     users: &[UserRate {
@@ -59,7 +59,7 @@ const ALL_OF_IT: Rates = Rates {
 };
 
 static PLANS: [Row; 7] = [
-    // Kids stand in the order of first ask.
+    // Kids are in the order of first ask.
     Row {
         rates: TWO_GROUPS,
         tick: 0,
@@ -128,7 +128,7 @@ static PLANS: [Row; 7] = [
         ],
         grants: &[2, 2, 1],
     },
-    // Both ways, and a number of a session that two users have.
+    // Both ways, and the same session number of two users.
     Row {
         rates: TWO_GROUPS,
         tick: 3,
@@ -242,7 +242,7 @@ static PLANS: [Row; 7] = [
         ],
         grants: &[2, 1],
     },
-    // A floor takes all that the server has.
+    // A floor takes everything that the server has.
     Row {
         rates: ALL_OF_IT,
         tick: 0,

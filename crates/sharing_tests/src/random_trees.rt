@@ -1,17 +1,17 @@
-//! Random trees, and what is written down of them as they are made.
+//! Random trees, with a record of their parts.
 ghost use Rattle.std.specs.Prelude.{◌<◌};
 
 use limit_tree::Node;
 use std::process::Abort;
 
-/// A sequence of numbers that looks random (D. Knuth's multiplier for 64 bits).
+/// A sequence of pseudo-random numbers (D. Knuth's multiplier for 64 bits).
 #[derive(Drop)]
-pub struct Numbers {
+pub(crate) struct Numbers {
     pub state: u64,
 }
 
 impl Numbers {
-    /// A number below one that is not 0.
+    /// A number below `end`, which is not 0.
     pub fn below(&mut self, end: u64) -> u64
         requires end { 0 < end }
         ensures below { result < end }
@@ -24,30 +24,30 @@ impl Numbers {
     }
 }
 
-/// How large trees may be.
+/// Bounds of random trees.
 #[derive(Drop)]
-pub struct Sizes {
-    /// Below how much each want is.
+pub(crate) struct Sizes {
+    /// Wants are below this.
     pub wants: u64,
-    /// Below how much each limit is.
+    /// Limits are below this.
     pub limits: u64,
-    /// With so many leaves a tree gets no more of them.
+    /// A tree with this many leaves gets no more.
     pub leaves: usize,
-    /// At most so many levels stand below the root.
+    /// At most this many levels are below the root.
     pub levels: u32,
 }
 
-/// A limit, and the leaves from the first up to the end that it holds.
+/// A limit, with the first and the end of the leaves that it holds.
 #[derive(Drop)]
-pub struct Held {
+pub(crate) struct Held {
     pub first: usize,
     pub end: usize,
     pub limit: u64,
 }
 
-/// What was written down of a tree as it was made: the wants and floors of its leaves in order, and its limits.
+/// The record of a tree: the wants and floors of its leaves in order, and its limits.
 #[derive(Drop)]
-pub struct Made {
+pub(crate) struct Made {
     pub wants: Vec<u64>,
     pub floors: Vec<u64>,
     pub limits: Vec<Held>,
@@ -68,7 +68,7 @@ fn any_leaf(rt: &impl Abort, numbers: &mut Numbers, sizes: &Sizes, made: &mut Ma
     Node::Leaf { want, floor }
 }
 
-// A node with at most so many levels below it.
+// A node with at most `levels` levels below it.
 fn any_node(
     rt: &(impl Abort + AllocGlobal),
     numbers: &mut Numbers,
@@ -104,8 +104,8 @@ fn any_node(
     Node::Branch { limit, kids }
 }
 
-/// The root of a tree, and what was written down of it.
-pub fn any_tree(
+/// The root of a tree, and its record.
+pub(crate) fn any_tree(
     rt: &(impl Abort + AllocGlobal),
     numbers: &mut Numbers,
     sizes: &Sizes,

@@ -1,4 +1,4 @@
-//! Which rates are refused, and what those that are not look up.
+//! Rates that are refused, and lookups of those that are not.
 
 use crate::expect::holds;
 use line_rates::{GroupRate, Limits, LimitsFault, MAX_RATE, Name, UserRate, Way};
@@ -6,7 +6,7 @@ use std::process::Abort;
 
 /// Rates of the server, of both ways, of groups and of users.
 #[derive(Clone, Copy)]
-pub struct Rates {
+pub(crate) struct Rates {
     pub server: u64,
     pub down: u64,
     pub up: u64,
@@ -15,7 +15,7 @@ pub struct Rates {
 }
 
 /// No rates.
-pub const FREE: Rates = Rates {
+pub(crate) const FREE: Rates = Rates {
     server: 0,
     down: 0,
     up: 0,
@@ -24,7 +24,7 @@ pub const FREE: Rates = Rates {
 };
 
 /// A user without rates.
-pub const USER: UserRate = UserRate {
+pub(crate) const USER: UserRate = UserRate {
     user: 0,
     group: None,
     down: 0,
@@ -35,9 +35,9 @@ pub const USER: UserRate = UserRate {
     session_up_floor: 0,
 };
 
-/// A rate down of 100; group 0 has 40 of it, with users 0 and 1; user 2 is in none and has no row. Each session of
-/// user 5 is guaranteed 80 of the 100 of group 4.
-pub const TWO_GROUPS: Rates = Rates {
+/// A rate down of 100; group 0 has 40 of it, with users 0 and 1; user 2 is in no group and has no row. Each session of
+/// user 5 has a guarantee of 80 of the 100 of group 4.
+pub(crate) const TWO_GROUPS: Rates = Rates {
     down: 100,
     groups: &[
         GroupRate {
@@ -73,7 +73,7 @@ pub const TWO_GROUPS: Rates = Rates {
 };
 
 /// The limits of rates, or their fault.
-pub fn limits_or_fault(
+pub(crate) fn limits_or_fault(
     rt: &(impl Abort + AllocGlobal),
     rates: &Rates,
 ) -> Result<Limits, LimitsFault> {
@@ -82,8 +82,8 @@ pub fn limits_or_fault(
     Limits::of(rates.server, rates.down, rates.up, groups, users)
 }
 
-/// The limits of rates that have no fault.
-pub fn limits_of(rt: &(impl Abort + AllocGlobal), rates: &Rates) -> Limits {
+/// The limits of rates without a fault.
+pub(crate) fn limits_of(rt: &(impl Abort + AllocGlobal), rates: &Rates) -> Limits {
     limits_or_fault(rt, rates).expect(rt, "rates without a fault")
 }
 
@@ -249,7 +249,7 @@ fn rows_are_found_by_their_numbers(rt: HostRuntime) {
     look_at_rows(&rt, &limits_of(&rt, &FOUND));
 }
 
-/// Puts other rates in place of those of the server, of group 2 and of user 40, and of a user and a group without a row.
+/// Replaces the rates of the server, of group 2 and of user 40, and of a user and a group without a row.
 fn put_others(limits: &mut Limits) {
     limits.put_line(100, 200, 300);
     for group in [2, 3] {

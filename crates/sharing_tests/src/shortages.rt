@@ -1,4 +1,4 @@
-//! Memory that is refused, at each growth in turn, and there again.
+//! Memory that is refused, at each growth in turn, and then available again.
 
 use super::plans::DOWN;
 use super::rates::{TWO_GROUPS, limits_of};
@@ -7,13 +7,13 @@ use crate::expect::holds;
 use limit_tree::{Flat, Tree};
 use line_rates::{Ask, Limits, PlanFault, tree_of};
 use linked_list_allocator::LocalHeap;
-use plain_allotment::allot_plainly;
 use rate_floors::Floors;
 use round_allocator::{allot, allot_counted};
-use scarce_memory::{HEAP, leave_hole};
 use std::process::Abort;
+use test_allotment::allot_plainly;
+use test_scarce_memory::{HEAP, leave_hole};
 
-// Whether grants were made; where they were, they are these.
+// Returns whether grants were made; if so, they are these.
 fn are_granted(rt: &impl Abort, granted: Option<Vec<u64, &LocalHeap>>, wanted: &[u64]) -> bool {
     match granted {
         Some(grants) => {
@@ -47,7 +47,7 @@ static ASKS: [(u8, Ask); 3] = [
     ),
 ];
 
-// Whether the tree of a tick has memory; where it has, it is right.
+// Returns whether the tree of a tick has memory; if so, it is right.
 fn has_plan(rt: &impl Abort, heap: &LocalHeap, limits: &Limits) -> bool {
     match tree_of(heap, limits, 0, &ASKS) {
         Ok(plan) => {
@@ -62,7 +62,7 @@ fn has_plan(rt: &impl Abort, heap: &LocalHeap, limits: &Limits) -> bool {
     }
 }
 
-// Whether the guarantees have memory; where they have, they are right.
+// Returns whether the guarantees have memory; if so, they are right.
 fn has_floors(rt: &impl Abort, heap: &LocalHeap, limits: &Limits) -> bool {
     match Floors::of(heap, limits) {
         Ok(floors) => {
@@ -74,7 +74,7 @@ fn has_floors(rt: &impl Abort, heap: &LocalHeap, limits: &Limits) -> bool {
     }
 }
 
-// Which of the calls that take memory have it.
+// Which of the calls that allocate have memory.
 fn answers(
     rt: &impl Abort,
     heap: &LocalHeap,
@@ -92,7 +92,7 @@ fn answers(
     ]
 }
 
-// Which of them have it beside one hole of some octets. Once there is memory again, each has.
+// Which of them have memory beside one hole of some octets. Once there is memory again, all have.
 fn answers_in(
     rt: &(impl Abort + AllocGlobal),
     room: usize,
@@ -109,11 +109,11 @@ fn answers_in(
     first
 }
 
-// Room rises by less than the least growth, so that each growth is the first that is refused.
+// Room rises by less than the smallest growth, so each growth is refused first once.
 fn expect_refusals(rt: &(impl Abort + AllocGlobal), tree: &Tree, wanted: &[u64], limits: &Limits) {
     for step in 0..256usize {
         let answers = answers_in(rt, 16 * step, tree, wanted, limits);
-        // With no room each is refused, and with much none.
+        // With no room each is refused, and with enough none.
         holds(rt, step > 0 || answers == [false; 6]);
         holds(rt, step < 255 || answers == [true; 6]);
     }

@@ -1,4 +1,4 @@
-//! Small random trees, whose grants are held against all grants that there are.
+//! Small random trees, whose grants are compared with all possible grants.
 use super::allotting::granted;
 use super::random_trees::{Held, Made, Numbers, Sizes, any_tree};
 use crate::expect::holds;
@@ -12,7 +12,7 @@ const SMALL: Sizes = Sizes {
     levels: 3,
 };
 
-/// Grants of the leaves, and zeros behind them.
+/// Grants of the leaves, followed by zeros.
 type List = [u64; 5];
 
 // All lists of five grants below five.
@@ -28,7 +28,7 @@ fn sum_of(list: &[u64], held: &Held) -> u64 {
     total
 }
 
-// Whether no number of a list is below that of the other.
+// Returns whether no number in a list is below that in the other.
 fn is_at_least(list: &[u64], other: &[u64]) -> bool {
     for (leaf, number) in other.iter().enumerate() {
         if leaf >= list.len() || list[leaf] < *number {
@@ -47,7 +47,7 @@ fn is_within(made: &Made, list: &[u64]) -> bool {
     is_at_least(list, &made.floors) && is_at_least(&made.wants, list)
 }
 
-// Counts a list on to the next one up to the wants; after the last one there is none.
+// Advances a list to the next one up to the wants; false after the last.
 fn count_on(list: &mut [u64], wants: &[u64]) -> bool {
     for (leaf, want) in wants.iter().enumerate() {
         if leaf < list.len() {
@@ -67,8 +67,8 @@ fn sorted(list: List) -> List {
     sorted
 }
 
-// Whether some list within the limits is, sorted upwards, greater than a sorted one: larger at the first place where
-// they differ. Where there is no sorted one, whether any list is within. The lists are counted from one of zeros.
+// Returns whether some list within the limits is, sorted upwards, greater than a sorted one: larger at the first index
+// where they differ. If there is no sorted one, whether any list is within. The lists are counted from zeros.
 fn is_surpassed(rt: &impl Abort, made: &Made, known: Option<List>) -> bool {
     let mut list = [0; 5];
     let leaves = made.wants.len().min(5);
@@ -97,7 +97,7 @@ fn list_of(grants: &[u64]) -> List {
     list
 }
 
-// Holds the grants of a tree against all lists; whether the floors of the tree leave any list.
+// Compares the grants of a tree with all lists; whether the floors of the tree allow any list.
 fn expect_greatest(rt: &(impl Abort + AllocGlobal), numbers: &mut Numbers) -> bool {
     let (root, made) = any_tree(rt, numbers, &SMALL);
     match Tree::new(root) {

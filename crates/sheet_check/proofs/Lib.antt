@@ -1,2 +1,4 @@
 mod There
 mod Checks
+mod Filling
+mod Full

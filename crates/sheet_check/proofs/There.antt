@@ -6,7 +6,7 @@ use Rattle.limit_tree.specs.Outline.{limits}
 use Rattle.grant_certificate.specs.Flaws.{HasLengths, IsFirstFlaw}
 use Rattle.grant_certificate.specs.declared.flaw.Flaw.{Flaw}
 use Rattle.grant_certificate.specs.declared.flaw.Flaw.TheVariants.{WrongLength, OverWant, OverLimit, NoNode, NotAbove, NotFull, TooGreat, UnderFloor}
-use Rattle.share_text.specs.Views.{SheetValue}
+use Rattle.sheet_text.specs.Views.{SheetValue}
 use Rattle.sheet_check.specs.Checking.{IsGranted, IsThere}
 use Rattle.limit_tree.proofs.Looks.{branch_number}
 

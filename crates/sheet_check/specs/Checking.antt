@@ -1,4 +1,4 @@
--- What a program writes for grants that it checked.
+-- The output of a program for grants that it checked.
 use Rattle.std.specs.Prelude.{◌≡◌, ◌≢◌, ◌<◌, ℕ, List, [], ◌∷◌, ◌++◌, Some, None, codes, length, slice_index, slice_index_or, unwrap_or}
 use Rattle.std.specs.Fmt.{decimal}
 use Rattle.std.specs.Option.{option_and_then}
@@ -9,11 +9,11 @@ use Rattle.grant_certificate.specs.declared.flaw.Flaw.{Flaw}
 use Rattle.grant_certificate.specs.declared.flaw.Flaw.TheVariants.{WrongLength, OverWant, OverLimit, NoNode, NotAbove, NotFull, TooGreat, UnderFloor}
 use Rattle.grant_certificate.specs.declared.flaw.Verdict.{Verdict}
 use Rattle.grant_certificate.specs.declared.flaw.Verdict.TheVariants.{Yes, No}
-use Rattle.share_text.specs.Grants.{grants_fault, grants_in, entries_in}
-use Rattle.sheet_tree.specs.Paths.{text_of, written}
-use Rattle.share_text.specs.Views.{SheetValue, IsSheetOf}
-use Rattle.sheet_faults.specs.declared.grants.GrantsFault.{GrantsFault}
-use Rattle.sheet_faults.specs.declared.grants.GrantsFault.TheVariants.{Memory}
+use Rattle.sheet_check.specs.Grants.{grants_fault, grants_in, entries_in}
+use Rattle.sheet_text.specs.Paths.{text_of, written}
+use Rattle.sheet_text.specs.Views.{SheetValue, IsSheetOf}
+use Rattle.sheet_check.specs.declared.grants_fault.GrantsFault.{GrantsFault}
+use Rattle.sheet_check.specs.declared.grants_fault.GrantsFault.TheVariants.{Memory}
 
 abbrev pub leaf_word : SheetValue → ℕ → List ℕ
 leaf_word sheet leaf = codes " " ++ text_of (slice_index_or sheet.leaves leaf [])
@@ -49,7 +49,7 @@ verdict_text sheet g (No flaw) = codes "no " ++ flaw_words sheet g flaw ++ 10 �
 abbrev pub IsGranted : SheetValue → List ℕ → ℕ → Type 0
 IsGranted sheet g leaf = (leaf < length g) × (leaf < length sheet.leaves)
 
--- the flaw names leaves and nodes that are there
+-- the leaves and nodes of the flaw are there
 abbrev pub IsThere : SheetValue → List ℕ → Flaw → Type 0
 IsThere sheet g WrongLength = Unit {0}
 IsThere sheet g (OverWant leaf) = IsGranted sheet g leaf
@@ -68,7 +68,7 @@ pub record IsCheckOf (sheet_text grants_text : List ℕ) (verdict : Verdict) (pr
   pub judged : IsVerdict (limits sheet.outline) (grants_in sheet grants_text) (entries_in sheet grants_text) verdict
   pub prints : printed ≡ verdict_text sheet (grants_in sheet grants_text) verdict
 
--- the fault is that of the grants of one text beside the sheet of another, and not want of memory
+-- the fault is that of the grants of one text for the sheet of another, and not lack of memory
 pub record IsGrantsFaultOf (sheet_text grants_text : List ℕ) (fault : GrantsFault) : Type 0 where
   pub sheet : SheetValue
   pub is_sheet : IsSheetOf sheet_text sheet

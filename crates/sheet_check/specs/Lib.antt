@@ -1,2 +1,5 @@
 pub mod Checking
+pub mod Faults
+pub mod Grants
 pub mod Reading
+pub mod Slots

@@ -1,20 +1,23 @@
 //! Checking grants within the limits of a sheet.
-ghost use Rattle.std.specs.Prelude.{◌≡◌, ◌≢◌, ◌<◌, ◌⊎◌, ℕ, List, Some, None, true, IfErr, IfOk, IfSome, IsErrAnd, IsErrOf, length, string_bytes};
+ghost use Rattle.std.specs.Prelude.{◌≡◌, ◌≢◌, ◌<◌, ℕ, List, Some, None, true, IfErr, IfOk, IfSome, IsErrAnd, IsErrOf, length, string_bytes};
 ghost use Rattle.std.specs.Io.KnownBytes.{Appends};
-ghost use Rattle.share_text.specs.Views.{IsSheetOf};
-ghost use Rattle.share_text.specs.Sheet.{IsSheetFaultOf, sheet_fault};
-ghost use Rattle.sheet_faults.specs.declared.sheet.SheetFault.{SheetFault};
-ghost use Rattle.sheet_faults.specs.declared.grants.GrantsFault.{GrantsFault};
-ghost use Rattle.whole_texts.specs.Faults.{IsReadingFault, IsGrantsJudgement, IsTextOf};
+ghost use Rattle.sheet_text.specs.Views.{IsSheetOf};
+ghost use Rattle.sheet_text.specs.Sheet.{IsSheetFaultOf, sheet_fault};
+ghost use Rattle.text_io.specs.Texts.{IsTextOf};
 ghost use Rattle.grant_certificate.specs.declared.flaw.Verdict.{Verdict};
 ghost use Rattle.sheet_check.specs.Checking.{IsCheckOf, IsGrantsFaultOf};
+ghost use Rattle.sheet_check.specs.Faults.{IsOfItsPlace, IsSheetUnread, IsUnread};
 ghost use Rattle.sheet_check.specs.Reading.{IsCheckBeside, IsCheckWithin, IsFaultBeside, IsFaultWithin};
+ghost use Rattle.sheet_text.specs.declared.fault.SheetFault.{SheetFault};
 
+use crate::fault::CheckFault;
+use crate::grants::read_grants;
+use crate::grants_fault::GrantsFault;
 use crate::verdict::verdict_line;
 use grant_certificate::{Verdict, check};
-use share_text::{Sheet, read_grants, read_sheet};
+use sheet_text::{Sheet, read_sheet};
 use std::alloc::Allocator;
-use whole_texts::{MAX_TEXT, ProgramFault, TextReader, TextWriter, read_whole, write_whole};
+use text_io::{MAX_TEXT, TextFault, TextReader, TextWriter, read_whole, write_whole};
 
 /// The verdict on grants, and its line.
 #[derive(Drop)]
@@ -23,18 +26,17 @@ pub struct Checked<A: Allocator> {
     pub line: String<A>,
 }
 
-/// The verdict on the grants of a text within the limits of a sheet: `yes` where they are within them and backed by
-/// the nodes that the text names, and so best, or else `no` with the first flaw.
+/// The verdict on the grants of a text within the limits of a sheet: `yes` if they are within them and backed by
+/// the nodes that the text names, and so best; otherwise `no` with the first flaw.
 pub fn verdict_of<A: Allocator + Clone>(
     alloc: A,
     sheet: &Sheet<'_, A>,
     text: &[u8],
-) -> Result<Checked<A>, ProgramFault>
+) -> Result<Checked<A>, GrantsFault>
     ensures checked { IfOk result (λ checked. (source : List ℕ) → IsSheetOf source sheet.now
         → IsCheckOf source text.now checked.verdict (string_bytes checked.line)) }
-    ensures grants { (fault : GrantsFault) → IsErrOf result (ProgramFault.Grants fault)
-        → (source : List ℕ) → IsSheetOf source sheet.now → IsGrantsFaultOf source text.now fault }
-    ensures faults { IfErr result IsGrantsJudgement }
+    ensures grants { IfErr result (λ fault. fault ≢ GrantsFault.Memory
+        → (source : List ℕ) → IsSheetOf source sheet.now → IsGrantsFaultOf source text.now fault) }
 {
     let (grants, certificate) = read_grants(alloc.clone()?, text, sheet)?;
     let verdict = check(sheet.tree(), &grants, &certificate);
@@ -47,14 +49,18 @@ fn check_within<A: Allocator + Clone, Q: TextReader>(
     alloc: A,
     sheet: &Sheet<'_, A>,
     grants: &mut Q,
-) -> Result<Checked<A>, ProgramFault>
+) -> Result<Checked<A>, CheckFault>
     ensures checked { IfOk result (λ checked.
         IsCheckWithin sheet.now (Q.remaining grants.old) checked.verdict (string_bytes checked.line)) }
     ensures faults { IfErr result
         (IsFaultWithin sheet.now (Q.remaining grants.old) (Q.may_fail grants.old)) }
 {
-    let text = read_whole(alloc.clone()?, grants)?;
-    verdict_of(alloc, sheet, &text)
+    let text = match read_whole(alloc.clone()?, grants) {
+        Ok(text) => text,
+        Err(fault) => return Err(CheckFault::GrantsText(fault)),
+    };
+    let checked = verdict_of(alloc, sheet, &text)?;
+    Ok(checked)
 }
 
 /// Reads a sheet's text and then a grants file, and checks the grants.
@@ -62,62 +68,68 @@ fn check_beside<A: Allocator + Clone, Q: TextReader>(
     alloc: A,
     sheet_text: &[u8],
     grants: &mut Q,
-) -> Result<Checked<A>, ProgramFault>
+) -> Result<Checked<A>, CheckFault>
     ensures checked { IfOk result (λ checked. IsCheckBeside sheet_text.now (Q.remaining grants.old)
         checked.verdict (string_bytes checked.line)) }
     ensures faults { IfErr result
         (IsFaultBeside sheet_text.now (Q.remaining grants.old) (Q.may_fail grants.old)) }
-    ensures judged_first { (fault : SheetFault) → IsErrOf result (ProgramFault.Sheet fault)
+    ensures judged_first { (fault : SheetFault) → IsErrOf result (CheckFault.Sheet fault)
         → grants.new ≡ grants.old }
 {
     let sheet = read_sheet(alloc.clone()?, sheet_text)?;
     check_within(alloc, &sheet, grants)
 }
 
-/// Reads a sheet and then a grants file, checks the grants, and writes the verdict, which it gives too. The sheet is
-/// judged before the grants are read, and no text of more than `MAX_TEXT` octets is read to its end.
+/// Reads a sheet and then a grants file, checks the grants, writes the verdict, and returns it. The sheet is checked
+/// before the grants are read, and no text of more than `MAX_TEXT` octets is read to its end.
 ///
-/// `WriteFault` comes only where the writer refuses the very line, and then nothing is claimed of how much went out;
-/// any other fault comes before the first octet is written.
+/// `WriteFault`: the writer refuses this line, and any part of it may have gone out. Any other fault comes before the
+/// first octet is written.
 pub fn run_check<A: Allocator + Clone, R: TextReader, Q: TextReader, W: TextWriter>(
     alloc: A,
     sheet: &mut R,
     grants: &mut Q,
     writer: &mut W,
-) -> Result<Verdict, ProgramFault>
+) -> Result<Verdict, CheckFault>
     ensures checked { IfOk result (λ verdict. (sheet_text grants_text : List ℕ)
         → R.remaining sheet.old ≡ Some sheet_text → Q.remaining grants.old ≡ Some grants_text
         → (printed : List ℕ) × IsCheckOf sheet_text grants_text verdict printed
         × Appends (W.contents writer.old) (W.contents writer.new) printed) }
-    ensures sheet { (fault : SheetFault) → IsErrOf result (ProgramFault.Sheet fault)
+    ensures sheet { (fault : SheetFault) → IsErrOf result (CheckFault.Sheet fault)
         → (text : List ℕ) → R.remaining sheet.old ≡ Some text → IsSheetFaultOf text fault }
-    ensures judged_first { (fault : SheetFault) → IsErrOf result (ProgramFault.Sheet fault)
+    ensures judged_first { (fault : SheetFault) → IsErrOf result (CheckFault.Sheet fault)
         → grants.new ≡ grants.old }
-    ensures grants { (fault : GrantsFault) → IsErrOf result (ProgramFault.Grants fault)
+    ensures grants { (fault : GrantsFault) → IsErrOf result (CheckFault.Grants fault)
         → (sheet_text grants_text : List ℕ)
         → R.remaining sheet.old ≡ Some sheet_text → Q.remaining grants.old ≡ Some grants_text
         → IsGrantsFaultOf sheet_text grants_text fault }
-    ensures too_long { IsErrOf result ProgramFault.TooLong
-        → IfSome (R.remaining sheet.old) (λ text. MAX_TEXT < length text)
-        ⊎ (IfSome (R.remaining sheet.old) (λ text. sheet_fault text ≡ None)
-        × IfSome (Q.remaining grants.old) (λ text. MAX_TEXT < length text)) }
+    ensures sheet_too_long { IsErrOf result (CheckFault.SheetText TextFault.TooLong)
+        → IfSome (R.remaining sheet.old) (λ text. MAX_TEXT < length text) }
+    ensures grants_too_long { IsErrOf result (CheckFault.GrantsText TextFault.TooLong)
+        → IfSome (R.remaining sheet.old) (λ text. sheet_fault text ≡ None)
+        × IfSome (Q.remaining grants.old) (λ text. MAX_TEXT < length text) }
     ensures long_sheet { (text : List ℕ) → R.remaining sheet.old ≡ Some text
-        → MAX_TEXT < length text → IsErrAnd result IsReadingFault × (grants.new ≡ grants.old) }
+        → MAX_TEXT < length text → IsErrAnd result IsSheetUnread × (grants.new ≡ grants.old) }
     ensures long_grants { (sheet_text text : List ℕ) → R.remaining sheet.old ≡ Some sheet_text
         → sheet_fault sheet_text ≡ None
-        → Q.remaining grants.old ≡ Some text → MAX_TEXT < length text
-        → IsErrAnd result IsReadingFault }
-    ensures read_fault { IsErrOf result ProgramFault.ReadFault → (R.may_fail sheet.old ≡ true)
-        ⊎ (Q.may_fail grants.old ≡ true) }
-    ensures write_fault { IsErrOf result ProgramFault.WriteFault
+        → Q.remaining grants.old ≡ Some text → MAX_TEXT < length text → IsErrAnd result IsUnread }
+    ensures sheet_read_fault { IsErrOf result (CheckFault.SheetText TextFault.ReadFault)
+        → R.may_fail sheet.old ≡ true }
+    ensures grants_read_fault { IsErrOf result (CheckFault.GrantsText TextFault.ReadFault)
+        → Q.may_fail grants.old ≡ true }
+    ensures write_fault { IsErrOf result (CheckFault.Text TextFault.WriteFault)
         → (sheet_text grants_text printed : List ℕ) × (verdict : Verdict)
         × IsTextOf sheet_text (R.remaining sheet.old)
         × IsTextOf grants_text (Q.remaining grants.old)
         × IsCheckOf sheet_text grants_text verdict printed × W.may_refuse writer.old printed }
-    ensures unwritten { IfErr result (λ fault. fault ≢ ProgramFault.WriteFault
+    ensures places { IfErr result IsOfItsPlace }
+    ensures unwritten { IfErr result (λ fault. fault ≢ CheckFault.Text TextFault.WriteFault
         → writer.new ≡ writer.old) }
 {
-    let sheet_text = read_whole(alloc.clone()?, sheet)?;
+    let sheet_text = match read_whole(alloc.clone()?, sheet) {
+        Ok(text) => text,
+        Err(fault) => return Err(CheckFault::SheetText(fault)),
+    };
     let Checked { verdict, line } = check_beside(alloc, &sheet_text, grants)?;
     write_whole(&line, writer)?;
     Ok(verdict)

@@ -1,4 +1,4 @@
-//! The command `check`, over any readers and writer: checking grants within the limits of a sheet.
+//! The command `check`, over any readers and writer: checking the grants of a grants file within the limits of a sheet.
 //!
 //! ```text
 //! let alloc = rt.alloc();
@@ -11,6 +11,12 @@
 #![tactic(auto)]
 
 mod check;
+mod fault;
+mod grants;
+mod grants_fault;
 mod verdict;
 
 pub use check::{Checked, run_check, verdict_of};
+pub use fault::CheckFault;
+pub use grants::read_grants;
+pub use grants_fault::GrantsFault;

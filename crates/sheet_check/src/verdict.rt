@@ -1,4 +1,4 @@
-//! The line that tells a verdict.
+//! The line of a verdict.
 ghost use Rattle.std.specs.Prelude.{◌≡◌, ◌<◌, ◌++◌, [], IfOk, OnOk, codes, length, string_bytes};
 ghost use Rattle.grant_certificate.specs.declared.flaw.Flaw.{Flaw};
 ghost use Rattle.grant_certificate.specs.declared.flaw.Flaw.TheVariants.{OverLimit};
@@ -8,10 +8,10 @@ ghost use Rattle.limit_tree.specs.Outline.{limits};
 ghost use Rattle.sheet_check.specs.Checking.{IsThere, flaw_words, number_word, verdict_text};
 
 use grant_certificate::{Flaw, Verdict};
-use share_text::Sheet;
+use sheet_text::Sheet;
 use std::alloc::{AllocError, Allocator};
 
-/// Writes the name of a flaw, a path, what it has and what it may have at most, or has to have at least.
+/// Writes the name of a flaw, a path, its octets, and the most or the least that it may have.
 fn push_numbers<B: Allocator>(
     text: &mut String<B>,
     name: &str,
@@ -40,7 +40,7 @@ fn push_paths<B: Allocator>(
     write!(text, "{name} {leaf} {node}")
 }
 
-/// Writes that a leaf has too much beside another.
+/// Writes that a leaf has too much in comparison with another.
 fn push_too_great<B: Allocator>(
     text: &mut String<B>,
     leaf: &str,
@@ -130,7 +130,7 @@ fn push_flaw<A: Allocator, B: Allocator>(
 }
 
 /// The line of a verdict: `yes`, or `no` with the number of the flaw, its name and its fields.
-pub fn verdict_line<A: Allocator, B: Allocator>(
+pub(crate) fn verdict_line<A: Allocator, B: Allocator>(
     alloc: B,
     sheet: &Sheet<'_, A>,
     grants: &[u64],

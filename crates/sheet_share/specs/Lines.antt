@@ -5,19 +5,19 @@ use Rattle.std.specs.Borrow.{Bor}
 use Rattle.std.specs.Fmt.{decimal}
 use Rattle.sheet_share.specs.declared.lines.Share.{Share}
 
--- the words behind a want that is not met: the branch that holds it back
+-- the words after a want that is not met: the branch that limits it
 abbrev pub holding : Option (Bor (List ℕ)) → List ℕ
 holding None = []
 holding (Some node) = codes " full " ++ node.now
 
--- `PATH G of W`, and behind it `full NODE` where a branch holds the want back
+-- `PATH G of W`, and after it `full NODE` if a branch limits the want
 abbrev pub share_line : Share → List ℕ
 share_line s = s.path.now ++ codes " " ++ decimal s.grant ++ codes " of " ++ decimal s.want ++ holding s.full ++ 10 ∷ []
 
 abbrev pub total_line : ℕ → List ℕ
 total_line octets = codes "total " ++ decimal octets ++ 10 ∷ []
 
--- the octets granted in all
+-- the sum of the grants
 abbrev pub total : List Share → ℕ
 total shares = sum_by (λ s. s.grant) shares
 

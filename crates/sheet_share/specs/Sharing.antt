@@ -1,22 +1,20 @@
--- What a program writes for a sheet.
+-- The output of a program for a sheet.
 use Rattle.std.specs.Prelude.{◌≡◌, ℕ, List, [], ◌∷◌, ◌++◌, Option, Some, None, codes, slice_index, slice_index_or}
 use Rattle.std.specs.List.{flat_map, sum_by}
 use Rattle.std.specs.Fmt.{decimal}
 use Rattle.limit_tree.specs.Sharing.{IsWithin, IsBackedBy, IsBest}
 use Rattle.limit_tree.specs.Outline.{limits}
 use Rattle.round_allocator.specs.Rounds.{IsExhausted, IsNamed}
-use Rattle.sheet_tree.specs.Paths.{text_of, written}
-use Rattle.share_text.specs.Views.{SheetValue, IsSheetOf}
+use Rattle.sheet_text.specs.Paths.{text_of, written}
+use Rattle.sheet_text.specs.Views.{SheetValue, IsSheetOf}
 use Rattle.sheet_share.specs.Lines.{total_line}
-use Rattle.whole_texts.specs.declared.fault.ProgramFault.{ProgramFault}
-use Rattle.whole_texts.specs.declared.fault.ProgramFault.TheVariants.{TooLong, ReadFault, WriteFault, Memory, Sheet, Grants}
 
--- the words behind a leaf that is not met: the branch that its entry names
+-- the words after a leaf that is not met: the branch in its entry
 abbrev pub held_back : SheetValue → Option ℕ → List ℕ
 held_back sheet None = []
 held_back sheet (Some node) = codes " full " ++ written (slice_index_or sheet.paths node [])
 
--- `PATH G of W`, and behind it `full NODE` where the leaf's entry names a node
+-- `PATH G of W`, and after it `full NODE` if the leaf's entry names a node
 abbrev pub leaf_line : SheetValue → List ℕ → List (Option ℕ) → ℕ → List ℕ
 leaf_line sheet grants entries leaf =
     text_of (slice_index_or sheet.leaves leaf []) ++ codes " " ++ decimal (slice_index grants leaf) ++ codes " of " ++ decimal (slice_index (limits sheet.outline).wants leaf)
@@ -40,12 +38,3 @@ pub record IsSharingOf (text printed : List ℕ) : Type 0 where
   pub backed : IsBackedBy (limits sheet.outline) grants entries
   pub best : IsBest (limits sheet.outline) grants
   pub prints : printed ≡ sharing_text sheet grants entries
-
--- the faults that sharing a sheet may tell: all but those of a grants file
-abbrev pub IsSharingFault : ProgramFault → Type 0
-IsSharingFault TooLong = Unit {0}
-IsSharingFault ReadFault = Unit {0}
-IsSharingFault WriteFault = Unit {0}
-IsSharingFault Memory = Unit {0}
-IsSharingFault (Sheet fault) = Unit {0}
-IsSharingFault (Grants fault) = ⊥

@@ -9,8 +9,10 @@
 //! ```
 #![tactic(auto)]
 
+mod fault;
 mod lines;
 mod share;
 
+pub use fault::ShareFault;
 pub use lines::{Share, lines_of};
 pub use share::{run_share, sharing_of};

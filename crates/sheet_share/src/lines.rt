@@ -4,14 +4,14 @@ ghost use Rattle.sheet_share.specs.Lines.{share_line, share_lines, total, total_
 
 use std::alloc::{AllocError, Allocator};
 
-/// A want and what it got, in octets.
+/// A want and its grant, in octets.
 #[derive(Clone, Copy)]
 pub struct Share<'a> {
     /// The path of the want.
     pub path: &'a str,
     pub grant: u64,
     pub want: u64,
-    /// The path of the deepest full branch above it, where the grant is below the want.
+    /// The path of the deepest full branch above it, if the grant is below the want.
     pub full: Option<&'a str>,
 }
 

@@ -4,22 +4,23 @@ ghost use Rattle.std.specs.Io.KnownBytes.{Appends};
 ghost use Rattle.limit_tree.specs.Outline.{limits};
 ghost use Rattle.limit_tree.specs.declared.bounds.TheConstants.{MAX_LEAVES};
 ghost use Rattle.round_allocator.specs.Rounds.{IsNamed};
-ghost use Rattle.sheet_tree.specs.Paths.{written};
-ghost use Rattle.share_text.specs.Views.{IsSheetOf};
+ghost use Rattle.sheet_text.specs.Paths.{written};
+ghost use Rattle.sheet_text.specs.Views.{IsSheetOf};
 ghost use Rattle.sheet_share.specs.Lines.{share_line, share_lines, total};
-ghost use Rattle.sheet_faults.specs.declared.sheet.SheetFault.{SheetFault};
-ghost use Rattle.whole_texts.specs.Faults.{IsReadingFault, IsSheetJudgement, IsTextOf};
-ghost use Rattle.sheet_share.specs.Sharing.{IsSharingFault, IsSharingOf, leaf_line, sharing_text};
-ghost use Rattle.share_text.specs.Sheet.{IsSheetFaultOf};
+ghost use Rattle.text_io.specs.Texts.{IsTextOf};
+ghost use Rattle.sheet_share.specs.Faults.{IsUnread};
+ghost use Rattle.sheet_share.specs.Sharing.{IsSharingOf, leaf_line, sharing_text};
+ghost use Rattle.sheet_text.specs.Sheet.{IsSheetFaultOf, sheet_fault};
 
+use crate::fault::ShareFault;
 use crate::lines::{Share, lines_of};
 use grant_certificate::Leaves;
 use round_allocator::allot;
-use share_text::{Sheet, read_sheet};
+use sheet_text::{Sheet, SheetFault, read_sheet};
 use std::alloc::{AllocError, Allocator};
-use whole_texts::{MAX_TEXT, ProgramFault, TextReader, TextWriter, read_whole, write_whole};
+use text_io::{MAX_TEXT, TextFault, TextReader, TextWriter, read_whole, write_whole};
 
-/// The path of the node that an entry names.
+/// The path of the node in an entry.
 fn path_of<'t, A: Allocator>(sheet: &Sheet<'t, A>, entry: Option<u32>) -> Option<&'t str>
     requires node { IfSome entry (λ node. node < length sheet.now.outline) }
     ensures path { option_map (λ path. path.now) result
@@ -31,7 +32,7 @@ fn path_of<'t, A: Allocator>(sheet: &Sheet<'t, A>, entry: Option<u32>) -> Option
     }
 }
 
-/// What a leaf wants and got.
+/// The want and the grant of a leaf.
 fn share_of<'t, A: Allocator>(
     sheet: &Sheet<'t, A>,
     wants: &[u64],
@@ -55,7 +56,7 @@ fn share_of<'t, A: Allocator>(
     }
 }
 
-/// What each want of a sheet got, in the order of their lines.
+/// The grants of the wants of a sheet, in the order of their lines.
 fn shares_of<'t, A: Allocator, B: Allocator>(
     alloc: B,
     sheet: &Sheet<'t, A>,
@@ -104,11 +105,10 @@ fn sharing_lines<A: Allocator + Clone>(
 
 /// The lines of the sharing of a sheet: one for each want, in the order of the sheet, and last the total. The grants
 /// are best, and each branch that a line names as full backs its leaf.
-pub fn sharing_of<A: Allocator + Clone>(alloc: A, text: &[u8]) -> Result<String<A>, ProgramFault>
+pub fn sharing_of<A: Allocator + Clone>(alloc: A, text: &[u8]) -> Result<String<A>, SheetFault>
     ensures shared { IfOk result (λ lines. IsSharingOf text.now (string_bytes lines)) }
-    ensures sheet { (fault : SheetFault) → IsErrOf result (ProgramFault.Sheet fault)
-        → IsSheetFaultOf text.now fault }
-    ensures faults { IfErr result IsSheetJudgement }
+    ensures sheet { IfErr result
+        (λ fault. fault ≢ SheetFault.Memory → sheet_fault text.now ≡ Some fault) }
 {
     let sheet = read_sheet(alloc.clone()?, text)?;
     let lines = sharing_lines(alloc, &sheet)?;
@@ -117,31 +117,32 @@ pub fn sharing_of<A: Allocator + Clone>(alloc: A, text: &[u8]) -> Result<String<
 
 /// Reads a sheet, and writes the lines of its sharing. A text of more than `MAX_TEXT` octets is not read to its end.
 ///
-/// `WriteFault` comes only where the writer refuses the very lines, and then nothing is claimed of how much went
-/// out; any other fault comes before the first octet is written. A fault of a grants file is never told.
+/// `WriteFault`: the writer refuses these lines, and any part of them may have gone out. Any other fault comes before
+/// the first octet is written.
 pub fn run_share<A: Allocator + Clone, R: TextReader, W: TextWriter>(
     alloc: A,
     reader: &mut R,
     writer: &mut W,
-) -> Result<(), ProgramFault>
+) -> Result<(), ShareFault>
     ensures written { OnOk result ((text : List ℕ) → R.remaining reader.old ≡ Some text
         → (printed : List ℕ) × IsSharingOf text printed
         × Appends (W.contents writer.old) (W.contents writer.new) printed) }
-    ensures sheet { (fault : SheetFault) → IsErrOf result (ProgramFault.Sheet fault)
+    ensures sheet { (fault : SheetFault) → IsErrOf result (ShareFault.Sheet fault)
         → (text : List ℕ) → R.remaining reader.old ≡ Some text → IsSheetFaultOf text fault }
-    ensures too_long { IsErrOf result ProgramFault.TooLong
+    ensures too_long { IsErrOf result (ShareFault.Text TextFault.TooLong)
         → IfSome (R.remaining reader.old) (λ text. MAX_TEXT < length text) }
     ensures long { (text : List ℕ) → R.remaining reader.old ≡ Some text → MAX_TEXT < length text
-        → IsErrAnd result IsReadingFault }
-    ensures read_fault { IsErrOf result ProgramFault.ReadFault → R.may_fail reader.old ≡ true }
-    ensures write_fault { IsErrOf result ProgramFault.WriteFault → (text printed : List ℕ)
-        × IsTextOf text (R.remaining reader.old) × IsSharingOf text printed
-        × W.may_refuse writer.old printed }
-    ensures unwritten { IfErr result (λ fault. fault ≢ ProgramFault.WriteFault
+        → IsErrAnd result IsUnread }
+    ensures read_fault { IsErrOf result (ShareFault.Text TextFault.ReadFault)
+        → R.may_fail reader.old ≡ true }
+    ensures write_fault { IsErrOf result (ShareFault.Text TextFault.WriteFault)
+        → (text printed : List ℕ) × IsTextOf text (R.remaining reader.old)
+        × IsSharingOf text printed × W.may_refuse writer.old printed }
+    ensures unwritten { IfErr result (λ fault. fault ≢ ShareFault.Text TextFault.WriteFault
         → writer.new ≡ writer.old) }
-    ensures faults { IfErr result IsSharingFault }
 {
     let text = read_whole(alloc.clone()?, reader)?;
     let lines = sharing_of(alloc, &text)?;
-    write_whole(&lines, writer)
+    write_whole(&lines, writer)?;
+    Ok(())
 }

@@ -1,26 +1,23 @@
-//! The examples at the heads of the crates whose names these tests bear.
+//! The examples at the heads of the crates with the names of these tests, and the first calls of their parts.
 
 use crate::expect::holds;
 use grant_certificate::Verdict;
-use limit_tree::Kind;
-use share_text::{read_grants, read_sheet};
-use sheet_check::run_check;
-use sheet_faults::GrantsFault;
-use sheet_lines::{cut_line, read_grant};
-use sheet_nodes::Nodes;
+use limit_tree::NodeKind;
+use sheet_check::{GrantsFault, read_grants, run_check};
 use sheet_share::run_share;
+use sheet_text::{Nodes, cut_line, read_grant, read_sheet};
 use std::test::Fail;
-use whole_texts::{read_whole, write_whole};
+use text_io::{Outside, TextReader, TextWriter, read_whole, write_whole};
 
 #[test]
-fn sheet_faults(rt: HostRuntime) {
+fn faults_are_told(rt: HostRuntime) {
     let fault = GrantsFault::WrongPath(2);
     let told = format!(in rt.alloc(); "{fault}").expect(&rt, "memory");
     holds(&rt, told.as_str() == "line 2: WrongPath");
 }
 
 #[test]
-fn sheet_lines(rt: HostRuntime) {
+fn lines_are_read(rt: HostRuntime) {
     let (line, _) = cut_line(b"grant /a 5 /\ngrant /b 5\n");
     let grant = read_grant(line).expect(&rt, "a grant");
     holds(&rt, grant.path == "/a" && grant.octets == 5);
@@ -28,12 +25,12 @@ fn sheet_lines(rt: HostRuntime) {
 }
 
 #[test]
-fn sheet_nodes(rt: HostRuntime) -> Result<(), Fail> {
+fn nodes_are_taken(rt: HostRuntime) -> Result<(), Fail> {
     let alloc = rt.alloc();
     let mut nodes = Nodes::new(alloc)?;
-    // what line 1 states of the root, and what line 2 states
-    nodes.take(1, "", Kind::Branch { limit: Some(10) })?;
-    let place = nodes.take(2, "/a/b", Kind::Leaf { want: 8, floor: 0 })?;
+    // the statement of line 1 about the root, and that of line 2
+    nodes.take(1, "", NodeKind::Branch { limit: Some(10) })?;
+    let place = nodes.take(2, "/a/b", NodeKind::Leaf { want: 8, floor: 0 })?;
     assert!(rt; nodes.path(place) == "/a/b");
     let mut order = Vec::new(alloc);
     let tree = nodes.whole_tree(&mut order)?;
@@ -42,12 +39,19 @@ fn sheet_nodes(rt: HostRuntime) -> Result<(), Fail> {
 }
 
 #[test]
-fn share_text(rt: HostRuntime) -> Result<(), Fail> {
+fn sheet_text(rt: HostRuntime) -> Result<(), Fail> {
     let alloc = rt.alloc();
     let sheet = read_sheet(alloc, b"limit / 10\nwant /a 8\nwant /b 5\n")?;
     assert!(rt; sheet.tree().leaves() == 2);
     assert!(rt; sheet.leaf_path(0) == "/a");
     assert!(rt; sheet.node_of("/b") == Some(2));
+    Ok(())
+}
+
+#[test]
+fn grants_are_read(rt: HostRuntime) -> Result<(), Fail> {
+    let alloc = rt.alloc();
+    let sheet = read_sheet(alloc, b"limit / 10\nwant /a 8\nwant /b 5\n")?;
     let (grants, certificate) = read_grants(alloc, b"grant /a 5 /\ngrant /b 5\n", &sheet)?;
     assert!(rt; grants.as_slice() == [5, 5].as_slice());
     assert!(rt; certificate.entries() == [Some(0), None].as_slice());
@@ -55,14 +59,27 @@ fn share_text(rt: HostRuntime) -> Result<(), Fail> {
 }
 
 #[test]
-fn whole_texts(rt: HostRuntime) {
+fn text_io(rt: HostRuntime) {
     let alloc = rt.alloc();
-    let mut sheet = "limit / 10\n".as_bytes();
+    let mut sheet = "limit / 10\n".as_bytes(); // gives its octets, and never fails
     let text = read_whole(alloc, &mut sheet).expect(&rt, "a text");
     holds(&rt, text.as_slice() == b"limit / 10\n".as_slice());
-    let mut output = Vec::new(alloc);
+    let mut output = Vec::new(alloc); // takes octets, as long as memory lasts
     write_whole("total 10\n", &mut output).expect(&rt, "room");
-    holds(&rt, output.as_slice() == b"total 10\n".as_slice());
+    let mut other = Outside(output); // any other end, as a file: it may fail at each call
+    other.write_text(b"QUIT\r\n").expect(&rt, "room");
+    holds(&rt, other.0.as_slice() == b"total 10\nQUIT\r\n".as_slice());
+}
+
+#[test]
+fn ends_are_read_in_pieces(rt: HostRuntime) {
+    let mut reader: &[u8] = b"PWD\r\nQUIT\r\n";
+    let mut buffer = [0u8; 5];
+    let count = reader.read_front(&mut buffer).expect(&rt, "octets");
+    holds(
+        &rt,
+        count == 5 && buffer.as_slice() == b"PWD\r\n".as_slice(),
+    );
 }
 
 #[test]

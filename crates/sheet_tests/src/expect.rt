@@ -1,10 +1,10 @@
-//! What tests expect. A call costs the prover less than an `assert!` in its place.
+//! Expectations of tests. A call costs the prover less than an `assert!` in its place.
 
 ghost use Rattle.std.specs.Prelude.{IsTrue};
 
 use std::process::Abort;
 
-/// Stops the test where this does not hold.
+/// Ends the test unless the fact is true.
 pub(crate) fn holds(rt: &impl Abort, fact: bool)
     ensures so { IsTrue fact }
 {

@@ -1,16 +1,17 @@
-//! What no clause says of grants files: that the calls succeed, and what texts give. Texts that are refused stand in
-//! `runs/faulty_grants.toml`.
+//! Parts of grants files that no clause covers: that the calls succeed, and the grants of texts. Texts that are refused
+//! are in `runs/faulty_grants.toml`.
 
 use crate::expect::holds;
 use linked_list_allocator::LocalHeap;
-use scarce_memory::{HEAP, leave_hole};
-use share_text::{GrantsFault, Sheet, read_grants, read_sheet};
+use sheet_check::{GrantsFault, read_grants};
+use sheet_text::{Sheet, read_sheet};
 use std::process::Abort;
+use test_scarce_memory::{HEAP, leave_hole};
 
-/// The leaves of its tree are `/x/1`, `/x/2` and `/y`, so they stand in another order than the wants.
+/// The leaves of its tree are `/x/1`, `/x/2` and `/y`, so their order is not that of the wants.
 const SHEET: &[u8] = b"limit / 5\nwant /x/1 9\nwant /y 9\nwant /x/2 9\n";
 
-/// A text, the grants that it gives, and what holds each back.
+/// A text, its grants, and the node named for each.
 type Row = (&'static [u8], &'static [u64], &'static [Option<u32>]);
 
 static WHOLE: Row = (
@@ -19,7 +20,7 @@ static WHOLE: Row = (
     &[Some(0), None, Some(2)],
 );
 
-/// Missing lines leave short lists.
+/// Missing lines make short lists.
 static SHORT: [Row; 2] = [
     (
         b"grant /x/1 2 /\ngrant /y 1 /x\n",
@@ -29,7 +30,7 @@ static SHORT: [Row; 2] = [
     (b"", &[], &[]),
 ];
 
-/// Whether the grants have room; where they have, they are those of the text.
+/// Returns whether the grants have room; if they have, checks that they are those of the text.
 fn have_room<'h>(
     rt: &impl Abort,
     heap: &'h LocalHeap,
@@ -49,7 +50,7 @@ fn have_room<'h>(
     }
 }
 
-/// Whether the grants have room beside one hole of some octets. They have it once there is memory.
+/// Returns whether the grants have room in one hole of `room` octets. Checks that they have it once there is memory.
 fn have_room_in<'h>(
     rt: &(impl AllocGlobal + Abort),
     heap: &'h LocalHeap,
@@ -63,7 +64,7 @@ fn have_room_in<'h>(
     first
 }
 
-/// With no room they are refused, and with much they are taken.
+/// Without room they are refused, and with much they are taken.
 fn expect_refusals<'h>(
     rt: &(impl AllocGlobal + Abort),
     heap: &'h LocalHeap,

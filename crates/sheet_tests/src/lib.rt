@@ -1,5 +1,5 @@
-//! Tests of the text of sheets and of grants files and of the commands on them, by the public calls of `sheet_faults`,
-//! `sheet_lines`, `sheet_nodes`, `share_text`, `whole_texts`, `sheet_share` and `sheet_check` alone.
+//! Tests of the text of sheets and of grants files and of the commands on them, by the public calls of `sheet_text`,
+//! `text_io`, `sheet_share` and `sheet_check` alone.
 #![tactic(auto)]
 
 #[cfg(test)]

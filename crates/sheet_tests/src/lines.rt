@@ -1,8 +1,8 @@
-//! Lines and what they say. Those that say nothing stand in `runs/faulty_sheets.toml`.
+//! Lines and their statements. Lines without one are in `runs/faulty_sheets.toml`.
 
 use crate::expect::holds;
-use limit_tree::Kind;
-use sheet_lines::{cut_at, cut_line, read_entry, read_named_path, read_number, read_path};
+use limit_tree::NodeKind;
+use sheet_text::{cut_at, cut_line, read_entry, read_named_path, read_number, read_path};
 
 static LINES: [&[u8]; 4] = [b"a", b"", b"#b", b"c\r"];
 
@@ -27,15 +27,15 @@ fn a_text_is_cut_at_the_first_mark(rt: HostRuntime) {
     holds(&rt, none.is_none());
 }
 
-static ENTRIES: [(&[u8], &str, Kind); 4] = [
-    (b"limit / 10", "", Kind::Branch { limit: Some(10) }),
-    (b"limit /x/y -", "/x/y", Kind::Branch { limit: None }),
+static ENTRIES: [(&[u8], &str, NodeKind); 4] = [
+    (b"limit / 10", "", NodeKind::Branch { limit: Some(10) }),
+    (b"limit /x/y -", "/x/y", NodeKind::Branch { limit: None }),
     (
         b"want /a-_.9 10",
         "/a-_.9",
-        Kind::Leaf { want: 10, floor: 0 },
+        NodeKind::Leaf { want: 10, floor: 0 },
     ),
-    (b"want /a 10 6", "/a", Kind::Leaf { want: 10, floor: 6 }),
+    (b"want /a 10 6", "/a", NodeKind::Leaf { want: 10, floor: 6 }),
 ];
 
 #[test]

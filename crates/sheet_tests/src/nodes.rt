@@ -1,19 +1,18 @@
-//! What no clause says of the nodes of a sheet: that the calls succeed, and what lines give.
+//! Parts of the nodes of a sheet that no clause covers: that the calls succeed, and the results of lines.
 
-ghost use Rattle.sheet_tree.specs.Paths.{IsPathText};
+ghost use Rattle.sheet_text.specs.Paths.{IsPathText};
 
 use crate::expect::holds;
 use limit_tree::{Tree, TreeFault};
-use sheet_lines::read_entry;
-use sheet_nodes::{Nodes, SheetFault, name_len, tree_is_of_lines};
+use sheet_text::{Nodes, SheetFault, name_len, read_entry, tree_is_of_lines};
 use std::alloc::{Allocator, Global};
 use std::process::Abort;
 
-/// A line of a sheet, and its fault beside those before it.
-pub type Line = (&'static [u8], Option<SheetFault>);
+/// A line of a sheet, and its fault after those before it.
+pub(crate) type Line = (&'static [u8], Option<SheetFault>);
 
 /// The nodes that these lines mention.
-pub fn nodes_of<A: Allocator + Clone>(
+pub(crate) fn nodes_of<A: Allocator + Clone>(
     rt: &impl Abort,
     alloc: A,
     lines: &[Line],
@@ -47,7 +46,7 @@ static LINES: [Line; 8] = [
 /// The paths that these lines mention, in that order: a line with a fault mentions nothing.
 static PATHS: [&str; 4] = ["", "/a", "/a/b", "/a/c"];
 
-/// The path's text may live shorter than those of the nodes.
+/// Checks the place of a path. Its text may live shorter than those of the nodes.
 fn expect_place(rt: &impl Abort, nodes: &Nodes<'_, Global>, path: &str, wanted: Option<usize>)
     requires text { IsPathText path.now }
 {
@@ -80,7 +79,7 @@ fn expect_kids(rt: &(impl Abort + AllocGlobal), nodes: &Nodes<'_, Global>) {
     holds(rt, nodes.parent(4) == 1);
 }
 
-/// The tree, and the whole tree, of the crossed lines.
+/// Checks the tree, and the whole tree, of the crossed lines.
 fn expect_tree(rt: &impl Abort, tree: &Tree, order: &[usize]) {
     holds(rt, order == [0, 1, 2, 4, 3].as_slice());
     holds(rt, tree.nodes() == 5 && tree.leaves() == 2);

@@ -4,15 +4,15 @@ ghost use Rattle.std.specs.Prelude.{◌<◌, length};
 
 use super::nodes::{Line, nodes_of};
 use crate::expect::holds;
-use limit_tree::Kind;
+use limit_tree::NodeKind;
 use linked_list_allocator::LocalHeap;
-use scarce_memory::{HEAP, leave_hole};
-use sheet_nodes::{Nodes, SheetFault, is_leaf};
+use sheet_text::{Nodes, SheetFault, is_leaf};
 use std::process::Abort;
+use test_scarce_memory::{HEAP, leave_hole};
 
 static TWO_LINES: [Line; 2] = [(b"want /b/x 5 1", None), (b"limit /a 9", None)];
 
-/// A third line stands at its place.
+/// Checks that a third line is at its place.
 fn expect_third(rt: &impl Abort, nodes: &Nodes<'static, &LocalHeap>, place: usize)
     requires { place < length nodes.now }
 {
@@ -22,9 +22,9 @@ fn expect_third(rt: &impl Abort, nodes: &Nodes<'static, &LocalHeap>, place: usiz
     holds(rt, nodes.wants() == 2 && nodes.len() == 7);
 }
 
-/// Whether a third line has room; where it has, what it states is there.
+/// Returns whether a third line has room; if it has, checks that its statement is there.
 fn is_taken(rt: &impl Abort, nodes: &mut Nodes<'static, &LocalHeap>) -> bool {
-    match nodes.take(3, "/b/c/d/e", Kind::Leaf { want: 5, floor: 1 }) {
+    match nodes.take(3, "/b/c/d/e", NodeKind::Leaf { want: 5, floor: 1 }) {
         Ok(place) => {
             expect_third(rt, nodes, place);
             true
@@ -36,8 +36,8 @@ fn is_taken(rt: &impl Abort, nodes: &mut Nodes<'static, &LocalHeap>) -> bool {
     }
 }
 
-/// Whether a line is refused in a heap that has only one hole of some octets. It is taken once there is memory, whatever of its
-/// path was mentioned before.
+/// Returns whether a line is refused in a heap that has only one hole of `room` octets. Checks that it is taken once
+/// there is memory, whatever part of its path was mentioned before.
 fn is_refused(rt: &(impl AllocGlobal + Abort), room: usize) -> bool {
     let heap = LocalHeap::new(rt.alloc(), HEAP).expect(rt, "a heap");
     let mut nodes = nodes_of(rt, &heap, &TWO_LINES);
@@ -58,11 +58,11 @@ fn each_growth_of_a_line(rt: HostRuntime) {
             refusals = step;
         }
     }
-    // With no room it is refused, and with much it is taken.
+    // Without room it is refused, and with much it is taken.
     holds(&rt, 0 < refusals && refusals < 255);
 }
 
-/// How many nodes the whole tree has, or its fault.
+/// Number of nodes of the whole tree, or its fault.
 fn whole_nodes<'h>(
     heap: &'h LocalHeap,
     nodes: &Nodes<'static, &'h LocalHeap>,
@@ -72,13 +72,13 @@ fn whole_nodes<'h>(
     Ok(tree.nodes())
 }
 
-/// Whether the tree of the nodes finds no memory.
+/// Returns whether there is no memory for the tree of the nodes.
 fn lacks_tree<'h>(heap: &'h LocalHeap, nodes: &Nodes<'static, &'h LocalHeap>) -> bool {
     let mut order = Vec::new(heap);
     nodes.tree(&mut order).is_err()
 }
 
-/// Which of the calls that make something of nodes find no memory in a heap.
+/// The calls on nodes for which there is no memory in a heap.
 fn refusals<'h>(
     rt: &impl Abort,
     heap: &'h LocalHeap,
@@ -94,7 +94,8 @@ fn refusals<'h>(
     ]
 }
 
-/// Which of them find no memory beside one hole of some octets. Once there is memory again, each passes.
+/// The calls for which there is no memory in one hole of `room` octets. Checks that each passes once there is memory
+/// again.
 fn refusals_in<'h>(
     rt: &(impl AllocGlobal + Abort),
     heap: &'h LocalHeap,
@@ -114,7 +115,7 @@ fn each_growth_of_a_tree(rt: HostRuntime) {
     let nodes = nodes_of(&rt, &heap, &TWO_LINES);
     for step in 0..128usize {
         let refused = refusals_in(&rt, &heap, &nodes, 16 * step);
-        // With no room each is refused, and with much none.
+        // Without room each is refused, and with much none.
         holds(&rt, step > 0 || refused == [true; 4]);
         holds(&rt, step < 127 || refused == [false; 4]);
     }

@@ -1,43 +1,53 @@
-//! The program `sheets`: it reads the words of its command line, runs their command on the files that they name, and ends
+//! The program `sheets`: reads the words of its command line, runs their command on the files that they name, and ends
 //! with its status.
 #![tactic(auto)]
 
-use sheet_program::{Ending, Machine, Told, as_words, line_words, run_sheets};
-use std::alloc::Global;
+use sheets_program::{
+    Ending, Machine, NOBODY_READS, Noted, Told, as_words, line_words, null_device, run_sheets,
+};
 use std::io;
+use std::io::Write;
 use std::process::ExitCode;
-use std::rt::{Env, Files};
-use whole_texts::Outside;
+use text_io::Outside;
 
 const NAME: &str = "sheets";
 
-fn run<R: Files + Input + Print + Alloc<A = Global>>(rt: &R, words: &[&str]) -> Ending {
-    run_sheets(
-        rt.alloc(),
-        words,
-        &mut Machine { rt },
-        &mut Outside(io::writer(rt)),
-    )
+/// Reports the ending on standard error, and returns its status. If nobody reads the output any more, that is not
+/// reported as a fault.
+fn told<W: Write>(rt: &HostRuntime, ending: &Ending<'_>, output: &Outside<Noted<W>>) -> u8 {
+    if output.0.is_closed() {
+        return NOBODY_READS;
+    }
+    let told = Told {
+        name: NAME,
+        ending,
+        output: output.0.error(),
+    };
+    let _ = eprint!(rt; "{told}");
+    ending.status()
 }
 
-/// Runs the command of the words behind the program's name.
-fn run_line<R: Env + Files + Input + Print + Alloc<A = Global>>(rt: &R) -> Ending {
+/// Runs the command of the words after the program's name, and returns the status.
+fn run_line(rt: &HostRuntime) -> u8 {
+    let mut output = Outside(Noted::new(io::writer(rt)));
     let texts = match line_words(rt) {
         Ok(texts) => texts,
-        Err(ending) => return ending,
+        Err(ending) => return told(rt, &ending, &output),
     };
-    match as_words(rt.alloc(), texts.as_slice()) {
-        Ok(words) => run(rt, words.as_slice()),
-        Err(ending) => ending,
-    }
+    let words = match as_words(rt.alloc(), texts.as_slice()) {
+        Ok(words) => words,
+        Err(ending) => return told(rt, &ending, &output),
+    };
+    let ending = run_sheets(
+        rt.alloc(),
+        words.as_slice(),
+        &mut Machine { rt },
+        &mut output,
+    );
+    told(rt, &ending, &output)
 }
 
 fn main(rt: HostRuntime) -> ExitCode {
-    let ending = run_line(&rt);
-    let told = Told {
-        name: NAME,
-        ending: &ending,
-    };
-    let _ = eprint!(rt; "{told}");
-    ExitCode::from(ending.status())
+    let _held = (null_device(&rt), null_device(&rt), null_device(&rt));
+    ExitCode::from(run_line(&rt))
 }

@@ -1,37 +1,37 @@
 //! The socket of a control connection.
 
 ghost use Rattle.std.specs.Prelude.{◌<◌, ◌≡◌, ◌≤◌, IfOk, length};
-ghost use Rattle.control_turns.specs.Calls.{reads_within};
+ghost use Rattle.control_session.specs.Calls.{reads_within};
 
 use control_session::Piece;
 use line_mender::Mender;
-use server_house::{Ending, Stage};
+use server_house::{ServerShutdown, ShutdownStage};
 use std::io;
 use std::io::{ErrorKind, Read, Write};
 use std::net::{Shutdown, TcpStream};
 use std::time::Duration;
 
-/// How long a read waits where nothing runs, in milliseconds.
+/// The time-out of a read while nothing runs, in milliseconds.
 const IDLE: u64 = 200;
 
-/// How long it waits where something runs, in milliseconds.
+/// The time-out of a read while something runs, in milliseconds.
 const QUICK: u64 = 1;
 
-/// How long one write waits for a peer that does not read, in milliseconds.
+/// The time-out of one write to a peer that does not read, in milliseconds.
 const STANDSTILL: u64 = 1_000;
 
-/// How many writes in a row may find that it does not.
+/// Most writes in a row that may time out.
 const MOST_WAITS: u32 = 20;
 
-/// How many may once the server ends.
+/// Most of them once the server ends.
 const LAST_WAITS: u32 = 2;
 
-/// How often is read from a connection that is to be closed, so that the last reply arrives.
+/// Most reads from a connection that is to be closed, so that the last reply arrives.
 const LAST_READS: usize = 5;
 
 const LF: u8 = 10;
 
-/// The socket of a control connection, and what is known of the text that came.
+/// The socket of a control connection, and the state of its text.
 #[derive(Drop)]
 pub struct ControlSocket {
     stream: TcpStream,
@@ -39,7 +39,7 @@ pub struct ControlSocket {
     is_quick: bool,
 }
 
-// Whether a read only found nothing.
+// Returns whether a read only found nothing.
 fn is_pause(kind: ErrorKind) -> bool {
     matches!(
         kind,
@@ -48,7 +48,7 @@ fn is_pause(kind: ErrorKind) -> bool {
 }
 
 impl ControlSocket {
-    /// A connection that was accepted. Its reads wait for a while.
+    /// An accepted connection. Its reads have a time-out.
     pub fn new(stream: TcpStream) -> ControlSocket {
         let _ = stream.set_nodelay(true);
         let _ = stream.set_read_timeout(Some(Duration::from_millis(IDLE)));
@@ -60,7 +60,7 @@ impl ControlSocket {
         }
     }
 
-    // The time-out of a socket is set only where it changes: it is a call to the machine.
+    // Sets the time-out of reads, only if it changes: it is a system call.
     fn set_pace(&mut self, is_quick: bool) {
         if self.is_quick != is_quick {
             let wait = if is_quick { QUICK } else { IDLE };
@@ -71,7 +71,7 @@ impl ControlSocket {
         }
     }
 
-    // Takes the octets in front of the buffer that were read.
+    // Takes the octets read at the start of the buffer.
     fn mend(&mut self, buffer: &mut [u8], count: usize) -> Piece
         requires bound { count ≤ length buffer.old }
         ensures bound { reads_within result buffer.new }
@@ -85,7 +85,7 @@ impl ControlSocket {
         }
     }
 
-    // Nothing came: the end of an ABOR that urgent data took is put in.
+    // Reports that nothing came: the end of an ABOR that was lost as urgent data is restored.
     fn take_silence(&mut self, buffer: &mut [u8]) -> Piece
         requires room { 0 < length buffer.old }
         ensures bound { reads_within result buffer.new }
@@ -98,7 +98,7 @@ impl ControlSocket {
         }
     }
 
-    /// One read. It waits for a millisecond or so if it is to be quick, and else for some more.
+    /// Reads once. Waits at most `QUICK` milliseconds if `is_quick`, otherwise at most `IDLE`.
     pub fn read(&mut self, is_quick: bool, buffer: &mut [u8]) -> io::Result<Piece>
         requires room { 0 < length buffer.old }
         ensures bound { IfOk result (λ piece. reads_within piece buffer.new) }
@@ -117,8 +117,8 @@ impl ControlSocket {
         }
     }
 
-    // Writes some octets from the front.
-    fn write_some(&mut self, octets: &[u8], ending: &Ending) -> io::Result<usize>
+    // Writes some octets from the start.
+    fn write_some(&mut self, octets: &[u8], ending: &ServerShutdown) -> io::Result<usize>
         requires some { 0 < length octets.now }
         ensures part { IfOk result (λ count. (0 < count) × (count ≤ length octets.now)) }
     {
@@ -127,7 +127,7 @@ impl ControlSocket {
                 Ok(0) => return Err(io::Error::from(ErrorKind::WriteZero)),
                 Ok(count) => return Ok(count),
                 Err(error) => {
-                    let ends = waits >= LAST_WAITS && ending.has_begun(Stage::Sessions);
+                    let ends = waits >= LAST_WAITS && ending.has_begun(ShutdownStage::Sessions);
                     if ends || !is_pause(error.kind()) {
                         return Err(error);
                     }
@@ -137,8 +137,9 @@ impl ControlSocket {
         Err(io::Error::from(ErrorKind::TimedOut))
     }
 
-    /// Writes all of a reply. A peer that reads nothing is waited for, 20 s for each part of it, or 2 s once the server ends.
-    pub fn write(&mut self, octets: &[u8], ending: &Ending) -> io::Result<()> {
+    /// Writes all of a reply. A peer that reads nothing is waited for, 20 s for each part of it, or 2 s once the server
+    /// ends.
+    pub fn write(&mut self, octets: &[u8], ending: &ServerShutdown) -> io::Result<()> {
         let mut at = 0;
         while at < octets.len() {
             at += self.write_some(&octets[at..], ending)?;
@@ -146,7 +147,7 @@ impl ControlSocket {
         Ok(())
     }
 
-    /// Ends the connection so that what was written arrives.
+    /// Ends the connection in such a way that what was written arrives.
     pub fn hang_up(&mut self, buffer: &mut [u8]) {
         let _ = self.stream.shutdown(Shutdown::Write);
         self.set_pace(false);

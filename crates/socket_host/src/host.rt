@@ -2,24 +2,23 @@
 
 ghost use Rattle.std.specs.Prelude.{◌≡◌, IfErr, IfOk, IfSome, OnErr, [], true};
 ghost use Rattle.std.specs.declared.alloc.Global.{Global};
-ghost use Rattle.control_turns.specs.Rows.{IsRow};
-ghost use Rattle.control_turns.specs.Turns.{StepTried, Stepped};
-ghost use Rattle.data_side.specs.Sides.{event_in, given_of};
-ghost use Rattle.data_side.specs.Sides.Given.{Came};
+ghost use Rattle.control_session.specs.Rows.{IsRow};
+ghost use Rattle.control_session.specs.Turns.{StepTried, Stepped};
+ghost use Rattle.control_session.specs.Sides.{event_in, given_of};
+ghost use Rattle.control_session.specs.Sides.Given.{Came};
 ghost use Rattle.session_table.specs.Views.{is_closed};
 ghost use Rattle.socket_host.specs.Unsaid.{AnyCall};
 
 use crate::control::ControlSocket;
 use crate::moments::millis_since_1970;
 use authorizer::Authorizer;
-use control_session::{DataEvent, Host, Leaving, Piece, Session};
+use control_session::{DataEvent, Host, Leaving, Piece, Session, close_by, end_by, step_by};
 use ftp_wire::HostPort;
 use handler_hooks::{Hooks, tell};
 use lent_parts::PartsName;
-use lent_step::{close_by, end_by, step_by};
 use line_rates::Limits;
 use rate_floors::Floors;
-use server_house::{House, ServerHooks, Stage, copy_settings};
+use server_house::{House, ServerHooks, ShutdownStage, copy_settings};
 use session_table::{Action, HookCall, Input, Job, Settings, Text};
 use socket_side::SocketSide;
 use std::alloc::{AllocError, Global};
@@ -29,16 +28,16 @@ use std::sync::Wait;
 use std::time::{Clock, Duration};
 use virtual_tree::Store;
 
-/// What a client is told whose session the server ends.
+/// The reply to a client whose session the server ends.
 const ENDING: &[u8] = b"421 Server is ending\r\n";
 
-// Floors without a row; they take no memory.
+// Floors without rows, which need no memory.
 fn floors_of_nobody(alloc: Global) -> Option<Floors> {
     let limits = Limits::of(0, 0, 0, Vec::new(alloc), Vec::new(alloc)).ok()?;
     Floors::of(alloc, &limits).ok()
 }
 
-// Whether the step of an input looks at the floors.
+// Returns whether the step of an input needs the floors.
 fn asks_floors<K>(session: &Session<Global>, input: &Option<Input<Global, K>>) -> bool {
     match input {
         Some(input) => session.asks_floors(input),
@@ -56,9 +55,9 @@ pub struct SocketHost<'h, R, S: Store<Global>, H: Hooks, B: PartsName> {
     peer: [u8; 4],
     // the number of the connection
     key: usize,
-    // the number of the user who is logged in, by which rounds know them
+    // the number of the user who is logged in, by which rounds identify them
     user: u32,
-    // what steps are lent that look at no floors
+    // lent to steps that need no floors
     no_floors: Floors,
 }
 
@@ -69,7 +68,8 @@ where
     H: ServerHooks,
     B: PartsName,
 {
-    /// The host of a connection with this data side, of this peer and with this key in the registry; None for lack of memory.
+    /// The host of a connection with this data side, from this peer and with this key in the registry; `None` if memory
+    /// runs out.
     pub fn new(
         rt: &'h R,
         house: &'h House<S, H, B>,
@@ -96,7 +96,7 @@ where
         copy_settings(self.rt.alloc(), &self.house.settings)
     }
 
-    // A step that may count the session: it is lent the floors that all sessions share.
+    // A step that may count the session: it is lent the shared floors of all sessions.
     fn step_counted(
         &mut self,
         users: &Authorizer,
@@ -118,7 +118,7 @@ where
         step_by(session, users, &mut *floors, &mut *store, input, moment)
     }
 
-    // A step that looks at no floors (`others_ask_no_floors` of `session_core`): nobody waits for them meanwhile.
+    // A step that asks for no admission (`others_ask_no_floors` of `session_table`), so the lock of the floors is not held.
     fn step_uncounted(
         &mut self,
         users: &Authorizer,
@@ -146,7 +146,7 @@ where
         )
     }
 
-    // What came of the data side behind the end of the control connection.
+    // Passes on the events of the data side after the end of the control connection.
     fn end_with(
         &mut self,
         users: &Authorizer,
@@ -170,7 +170,7 @@ where
         );
     }
 
-    /// Ends the control connection so that the last reply arrives.
+    /// Ends the control connection in such a way that the last reply arrives.
     pub fn hang_up(&mut self, buffer: &mut [u8]) {
         self.socket.hang_up(buffer);
     }
@@ -255,7 +255,7 @@ where
     }
 
     fn read(&mut self, buffer: &mut [u8]) -> io::Result<Piece> {
-        if self.house.ending.has_begun(Stage::Sessions) {
+        if self.house.ending.has_begun(ShutdownStage::Sessions) {
             let _ = self.socket.write(ENDING, &self.house.ending);
             return Ok(Piece::AtEnd);
         }

@@ -2,8 +2,8 @@
 
 use std::time::Clock;
 
-/// The milliseconds since 1970; 0 if the clock cannot be read.
-pub fn millis_since_1970<R: Clock>(rt: &R) -> u64 {
+/// Milliseconds since 1970; 0 if the clock cannot be read.
+pub(crate) fn millis_since_1970<R: Clock>(rt: &R) -> u64 {
     match rt.since_1970() {
         Ok(time) => time
             .as_secs()

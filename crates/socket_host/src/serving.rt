@@ -15,14 +15,14 @@ use std::sync::Wait;
 use std::time::Clock;
 use virtual_tree::Store;
 
-/// The most reads of one session: at 200 ms each, more than twenty-five years.
+/// Most reads of one session: at 200 ms each, more than twenty-five years.
 const MOST_READS: u32 = u32::MAX;
 
-/// How much is read at once of what comes behind the end.
+/// Size of one read of what comes after the end.
 const LAST_PIECE: usize = 512;
 
-/// A host that has the settings of its session. A call whose type argument has several lifetimes may take neither settings nor
-/// users, so what takes them below has one type parameter for the host, and one for whoever has the users.
+/// A host with the settings of its session. A call whose type argument has several lifetimes may take neither settings nor
+/// users, so the functions below have one type parameter for the host, and one for the owner of the users.
 pub(crate) trait SessionHost: Host<Global> {
     /// The settings of the session.
     fn settings(&self) -> Result<Settings, AllocError>;
@@ -40,7 +40,7 @@ where
     }
 }
 
-/// Who has the users.
+/// The owner of the users.
 pub(crate) trait HasUsers {
     /// The users.
     fn users(&self) -> &Authorizer;
@@ -52,7 +52,7 @@ impl<S: Store<Global>, H: Hooks, B: PartsName> HasUsers for House<S, H, B> {
     }
 }
 
-// The whole session of a host. Without memory to begin, the client is told nothing.
+// Runs the whole session of a host. If there is no memory to begin, the client gets no reply.
 fn run_hosted<T: SessionHost, U: HasUsers>(alloc: &Global, host: &mut T, house: &U, peer: [u8; 4]) {
     if let Ok(settings) = host.settings() {
         let _ = run_control(alloc, host, house.users(), settings, peer, MOST_READS);
@@ -60,8 +60,8 @@ fn run_hosted<T: SessionHost, U: HasUsers>(alloc: &Global, host: &mut T, house: 
 }
 
 /// Serves a client from the greeting to the end of the control connection, which was accepted from this peer and has this
-/// key in the registry; it leaves the registry. However the session ends, its transfers have ended and its floor is
-/// released.
+/// key in the registry; the connection then leaves the registry. However the session ends, its transfers have ended and its
+/// floor is released.
 pub fn serve_session<R, S, H, B>(
     rt: &R,
     house: &House<S, H, B>,

@@ -1,13 +1,13 @@
-//! The passive ports of a server, as one of its sessions listens on them.
+//! The passive ports of a server, for one of its sessions.
 
 use data_sockets::listen;
-use resting_ports::{PortHost, RestingPorts};
+use passive_ports::{PortHost, RestingPorts};
 use std::net::{Net, TcpListener, TcpStream};
 use std::sync::{Mutex, Wait};
 
-/// The passive ports behind their lock, and the address that is listened on.
+/// The passive ports behind their lock, and the address to listen on.
 #[derive(Drop)]
-pub struct SharedPorts<'r, 'p, R> {
+pub(crate) struct SharedPorts<'r, 'p, R> {
     pub rt: &'r R,
     pub ports: &'p Mutex<RestingPorts>,
     pub address: [u8; 4],

@@ -1,6 +1,6 @@
-//! What was prepared for a transfer, and what runs.
+//! Prepared and running transfers.
 
-use data_sockets::{DataConnection, Listing, Served, Told};
+use data_sockets::{DataConnection, Listing, Served, TransferEnd};
 use ftp_terms::DataType;
 use ftp_wire::HostPort;
 use session_table::{End, Job};
@@ -9,9 +9,9 @@ use std::net::TcpListener;
 use transfer_worker::LaneJob;
 use virtual_tree::{Sink, Source};
 
-/// What was prepared for the next transfer.
+/// The preparation of the next transfer.
 #[derive(Drop)]
-pub enum Prepared {
+pub(crate) enum Prepared {
     Nothing,
     Listening(TcpListener, u16),
     Target(HostPort),
@@ -19,40 +19,40 @@ pub enum Prepared {
 
 /// The transfer of a session.
 #[derive(Drop)]
-pub enum Running<R: Drop, K: Drop> {
+pub(crate) enum Running<R: Drop, K: Drop> {
     Nothing,
-    /// The client has not connected yet: since this moment, in microseconds, it is waited for.
+    /// The client has not connected yet. The moment since which it is waited for, in microseconds.
     Awaited {
         listener: TcpListener,
         port: u16,
         job: Job<Global, R, K>,
         since: u64,
     },
-    /// A lane has it, or will.
+    /// A lane runs it, or will.
     Moving {
         connection: DataConnection,
         is_aborted: bool,
     },
-    /// It has ended, and the session does not know it yet.
-    Over(Told<K>),
+    /// It has ended, and the session does not know yet.
+    Over(TransferEnd<K>),
 }
 
-/// A transfer that never ran: a sink comes back.
-pub fn over<R: Drop, K: Drop>(end: End, job: Job<Global, R, K>) -> Running<R, K> {
+/// A transfer that never ran; an upload's sink is returned.
+pub(crate) fn over<R: Drop, K: Drop>(end: End, job: Job<Global, R, K>) -> Running<R, K> {
     let sink = match job {
         Job::TakeFile(sink, _) => Some(sink),
         Job::Text(_) | Job::SendFile(_, _) => None,
     };
-    Running::Over(Told { end, sink })
+    Running::Over(TransferEnd { end, sink })
 }
 
-/// Whether octets come in.
-pub fn is_upload<R, K>(job: &Job<Global, R, K>) -> bool {
+/// Returns whether octets are received.
+pub(crate) fn is_upload<R, K>(job: &Job<Global, R, K>) -> bool {
     matches!(job, Job::TakeFile(_, _))
 }
 
-/// What a lane is to do. A listing is sent as it is.
-pub fn lane_job<R: Source, K: Sink>(
+/// The job for a lane. A listing is sent as it is.
+pub(crate) fn lane_job<R: Source, K: Sink>(
     job: Job<Global, R, K>,
     connection: DataConnection,
     user: u32,
@@ -84,7 +84,7 @@ pub fn lane_job<R: Source, K: Sink>(
 }
 
 /// The sink of a job that no lane took.
-pub fn sink_of<R: Source, K: Sink>(job: LaneJob<R, K, DataConnection>) -> Option<K> {
+pub(crate) fn sink_of<R: Source, K: Sink>(job: LaneJob<R, K, DataConnection>) -> Option<K> {
     match job {
         LaneJob::Send { .. } => None,
         LaneJob::Take { sink, .. } => Some(sink),

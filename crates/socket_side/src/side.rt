@@ -2,12 +2,12 @@
 
 use crate::ports::SharedPorts;
 use crate::running::{Prepared, Running, is_upload, lane_job, over, sink_of};
-use data_sockets::{DataConnection, Told, accept_from, socket_address};
+use data_sockets::{DataConnection, TransferEnd, accept_from, socket_address};
 use event_word::micros;
 use ftp_wire::HostPort;
 use handler_hooks::Hooks;
 use lent_parts::PartsName;
-use resting_ports::{MOST_TRIES, open_passive};
+use passive_ports::{MOST_TRIES, open_passive};
 use server_house::House;
 use session_core::DataEvent;
 use session_table::{End, Job};
@@ -18,17 +18,17 @@ use std::sync::Wait;
 use std::time::{Clock, Duration};
 use virtual_tree::Store;
 
-/// How long a write or a read of a data connection may stand still, in milliseconds: a third of a minute, since a write that
-/// moved a part before its time was up counts as one that moved, and so a peer that reads nothing costs three.
+/// The time without progress after which a read or write of a data connection fails, in milliseconds: a third of a minute,
+/// since a write that moved some octets before its time-out counts as progress, so a peer that reads nothing takes three.
 const STANDSTILL: u64 = 20_000;
 
-/// How long a client may take to come to its passive port, in microseconds.
+/// The time for a client to connect to its passive port, in microseconds.
 const PATIENCE: u64 = 60_000_000;
 
-/// How long it is tried to connect to a client's port, in milliseconds.
+/// The time-out for connecting to a client's port, in milliseconds.
 const CONNECTING: u64 = 5_000;
 
-/// How long one look at what runs may wait, in milliseconds.
+/// The longest wait of one look at the running transfer, in milliseconds.
 const LOOK: u64 = 20;
 
 /// The data side of the session of one control connection.
@@ -37,14 +37,14 @@ pub struct SocketSide<'h, R, S: Store<Global>, H: Hooks, B: PartsName> {
     rt: &'h R,
     house: &'h House<S, H, B>,
     peer: [u8; 4],
-    // the number of the connection, by which lanes know the session
+    // the number of the connection, by which lanes identify the session
     key: usize,
     session: u32,
     prepared: Prepared,
     running: Running<S::Source, S::Sink>,
-    // a port that was opened, or that none was free, to be told
+    // the result of opening a port, to be reported: the port, or that none was free
     ready: Option<Option<u16>>,
-    // how many ends were told when the transfer was handed over
+    // the number of ends reported when the transfer was handed over
     seen: u64,
 }
 
@@ -55,7 +55,7 @@ where
     H: Hooks,
     B: PartsName,
 {
-    /// Nothing is prepared, and nothing runs.
+    /// A data side with nothing prepared and nothing running.
     pub fn new(
         rt: &'h R,
         house: &'h House<S, H, B>,
@@ -76,7 +76,7 @@ where
         }
     }
 
-    /// Drops what was prepared: a port rests.
+    /// Drops what was prepared; a port then rests.
     pub fn drop_data(&mut self) {
         let before = mem::replace(&mut self.prepared, Prepared::Nothing);
         match before {
@@ -90,7 +90,7 @@ where
         self.house.ports.lock(self.rt).give_back(port);
     }
 
-    // A port that is leased and listened on.
+    // Leases a port and listens on it.
     fn listening(&self) -> Option<(u16, TcpListener)> {
         let mut ports = SharedPorts {
             rt: self.rt,
@@ -100,7 +100,7 @@ where
         open_passive(&mut ports, MOST_TRIES)
     }
 
-    /// Listens on a passive port, if one is free, which the next look tells.
+    /// Listens on a passive port, if one is free. The next look reports it.
     pub fn open_passive(&mut self) {
         self.drop_data();
         match self.listening() {
@@ -112,13 +112,13 @@ where
         }
     }
 
-    /// The next transfer connects to this port.
+    /// Makes the next transfer connect to this port.
     pub fn connect_to(&mut self, to: HostPort) {
         self.drop_data();
         self.prepared = Prepared::Target(to);
     }
 
-    // How many ends were told.
+    // Number of ends reported.
     fn told_so_far(&self) -> u64 {
         match self.house.cells.get(self.key) {
             Some(cell) => cell.seen(),
@@ -160,14 +160,14 @@ where
                     is_aborted: false,
                 }
             }
-            Err(job) => Running::Over(Told {
+            Err(job) => Running::Over(TransferEnd {
                 end: End::NoConnection,
                 sink: sink_of(job),
             }),
         }
     }
 
-    // Whose connections are taken.
+    // The peer whose connections are accepted.
     fn wanted_peer(&self) -> Option<[u8; 4]> {
         if self.house.settings.permits_foreign_addresses {
             None
@@ -176,7 +176,7 @@ where
         }
     }
 
-    // Looks once whether the client has come to its port.
+    // Checks once whether the client has connected to its port.
     fn await_client(
         &mut self,
         listener: TcpListener,
@@ -225,7 +225,7 @@ where
         }
     }
 
-    /// Aborts what runs: its end is told by a later look.
+    /// Aborts the running transfer; a later look reports its end.
     pub fn abort(&mut self) {
         let before = mem::replace(&mut self.running, Running::Nothing);
         self.running = match before {
@@ -253,17 +253,17 @@ where
         };
     }
 
-    // The end that a lane has told, if it has.
-    fn told(&self) -> Option<Told<S::Sink>> {
+    // The end reported by the lane, if there is one.
+    fn told(&self) -> Option<TransferEnd<S::Sink>> {
         match self.house.cells.get(self.key) {
             Some(cell) => cell.take(self.rt),
             None => None,
         }
     }
 
-    // The end of what runs, if it has ended. Whatever the lane tells of an aborted transfer, it was aborted. The connection is
-    // closed before, so that the client reads the end of the data no later than the reply.
-    fn take_end(&mut self) -> Option<Told<S::Sink>> {
+    // Takes the end of the running transfer, if it has ended. If it was aborted, the end is `Aborted` whatever the lane
+    // reports. The connection is closed first, so that the client reads the end of the data no later than the reply.
+    fn take_end(&mut self) -> Option<TransferEnd<S::Sink>> {
         let before = mem::replace(&mut self.running, Running::Nothing);
         match before {
             Running::Nothing => None,
@@ -286,10 +286,10 @@ where
                 connection,
                 is_aborted,
             } => match self.told() {
-                Some(Told { end, sink }) => {
+                Some(TransferEnd { end, sink }) => {
                     drop(connection);
                     let end = if is_aborted { End::Aborted } else { end };
-                    Some(Told { end, sink })
+                    Some(TransferEnd { end, sink })
                 }
                 None => {
                     self.running = Running::Moving {
@@ -302,7 +302,7 @@ where
         }
     }
 
-    // Takes the client's connection, if it has come.
+    // Accepts the client's connection, if it has come.
     fn go_on(&mut self, user: u32) {
         let before = mem::replace(&mut self.running, Running::Nothing);
         match before {
@@ -326,24 +326,24 @@ where
         }
     }
 
-    /// What has come: a port, or the end of the transfer of this user, or nothing yet. It does not wait.
+    /// Reports a port, or the end of this user's transfer; `None` if there is neither yet. Does not wait.
     pub fn look(&mut self, user: u32) -> Option<DataEvent<S::Sink>> {
         if let Some(port) = self.ready.take() {
             return Some(DataEvent::Ready(port));
         }
         self.go_on(user);
         match self.take_end() {
-            Some(Told { end, sink }) => Some(DataEvent::Ended { end, sink }),
+            Some(TransferEnd { end, sink }) => Some(DataEvent::Ended { end, sink }),
             None => None,
         }
     }
 
-    /// Whether something was begun whose end was not told.
+    /// Returns whether the end of something begun is not yet reported.
     pub fn is_busy(&self) -> bool {
         !matches!(&self.running, Running::Nothing)
     }
 
-    /// Waits a moment for the end of what moves. Returns whether something has come, or may have.
+    /// Waits briefly for the end of a moving transfer. Returns whether there is, or may be, something to report.
     pub fn rest(&self) -> bool {
         match &self.running {
             Running::Moving { .. } => match self.house.cells.get(self.key) {
@@ -358,7 +358,7 @@ where
         }
     }
 
-    /// Waits for the end of what runs, which it aborts where no client has come, and tells it. What was prepared is dropped.
+    /// Waits for the end of the running transfer and reports it; aborts it if no client has come. Drops what was prepared.
     pub fn settle(&mut self) -> Option<DataEvent<S::Sink>> {
         self.drop_data();
         self.ready = None;
@@ -368,7 +368,7 @@ where
                 self.abort();
             }
             match self.take_end() {
-                Some(Told { end, sink }) => return Some(DataEvent::Ended { end, sink }),
+                Some(TransferEnd { end, sink }) => return Some(DataEvent::Ended { end, sink }),
                 None => {
                     if !self.is_busy() {
                         return None;

@@ -1,13 +1,12 @@
-//! What the heads of these crates show of their use. `tools/examples` sees that the two have the same lines.
+//! The examples in the heads of these crates. `tools/examples` checks that both have the same lines.
 
 use crate::expect::holds;
-use fail_store::FailStore;
-use file_tree::{Entry, Files, Spot};
 use linked_list_allocator::LocalHeap;
 use memory_store::MemStore;
-use scarce_memory::{HEAP, leave_hole};
 use std::alloc::AllocError;
 use std::process::Abort;
+use test_fail_store::FailStore;
+use test_scarce_memory::{HEAP, leave_hole};
 use virtual_path::VPath;
 use virtual_tree::{Sink, Source, Store, StoreFault, WriteMode};
 
@@ -30,7 +29,7 @@ fn virtual_tree(rt: &impl Abort, store: &mut MemStore, path: &VPath) -> Result<(
     Ok(())
 }
 
-fn fail_store(rt: &(impl Abort + AllocGlobal), path: &VPath) -> Result<(), AllocError> {
+fn test_fail_store(rt: &(impl Abort + AllocGlobal), path: &VPath) -> Result<(), AllocError> {
     let mut store = FailStore::new(MemStore::new(rt.alloc(), 1000)?, 0);
     // the first call fails, and no other, whatever the path
     holds(rt, store.make_dir(path) == Err(StoreFault::Device));
@@ -39,22 +38,7 @@ fn fail_store(rt: &(impl Abort + AllocGlobal), path: &VPath) -> Result<(), Alloc
     Ok(())
 }
 
-fn file_tree(
-    rt: &(impl Abort + AllocGlobal),
-    root: &VPath,
-    path: &VPath,
-) -> Result<(), AllocError> {
-    let mut files = Files::new(rt.alloc());
-    // the path `/in` has a spot, and the root has none
-    if let Some(spot) = Spot::of(&rt.alloc(), path)? {
-        files.put(spot, Entry::directory())?;
-    }
-    let listed = files.listing(&rt.alloc(), root)?;
-    holds(rt, listed.len() == 1);
-    Ok(())
-}
-
-fn scarce_memory(rt: impl Abort + AllocGlobal + Drop) -> Result<(), AllocError> {
+fn test_scarce_memory(rt: impl Abort + AllocGlobal + Drop) -> Result<(), AllocError> {
     let heap = LocalHeap::new(rt.alloc(), HEAP)?;
     let rest = leave_hole(&rt, &heap, 48)?;
     let more = Vec::<u8, &LocalHeap>::with_capacity(&heap, 64); // than the hole
@@ -68,8 +52,7 @@ fn of_a_directory(rt: &(impl Abort + AllocGlobal)) {
     let root = VPath::root(rt.alloc());
     let path = root.child(rt.alloc(), "in").expect(rt, "a path");
     memory_store(rt, &path).expect(rt, "a store");
-    fail_store(rt, &path).expect(rt, "a store");
-    file_tree(rt, &root, &path).expect(rt, "memory");
+    test_fail_store(rt, &path).expect(rt, "a store");
 }
 
 fn of_a_file(rt: &(impl Abort + AllocGlobal)) {
@@ -83,5 +66,5 @@ fn of_a_file(rt: &(impl Abort + AllocGlobal)) {
 fn examples(rt: HostRuntime) {
     of_a_directory(&rt);
     of_a_file(&rt);
-    scarce_memory(rt).expect(&rt, "memory");
+    test_scarce_memory(rt).expect(&rt, "memory");
 }

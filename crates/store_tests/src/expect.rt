@@ -1,28 +1,28 @@
-//! What tests expect. A call costs the prover less than an `assert!` in its place, and a value that is expected costs less than a
-//! `?`, which drops all that is alive there.
+//! Expectations of the tests. A call costs the prover less than an `assert!` in its place, and an expected value costs less
+//! than a `?`, which drops everything alive there.
 
 use std::alloc::Allocator;
 use std::env::Env;
 use std::process::Abort;
 use std::rt::Files;
-use store_script::{first_unmet, fresh};
+use test_store_script::{first_unmet, fresh};
 use virtual_tree::Store;
 
-/// Stops the test where this does not hold.
-pub fn holds(rt: &impl Abort, fact: bool) {
+/// Stops the test if this is false.
+pub(crate) fn holds(rt: &impl Abort, fact: bool) {
     assert!(rt; fact);
 }
 
 /// A fresh empty folder of the machine.
-pub fn fresh_folder(rt: &(impl Abort + Env + Files + AllocGlobal), name: &str) -> String {
+pub(crate) fn fresh_folder(rt: &(impl Abort + Env + Files + AllocGlobal), name: &str) -> String {
     match fresh(rt, name) {
         Ok(folder) => folder,
         Err(_) => panic!(rt; "no fresh folder"),
     }
 }
 
-/// Carries out a script. Stops the test at a line that tells something else than it should.
-pub fn comes_out<A: Allocator + Copy, S: Store<A>>(
+/// Carries out a script. Stops the test at a line with a wrong result.
+pub(crate) fn comes_out<A: Allocator + Copy, S: Store<A>>(
     rt: &(impl Abort + AllocGlobal),
     alloc: A,
     store: &mut S,

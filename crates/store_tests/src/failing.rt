@@ -1,10 +1,10 @@
 //! A store that fails once, over a store in memory: each call in turn.
 
 use crate::expect::{comes_out, holds};
-use fail_store::FailStore;
 use memory_store::MemStore;
 use std::process::Abort;
-use store_script::first_unmet;
+use test_fail_store::FailStore;
+use test_store_script::first_unmet;
 
 /// Six calls of a store.
 const SIX: &str = "make /d
@@ -13,13 +13,13 @@ size /d/f = 3
 names /d = f
 remove-file /d/f";
 
-/// What holds once a call has failed.
+/// The state after a call has failed.
 const AFTERWARDS: &str = "faults = 1
 new /g xy
 read /g = xy
 faults = 1";
 
-/// A store of nine octets that passes so many calls.
+/// A store of nine octets that passes this many calls.
 fn failing(rt: &(impl Abort + AllocGlobal), passes: u64) -> FailStore<MemStore> {
     let memory = MemStore::new(rt.alloc(), 9).expect(rt, "memory");
     FailStore::new(memory, passes)

@@ -1,8 +1,8 @@
-//! Calls one after another on stores in memory.
+//! Sequences of calls on stores in memory.
 
 use crate::expect::comes_out;
 use memory_store::MemStore;
-use store_script::{DIRECTORIES, FILES, RENAMES};
+use test_store_script::{DIRECTORIES, FILES, RENAMES};
 
 /// A store of three octets.
 const FULL: &str = "new /f abc
@@ -13,7 +13,7 @@ at:2 /f xy = full
 read /f = ab
 faults = 0";
 
-/// A file that is opened to be cut, and is not ended.
+/// A file that is opened to be cut, and is not finished.
 const CUT: &str = "new /f abc
 open-at:2 /f
 read /f = ab

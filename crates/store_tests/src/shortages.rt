@@ -1,30 +1,30 @@
-//! Each growth of each call of both stores refused in turn: the store is as before, and the call
+//! Each growth of each call of both stores refused in turn: the store is unchanged, and the call
 //! passes once there is memory.
 
 use crate::expect::{comes_out, fresh_folder, holds};
 use folder_store::DirStore;
 use linked_list_allocator::LocalHeap;
 use memory_store::MemStore;
-use scarce_memory::{HEAP, leave_hole};
 use std::env::Env;
 use std::fs;
 use std::process::Abort;
 use std::rt::Files;
-use store_script::{Asked, ask, read_line};
+use test_scarce_memory::{HEAP, leave_hole};
+use test_store_script::{Asked, ask, read_line};
 use virtual_tree::{Store, StoreFault};
 
-/// What a store is before each call.
+/// The contents of a store before each call.
 const FILLED: &str = "make /d
 make /e
 new /d/f abc";
 
-/// What it still is after a refused one.
+/// The contents after a refused one.
 const AS_BEFORE: &str = "read /d/f = abc
 names / = d e
 names /d = f
 faults = 0";
 
-/// The calls, each of which takes memory in both stores.
+/// The calls, each of which allocates in both stores.
 const CALLS: &str = "size /d/f
 names /
 read:1 /d/f
@@ -38,7 +38,7 @@ remove-file /d/f
 rename /d/f /n
 rename /d /n";
 
-/// Makes a call in a heap that has only one hole of some octets.
+/// Makes a call in a heap with only one hole of some octets.
 fn fault_in_hole<'h, S: Store<&'h LocalHeap>>(
     rt: &(impl Abort + AllocGlobal),
     heap: &'h LocalHeap,
@@ -52,7 +52,7 @@ fn fault_in_hole<'h, S: Store<&'h LocalHeap>>(
     fault
 }
 
-/// Makes a call of a filled store so, and again where it was refused. Answers whether it was.
+/// Makes a call on a filled store in this way, and again if it was refused. Returns whether it was.
 fn is_refused<'h, S: Store<&'h LocalHeap>>(
     rt: &(impl Abort + AllocGlobal),
     heap: &'h LocalHeap,
@@ -71,14 +71,14 @@ fn is_refused<'h, S: Store<&'h LocalHeap>>(
     fault.is_some()
 }
 
-/// Whether a store in memory refuses a call so.
+/// Returns whether a store in memory refuses a call in this way.
 fn is_refused_in_memory(rt: &(impl Abort + AllocGlobal), line: &str, room: usize) -> bool {
     let heap = LocalHeap::new(rt.alloc(), HEAP).expect(rt, "memory");
     let mut store = MemStore::new(&heap, 99).expect(rt, "memory");
     is_refused(rt, &heap, &mut store, line, room)
 }
 
-/// Whether a store over a folder of the machine refuses a call so.
+/// Returns whether a store over a folder of the machine refuses a call in this way.
 fn is_refused_in_a_folder(
     rt: &(impl Abort + Env + Files + AllocGlobal),
     machine: HostRuntime,
@@ -114,7 +114,7 @@ fn each_growth(rt: HostRuntime) {
     }
 }
 
-/// Whether a folder of the machine is opened as a store. If not, memory ran out.
+/// Returns whether a folder of the machine is opened as a store. If not, memory ran out.
 fn opens(rt: &impl Abort, machine: HostRuntime, heap: &LocalHeap, folder: &str) -> bool {
     match DirStore::new((machine, heap), folder) {
         Ok(_) => true,

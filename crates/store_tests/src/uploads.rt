@@ -3,15 +3,15 @@
 use crate::expect::{comes_out, holds};
 use linked_list_allocator::LocalHeap;
 use memory_store::MemStore;
-use scarce_memory::{HEAP, leave_hole};
 use std::process::Abort;
+use test_scarce_memory::{HEAP, leave_hole};
 use virtual_path::VPath;
 use virtual_tree::{Sink, Store, StoreFault, WriteMode};
 
 /// Room enough for a write and for an end.
 const PLENTY: usize = 4096;
 
-/// Whether a write of one octet more is refused where there is only a hole of some octets.
+/// Returns whether a write of one more octet is refused with only a hole of some octets.
 fn is_write_refused<S: Sink>(
     rt: &(impl Abort + AllocGlobal),
     heap: &LocalHeap,
@@ -24,7 +24,7 @@ fn is_write_refused<S: Sink>(
     refused
 }
 
-/// Whether the end of an upload is refused so, for want of memory.
+/// Returns whether the end of an upload is refused in this way, for lack of memory.
 fn is_end_refused<'h, S: Store<&'h LocalHeap>>(
     rt: &(impl Abort + AllocGlobal),
     heap: &'h LocalHeap,
@@ -39,9 +39,9 @@ fn is_end_refused<'h, S: Store<&'h LocalHeap>>(
     fault.is_some()
 }
 
-/// Brings one octet more to a file of `abc`, and ends the file, each with only so much room. A refused write leaves what
-/// stays of the file, and a refused end leaves the file as it was opened. Answers whether the write was refused, and
-/// whether the end was.
+/// Writes one more octet to a file of `abc`, and finishes the file, each with only this much room. A refused write
+/// leaves the octets of the file that are kept, and a refused end leaves the file as it was opened. Returns whether the
+/// write was refused, and whether the end was.
 fn refused(rt: &(impl Abort + AllocGlobal), write_room: usize, end_room: usize) -> (bool, bool) {
     let heap = LocalHeap::new(rt.alloc(), HEAP).expect(rt, "memory");
     let mut store = MemStore::new(&heap, 99).expect(rt, "memory");
@@ -66,7 +66,7 @@ fn of_writes_and_ends(rt: HostRuntime) {
     for step in 0..32usize {
         let (no_write, no_end_after) = refused(&rt, 16 * step, PLENTY);
         let (no_write_before, no_end) = refused(&rt, PLENTY, 16 * step);
-        // What has room enough passes.
+        // With enough room it passes.
         holds(&rt, !no_end_after && !no_write_before);
         writes |= if no_write { 1 } else { 2 };
         ends |= if no_end { 1 } else { 2 };

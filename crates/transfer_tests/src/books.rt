@@ -1,4 +1,4 @@
-//! What a book takes, and what can be drawn from it.
+//! Entries of books, and drawing from them.
 
 ghost use Rattle.std.specs.Prelude.{◌<◌};
 
@@ -6,14 +6,14 @@ use super::expect::{holds, settles};
 use grant_certificate::Sealed;
 use grant_ledger::{Book, BookFault, Grant, MAX_ISSUED, Tally};
 use std::process::Abort;
-use transfer_ends::sealed;
+use test_transfer_ends::sealed;
 
 fn spend(grant: Grant, moved: u64, tally: &mut Tally) {
     let most = grant.octets();
     grant.spend(moved.min(most), tally);
 }
 
-// Enters the decision at the tick, and has all its octets moved.
+// Enters the decision at the tick, and moves all its octets.
 fn entered(book: &mut Book, sealed: &Sealed, tick: u64, tally: &mut Tally) -> Option<BookFault> {
     match book.enter_out(sealed, tick) {
         Ok(purse) => {
@@ -27,7 +27,7 @@ fn entered(book: &mut Book, sealed: &Sealed, tick: u64, tally: &mut Tally) -> Op
     }
 }
 
-/// Decided amounts, what a book has issued before, what it says to them at one tick after another, what it has issued
+/// Decided amounts, the octets issued before, the book's answer to them at one tick after another, the octets issued
 /// then, and the tick of its last entry.
 type Row = (
     &'static [u64],
@@ -42,7 +42,7 @@ const FULL: Option<BookFault> = Some(BookFault::BookFull);
 const NOT_YET: Option<BookFault> = Some(BookFault::NotYet(5));
 
 static ENTRIES: [Row; 4] = [
-    // A full book takes no octet, but an entry of nothing.
+    // A full book accepts no octets, but an entry of nothing.
     (&[1], MAX_ISSUED, &[(5, FULL)], MAX_ISSUED, None),
     (
         &[0],
@@ -59,7 +59,7 @@ static ENTRIES: [Row; 4] = [
         MAX_ISSUED - 1,
         Some(0),
     ),
-    // It takes one entry a tick.
+    // It accepts one entry per tick.
     (
         &[3],
         0,
@@ -93,7 +93,7 @@ fn a_book_takes_entries(rt: HostRuntime) {
     }
 }
 
-// Draws the lane's amount, if there is one, and has so many octets of it moved.
+// Draws the lane's amount, if there is one, and moves `moved` octets of it.
 fn draw(book: &mut Book, lane: u8, moved: u64, tally: &mut Tally) -> Option<u64>
     requires lane { lane < 64 }
 {
@@ -104,7 +104,7 @@ fn draw(book: &mut Book, lane: u8, moved: u64, tally: &mut Tally) -> Option<u64>
     drawn.then_some(amount)
 }
 
-/// A lane, how many octets of its amount are moved, and the amount.
+/// A lane, the number of octets of its amount that are moved, and the amount.
 static DRAWS: [(u8, u64, Option<u64>); 5] = [
     (63, 1, Some(3)),
     (63, 1, None),

@@ -1,13 +1,13 @@
-//! What goes out over a data connection. The function that bears a crate's name is the example at its head.
+//! Downloads over a data connection. The function with a crate's name is the example in its head.
 
 use super::expect::holds;
 use data_pump::{DataOut, FailedPart, OpenFault, PumpEnd, pump_out};
 use ftp_terms::DataType;
 use line_rates::Way;
 use std::process::Abort;
-use transfer_ends::{FAULT, Funds, MEMORY, Octets, Outlet, Scheduled, send, told};
+use test_transfer_ends::{FAULT, Funds, MEMORY, Octets, Outlet, Scheduled, send, told};
 
-// A source whose calls give all that they can.
+// A source whose calls return all that they can.
 fn octets(rest: &[u8]) -> Octets<'_> {
     Octets {
         rest,
@@ -37,8 +37,8 @@ fn a_download(rt: HostRuntime) {
     holds(&rt, funds.settle().moved == 4);
 }
 
-/// A download: a text, and what the source's reads and the connection's writes do, one after another; the type and the
-/// grants; and then what is on the wire, what each pump moved, and how the last one ended, or the refusal.
+/// A download: a text, and the schedules of the source's reads and the connection's writes; the type and the grants;
+/// and then the octets on the wire, the octets moved by each pump, and the end of the last one, or the refusal.
 #[derive(Clone, Copy)]
 struct Row {
     text: &'static [u8],
@@ -65,7 +65,7 @@ const TEXT: Row = Row {
     end: Ok(PumpEnd::Ended),
 };
 
-/// A source that gives two octets, and then fails once.
+/// A source that returns two octets, and then fails once.
 const FAILS: Row = Row {
     text: b"abc",
     reads: &[Scheduled::Move(2), FAULT],
@@ -77,7 +77,7 @@ const FAILS: Row = Row {
     end: Ok(PumpEnd::ReadFault),
 };
 
-/// A connection that fails once: whatever follows would pass.
+/// A connection that fails once: later calls would pass.
 const RESET: Row = Row {
     writes: &[FAULT],
     wire: b"",
@@ -138,7 +138,7 @@ static DOWNLOADS: [Row; 15] = [
         moved: &[2],
         ..RESET
     },
-    // Nothing makes no call: the connection would fail at any.
+    // A grant of nothing makes no call: the connection would fail at any.
     Row {
         text: b"",
         grants: &[0],
@@ -172,7 +172,7 @@ static DOWNLOADS: [Row; 15] = [
     },
 ];
 
-// What was not moved is given back.
+// Octets not moved are given back.
 fn expect_sent(rt: &(impl Abort + AllocGlobal), row: &Row) {
     let mut taken = Vec::new(rt.alloc());
     let outlet = Outlet {
@@ -206,7 +206,7 @@ fn downloads(rt: HostRuntime) {
     }
 }
 
-// Sends octets that are read at once, by grants of 80,000, of which the pumps move so many.
+// Sends octets that are read at once, with grants of 80,000, of which the pumps move these numbers.
 fn expect_moved(
     rt: &(impl Abort + AllocGlobal),
     text: &[u8],
@@ -252,7 +252,7 @@ const WRITER: (Option<FailedPart>, Option<FailedPart>) = (
     Some(FailedPart::Sink),
 );
 
-/// Whose fault an end is, in a download and in an upload.
+/// The part at fault for an end, in a download and in an upload.
 static FAULTS: [(PumpEnd, (Option<FailedPart>, Option<FailedPart>)); 5] = [
     (PumpEnd::Ended, (None, None)),
     (PumpEnd::More, (None, None)),

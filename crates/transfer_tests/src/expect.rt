@@ -1,18 +1,18 @@
-//! What tests expect. A call costs the prover less than an `assert!` in its place.
+//! Expectations of the tests. A call costs the prover less than an `assert!` in its place.
 
 ghost use Rattle.std.specs.Prelude.{IsTrue};
 
 use grant_ledger::{Book, Settled, Tally, settle};
 use std::process::Abort;
 
-/// Stops the test where this does not hold.
+/// Stops the test if this is false.
 pub(crate) fn holds(rt: &impl Abort, fact: bool)
     ensures so { IsTrue fact }
 {
     assert!(rt; fact);
 }
 
-/// Settles, and stops the test where the numbers are others.
+/// Settles, and stops the test if the numbers differ.
 pub(crate) fn settles(
     rt: &impl Abort,
     book: Book,

@@ -1,16 +1,16 @@
-//! A text of two lines goes and comes octet by octet: each write of it fails in turn, and then none.
+//! A text of two lines is sent and received octet by octet: each write fails in turn, and then none.
 
 use super::expect::holds;
 use data_pump::PumpEnd;
 use ftp_terms::DataType;
 use std::process::Abort;
-use transfer_ends::{Collected, FAULT, Inlet, Octets, Outlet, Scheduled, receive, send, told};
+use test_transfer_ends::{Collected, FAULT, Inlet, Octets, Outlet, Scheduled, receive, send, told};
 
 /// A call that moves one octet.
 const ONE: Scheduled = Scheduled::Move(1);
 
-/// What the writes of a connection do; and then what it has taken of a grant of four octets, how many were moved, how many came
-/// back, and the end of the pump.
+/// The schedule of a connection's writes; and then the octets it has taken of a grant of four, the number moved, the number
+/// given back, and the end of the pump.
 type Download = (&'static [Scheduled], &'static [u8], u64, u64, PumpEnd);
 
 static DOWNLOADS: [Download; 5] = [
@@ -54,9 +54,9 @@ fn each_write_to_a_connection(rt: HostRuntime) {
     }
 }
 
-/// What the writes of a sink do, and grants; and then what the sink has taken, what each pump moved, how many octets were moved
-/// and how many came back, and the end of the last pump. A CR at the end of a piece is held back, so that nothing is written
-/// of it then.
+/// The schedule of a sink's writes, and grants; and then the octets that the sink has taken, the octets moved by each pump,
+/// the numbers moved and given back, and the end of the last pump. A CR at the end of a piece is held back, so it is not
+/// written then.
 type Upload = (
     &'static [Scheduled],
     &'static [u64],

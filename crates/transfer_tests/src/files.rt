@@ -5,7 +5,7 @@ use data_pump::PumpEnd;
 use ftp_terms::DataType;
 use memory_store::MemStore;
 use std::process::Abort;
-use transfer_ends::{Inlet, Outlet, Scheduled, receive, send, told};
+use test_transfer_ends::{Inlet, Outlet, Scheduled, receive, send, told};
 use virtual_path::VPath;
 use virtual_tree::{Sink, Source, Store, WriteMode};
 
@@ -43,7 +43,7 @@ fn expect_sent(
     holds(rt, taken.as_slice() == wire);
 }
 
-// Receives octets behind those of a file of the store, by pumps that move so many.
+// Receives octets after those of a file of the store, with pumps that move these numbers.
 fn receive_more(
     rt: &(impl Abort + AllocGlobal),
     store: &mut MemStore,
@@ -90,7 +90,7 @@ fn expect_rest(rt: &(impl Abort + AllocGlobal), store: &mut MemStore) {
     expect_sent(rt, store, &file, 2, b"c\r\nd");
 }
 
-// A file that is longer than all that waits at once goes out whole.
+// A file longer than what may wait at once is sent completely.
 fn expect_large(rt: &(impl Abort + AllocGlobal), store: &mut MemStore) {
     let alloc = rt.alloc();
     let octets = vec![in alloc; b'x'; 70_000].expect(rt, "memory");

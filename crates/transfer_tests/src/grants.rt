@@ -1,9 +1,9 @@
-//! What becomes of grants, purses and tallies. The functions that bear the names of crates are the examples at their heads.
+//! The outcome of grants, purses and tallies. The functions with the names of crates are the examples in their heads.
 
 use super::expect::{holds, settles};
 use grant_ledger::{Book, Grant, MAX_ISSUED, Purse, Tally, settle};
 use std::process::Abort;
-use transfer_ends::{Funds, FundsFault, sealed};
+use test_transfer_ends::{Funds, FundsFault, sealed};
 
 #[test]
 fn grant_ledger(rt: HostRuntime) -> Result<(), FundsFault> {
@@ -26,7 +26,7 @@ fn grant_ledger(rt: HostRuntime) -> Result<(), FundsFault> {
 }
 
 #[test]
-fn transfer_ends(rt: HostRuntime) -> Result<(), FundsFault> {
+fn test_transfer_ends(rt: HostRuntime) -> Result<(), FundsFault> {
     // one round that granted one transfer 100 octets
     let mut funds = Funds::new(rt.alloc(), &[100])?;
     let grant = funds.grant(60); // at most what is left
@@ -39,7 +39,7 @@ fn is_grant(grant: &Grant, octets: u64, lane: u8, tick: u64) -> bool {
     grant.octets() == octets && grant.lane() == lane && grant.tick() == tick
 }
 
-// A purse of 10 octets, of which 6 go to lane 2 and 4 to lane 9; 5 of the 6 are cut off again.
+// A purse of 10 octets, of which 6 go to lane 2 and 4 to lane 9; 5 of the 6 are split off again.
 fn ten_octets(rt: &impl Abort, mut purse: Purse, tally: &mut Tally) {
     let left = purse.left();
     let mut first = purse.split(2, left.min(6));
@@ -77,7 +77,7 @@ fn a_grant_of_nothing_is_spent_too(rt: HostRuntime) {
     settles(&rt, book, tally, 0, 0, 0);
 }
 
-// Four books of the most that one issues: their sum is 2^64.
+// Four books of the most that one book issues: their sum is 2^64.
 #[test]
 fn sums_stop_at_the_greatest_number(rt: HostRuntime) {
     let (book, mut tally) = Book::open(MAX_ISSUED);

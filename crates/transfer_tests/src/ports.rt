@@ -1,4 +1,4 @@
-//! Pools of ports. The function that bears a crate's name is the example at its head.
+//! Pools of ports. The function with a crate's name is the example in its head.
 
 use super::expect::holds;
 use passive_ports::{PoolFault, PortPool, Registry};
@@ -20,7 +20,7 @@ fn passive_ports(rt: HostRuntime) -> Result<(), Fail> {
     Ok(())
 }
 
-/// The first port and the last, and why there is no pool of them.
+/// The first port and the last, and why there can be no pool of them.
 static RANGES: [(u16, u16, Option<PoolFault>); 5] = [
     (5, 4, Some(PoolFault::EmptyRange)),
     (0, 4, Some(PoolFault::EmptyRange)),
@@ -37,15 +37,20 @@ fn a_range_has_a_port(rt: HostRuntime) {
     }
 }
 
-/// Leases all ports of a range, which come in ascending order.
-pub fn lease_all<A: Allocator>(rt: &impl Abort, pool: &mut PortPool<A>, first: u16, last: u16) {
+/// Leases all ports of a range, in ascending order.
+pub(crate) fn lease_all<A: Allocator>(
+    rt: &impl Abort,
+    pool: &mut PortPool<A>,
+    first: u16,
+    last: u16,
+) {
     for port in first..=last {
         holds(rt, pool.lease() == Some(port));
     }
     holds(rt, pool.lease().is_none());
 }
 
-// Nothing is given back that is not leased.
+// A port that is not leased cannot be given back.
 fn expect_none_back<A: Allocator>(rt: &impl Abort, pool: &mut PortPool<A>, ports: &[u16]) {
     for port in ports {
         holds(rt, !pool.give_back(*port));
@@ -64,7 +69,7 @@ fn expect_each_again<A: Allocator>(rt: &impl Abort, pool: &mut PortPool<A>, firs
     holds(rt, pool.lease().is_none());
 }
 
-/// Two ports, one alone, ranges that end with a word of 64 and beside it, and all ports.
+/// Two ports, a single one, ranges that end at or beside a word of 64, and all ports.
 static WHOLE: [(u16, u16); 12] = [
     (40000, 40001),
     (65535, 65535),

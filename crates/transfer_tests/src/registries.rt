@@ -1,5 +1,5 @@
-//! Registries of connections: worked rows, keys and counts. What a test asks of a registry stands in a function that
-//! borrows it, which is cheap to prove.
+//! Registries of connections: worked rows, keys and counts. The checks of a registry are in a function that borrows
+//! it, which is cheap to prove.
 
 use super::expect::holds;
 use passive_ports::{AdmitFault, Registry};
@@ -20,7 +20,7 @@ fn registry(
     Registry::new(rt.alloc(), max, max_of_address).expect(rt, "memory")
 }
 
-// Two of all, and one of an address.
+// Two in all, and one per address.
 fn expect_limits(rt: &impl Abort, registry: &mut Registry<Global>) {
     let key = registry.admit(A).expect(rt, "a key");
     holds(rt, registry.admit(A) == Err(AdmitFault::TooManyOfAddress));
@@ -31,14 +31,14 @@ fn expect_limits(rt: &impl Abort, registry: &mut Registry<Global>) {
         rt,
         registry.count() == 2 && registry.count_of_address(C) == 0,
     );
-    // Who leaves makes room.
+    // A connection that leaves makes room.
     holds(rt, registry.leave(key) && registry.count_of_address(A) == 0);
     holds(rt, registry.admit(A).is_ok());
     holds(rt, registry.admit(C) == Err(AdmitFault::TooMany));
     holds(rt, registry.count() == 2);
 }
 
-// Three of all, and two of an address.
+// Three in all, and two per address.
 fn expect_keys(rt: &impl Abort, registry: &mut Registry<Global>) {
     let first = registry.admit(A).expect(rt, "a key");
     let second = registry.admit(A).expect(rt, "a key");
@@ -60,7 +60,8 @@ fn limits_and_keys(rt: HostRuntime) {
     expect_keys(&rt, &mut registry(&rt, 3, 2));
 }
 
-// Of two thousand connections from one address just so many are admitted; the others are refused for the limit of all.
+// Of two thousand connections from one address exactly this many are admitted; the others are refused for the limit to
+// all.
 fn expect_admitted(rt: &impl Abort, registry: &mut Registry<Global>, wanted: usize) {
     let mut admitted = 0usize;
     for _ in 0..2000u32 {
@@ -77,7 +78,7 @@ fn expect_admitted(rt: &impl Abort, registry: &mut Registry<Global>, wanted: usi
     holds(rt, !registry.leave(2000));
 }
 
-/// The most of all, the most of an address, and how many are admitted.
+/// The most in all, the most per address, and the number admitted.
 static LIMITS: [(usize, usize, usize); 4] = [
     (0, 0, 0),
     (2, 2, 2),

@@ -6,12 +6,12 @@ use data_pump::{DataIn, DataOut, OpenFault};
 use ftp_terms::DataType;
 use linked_list_allocator::LocalHeap;
 use passive_ports::{AdmitFault, PoolFault, PortPool, Registry};
-use scarce_memory::{HEAP, leave_hole};
 use std::alloc::Allocator;
 use std::process::Abort;
-use transfer_ends::{Collected, Inlet, Octets, Outlet};
+use test_scarce_memory::{HEAP, leave_hole};
+use test_transfer_ends::{Collected, Inlet, Octets, Outlet};
 
-// Whether a download can be opened over this heap.
+// Returns whether a download can be opened over this heap.
 fn opens_out(rt: &impl Abort, heap: &LocalHeap, octets: &mut Vec<u8>, data_type: DataType) -> bool {
     let connection = Outlet {
         taken: octets,
@@ -33,7 +33,7 @@ fn opens_out(rt: &impl Abort, heap: &LocalHeap, octets: &mut Vec<u8>, data_type:
     }
 }
 
-// Whether an upload can be.
+// Returns whether an upload can be opened over this heap.
 fn opens_in(rt: &impl Abort, heap: &LocalHeap, octets: &mut Vec<u8>, data_type: DataType) -> bool {
     let sink = Collected {
         octets,
@@ -52,7 +52,7 @@ fn opens_in(rt: &impl Abort, heap: &LocalHeap, octets: &mut Vec<u8>, data_type: 
     }
 }
 
-// Which of both open over this heap.
+// Returns whether both open over this heap.
 fn open(rt: &(impl Abort + AllocGlobal), heap: &LocalHeap, data_type: DataType) -> (bool, bool) {
     let mut octets = Vec::new(rt.alloc());
     (
@@ -61,8 +61,8 @@ fn open(rt: &(impl Abort + AllocGlobal), heap: &LocalHeap, data_type: DataType) 
     )
 }
 
-/// A data type, room in octets, and whether a download and an upload have it. Under TYPE A there are two buffers, the
-/// smaller one first.
+/// A data type, room in octets, and whether a download and an upload have enough. Under TYPE A there are two buffers,
+/// the smaller one first.
 static BUFFERS: [(DataType, usize, (bool, bool)); 6] = [
     (DataType::Ascii, 1_000, (false, false)),
     (DataType::Ascii, 40_000, (false, false)),
@@ -83,8 +83,8 @@ fn each_buffer_may_be_refused(rt: HostRuntime) {
     }
 }
 
-// Whether a pool of 65,535 ports is refused beside one hole of some octets. It is not once there is memory. The refusal
-// of an empty range takes none, and neither do leases.
+// Returns whether a pool of 65,535 ports is refused beside one hole of some octets. It is not once there is memory. The
+// refusal of an empty range allocates nothing, nor do leases.
 fn is_pool_refused(rt: &(impl Abort + AllocGlobal), room: usize) -> bool {
     let heap = LocalHeap::new(rt.alloc(), HEAP).expect(rt, "a heap");
     let mut pool = PortPool::new(&heap, 1, 100).expect(rt, "a pool");
@@ -113,7 +113,7 @@ fn each_growth_of_a_pool(rt: HostRuntime) {
     holds(&rt, 0 < refused && refused < 600);
 }
 
-// So many connections, each from an address of its own.
+// A registry with `count` connections, each from an address of its own.
 fn filled<'h>(rt: &impl Abort, heap: &'h LocalHeap, count: u8) -> Registry<&'h LocalHeap> {
     let mut registry = Registry::new(heap, 1000, 0).expect(rt, "memory");
     for last in 0..count {
@@ -124,7 +124,8 @@ fn filled<'h>(rt: &impl Abort, heap: &'h LocalHeap, count: u8) -> Registry<&'h L
 
 const NEW: [u8; 4] = [10, 0, 1, 0];
 
-// Whether an admission was refused to a registry with so many connections. It is as before then, and admits one more.
+// Returns whether an admission was refused to a registry with this many connections. If so, it is unchanged, and admits one
+// more.
 fn is_refused<A: Allocator + Clone>(
     rt: &impl Abort,
     registry: &mut Registry<A>,
@@ -141,7 +142,7 @@ fn is_refused<A: Allocator + Clone>(
     answer.is_err()
 }
 
-// Whether an admission is refused to so many connections beside one hole of some octets.
+// Returns whether an admission is refused with this many connections beside one hole of some octets.
 fn is_refused_in(rt: &(impl Abort + AllocGlobal), count: u8, room: usize) -> bool {
     let heap = LocalHeap::new(rt.alloc(), HEAP).expect(rt, "a heap");
     let mut registry = filled(rt, &heap, count);
@@ -151,7 +152,7 @@ fn is_refused_in(rt: &(impl Abort + AllocGlobal), count: u8, room: usize) -> boo
     is_refused(rt, &mut registry, count, answer)
 }
 
-// How many growths of an admission are refused before it passes.
+// Number of growths of an admission that are refused before it passes.
 fn count_refused(rt: &(impl Abort + AllocGlobal), count: u8) -> u32 {
     for step in 0..512u32 {
         if !is_refused_in(rt, count, 16 * step as usize) {

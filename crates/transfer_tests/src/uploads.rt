@@ -1,14 +1,14 @@
-//! What comes in over a data connection.
+//! Uploads over a data connection.
 
 use super::expect::holds;
 use data_pump::PumpEnd;
 use ftp_terms::DataType;
 use std::process::Abort;
-use transfer_ends::{Collected, FAULT, Inlet, MEMORY, Scheduled, receive, told};
+use test_transfer_ends::{Collected, FAULT, Inlet, MEMORY, Scheduled, receive, told};
 
-/// An upload: what the connection gives, and what its reads and the sink's writes do, one after another; the type and the
-/// grants; and then what the sink holds, what each pump moved, how the last one ended, and how many of the granted octets
-/// were moved and came back.
+/// An upload: the octets of the connection, and the schedules of its reads and the sink's writes; the type and the
+/// grants; and then the octets of the sink, the octets moved by each pump, the end of the last one, and the numbers of
+/// granted octets that were moved and given back.
 #[derive(Clone, Copy)]
 struct Row<'a> {
     rest: &'a [u8],
@@ -22,7 +22,7 @@ struct Row<'a> {
     settled: (u64, u64),
 }
 
-/// A CR at the end of a piece is held back; a CR alone stays.
+/// A CR at the end of a piece is held back; a CR not before LF is kept.
 const TEXT: Row<'static> = Row {
     rest: b"a\r\nb\r",
     reads: &[Scheduled::Move(1); 5],
@@ -92,7 +92,7 @@ static UPLOADS: [Row<'static>; 12] = [
         settled: (0, 5),
         ..IMAGE
     },
-    // A connection that gives nothing has ended, whatever it would give later.
+    // A connection that returns nothing has ended, whatever it would return later.
     Row {
         reads: &[Scheduled::Nothing],
         text: b"",
@@ -123,7 +123,7 @@ static UPLOADS: [Row<'static>; 12] = [
         settled: (0, 5),
         ..IMAGE
     },
-    // Nothing makes no read: the connection would fail at any.
+    // A grant of nothing makes no read: the connection would fail at any.
     Row {
         reads: &[FAULT],
         writes: &[FAULT],
@@ -159,7 +159,7 @@ fn uploads(rt: HostRuntime) {
     }
 }
 
-// One pump reads at most 65,536 octets, whatever is granted.
+// One pump reads at most 65,536 octets, whatever the grant.
 #[test]
 fn a_full_read(rt: HostRuntime) {
     let alloc = rt.alloc();
@@ -175,8 +175,8 @@ fn a_full_read(rt: HostRuntime) {
     expect_received(&rt, &row);
 }
 
-/// What the reads and writes of an upload of `abcdef` do by pumps of two octets; what the sink holds, and what the first
-/// pump that did not tell `More` told, and how many were before it.
+/// The schedules of the reads and writes of an upload of `abcdef`, with pumps of two octets; the octets of the sink, the
+/// first end of a pump other than `More`, and the number of pumps before it.
 type Failure = (
     &'static [Scheduled],
     &'static [Scheduled],
@@ -204,7 +204,7 @@ static FAILURES: [Failure; 4] = [
     (&[Scheduled::Nothing], &[], b"", PumpEnd::Ended, 0),
 ];
 
-// Each pump after that one tells the same, and moves nothing.
+// Each later pump returns the same end, and moves nothing.
 fn expect_failed(rt: &(impl Abort + AllocGlobal), failure: &Failure) {
     let (reads, writes, text, end, before) = *failure;
     let mut collected = Vec::new(rt.alloc());

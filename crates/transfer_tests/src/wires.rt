@@ -1,4 +1,4 @@
-//! Text between a file and the wire, by the calls of `Wire` alone.
+//! Text between a file and the wire, with the calls of `Wire` alone.
 
 use super::expect::holds;
 use data_pump::Wire;
@@ -7,7 +7,7 @@ use std::process::Abort;
 
 static PIECES: [&[u8]; 3] = [b"a\r", b"\nb", b"\r"];
 
-// These pieces mean the text, with what was held back at the end.
+// These pieces are received as the text, with what was held back at the end.
 fn expect_received(rt: &(impl Abort + AllocGlobal), data_type: DataType, wanted: &[u8]) {
     let mut wire = Wire::new(data_type);
     let mut octets = Vec::new(rt.alloc());
@@ -25,7 +25,7 @@ fn expect_received(rt: &(impl Abort + AllocGlobal), data_type: DataType, wanted:
     holds(rt, octets.as_slice() == wanted);
 }
 
-// A text goes as these octets.
+// A text is sent as these octets.
 fn expect_sent(rt: &impl Abort, data_type: DataType, wanted: &[u8]) {
     let wire = Wire::new(data_type);
     let mut octets = [0; 16];

@@ -9,8 +9,8 @@ use Rattle.std.proofs.lemmas.List.Elements.{All-nil, All-push}
 use Rattle.line_rates.specs.declared.ask.Way.{Way}
 use Rattle.data_pump.specs.declared.pumped.OpenFault.{OpenFault}
 use Rattle.data_pump.specs.declared.pumped.OpenFault.TheVariants as opening
-use Rattle.job_board.specs.declared.order.Hand.{Hand}
-use Rattle.job_board.specs.Order.{hand}
+use Rattle.transfer_worker.specs.declared.order.Hand.{Hand}
+use Rattle.transfer_worker.specs.Order.{hand}
 use Rattle.transfer_worker.specs.declared.end.JobEnd.{JobEnd}
 use Rattle.transfer_worker.specs.declared.end.JobEnd.TheVariants.{ReadFault, Memory, Stopped}
 use Rattle.transfer_worker.specs.declared.job.LaneJob.{LaneJob}

@@ -1,4 +1,4 @@
--- Which end a job may be told to have.
+-- The end reported for a job.
 use Rattle.std.specs.Prelude.{◌≡◌, ◌⊎◌, ◌++◌, ℕ, List, [], ◌∷◌, Option, Some, None}
 use Rattle.data_pump.specs.declared.pumped.PumpEnd.{PumpEnd}
 use Rattle.data_pump.specs.declared.pumped.PumpEnd.TheVariants as pump
@@ -11,7 +11,7 @@ use Rattle.transfer_worker.specs.declared.gate.Go.TheVariants.{Stop}
 use Rattle.transfer_worker.specs.declared.job.Ran.{Ran}
 use Rattle.transfer_worker.specs.declared.job.Ran.TheVariants.{Out, In, Unopened}
 
--- the end of a job that a pump's end is
+-- the end of a job for a pump's end
 abbrev pub end_of : PumpEnd → Option JobEnd
 end_of pump.Ended = Some Ended
 end_of pump.More = None
@@ -23,7 +23,8 @@ abbrev pub fault_of : OpenFault → JobEnd
 fault_of opening.ReadFault = ReadFault
 fault_of opening.Memory = Memory
 
--- a transfer whose last pump ended so may be told to have ended as its pump did; and to be stopped where the pump left more and the gate said Stop
+-- the end reported for a transfer with this last pump is that of the pump; or `Stopped`, if the pump left more and the gate
+-- said Stop
 abbrev pub EndsAs : Go → PumpEnd → JobEnd → Type 0
 EndsAs go last end = (end_of last ≡ Some end) ⊎ ((end ≡ Stopped) × (last ≡ pump.More) × (go ≡ Stop))
 
@@ -32,6 +33,6 @@ MayTell go end (Out out) = EndsAs go out.last end
 MayTell go end (In upload) = EndsAs go upload.last end
 MayTell go end Unopened = (end ≡ ReadFault) ⊎ (end ≡ Memory)
 
--- a gate that keeps what it hears has heard this too, once
+-- a gate that records what it is told has recorded this too, once
 abbrev pub Tells : Option (List (ℕ × JobEnd)) → Option (List (ℕ × JobEnd)) → ℕ → JobEnd → Type 0
 Tells old new session end = (before : List (ℕ × JobEnd)) → old ≡ Some before → new ≡ Some (before ++ (session, end) ∷ [])

@@ -1,3 +1,5 @@
+pub mod Order
+pub mod Boards
 pub mod Turns
 pub mod Ends
 pub mod Passes

@@ -1,4 +1,4 @@
--- How a transfer is run: turn by turn, between a gate and a lane.
+-- Runs of a transfer: turn by turn, between a gate and a lane.
 use Rattle.std.specs.Prelude.{◌≡◌, ℕ, ◌+◌, ◌++◌, List, [], ◌∷◌, length, map, Option, Some, None}
 use Rattle.std.specs.List.{sum_by}
 use Rattle.line_rates.specs.declared.ask.Ask.{Ask}
@@ -14,7 +14,7 @@ use Rattle.transfer_worker.specs.Ends.{end_of}
 use Rattle.transfer_worker.specs.Passes.{PassCall, Passes, calls_until, leaves}
 use Rattle.transfer_worker.specs.Transfers.{Flow, Known, last_in, waiting_in, Pumps}
 
--- what is seen of a worker: its lane, its tally, and what its gate was told and asked
+-- a worker as contracts see it: its lane, its tally, and the records of its gate
 pub record WorkerView : Type 0 where
   pub lane : LaneView
   pub tally : TallyView
@@ -24,28 +24,28 @@ pub record WorkerView : Type 0 where
 abbrev pub worker : LaneView → TallyView → Option (List (ℕ × JobEnd)) → Option (List PassCall) → WorkerView
 worker lane tally heard passed = record { lane = lane; tally = tally; heard = heard; passed = passed }
 
--- a count after these amounts; it stops at 2^64 - 1
+-- a count after these amounts; it saturates at 2^64 - 1
 abbrev pub counted : ℕ → List ℕ → ℕ
 counted count [] = count
 counted count (n ∷ amounts) = counted (capped count n) amounts
 
--- One turn: leave to ask, the ask, a leave for each take that found nothing, and the grant, which was pumped.
+-- One turn: permission to ask, the ask, a permission for each take that found nothing, and the grant, which was pumped.
 pub record Turn : Type 0 where
-  -- how often the gate answered Later before it let the worker ask
+  -- number of answers Later before the gate let the worker ask
   pub before : ℕ
   pub ask : Ask
-  -- for each take that found nothing, how often it answered Later before it let the worker look again
+  -- for each take that found nothing, the number of answers Later before the gate let the worker look again
   pub between : List ℕ
-  -- what the worker took
+  -- the octets taken
   pub octets : ℕ
-  -- what the pump told
+  -- the result of the pump
   pub pumped : Pumped
 
--- Where the gate said Stop.
+-- The point at which the gate said Stop.
 pub data Halt : Type 0 where
-  -- it was asked for leave to ask, and answered Later so often before
+  -- before the ask, after that many answers Later
   BeforeAsk : ℕ → Halt
-  -- it let the worker ask after so many answers Later, let it look again after these, and answered Later so often before it said Stop
+  -- after the ask: the answers Later before it, the ask, those before each further look, and those before Stop
   AfterAsk : ℕ → Ask → List ℕ → ℕ → Halt
 
 abbrev pub asks_at : Option Halt → List Ask
@@ -63,7 +63,7 @@ calls_at session moved None = []
 calls_at session moved (Some (BeforeAsk laters)) = calls_until session moved Stop laters
 calls_at session moved (Some (AfterAsk before ask between laters)) = calls_until session moved On before ++ leaves session moved between ++ calls_until session moved Stop laters
 
--- what the gate is asked in a turn, and in all turns: each time with the session and the octets moved till then
+-- the calls of the gate in a turn, and in all turns: each with the session and the octets moved so far
 abbrev pub calls_in : ℕ → ℕ → Turn → List PassCall
 calls_in session moved t = calls_until session moved On t.before ++ leaves session moved t.between
 
@@ -77,8 +77,8 @@ moves_of turns = map (λ t. t.pumped.moved) turns
 abbrev pub looks_of : List Turn → ℕ
 looks_of turns = sum_by (λ t. length t.between) turns
 
--- A worker has done so much more: it made these asks, took these amounts, found nothing so often, moved these octets, and
--- asked its gate so. It sat down and rose where its lane's other parts say so.
+-- The further operations of a worker: it made these asks, took these amounts, found nothing that often, moved these octets,
+-- and called its gate in this way. When it sat down and rose is defined elsewhere.
 pub record Adds (asks : List Ask) (taken : List ℕ) (looks : ℕ) (moves : List ℕ) (calls : List PassCall) (v w : WorkerView) : Type 0 where
   pub asks_are : w.lane.asks ≡ v.lane.asks ++ asks
   pub taken_are : w.lane.taken ≡ v.lane.taken ++ taken
@@ -86,17 +86,17 @@ pub record Adds (asks : List Ask) (taken : List ℕ) (looks : ℕ) (moves : List
   pub moved_is : w.tally.moved ≡ counted v.tally.moved moves
   pub passes : Passes v.passed w.passed calls
 
--- the ask bears this user, session and way
+-- the ask has this user, session and way
 abbrev pub Bears : ℕ → ℕ → Way → Ask → Type 0
 Bears user session way ask = (ask.user ≡ user) × (ask.session ≡ session) × (ask.way ≡ way)
 
--- the open ask wants what waits
+-- the open ask wants all octets that wait
 abbrev pub WantsAt : Halt → ℕ → Type 0
 WantsAt (BeforeAsk laters) waiting = Unit {0}
 WantsAt (AfterAsk before ask between laters) waiting = ask.want ≡ waiting
 
 module _ {R K C : Type 0} where
-  -- In a turn the worker asks for what waits, and what it took is pumped.
+  -- In a turn, the worker asks for the octets that wait, and those taken are pumped.
   pub record IsTurn (k : Known R K C) (flow : Flow R K C) (t : Turn) (next : Flow R K C) : Type 0 where
     pub more : last_in flow ≡ More
     pub want : t.ask.want ≡ waiting_in flow
@@ -107,7 +107,7 @@ module _ {R K C : Type 0} where
   AreTurns k flow [] end = end ≡ flow
   AreTurns k flow (t ∷ turns) end = (next : Flow R K C) × IsTurn k flow t next × AreTurns k next turns end
 
-  -- a transfer ends as its last pump did, or is stopped between two pumps
+  -- a transfer ends with its last pump, or is stopped between two pumps
   abbrev pub EndsAt : Flow R K C → Option Halt → JobEnd → Type 0
   EndsAt flow None end = end_of (last_in flow) ≡ Some end
   EndsAt flow (Some halt) end = (end ≡ Stopped) × (last_in flow ≡ More) × WantsAt halt (waiting_in flow)

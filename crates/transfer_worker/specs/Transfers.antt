@@ -1,4 +1,4 @@
--- What is seen of jobs and of transfers in progress.
+-- Jobs, and transfers in progress, as contracts see them.
 use Rattle.std.specs.Prelude.{◌≡◌, ◌⊎◌, ◌<◌, ℕ, List, [], length, Option, Some}
 use Rattle.ftp_terms.specs.declared.data_type.DataType.{DataType}
 use Rattle.line_rates.specs.declared.ask.Way.{Way}
@@ -20,7 +20,7 @@ pub data Flow (R K C : Type 0) : Type 0 where
   Sending : OutView R C → Flow R K C
   Receiving : InView C K → Flow R K C
 
--- what can be known of the octets of sources, sinks and connections
+-- the knowable octets of sources, sinks and connections
 pub record Known (R K C : Type 0) : Type 0 where
   pub remaining : R → Option (List ℕ)
   pub collected : K → Option (List ℕ)
@@ -40,12 +40,12 @@ module _ {R K C : Type 0} where
   way_in (Sending out) = Down
   way_in (Receiving upload) = Up
 
-  -- how its last pump ended
+  -- the end of its last pump
   abbrev pub last_in : Flow R K C → PumpEnd
   last_in (Sending out) = out.last
   last_in (Receiving upload) = upload.last
 
-  -- what waits: the octets of a download that are to be written, and for an upload as much as one read can give
+  -- the octets that wait: those of a download to be written; for an upload, the most that one read can return
   abbrev pub waiting_in : Flow R K C → ℕ
   waiting_in (Sending out) = length out.flow.waiting
   waiting_in (Receiving upload) = 65536
@@ -62,7 +62,7 @@ module _ {R K C : Type 0} where
   way_of (Send user session source connection data_type) = Down
   way_of (Take user session connection sink data_type) = Up
 
-  -- a download as it was opened
+  -- a download just opened
   pub record OpensOut (k : Known R K C) (source : R) (connection : C) (data_type : DataType) (out : OutView R C) : Type 0 where
     pub connection_is : out.flow.connection ≡ connection
     pub type_is : out.flow.data_type ≡ data_type
@@ -78,14 +78,14 @@ module _ {R K C : Type 0} where
     pub held_is : upload.flow.held ≡ []
     pub more : upload.last ≡ More
 
-  -- the transfer is that of the job, as it was opened
+  -- the transfer is that of the job, just opened
   abbrev pub Opens : Known R K C → LaneJob R K C → Flow R K C → Type 0
   Opens k (Send user session source connection data_type) (Sending out) = OpensOut k source connection data_type out
   Opens k (Send user session source connection data_type) (Receiving upload) = ⊥
   Opens k (Take user session connection sink data_type) (Sending out) = ⊥
   Opens k (Take user session connection sink data_type) (Receiving upload) = OpensIn k connection sink data_type upload
 
-  -- of a grant of `octets`, `pumped` of a transfer were moved
+  -- a grant of `octets` was pumped with result `pumped`
   abbrev pub Pumps : Known R K C → ℕ → Flow R K C → Flow R K C → Pumped → Type 0
   Pumps k octets (Sending old) (Sending new) pumped = MovesOut k.remaining k.contents octets old.flow new.flow pumped × (new.last ≡ pumped.end)
   Pumps k octets (Sending old) (Receiving new) pumped = ⊥

@@ -1,4 +1,4 @@
--- What a turn makes of a seat, a transfer and a tally.
+-- The effect of a turn on a seat, a transfer and a tally.
 use Rattle.std.specs.Prelude.{◌≡◌, ◌≢◌, ◌+◌, ◌-◌, ◌≤◌, ℕ, List, Option, sum}
 use Rattle.grant_ledger.specs.Books.{TallyView, capped}
 use Rattle.desk_rule.specs.declared.view.LaneView.{LaneView}
@@ -9,16 +9,16 @@ use Rattle.data_pump.specs.Downloads.{OutView, MovesOut}
 use Rattle.data_pump.specs.Uploads.{InView, MovesIn}
 use Rattle.virtual_tree.specs.Calls.{Target}
 
--- so many octets of a grant were moved, and the others came back
+-- of a grant of `octets`, `moved` were moved, and the rest was given back
 pub record IsSpent (octets moved : ℕ) (old new : TallyView) : Type 0 where
   pub moved_is : new.moved ≡ capped old.moved moved
   pub back_is : new.back ≡ capped old.back (octets - moved)
 
--- the tally adds up to all that the seat took
+-- the tally adds up to everything that the seat took
 abbrev pub IsTold : TallyView → LaneView → Type 0
 IsTold tally x = tally.moved + tally.back ≡ sum x.taken
 
--- the seat took one grant, which was pumped and spent, and nothing else was
+-- the seat took one grant, which was pumped and spent, and nothing else
 pub record TurnsOut {S K : Type 0} (remaining : S → Option (List ℕ)) (contents : K → Option (List ℕ)) (x x' : LaneView) (old new : OutView S K) (t t' : TallyView) (pumped : Pumped) : Type 0 where
   pub octets : ℕ
   pub took : x' ≡ has_taken octets x
@@ -31,7 +31,7 @@ pub record TurnsIn {K X : Type 0} (remaining : K → Option (List ℕ)) (collect
   pub octets : ℕ
   pub took : x' ≡ has_taken octets x
   pub within : sum x'.taken ≤ most
-  -- after an end that a pump has told, nothing is moved any more, and the end is told again
+  -- after a pump's end other than More, nothing is moved, and the same end is returned
   pub moves : old.last ≡ More → MovesIn remaining collected target octets old.flow new.flow pumped
   pub over : old.last ≢ More → (new ≡ old) × (pumped ≡ record { moved = 0; end = old.last })
   pub last_is : new.last ≡ pumped.end

@@ -1,10 +1,10 @@
--- What a worker does.
+-- The operations of a worker.
 use Rattle.std.specs.Prelude.{◌≡◌, ◌≢◌, ◌⊎◌, ℕ, ◌+◌, ◌++◌, Bool, true, false, List, [], ◌∷◌, length, map, Option, Some, None, All}
 use Rattle.std.specs.List.{flat_map, sum_by}
 use Rattle.line_rates.specs.declared.ask.Ask.{Ask}
 use Rattle.data_pump.specs.declared.pumped.Pumped.{Pumped}
 use Rattle.desk_rule.specs.declared.view.SeatState.TheVariants.{Worker}
-use Rattle.job_board.specs.declared.order.Hand.{Hand}
+use Rattle.transfer_worker.specs.declared.order.Hand.{Hand}
 use Rattle.transfer_worker.specs.declared.end.JobEnd.{JobEnd}
 use Rattle.transfer_worker.specs.declared.end.JobEnd.TheVariants.{ReadFault, Memory, Stopped}
 use Rattle.transfer_worker.specs.declared.end.LoopEnd.{LoopEnd}
@@ -33,12 +33,12 @@ pub record Takes {R K C : Type 0} (k : Known R K C) (session moved : ℕ) (flow 
   pub adds : Adds [] (octets ∷ []) (length between) (pumped.moved ∷ []) (leaves session moved between) v w
   pub pumps : Pumps k octets flow next pumped
 
--- the answer says whether the end is Stopped
+-- the result says whether the end is Stopped
 abbrev pub IsStop : Bool → JobEnd → Type 0
 IsStop true end = end ≡ Stopped
 IsStop false end = end ≢ Stopped
 
--- A transfer was run in one sitting, and its end was told once.
+-- A transfer was run in one sitting, and its end was reported once.
 pub record RunsTransfer {R K C : Type 0} (k : Known R K C) (user session : ℕ) (flow : Flow R K C) (stop : Bool) (v w : WorkerView) : Type 0 where
   pub end : JobEnd
   pub turns : List Turn
@@ -52,8 +52,8 @@ pub record RunsTransfer {R K C : Type 0} (k : Known R K C) (user session : ℕ) 
   pub adds : Adds (map (λ t. t.ask) turns ++ asks_at halt) (map (λ t. t.octets) turns) (looks_of turns + looks_at halt) (moves_of turns) (calls_of session 0 turns ++ calls_at session (counted 0 (moves_of turns)) halt) v w
   pub tells : Tells v.heard w.heard session end
 
--- A job that a worker has popped: the transfer as it was opened, if it was; its turns; where it was stopped, if it was; and
--- its end.
+-- A job popped by a worker: the transfer as it was opened, if it was; its turns; the point at which it was stopped, if it
+-- was; and its end.
 pub record Work (R K C : Type 0) : Type 0 where
   pub job : LaneJob R K C
   pub opening : Option (Flow R K C)
@@ -62,7 +62,7 @@ pub record Work (R K C : Type 0) : Type 0 where
   pub end : JobEnd
 
 module _ {R K C : Type 0} where
-  -- what it made the worker do
+  -- the asks, looks and amounts of its turns
   abbrev pub asks_in : Work R K C → List Ask
   asks_in w = map (λ t. t.ask) w.turns ++ asks_at w.halt
 
@@ -75,32 +75,32 @@ module _ {R K C : Type 0} where
   abbrev pub moves_in : Work R K C → List ℕ
   moves_in w = moves_of w.turns
 
-  -- what its gate was asked: each time with its session, and with the octets that it had moved till then
+  -- the calls of its gate: each with its session and the octets that it had moved so far
   abbrev pub passes_in : Work R K C → List PassCall
   passes_in w = calls_of (session_of w.job) 0 w.turns ++ calls_at (session_of w.job) (counted 0 (moves_of w.turns)) w.halt
 
-  -- A job that was not opened has no turn, and its end is that of the opening. Another runs from its opening by its turns to
-  -- its end.
+  -- A job that was not opened has no turns, and its end is that of the opening. Any other runs from its opening through its
+  -- turns to its end.
   abbrev pub Runs : Known R K C → Option (Flow R K C) → Work R K C → Type 0
   Runs k None w = (w.turns ≡ []) × (w.halt ≡ None) × ((w.end ≡ ReadFault) ⊎ (w.end ≡ Memory))
   Runs k (Some flow) w = Opens k w.job flow × ((final : Flow R K C) × AreTurns k flow w.turns final × EndsAt final w.halt w.end)
 
-  -- its asks bear the names of the job
+  -- its asks have the user, session and way of the job
   pub record IsWork (k : Known R K C) (w : Work R K C) : Type 0 where
     pub bear : All (Bears (user_of w.job) (session_of w.job) (way_of w.job)) (asks_in w)
     pub runs : Runs k w.opening w
 
-  -- the sittings of a job: one if it was opened, before which the seat had made so many asks
+  -- the sittings of a job: one if it was opened, with the number of asks that the seat had made before
   abbrev pub sitting_of : ℕ → Option (Flow R K C) → List ℕ
   sitting_of n None = []
   sitting_of n (Some flow) = n ∷ []
 
-  -- how many asks the seat had made before each sitting
+  -- for each sitting, the number of asks that the seat had made before
   abbrev pub starts : ℕ → List (Work R K C) → List ℕ
   starts n [] = []
   starts n (w ∷ works) = sitting_of n w.opening ++ starts (n + length (asks_in w)) works
 
-  -- what a gate is told of it
+  -- the report of the job to a gate
   abbrev pub told_of : Work R K C → ℕ × JobEnd
   told_of w = (session_of w.job, w.end)
 
@@ -117,13 +117,14 @@ module _ {R K C : Type 0} where
   abbrev pub NotStopped : Work R K C → Type 0
   NotStopped w = w.end ≢ Stopped
 
-  -- only the last job was stopped, where the worker was
+  -- only the last job was stopped, and only if the worker was
   abbrev pub EndsSo : LoopEnd → List (Work R K C) → Type 0
   EndsSo work.Idle works = All NotStopped works
   EndsSo work.Stopped works = (before : List (Work R K C)) × (last : Work R K C) × (works ≡ before ++ last ∷ []) × All NotStopped before × (last.end ≡ Stopped)
 
-  -- What a worker did, job by job: it popped these, in this order; its sittings are those of the jobs that were opened, each
-  -- with the asks of its job; it took and moved these amounts; and its gate was asked so, and told of each job once, in order.
+  -- The operations of a worker, job by job: it popped these, in this order; its sittings are those of the jobs that were
+  -- opened, each with the asks of its job; it took and moved these amounts; and its gate was called in this way, and told
+  -- of each job once, in order.
   pub record Did (k : Known R K C) (works : List (Work R K C)) (h h' : Hand (LaneJob R K C)) (v w : WorkerView) : Type 0 where
     pub each : All (IsWork k) works
     pub popped : h'.popped ≡ h.popped ++ map (λ job. job.job) works

@@ -1,11 +1,11 @@
-//! How a job ends, and why a worker returns.
+//! Ends of jobs, and of workers.
 
 ghost use Rattle.std.specs.Prelude.{◌≡◌};
 ghost use Rattle.transfer_worker.specs.Ends.{end_of, fault_of};
 
 use data_pump::{OpenFault, PumpEnd};
 
-/// How a job ended.
+/// The end of a job.
 #[derive(Clone, Copy, Debug, PartialEq, Eq)]
 pub enum JobEnd {
     Ended,
@@ -19,13 +19,13 @@ pub enum JobEnd {
 /// Why a worker returned.
 #[derive(Clone, Copy, Debug, PartialEq, Eq)]
 pub enum LoopEnd {
-    /// A pop gave nothing.
+    /// A pop returned nothing.
     Idle,
     /// The gate said `Stop`.
     Stopped,
 }
 
-/// The end of a job that the end of a pump is, or none if there is more.
+/// The end of a job for a pump's end; `None` if there is more.
 pub(crate) fn job_end(end: PumpEnd) -> Option<JobEnd>
     ensures end { result ≡ end_of end }
 {

@@ -8,7 +8,7 @@ ghost use Rattle.transfer_worker.specs.Passes.{PassCall, pass_call, Passes};
 
 use crate::end::JobEnd;
 
-/// Leave to go on.
+/// An answer of a gate.
 #[derive(Clone, Copy, Debug, PartialEq, Eq)]
 pub enum Go {
     On,
@@ -18,24 +18,24 @@ pub enum Go {
     Stop,
 }
 
-/// What is left of a job.
+/// The remnant of a job: its open ends, or nothing if it was not opened.
 pub trait Remnant: Drop {
-    /// Whether its job may be told to have ended so, where this was the answer of the last `pass`.
+    /// The ends of a job that may be reported after this answer of the last `pass`.
     ghost may_tell: { Self → Go → JobEnd → Type 0 };
 }
 
-/// What a worker asks before it goes on with a job, and tells how the job ended. `Q` is what it is given then.
+/// Permits a worker to continue a job, and receives the end of the job. `Q` is what is left of the job.
 pub trait Gate<Q: Remnant> {
     /// The answer of the last `pass`; `On` before the first.
     ghost last_go: { Self → Go };
 
-    /// The sessions and ends of the jobs that it was told of, if it keeps them.
+    /// The sessions and ends of the jobs reported, if it records them.
     ghost heard: { Self → Option (List (ℕ × JobEnd)) };
 
-    /// What `pass` was asked, and answered, if it keeps that.
+    /// The calls of `pass` with their answers, if it records them.
     ghost passed: { Self → Option (List PassCall) };
 
-    /// Returns whether the session's job may go on, which has moved so many octets. It may wait.
+    /// Returns whether the session's job, which has moved `moved` octets, may continue. It may wait.
     fn pass(&mut self, session: u32, moved: u64) -> Go
         ensures last { last_go self.new ≡ result }
         ensures heard { heard self.new ≡ heard self.old }
@@ -46,7 +46,7 @@ pub trait Gate<Q: Remnant> {
     fn last(&self) -> Go
         ensures last { result ≡ last_go self.now };
 
-    /// Takes the end of a job, once a job, with what is left of it.
+    /// Receives the end of a job, once per job, with what is left of the job.
     fn done(&mut self, session: u32, end: JobEnd, ran: Q)
         requires condition { Q.may_tell ran (last_go self.old) end }
         ensures last { last_go self.new ≡ last_go self.old }

@@ -1,10 +1,10 @@
-//! How a worker waits: for its gate, and for a grant.
+//! Waiting for a gate, and for a grant.
 
 ghost use Rattle.std.specs.Prelude.{◌≡◌, ℕ, false, IfSome, IfNone};
 ghost use Rattle.data_pump.specs.declared.pumped.PumpEnd.TheVariants.{More};
 ghost use Rattle.desk_rule.specs.declared.view.SeatState.TheVariants.{Asked};
 ghost use Rattle.grant_ledger.specs.Books.{capped};
-ghost use Rattle.lane_seats.specs.Seats.{seat_view, IsSeatOf, IsSameSeat};
+ghost use Rattle.lane_desk.specs.Seats.{seat_view, IsSeatOf, IsSameSeat};
 ghost use Rattle.transfer_worker.specs.declared.gate.Go.TheVariants.{Stop};
 ghost use Rattle.transfer_worker.specs.Passes.{Passes, calls_until, go_of};
 ghost use Rattle.transfer_worker.specs.Runs.{worker};
@@ -17,13 +17,13 @@ use crate::job::Ran;
 use crate::running::Transfer;
 use data_pump::Pumped;
 use grant_ledger::Tally;
-use lane_seats::{Desk, LaneSeat};
+use lane_desk::{Desk, LaneSeat};
 use std::alloc::Allocator;
 use std::io::{Read, Write};
 use std::sync::Wait;
 use virtual_tree::{Sink, Source};
 
-/// Returns whether the gate lets a transfer go on. It asks again for as long as the gate says `Later`.
+/// Returns whether the gate lets a transfer continue. Asks again while the gate says `Later`.
 pub(crate) fn may_go_on<R, K, C, A, G, W>(
     rt: &W,
     gate: &mut G,

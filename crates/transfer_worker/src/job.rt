@@ -10,7 +10,7 @@ use virtual_tree::{Sink, Source};
 /// A transfer that waits for a worker.
 #[derive(Drop)]
 pub enum LaneJob<R: Source, K: Sink, C: Read + Write + Drop> {
-    /// A file goes to the client.
+    /// A file is sent to the client.
     Send {
         user: u32,
         session: u32,
@@ -18,7 +18,7 @@ pub enum LaneJob<R: Source, K: Sink, C: Read + Write + Drop> {
         connection: C,
         data_type: DataType,
     },
-    /// A file comes from the client.
+    /// A file is received from the client.
     Take {
         user: u32,
         session: u32,
@@ -28,7 +28,7 @@ pub enum LaneJob<R: Source, K: Sink, C: Read + Write + Drop> {
     },
 }
 
-/// What is left of a job.
+/// The remnant of a job.
 #[derive(Drop)]
 pub enum Ran<R: Source, K: Sink, C: Read + Write + Drop, A: Allocator = Global> {
     Out(DataOut<R, C, A>),

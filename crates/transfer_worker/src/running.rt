@@ -5,7 +5,7 @@ ghost use Rattle.data_pump.specs.declared.pumped.PumpEnd.TheVariants.{More};
 ghost use Rattle.desk_rule.specs.declared.view.SeatState.TheVariants.{Asked};
 ghost use Rattle.desk_rule.specs.Lanes.{has_looked, has_taken};
 ghost use Rattle.grant_ledger.specs.Books.{capped};
-ghost use Rattle.lane_seats.specs.Seats.{seat_view, IsSeatOf, IsSameSeat};
+ghost use Rattle.lane_desk.specs.Seats.{seat_view, IsSeatOf, IsSameSeat};
 ghost use Rattle.transfer_worker.specs.declared.gate.Go.{Go};
 ghost use Rattle.transfer_worker.specs.Ends.{EndsAs, MayTell};
 ghost use Rattle.transfer_worker.specs.Turns.{IsTold};
@@ -15,13 +15,13 @@ use crate::job::Ran;
 use crate::turns::{turn_in, turn_out};
 use data_pump::{DataIn, DataOut, PumpEnd, Pumped};
 use grant_ledger::Tally;
-use lane_seats::{Desk, LaneSeat};
+use lane_desk::{Desk, LaneSeat};
 use line_rates::Ask;
 use std::alloc::Allocator;
 use std::io::{Read, Write};
 use virtual_tree::{Sink, Source};
 
-/// The pump of a transfer, opened.
+/// The pump of an open transfer.
 #[derive(Drop)]
 pub(crate) enum Running<R: Source, K: Sink, C: Read + Write + Drop, A: Allocator> {
     Out(DataOut<R, C, A>),
@@ -31,7 +31,7 @@ pub(crate) enum Running<R: Source, K: Sink, C: Read + Write + Drop, A: Allocator
 impl<R: Source, K: Sink, C: Read + Write + Drop, A: Allocator> Running<R, K, C, A> {
     ghost use Rattle.transfer_worker.specs.Transfers.{known, flow_of, way_in, last_in, waiting_in, Pumps};
 
-    // What it asks a round for.
+    // The ask for a round.
     fn ask(&self, user: u32, session: u32) -> Ask
         ensures user { result.user ≡ user }
         ensures session { result.session ≡ session }
@@ -44,7 +44,7 @@ impl<R: Source, K: Sink, C: Read + Write + Drop, A: Allocator> Running<R, K, C, 
         }
     }
 
-    // Takes the grant that answers the ask, and pumps and spends it.
+    // Takes the grant that answers the ask, pumps it, and spends it.
     fn turn<N, D: Allocator>(
         &mut self,
         desk: &Desk<N, D>,
@@ -71,7 +71,7 @@ impl<R: Source, K: Sink, C: Read + Write + Drop, A: Allocator> Running<R, K, C, 
         }
     }
 
-    // What is left of it.
+    // Returns the remnant of the transfer.
     fn into_ran(self) -> Ran<R, K, C, A>
         ensures ends { (go : Go) (end : JobEnd) → EndsAs go (last_in (flow_of self)) end
             → MayTell go end result }
@@ -83,7 +83,7 @@ impl<R: Source, K: Sink, C: Read + Write + Drop, A: Allocator> Running<R, K, C, 
     }
 }
 
-/// A transfer in progress: for whom it runs, and the octets that it has moved, at most 2^64 - 1.
+/// A transfer in progress: its user and session, and the octets that it has moved, at most 2^64 - 1.
 #[derive(Drop)]
 pub(crate) struct Transfer<R: Source, K: Sink, C: Read + Write + Drop, A: Allocator> {
     pub(crate) user: u32,
@@ -95,7 +95,7 @@ pub(crate) struct Transfer<R: Source, K: Sink, C: Read + Write + Drop, A: Alloca
 impl<R: Source, K: Sink, C: Read + Write + Drop, A: Allocator> Transfer<R, K, C, A> {
     ghost use Rattle.transfer_worker.specs.Transfers.{known, flow_of, way_in, last_in, waiting_in, Pumps};
 
-    /// What it asks a round for.
+    /// The ask for a round.
     pub(crate) fn ask(&self) -> Ask
         ensures user { result.user ≡ self.now.user }
         ensures session { result.session ≡ self.now.session }
@@ -105,7 +105,8 @@ impl<R: Source, K: Sink, C: Read + Write + Drop, A: Allocator> Transfer<R, K, C,
         self.running.ask(self.user, self.session)
     }
 
-    /// Takes the grant that answers the ask, and pumps and spends it. Returns none if there is none yet.
+    /// Takes the grant that answers the ask, pumps it, and spends it. Returns `None` if there is none
+    /// yet.
     pub(crate) fn turn<N, D: Allocator>(
         &mut self,
         desk: &Desk<N, D>,
@@ -135,7 +136,7 @@ impl<R: Source, K: Sink, C: Read + Write + Drop, A: Allocator> Transfer<R, K, C,
         Some(pumped)
     }
 
-    /// What is left of it.
+    /// Returns the remnant of the transfer.
     pub(crate) fn into_ran(self) -> Ran<R, K, C, A>
         ensures ends { (go : Go) (end : JobEnd) → EndsAs go
             (last_in (flow_of self.running)) end

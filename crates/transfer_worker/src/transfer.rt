@@ -3,7 +3,7 @@
 ghost use Rattle.std.specs.Prelude.{◌≡◌, ℕ, true, false};
 ghost use Rattle.data_pump.specs.declared.pumped.PumpEnd.TheVariants.{More};
 ghost use Rattle.desk_rule.specs.declared.view.SeatState.TheVariants.{Free};
-ghost use Rattle.lane_seats.specs.Seats.{seat_view, IsSeatOf, IsSameSeat};
+ghost use Rattle.lane_desk.specs.Seats.{seat_view, IsSeatOf, IsSameSeat};
 ghost use Rattle.transfer_worker.specs.Runs.{worker};
 ghost use Rattle.transfer_worker.specs.Transfers.{known, flow_of, last_in};
 ghost use Rattle.transfer_worker.specs.Turns.{IsTold};
@@ -16,14 +16,14 @@ use crate::job::{LaneJob, Ran};
 use crate::running::{Running, Transfer};
 use data_pump::{DataIn, DataOut};
 use grant_ledger::Tally;
-use lane_seats::{Desk, LaneSeat};
+use lane_desk::{Desk, LaneSeat};
 use std::alloc::Allocator;
 use std::io::{Read, Write};
 use std::sync::Wait;
 use virtual_tree::{Sink, Source};
 
 /// Sits down, asks, takes and pumps until the transfer has ended, and rises. Returns true if the gate said `Stop`: a seat
-/// that had asked then stays as it is.
+/// that had asked then keeps that state.
 fn run_transfer<R, K, C, A, G, W, N, D>(
     rt: &W,
     desk: &Desk<N, D>,
@@ -81,9 +81,9 @@ where
     unreachable!()
 }
 
-/// Opens one job and runs it to its end over a seat that is lent with its tally, as `worker_loop` runs each that it pops.
-/// Returns true if the gate said `Stop`: the seat may then have asked, and stays so for whoever closes the desk. A job that
-/// cannot be opened is told to have ended, and the seat does not sit down for it.
+/// Opens one job and runs it to its end over a seat that is lent with its tally, as `worker_loop` runs each job that it
+/// pops. Returns true if the gate said `Stop`: the seat may then have asked, and keeps that state for the closing of the
+/// desk. For a job that cannot be opened, its end is reported and the seat does not sit down.
 pub fn run_job<R, K, C, A, G, W, N, D>(
     rt: &W,
     alloc: A,

@@ -1,9 +1,9 @@
-//! One turn of a transfer: it takes the grant that waits on its lane, and pumps it.
+//! One turn of a transfer: takes the grant that waits on its lane, and pumps it.
 
 ghost use Rattle.std.specs.Prelude.{◌≡◌, ◌+◌, ℕ, List, ◌++◌, Some, IfSome, IfNone, sum};
 ghost use Rattle.desk_rule.specs.declared.view.SeatState.TheVariants.{Asked};
 ghost use Rattle.desk_rule.specs.Lanes.{has_looked};
-ghost use Rattle.lane_seats.specs.Seats.{seat_view, IsSeatOf, IsSameSeat};
+ghost use Rattle.lane_desk.specs.Seats.{seat_view, IsSeatOf, IsSameSeat};
 ghost use Rattle.data_pump.specs.Downloads.{IsSending};
 ghost use Rattle.data_pump.specs.Uploads.{IsReceiving};
 ghost use Rattle.data_pump.specs.WireText.{received};
@@ -11,13 +11,13 @@ ghost use Rattle.transfer_worker.specs.Turns.{TurnsOut, TurnsIn, IsTold};
 
 use data_pump::{DataIn, DataOut, PumpEnd, Pumped, pump_in, pump_out};
 use grant_ledger::Tally;
-use lane_seats::{Desk, LaneSeat};
+use lane_desk::{Desk, LaneSeat};
 use std::alloc::Allocator;
 use std::io::{Read, Write};
 use virtual_tree::{Sink, Source};
 
-/// Takes the grant that answers the ask, and pumps and spends it. Returns none, and changes nothing but the seat's count of
-/// looks, if there is none yet.
+/// Takes the grant that answers the ask, pumps it, and spends it. If there is none yet, returns `None` and changes only the
+/// seat's count of looks.
 pub fn turn_out<S: Source, K: Write + Drop, A: Allocator, N, D: Allocator>(
     desk: &Desk<N, D>,
     seat: &mut LaneSeat<N>,
@@ -46,8 +46,8 @@ pub fn turn_out<S: Source, K: Write + Drop, A: Allocator, N, D: Allocator>(
     }
 }
 
-/// Takes the grant that answers the ask, and pumps and spends it. Returns none, and changes nothing but the seat's count of
-/// looks, if there is none yet.
+/// Takes the grant that answers the ask, pumps it, and spends it. If there is none yet, returns `None` and changes only the
+/// seat's count of looks.
 pub fn turn_in<K: Read + Drop, T: Sink, A: Allocator, N, D: Allocator>(
     desk: &Desk<N, D>,
     seat: &mut LaneSeat<N>,

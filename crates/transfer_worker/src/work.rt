@@ -2,30 +2,29 @@
 
 ghost use Rattle.std.specs.Prelude.{◌≡◌, ℕ, List};
 ghost use Rattle.desk_rule.specs.declared.view.SeatState.TheVariants.{Free};
-ghost use Rattle.job_board.specs.Boards.{done_by, IsOfBoard, IsSameBoard};
-ghost use Rattle.job_board.specs.Order.{ShowsHeld};
-ghost use Rattle.lane_seats.specs.Seats.{seat_view, IsSeatOf, IsSameSeat};
+ghost use Rattle.transfer_worker.specs.Boards.{done_by, IsOfBoard, IsSameBoard};
+ghost use Rattle.transfer_worker.specs.Order.{ShowsHeld};
+ghost use Rattle.lane_desk.specs.Seats.{seat_view, IsSeatOf, IsSameSeat};
 ghost use Rattle.transfer_worker.specs.declared.end.LoopEnd.TheVariants.{Idle};
 ghost use Rattle.transfer_worker.specs.Runs.{worker};
 ghost use Rattle.transfer_worker.specs.Transfers.{known};
 ghost use Rattle.transfer_worker.specs.Works.{Works};
 
+use crate::board::{BoardPass, JobBoard};
 use crate::end::LoopEnd;
 use crate::gate::Gate;
 use crate::job::{LaneJob, Ran};
 use crate::transfer::run_job;
-use job_board::{BoardPass, JobBoard};
-use lane_desk::Worked;
-use lane_seats::Desk;
+use lane_desk::{Desk, Worked};
 use std::alloc::Allocator;
 use std::io::{Read, Write};
 use std::sync::Wait;
 use virtual_tree::{Sink, Source};
 
-/// Pops jobs and runs each to its end, until a pop gives nothing or the gate says `Stop`.
+/// Pops jobs and runs each to its end, until a pop returns nothing or the gate says `Stop`.
 ///
-/// After `Stop` in the middle of a job the seat may have asked: it stays so for whoever closes the desk. A buffer of each
-/// transfer is the only memory that is taken; a job for which there is none ends as `Memory`.
+/// After `Stop` in the middle of a job the seat may have asked: it keeps that state for the closing of the desk. The only
+/// memory allocated is a buffer for each transfer; a job without memory for it ends as `Memory`.
 pub fn worker_loop<R, K, C, A, G, W, N, D, B>(
     rt: &W,
     alloc: A,

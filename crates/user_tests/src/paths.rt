@@ -1,4 +1,4 @@
-//! The paths that are made of one, the parts of paths, and their bounds.
+//! Paths made from a path, the parts of paths, and their bounds.
 
 use crate::expect::{holds, reads, same};
 use std::alloc::{Allocator, Global};
@@ -13,25 +13,25 @@ fn virtual_path(rt: &(impl Abort + AllocGlobal)) -> Result<(), PathFault> {
     Ok(())
 }
 
-/// What is made of a path.
+/// An operation on a path.
 #[derive(Clone, Copy)]
-pub enum Making {
+pub(crate) enum Making {
     Resolve(&'static str),
     Child(&'static str),
-    /// The path of a text below it.
+    /// The path of a text below this one.
     Joined(&'static str),
-    /// Of the root, the root.
+    /// Of the root: the root.
     Parent,
     Clone,
 }
 
-/// The path of a text, from the root.
-pub fn path_of<A: Allocator + Copy>(rt: &impl Abort, alloc: A, text: &str) -> VPath<A> {
+/// Of the root: the root.
+pub(crate) fn path_of<A: Allocator + Copy>(rt: &impl Abort, alloc: A, text: &str) -> VPath<A> {
     VPath::root(alloc).resolve(alloc, text).expect(rt, text)
 }
 
-/// What is made of a path.
-pub fn made<A: Allocator + Copy>(
+/// The result of an operation on a path.
+pub(crate) fn made<A: Allocator + Copy>(
     rt: &impl Abort,
     alloc: A,
     from: &VPath<A>,
@@ -46,7 +46,7 @@ pub fn made<A: Allocator + Copy>(
     }
 }
 
-/// The path that was made, or the fault, has this text.
+/// The resulting path, or the fault, has this text.
 fn tells(rt: &(impl Abort + AllocGlobal), found: Result<VPath, PathFault>, wanted: &str) {
     match found {
         Ok(path) => same(rt, &path.text(), &wanted),
@@ -54,7 +54,7 @@ fn tells(rt: &(impl Abort + AllocGlobal), found: Result<VPath, PathFault>, wante
     }
 }
 
-/// A path, what is made of it, and the text of that or of the fault.
+/// A path, an operation, and the text of the result or of the fault.
 static MADE: &[(&str, Making, &str)] = &[
     ("/home/ann", Making::Resolve(""), "/home/ann"),
     ("/home/ann", Making::Resolve("x"), "/home/ann/x"),
@@ -77,7 +77,7 @@ static MADE: &[(&str, Making, &str)] = &[
     ("/", Making::Parent, "/"),
 ];
 
-/// A path, its names with a `+` before each, how many they are, the last one, and the text of its parent.
+/// A path, its names with a `+` before each, their number, the last one, and the text of its parent.
 type Parts = (
     &'static str,
     &'static str,
@@ -100,7 +100,7 @@ static BENEATH: &[(&str, &str, bool)] = &[
     ("/ab", "/a", false),
 ];
 
-/// A text, and whether it is a name that a path may hold.
+/// A text, and whether it is a name that a path may contain.
 static NAMES: &[(&str, bool)] = &[
     ("a", true),
     ("...", true),
@@ -164,7 +164,7 @@ fn paths(rt: HostRuntime) {
 
 const TOO_LONG: &str = "a name or the path is too long";
 
-/// Sixteen names, each as long as can be.
+/// Sixteen names of the longest length.
 fn longest(rt: &impl Abort, alloc: Global) -> VPath {
     let name = "a".repeat(alloc, LONGEST_NAME).expect(rt, "memory");
     holds(rt, is_name(name.as_str()));

@@ -1,4 +1,4 @@
-//! Each growth of each call refused in turn: paths and users are as before, and the call passes once there is memory.
+//! Each growth of each call refused in turn: paths and users are unchanged, and the call passes once there is memory.
 
 use crate::expect::holds;
 use crate::paths::{Making, made, path_of};
@@ -6,11 +6,11 @@ use crate::steps::{Change, Known, Step, follow, make_change, take};
 use crate::users::{FIRST, NOBODY};
 use authorizer::{Authorizer, AuthorizerFault};
 use linked_list_allocator::LocalHeap;
-use scarce_memory::{HEAP, leave_hole};
 use std::process::Abort;
+use test_scarce_memory::{HEAP, leave_hole};
 use virtual_path::VPath;
 
-/// What is made of a path in memory; nothing stands for its names.
+/// The operations on a path in memory; `None` is its names.
 static MADE: [Option<Making>; 6] = [
     None,
     Some(Making::Parent),
@@ -20,7 +20,7 @@ static MADE: [Option<Making>; 6] = [
     Some(Making::Resolve("a/rather/long/way/to/go")),
 ];
 
-/// Whether a call finds no memory in a heap.
+/// Returns whether a call finds no memory in a heap.
 fn is_lacking<'h>(
     rt: &impl Abort,
     heap: &'h LocalHeap,
@@ -44,7 +44,7 @@ fn refuse_in_turn<'h>(
         let rest = leave_hole(rt, heap, 16 * step).expect(rt, "memory");
         let refused = is_lacking(rt, heap, path, making);
         drop(rest);
-        // With no room it is refused, and with much not.
+        // With no room it is refused, and with enough it is not.
         holds(rt, if refused { step < 31 } else { step > 0 });
         // Once there is memory again, it passes.
         holds(rt, !is_lacking(rt, heap, path, making));
@@ -67,7 +67,7 @@ static FILLED: &[Step] = &[
     Step::Done(Change::Override("ann", "/in", "a", false)),
 ];
 
-/// What still holds after a refused one.
+/// The users after a refused one.
 static AS_BEFORE: &[Step] = &[
     Step::Is(FIRST),
     Step::Password("ann", "secret", true),
@@ -80,7 +80,7 @@ static AS_BEFORE: &[Step] = &[
     }),
 ];
 
-/// The calls, whether they take memory, and what holds after them. Refusals have used no number up.
+/// The calls, whether they allocate, and the users after them. Refusals have used up no number.
 static CALLS: &[(Change, bool, Step)] = &[
     (
         Change::Add("bob", "hidden", "/home/bob", "elr"),
@@ -139,7 +139,7 @@ static CALLS: &[(Change, bool, Step)] = &[
     ),
 ];
 
-/// Makes a call in a heap that has only one hole of some octets.
+/// Makes a call in a heap with only one hole of some octets.
 fn fault_in_hole<'h>(
     rt: &(impl Abort + AllocGlobal),
     heap: &'h LocalHeap,
@@ -153,7 +153,7 @@ fn fault_in_hole<'h>(
     fault
 }
 
-/// Makes a call so, and again where it was refused. Answers whether it was.
+/// Makes a call in this way, and again if it was refused. Returns whether it was.
 fn is_refused_at_first<'h>(
     rt: &(impl Abort + AllocGlobal),
     heap: &'h LocalHeap,
@@ -170,7 +170,7 @@ fn is_refused_at_first<'h>(
     true
 }
 
-/// Whether a call of new users is refused where there is only so little room.
+/// Returns whether a call on new users is refused with this little room.
 fn is_refused(
     rt: &(impl Abort + AllocGlobal),
     call: Change,
@@ -185,7 +185,7 @@ fn is_refused(
     refused
 }
 
-/// How many growths of a call are refused before it passes.
+/// Number of growths of a call that are refused before it passes.
 fn count_refused(rt: &(impl Abort + AllocGlobal), call: Change, afterwards: &Step) -> usize {
     for step in 0..512usize {
         if !is_refused(rt, call, afterwards, 16 * step) {

@@ -1,4 +1,4 @@
-//! Steps of a script on users: changes, and questions with their answers.
+//! Steps of a script on users: changes, and queries with their results.
 
 use crate::expect::{holds, reads, same};
 use crate::paths::path_of;
@@ -9,7 +9,7 @@ use std::process::Abort;
 
 /// A change to users. The first text of all but `AddAnonymous` is the user's name.
 #[derive(Clone, Copy)]
-pub enum Change {
+pub(crate) enum Change {
     /// With a password, a home and letters.
     Add(&'static str, &'static str, &'static str, &'static str),
     /// With a home and letters.
@@ -17,14 +17,14 @@ pub enum Change {
     Remove(&'static str),
     /// At a path, with letters, and whether they count beneath it too.
     Override(&'static str, &'static str, &'static str, bool),
-    /// At login, and at the end.
+    /// At login and at the end.
     Messages(&'static str, &'static str, &'static str),
     Group(&'static str, Option<u32>),
 }
 
-/// What is known of the user of a name. There is no such user: nothing.
+/// Known properties of the user with a name; `None` if there is no such user.
 #[derive(Clone, Copy)]
-pub struct Known {
+pub(crate) struct Known {
     pub name: &'static str,
     pub number: Option<u32>,
     pub group: Option<u32>,
@@ -35,20 +35,20 @@ pub struct Known {
 }
 
 #[derive(Clone, Copy)]
-pub enum Step {
+pub(crate) enum Step {
     /// A change that is made.
     Done(Change),
     /// A change that is refused, and the text of its fault.
     Refused(Change, &'static str),
     Is(Known),
-    /// A name, a path, and the letters that the user holds there, where there is such a user.
+    /// A name, a path, and the user's letters there, if there is such a user.
     May(&'static str, &'static str, Option<&'static str>),
-    /// A name, a password, and whether it lets the user in.
+    /// A name, a password, and whether the user may log in with it.
     Password(&'static str, &'static str, bool),
 }
 
-/// Makes a change.
-pub fn make_change<A: Allocator + Clone>(
+/// Carries out a change.
+pub(crate) fn make_change<A: Allocator + Clone>(
     rt: &impl Abort,
     users: &mut Authorizer<A>,
     change: Change,
@@ -69,7 +69,7 @@ pub fn make_change<A: Allocator + Clone>(
     }
 }
 
-/// This is known of the user of a name.
+/// The user with a name has these properties.
 fn check_known<A: Allocator + Clone>(rt: &impl Abort, users: &Authorizer<A>, known: &Known) {
     let name = known.name;
     same(rt, &users.has_user(name), &known.number.is_some());
@@ -96,7 +96,7 @@ static LETTERS: [Letter; 8] = [
     Letter::Store,
 ];
 
-/// A user holds just these letters at a path.
+/// A user has exactly these letters at a path.
 fn check_letters<A: Allocator + Clone>(
     rt: &(impl Abort + AllocGlobal),
     users: &Authorizer<A>,
@@ -116,7 +116,7 @@ fn check_letters<A: Allocator + Clone>(
     }
 }
 
-/// A change is made, or is refused for a fault of this text.
+/// A change succeeds, or is refused for a fault with this text.
 fn check_change<A: Allocator + Clone>(
     rt: &(impl Abort + AllocGlobal),
     users: &mut Authorizer<A>,
@@ -130,8 +130,8 @@ fn check_change<A: Allocator + Clone>(
     }
 }
 
-/// Carries out one step, and stops the test where it has not the answer that is wanted.
-pub fn take<A: Allocator + Clone>(
+/// Carries out one step, and stops the test if its result is wrong.
+pub(crate) fn take<A: Allocator + Clone>(
     rt: &(impl Abort + AllocGlobal),
     users: &mut Authorizer<A>,
     step: &Step,
@@ -148,7 +148,7 @@ pub fn take<A: Allocator + Clone>(
 }
 
 /// Carries out steps, one after another.
-pub fn follow<A: Allocator + Clone>(
+pub(crate) fn follow<A: Allocator + Clone>(
     rt: &(impl Abort + AllocGlobal),
     users: &mut Authorizer<A>,
     steps: &[Step],

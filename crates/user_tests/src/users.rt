@@ -1,4 +1,4 @@
-//! Calls on users: that they succeed, and that the clauses mean what they should.
+//! Calls on users: they succeed, and the clauses mean what they should.
 
 use crate::expect::holds;
 use crate::paths::path_of;
@@ -25,8 +25,8 @@ const READS: Letters = Letters {
     ..Letters::NONE
 };
 
-/// What is known of a name that is no user's.
-pub const NOBODY: Known = Known {
+/// Known properties of a name without a user.
+pub(crate) const NOBODY: Known = Known {
     name: "bob",
     number: None,
     group: None,
@@ -36,8 +36,8 @@ pub const NOBODY: Known = Known {
     quit: None,
 };
 
-/// What is known of the first user, as they are added.
-pub const FIRST: Known = Known {
+/// Known properties of the first user, as added.
+pub(crate) const FIRST: Known = Known {
     name: "ann",
     number: Some(0),
     group: None,
@@ -47,7 +47,7 @@ pub const FIRST: Known = Known {
     quit: Some("Goodbye"),
 };
 
-/// An override covers its directory, a recursive one all beneath; the deepest decides.
+/// An override covers its directory, a recursive one everything beneath; the deepest decides.
 const OVERRIDES: &[Step] = &[
     Step::Done(Change::Add("ann", "secret", "/home/ann", "elr")),
     Step::Done(Change::Override("ann", "/in", "w", false)),
@@ -65,7 +65,7 @@ const OVERRIDES: &[Step] = &[
     Step::May("bob", "/", None),
 ];
 
-/// Numbers are not used again, and messages stand until others are set.
+/// Numbers are not used again, and messages are kept until others are set.
 const NUMBERS: &[Step] = &[
     Step::Done(Change::Add("ann", "x", "/home/ann", "elr")),
     Step::Done(Change::Add("bob", "x", "/", "elradfmw")),
@@ -121,7 +121,7 @@ const PASSWORDS: &[Step] = &[
     Step::Password("bob", "secret", false),
 ];
 
-/// The first refusal that applies is the answer.
+/// The first refusal that applies is the result.
 const REFUSALS: &[Step] = &[
     Step::Done(Change::Add("ann", "secret", "/", "elr")),
     Step::Refused(

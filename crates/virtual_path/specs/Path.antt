@@ -1,4 +1,4 @@
--- Paths of a virtual file system: the names that lead from its root to a place.
+-- Paths of a virtual file system: the names from its root to an entry.
 use Rattle.std.specs.Prelude.{◌≡◌, ◌≢◌, ℕ, ◌≤◌, ◌-◌, ◌==◌, Bool, false, cond, not, ◌||◌, ◌&&◌, List, [], ◌∷◌, ◌++◌, length, take, drop, slice_index, Result, Ok, Err, nat_lt, nat_eq, bytes_eq, codes}
 use Rattle.std.specs.List.{list_any, slice_split, join_with_byte, fold, AllByRecursion}
 use Rattle.ftp_terms.specs.Lines.{is_control, HasNoControl}
@@ -17,7 +17,7 @@ path_text path = 47 ∷ join_with_byte 47 path
 abbrev pub is_slash : ℕ → Bool
 is_slash octet = nat_eq octet 47
 
--- the names that a text gives, between its slashes; some may be empty
+-- the names in a text, between its slashes; some may be empty
 abbrev pub names_of : List ℕ → List (List ℕ)
 names_of text = slice_split is_slash text
 
@@ -25,7 +25,7 @@ names_of text = slice_split is_slash text
 abbrev pub parent_of : Path → Path
 parent_of path = take (length path - 1) path
 
--- where a name leads: an empty name and `.` stay, `..` goes up, any other goes down
+-- following a name: an empty name and `.` stay, `..` goes up, any other goes down
 abbrev pub through : Path → List ℕ → Path
 through path name = cond (bytes_eq name [] || bytes_eq name (codes ".")) path
     (cond (bytes_eq name (codes "..")) (parent_of path) (path ++ name ∷ []))
@@ -34,7 +34,7 @@ through path name = cond (bytes_eq name [] || bytes_eq name (codes ".")) path
 abbrev pub start_of : Path → List ℕ → Path
 start_of from text = cond (slice_index text 0 == 47) [] from
 
--- where a text leads, from a path on
+-- the path that a text leads to, from a path on
 abbrev pub named : Path → List ℕ → Path
 named from text = fold through (start_of from text) (names_of text)
 
@@ -44,21 +44,22 @@ is_long_name name = nat_lt LONGEST_NAME (length name)
 abbrev pub is_long : Path → Bool
 is_long path = nat_lt LONGEST_PATH (length (path_text path))
 
--- why a text names nothing from any path
+-- why a text is refused for any starting path
 abbrev pub text_refusal : List ℕ → Result (Unit {0}) PathFault
 text_refusal text = cond (list_any is_control text) (Err BadName)
     (cond (list_any is_long_name (names_of text)) (Err TooLong) (Ok tt))
 
--- what a text names, from a path on: its own refusal comes first, then that of the path's length
+-- the path that a text names, from a path on; the text's own refusal comes first, then that of the
+-- path's length
 abbrev pub resolved : Path → List ℕ → Result Path PathFault
 resolved from text = cond (list_any is_control text) (Err BadName)
     (cond (list_any is_long_name (names_of text) || is_long (named from text)) (Err TooLong) (Ok (named from text)))
 
--- one name further; the name may be none that leads elsewhere
+-- the text is one name that leads down: not empty, `.` or `..`, and without `/` and control octets
 abbrev pub is_one_name : List ℕ → Bool
 is_one_name name = not (bytes_eq name [] || bytes_eq name (codes ".") || bytes_eq name (codes "..") || list_any is_slash name || list_any is_control name)
 
--- a name that a path may hold, as a test
+-- whether a path may contain the name
 abbrev pub is_name : List ℕ → Bool
 is_name name = is_one_name name && not (is_long_name name)
 
@@ -67,7 +68,7 @@ child_of path name = cond (is_one_name name)
     (cond (is_long_name name || is_long (path ++ name ∷ [])) (Err TooLong) (Ok (path ++ name ∷ [])))
     (Err BadName)
 
--- a path from another one on
+-- a path below another one
 abbrev pub joined : Path → Path → Result Path PathFault
 joined home path = cond (is_long (home ++ path)) (Err TooLong) (Ok (home ++ path))
 
@@ -78,7 +79,7 @@ IsBeneath path above = (rest : Path) × (path ≡ above ++ rest)
 abbrev pub HasNoSlash : List ℕ → Type 0
 HasNoSlash name = AllByRecursion (λ octet. is_slash octet ≡ false) name
 
--- a name that a path may hold
+-- a name that a path may contain
 pub record IsName (name : List ℕ) : Type 0 where
   pub not_empty : name ≢ []
   pub not_dot : name ≢ codes "."
@@ -99,7 +100,7 @@ slashed (name ∷ names) = 47 ∷ name ++ slashed names
 abbrev pub names_in : List ℕ → Path
 names_in text = drop 1 (names_of text)
 
--- what a path keeps of its text
+-- the properties of a path's stored text
 pub record IsPathText (text : List ℕ) : Type 0 where
   pub names : AllNames (names_in text)
   pub slashes : slashed (names_in text) ≡ text

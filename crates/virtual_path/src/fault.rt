@@ -1,12 +1,12 @@
-//! Why a path is refused.
+//! Faults of paths.
 
 use std::alloc::AllocError;
 use thiserror::Error;
 
-/// Why a text names no path. They are looked for in this order.
+/// Why a text is not a path. They are checked in this order.
 #[derive(Clone, Copy, Debug, PartialEq, Eq, Error)]
 pub enum PathFault {
-    /// A name holds an octet below 32, or 127.
+    /// A name contains an octet below 32, or 127.
     #[error("a name holds a control octet")]
     BadName,
     /// A name has more than 255 octets, or the path's text more than 4,096.

@@ -1,7 +1,7 @@
 //! Paths of a virtual file system.
 //!
-//! A [`VPath`] is the names that lead from a root to a place. No name in it is empty, `.` or `..`,
-//! so no path leaves its root (compare RFC 3986, section 5.2.4).
+//! A [`VPath`] is the names from a root to an entry. No name in it is empty, `.` or `..`, so no
+//! path leaves its root (compare RFC 3986, section 5.2.4).
 //!
 //! ```text
 //! let home = VPath::root(rt.alloc()).resolve(rt.alloc(), "/home/ann")?;
@@ -19,8 +19,8 @@ pub use fault::PathFault;
 pub use path::VPath;
 pub use walk::{is_name, parent_text};
 
-/// The most octets that a name may have.
+/// Longest name, in octets.
 pub const LONGEST_NAME: usize = 255;
 
-/// The most octets that a path's text may have.
+/// Longest text of a path, in octets.
 pub const LONGEST_PATH: usize = 4096;

@@ -1,4 +1,4 @@
-//! A path as one value.
+//! Paths as values.
 
 ghost use Rattle.std.specs.Prelude.{◌≡◌, ◌≢◌, ◌≤◌, ◌++◌, ◌∷◌, [], length, map, IsTrue, ◌↔◌, IfOk, IfSome, MatchOption, Ok, Err};
 ghost use Rattle.ftp_terms.specs.Lines.{IsLine};
@@ -13,7 +13,7 @@ use crate::{LONGEST_NAME, LONGEST_PATH};
 use std::alloc::{AllocError, Allocator, Global};
 use std::marker::Model;
 
-/// A path from a root: the names that lead there.
+/// A path from a root: the names that lead to an entry.
 #[derive(Drop)]
 pub struct VPath<A: Allocator = Global> {
     // `/` before each name, so that the root needs no memory
@@ -33,7 +33,7 @@ impl<A: Allocator> Model for VPath<A> {
 }
 
 impl<A: Allocator> VPath<A> {
-    /// The root, which takes no memory.
+    /// The root, which needs no memory.
     pub fn root(alloc: A) -> VPath<A>
         ensures root { result ≡ [] }
     {
@@ -52,10 +52,10 @@ impl<A: Allocator> VPath<A> {
         shown(self.text.as_str())
     }
 
-    /// The path that a text names, from this one on.
+    /// The path that a text names, starting from this one.
     ///
-    /// A text that begins with `/` starts at the root. Empty names and `.` are passed over, and `..`
-    /// goes up one name, at the root none.
+    /// A text that begins with `/` starts at the root. Empty names and `.` are skipped, and `..` goes up one
+    /// name, or stays at the root.
     pub fn resolve(&self, alloc: A, text: &str) -> Result<VPath<A>, PathFault>
         ensures path { AsDefined PathFault.Memory result (resolved self.now text.now) }
         ensures names { IfOk result AllNames }
@@ -69,7 +69,7 @@ impl<A: Allocator> VPath<A> {
         Ok(VPath { text: whole })
     }
 
-    /// How many names lead there.
+    /// Number of names in the path.
     pub fn depth(&self) -> usize
         ensures depth { result ≡ length self.now }
     {
@@ -82,14 +82,14 @@ impl<A: Allocator> VPath<A> {
         self.text.as_str().is_empty()
     }
 
-    /// The names that lead there, from the root on.
+    /// The names in the path, from the root on.
     pub fn names<B: Allocator>(&self, alloc: B) -> Result<Vec<&str, B>, AllocError>
         ensures names { IfOk result (λ names. map (λ name. name.now) names.items ≡ self.now) }
     {
         self.text.as_str().split('/').skip(1).collect(alloc)
     }
 
-    /// The last name, on one line; the root has none.
+    /// The last name, a one-line text; `None` for the root.
     pub fn file_name(&self) -> Option<&str>
         ensures line { IfSome result (λ name. IsLine name.now) }
         ensures name { MatchOption result (self.now ≡ [])
@@ -99,7 +99,7 @@ impl<A: Allocator> VPath<A> {
         Some(name)
     }
 
-    /// The text of the path without its last name; the root has none.
+    /// The text of the path without its last name; `None` for the root.
     pub fn parent_text(&self) -> Option<&str>
         ensures parent { MatchOption result (self.now ≡ []) (λ text. (self.now ≢ [])
             × (text.now ≡ path_text (parent_of self.now))) }
@@ -108,7 +108,7 @@ impl<A: Allocator> VPath<A> {
         Some(shown(front))
     }
 
-    /// The path without its last name; the root has none.
+    /// The path without its last name; `None` for the root.
     pub fn parent<B: Allocator>(&self, alloc: B) -> Result<Option<VPath<B>>, AllocError>
         ensures parent { IfOk result
             (λ answer. MatchOption answer (self.now ≡ []) (λ parent. (self.now ≢ [])
@@ -129,9 +129,9 @@ impl<A: Allocator> VPath<A> {
         Ok(VPath { text })
     }
 
-    /// The path one name further.
+    /// The path with one more name.
     ///
-    /// `BadName` is for what is not one name: an empty text, `.`, `..`, or a text with `/` or a control octet.
+    /// Returns `BadName` for a text that is not one name: empty, `.`, `..`, or with `/` or a control octet.
     pub fn child<B: Allocator>(&self, alloc: B, name: &str) -> Result<VPath<B>, PathFault>
         ensures path { AsDefined PathFault.Memory result (child_of self.now name.now) }
     {
@@ -146,7 +146,7 @@ impl<A: Allocator> VPath<A> {
         Ok(VPath { text })
     }
 
-    /// `path` with this path as its root, as a user's path below the user's home.
+    /// `path` with this path as its root, such as a user's path below the user's home.
     pub fn joined<B: Allocator, C: Allocator>(
         &self,
         alloc: B,
@@ -162,7 +162,7 @@ impl<A: Allocator> VPath<A> {
         Ok(VPath { text })
     }
 
-    /// Whether this path is `above` or beneath it.
+    /// Returns whether this path is `above` or beneath it.
     pub fn starts_with<B: Allocator>(&self, above: &VPath<B>) -> bool
         ensures beneath { IsTrue result ↔ IsBeneath self.now above.now }
     {

@@ -1,6 +1,6 @@
 //! A path's text, walked name by name.
 //!
-//! The texts here have `/` before each name, so the root's is empty.
+//! These texts have `/` before each name, so the root's is empty.
 
 ghost use Rattle.std.specs.Prelude.{◌≡◌, ◌≢◌, ◌==◌, [], ◌++◌, ◌∷◌, cond, ◌||◌, length, nat_eq, slice_index, IsTrue, ◌↔◌, IfOk, OnOk, MatchOption};
 ghost use Rattle.std.specs.List.{count_by, fold, list_any, AllByRecursion};
@@ -18,8 +18,8 @@ fn has_control(text: &str) -> bool
     text.bytes().any(|octet| octet < 32 || octet == 127)
 }
 
-/// How many octets are `/`.
-pub fn count_slashes(octets: &[u8]) -> usize
+/// Number of octets that are `/`.
+pub(crate) fn count_slashes(octets: &[u8]) -> usize
     ensures count { result ≡ count_by is_slash octets.now }
 {
     octets.iter().filter(|octet| **octet == b'/').count()
@@ -38,7 +38,7 @@ fn has_long_name(text: &str) -> bool
 }
 
 /// Refuses a text with a control octet, or with a name that is too long.
-pub fn look_over(text: &str) -> Result<(), PathFault>
+pub(crate) fn look_over(text: &str) -> Result<(), PathFault>
     ensures refusal { result ≡ text_refusal text.now }
 {
     if has_control(text) {
@@ -50,8 +50,8 @@ pub fn look_over(text: &str) -> Result<(), PathFault>
     Ok(())
 }
 
-/// The text that `way` is followed from: none where it begins with `/`.
-pub fn start<A: Allocator>(alloc: A, from: &str, way: &str) -> Result<String<A>, AllocError>
+/// The text from which `way` is followed: empty if it begins with `/`.
+pub(crate) fn start<A: Allocator>(alloc: A, from: &str, way: &str) -> Result<String<A>, AllocError>
     ensures start { IfOk result
         (λ text. string_bytes text ≡ cond (slice_index way.now 0 == 47) [] from.now) }
 {
@@ -62,7 +62,7 @@ pub fn start<A: Allocator>(alloc: A, from: &str, way: &str) -> Result<String<A>,
     }
 }
 
-pub fn enter<A: Allocator>(text: &mut String<A>, name: &str) -> Result<(), AllocError>
+pub(crate) fn enter<A: Allocator>(text: &mut String<A>, name: &str) -> Result<(), AllocError>
     ensures enters { OnOk result (string_bytes text.new ≡ string_bytes text.old ++ 47 ∷ name.now) }
 {
     text.push('/')?;
@@ -105,8 +105,8 @@ pub fn walk<A: Allocator>(text: &mut String<A>, way: &str) -> Result<(), AllocEr
     Ok(())
 }
 
-/// What stands before and after the last `/`.
-pub fn split_last(text: &str) -> Option<(&str, &str)>
+/// The text before and after the last `/`.
+pub(crate) fn split_last(text: &str) -> Option<(&str, &str)>
     ensures parts { MatchOption result
         (HasNoSlash text.now)
         (λ parts. (text.now ≡ parts.0.now ++ 47 ∷ parts.1.now) × HasNoSlash parts.1.now) }
@@ -114,8 +114,8 @@ pub fn split_last(text: &str) -> Option<(&str, &str)>
     text.rsplit_once('/')
 }
 
-/// Whether a text is one name that leads down, and not elsewhere.
-pub fn is_one_name(name: &str) -> bool
+/// Returns whether a text is one name that leads down.
+pub(crate) fn is_one_name(name: &str) -> bool
     ensures one { result ≡ is_one_name name.now }
 {
     if name.is_empty() || name == "." || name == ".." {
@@ -127,7 +127,7 @@ pub fn is_one_name(name: &str) -> bool
     !has_control(name)
 }
 
-/// Whether a text is a name that a path may hold.
+/// Returns whether a path may contain the name.
 pub fn is_name(name: &str) -> bool
     ensures tested { result ≡ is_name name.now }
     ensures name { IsTrue result → IsName name.now }
@@ -139,14 +139,15 @@ pub fn is_name(name: &str) -> bool
     name.len() <= LONGEST_NAME
 }
 
-/// A path's text as a caller sees it: `/` at the root.
-pub fn shown(text: &str) -> &str
+/// A path's text as callers see it: `/` for the root.
+pub(crate) fn shown(text: &str) -> &str
     ensures shown { (path : Path) → text.now ≡ slashed path → result.now ≡ path_text path }
 {
     if text.is_empty() { "/" } else { text }
 }
 
-/// From a path's text as a caller sees it, the text of the path without its last name; the root has none.
+/// The text of the path without its last name, given a path's text as callers see it; `None` for the
+/// root.
 pub fn parent_text(text: &str) -> Option<&str>
     ensures parent { (path : Path) → AllNames path → text.now ≡ path_text path
         → MatchOption result (path ≡ []) (λ parent. (path ≢ [])
@@ -165,8 +166,8 @@ fn is_end_of_name(rest: &str) -> bool
     rest.is_empty() || rest.starts_with('/')
 }
 
-/// Whether a path's text is that of `above`, or goes on from it.
-pub fn is_beneath(text: &str, above: &str) -> bool
+/// Returns whether a path's text is that of `above`, or continues it.
+pub(crate) fn is_beneath(text: &str, above: &str) -> bool
     ensures beneath { (path : Path) (other : Path) → AllByRecursion HasNoSlash path
         → AllByRecursion HasNoSlash other → text.now ≡ slashed path → above.now ≡ slashed other
         → (IsTrue result ↔ IsBeneath path other) }

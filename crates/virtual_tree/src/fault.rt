@@ -1,27 +1,27 @@
-//! Why a store refuses.
+//! Faults of stores.
 
 use std::alloc::AllocError;
 use thiserror::Error;
 
-/// Why a store refuses a call. They are looked for in this order.
+/// Why a store refuses a call. They are checked in this order.
 #[derive(Clone, Copy, Debug, PartialEq, Eq, Error)]
 pub enum StoreFault {
-    /// Nothing stands at the path, or no directory above it.
+    /// There is no entry at the path, or no directory above it.
     #[error("not found")]
     NotFound,
-    /// A file stands where a directory is wanted.
+    /// A file is where a directory is needed.
     #[error("not a directory")]
     NotDir,
-    /// A directory stands where a file is wanted.
+    /// A directory is where a file is needed.
     #[error("a directory")]
     IsDir,
-    /// Something stands at the path already.
+    /// There is an entry at the path already.
     #[error("already exists")]
     Exists,
     /// The directory has entries.
     #[error("not empty")]
     NotEmpty,
-    /// The store's capacity would be passed.
+    /// The store's capacity would be exceeded.
     #[error("full")]
     Full,
     /// The device failed.
@@ -29,10 +29,10 @@ pub enum StoreFault {
     Device,
     #[error("out of memory")]
     Memory,
-    /// An offset above the file's length.
+    /// An offset is above the file's length.
     #[error("past the end")]
     PastEnd,
-    /// A rename of the root, to the root, or to a place beneath itself.
+    /// A rename of the root, to the root, or to a path beneath itself.
     #[error("inside itself")]
     Inside,
 }

@@ -1,8 +1,8 @@
-//! What a store of files and directories is.
+//! The interface of stores of files and directories.
 //!
-//! [`Store`] is the trait, with a written meaning: what each call with its answer makes of the store.
-//! Code over any store is proved once, from that meaning alone. Stores themselves stand in crates above:
-//! one in memory, one over a folder of the machine, and one that fails once.
+//! [`Store`] is the trait, with a formal meaning: the effect of each call with its result. Code over any
+//! store is proved once, from that meaning alone. The stores are in crates above: one in memory, one
+//! over a folder of the machine, and one that fails once.
 //!
 //! ```text
 //! let mut sink = store.open_write(path, WriteMode::New, 951_827_696_000)?;
@@ -20,6 +20,6 @@ mod mode;
 mod store;
 
 pub use fault::StoreFault;
-pub use listed::Listed;
+pub use listed::ListedEntry;
 pub use mode::WriteMode;
 pub use store::{Sink, Source, Store};

@@ -1,4 +1,4 @@
-//! What a listing tells.
+//! Entries in listings.
 
 ghost use Rattle.std.specs.Prelude.{IsTrue, string_bytes};
 ghost use Rattle.ftp_terms.specs.Lines.{IsLine};
@@ -7,9 +7,9 @@ ghost use Rattle.virtual_path.specs.Path.{is_name};
 use ftp_terms::Meta;
 use std::alloc::{Allocator, Global};
 
-/// An entry of a directory. Its name is one that a path may hold, so it stands on one line.
+/// An entry of a directory. Its name is one that a path may contain, so it is a one-line text.
 #[derive(Debug, Drop)]
-pub struct Listed<A: Allocator = Global> {
+pub struct ListedEntry<A: Allocator = Global> {
     pub name: String<A>,
     pub meta: Meta,
     pub ghost named: { IsTrue (is_name (string_bytes name)) },

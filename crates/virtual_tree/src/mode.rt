@@ -1,12 +1,12 @@
-//! How a file is opened.
+//! Modes of opening a file.
 
-/// Where the octets that are written to a file go.
+/// The position in a file where written octets go.
 #[derive(Clone, Copy, Debug, PartialEq, Eq)]
 pub enum WriteMode {
-    /// Into an empty file, which is made where none stands.
+    /// An empty file, which is created if there is none.
     New,
-    /// Behind the first octets, this many; the others are cut off.
+    /// After the first octets, this many; the others are cut off.
     At(u64),
-    /// Behind all octets of the file, which is made where none stands.
+    /// After all octets of the file, which is created if there is none.
     Append,
 }

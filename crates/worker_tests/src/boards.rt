@@ -1,13 +1,13 @@
-//! Boards, in one thread and between two. The function that bears the crate's name is the example at its head.
+//! Boards, in one thread and between two. The function with the crate's name is the example in its head.
 
-ghost use Rattle.job_board.specs.Boards.{IsOfBoard};
+ghost use Rattle.transfer_worker.specs.Boards.{IsOfBoard};
 
 use super::expect::holds;
-use job_board::{BoardFault, BoardPass, JobBoard, open_board};
 use std::sync::Wait;
 use std::test::*;
 use std::thread;
 use std::thread::Threads;
+use transfer_worker::{BoardFault, BoardPass, JobBoard, open_board};
 
 #[test]
 fn job_board(rt: HostRuntime) -> Result<(), Fail> {
@@ -42,7 +42,7 @@ fn put_all<R: Wait>(rt: &R, board: &JobBoard<u32>, pass: &mut BoardPass<u32>, co
     }
 }
 
-// Returns whether the numbers below `count` come, each once and in order, and then nothing.
+// Returns whether the numbers below `count` are popped, each once and in order, and then nothing.
 fn get_all<R: Wait>(rt: &R, board: &JobBoard<u32>, pass: &mut BoardPass<u32>, count: u32) -> bool
     requires board { IsOfBoard board.now pass.old }
 {

@@ -1,4 +1,4 @@
-//! An end in memory that only counts: file, sink and connection in one.
+//! An end in memory that only counts: file, sink and connection at once.
 
 ghost use Rattle.std.specs.Prelude.{◌≤◌, length};
 
@@ -6,14 +6,15 @@ use std::io;
 use std::io::{ErrorKind, Read, Write};
 use virtual_tree::{Sink, Source, StoreFault};
 
-/// It gives as much as it still has and fits, takes all, and fails once so many calls were made.
+/// It returns as much as it has left and fits, takes everything, and fails once this many calls
+/// were made.
 #[derive(Clone, Copy)]
 pub(crate) struct End {
-    /// The octets that it still gives.
+    /// The octets that it still returns.
     pub(crate) left: usize,
-    /// The octets that it took.
+    /// The octets that it has taken.
     pub(crate) taken: usize,
-    /// The calls that are made before one fails.
+    /// The number of calls before one fails.
     pub(crate) calls: usize,
 }
 

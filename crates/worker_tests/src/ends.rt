@@ -1,4 +1,4 @@
-//! Files, sinks and connections in memory, which say themselves whether they got what is wanted.
+//! Files, sinks and connections in memory that check themselves whether they got the expected octets.
 
 ghost use Rattle.std.specs.Prelude.{◌≡◌, ◌≤◌, length};
 
@@ -16,7 +16,7 @@ fn give(rest: &[u8], buffer: &mut [u8]) -> usize
     count
 }
 
-/// A file that is read: all that is left at once, and with a fault once so many reads were made.
+/// A file open for reading: returns all that is left at once, and fails once this many reads were made.
 #[derive(Drop)]
 pub(crate) struct File {
     pub(crate) rest: &'static [u8],
@@ -39,7 +39,7 @@ impl Source for File {
     }
 }
 
-/// A sink that takes just these octets, and refuses once so many writes were made.
+/// A sink that takes exactly these octets, and refuses once this many writes were made.
 #[derive(Drop)]
 pub(crate) struct Kept {
     pub(crate) wanted: &'static [u8],
@@ -63,7 +63,7 @@ impl Sink for Kept {
     }
 }
 
-/// A connection that gives octets, and takes just those that are wanted. It fails once so many writes were made.
+/// A connection that returns octets, and takes exactly those expected. It fails once this many writes were made.
 #[derive(Drop)]
 pub(crate) struct Line {
     pub(crate) rest: &'static [u8],

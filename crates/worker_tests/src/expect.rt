@@ -1,11 +1,11 @@
-//! What tests expect. A call costs the prover less than an `assert!` in its place.
+//! Expectations of the tests. A call costs the prover less than an `assert!` in its place.
 
 ghost use Rattle.std.specs.Prelude.{IsTrue};
 
 use line_rates::Limits;
 use std::process::Abort;
 
-/// Stops the test if this does not hold.
+/// Stops the test if this is false.
 pub(crate) fn holds(rt: &impl Abort, fact: bool)
     ensures so { IsTrue fact }
 {
@@ -14,9 +14,9 @@ pub(crate) fn holds(rt: &impl Abort, fact: bool)
 
 /// The name of the tests' books.
 #[derive(Clone, Copy)]
-pub struct OfTest;
+pub(crate) struct OfTest;
 
-/// Limits of the server's rate alone, or of nothing for 0.
+/// Limits with the server's rate alone; a rate of 0 limits nothing.
 pub(crate) fn limits(rt: &(impl Abort + AllocGlobal), rate: u64) -> Limits {
     Limits::of(rate, 0, 0, Vec::new(rt.alloc()), Vec::new(rt.alloc())).expect(rt, "limits")
 }

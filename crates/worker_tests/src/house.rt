@@ -1,4 +1,4 @@
-//! What the workers of these tests share, and a gate of theirs, which makes the rounds itself.
+//! The parts that the workers of these tests share, and their gate, which holds the rounds itself.
 
 use super::counted::End;
 use super::expect::OfTest;
@@ -13,15 +13,15 @@ use transfer_worker::{Gate, Go, JobEnd, LaneJob, Ran};
 /// A job of these tests.
 pub(crate) type Job = LaneJob<End, End, End>;
 
-/// The session whose transfer is held until that of `SECOND` has moved an octet.
+/// The session whose transfer is delayed until that of `SECOND` has moved an octet.
 pub(crate) const FIRST: u32 = 1;
 
 pub(crate) const SECOND: u32 = 2;
 
-/// How often a thread that is held yields in each turn.
+/// Number of yields of a delayed thread in each turn.
 const YIELDS: u32 = 100;
 
-/// The rounds, of which there is one a tick.
+/// The rounds, one per tick.
 pub(crate) struct Turns<B: PartsName> {
     rounds: LentRounds<B, OfTest>,
     moment: u64,
@@ -67,12 +67,12 @@ impl<B: PartsName> House<B> {
         &self.desk
     }
 
-    /// A round, unless another thread makes one.
+    /// Holds a round, unless another thread is holding one.
     pub(crate) fn serve<A: Allocator + Clone>(&self, alloc: A) {
         self.serve_under(alloc, &self.limits);
     }
 
-    /// A round under other limits, unless another thread makes one.
+    /// Holds a round under other limits, unless another thread is holding one.
     pub(crate) fn serve_under<A: Allocator + Clone>(&self, alloc: A, limits: &Limits) {
         match self.turns.try_lock() {
             Some(mut turns) => turns.round(alloc, &self.desk, limits),
@@ -92,14 +92,14 @@ impl<B: PartsName> House<B> {
     }
 }
 
-/// The gate of a worker. It gives leave so many times, then says `Stop`, and keeps the last end that it was told.
+/// The gate of a worker. It gives leave this many times, then says `Stop`, and records the last end reported.
 #[derive(Drop)]
 pub(crate) struct Keeper<'h, B: PartsName> {
     house: &'h House<B>,
     alloc: Global,
     passes: u64,
     last: Go,
-    /// How many jobs ended.
+    /// Number of jobs that ended.
     pub(crate) ended: u64,
     /// The session of the last of them, its end, and the octets that its sink took.
     pub(crate) heard: (u32, JobEnd, usize),
@@ -117,7 +117,7 @@ impl<'h, B: PartsName> Keeper<'h, B> {
         }
     }
 
-    // Holds the transfer of `FIRST`, and makes a round for another.
+    // Delays the transfer of `FIRST`, and holds a round for another.
     fn answer(&mut self, session: u32, moved: u64) -> Go {
         if self.passes == 0 {
             return Go::Stop;

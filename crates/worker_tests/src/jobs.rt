@@ -1,8 +1,8 @@
 //! Whole jobs in one thread, each to its end, and a loop of them.
 
 ghost use Rattle.std.specs.Prelude.{◌≡◌};
-ghost use Rattle.job_board.specs.Boards.{IsOfBoard, IsSameBoard};
-ghost use Rattle.lane_seats.specs.Seats.{desk_id};
+ghost use Rattle.transfer_worker.specs.Boards.{IsOfBoard, IsSameBoard};
+ghost use Rattle.lane_desk.specs.Seats.{desk_id};
 
 use super::counted::End;
 use super::expect::{OfTest, holds, limits};
@@ -11,21 +11,20 @@ use super::parts::{Lent, Opened};
 use super::shortages::{loop_without_memory, refuse_buffers};
 use ftp_terms::DataType;
 use grant_ledger::Settled;
-use job_board::{BoardPass, JobBoard, open_board};
 use lent_parts::{LentWorker, PartsName};
 use std::marker::Brand;
 use std::process::Abort;
 use std::sync::Wait;
-use transfer_worker::{JobEnd, LaneJob, LoopEnd, worker_loop};
+use transfer_worker::{BoardPass, JobBoard, JobEnd, LaneJob, LoopEnd, open_board, worker_loop};
 
 /// More calls than an end gets.
 const ALL: usize = 100;
 
-/// More leave than a transfer asks.
+/// More leave than a transfer needs.
 const LEAVE: u64 = 100;
 
-/// The octets of a file, the calls before it fails, those before the connection fails, and how often the gate gives leave;
-/// and the end of the download, and the octets moved till then.
+/// The octets of a file, the calls before it fails, those before the connection fails, and the number of leaves of the
+/// gate; and the end of the download, and the octets moved until then.
 type Download = (usize, usize, usize, u64, JobEnd, u64);
 
 static DOWNLOADS: [Download; 12] = [
@@ -40,14 +39,14 @@ static DOWNLOADS: [Download; 12] = [
     (140_000, ALL, 0, LEAVE, JobEnd::WriteFault, 0),
     (140_000, ALL, 1, LEAVE, JobEnd::WriteFault, 65_536),
     (140_000, ALL, 2, LEAVE, JobEnd::WriteFault, 131_072),
-    // no leave to ask, at first and later
+    // no leave to ask, initially and later
     (140_000, ALL, ALL, 0, JobEnd::Stopped, 0),
     (140_000, ALL, ALL, 2, JobEnd::Stopped, 65_536),
     (140_000, ALL, ALL, 4, JobEnd::Stopped, 131_072),
 ];
 
-/// The octets of a connection, the calls before it fails, those before the sink fails, and how often the gate gives leave; and
-/// the end of the upload, the octets moved, and those that the sink took.
+/// The octets of a connection, the calls before it fails, those before the sink fails, and the number of leaves of the
+/// gate; and the end of the upload, the octets moved, and those that the sink took.
 type Upload = (usize, usize, usize, u64, JobEnd, u64, usize);
 
 static UPLOADS: [Upload; 11] = [
@@ -58,11 +57,11 @@ static UPLOADS: [Upload; 11] = [
     (140_000, 1, ALL, LEAVE, JobEnd::ReadFault, 65_536, 65_536),
     (140_000, 2, ALL, LEAVE, JobEnd::ReadFault, 131_072, 131_072),
     (140_000, 3, ALL, LEAVE, JobEnd::ReadFault, 140_000, 140_000),
-    // a sink that fails at each write: what was read counts as moved
+    // a sink that fails at each write: octets read count as moved
     (140_000, ALL, 0, LEAVE, JobEnd::WriteFault, 65_536, 0),
     (140_000, ALL, 1, LEAVE, JobEnd::WriteFault, 131_072, 65_536),
     (140_000, ALL, 2, LEAVE, JobEnd::WriteFault, 140_000, 131_072),
-    // no leave to ask, at first and later
+    // no leave to ask, initially and later
     (140_000, ALL, ALL, 0, JobEnd::Stopped, 0, 0),
     (140_000, ALL, ALL, 2, JobEnd::Stopped, 65_536, 65_536),
 ];
@@ -95,7 +94,7 @@ fn upload(row: &Upload) -> Job {
     }
 }
 
-// Runs a job over a seat that is free. Returns its end, what its sink took, and whether the seat is free again.
+// Runs a job over a free seat. Returns its end, the octets that its sink took, and whether the seat is free again.
 fn run<B: PartsName>(
     rt: &(impl Abort + AllocGlobal + Wait),
     house: &House<B>,
@@ -114,7 +113,7 @@ fn run<B: PartsName>(
     (end, kept, worker.is_free())
 }
 
-// Runs each download and each upload of the tables. Returns the octets that they say were moved.
+// Runs each download and each upload of the tables. Returns the number of octets moved according to them.
 fn run_all<B: PartsName>(
     rt: &(impl Abort + AllocGlobal + Wait),
     house: &House<B>,
@@ -169,7 +168,7 @@ fn loop_over<B: PartsName>(
     LentWorker::new(seat, tally)
 }
 
-// A stop between an ask and its grant: the seat stays as it is. A grant that is posted later comes back.
+// A stop between an ask and its grant: the seat keeps its state. A grant posted later is given back.
 fn stop_after_an_ask<B: PartsName>(
     rt: &(impl Abort + AllocGlobal + Wait),
     house: &House<B>,
@@ -183,7 +182,7 @@ fn stop_after_an_ask<B: PartsName>(
     holds(rt, stopped == (JobEnd::Stopped, 0, false));
 }
 
-// All of it over the desk that the name names.
+// All of these over the desk with this name.
 fn run_named<B: PartsName>(rt: &(impl Abort + AllocGlobal + Wait), opened: Opened) -> (u64, Settled)
     requires desk { desk_id opened.desk ≡ B.desk }
     requires lanes { opened.desk.lanes ≡ B.lanes }

@@ -1,20 +1,20 @@
-//! A desk of two lanes, its parts lent, and settled when they have come back.
+//! A desk of two lanes, with its parts lent, and settled once they are returned.
 
 ghost use Rattle.std.specs.Prelude.{◌≡◌, ◌+◌, []};
 ghost use Rattle.desk_rule.specs.Lanes.{fresh, posted_in};
-ghost use Rattle.lane_seats.specs.Seats.{desk_id, seat_view, IsSeatOf};
-ghost use Rattle.round_desk.specs.Posted.{AllAnswered};
-ghost use Rattle.round_desk.specs.Turns.{turns, back, IsRoundOf};
+ghost use Rattle.lane_desk.specs.Seats.{desk_id, seat_view, IsSeatOf};
+ghost use Rattle.lane_desk.specs.Posted.{AllAnswered};
+ghost use Rattle.lane_desk.specs.Turns.{turns, back, IsRoundOf};
 
 use super::expect::OfTest;
 use super::house::House;
-use checked_desk::two_seats;
 use grant_ledger::{Book, Settled, Tally};
 use lane_desk::{Desk, LaneSeat, RoundDesk, Rounds, Worked, open_desk};
 use lent_parts::{LentDesk, LentRounds, LentWorker, PartsName, settle_lent};
 use line_rates::Limits;
 use std::process::Abort;
 use std::sync::Wait;
+use test_checked_desk::two_seats;
 
 /// A desk of two lanes, just opened, with its rounds, its seats, its book and a tally.
 pub(crate) struct Opened {
@@ -54,7 +54,7 @@ impl Opened {
     }
 }
 
-/// The parts of a desk, as its threads are lent them.
+/// The parts of a desk, as lent to its threads.
 pub(crate) struct Lent<B: PartsName> {
     pub(crate) house: House<B>,
     pub(crate) first: LentWorker<B, OfTest>,

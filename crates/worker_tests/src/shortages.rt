@@ -1,22 +1,24 @@
 //! Each growth of each call refused in turn: the call passes once there is memory.
 
 ghost use Rattle.std.specs.Prelude.{◌≡◌};
-ghost use Rattle.job_board.specs.Boards.{IsOfBoard, IsSameBoard};
+ghost use Rattle.transfer_worker.specs.Boards.{IsOfBoard, IsSameBoard};
 
 use super::counted::End;
 use super::expect::{OfTest, holds};
 use super::house::{House, Job};
 use ftp_terms::DataType;
-use job_board::{BoardFault, BoardPass, JobBoard, open_board};
 use lent_parts::{LentWorker, PartsName};
 use line_rates::Way;
 use linked_list_allocator::LocalHeap;
-use scarce_memory::{HEAP, leave_hole};
 use std::alloc::Global;
 use std::process::Abort;
 use std::sync::Wait;
 use std::test::Fail;
-use transfer_worker::{Gate, Go, JobEnd, LaneJob, LoopEnd, Remnant, worker_loop};
+use test_scarce_memory::{HEAP, leave_hole};
+use transfer_worker::{
+    BoardFault, BoardPass, Gate, Go, JobBoard, JobEnd, LaneJob, LoopEnd, Remnant, open_board,
+    worker_loop,
+};
 
 // Returns whether a board opens over this heap. If not, memory ran out.
 fn opens(rt: &impl Abort, heap: &LocalHeap) -> bool {
@@ -76,8 +78,8 @@ impl<Q: Remnant> Gate<Q> for Shut {
     }
 }
 
-/// Which way a job goes, its type, room in octets, and whether its buffers have it. Under TYPE A there are two, the smaller
-/// one first.
+/// The direction of a job, its type, room in octets, and whether it is enough for its buffers. Under TYPE A there are two,
+/// the smaller one first.
 type Buffers = (Way, DataType, usize, bool);
 
 static BUFFERS: [Buffers; 10] = [
@@ -117,7 +119,7 @@ fn job_of(row: &Buffers) -> Job {
     }
 }
 
-// Returns whether a job is opened over this heap, and then stopped. If not, it ends for want of memory.
+// Returns whether a job is opened over this heap, and then stopped. If not, it ends for lack of memory.
 fn is_opened<B: PartsName>(
     rt: &(impl Abort + Wait),
     heap: &LocalHeap,
@@ -142,7 +144,7 @@ fn is_opened<B: PartsName>(
     was_stopped
 }
 
-/// Each buffer of each job may be refused: the job ends so, and the next one is run as ever.
+/// Each buffer of each job may be refused: the job ends with that, and the next one is run as usual.
 pub(crate) fn refuse_buffers<B: PartsName>(
     rt: &(impl Abort + AllocGlobal + Wait),
     house: &House<B>,
@@ -160,14 +162,14 @@ pub(crate) fn refuse_buffers<B: PartsName>(
     }
 }
 
-/// A gate whose first rounds have no memory. Once a job has ended, all memory of the jobs is there.
+/// A gate whose first rounds have no memory. Once a job has ended, all memory of the jobs is available.
 #[derive(Drop)]
 struct Relief<'h, B: PartsName> {
     house: &'h House<B>,
     alloc: Global,
-    // has nothing left
+    // a full heap
     none: &'h LocalHeap,
-    // how many rounds yet have no memory
+    // number of further rounds without memory
     poor: u32,
     taken: Vec<Vec<u8, &'h LocalHeap>>,
     last: Go,
@@ -219,7 +221,7 @@ fn put_twice(
     holds(rt, first.is_ok() && second.is_ok());
 }
 
-// A loop over the jobs of a board, of which the first finds no memory in the heap.
+// A loop over the jobs of a board, the first of which finds no memory in the heap.
 fn loop_in_heap<B: PartsName>(
     rt: &(impl Abort + AllocGlobal + Wait),
     heap: &LocalHeap,
@@ -253,8 +255,8 @@ fn loop_in_heap<B: PartsName>(
     LentWorker::new(seat, tally)
 }
 
-/// A loop goes on behind a job that ended for want of memory; and a round that had none answers the next job by nothing, which
-/// asks again. Ten octets are moved.
+/// A loop continues after a job that ended for lack of memory; and a round without memory answers the next job with 0
+/// octets, and the job asks again. Ten octets are moved.
 pub(crate) fn loop_without_memory<B: PartsName>(
     rt: &(impl Abort + AllocGlobal + Wait),
     house: &House<B>,

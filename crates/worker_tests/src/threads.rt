@@ -1,9 +1,9 @@
-//! Two workers at once: the transfer of one is held until that of the other has moved an octet.
+//! Two workers at once: the transfer of one is delayed until that of the other has moved an octet.
 
 ghost use Rattle.std.specs.Prelude.{◌≡◌};
-ghost use Rattle.lane_seats.specs.Seats.{desk_id};
+ghost use Rattle.lane_desk.specs.Seats.{desk_id};
 ghost use Rattle.lent_parts.specs.Names.{IsPassOf};
-ghost use Rattle.job_board.specs.Boards.{board_id};
+ghost use Rattle.transfer_worker.specs.Boards.{board_id};
 
 use super::counted::End;
 use super::expect::{OfTest, holds, limits};
@@ -11,7 +11,6 @@ use super::house::{FIRST, House, Job, Keeper, SECOND};
 use super::parts::{Lent, Opened, settle_house};
 use ftp_terms::DataType;
 use grant_ledger::Settled;
-use job_board::{BoardPass, JobBoard, open_board};
 use lent_parts::{LentBoard, LentPass, LentWorker, PartsName};
 use std::alloc::Global;
 use std::marker::Brand;
@@ -19,9 +18,9 @@ use std::process::Abort;
 use std::sync::Wait;
 use std::thread;
 use std::thread::Threads;
-use transfer_worker::LaneJob;
+use transfer_worker::{BoardPass, JobBoard, LaneJob, open_board};
 
-/// How often a transfer is held before its worker gives up.
+/// Number of delays before a worker gives up.
 const MOST_TURNS: u64 = 100_000;
 
 // A file of 140,000 octets for a session.
@@ -45,7 +44,8 @@ fn file_for(session: u32) -> Job {
     }
 }
 
-/// A worker with a pass, and what it did: how many of its jobs ended, and whether it left off for want of jobs.
+/// A worker with a pass, and its record: the number of jobs that ended, and whether it stopped for lack of
+/// jobs.
 struct Hand<B: PartsName> {
     worker: LentWorker<B, OfTest>,
     pass: LentPass<B, Job>,
@@ -120,7 +120,7 @@ where
     });
 }
 
-// The workers of hands, in their order, and whether each ran one job.
+// The workers in order, and whether each ran one job.
 fn gather<B: PartsName>(
     rt: &(impl Abort + AllocGlobal),
     mut hands: Vec<Hand<B>>,
@@ -141,7 +141,7 @@ fn gather<B: PartsName>(
     (workers, did_one_each)
 }
 
-// All hands over a house and a board: whether each ran one job, and the settlement.
+// Both workers over a house and a board: whether each ran one job, and the settlement.
 fn work_and_settle<B, R>(
     rt: &R,
     house: House<B>,
@@ -157,7 +157,7 @@ where
     (did_one_each, settle_house(rt, house, workers))
 }
 
-// A worker with a pass of the board that the name names.
+// A worker with a pass of the board with this name.
 fn hand_of<B: PartsName>(worker: LentWorker<B, OfTest>, pass: BoardPass<Job>) -> Hand<B>
     requires pass { IsPassOf B.board pass }
 {
@@ -180,7 +180,7 @@ fn both<B: PartsName>(
     hands
 }
 
-// Both workers over the desk and the board that the name names: whether each ran one job, and the settlement.
+// Both workers over the desk and the board with this name: whether each ran one job, and the settlement.
 fn work_both<B, R>(rt: &R, opened: Opened, board: Board) -> (bool, Settled)
 where
     B: PartsName + Send + Sync + 'static,

@@ -3,7 +3,7 @@
 ghost use Rattle.std.specs.Prelude.{◌≡◌, IfNone};
 ghost use Rattle.desk_rule.specs.declared.view.SeatState.TheVariants.{Asked};
 ghost use Rattle.desk_rule.specs.Lanes.{has_looked};
-ghost use Rattle.lane_seats.specs.Seats.{desk_id, seat_view, IsSeatOf, IsSameSeat};
+ghost use Rattle.lane_desk.specs.Seats.{desk_id, seat_view, IsSeatOf, IsSameSeat};
 ghost use Rattle.lent_parts.specs.Names.{SitsAt};
 ghost use Rattle.transfer_worker.specs.Turns.{IsTold};
 
@@ -65,7 +65,7 @@ impl Moving {
     }
 }
 
-/// A lane's seat with its tally, of the desk of a name.
+/// A lane's seat with its tally, of the desk with a name.
 struct Lane<B: PartsName> {
     seat: LaneSeat<OfTest>,
     tally: Tally<OfTest>,
@@ -101,7 +101,8 @@ impl<B: PartsName> Lane<B> {
         }
     }
 
-    // An ask, a turn that finds nothing, a round, and the turn of its grant: whether it moved so much and ended so.
+    // An ask, a turn that finds nothing, a round, and the turn of its grant: whether it moved this much and ended
+    // in this way.
     fn moves(
         &mut self,
         rt: &(impl Abort + AllocGlobal),
@@ -126,7 +127,7 @@ impl<B: PartsName> Lane<B> {
     }
 }
 
-// Under a rate of one octet a tick: a CR LF for the LF of a text, octet by octet.
+// Under a rate of one octet per tick: CR LF for the LF of a text, octet by octet.
 fn sends_a_text<B: PartsName>(
     rt: &(impl Abort + AllocGlobal),
     house: &House<B>,
@@ -149,7 +150,7 @@ fn sends_a_text<B: PartsName>(
     }
 }
 
-// Under a rate of two octets a tick: pieces `a CR`, `LF b`, `CR`, of which the last CR is a text's own.
+// Under a rate of two octets per tick: pieces `a CR`, `LF b`, `CR`, the last CR of which belongs to the text.
 fn receives_a_text<B: PartsName>(
     rt: &(impl Abort + AllocGlobal),
     house: &House<B>,
@@ -183,7 +184,7 @@ fn receives_a_text<B: PartsName>(
     }
 }
 
-// Both over the desk that the name names.
+// Both over the desk with this name.
 fn move_texts<B: PartsName>(rt: &(impl Abort + AllocGlobal + Wait), opened: Opened) -> Settled
     requires desk { desk_id opened.desk ≡ B.desk }
     requires lanes { opened.desk.lanes ≡ B.lanes }

@@ -1,4 +1,4 @@
--- What a round decides: best grants for the asks that it has collected.
+-- Decisions of rounds: best grants for the asks collected.
 use Rattle.std.specs.Prelude.{◌≡◌, ◌≢◌, ◌⊎◌, All, ℕ, suc, ◌+◌, ◌/◌, ◌<◌, ◌≤◌, Bool, false, nat_lt, List, [], ◌∷◌, ◌++◌, map, sum_by, Option, Some, None, IsPermutation, ⊤}
 use Rattle.std.specs.List.{list_any}
 use Rattle.grant_ledger.specs.declared.ledger.TheConstants.{MAX_ISSUED}
@@ -16,7 +16,7 @@ abbrev pub asker_of : ℕ → LaneState → Option Ask → List Asker
 asker_of i state.Round (Some a) = (i, a) ∷ []
 asker_of i s a = []
 
--- the asks of the lanes in Round, each with its lane; the first lane has this number
+-- the asks of the lanes in Round, each with its lane; the first lane in the list has this number
 abbrev pub in_round_from : ℕ → List Lane → List Asker
 in_round_from i [] = []
 in_round_from i (l ∷ ls) = asker_of i l.shown.state l.shown.ask ++ in_round_from (suc i) ls
@@ -35,15 +35,15 @@ AllPosted ls = All IsPosted ls
 abbrev pub with_amount : ℕ → Lane → Lane
 with_amount n l = record { shown = l.shown; hidden = hidden l.hidden.moved l.hidden.back l.hidden.hand (Some n) }
 
--- an ask of the lane was collected, and is to be answered
+-- an ask of the lane was collected and is not answered yet
 abbrev pub IsDue : Lane → Type 0
 IsDue l = (l.shown.state ≡ state.Round) × ((a : Ask) × (l.shown.ask ≡ Some a))
 
--- an amount is decided for a lane in Round, and another lane is as it was
+-- a lane in Round gets a decided amount; any other lane is unchanged
 abbrev pub IsGiven : Lane → Lane → Type 0
 IsGiven l m = (IsDue l × ((n : ℕ) × (m ≡ with_amount n l))) ⊎ ((l.shown.state ≢ state.Round) × (m ≡ l))
 
--- an amount is decided for each lane in Round, and for no other
+-- each lane in Round gets a decided amount, and no other lane does
 abbrev pub AreGiven : List Lane → List Lane → Type 0
 AreGiven [] [] = ⊤
 AreGiven (l ∷ ls) (m ∷ ms) = IsGiven l m × AreGiven ls ms
@@ -60,8 +60,8 @@ abbrev pub decided_grants : List Lane → List Granted
 decided_grants [] = []
 decided_grants (l ∷ ls) = grant_of l.shown.ask l.hidden.decided ++ decided_grants ls
 
--- The grants that are decided are best for the tree of the tick over their asks, which are those of the lanes in Round; in
--- some order they are those of its leaves.
+-- The decided grants are best for the tree of the tick over their asks, which are those of the lanes in Round; in some
+-- order they are the grants of its leaves.
 pub record IsShared (rates : Rates) (tick : ℕ) (before after : List Lane) : Type 0 where
   pub given : AreGiven before after
   pub leaves : List Granted
@@ -73,7 +73,7 @@ pub record IsShared (rates : Rates) (tick : ℕ) (before after : List Lane) : Ty
 abbrev pub decided_of : Lane → ℕ
 decided_of l = amount l.hidden.decided
 
--- the octets that are decided and not posted
+-- number of octets decided and not posted
 abbrev pub decided_sum : List Lane → ℕ
 decided_sum ls = sum_by decided_of ls
 
@@ -89,7 +89,7 @@ wants_too_much x = nat_lt MAX_WANT x.1.want
 abbrev pub has_large_want : List Lane → Bool
 has_large_want ls = list_any wants_too_much (in_round ls)
 
--- nothing is left to post, the tick is a later one, and no ask in Round wants too much
+-- nothing is left to post, the tick is above the last one, and no ask in Round wants too much
 pub record IsReady (w : World) (moment : ℕ) : Type 0 where
   pub posted : AllPosted w.lanes
   pub later : IsLater (moment / 100) w.last_tick

@@ -1,4 +1,4 @@
--- What an event changes of its lane, in what words and views show of it.
+-- The effect of an event on the shown part of its lane.
 use Rattle.std.specs.Prelude.{◌≡◌, ◌≢◌, [], ◌∷◌, ◌++◌, Some}
 use Rattle.world_terms.specs.Lanes.{Shown, shown}
 use Rattle.world_terms.specs.declared.event.LaneState.TheVariants as state
@@ -7,7 +7,8 @@ use Rattle.world_terms.specs.declared.event.Event.TheVariants as event
 use Rattle.world_terms.specs.declared.event.EventAnswer.{EventAnswer}
 use Rattle.world_terms.specs.declared.event.EventAnswer.TheVariants as answer
 
--- from `x` to `y`, with the answer; a decision changes nothing that is shown, and is no event of one lane
+-- from `x` to `y`, with this answer; a decision changes nothing that is shown, and is not an event of one
+-- lane
 abbrev pub ShownStep : Event → EventAnswer → Shown → Shown → Type 0
 ShownStep (event.Sit i) answer.Done x y = (x.state ≡ state.Free) × (y ≡ shown state.Worker x.ask x.posted x.taken)
 ShownStep (event.Asked i a) answer.Done x y = (x.state ≡ state.Worker) × (y ≡ shown state.Asked (Some a) x.posted x.taken)

@@ -1,4 +1,4 @@
--- What each event changes, what it answers, and when it is refused.
+-- Events: their effects, answers and refusals.
 use Rattle.std.specs.Prelude.{◌≡◌, ◌≢◌, ◌⊎◌, ℕ, ◌+◌, ◌-◌, ◌/◌, ◌<◌, ◌≤◌, List, length, map, slice_get, slice_set, Some, None, true, Result, MatchResult, IsPermutation}
 use Rattle.grant_ledger.specs.declared.ledger.TheConstants.{MAX_ISSUED}
 use Rattle.limit_tree.specs.Faults.{tree_fault}
@@ -21,7 +21,7 @@ use Rattle.world_terms.specs.Decisions.{AllPosted, IsDecision, IsLater, IsReady,
 use Rattle.world_terms.specs.Lanes.{Hidden, Lane, World, hidden, amount}
 use Rattle.world_terms.specs.Shown.{ShownStep}
 
--- what an event changes of its lane, in what is not shown of it
+-- the effect of an event on the hidden part of its lane
 abbrev pub HiddenStep : Event → EventAnswer → Hidden → Hidden → Type 0
 HiddenStep (event.Sit i) a x y = y ≡ x
 HiddenStep (event.Asked i b) a x y = (x.hand ≡ None) × (y ≡ x)
@@ -68,7 +68,7 @@ RefusesLane (event.Moved i n) fault.TooMuch l = (h : ℕ) × (l.hidden.hand ≡ 
 RefusesLane (event.Rise i) fault.WrongState l = (l.shown.state ≢ state.Worker) ⊎ (l.hidden.hand ≢ None)
 RefusesLane e f l = ⊥
 
--- the lane of an event; a decision has none, and 0 stands for it
+-- the lane of an event; 0 for a decision, which has none
 abbrev pub lane_of : Event → ℕ
 lane_of (event.Sit i) = i
 lane_of (event.Asked i a) = i
@@ -79,20 +79,20 @@ lane_of (event.Taken i) = i
 lane_of (event.Moved i n) = i
 lane_of (event.Rise i) = i
 
--- lane i is there, and this holds of it
+-- lane i exists, and P holds for it
 pub record AtLane (w : World) (i : ℕ) (P : Lane → Type 0) : Type 0 where
   pub lane : Lane
   pub there : slice_get w.lanes i ≡ Some lane
   pub fact : P lane
 
--- best grants would bring the octets issued above what a book issues
+-- best grants would increase the octets issued above the most that a book issues
 pub record PassesMost (rates : Rates) (w : World) (moment : ℕ) : Type 0 where
   pub lanes : List Lane
   pub shared : IsShared rates (moment / 100) w.lanes lanes
   pub above : MAX_ISSUED < w.issued + decided_sum lanes
 
--- A tree of the tick over the asks has another fault than floors above a limit. With wants that are not too large there is
--- none, since such a tree has few nodes, is not deep, and its limits are small; this is argued, and not proved.
+-- A tree of the tick over the asks has a fault other than floors above a limit. If no want is too large, there is no such
+-- fault, since the tree has few nodes and little depth, and its limits are small; this is argued, not proved.
 pub record HasOtherFault (rates : Rates) (tick : ℕ) (asks : List Asker) : Type 0 where
   pub order : List Asker
   pub outline : List Place
@@ -102,7 +102,7 @@ pub record HasOtherFault (rates : Rates) (tick : ℕ) (asks : List Asker) : Type
   pub is : tree_fault outline ≡ Some fault
   pub kind : IsNotOfFloors (plan.Tree fault)
 
--- a decision is refused
+-- the refusals of a decision
 abbrev pub RefusesDecide : Rates → World → ℕ → StepFault → Type 0
 RefusesDecide rates w m fault.WrongState = AllPosted w.lanes → ⊥
 RefusesDecide rates w m (fault.NotYet last) = AllPosted w.lanes × (w.last_tick ≡ Some last) × (m / 100 ≤ last)
@@ -112,7 +112,7 @@ RefusesDecide rates w m fault.Memory = IsReady w m
 RefusesDecide rates w m fault.BookFull = IsReady w m × PassesMost rates w m
 RefusesDecide rates w m fault.NoLane = ⊥
 
--- an event of a lane is refused
+-- the refusals of a lane's event
 abbrev pub RefusesEvent : World → Event → StepFault → Type 0
 RefusesEvent w (event.Collect i) fault.WrongState = (i < length w.lanes) × (AllPosted w.lanes → ⊥)
 RefusesEvent w e fault.NoLane = length w.lanes ≤ lane_of e

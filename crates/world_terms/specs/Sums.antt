@@ -1,4 +1,4 @@
--- What the amounts of a world add up to.
+-- Sums of the amounts in a world.
 use Rattle.std.specs.Prelude.{ℕ, ◌+◌, ◌-◌, sum, sum_by}
 use Rattle.world_terms.specs.Decisions.{decided_of}
 use Rattle.world_terms.specs.Lanes.{Lane, World, amount}

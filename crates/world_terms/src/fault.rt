@@ -1,31 +1,31 @@
-//! Why an event is refused.
+//! Refusals of events.
 
 use std::alloc::AllocError;
 use thiserror::Error;
 
-/// Why an event is refused, which then changes nothing. `NoLane` is looked for first, then `WrongState`; of a decision
-/// then `NotYet`, `TooMuch`, `FloorsOver`, `Memory` and `BookFull`.
+/// Why an event is refused; it then changes nothing. `NoLane` is checked first, then `WrongState`; for a decision then
+/// `NotYet`, `TooMuch`, `FloorsOver`, `Memory` and `BookFull`.
 #[derive(Clone, Copy, Debug, PartialEq, Eq, Error)]
 pub enum StepFault {
-    /// The event is not one of the lane's state, or amounts that were decided are not all posted.
+    /// The event is not possible in the lane's state, or not all decided amounts are posted.
     #[error("WrongState")]
     WrongState,
-    /// There is no lane of that number.
+    /// There is no lane with that number.
     #[error("NoLane")]
     NoLane,
     /// More is moved than is in hand, or an ask wants more than the largest want.
     #[error("TooMuch")]
     TooMuch,
-    /// The tick is not above that of the last decision, which is told.
+    /// The tick is not above that of the last decision, which is included.
     #[error("NotYet")]
     NotYet(u64),
-    /// More octets would be issued than one book issues.
+    /// The octets issued would exceed the most that one book issues.
     #[error("BookFull")]
     BookFull,
     /// Memory ran out.
     #[error("Memory")]
     Memory,
-    /// What the asks are guaranteed does not fit the limits of the tick.
+    /// The guarantees of the asks do not fit the limits of the tick.
     #[error("FloorsOver")]
     FloorsOver,
 }

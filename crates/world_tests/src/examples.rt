@@ -1,4 +1,4 @@
-//! What the head of the crate shows.
+//! The example in the head of the crate.
 
 use crate::expect::holds;
 use line_rates::{Ask, Limits, Way};

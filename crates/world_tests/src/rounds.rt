@@ -1,4 +1,4 @@
-//! Two lanes over three rounds: events, their replies, and what the lanes have in the end.
+//! Two lanes over three rounds: events, their replies, and the state of the lanes at the end.
 
 use crate::expect::holds;
 use line_rates::{Ask, Limits, Way};
@@ -105,7 +105,7 @@ pub(crate) static REPLIES: [Reply; 29] = [
     Err(StepFault::NoLane),
 ];
 
-/// A world of two lanes, which gets 30 octets a second.
+/// A world of two lanes with a rate of 30 octets per second.
 pub(crate) fn two_lanes<A: Allocator + Clone>(
     rt: &impl Abort,
     alloc: A,
@@ -116,7 +116,7 @@ pub(crate) fn two_lanes<A: Allocator + Clone>(
     World::new(alloc, 2, limits).expect(rt, "a world")
 }
 
-/// What the world has after these events.
+/// The state of the world after these events.
 pub(crate) fn is_settled<A: Allocator>(rt: &impl Abort, world: &World<A>) {
     holds(rt, world.lanes() == 2);
     holds(rt, world.issued() == 6);

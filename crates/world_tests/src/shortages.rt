@@ -1,14 +1,14 @@
-//! Memory that is refused, at each growth in turn, and there again: the events before it stand.
+//! Memory that is refused, at each growth in turn, and then available again: the events before are kept.
 
 use crate::expect::holds;
 use crate::rounds::{EVENTS, REPLIES, is_settled, two_lanes};
 use line_rates::Limits;
 use linked_list_allocator::LocalHeap;
-use scarce_memory::{HEAP, leave_hole};
 use share_world::{StepFault, World, WorldFault};
 use std::process::Abort;
+use test_scarce_memory::{HEAP, leave_hole};
 
-// Makes the events from one on until memory is refused; tells the first that was not made.
+// Performs the events from one on until memory is refused. Returns the first that was not performed.
 fn steps<'h>(rt: &impl Abort, world: &mut World<&'h LocalHeap>, from: usize) -> usize {
     for at in from..EVENTS.len() {
         let reply = world.step(EVENTS[at]);
@@ -20,8 +20,8 @@ fn steps<'h>(rt: &impl Abort, world: &mut World<&'h LocalHeap>, from: usize) -> 
     EVENTS.len()
 }
 
-// Whether a world has memory for all events beside one hole of some octets. Where it is refused it is there again for that
-// event, and the world ends as one that never lacked any.
+// Returns whether a world has memory for all events beside one hole of some octets. If memory is refused, it is available
+// again for that event, and the world ends as one that never lacked any.
 fn has_memory(rt: &(impl Abort + AllocGlobal), room: usize) -> bool {
     let heap = LocalHeap::new(rt.alloc(), HEAP).expect(rt, "a heap");
     let mut world = two_lanes(rt, &heap, &heap, &heap);
@@ -33,7 +33,7 @@ fn has_memory(rt: &(impl Abort + AllocGlobal), room: usize) -> bool {
     refused == EVENTS.len()
 }
 
-// Whether a whole run has memory; where it is refused, the lists are those of the events before it.
+// Returns whether a whole run has memory; if it is refused, the lists are those of the events before it.
 fn runs(rt: &(impl Abort + AllocGlobal), room: usize) -> bool {
     let heap = LocalHeap::new(rt.alloc(), HEAP).expect(rt, "a heap");
     let mut world = two_lanes(rt, &heap, &heap, &heap);
@@ -46,7 +46,7 @@ fn runs(rt: &(impl Abort + AllocGlobal), room: usize) -> bool {
     has_run
 }
 
-// Makes runs of one event each until memory is refused; tells the first event that was not made.
+// Performs runs of one event each until memory is refused. Returns the first event that was not performed.
 fn runs_of_one<'h>(rt: &impl Abort, world: &mut World<&'h LocalHeap>) -> usize {
     for at in 0..EVENTS.len() {
         match world.run(&EVENTS[at..at + 1]) {
@@ -57,7 +57,7 @@ fn runs_of_one<'h>(rt: &impl Abort, world: &mut World<&'h LocalHeap>) -> usize {
     EVENTS.len()
 }
 
-// Whether these runs have memory. Once there is memory again, one run of all other events passes.
+// Returns whether these runs have memory. Once there is memory again, one run of all other events passes.
 fn runs_on(rt: &(impl Abort + AllocGlobal), room: usize) -> bool {
     let heap = LocalHeap::new(rt.alloc(), HEAP).expect(rt, "a heap");
     let mut world = two_lanes(rt, &heap, &heap, &heap);
@@ -74,17 +74,17 @@ fn runs_on(rt: &(impl Abort + AllocGlobal), room: usize) -> bool {
 
 #[test]
 fn each_growth(rt: HostRuntime) {
-    // Room rises by less than the least growth, so that each growth is the first that is refused.
+    // Room rises by less than the smallest growth, so each growth is refused first once.
     for step in 0..256usize {
         let room = 16 * step;
         let answers = [has_memory(&rt, room), runs(&rt, room), runs_on(&rt, room)];
-        // With no room each is refused, and with much none.
+        // With no room each is refused, and with enough none.
         holds(&rt, step > 0 || answers == [false; 3]);
         holds(&rt, step < 255 || answers == [true; 3]);
     }
 }
 
-// Whether a world opens over this heap. If not, memory ran out.
+// Returns whether a world opens over this heap. If not, memory ran out.
 fn opens(rt: &impl Abort, heap: &LocalHeap) -> bool {
     let limits = Limits::of(30, 0, 0, Vec::new(heap), Vec::new(heap)).expect(rt, "limits");
     match World::new(heap, 2, limits) {

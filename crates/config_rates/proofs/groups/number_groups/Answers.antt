@@ -12,7 +12,7 @@ pub returns-in_err-number_next-clause-refused : goal.returns-in_err-number_next-
 returns-in_err-number_next-clause-refused c = λ users.
     let failed = err_from_is_err_and c.from_residual.result c.from_residual.ensures.1 in
     let told = refused_next c.args.groups.now users c.loop-index.index c.index-groups-index.result c.loop-index.numbers c.in_err-number_next.field-0.0
-    c.loop-index-test.true c.index-groups-index.is c.loop-index.invariant.0 c.in_err-number_next.ensures.refused in
+    c.loop-index-test.true c.index-groups-index.is c.loop-index.invariant.0 c.loop-index.invariant.1 c.in_err-number_next.ensures.refused in
     rw (failed.1, failed.2) told
 
 pub returns-clause-apart : goal.returns-clause-apart

@@ -1,7 +1,7 @@
 use Rattle.std.proofs.Common.{◌∙◌, ap, List}
 use Rattle.std.proofs.lemmas.List.{take_all}
 use Rattle.std.proofs.lemmas.Result.{err_from_is_err_and}
-use Rattle.config_tables.specs.declared.stated.UserTable.{UserTable}
+use Rattle.config_file.specs.declared.stated.UserTable.{UserTable}
 use Rattle.config_rates.specs.Groups.{HasGroup}
 use Rattle.config_rates.specs.Rows.{user_row, user_rows}
 use Rattle.config_rates.proofs.Numbering.{numbered-next, all-next, all-whole}
@@ -27,7 +27,7 @@ returns-clause-rows c = λ groups are.
     (c.loop-index.invariant groups are).0 ∙ ap (λ (us : List UserTable). user_rows groups us) (take_all c.loop-index.index c.args.users.now c.loop-index-test.false)
 
 pub returns-in_err-row-clause-refused : goal.returns-in_err-row-clause-refused
-returns-in_err-row-clause-refused c = λ groups are.
+returns-in_err-row-clause-refused c = λ groups are apart.
     let failed = err_from_is_err_and c.from_residual.result c.from_residual.ensures.1 in
     rw (failed.1, failed.2) (refused_user groups c.args.users.now c.loop-index.index c.index-users-index.result c.in_err-row.field-0.0
-    c.loop-index-test.true c.index-users-index.is (c.in_err-row.ensures.refused groups are))
+    c.loop-index-test.true c.index-users-index.is apart (c.loop-index.invariant groups are).1 (c.in_err-row.ensures.refused groups are))

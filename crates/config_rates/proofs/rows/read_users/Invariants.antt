@@ -1,6 +1,6 @@
 use Rattle.std.proofs.Common.{◌≡◌, take, List}
 use Rattle.std.specs.List.{AllByRecursion}
-use Rattle.config_tables.specs.declared.stated.GroupTable.{GroupTable}
+use Rattle.config_file.specs.declared.stated.GroupTable.{GroupTable}
 use Rattle.config_rates.specs.Groups.{AreNumbers, HasGroup}
 use Rattle.config_rates.specs.Rows.{user_rows}
 use Rattle.config_rates.proofs.rows.read_users.Given as goal

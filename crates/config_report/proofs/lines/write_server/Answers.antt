@@ -1,4 +1,4 @@
-use Rattle.std.proofs.Common.{codes, string_bytes}
+use Rattle.std.proofs.Common.{string_bytes}
 use Rattle.config_report.specs.Lines.{listens_line, serves_line, takes_line, tells_line}
 use Rattle.config_report.proofs.Joined.{four}
 use Rattle.config_report.proofs.lines.write_server.Goals as goal

@@ -1,4 +1,4 @@
-use Rattle.std.proofs.Common.{codes, string_bytes}
+use Rattle.std.proofs.Common.{string_bytes}
 use Rattle.config_report.specs.Lines.{both_line, rates_head, ways_line}
 use Rattle.config_report.proofs.Joined.{three}
 use Rattle.config_report.proofs.lines.write_server_rates.Goals as goal

@@ -1,4 +1,5 @@
 use Rattle.std.proofs.Common.{refl}
+use Rattle.config_file.specs.declared.fault.TableName.TheVariants.{Dir}
 use Rattle.config_store.specs.Made.{MakesDir, IsDirProblem}
 use Rattle.config_store.proofs.Making.{all-next}
 use Rattle.config_store.proofs.Refusing.{row_refused}
@@ -11,5 +12,5 @@ loop-index-preserved c =
 
 pub returns-in-Err-clause-refused : goal.returns-in-Err-clause-refused
 returns-in-Err-clause-refused c =
-    row_refused MakesDir IsDirProblem c.args.dirs.now c.loop-index.index _ _ c.args.store.now c.loop-index.store c.in-Err.problem c.refused.result
+    row_refused Dir MakesDir IsDirProblem c.args.dirs.now c.loop-index.index _ _ c.args.store.now c.loop-index.store c.in-Err.problem c.refused.result
     c.loop-index-test.true refl c.loop-index.invariant c.in-Err.ensures.refused c.refused.ensures.told

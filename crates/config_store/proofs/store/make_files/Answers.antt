@@ -1,3 +1,4 @@
+use Rattle.config_file.specs.declared.fault.TableName.TheVariants.{File}
 use Rattle.config_store.specs.Made.{MakesFile, IsFileProblem}
 use Rattle.config_store.proofs.Making.{all-next}
 use Rattle.config_store.proofs.Refusing.{row_refused}
@@ -10,5 +11,5 @@ loop-index-preserved c =
 
 pub returns-in-Err-clause-refused : goal.returns-in-Err-clause-refused
 returns-in-Err-clause-refused c =
-    row_refused MakesFile IsFileProblem c.args.files.now c.loop-index.index c.index-files-index.result c.index-files-index.result c.args.store.now c.loop-index.store c.in-Err.problem c.refused.result
+    row_refused File MakesFile IsFileProblem c.args.files.now c.loop-index.index c.index-files-index.result c.index-files-index.result c.args.store.now c.loop-index.store c.in-Err.problem c.refused.result
     c.loop-index-test.true c.index-files-index.is c.loop-index.invariant c.in-Err.ensures.refused c.refused.ensures.told

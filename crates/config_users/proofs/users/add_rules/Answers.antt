@@ -1,5 +1,6 @@
 use Rattle.std.proofs.Common.{refl}
 use Rattle.std.proofs.lemmas.Option.{slice_get-get_or}
+use Rattle.config_file.specs.declared.fault.TableName.TheVariants.{Override}
 use Rattle.config_users.specs.Added.{IsRefusedRule}
 use Rattle.config_users.proofs.Adding.{rules-next}
 use Rattle.config_users.proofs.Refusing.{told_as}
@@ -12,11 +13,12 @@ loop-index-preserved c =
 
 pub returns-in-Err-clause-refused : goal.returns-in-Err-clause-refused
 returns-in-Err-clause-refused c =
-    told_as (IsRefusedRule c.args.name.now c.args.rules.now c.args.users.now) c.in-Err.fault c.refused.result c.refused.ensures.told (λ told. record {
+    told_as (IsRefusedRule c.args.name.now c.args.rules.now c.args.users.now) Override c.loop-index.index c.args.name.now c.in-Err.fault c.refused.result c.refused.ensures.told (λ told. record {
       index = c.loop-index.index;
       rule = _;
       mid = c.loop-index.users;
       stands = slice_get-get_or c.args.rules.now c.loop-index.index _ c.loop-index-test.true;
       before = c.loop-index.invariant;
       refused = c.in-Err.ensures.refused told;
+      place = refl;
     })

@@ -1,7 +1,7 @@
 use Rattle.std.proofs.Common.{◌≡◌, take, List}
 use Rattle.authorizer.specs.Numbers.{no_users}
 use Rattle.config_rates.specs.Rows.{user_rows}
-use Rattle.config_tables.specs.declared.stated.GroupTable.{GroupTable}
+use Rattle.config_file.specs.declared.stated.GroupTable.{GroupTable}
 use Rattle.config_users.specs.Added.{AddsUsers}
 use Rattle.config_users.proofs.users.make_users.Given as goal
 

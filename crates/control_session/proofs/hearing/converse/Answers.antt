@@ -1,9 +1,9 @@
 use Rattle.std.proofs.Common.{ℕ, ◌≡◌, ◌+◌, ◌≤◌, ◌∙◌, inl, inr, List, [], ◌++◌, Bool, true, Err, refl, sym, ap, arith}
 use Rattle.std.proofs.lemmas.List.{append-nil}
 use Rattle.control_session.specs.Sessions.{nothing}
-use Rattle.control_turns.specs.Turns.{asked_as}
+use Rattle.control_session.specs.Turns.{asked_as}
 use Rattle.control_session.specs.declared.fault.ControlFault.{ControlFault}
-use Rattle.control_turns.proofs.Going.{of_err_ok, over_by, pick, went_more, went_none}
+use Rattle.control_session.proofs.Going.{of_err_ok, over_by, pick, went_more, went_none}
 use Rattle.control_session.proofs.Listening.{no_turn_read, same_read}
 use Rattle.control_session.proofs.hearing.converse.Goals as goal
 

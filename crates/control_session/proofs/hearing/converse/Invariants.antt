@@ -1,9 +1,9 @@
 use Rattle.std.proofs.Common.{ℕ, ◌≡◌, ◌⊎◌, List, [], length, None, true, false}
 use Rattle.ftp_wire.specs.Items.{Item}
 use Rattle.ftp_wire.specs.Reading.{HasRead}
-use Rattle.control_turns.specs.Rows.{IsRow}
-use Rattle.control_turns.specs.Standing.{AllTaken, stand}
-use Rattle.control_turns.specs.Turns.{Heard, Went, due}
+use Rattle.control_session.specs.Rows.{IsRow}
+use Rattle.control_session.specs.Standing.{AllTaken, stand}
+use Rattle.control_session.specs.Turns.{Heard, Went, due}
 use Rattle.control_session.specs.Sessions.{nothing}
 use Rattle.control_session.proofs.hearing.converse.Given as goal
 

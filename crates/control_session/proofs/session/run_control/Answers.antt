@@ -1,7 +1,7 @@
 use Rattle.std.proofs.Common.{◌≡◌, inl, inr, refl, sym, ap, subst}
-use Rattle.control_turns.specs.Rows.{IsRow}
-use Rattle.session_laws.specs.Laws.{logged_in}
-use Rattle.session_laws.specs.Steps.{Standing}
+use Rattle.control_session.specs.Rows.{IsRow}
+use Rattle.session_table.specs.Laws.{logged_in}
+use Rattle.session_table.specs.Steps.{Standing}
 use Rattle.control_session.specs.Sessions.{IsSession}
 use Rattle.control_session.proofs.Balance.{floors_back}
 use Rattle.control_session.proofs.Counting.{row_balances}

@@ -1,4 +1,4 @@
-use Rattle.lane_seats.specs.Seats.{IsSameSeat}
+use Rattle.lane_desk.specs.Seats.{IsSameSeat}
 use Rattle.desk_tests.proofs.threads.work.Given as goal
 
 abbrev pub invariant-loop : goal.invariant-loop

@@ -1,5 +1,5 @@
-use Rattle.lane_seats.specs.Seats.{desk_id}
-use Rattle.job_board.specs.Boards.{board_id}
+use Rattle.lane_desk.specs.Seats.{desk_id}
+use Rattle.transfer_worker.specs.Boards.{board_id}
 use Rattle.ftp_daemon.proofs.serving.serve.Given as goal
 
 abbrev pub ghosts-serve_named : goal.ghosts-serve_named

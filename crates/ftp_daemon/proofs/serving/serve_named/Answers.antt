@@ -1,7 +1,7 @@
 use Rattle.std.proofs.Common.{◌≡◌, ℕ, subst}
 use Rattle.atomic_table.specs.Seated.{TableId}
-use Rattle.desk_open.specs.Open.{AreFresh}
-use Rattle.lane_seats.specs.Seats.{desk_id}
+use Rattle.lane_desk.specs.Open.{AreFresh}
+use Rattle.lane_desk.specs.Seats.{desk_id}
 use Rattle.ftp_daemon.proofs.serving.serve_named.Goals as goal
 
 pub lend_seats-requires-clause-seats : goal.lend_seats-requires-clause-seats

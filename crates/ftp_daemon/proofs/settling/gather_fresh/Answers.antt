@@ -1,7 +1,7 @@
 use Rattle.std.proofs.Common.{rules, arith, ◌≡◌, ◌++◌, [], ◌∷◌, List, ap, append_assoc, sym, subst, ◌∙◌, length, length-append}
 use Rattle.lane_desk.specs.declared.worked.Worked.{Worked}
 use Rattle.lane_desk.specs.Workers.{AreWorkers}
-use Rattle.lane_seats.specs.Seats.{desk_id}
+use Rattle.lane_desk.specs.Seats.{desk_id}
 use Rattle.lent_parts.proofs.Gathering.{worker_more}
 use Rattle.ftp_daemon.proofs.Lists.{next_at}
 use Rattle.ftp_daemon.proofs.settling.gather_fresh.Goals as goal

@@ -1,6 +1,6 @@
 use Rattle.std.proofs.Common.{◌≡◌, ◌++◌, length}
 use Rattle.std.specs.Prelude.{vec_capacity}
-use Rattle.lane_seats.specs.Seats.{desk_id}
+use Rattle.lane_desk.specs.Seats.{desk_id}
 use Rattle.lane_desk.specs.Workers.{AreWorkers}
 use Rattle.ftp_daemon.proofs.settling.gather_fresh.Given as goal
 

@@ -1,9 +1,9 @@
 use Rattle.std.proofs.Common.{◌≡◌, ◌+◌, ◌++◌, List, length, reverse}
 use Rattle.lane_desk.specs.declared.worked.Worked.{Worked}
 use Rattle.desk_rule.specs.Lanes.{posted_in}
-use Rattle.round_desk.specs.Turns.{turns, back, IsRoundOf}
-use Rattle.desk_close.specs.Close.{AllSettled}
-use Rattle.desk_close.specs.AllLanes.{taken_in_all}
+use Rattle.lane_desk.specs.Turns.{turns, back, IsRoundOf}
+use Rattle.lane_desk.specs.Close.{AllSettled}
+use Rattle.lane_desk.specs.AllLanes.{taken_in_all}
 use Rattle.lane_desk.specs.Workers.{moved_by_all}
 use Rattle.lane_desk.proofs.settlement.settle_all.Given as goal
 

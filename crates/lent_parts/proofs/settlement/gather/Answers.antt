@@ -1,7 +1,7 @@
 use Rattle.std.proofs.Common.{rules, ◌≡◌, ◌∙◌, ◌+◌, ◌≤◌, List, length, ap, sym, subst}
 use Rattle.std.specs.Prelude.{vec_capacity, vec_len}
 use Rattle.grant_ledger.specs.Books.{TallyView}
-use Rattle.lane_seats.specs.declared.seat.LaneSeat.{LaneSeat}
+use Rattle.lane_desk.specs.declared.seat.LaneSeat.{LaneSeat}
 use Rattle.lane_desk.specs.declared.worked.Worked.{Worked}
 use Rattle.lane_desk.specs.Workers.{AreWorkers}
 use Rattle.lent_parts.proofs.Gathering.{worker_more, moved_passed}

@@ -1,5 +1,5 @@
 use Rattle.std.proofs.Common.{rules, arith, ◌≡◌, ◌+◌, ◌∙◌, ◌∷◌, ◌++◌, [], length, map, ap, refl}
-use Rattle.limit_tree.specs.declared.place.Kind.TheVariants.{Branch, Leaf}
+use Rattle.limit_tree.specs.declared.place.NodeKind.TheVariants.{Branch, Leaf}
 use Rattle.limit_tree.specs.declared.node.Node.TheViews.{the_lemmas}
 use Rattle.limit_tree.specs.declared.copy.TheConstants.{UNSEEN}
 use Rattle.limit_tree.specs.Outline.{places, leaf_count, floor_sum, moved, kids_of, kind_of, own_floor, leaf_want, leaf_floor}

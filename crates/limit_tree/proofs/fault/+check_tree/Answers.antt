@@ -1,6 +1,6 @@
 use Rattle.std.proofs.Common.{rules, arith, ◌≡◌, ◌+◌, ◌∙◌, length, ap}
 use Rattle.limit_tree.specs.Outline.{leaf_count, kids_of, kind_of}
-use Rattle.limit_tree.specs.declared.place.Kind.TheVariants.{Branch}
+use Rattle.limit_tree.specs.declared.place.NodeKind.TheVariants.{Branch}
 use Rattle.limit_tree.proofs.Places.{places_of_all, own_leaves, length_places_out, leaf_count_out, length_places_of_all-drop, leaf_count_of_all-drop}
 use Rattle.limit_tree.proofs.FaultLemmas.{first_fault_below, first_fault_passed, first_fault_found}
 use Rattle.limit_tree.specs.declared.node.Node.TheViews.{the_lemmas}

@@ -3,8 +3,8 @@ use Rattle.std.proofs.lemmas.List.{drop_all}
 use Rattle.limit_tree.specs.Outline.{places, floor_sum, kids_of, kind_of}
 use Rattle.limit_tree.specs.Faults.{or_else, over_limit, first_over}
 use Rattle.limit_tree.specs.declared.node.Node.{Node}
-use Rattle.limit_tree.specs.declared.place.Kind.{Kind}
-use Rattle.limit_tree.specs.declared.place.Kind.TheVariants.{Branch}
+use Rattle.limit_tree.specs.declared.place.NodeKind.{NodeKind}
+use Rattle.limit_tree.specs.declared.place.NodeKind.TheVariants.{Branch}
 use Rattle.limit_tree.specs.declared.place.Place.{Place}
 use Rattle.limit_tree.specs.declared.node.Node.TheViews.{the_lemmas}
 use Rattle.limit_tree.proofs.Places.{places_of_all, length_places_of_all-drop, floor_sum_of_all-drop}
@@ -50,7 +50,7 @@ returns-after-loop-kid-clause-over g t c =
     c.loop-kid.invariant.over ∙ (ap (λ (ks : List (Node g.row.A.Denot)). or_else below.over (first_over (c.args.number + below.nodes) (places_of_all ks))) none ∙ or_else-none below.over) in
     let out : first_over c.args.number (places node) ≡ or_else (over_limit c.args.number below.sum (Branch c.in-Branch.limit)) below.over =
     first_over_out c.args.number node ∙
-    (ap (λ (k : Kind). or_else (over_limit c.args.number (floor_sum (places node)) k) (first_over next (places_of_all (kids_of node)))) kind ∙
+    (ap (λ (k : NodeKind). or_else (over_limit c.args.number (floor_sum (places node)) k) (first_over next (places_of_all (kids_of node)))) kind ∙
     (ap (λ (f : ℕ). or_else (over_limit c.args.number f (Branch c.in-Branch.limit)) (first_over next (places_of_all (kids_of node)))) floors ∙
     (ap (λ (ps : List Place). or_else (over_limit c.args.number below.sum (Branch c.in-Branch.limit)) (first_over next ps)) same ∙
     ap (or_else (over_limit c.args.number below.sum (Branch c.in-Branch.limit))) over))) in

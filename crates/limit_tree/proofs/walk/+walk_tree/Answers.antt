@@ -2,7 +2,7 @@ use Rattle.std.proofs.Common.{rules, arith, ◌≡◌, ◌+◌, ◌^◌, ◌<◌
 use Rattle.std.proofs.lemmas.List.{length-map, at_drop_all}
 use Rattle.limit_tree.specs.declared.place.Place.{Place}
 use Rattle.limit_tree.specs.Outline.{places, leaf_count, floor_sum, moved, kids_of, kind_of, own_floor}
-use Rattle.limit_tree.specs.declared.place.Kind.TheVariants.{Branch}
+use Rattle.limit_tree.specs.declared.place.NodeKind.TheVariants.{Branch}
 use Rattle.limit_tree.specs.declared.node.Node.TheViews.{the_lemmas}
 use Rattle.limit_tree.proofs.Places.{places_of_all, own_leaves, leaf_count-append, leaf_count-cons, length_places_out, leaf_count_out, floor_sum_out, length_places_of_all-drop, leaf_count_of_all-drop, floor_sum_of_all-drop}
 use Rattle.limit_tree.proofs.Moves.{leaf_count-moved, moved_out, moved_of_all-drop}

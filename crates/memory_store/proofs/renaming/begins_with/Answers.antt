@@ -1,4 +1,4 @@
-use Rattle.file_tree.proofs.Moves.{begins_if_beneath}
+use Rattle.memory_store.proofs.Moves.{begins_if_beneath}
 use Rattle.memory_store.proofs.renaming.begins_with.Goals as goal
 
 pub returns : goal.returns

@@ -3,14 +3,14 @@ use Rattle.std.specs.List.{AllByRecursion}
 use Rattle.authorizer.specs.Numbers.{no_users}
 use Rattle.config_rates.specs.Groups.{AreApart, AreGrouped, HasGroup}
 use Rattle.config_store.specs.Made.{IsStoreOf}
-use Rattle.config_tables.specs.declared.stated.DirTable.{DirTable}
-use Rattle.config_tables.specs.declared.stated.FileTable.{FileTable}
-use Rattle.config_tables.specs.declared.stated.GroupTable.{GroupTable}
-use Rattle.config_tables.specs.declared.stated.UserTable.{UserTable}
-use Rattle.config_tables.specs.declared.stated.OverrideTable.{OverrideTable}
+use Rattle.config_file.specs.declared.stated.DirTable.{DirTable}
+use Rattle.config_file.specs.declared.stated.FileTable.{FileTable}
+use Rattle.config_file.specs.declared.stated.GroupTable.{GroupTable}
+use Rattle.config_file.specs.declared.stated.UserTable.{UserTable}
+use Rattle.config_file.specs.declared.stated.OverrideTable.{OverrideTable}
 use Rattle.config_users.specs.Added.{AddsUsers}
 use Rattle.server_config.proofs.Making.{moved, moved_all, limits_made}
-use Rattle.server_config.proofs.Refusing.{store_refused}
+use Rattle.server_config.proofs.Refusing.{groups_refused, store_refused, users_refused}
 use Rattle.server_config.proofs.config.made_of.Goals as goal
 
 pub make_users-requires-clause-overrides : goal.make_users-requires-clause-overrides
@@ -58,3 +58,14 @@ returns-in-Err-make_store-clause-refused c =
     (moved_all (λ (g : List GroupTable) (u : List UserTable) (o : List (Vec OverrideTable Global)). AddsUsers g u o no_users c.in-Ok-make_users.authorizer)
     gs tables.groups.items us tables.users.items c.as_slice-overrides.result.now tables.overrides.items same_groups same_users c.as_slice-overrides.ensures.value adds)
     c.in-Err-make_store.ensures.refused c.of_store.ensures.told
+
+pub returns-in-Err-clause-refused : goal.returns-in-Err-clause-refused
+returns-in-Err-clause-refused c =
+    groups_refused c.args.tables.now c.as_slice-groups.result.now c.as_slice-users.result.now c.in-Err.fault c.of_groups.result
+    c.as_slice-groups.ensures.value c.as_slice-users.ensures.value c.in-Err.ensures.refused c.of_groups.ensures.told
+
+pub returns-in-Err-make_users-clause-refused : goal.returns-in-Err-make_users-clause-refused
+returns-in-Err-make_users-clause-refused c =
+    users_refused c.args.tables.now c.as_slice-groups.result.now c.as_slice-users.result.now c.as_slice-overrides.result.now c.in-Err-make_users.fault c.of_users.result
+    c.as_slice-groups.ensures.value c.as_slice-users.ensures.value c.as_slice-overrides.ensures.value c.in-Ok.ensures.apart c.in-Ok.ensures.grouped
+    (c.in-Err-make_users.ensures.refused c.as_slice-groups.result.now (c.as_slice.ensures.value ∙ c.in-Ok.ensures.users)) c.of_users.ensures.told

@@ -1,9 +1,9 @@
 use Rattle.std.proofs.Common.{◌≡◌, ◌∙◌, None, ap}
-use Rattle.share_text.specs.Sheet.{fault_of, sheet_fault}
-use Rattle.whole_texts.specs.declared.fault.ProgramFault.TheVariants.{Sheet}
-use Rattle.whole_texts.specs.Faults.{of_sheet}
+use Rattle.sheet_text.specs.Sheet.{fault_of, sheet_fault}
+use Rattle.sheet_check.specs.Faults.{of_sheet}
+use Rattle.sheet_check.specs.declared.fault.CheckFault.TheVariants.{Sheet}
 use Rattle.sheet_check.proofs.Checks.{sheet_beside, within_beside}
-use Rattle.whole_texts.proofs.Told.{if_err, if_err_of, if_err_then, if_ok_then}
+use Rattle.text_io.proofs.Told.{if_err, if_err_of, if_err_then, if_ok_then}
 use Rattle.sheet_check.proofs.check.check_beside.Goals as goal
 
 pub returns-in_err-sheet-clause-faults : goal.returns-in_err-sheet-clause-faults

@@ -3,24 +3,16 @@ use Rattle.limit_tree.specs.declared.place.Place.{Place}
 use Rattle.limit_tree.specs.Outline.{limits}
 use Rattle.grant_certificate.specs.Flaws.{IsVerdict, IsFirstFlaw}
 use Rattle.grant_certificate.specs.declared.flaw.Verdict.{Verdict}
-use Rattle.share_text.specs.Grants.{grants_in, entries_in}
-use Rattle.sheet_faults.specs.declared.grants.GrantsFault.TheVariants.{Memory as NoMemory}
-use Rattle.whole_texts.specs.declared.fault.ProgramFault.TheVariants.{Grants}
-use Rattle.whole_texts.specs.Faults.{of_grants}
+use Rattle.sheet_check.specs.Grants.{grants_in, entries_in}
 use Rattle.sheet_check.specs.Checking.{IsThere, verdict_text}
 use Rattle.sheet_check.proofs.There.{first_flaw_there}
-use Rattle.whole_texts.proofs.Told.{grants_told, told_as}
+use Rattle.text_io.proofs.Told.{if_err}
 use Rattle.sheet_check.proofs.check.verdict_of.Goals as goal
 
 pub returns-in_err-grants-clause-grants : goal.returns-in_err-grants-clause-grants
-returns-in_err-grants-clause-grants g c fault is source is_sheet =
-    let told = grants_told c.in_err-grants.field-0.0 fault (told_as c.from_residual-in_err-grants.result (of_grants c.in_err-grants.field-0.0) (Grants fault) c.from_residual-in_err-grants.ensures.1 is) in
-    record {
-      sheet = c.args.sheet.now;
-      is_sheet = is_sheet;
-      no_memory = λ (no : fault ≡ NoMemory). told.1 (told.0 ∙ no);
-      faulty = c.in_err-grants.ensures.read told.1 ∙ ap Some told.0;
-    }
+returns-in_err-grants-clause-grants g c =
+    if_err c.from_residual-in_err-grants.result c.in_err-grants.field-0.0 _ c.from_residual-in_err-grants.ensures.1
+    (λ known source is_sheet. record { sheet = c.args.sheet.now; is_sheet = is_sheet; no_memory = known; faulty = c.in_err-grants.ensures.read known })
 
 pub verdict_line-requires-clause-there : goal.verdict_line-requires-clause-there
 verdict_line-requires-clause-there g c flaw is =

@@ -1,28 +1,36 @@
-use Rattle.std.proofs.Common.{◌∙◌, List, ℕ, Err, length, sym, ap, subst, arith}
-use Rattle.whole_texts.specs.declared.fault.ProgramFault.TheVariants.{WriteFault, Sheet}
-use Rattle.whole_texts.specs.declared.read.TheConstants.{MAX_TEXT}
+use Rattle.std.proofs.Common.{◌≡◌, ◌∙◌, List, ℕ, Some, Err, length, sym, ap, subst, arith}
+use Rattle.text_io.specs.declared.fault.TextFault.{TextFault}
+use Rattle.text_io.specs.declared.fault.TextFault.TheVariants.{ReadFault, TooLong, WriteFault}
+use Rattle.text_io.specs.declared.read.TheConstants.{MAX_TEXT}
+use Rattle.text_io.proofs.Told.{told_as}
+use Rattle.text_io.proofs.Reading.{read_whole_text, read_text_of, read_whole_few}
+use Rattle.sheet_text.specs.Sheet.{sheet_fault}
+use Rattle.sheet_text.specs.declared.fault.SheetFault.TheVariants.{Memory as NoSheetMemory}
+use Rattle.sheet_share.specs.Faults.{of_sheet}
 use Rattle.sheet_share.specs.Sharing.{IsSharingOf}
-use Rattle.share_text.specs.Sheet.{IsSheetFaultOf}
-use Rattle.whole_texts.proofs.Told.{on_ok, if_err_of, told_as}
-use Rattle.whole_texts.proofs.Reading.{read_whole_text, read_text_of, read_whole_few}
+use Rattle.sheet_share.specs.declared.fault.ShareFault.TheVariants.{Sheet, Text}
+use Rattle.sheet_share.proofs.Faults.{memory_told, sheet_told}
 use Rattle.sheet_share.proofs.share.run_share.Goals as goal
 
 pub returns-in_err-lines-clause-long : goal.returns-in_err-lines-clause-long
 returns-in_err-lines-clause-long g c text known more = absurd (read_whole_few _ _ c.in_ok-text.text.items text MAX_TEXT c.in_ok-text.ensures.whole c.in_ok-text.ensures.end known (omega (arith, c.in_ok-text.ensures.short, c.deref.ensures.len, ap length c.deref.ensures.value)) more)
 
+pub returns-in_err-write_whole-clause-long : goal.returns-in_err-write_whole-clause-long
+returns-in_err-write_whole-clause-long g c text known more = absurd (read_whole_few _ _ c.in_ok-text.text.items text MAX_TEXT c.in_ok-text.ensures.whole c.in_ok-text.ensures.end known (omega (arith, c.in_ok-text.ensures.short, c.deref.ensures.len, ap length c.deref.ensures.value)) more)
+
 pub returns-clause-long : goal.returns-clause-long
 returns-clause-long g c text known more = absurd (read_whole_few _ _ c.in_ok-text.text.items text MAX_TEXT c.in_ok-text.ensures.whole c.in_ok-text.ensures.end known (omega (arith, c.in_ok-text.ensures.short, c.deref.ensures.len, ap length c.deref.ensures.value)) more)
 
 pub returns-clause-written : goal.returns-clause-written
-returns-clause-written g c = on_ok c.write_whole.result _ _ c.write_whole.ensures.written (λ appended text known.
+returns-clause-written g c text known =
     let whole = read_whole_text _ _ c.in_ok-text.text.items text c.in_ok-text.ensures.whole c.in_ok-text.ensures.end known in
     let printed = c.deref-2.result.now in
     let shared = subst (λ (p : List ℕ). IsSharingOf c.deref.result.now p) (sym c.deref-2.ensures) c.in_ok-lines.ensures.shared in
-    (printed, subst (λ (t : List ℕ). IsSharingOf t printed) (c.deref.ensures.value ∙ whole) shared, appended))
+    (printed, subst (λ (t : List ℕ). IsSharingOf t printed) (c.deref.ensures.value ∙ whole) shared, c.in_ok-write_whole.ensures.written)
 
-pub returns-clause-write_fault : goal.returns-clause-write_fault
-returns-clause-write_fault g c is =
-    let refused = if_err_of c.write_whole.result WriteFault _ c.write_whole.ensures.write_fault is in
+pub returns-in_err-write_whole-clause-write_fault : goal.returns-in_err-write_whole-clause-write_fault
+returns-in_err-write_whole-clause-write_fault g c is =
+    let refused = c.in_err-write_whole.ensures.write_fault in
     let printed = c.deref-2.result.now in
     let shared = subst (λ (p : List ℕ). IsSharingOf c.deref.result.now p) (sym c.deref-2.ensures) c.in_ok-lines.ensures.shared in (
       c.in_ok-text.text.items,
@@ -35,5 +43,7 @@ returns-clause-write_fault g c is =
 pub returns-in_err-lines-clause-sheet : goal.returns-in_err-lines-clause-sheet
 returns-in_err-lines-clause-sheet g c fault is text known =
     let whole = read_whole_text _ _ c.in_ok-text.text.items text c.in_ok-text.ensures.whole c.in_ok-text.ensures.end known in
-    let told = told_as c.from_residual-in_err-lines.result c.in_err-lines.field-0.0 (Sheet fault) c.from_residual-in_err-lines.ensures.1 is in
-    subst (λ (t : List ℕ). IsSheetFaultOf t fault) (c.deref.ensures.value ∙ whole) (c.in_err-lines.ensures.sheet fault (ap Err told))
+    let told = sheet_told c.in_err-lines.field-0.0 fault (told_as c.from_residual-in_err-lines.result (of_sheet c.in_err-lines.field-0.0) (Sheet fault) c.from_residual-in_err-lines.ensures.1 is) in (
+      (λ (no : fault ≡ NoSheetMemory). told.1 (told.0 ∙ no)),
+      sym (ap (λ (t : List ℕ). sheet_fault t) (c.deref.ensures.value ∙ whole)) ∙ c.in_err-lines.ensures.sheet told.1 ∙ ap Some told.0,
+    )

@@ -1,5 +1,5 @@
 use Rattle.std.proofs.Common.{[], ◌∷◌, ◌++◌, refl, ap, ◌∙◌}
-use Rattle.lane_seats.specs.Seats.{seat_view}
+use Rattle.lane_desk.specs.Seats.{seat_view}
 use Rattle.transfer_worker.specs.declared.gate.Go.TheVariants.{On, Stop}
 use Rattle.transfer_worker.specs.Passes.{calls_until}
 use Rattle.transfer_worker.specs.Runs.{worker}

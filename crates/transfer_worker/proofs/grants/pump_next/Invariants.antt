@@ -1,5 +1,5 @@
 use Rattle.std.proofs.Common.{◌≡◌, ℕ, List, [], length}
-use Rattle.lane_seats.specs.Seats.{seat_view, IsSameSeat}
+use Rattle.lane_desk.specs.Seats.{seat_view, IsSameSeat}
 use Rattle.transfer_worker.specs.Passes.{leaves}
 use Rattle.transfer_worker.specs.Transfers.{flow_of}
 use Rattle.transfer_worker.specs.Runs.{worker, Adds}

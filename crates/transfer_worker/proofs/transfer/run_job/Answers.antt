@@ -1,5 +1,5 @@
 use Rattle.std.proofs.Common.{rules, refl, ap, ◌∙◌}
-use Rattle.lane_seats.specs.Seats.{seat_view}
+use Rattle.lane_desk.specs.Seats.{seat_view}
 use Rattle.transfer_worker.specs.declared.job.LaneJob.TheVariants.{Send, Take}
 use Rattle.transfer_worker.specs.Transfers.{known}
 use Rattle.transfer_worker.specs.Transfers.Flow.{Sending, Receiving}

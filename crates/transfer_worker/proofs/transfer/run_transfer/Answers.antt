@@ -1,7 +1,7 @@
 use Rattle.std.proofs.Common.{rules, ℕ, [], ◌∷◌, length, sum, inl, inr, refl, sym, ap, ◌∙◌, subst}
 use Rattle.std.specs.Prelude.{Some}
 use Rattle.std.proofs.lemmas.List.Elements.{All-nil, All-push}
-use Rattle.lane_seats.specs.Seats.{seat_view}
+use Rattle.lane_desk.specs.Seats.{seat_view}
 use Rattle.transfer_worker.specs.declared.gate.Go.TheVariants.{Stop}
 use Rattle.transfer_worker.specs.Ends.{end_of}
 use Rattle.transfer_worker.specs.Passes.{calls_until}

@@ -1,7 +1,7 @@
 use Rattle.std.proofs.Common.{◌≡◌}
 use Rattle.data_pump.specs.declared.pumped.PumpEnd.TheVariants.{More}
 use Rattle.desk_rule.specs.declared.view.SeatState.TheVariants.{Worker}
-use Rattle.lane_seats.specs.Seats.{seat_view, IsSameSeat}
+use Rattle.lane_desk.specs.Seats.{seat_view, IsSameSeat}
 use Rattle.transfer_worker.specs.Transfers.{known, flow_of, last_in}
 use Rattle.transfer_worker.specs.Runs.{worker}
 use Rattle.transfer_worker.specs.Turns.{IsTold}

@@ -1,10 +1,10 @@
 use Rattle.std.proofs.Common.{[], ◌∷◌, ◌++◌, refl, sym, ap, ◌∙◌, subst}
 use Rattle.std.proofs.lemmas.List.Elements.{All-nil, All-push}
 use Rattle.grant_ledger.specs.Books.{TallyView}
-use Rattle.lane_seats.specs.declared.seat.LaneSeat.{LaneSeat}
-use Rattle.lane_seats.specs.Seats.{seat_view}
-use Rattle.job_board.specs.Order.{hand}
-use Rattle.job_board.specs.Boards.{done_by}
+use Rattle.lane_desk.specs.declared.seat.LaneSeat.{LaneSeat}
+use Rattle.lane_desk.specs.Seats.{seat_view}
+use Rattle.transfer_worker.specs.Order.{hand}
+use Rattle.transfer_worker.specs.Boards.{done_by}
 use Rattle.transfer_worker.specs.declared.end.LoopEnd.TheVariants.{Stopped}
 use Rattle.transfer_worker.specs.Transfers.{known}
 use Rattle.transfer_worker.specs.Runs.{worker}

@@ -1,7 +1,7 @@
 use Rattle.std.proofs.Common.{◌≡◌, List, All}
 use Rattle.desk_rule.specs.declared.view.SeatState.TheVariants.{Free}
-use Rattle.lane_seats.specs.Seats.{seat_view, IsSameSeat}
-use Rattle.job_board.specs.Boards.{done_by, IsSameBoard}
+use Rattle.lane_desk.specs.Seats.{seat_view, IsSameSeat}
+use Rattle.transfer_worker.specs.Boards.{done_by, IsSameBoard}
 use Rattle.transfer_worker.specs.Transfers.{known}
 use Rattle.transfer_worker.specs.Runs.{worker}
 use Rattle.transfer_worker.specs.Turns.{IsTold}

@@ -1,5 +1,5 @@
 use Rattle.std.proofs.Common.{◌≤◌}
-use Rattle.job_board.specs.Boards.{IsOfBoard}
+use Rattle.transfer_worker.specs.Boards.{IsOfBoard}
 use Rattle.worker_tests.proofs.boards.get_all.Given as goal
 
 abbrev pub invariant-loop : goal.invariant-loop

@@ -1,5 +1,5 @@
-use Rattle.lane_seats.specs.Seats.{desk_id}
-use Rattle.job_board.specs.Boards.{board_id}
+use Rattle.lane_desk.specs.Seats.{desk_id}
+use Rattle.transfer_worker.specs.Boards.{board_id}
 use Rattle.worker_tests.proofs.threads.one_transfer_waits_for_the_other.Given as goal
 
 abbrev pub ghosts-work_both : goal.ghosts-work_both

@@ -1,4 +1,4 @@
-use Rattle.lane_seats.specs.Seats.{desk_id}
+use Rattle.lane_desk.specs.Seats.{desk_id}
 use Rattle.lent_parts.specs.Names.{no_table}
 use Rattle.worker_tests.proofs.turns.texts_go_by_one_and_by_two_octets.Given as goal
 

@@ -1,6 +1,6 @@
 use Rattle.std.proofs.Common.{rules, ◌≡◌, ◌∙◌, ap, Some}
 use Rattle.limit_tree.specs.Outline.{IsFullPlace}
-use Rattle.limit_tree.specs.declared.place.Kind.TheVariants.{Branch}
+use Rattle.limit_tree.specs.declared.place.NodeKind.TheVariants.{Branch}
 use Rattle.limit_tree.proofs.Looks.{full-place, full-place-sum}
 use Rattle.limit_tree.proofs.place.Place.is_full.Goals as goal
 

@@ -2,8 +2,8 @@ use Rattle.std.proofs.Common.{◌≡◌, ℕ, ◌<◌, ◌^◌, sym, ap, ◌∙�
 use Rattle.std.specs.FinMap as map
 use borrow.Author.Tests.{lt-ltb, le-ltb}
 use Rattle.virtual_tree.specs.declared.fault.StoreFault.TheVariants as fault
-use Rattle.file_tree.specs.Tree.{Node, Tree, total}
-use Rattle.file_tree.specs.Tree.Node.{File}
+use Rattle.memory_store.specs.Tree.{Node, Tree, total}
+use Rattle.memory_store.specs.Tree.Node.{File}
 use Rattle.memory_store.specs.InMemory.{Memory, Upload, filled, unit_of}
 use Rattle.memory_store.proofs.Fills.{refuses, succeeds, decided_full, decided_past, decided_filled, passed_is, held_within}
 use Rattle.memory_store.proofs.memory.MemStore.fill.Goals as goal

@@ -2,7 +2,7 @@ use Rattle.std.proofs.Common.{◌≡◌, ◌∙◌, ◌∷◌, ◌++◌, [], Lis
 use Rattle.std.proofs.lemmas.List.{map-append}
 use Rattle.ftp_wire.specs.Items.{Item}
 use Rattle.ftp_wire.specs.Reading.{item_of, items_of}
-use Rattle.session_laws.specs.Steps.{Standing}
+use Rattle.session_table.specs.Steps.{Standing}
 use Rattle.session_table.specs.Plans.Plan.{Then}
 use Rattle.session_core.proofs.session.Session.keep.Goals as goal
 

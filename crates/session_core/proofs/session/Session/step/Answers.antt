@@ -1,9 +1,8 @@
 use Rattle.std.proofs.Common.{IfOk, sym, subst}
 use Rattle.session_core.proofs.DataRows.{err_through, ok_through}
 use Rattle.std.proofs.lemmas.Result.{IfOk-weaker}
-use Rattle.rate_floors.specs.Promises.{admits}
 use Rattle.session_core.specs.Turns.{closed_at, ready_at}
-use Rattle.session_laws.specs.Steps.{SessionStops}
+use Rattle.session_table.specs.Steps.{SessionStops}
 use Rattle.session_table.specs.declared.inputs.Input.{Input}
 use Rattle.session_table.specs.declared.inputs.Input.TheVariants as input
 use Rattle.session_table.specs.Table.{SessionStep, beside}
@@ -14,8 +13,8 @@ use Rattle.session_core.proofs.session.Session.step.Goals as goal
 pub returns-in-TransferEnded-clause-row : goal.returns-in-TransferEnded-clause-row
 returns-in-TransferEnded-clause-row g c =
     ok_through c.take_end-answer.result c.lacking.result _ c.lacking.ensures.ok
-    (subst (λ (i : Input g.row.A.Denot g.row.S-Sink.Denot). IfOk c.take_end-answer.result (λ actions. SessionStep {A = g.row.A.Denot} {R = g.row.S-Source.Denot} {K = g.row.S-Sink.Denot} g.S.Store.Step c.args.users.now.users (admits c.args.floors.now) c.args.self.now.view c.args.self.now.held c.args.moment i c.args.store.now c.take_end-answer.new.store c.take_end-answer.new.self.view c.take_end-answer.new.self.held actions.items)) (sym c.in-TransferEnded.is)
-    (c.take_end-answer.ensures.row (admits c.args.floors.now)))
+    (subst (λ (i : Input g.row.A.Denot g.row.S-Sink.Denot). IfOk c.take_end-answer.result (λ actions. SessionStep {A = g.row.A.Denot} {R = g.row.S-Source.Denot} {K = g.row.S-Sink.Denot} g.S.Store.Step c.args.users.now.users c.args.self.now.view c.args.self.now.held c.args.moment i c.args.store.now c.take_end-answer.new.store c.args.floors.now c.args.floors.now c.take_end-answer.new.self.view c.take_end-answer.new.self.held actions.items)) (sym c.in-TransferEnded.is)
+    (c.take_end-answer.ensures.row c.args.floors.now))
 
 pub returns-in-TransferEnded-clause-unchanged : goal.returns-in-TransferEnded-clause-unchanged
 returns-in-TransferEnded-clause-unchanged g c = err_through _ c.take_end-answer.result c.lacking.result c.lacking.ensures.err c.take_end-answer.ensures.unchanged
@@ -23,31 +22,31 @@ returns-in-TransferEnded-clause-unchanged g c = err_through _ c.take_end-answer.
 pub returns-in-TransferEnded-clause-stops : goal.returns-in-TransferEnded-clause-stops
 returns-in-TransferEnded-clause-stops g c = err_through _ c.take_end-answer.result c.lacking.result c.lacking.ensures.err
     (on_err_from c.take_end-answer.result (λ same.
-    subst (λ s. SessionStops {A = g.row.A.Denot} {R = g.row.S-Source.Denot} {K = g.row.S-Sink.Denot} g.S.Store.Step c.args.users.now.users (admits c.args.floors.now) c.args.self.now.view c.args.self.now.held c.args.moment c.args.input c.args.store.now s) (sym same)
-    (step_stops_here g.S.Store.Step c.args.users.now.users (admits c.args.floors.now) c.args.self.now.view c.args.self.now.held c.args.moment c.args.input c.args.store.now)) c.take_end-answer.ensures.untouched)
+    subst (λ s. SessionStops {A = g.row.A.Denot} {R = g.row.S-Source.Denot} {K = g.row.S-Sink.Denot} g.S.Store.Step c.args.users.now.users c.args.self.now.view c.args.self.now.held c.args.moment c.args.input c.args.store.now s) (sym same)
+    (step_stops_here g.S.Store.Step c.args.users.now.users c.args.self.now.view c.args.self.now.held c.args.moment c.args.input c.args.store.now)) c.take_end-answer.ensures.untouched)
 
 pub returns-in-DataReady-clause-row : goal.returns-in-DataReady-clause-row
 returns-in-DataReady-clause-row g c =
     IfOk-weaker c.take_port.result _ _ (λ actions told.
-    subst (λ (i : Input g.row.A.Denot g.row.S-Sink.Denot). SessionStep {A = g.row.A.Denot} {R = g.row.S-Source.Denot} {K = g.row.S-Sink.Denot} g.S.Store.Step c.args.users.now.users (admits c.args.floors.now) c.args.self.now.view c.args.self.now.held c.args.moment i c.args.store.now c.args.store.now c.take_port.new.self.view c.take_port.new.self.held actions.items) (sym c.in-DataReady.is)
-    (step_by g.S.Store.Step c.args.users.now.users (admits c.args.floors.now) c.args.self.now.view c.args.self.now.held c.args.moment (input.DataReady c.in-DataReady.port)
-    (beside c.args.self.now.held (ready_at c.args.users.now.users c.args.self.now.view c.in-DataReady.port)) c.args.store.now c.args.store.now c.take_port.new.self.view c.take_port.new.self.held actions.items
-    (at_ready c.args.users.now.users (admits c.args.floors.now) c.args.self.now.view c.args.self.now.held c.args.moment c.in-DataReady.port)
-    (ran_then g.S.Store.Step _ c.take_port.new.self.view actions.items c.args.store.now told) c.take_port.ensures.held)) c.take_port.ensures.row
+    subst (λ (i : Input g.row.A.Denot g.row.S-Sink.Denot). SessionStep {A = g.row.A.Denot} {R = g.row.S-Source.Denot} {K = g.row.S-Sink.Denot} g.S.Store.Step c.args.users.now.users c.args.self.now.view c.args.self.now.held c.args.moment i c.args.store.now c.args.store.now c.args.floors.now c.args.floors.now c.take_port.new.self.view c.take_port.new.self.held actions.items) (sym c.in-DataReady.is)
+    (step_by g.S.Store.Step c.args.users.now.users c.args.self.now.view c.args.self.now.held c.args.moment (input.DataReady c.in-DataReady.port)
+    (beside c.args.self.now.held (ready_at c.args.users.now.users c.args.self.now.view c.in-DataReady.port)) c.args.store.now c.args.store.now c.args.floors.now c.args.floors.now c.take_port.new.self.view c.take_port.new.self.held actions.items
+    (at_ready c.args.users.now.users c.args.self.now.view c.args.self.now.held c.args.moment c.in-DataReady.port)
+    (ran_then g.S.Store.Step _ c.take_port.new.self.view actions.items c.args.store.now c.args.floors.now told) c.take_port.ensures.held)) c.take_port.ensures.row
 
 pub returns-in-DataReady-clause-stops : goal.returns-in-DataReady-clause-stops
 returns-in-DataReady-clause-stops g c =
-    on_err c.take_port.result (step_stops_here g.S.Store.Step c.args.users.now.users (admits c.args.floors.now) c.args.self.now.view c.args.self.now.held c.args.moment c.args.input c.args.store.now)
+    on_err c.take_port.result (step_stops_here g.S.Store.Step c.args.users.now.users c.args.self.now.view c.args.self.now.held c.args.moment c.args.input c.args.store.now)
 
 pub returns-in-Closed-clause-row : goal.returns-in-Closed-clause-row
 returns-in-Closed-clause-row g c =
     IfOk-weaker c.close.result _ _ (λ actions told.
-    subst (λ (i : Input g.row.A.Denot g.row.S-Sink.Denot). SessionStep {A = g.row.A.Denot} {R = g.row.S-Source.Denot} {K = g.row.S-Sink.Denot} g.S.Store.Step c.args.users.now.users (admits c.args.floors.now) c.args.self.now.view c.args.self.now.held c.args.moment i c.args.store.now c.args.store.now c.close.new.self.view c.close.new.self.held actions.items) (sym c.in-Closed.is)
-    (step_by g.S.Store.Step c.args.users.now.users (admits c.args.floors.now) c.args.self.now.view c.args.self.now.held c.args.moment input.Closed
-    (beside c.args.self.now.held (closed_at c.args.self.now.view)) c.args.store.now c.args.store.now c.close.new.self.view c.close.new.self.held actions.items
-    (at_closed c.args.users.now.users (admits c.args.floors.now) c.args.self.now.view c.args.self.now.held c.args.moment)
-    (ran_then g.S.Store.Step _ c.close.new.self.view actions.items c.args.store.now told) c.close.ensures.held)) c.close.ensures.row
+    subst (λ (i : Input g.row.A.Denot g.row.S-Sink.Denot). SessionStep {A = g.row.A.Denot} {R = g.row.S-Source.Denot} {K = g.row.S-Sink.Denot} g.S.Store.Step c.args.users.now.users c.args.self.now.view c.args.self.now.held c.args.moment i c.args.store.now c.args.store.now c.args.floors.now c.args.floors.now c.close.new.self.view c.close.new.self.held actions.items) (sym c.in-Closed.is)
+    (step_by g.S.Store.Step c.args.users.now.users c.args.self.now.view c.args.self.now.held c.args.moment input.Closed
+    (beside c.args.self.now.held (closed_at c.args.self.now.view)) c.args.store.now c.args.store.now c.args.floors.now c.args.floors.now c.close.new.self.view c.close.new.self.held actions.items
+    (at_closed c.args.users.now.users c.args.self.now.view c.args.self.now.held c.args.moment)
+    (ran_then g.S.Store.Step _ c.close.new.self.view actions.items c.args.store.now c.args.floors.now told) c.close.ensures.held)) c.close.ensures.row
 
 pub returns-in-Closed-clause-stops : goal.returns-in-Closed-clause-stops
 returns-in-Closed-clause-stops g c =
-    on_err c.close.result (step_stops_here g.S.Store.Step c.args.users.now.users (admits c.args.floors.now) c.args.self.now.view c.args.self.now.held c.args.moment c.args.input c.args.store.now)
+    on_err c.close.result (step_stops_here g.S.Store.Step c.args.users.now.users c.args.self.now.view c.args.self.now.held c.args.moment c.args.input c.args.store.now)

@@ -1,23 +1,22 @@
 use Rattle.std.proofs.Common.{◌∙◌, ap, refl, sym, subst}
 use Rattle.std.proofs.lemmas.Result.{IfOk-weaker}
 use Rattle.ftp_wire.specs.Reading.{item_of, items_of}
-use Rattle.rate_floors.specs.Promises.{admits}
-use Rattle.session_laws.specs.Steps.{Standing, Took}
+use Rattle.session_table.specs.Steps.{Standing, Took}
 use Rattle.session_table.specs.Plans.{Stops}
 use Rattle.session_table.specs.Table.{Taken, meanwhile}
 use Rattle.session_table.specs.Views.{View}
 use Rattle.session_core.specs.declared.turns.Turn.TheVariants as turn
-use Rattle.session_core.proofs.Plans.{either_way, on_err, on_err_from, on_ok_from, ran_then, standing_of, stops_here, took_by}
-use Rattle.session_core.proofs.Tables.{at_once_counts_none, meanwhile_at}
+use Rattle.session_core.proofs.Plans.{on_err, on_err_from, ran_then, standing_of, stops_here, took_by}
+use Rattle.session_core.proofs.Tables.{meanwhile_at}
 use Rattle.session_core.proofs.session.Session.take_meanwhile.Goals as goal
 
 pub returns-in-AtOnce-clause-row : goal.returns-in-AtOnce-clause-row
 returns-in-AtOnce-clause-row g c =
     let held = items_of c.self.inside.held.items in
     IfOk-weaker c.serve-answer.result _ _ (λ actions ran.
-    subst (λ (s : Standing). Took g.S.Store.Step (meanwhile {A = g.row.A.Denot} {R = g.row.S-Source.Denot} {K = g.row.S-Sink.Denot} c.args.users.now.users (admits c.args.floors.now) s.view s.held c.args.moment (item_of c.args.item)) c.args.store.now c.serve-answer.new.store (standing_of c.serve-answer.new.state held) actions.items) c.self.view_is
-    (took_by g.S.Store.Step _ _ c.args.store.now c.serve-answer.new.store (standing_of c.serve-answer.new.state held) actions.items
-    (meanwhile_at c.args.users.now.users (admits c.args.floors.now) c.self.inside.state held c.args.moment (item_of c.args.item) turn.AtOnce (sym c.in-AtOnce.ensures.turn)) ran refl)) c.serve-answer.ensures.row
+    subst (λ (s : Standing). Took g.S.Store.Step (meanwhile {A = g.row.A.Denot} {R = g.row.S-Source.Denot} {K = g.row.S-Sink.Denot} c.args.users.now.users s.view s.held c.args.moment (item_of c.args.item)) c.args.store.now c.serve-answer.new.store c.args.floors.now c.serve-answer.new.floors (standing_of c.serve-answer.new.state held) actions.items) c.self.view_is
+    (took_by g.S.Store.Step _ _ c.args.store.now c.serve-answer.new.store c.args.floors.now c.serve-answer.new.floors (standing_of c.serve-answer.new.state held) actions.items
+    (meanwhile_at c.args.users.now.users c.self.inside.state held c.args.moment (item_of c.args.item) turn.AtOnce (sym c.in-AtOnce.ensures.turn)) ran refl)) c.serve-answer.ensures.row
 
 pub returns-in-AtOnce-clause-unchanged : goal.returns-in-AtOnce-clause-unchanged
 returns-in-AtOnce-clause-unchanged g c =
@@ -26,15 +25,9 @@ returns-in-AtOnce-clause-unchanged g c =
 pub returns-in-AtOnce-clause-stops : goal.returns-in-AtOnce-clause-stops
 returns-in-AtOnce-clause-stops g c =
     on_err_from c.serve-answer.result (λ stops.
-    subst (λ (s : Standing). Stops g.S.Store.Step (meanwhile {A = g.row.A.Denot} {R = g.row.S-Source.Denot} {K = g.row.S-Sink.Denot} c.args.users.now.users (admits c.args.floors.now) s.view s.held c.args.moment (item_of c.args.item)).plan c.args.store.now c.serve-answer.new.store) c.self.view_is
+    subst (λ (s : Standing). Stops g.S.Store.Step (meanwhile {A = g.row.A.Denot} {R = g.row.S-Source.Denot} {K = g.row.S-Sink.Denot} c.args.users.now.users s.view s.held c.args.moment (item_of c.args.item)).plan c.args.store.now c.serve-answer.new.store) c.self.view_is
     (subst (λ (t : Taken g.row.A.Denot g.row.S-Source.Denot g.row.S-Sink.Denot). Stops g.S.Store.Step t.plan c.args.store.now c.serve-answer.new.store)
-    (sym (meanwhile_at c.args.users.now.users (admits c.args.floors.now) c.self.inside.state (items_of c.self.inside.held.items) c.args.moment (item_of c.args.item) turn.AtOnce (sym c.in-AtOnce.ensures.turn))) stops)) c.serve-answer.ensures.stops
-
-pub returns-in-AtOnce-clause-uncounted : goal.returns-in-AtOnce-clause-uncounted
-returns-in-AtOnce-clause-uncounted g c =
-    either_way c.serve-answer.result
-    (on_ok_from c.serve-answer.result (λ counted. counted ∙ at_once_counts_none c.args.users.now.users c.self.inside.state (item_of c.args.item) c.args.floors.now (sym c.in-AtOnce.ensures.turn)) c.serve-answer.ensures.counted)
-    c.serve-answer.ensures.uncounted
+    (sym (meanwhile_at c.args.users.now.users c.self.inside.state (items_of c.self.inside.held.items) c.args.moment (item_of c.args.item) turn.AtOnce (sym c.in-AtOnce.ensures.turn))) stops)) c.serve-answer.ensures.stops
 
 pub returns-in_err-actions-in-AtTheEnd-clause-stops : goal.returns-in_err-actions-in-AtTheEnd-clause-stops
 returns-in_err-actions-in-AtTheEnd-clause-stops g c = on_err _ (stops_here g.S.Store.Step _ c.args.store.now)
@@ -42,17 +35,17 @@ returns-in_err-actions-in-AtTheEnd-clause-stops g c = on_err _ (stops_here g.S.S
 pub returns-in_ok-actions-in-AtTheEnd-clause-row : goal.returns-in_ok-actions-in-AtTheEnd-clause-row
 returns-in_ok-actions-in-AtTheEnd-clause-row g c =
     let held = items_of c.self-in-AtTheEnd.inside.held.items in
-    subst (λ (s : Standing). Took g.S.Store.Step (meanwhile {A = g.row.A.Denot} {R = g.row.S-Source.Denot} {K = g.row.S-Sink.Denot} c.args.users.now.users (admits c.args.floors.now) s.view s.held c.args.moment (item_of c.args.item)) c.args.store.now c.args.store.now (standing_of c.await_quit.new.self held) c.in_ok-actions-in-AtTheEnd.actions.items) c.self-in-AtTheEnd.view_is
-    (took_by g.S.Store.Step _ _ c.args.store.now c.args.store.now (standing_of c.await_quit.new.self held) c.in_ok-actions-in-AtTheEnd.actions.items
-    (meanwhile_at c.args.users.now.users (admits c.args.floors.now) c.self-in-AtTheEnd.inside.state held c.args.moment (item_of c.args.item) turn.AtTheEnd (sym c.in-AtTheEnd.ensures.turn))
-    (refl, c.await_quit.ensures.quitting, c.in_ok-actions-in-AtTheEnd.ensures.idle) refl)
+    subst (λ (s : Standing). Took g.S.Store.Step (meanwhile {A = g.row.A.Denot} {R = g.row.S-Source.Denot} {K = g.row.S-Sink.Denot} c.args.users.now.users s.view s.held c.args.moment (item_of c.args.item)) c.args.store.now c.args.store.now c.args.floors.now c.args.floors.now (standing_of c.await_quit.new.self held) c.in_ok-actions-in-AtTheEnd.actions.items) c.self-in-AtTheEnd.view_is
+    (took_by g.S.Store.Step _ _ c.args.store.now c.args.store.now c.args.floors.now c.args.floors.now (standing_of c.await_quit.new.self held) c.in_ok-actions-in-AtTheEnd.actions.items
+    (meanwhile_at c.args.users.now.users c.self-in-AtTheEnd.inside.state held c.args.moment (item_of c.args.item) turn.AtTheEnd (sym c.in-AtTheEnd.ensures.turn))
+    (refl, refl, c.await_quit.ensures.quitting, c.in_ok-actions-in-AtTheEnd.ensures.idle) refl)
 
 pub returns-in-Held-clause-row : goal.returns-in-Held-clause-row
 returns-in-Held-clause-row g c =
     IfOk-weaker c.hold.result _ _ (λ actions taken.
-    took_by g.S.Store.Step _ _ c.args.store.now c.args.store.now c.hold.new.self actions.items
-    (meanwhile_at c.args.users.now.users (admits c.args.floors.now) c.args.self.now.view c.args.self.now.held c.args.moment (item_of c.args.item) turn.Held (sym c.in-Held.ensures.turn))
-    (ran_then g.S.Store.Step _ c.hold.new.self.view actions.items c.args.store.now taken.0) taken.1) c.hold.ensures.row
+    took_by g.S.Store.Step _ _ c.args.store.now c.args.store.now c.args.floors.now c.args.floors.now c.hold.new.self actions.items
+    (meanwhile_at c.args.users.now.users c.args.self.now.view c.args.self.now.held c.args.moment (item_of c.args.item) turn.Held (sym c.in-Held.ensures.turn))
+    (ran_then g.S.Store.Step _ c.hold.new.self.view actions.items c.args.store.now c.args.floors.now taken.0) taken.1) c.hold.ensures.row
 
 pub returns-in-Held-clause-stops : goal.returns-in-Held-clause-stops
 returns-in-Held-clause-stops g c = on_err _ (stops_here g.S.Store.Step _ c.args.store.now)

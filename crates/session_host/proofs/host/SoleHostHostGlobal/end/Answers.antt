@@ -1,5 +1,5 @@
 use Rattle.std.proofs.Common.{refl}
-use Rattle.lent_step.proofs.Lending.{lifts}
+use Rattle.control_session.proofs.Lending.{lifts}
 use Rattle.session_host.proofs.host.SoleHostHostGlobal.end.Goals as goal
 
 pub returns-in-Some-clause-row : goal.returns-in-Some-clause-row

@@ -1,7 +1,7 @@
 use Rattle.std.proofs.Common.{ap, refl}
 use Rattle.rate_floors.specs.Promises.{Promises}
 use Rattle.session_host.specs.Alone.{parts}
-use Rattle.lent_step.proofs.Lending.{lend, lend_err}
+use Rattle.control_session.proofs.Lending.{lend, lend_err}
 use Rattle.session_host.proofs.host.SoleHostHostGlobal.step.Goals as goal
 
 pub returns-clause-row : goal.returns-clause-row

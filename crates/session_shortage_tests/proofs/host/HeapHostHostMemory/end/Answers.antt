@@ -1,4 +1,4 @@
-use Rattle.lent_step.proofs.Lending.{lifts}
+use Rattle.control_session.proofs.Lending.{lifts}
 use Rattle.session_shortage_tests.proofs.host.HeapHostHostMemory.end.Goals as goal
 
 pub returns-in-Some-clause-row : goal.returns-in-Some-clause-row

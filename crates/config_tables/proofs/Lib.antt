@@ -1,4 +1,0 @@
-pub mod NoRows
-pub mod NoTables
-pub mod Pairs
-pub mod Pushes

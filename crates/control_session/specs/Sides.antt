@@ -1,0 +1,44 @@
+-- The calls of a data side, with their answers.
+use Rattle.std.specs.Prelude.{ℕ, Option, Some, None}
+use Rattle.ftp_wire.specs.Items.{Item}
+use Rattle.ftp_wire.specs.Reading.{item_of}
+use Rattle.ftp_wire.specs.declared.commands.HostPort.{HostPort}
+use Rattle.session_core.specs.declared.events.DataEvent.{DataEvent}
+use Rattle.session_core.specs.declared.events.DataEvent.TheVariants.{Ready, Ended}
+use Rattle.session_table.specs.declared.actions.Job.{Job}
+use Rattle.session_table.specs.declared.inputs.Input.{Input}
+use Rattle.session_table.specs.declared.inputs.Input.TheVariants as input
+
+-- one call with its answer; R is the type of the store's sources, K of its sinks, A of allocators
+pub data SideCall (A R K : Type 0) : Type 0 where
+  Opens : SideCall A R K
+  Connects : HostPort → SideCall A R K
+  Drops : SideCall A R K
+  Starts : Job A R K → SideCall A R K
+  Aborts : SideCall A R K
+  -- the event that has come, if any
+  Looks : Option (DataEvent K) → SideCall A R K
+  -- the end of the transfer that still ran, if any
+  Settles : Option (DataEvent K) → SideCall A R K
+
+-- an input; of a line, the item as which it reads
+pub data Given (K : Type 0) : Type 0 where
+  Line : Item → Given K
+  Held : Given K
+  Came : DataEvent K → Given K
+  Closed : Given K
+
+abbrev pub given_of : {A K : Type 0} → Input A K → Given K
+given_of (input.Line item) = Line (item_of item)
+given_of input.Held = Held
+given_of (input.TransferEnded end sink) = Came (Ended end sink)
+given_of (input.DataReady port) = Came (Ready port)
+given_of input.Closed = Closed
+
+-- the event of the data side in an input, if it is one
+abbrev pub event_in : {A K : Type 0} → Input A K → Option (DataEvent K)
+event_in (input.Line item) = None
+event_in input.Held = None
+event_in (input.TransferEnded end sink) = Some (Ended end sink)
+event_in (input.DataReady port) = Some (Ready port)
+event_in input.Closed = None

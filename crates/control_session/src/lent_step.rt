@@ -1,0 +1,145 @@
+//! The step of a session over a lent store and lent floors.
+
+ghost use Rattle.std.specs.Prelude.{◌≡◌, IfErr, IfOk, IfSome, OnErr, Some, [], true};
+ghost use Rattle.control_session.specs.Rows.{IsMade, IsStopped};
+ghost use Rattle.control_session.specs.Sides.{event_in, given_of};
+ghost use Rattle.control_session.specs.Sides.Given.{Came, Closed};
+ghost use Rattle.session_core.specs.Events.{leaving_by};
+ghost use Rattle.session_table.specs.Views.{is_closed};
+
+use authorizer::Authorizer;
+use rate_floors::Floors;
+use session_core::{DataEvent, Leaving, Session};
+use session_table::{Action, Input, Text};
+use std::alloc::{AllocError, Allocator};
+use virtual_tree::Store;
+
+// Takes a line, a held line, or the end of the control connection.
+fn step_line<A: Allocator + Clone, F: Allocator + Clone, S: Store<A>>(
+    session: &mut Session<A>,
+    users: &Authorizer<A>,
+    floors: &mut Floors<F>,
+    store: &mut S,
+    input: Input<A, S::Sink>,
+    moment: u64,
+) -> Result<Vec<Action<A, S::Source, S::Sink>, A>, Option<DataEvent<S::Sink>>>
+    ensures row { IfOk result (λ actions. IsMade S.Step users.now.users session.old
+        (given_of input) moment store.old store.new floors.old floors.new session.new
+        actions.items) }
+    ensures unchanged { OnErr result ((session.new ≡ session.old) × (floors.new ≡ floors.old)) }
+    ensures stopped { OnErr result (IsStopped A S.Step users.now.users session.old
+        (given_of input) moment store.old store.new) }
+    ensures back { IfErr result (λ back. back ≡ None) }
+{
+    match session.step(users, floors, store, input, moment) {
+        Ok(actions) => Ok(actions),
+        Err(AllocError) => Err(None),
+    }
+}
+
+// Takes an event of the data side.
+fn step_event<A: Allocator + Clone, F: Allocator + Clone, S: Store<A>>(
+    session: &mut Session<A>,
+    users: &Authorizer<A>,
+    floors: &mut Floors<F>,
+    store: &mut S,
+    event: DataEvent<S::Sink>,
+    moment: u64,
+) -> Result<Vec<Action<A, S::Source, S::Sink>, A>, Option<DataEvent<S::Sink>>>
+    ensures row { IfOk result (λ actions. IsMade S.Step users.now.users session.old
+        (Came event) moment store.old store.new floors.old floors.new session.new
+        actions.items) }
+    ensures unchanged { OnErr result ((session.new ≡ session.old) × (floors.new ≡ floors.old)) }
+    ensures stopped { OnErr result (IsStopped A S.Step users.now.users session.old
+        (Came event) moment store.old store.new) }
+    ensures back { IfErr result (λ back. back ≡ Some event) }
+{
+    match session.take_event(users, store, event, moment) {
+        Ok(actions) => Ok(actions),
+        Err(back) => Err(Some(back)),
+    }
+}
+
+/// Makes one step of a session at a moment, in milliseconds since 1970. If memory runs out the session and the floors
+/// are unchanged, the store is as its looks, if any, left it, and an event of the data side is returned.
+pub fn step_by<A: Allocator + Clone, F: Allocator + Clone, S: Store<A>>(
+    session: &mut Session<A>,
+    users: &Authorizer<A>,
+    floors: &mut Floors<F>,
+    store: &mut S,
+    input: &mut Option<Input<A, S::Sink>>,
+    moment: u64,
+) -> Result<Vec<Action<A, S::Source, S::Sink>, A>, Option<DataEvent<S::Sink>>>
+    ensures row { IfSome input.old (λ input. IfOk result (λ actions.
+        IsMade S.Step users.now.users session.old (given_of input) moment store.old store.new
+        floors.old floors.new session.new actions.items)) }
+    ensures unchanged { OnErr result ((session.new ≡ session.old) × (floors.new ≡ floors.old)) }
+    ensures stopped { IfSome input.old (λ input. OnErr result (
+        IsStopped A S.Step users.now.users session.old (given_of input) moment
+        store.old store.new)) }
+    ensures back { IfSome input.old (λ input. IfErr result (λ back. back ≡ event_in input)) }
+{
+    match input.take() {
+        None => Err(None),
+        Some(Input::TransferEnded { end, sink }) => {
+            step_event(
+                session,
+                users,
+                floors,
+                store,
+                DataEvent::Ended { end, sink },
+                moment,
+            )
+        }
+        Some(Input::DataReady(port)) => {
+            step_event(
+                session,
+                users,
+                floors,
+                store,
+                DataEvent::Ready(port),
+                moment,
+            )
+        }
+        Some(Input::Line(item)) => {
+            step_line(session, users, floors, store, Input::Line(item), moment)
+        }
+        Some(Input::Held) => step_line(session, users, floors, store, Input::Held, moment),
+        Some(Input::Closed) => step_line(session, users, floors, store, Input::Closed, moment),
+    }
+}
+
+/// Takes the end of the control connection, without memory. The text is empty.
+pub fn close_by<A: Allocator + Clone, F: Allocator + Clone, S: Store<A>>(
+    session: &mut Session<A>,
+    users: &Authorizer<A>,
+    floors: &mut Floors<F>,
+    store: &mut S,
+    nobody: Text<A>,
+    moment: u64,
+) -> Option<Leaving<A>>
+    requires nobody { nobody ≡ [] }
+    ensures row { IsMade {A = A} {R = S.Source} {K = S.Sink} S.Step users.now.users session.old
+        Closed moment store.old store.new floors.old floors.new session.new
+        (leaving_by result) }
+    ensures closed { is_closed session.new.view.stage ≡ true }
+{
+    session.leave::<S>(nobody)
+}
+
+/// Takes an event of the data side after that, without memory.
+pub fn end_by<A: Allocator + Clone, F: Allocator + Clone, S: Store<A>>(
+    session: &mut Session<A>,
+    users: &Authorizer<A>,
+    floors: &mut Floors<F>,
+    store: &mut S,
+    event: DataEvent<S::Sink>,
+    moment: u64,
+)
+    requires closed { is_closed session.old.view.stage ≡ true }
+    ensures row { IsMade {A = A} {R = S.Source} S.Step users.now.users session.old (Came event)
+        moment store.old store.new floors.old floors.new session.new [] }
+    ensures closed { is_closed session.new.view.stage ≡ true }
+{
+    session.take_event_silently(store, event, moment);
+}

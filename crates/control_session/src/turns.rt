@@ -1,0 +1,211 @@
+//! The turns of a control session.
+
+ghost use Rattle.std.specs.Prelude.{◌≡◌, ◌≤◌, ◌⊎◌, ◌++◌, ◌||◌, [], ◌∷◌, Bool, IfErr, List, MatchOption, None, OnErr, OnOk, Option, Some, false, length, true};
+ghost use Rattle.std.specs.Vec.Iter.{into_iter_items};
+ghost use Rattle.control_session.specs.Rows.{IsRow};
+ghost use Rattle.control_session.specs.Standing.{AllTaken, IsLost, stand};
+ghost use Rattle.control_session.specs.Turns.{Heard, HoldsFewer, Next, Went, asked_as, at, behind, due};
+ghost use Rattle.control_session.specs.Sides.{Given, given_of};
+ghost use Rattle.ftp_wire.specs.Items.{Item};
+ghost use Rattle.ftp_wire.specs.Reading.{item_of, items_of};
+ghost use Rattle.session_core.specs.Events.{input_of};
+ghost use Rattle.session_core.specs.declared.events.DataEvent.{DataEvent};
+ghost use Rattle.control_session.specs.Sides.Given.{Closed};
+ghost use Rattle.std.specs.Prelude.{◌≢◌};
+
+use crate::actions::closes;
+use crate::carrying::carry_out;
+use crate::host::Host;
+use crate::talk::Talk;
+use crate::turn_fault::TurnFault;
+use authorizer::Authorizer;
+use ftp_wire::LineItem;
+use session_core::DataEvent;
+use session_table::Input;
+use std::alloc::Allocator;
+use std::vec::IntoIter;
+
+/// Converts an event of the data side into an input.
+fn as_input<A: Allocator, K>(event: DataEvent<K>) -> Input<A, K>
+    ensures input { result ≡ input_of event }
+{
+    match event {
+        DataEvent::Ready(port) => Input::DataReady(port),
+        DataEvent::Ended { end, sink } => Input::TransferEnded { end, sink },
+    }
+}
+
+fn either(first: bool, second: bool) -> bool
+    ensures { result ≡ (first || second) }
+{
+    first || second
+}
+
+/// The result of a turn, by the fault of its replies.
+fn ended(lost: Option<TurnFault>) -> Result<(), TurnFault>
+    ensures whole { OnOk result (lost ≡ None) }
+    ensures lost { IfErr result (λ fault. lost ≡ Some fault) }
+{
+    match lost {
+        None => Ok(()),
+        Some(fault) => Err(fault),
+    }
+}
+
+/// One turn: passes an input to the session and carries out its actions. If memory runs out for the step, nothing is
+/// done, and an event of the data side stays.
+pub(crate) fn turn<A: Allocator + Clone, H: Host<A>>(
+    alloc: &A,
+    host: &mut H,
+    users: &Authorizer<A>,
+    talk: &mut Talk<A, H::Sink>,
+    input: Input<A, H::Sink>,
+) -> Result<(), TurnFault>
+    requires live { given_of input ≢ Closed }
+    ensures went { (came : Option (DataEvent H.Sink)) (taken : List Item) (heard : Heard)
+        (taken' : List Item)
+        → Next (at talk.old.session came taken heard [] talk.old.closed talk.old.lost)
+        (given_of input) talk.old.came taken'
+        → (last : List Item) × (heard' : Heard)
+        × Went (IsRow {A = A} {R = H.Source} H.Step users.now.users) H.Does
+        host.old (at talk.old.session came taken heard [] talk.old.closed talk.old.lost)
+        host.new (stand talk.new last heard')
+        × ((last ≡ taken) ⊎ (last ≡ taken')) × OnOk result (last ≡ taken')
+        × ((heard' ≡ heard) ⊎ (heard' ≡ behind (given_of input) heard)) }
+    ensures none { OnOk result (talk.new.came ≡ talk.old.came) }
+    ensures whole { OnOk result (talk.new.lost ≡ None) }
+    ensures held { OnOk result (HoldsFewer (given_of input) talk.old.session talk.new.session) }
+    ensures lost { IfErr result (IsLost talk.new.lost) }
+{
+    let actions = match host.step(users, &mut talk.session, &mut Some(input)) {
+        Ok(actions) => actions,
+        Err(back) => {
+            talk.came = back;
+            talk.lost = Some(TurnFault::Memory);
+            return Err(TurnFault::Memory);
+        }
+    };
+    talk.closed = either(talk.closed, closes(&actions));
+    talk.lost = carry_out(alloc, host, talk.lost, actions);
+    ended(talk.lost)
+}
+
+/// Takes the next event of the data side, if any. It does not wait.
+pub(crate) fn look<A: Allocator + Clone, H: Host<A>>(
+    alloc: &A,
+    host: &mut H,
+    users: &Authorizer<A>,
+    talk: &mut Talk<A, H::Sink>,
+) -> Result<(), TurnFault>
+    requires none { talk.old.came ≡ None }
+    requires whole { talk.old.lost ≡ None }
+    ensures went { (taken : List Item) (heard : Heard)
+        → Went (IsRow {A = A} {R = H.Source} H.Step users.now.users) H.Does
+        host.old (stand talk.old taken heard)
+        host.new (stand talk.new taken (asked_as true heard)) }
+    ensures none { OnOk result (talk.new.came ≡ None) }
+    ensures whole { OnOk result (talk.new.lost ≡ None) }
+    ensures held { OnOk result
+        (length talk.new.session.held ≤ length talk.old.session.held) }
+    ensures lost { IfErr result (IsLost talk.new.lost) }
+{
+    match host.look() {
+        None => Ok(()),
+        Some(event) => turn(alloc, host, users, talk, as_input(event)),
+    }
+}
+
+/// Takes the next event of the data side and each held line that is due, with the events after it.
+pub(crate) fn catch_up<A: Allocator + Clone, H: Host<A>>(
+    alloc: &A,
+    host: &mut H,
+    users: &Authorizer<A>,
+    talk: &mut Talk<A, H::Sink>,
+) -> Result<(), TurnFault>
+    requires none { talk.old.came ≡ None }
+    requires whole { talk.old.lost ≡ None }
+    ensures went { (taken : List Item) (heard : Heard)
+        → (asked : Bool) × Went (IsRow {A = A} {R = H.Source} H.Step users.now.users) H.Does
+        host.old (stand talk.old taken heard) host.new (stand talk.new taken (asked_as asked heard))
+        × OnOk result (asked ≡ true) }
+    ensures none { OnOk result (talk.new.came ≡ None) }
+    ensures whole { OnOk result (talk.new.lost ≡ None) }
+    ensures due { OnOk result (due talk.new.session ≡ false) }
+    ensures lost { IfErr result (IsLost talk.new.lost) }
+{
+    look(alloc, host, users, talk)?;
+    while talk.session.held_due() {
+        turn(alloc, host, users, talk, Input::Held)?;
+        look(alloc, host, users, talk)?;
+    }
+    Ok(())
+}
+
+/// Takes a line, with the events and the held lines after it.
+fn take_line<A: Allocator + Clone, H: Host<A>>(
+    alloc: &A,
+    host: &mut H,
+    users: &Authorizer<A>,
+    talk: &mut Talk<A, H::Sink>,
+    item: LineItem<A>,
+) -> Result<(), TurnFault>
+    requires none { talk.old.came ≡ None }
+    requires whole { talk.old.lost ≡ None }
+    requires live { talk.old.closed ≡ false }
+    requires due { due talk.old.session ≡ false }
+    ensures went { (taken rest : List Item) (heard : Heard)
+        → heard.items ≡ taken ++ item_of item ∷ rest → heard.asked ≡ true
+        → (last : List Item) × (asked : Bool)
+        × Went (IsRow {A = A} {R = H.Source} H.Step users.now.users) H.Does
+        host.old (stand talk.old taken heard) host.new (stand talk.new last (asked_as asked heard))
+        × OnOk result ((last ≡ taken ++ item_of item ∷ []) × (asked ≡ true)) }
+    ensures none { OnOk result (talk.new.came ≡ None) }
+    ensures whole { OnOk result (talk.new.lost ≡ None) }
+    ensures due { OnOk result (due talk.new.session ≡ false) }
+    ensures lost { IfErr result (IsLost talk.new.lost) }
+{
+    turn(alloc, host, users, talk, Input::Line(item))?;
+    catch_up(alloc, host, users, talk)
+}
+
+fn next_of<T, A: Allocator>(left: &mut IntoIter<T, A>) -> Option<T>
+    ensures first { MatchOption result (into_iter_items left.old ≡ [])
+        (λ first. into_iter_items left.old ≡ first ∷ into_iter_items left.new) }
+{
+    left.next()
+}
+
+/// Takes events and held lines, and then lines, each with the events and the held lines after it, up to one that closes
+/// the control connection.
+pub(crate) fn take_lines<A: Allocator + Clone, H: Host<A>>(
+    alloc: &A,
+    host: &mut H,
+    users: &Authorizer<A>,
+    talk: &mut Talk<A, H::Sink>,
+    items: Vec<LineItem<A>, A>,
+) -> Result<(), TurnFault>
+    requires none { talk.old.came ≡ None }
+    requires whole { talk.old.lost ≡ None }
+    ensures went { (taken : List Item) (heard : Heard) → heard.items ≡ taken ++ items_of items.items
+        → (last : List Item) × (asked : Bool)
+        × Went (IsRow {A = A} {R = H.Source} H.Step users.now.users) H.Does
+        host.old (stand talk.old taken heard) host.new (stand talk.new last (asked_as asked heard))
+        × OnOk result ((asked ≡ true) × ((talk.new.closed ≡ true) ⊎ AllTaken last heard)) }
+    ensures none { OnOk result (talk.new.came ≡ None) }
+    ensures whole { OnOk result (talk.new.lost ≡ None) }
+    ensures due { OnOk result (due talk.new.session ≡ false) }
+    ensures lost { IfErr result (IsLost talk.new.lost) }
+{
+    catch_up(alloc, host, users, talk)?;
+    if talk.closed {
+        return Ok(());
+    }
+    let mut left = items.into_iter();
+    while let Some(item) = next_of(&mut left) {
+        take_line(alloc, host, users, talk, item)?;
+        if talk.closed {
+            return Ok(());
+        }
+    }
+    Ok(())
+}

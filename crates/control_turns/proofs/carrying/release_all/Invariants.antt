@@ -1,9 +1,0 @@
-use Rattle.std.proofs.Common.{ℕ, ◌≡◌, ◌++◌, List, drop}
-use Rattle.session_laws.specs.Laws.{releases}
-use Rattle.control_turns.specs.Calls.{Chain}
-use Rattle.control_turns.specs.Turns.{release_calls}
-use Rattle.control_turns.proofs.carrying.release_all.Given as goal
-
-abbrev pub invariant-loop-action : goal.invariant-loop-action
-invariant-loop-action g l = (done : List ℕ) × Chain g.H.Host.Does l.fn.host (release_calls done) l.host
-    × (releases l.fn.actions ≡ done ++ releases (drop l.action-index l.actions))

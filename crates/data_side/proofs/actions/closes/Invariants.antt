@@ -1,6 +1,0 @@
-use Rattle.std.proofs.Common.{◌≡◌, drop}
-use Rattle.data_side.specs.Told.{closes}
-use Rattle.data_side.proofs.actions.closes.Given as goal
-
-abbrev pub invariant-loop-action : goal.invariant-loop-action
-invariant-loop-action g l = closes (drop l.action-index l.actions) ≡ closes l.fn.actions

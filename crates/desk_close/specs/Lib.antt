@@ -1,2 +1,0 @@
-pub mod Close
-pub mod AllLanes

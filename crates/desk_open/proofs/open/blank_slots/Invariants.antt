@@ -1,7 +1,0 @@
-use Rattle.std.proofs.Common.{◌≡◌, replicate, ◌≤◌}
-use Rattle.std.specs.Prelude.{vec_len, vec_capacity}
-use Rattle.desk_rule.specs.declared.view.LaneSlot.TheVariants.{Blank}
-use Rattle.desk_open.proofs.open.blank_slots.Given as goal
-
-abbrev pub invariant-loop-i : goal.invariant-loop-i
-invariant-loop-i g l = (l.slots.items ≡ replicate l.i Blank) × (vec_len l.slots ≡ l.i) × (l.lanes ≤ vec_capacity l.slots)

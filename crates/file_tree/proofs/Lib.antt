@@ -1,4 +1,0 @@
-pub mod Listings
-pub mod Moves
-pub mod Spots
-pub mod Trees

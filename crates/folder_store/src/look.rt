@@ -1,0 +1,96 @@
+//! Metadata of entries of the machine.
+
+ghost use Rattle.std.specs.Prelude.{◌≡◌, ◌≢◌, ◌⊎◌, ◌↔◌, IsTrue, MatchOption};
+ghost use Rattle.std.specs.IoError.{error_kind};
+ghost use Rattle.folder_store.specs.Times.{shown};
+ghost use Rattle.folder_store.specs.Told.{IsTold, IsNeither};
+
+use crate::fault::MachineFault;
+use ftp_terms::{EntryKind, LATEST, Meta};
+use std::fs::Metadata;
+use std::io;
+use std::io::ErrorKind;
+use std::os::unix::fs::MetadataExt;
+use virtual_tree::StoreFault;
+
+/// Why a call was refused, from the machine's error kind. A full disk is a fault of the device.
+pub(crate) fn fault_of(error: &io::Error) -> MachineFault
+    ensures none { error_kind error.now ≡ ErrorKind.NotFound → result ≡ MachineFault.NotFound }
+    ensures file { error_kind error.now ≡ ErrorKind.NotADirectory → result ≡ MachineFault.NotDir }
+    ensures directory { error_kind error.now ≡ ErrorKind.IsADirectory → result ≡ MachineFault.IsDir }
+    ensures stands { error_kind error.now ≡ ErrorKind.AlreadyExists → result ≡ MachineFault.Exists }
+    ensures bare { error_kind error.now ≡ ErrorKind.DirectoryNotEmpty
+        → result ≡ MachineFault.NotEmpty }
+    ensures memory { error_kind error.now ≡ ErrorKind.OutOfMemory → result ≡ MachineFault.Memory }
+    ensures denied { error_kind error.now ≡ ErrorKind.PermissionDenied
+        → result ≡ MachineFault.Device }
+    ensures disk { error_kind error.now ≡ ErrorKind.StorageFull → result ≡ MachineFault.Device }
+{
+    match error.kind() {
+        ErrorKind::NotFound => MachineFault::NotFound,
+        ErrorKind::NotADirectory => MachineFault::NotDir,
+        ErrorKind::IsADirectory => MachineFault::IsDir,
+        ErrorKind::AlreadyExists => MachineFault::Exists,
+        ErrorKind::DirectoryNotEmpty => MachineFault::NotEmpty,
+        ErrorKind::OutOfMemory => MachineFault::Memory,
+        _ => MachineFault::Device,
+    }
+}
+
+/// Why an open file could not be read or written.
+pub(crate) fn end_fault(error: &io::Error) -> StoreFault
+    ensures either { (result ≡ StoreFault.Device) ⊎ (result ≡ StoreFault.Memory) }
+    ensures memory { error_kind error.now ≡ ErrorKind.OutOfMemory → result ≡ StoreFault.Memory }
+    ensures device { error_kind error.now ≢ ErrorKind.OutOfMemory → result ≡ StoreFault.Device }
+{
+    if error.kind() == ErrorKind::OutOfMemory {
+        return StoreFault::Memory;
+    }
+    StoreFault::Device
+}
+
+/// Whole seconds since 1970; a time outside the years 1970 to 9999 becomes the nearest second
+/// inside them.
+pub(crate) fn seconds(time: i64) -> u64
+    ensures seconds { result ≡ shown time }
+{
+    match u64::try_from(time) {
+        Ok(seconds) => seconds.min(LATEST),
+        Err(_) => 0,
+    }
+}
+
+/// The metadata of a directory or a file; `None` for anything else, such as a link.
+pub(crate) fn meta_of(metadata: &Metadata) -> Option<Meta>
+    ensures told { MatchOption result (IsNeither metadata.now) (IsTold metadata.now) }
+{
+    if metadata.is_dir() {
+        return Some(Meta::new(EntryKind::Directory, 0, seconds(metadata.mtime())));
+    }
+    if metadata.is_file() {
+        return Some(Meta::new(EntryKind::File, metadata.len(), seconds(metadata.mtime())));
+    }
+    None
+}
+
+/// The machine's identity of an entry: its device, and its number there.
+#[derive(Clone, Copy)]
+pub(crate) struct Identity {
+    device: u64,
+    number: u64,
+}
+
+/// The machine's identity of an entry. No contract can say which numbers it returns.
+pub(crate) fn identity_of(metadata: &Metadata) -> Identity {
+    Identity {
+        device: metadata.dev(),
+        number: metadata.ino(),
+    }
+}
+
+/// Returns whether both are the same entry.
+pub(crate) fn is_same(looked: Identity, opened: Identity) -> bool
+    ensures same { IsTrue result ↔ (looked ≡ opened) }
+{
+    looked.device == opened.device && looked.number == opened.number
+}

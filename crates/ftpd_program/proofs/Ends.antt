@@ -1,0 +1,80 @@
+-- The ends of commands, for the words that name them.
+use Rattle.std.proofs.Common.{◌≡◌, ℕ, List, Option, option_map, subst}
+use Rattle.command_line.specs.Given.{IsCheck, IsCheckConfig, IsMigrate, IsOfSheets, IsScript, IsServe, IsShare}
+use Rattle.command_line.specs.declared.words.SheetWords.TheVariants.{Share, Check}
+use Rattle.command_line.specs.declared.words.Words.{Words}
+use Rattle.command_line.specs.declared.words.Words.TheVariants.{Sheet, CheckConfig, Migrate, Script, Serve}
+use Rattle.script_session.specs.declared.fault.SessionFault.{SessionFault}
+use Rattle.sheets_program.specs.Runs.{IsCheckEnd, IsShareEnd, Octets}
+use Rattle.ftpd_program.specs.Endings.{IsCommon}
+use Rattle.ftpd_program.specs.Runs.{IsCommandEnd, IsMigrateEnd, IsReportEnd, IsScriptEnd}
+use Rattle.ftpd_program.specs.Scripting.{IsUnscripted}
+use Rattle.ftpd_program.specs.Serving.{IsServeEnd, Service}
+use Rattle.ftpd_program.specs.declared.ending.Ending.{Ending}
+use Rattle.ftpd_program.specs.declared.ending.Ending.TheVariants.{Common, Config, Session, Server}
+use Rattle.ftpd_program.specs.declared.scripting.ScriptFault.{ScriptFault}
+use Rattle.ftpd_program.specs.declared.scripting.ScriptFault.TheVariants.{Session as Unserved}
+
+pub share_end : (gives : List ℕ → Octets) (serves : Service) (Refuses : List ℕ → Type 0) (words : Words) (sheet : List ℕ) (old new : Option (List ℕ)) (ending : Ending)
+    → IsOfSheets (IsShare sheet) words → IsCommandEnd gives serves Refuses words old new ending → IsCommon (IsShareEnd gives sheet old new) ending
+share_end gives serves Refuses (Sheet (Share path)) sheet old new (Common ending) is end = subst (λ (p : List ℕ). IsShareEnd gives p old new ending) is end
+share_end gives serves Refuses (Sheet (Share path)) sheet old new (Config fault) is end = absurd end
+share_end gives serves Refuses (Sheet (Share path)) sheet old new (Session fault) is end = absurd end
+share_end gives serves Refuses (Sheet (Share path)) sheet old new (Server fault) is end = absurd end
+share_end gives serves Refuses (Sheet (Check path other)) sheet old new ending is end = absurd is
+share_end gives serves Refuses (CheckConfig path) sheet old new ending is end = absurd is
+share_end gives serves Refuses (Migrate path) sheet old new ending is end = absurd is
+share_end gives serves Refuses (Script path) sheet old new ending is end = absurd is
+share_end gives serves Refuses (Serve path stop_file) sheet old new ending is end = absurd is
+
+pub check_end : (gives : List ℕ → Octets) (serves : Service) (Refuses : List ℕ → Type 0) (words : Words) (sheet grants : List ℕ) (old new : Option (List ℕ)) (ending : Ending)
+    → IsOfSheets (IsCheck sheet grants) words → IsCommandEnd gives serves Refuses words old new ending → IsCommon (IsCheckEnd gives sheet grants old new) ending
+check_end gives serves Refuses (Sheet (Check path other)) sheet grants old new (Common ending) is end =
+    let first = subst (λ (p : List ℕ). IsCheckEnd gives p other.now old new ending) is.0 end in
+    subst (λ (p : List ℕ). IsCheckEnd gives sheet p old new ending) is.1 first
+check_end gives serves Refuses (Sheet (Check path other)) sheet grants old new (Config fault) is end = absurd end
+check_end gives serves Refuses (Sheet (Check path other)) sheet grants old new (Session fault) is end = absurd end
+check_end gives serves Refuses (Sheet (Check path other)) sheet grants old new (Server fault) is end = absurd end
+check_end gives serves Refuses (Sheet (Share path)) sheet grants old new ending is end = absurd is
+check_end gives serves Refuses (CheckConfig path) sheet grants old new ending is end = absurd is
+check_end gives serves Refuses (Migrate path) sheet grants old new ending is end = absurd is
+check_end gives serves Refuses (Script path) sheet grants old new ending is end = absurd is
+check_end gives serves Refuses (Serve path stop_file) sheet grants old new ending is end = absurd is
+
+pub report_end : (gives : List ℕ → Octets) (serves : Service) (Refuses : List ℕ → Type 0) (words : Words) (config : List ℕ) (old new : Option (List ℕ)) (ending : Ending)
+    → IsCheckConfig config words → IsCommandEnd gives serves Refuses words old new ending → IsReportEnd (gives config) Refuses old new ending
+report_end gives serves Refuses (CheckConfig path) config old new ending is end = subst (λ (p : List ℕ). IsReportEnd (gives p) Refuses old new ending) is end
+report_end gives serves Refuses (Sheet words) config old new ending is end = absurd is
+report_end gives serves Refuses (Migrate path) config old new ending is end = absurd is
+report_end gives serves Refuses (Script path) config old new ending is end = absurd is
+report_end gives serves Refuses (Serve path stop_file) config old new ending is end = absurd is
+
+pub migrate_end : (gives : List ℕ → Octets) (serves : Service) (Refuses : List ℕ → Type 0) (words : Words) (config : List ℕ) (old new : Option (List ℕ)) (ending : Ending)
+    → IsMigrate config words → IsCommandEnd gives serves Refuses words old new ending → IsMigrateEnd (gives config) Refuses old new ending
+migrate_end gives serves Refuses (Migrate path) config old new ending is end = subst (λ (p : List ℕ). IsMigrateEnd (gives p) Refuses old new ending) is end
+migrate_end gives serves Refuses (Sheet words) config old new ending is end = absurd is
+migrate_end gives serves Refuses (CheckConfig path) config old new ending is end = absurd is
+migrate_end gives serves Refuses (Script path) config old new ending is end = absurd is
+migrate_end gives serves Refuses (Serve path stop_file) config old new ending is end = absurd is
+
+pub script_end : (gives : List ℕ → Octets) (serves : Service) (Refuses : List ℕ → Type 0) (words : Words) (config : List ℕ) (old new : Option (List ℕ)) (ending : Ending)
+    → IsScript config words → IsCommandEnd gives serves Refuses words old new ending → IsScriptEnd gives config old new ending
+script_end gives serves Refuses (Script path) config old new ending is end = subst (λ (p : List ℕ). IsScriptEnd gives p old new ending) is end
+script_end gives serves Refuses (Sheet words) config old new ending is end = absurd is
+script_end gives serves Refuses (CheckConfig path) config old new ending is end = absurd is
+script_end gives serves Refuses (Migrate path) config old new ending is end = absurd is
+script_end gives serves Refuses (Serve path stop_file) config old new ending is end = absurd is
+
+pub serve_end : (gives : List ℕ → Octets) (serves : Service) (Refuses : List ℕ → Type 0) (words : Words) (config : List ℕ) (path : Option (List ℕ)) (old new : Option (List ℕ)) (ending : Ending)
+    → IsServe config path words → IsCommandEnd gives serves Refuses words old new ending → IsServeEnd (gives config) serves path old new ending
+serve_end gives serves Refuses (Serve word stop_file) config path old new ending is end =
+    let first = subst (λ (p : List ℕ). IsServeEnd (gives p) serves (option_map (λ w. w.now) stop_file) old new ending) is.0 end in
+    subst (λ (p : Option (List ℕ)). IsServeEnd (gives config) serves p old new ending) is.1 first
+serve_end gives serves Refuses (Sheet words) config path old new ending is end = absurd is
+serve_end gives serves Refuses (CheckConfig word) config path old new ending is end = absurd is
+serve_end gives serves Refuses (Migrate word) config path old new ending is end = absurd is
+serve_end gives serves Refuses (Script word) config path old new ending is end = absurd is
+
+pub unserved : (text before after old new : Option (List ℕ)) (fault : ScriptFault) (why : SessionFault)
+    → IsUnscripted text before after old new fault → fault ≡ Unserved why → IsUnscripted text before after old new (Unserved why)
+unserved text before after old new fault why so is = subst (λ (f : ScriptFault). IsUnscripted text before after old new f) is so

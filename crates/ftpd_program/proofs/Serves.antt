@@ -1,0 +1,27 @@
+-- The ends of `serve`.
+use Rattle.std.proofs.Common.{ℕ, List, Option, Ok, Err}
+use Rattle.server_config.specs.declared.config.Config.{Config}
+use Rattle.sheets_program.specs.Runs.{Octets}
+use Rattle.sheets_program.specs.declared.ending.Ending.TheVariants.{Done, Flawed, Refused, Text, Share, Check}
+use Rattle.ftpd_program.specs.Serving.{Answer, IsConfigIn, IsServeEnd, IsUnconfiguredEnd, Service, end_of}
+use Rattle.ftpd_program.specs.declared.ending.Ending.{Ending}
+use Rattle.ftpd_program.specs.declared.ending.Ending.TheVariants.{Common, Config as Unread, Session, Server}
+
+-- what the server answered
+pub answered : (gives : Octets) (serves : Service) (path old new : Option (List ℕ)) (config : Config) (answer : Answer) → IsConfigIn gives config
+    → serves config path old new answer → IsServeEnd gives serves path old new (end_of answer)
+answered gives serves path old new config (Ok tt) read is = (config, read, is)
+answered gives serves path old new config (Err why) read is = (config, read, is)
+
+-- the server was not called
+pub not_called : (gives : Octets) (serves : Service) (path old new : Option (List ℕ)) (ending : Ending) → IsUnconfiguredEnd gives ending
+    → IsServeEnd gives serves path old new ending
+not_called gives serves path old new (Common Done) is = absurd is
+not_called gives serves path old new (Common Flawed) is = absurd is
+not_called gives serves path old new (Common (Refused told)) is = absurd is
+not_called gives serves path old new (Common (Text why cause)) is = is
+not_called gives serves path old new (Common (Share why cause)) is = absurd is
+not_called gives serves path old new (Common (Check why cause)) is = absurd is
+not_called gives serves path old new (Unread why) is = is
+not_called gives serves path old new (Session why) is = absurd is
+not_called gives serves path old new (Server why) is = absurd is

@@ -1,0 +1,44 @@
+use Rattle.ftpd_program.proofs.Ends.{check_end, migrate_end, report_end, script_end, serve_end, share_end}
+use Rattle.ftpd_program.proofs.run.run_words.Goals as goal
+
+pub returns-in-Ok-clause-share : goal.returns-in-Ok-clause-share
+returns-in-Ok-clause-share g c = λ sheet plain are.
+    let old = g.W.TextWriter.contents c.args.output.now in
+    let new = g.W.TextWriter.contents c.run_command.new.output in
+    share_end _ g.V.Server.Serves _ _ _ old new _ (c.in-Ok.ensures.share sheet plain are) c.run_command.ensures.end
+
+pub returns-in-Ok-clause-check : goal.returns-in-Ok-clause-check
+returns-in-Ok-clause-check g c = λ sheet grants plain also are.
+    let old = g.W.TextWriter.contents c.args.output.now in
+    let new = g.W.TextWriter.contents c.run_command.new.output in
+    check_end _ g.V.Server.Serves _ _ _ _ old new _ (c.in-Ok.ensures.check sheet grants plain also are) c.run_command.ensures.end
+
+pub returns-in-Ok-clause-check_config : goal.returns-in-Ok-clause-check_config
+returns-in-Ok-clause-check_config g c = λ config plain are.
+    let old = g.W.TextWriter.contents c.args.output.now in
+    let new = g.W.TextWriter.contents c.run_command.new.output in
+    report_end _ g.V.Server.Serves _ _ _ old new _ (c.in-Ok.ensures.check_config config plain are) c.run_command.ensures.end
+
+pub returns-in-Ok-clause-migrate : goal.returns-in-Ok-clause-migrate
+returns-in-Ok-clause-migrate g c = λ config plain are.
+    let old = g.W.TextWriter.contents c.args.output.now in
+    let new = g.W.TextWriter.contents c.run_command.new.output in
+    migrate_end _ g.V.Server.Serves _ _ _ old new _ (c.in-Ok.ensures.migrate config plain are) c.run_command.ensures.end
+
+pub returns-in-Ok-clause-script : goal.returns-in-Ok-clause-script
+returns-in-Ok-clause-script g c = λ config plain are.
+    let old = g.W.TextWriter.contents c.args.output.now in
+    let new = g.W.TextWriter.contents c.run_command.new.output in
+    script_end _ g.V.Server.Serves _ _ _ old new _ (c.in-Ok.ensures.script config plain are) c.run_command.ensures.end
+
+pub returns-in-Ok-clause-serve : goal.returns-in-Ok-clause-serve
+returns-in-Ok-clause-serve g c = λ config plain are.
+    let old = g.W.TextWriter.contents c.args.output.now in
+    let new = g.W.TextWriter.contents c.run_command.new.output in
+    serve_end _ g.V.Server.Serves _ _ _ _ old new _ (c.in-Ok.ensures.serve config plain are) c.run_command.ensures.end
+
+pub returns-in-Ok-clause-serve_until : goal.returns-in-Ok-clause-serve_until
+returns-in-Ok-clause-serve_until g c = λ config path plain also are.
+    let old = g.W.TextWriter.contents c.args.output.now in
+    let new = g.W.TextWriter.contents c.run_command.new.output in
+    serve_end _ g.V.Server.Serves _ _ _ _ old new _ (c.in-Ok.ensures.serve_until config path plain also are) c.run_command.ensures.end

@@ -1,0 +1,29 @@
+-- The endings of the program.
+use Rattle.std.specs.Prelude.{ℕ}
+use Rattle.script_session.specs.declared.fault.SessionFault.TheVariants.{Control, Folder}
+use Rattle.sheets_program.specs.Endings as common
+use Rattle.sheets_program.specs.declared.ending.Ending.{Ending as CommonEnding}
+use Rattle.ftpd_program.specs.declared.ending.Ending.{Ending}
+use Rattle.ftpd_program.specs.declared.ending.Ending.TheVariants.{Common, Config, Session, Server}
+
+abbrev pub status_of : Ending → ℕ
+status_of (Common ending) = common.status_of ending
+status_of (Config fault) = 1
+status_of (Session fault) = 1
+status_of (Server fault) = 1
+
+-- nothing was written: the command line or the configuration is refused, or there is a fault other than that of the
+-- output; of a session that broke off, some replies may have been, and of a server, its messages
+abbrev pub IsUnwritten : Ending → Type 0
+IsUnwritten (Common ending) = common.IsUnwritten ending
+IsUnwritten (Config fault) = Unit {0}
+IsUnwritten (Session Folder) = Unit {0}
+IsUnwritten (Session (Control why)) = ⊥
+IsUnwritten (Server fault) = ⊥
+
+-- an ending that any command may have, with that property
+abbrev pub IsCommon : (CommonEnding → Type 0) → Ending → Type 0
+IsCommon P (Common ending) = P ending
+IsCommon P (Config fault) = ⊥
+IsCommon P (Session fault) = ⊥
+IsCommon P (Server fault) = ⊥

@@ -1,0 +1,44 @@
+-- The effect of `serve`.
+use Rattle.std.specs.Prelude.{ℕ, List, Option, Result, Ok, Err}
+use Rattle.server_config.specs.declared.config.Config.{Config}
+use Rattle.sheets_program.specs.Runs.{Octets}
+use Rattle.sheets_program.specs.declared.ending.Ending.TheVariants.{Done, Text}
+use Rattle.ftpd_program.specs.Faults.{IsReadingFaultOf}
+use Rattle.ftpd_program.specs.Scripting.{IsConfigOf, IsRefusalOf}
+use Rattle.ftpd_program.specs.declared.ending.Ending.{Ending}
+use Rattle.ftpd_program.specs.declared.ending.Ending.TheVariants.{Common, Config as Unread, Server}
+use Rattle.ftpd_program.specs.declared.server.ServerFault.{ServerFault}
+
+abbrev pub Answer : Type 0
+Answer = Result (Unit {0}) ServerFault
+
+-- the possible calls of a server: the configuration, the stop file, the contents of the output before and after, and
+-- the result
+abbrev pub Service : Type 1
+Service = Config → Option (List ℕ) → Option (List ℕ) → Option (List ℕ) → Answer → Type 0
+
+-- a file that may have these contents has that configuration
+abbrev pub IsConfigIn : Octets → Config → Type 0
+IsConfigIn gives config = (text : Option (List ℕ)) × gives text × IsConfigOf text config
+
+-- the server had that result for the configuration of the file
+abbrev pub IsAnswered : Octets → Service → Option (List ℕ) → Option (List ℕ) → Option (List ℕ) → Answer → Type 0
+IsAnswered gives serves stop_file old new answer = (config : Config) × IsConfigIn gives config × serves config stop_file old new answer
+
+-- the ending of a command without a configuration of its file
+abbrev pub IsUnconfiguredEnd : Octets → Ending → Type 0
+IsUnconfiguredEnd gives (Common (Text fault cause)) = IsReadingFaultOf gives fault
+IsUnconfiguredEnd gives (Unread fault) = (text : Option (List ℕ)) × gives text × IsRefusalOf text fault
+IsUnconfiguredEnd gives _ = ⊥
+
+-- the ending of `serve`, by the contents that the configuration may have, a server, and a stop
+-- file, if any
+abbrev pub IsServeEnd : Octets → Service → Option (List ℕ) → Option (List ℕ) → Option (List ℕ) → Ending → Type 0
+IsServeEnd gives serves stop_file old new (Common Done) = IsAnswered gives serves stop_file old new (Ok tt)
+IsServeEnd gives serves stop_file old new (Server fault) = IsAnswered gives serves stop_file old new (Err fault)
+IsServeEnd gives serves stop_file old new ending = IsUnconfiguredEnd gives ending
+
+-- the ending of a command for the result of the server
+abbrev pub end_of : Answer → Ending
+end_of (Ok done) = Common Done
+end_of (Err fault) = Server fault

@@ -1,0 +1,72 @@
+//! The endings of the program.
+ghost use Rattle.std.specs.Prelude.{◌≡◌};
+ghost use Rattle.ftpd_program.specs.Endings.{status_of};
+
+use crate::server::ServerFault;
+use script_session::SessionFault;
+use server_config::ConfigFault;
+use sheets_program::{Ending as Common, Told as SheetsTold};
+use std::{fmt, io};
+
+const NAME: &str = "ftpd";
+
+const FOLDER_FOR_SCRIPT: &str = "[server]: root: `script` serves no folder, but `memory` alone";
+
+/// The ending of a run of the program.
+#[derive(Debug, Drop)]
+pub enum Ending<'w> {
+    /// An ending that any command may have.
+    Common(Common<'w>),
+    /// The configuration is refused.
+    Config(ConfigFault),
+    /// A folder is configured, but the store has to be in memory; or the control session broke off.
+    Session(SessionFault),
+    /// The server ended otherwise than its configuration says.
+    Server(ServerFault),
+}
+
+impl<'w> Ending<'w> {
+    /// The status: 0 for work that is done, 1 for a fault, 2 for a refused command line, 3 for grants with a flaw.
+    pub fn status(&self) -> u8
+        ensures status { result ≡ status_of self.now }
+    {
+        match self {
+            Ending::Common(ending) => ending.status(),
+            Ending::Config(_) | Ending::Session(_) | Ending::Server(_) => 1,
+        }
+    }
+}
+
+/// An ending as printed on standard error: the name of the fault in the last line, and details above it.
+#[derive(Clone, Copy)]
+pub struct Told<'e, 'w> {
+    pub ending: &'e Ending<'w>,
+    /// The last error of standard output, if there was one.
+    pub output: Option<io::Error>,
+}
+
+impl fmt::Display for Told<'_, '_> {
+    fn fmt<W: fmt::Write>(&self, f: &mut fmt::Formatter<W>) -> fmt::Result {
+        match self.ending {
+            Ending::Common(ending) => {
+                let told = SheetsTold {
+                    name: NAME,
+                    ending,
+                    output: self.output,
+                };
+                write!(f, "{told}")
+            }
+            Ending::Config(fault) => {
+                writeln!(f, "{fault}")?;
+                writeln!(f, "{NAME}: {}", fault.name())
+            }
+            Ending::Session(fault) => {
+                if *fault == SessionFault::Folder {
+                    writeln!(f, "{FOLDER_FOR_SCRIPT}")?;
+                }
+                writeln!(f, "{NAME}: {fault}")
+            }
+            Ending::Server(fault) => writeln!(f, "{NAME}: {fault}"),
+        }
+    }
+}

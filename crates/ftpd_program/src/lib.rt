@@ -1,0 +1,29 @@
+//! The program `ftpd`: the command that its words name, run on files; the status that it ends with, and its messages on
+//! standard error.
+//!
+//! ```text
+//! let mut files = Text(SMALL); // opens what the words name
+//! let mut output = Vec::new(rt.alloc());
+//! let mut server = Noting::new(); // what `serve` would call
+//! let words = ["migrate", "ftpd.toml"];
+//! let ending = run_words(rt.alloc(), &words, &mut files, &mut server, &mut output);
+//! holds(&rt, ending.status() == 0);
+//! holds(&rt, output.starts_with(b"version = 2\n"));
+//! ```
+#![tactic(auto)]
+
+mod checking;
+mod ending;
+mod migrating;
+mod run;
+mod scripting;
+mod server;
+mod serving;
+
+pub use checking::{ReportFault, run_check_config};
+pub use ending::{Ending, Told};
+pub use migrating::{MigrateFault, run_migrate};
+pub use run::run_words;
+pub use scripting::{ScriptFault, run_script};
+pub use server::{Server, ServerFault};
+pub use sheets_program::{Openings, STANDARD_INPUT};

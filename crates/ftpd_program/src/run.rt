@@ -1,0 +1,216 @@
+//! Running the command of a line's words.
+ghost use Rattle.std.specs.Prelude.{◌≡◌, ◌≢◌, ◌⊎◌, ◌∷◌, [], ℕ, List, None, Some, codes, map};
+ghost use Rattle.clap.specs.Words.{fault_of, subcommand_of};
+ghost use Rattle.command_line.specs.Commands.{ftpd};
+ghost use Rattle.command_line.specs.Given.{IsFound, IsPlainWord, IsRefusal};
+ghost use Rattle.command_line.specs.declared.words.Words.{Words};
+ghost use Rattle.command_line.specs.declared.words.WordsFault.{WordsFault};
+ghost use Rattle.sheets_program.specs.Endings.{IsOutOfMemory, IsToldEnd};
+ghost use Rattle.sheets_program.specs.Runs.{IsCheckEnd, IsShareEnd};
+ghost use Rattle.ftpd_program.specs.Causes.{AreCommandOpened, AreScriptOpened, IsCommandWhy, IsReadWhy, IsScriptWhy};
+ghost use Rattle.ftpd_program.specs.Endings.{IsCommon, IsUnwritten};
+ghost use Rattle.ftpd_program.specs.Runs.{IsCommandEnd, IsMigrateEnd, IsReportEnd, IsScriptEnd};
+ghost use Rattle.ftpd_program.specs.Serving.{IsServeEnd};
+
+use super::checking::{ReportFault, run_check_config};
+use super::ending::Ending;
+use super::migrating::{MigrateFault, run_migrate};
+use super::scripting::{ScriptFault, run_script};
+use super::server::Server;
+use super::serving::serve;
+use command_line::{Words, read_words};
+use sheets_program::{
+    Ending as Common, Openings, STANDARD_INPUT, is_input, run_sheet_words, tell, text_cause,
+};
+use std::alloc::Global;
+use text_io::{TextFault, TextWriter};
+
+const NO_TEXT_LEFT: &str =
+    "error: standard input cannot be both the configuration and the control text\n";
+
+fn check_config<'w, O: Openings, W: TextWriter>(
+    alloc: Global,
+    config: &'w str,
+    files: &mut O,
+    output: &mut W,
+) -> Ending<'w>
+    ensures end { IsReportEnd (O.Gives files.old config.now) (W.may_refuse output.old)
+        (W.contents output.old) (W.contents output.new) result }
+    ensures why { IsReadWhy config.now
+        (O.MayRefuse files.old config.now ⊎ O.MayFail files.old config.now) result }
+    ensures opened { O.Opens files.old config.now files.new }
+    ensures unwritten { IsUnwritten result → output.new ≡ output.old }
+{
+    let mut file = match files.open(config) {
+        Ok(file) => file,
+        Err(error) => {
+            let cause = text_cause(TextFault::ReadFault, config, Some(error));
+            return Ending::Common(Common::Text(TextFault::ReadFault, cause));
+        }
+    };
+    match run_check_config(alloc, &mut file, output) {
+        Ok(()) => Ending::Common(Common::Done),
+        Err(ReportFault::Config(fault)) => Ending::Config(fault),
+        Err(ReportFault::Text(fault)) => {
+            let cause = text_cause(fault, config, O::reason(&file));
+            Ending::Common(Common::Text(fault, cause))
+        }
+    }
+}
+
+fn migrate<'w, O: Openings, W: TextWriter>(
+    alloc: Global,
+    config: &'w str,
+    files: &mut O,
+    output: &mut W,
+) -> Ending<'w>
+    ensures end { IsMigrateEnd (O.Gives files.old config.now) (W.may_refuse output.old)
+        (W.contents output.old) (W.contents output.new) result }
+    ensures why { IsReadWhy config.now
+        (O.MayRefuse files.old config.now ⊎ O.MayFail files.old config.now) result }
+    ensures opened { O.Opens files.old config.now files.new }
+    ensures unwritten { IsUnwritten result → output.new ≡ output.old }
+{
+    let mut file = match files.open(config) {
+        Ok(file) => file,
+        Err(error) => {
+            let cause = text_cause(TextFault::ReadFault, config, Some(error));
+            return Ending::Common(Common::Text(TextFault::ReadFault, cause));
+        }
+    };
+    match run_migrate(alloc, &mut file, output) {
+        Ok(()) => Ending::Common(Common::Done),
+        Err(MigrateFault::Config(fault)) => Ending::Config(fault),
+        Err(MigrateFault::Text(fault)) => {
+            let cause = text_cause(fault, config, O::reason(&file));
+            Ending::Common(Common::Text(fault, cause))
+        }
+    }
+}
+
+/// Serves the control text of standard input. Both files are opened before anything is read.
+fn script<'w, O: Openings, W: TextWriter>(
+    alloc: Global,
+    config: &'w str,
+    files: &mut O,
+    output: &mut W,
+) -> Ending<'w>
+    ensures end { IsScriptEnd (O.Gives files.old) config.now
+        (W.contents output.old) (W.contents output.new) result }
+    ensures why { IsScriptWhy (O.MayRefuse files.old)
+        (O.MayFail files.old) config.now result }
+    ensures opened { AreScriptOpened O.Opens files.old files.new
+        (O.MayRefuse files.old) config.now result }
+    ensures unwritten { IsUnwritten result → output.new ≡ output.old }
+{
+    if is_input(config) {
+        return Ending::Common(Common::refused(alloc, NO_TEXT_LEFT));
+    }
+    let mut file = match files.open(config) {
+        Ok(file) => file,
+        Err(error) => {
+            let cause = text_cause(TextFault::ReadFault, config, Some(error));
+            return Ending::Common(Common::Text(TextFault::ReadFault, cause));
+        }
+    };
+    let mut input = match files.open(STANDARD_INPUT) {
+        Ok(input) => input,
+        Err(error) => {
+            let cause = text_cause(TextFault::ReadFault, STANDARD_INPUT, Some(error));
+            return Ending::Common(Common::Text(TextFault::ReadFault, cause));
+        }
+    };
+    match run_script(alloc, &mut file, &mut input, output) {
+        Ok(()) => Ending::Common(Common::Done),
+        Err(ScriptFault::Text(fault)) => {
+            let cause = text_cause(fault, config, O::reason(&file));
+            Ending::Common(Common::Text(fault, cause))
+        }
+        Err(ScriptFault::Config(fault)) => Ending::Config(fault),
+        Err(ScriptFault::Session(fault)) => Ending::Session(fault),
+    }
+}
+
+fn run_command<'w, O: Openings, W: TextWriter, V: Server<W>>(
+    alloc: Global,
+    words: Words<'w>,
+    files: &mut O,
+    server: &mut V,
+    output: &mut W,
+) -> Ending<'w>
+    ensures end { IsCommandEnd (O.Gives files.old) V.Serves (W.may_refuse output.old) words.entry
+        (W.contents output.old) (W.contents output.new) result }
+    ensures why { IsCommandWhy (O.Gives files.old) (O.MayRefuse files.old)
+        (O.MayFail files.old) (W.may_refuse output.old) words.entry result }
+    ensures opened { AreCommandOpened O.Opens files.old files.new
+        (O.MayRefuse files.old) words.entry result }
+    ensures unwritten { IsUnwritten result → output.new ≡ output.old }
+{
+    match words {
+        Words::Sheet(words) => Ending::Common(run_sheet_words(alloc, words, files, output)),
+        Words::CheckConfig { config } => check_config(alloc, config, files, output),
+        Words::Migrate { config } => migrate(alloc, config, files, output),
+        Words::Script { config } => script(alloc, config, files, output),
+        Words::Serve { config, stop_file } => {
+            serve(alloc, config, stop_file, files, server, output)
+        }
+    }
+}
+
+/// Runs the command of the words, which do not include the program's name. Nothing is written to the output if the
+/// words are refused, nor before a fault other than that of the output; of a session that broke off, some replies may
+/// have been, and of a server that ended early, its messages.
+pub fn run_words<'w, O: Openings, W: TextWriter, V: Server<W>>(
+    alloc: Global,
+    words: &'w [&'w str],
+    files: &mut O,
+    server: &mut V,
+    output: &mut W,
+) -> Ending<'w>
+    ensures share { (sheet : List ℕ) → IsPlainWord sheet
+        → map (λ s. s.now) words.now ≡ codes "share" ∷ sheet ∷ []
+        → IsCommon (IsShareEnd (O.Gives files.old) sheet
+        (W.contents output.old) (W.contents output.new)) result }
+    ensures check { (sheet grants : List ℕ) → IsPlainWord sheet → IsPlainWord grants
+        → map (λ s. s.now) words.now ≡ codes "check" ∷ sheet ∷ grants ∷ []
+        → IsCommon (IsCheckEnd (O.Gives files.old) sheet grants
+        (W.contents output.old) (W.contents output.new)) result }
+    ensures check_config { (config : List ℕ) → IsPlainWord config
+        → map (λ s. s.now) words.now ≡ codes "check-config" ∷ config ∷ []
+        → IsReportEnd (O.Gives files.old config) (W.may_refuse output.old)
+        (W.contents output.old) (W.contents output.new) result }
+    ensures migrate { (config : List ℕ) → IsPlainWord config
+        → map (λ s. s.now) words.now ≡ codes "migrate" ∷ config ∷ []
+        → IsMigrateEnd (O.Gives files.old config) (W.may_refuse output.old)
+        (W.contents output.old) (W.contents output.new) result }
+    ensures script { (config : List ℕ) → IsPlainWord config
+        → map (λ s. s.now) words.now ≡ codes "script" ∷ config ∷ []
+        → IsScriptEnd (O.Gives files.old) config
+        (W.contents output.old) (W.contents output.new) result }
+    ensures serve { (config : List ℕ) → IsPlainWord config
+        → map (λ s. s.now) words.now ≡ codes "serve" ∷ config ∷ []
+        → IsServeEnd (O.Gives files.old config) V.Serves None
+        (W.contents output.old) (W.contents output.new) result }
+    ensures serve_until { (config path : List ℕ) → IsPlainWord config → IsPlainWord path
+        → map (λ s. s.now) words.now ≡ codes "serve" ∷ config ∷ codes "--stop-file" ∷ path ∷ []
+        → IsServeEnd (O.Gives files.old config) V.Serves (Some path)
+        (W.contents output.old) (W.contents output.new) result }
+    ensures command { fault_of ftpd (map (λ s. s.now) words.now) ≡ []
+        → IsCommon IsOutOfMemory result ⊎ ((command : Words)
+        × IsFound (subcommand_of ftpd (map (λ s. s.now) words.now)) command
+        × IsCommandEnd (O.Gives files.old) V.Serves (W.may_refuse output.old) command
+        (W.contents output.old) (W.contents output.new) result
+        × IsCommandWhy (O.Gives files.old) (O.MayRefuse files.old)
+        (O.MayFail files.old) (W.may_refuse output.old) command result
+        × AreCommandOpened O.Opens files.old files.new (O.MayRefuse files.old) command result) }
+    ensures told { fault_of ftpd (map (λ s. s.now) words.now) ≢ [] → (fault : WordsFault)
+        × IsRefusal (fault_of ftpd (map (λ s. s.now) words.now)) fault
+        × IsCommon (IsToldEnd fault (W.contents output.old) (W.contents output.new)) result
+        × (files.new ≡ files.old) }
+    ensures unwritten { IsUnwritten result → output.new ≡ output.old }
+{
+    match read_words(alloc, words) {
+        Ok(words) => run_command(alloc, words, files, server, output),
+        Err(fault) => Ending::Common(tell(fault, output)),
+    }
+}

@@ -1,0 +1,51 @@
+//! The server that `serve` runs, as a trait: its calls and their results.
+
+ghost use Rattle.std.specs.Prelude.{option_map};
+ghost use Rattle.ftpd_program.specs.Serving.{Service};
+
+use server_config::Config;
+use std::alloc::Global;
+use text_io::TextWriter;
+use thiserror::Error;
+
+/// The reason for which a server ended otherwise than its configuration says. It prints as its name.
+#[derive(Clone, Copy, Debug, PartialEq, Eq, Error)]
+pub enum ServerFault {
+    /// The server cannot listen on the control port.
+    #[error("Bind")]
+    Bind,
+    /// A thread could not be started.
+    #[error("NoThread")]
+    NoThread,
+    /// The output could not be written.
+    #[error("WriteFault")]
+    WriteFault,
+    /// The store cannot be opened: the folder is not there, or the machine reports an error.
+    #[error("Store")]
+    Store,
+    /// Memory ran out.
+    #[error("Memory")]
+    Memory,
+    /// The stop file was there at the start.
+    #[error("Stopped")]
+    Stopped,
+}
+
+/// A server of clients. It writes a message to an output when it is ready, and the settled counts at its end.
+pub trait Server<W: TextWriter> {
+    /// The possible calls: the configuration, the stop file, the contents of the output before and after, and the
+    /// result.
+    ghost Serves: { Service } = { λ _ _ _ _ _. Unit {0} };
+
+    /// Serves clients by a configuration, until it has had its number of sessions, or until a file exists at the path
+    /// of the stop file.
+    fn serve(
+        &mut self,
+        alloc: Global,
+        config: Config,
+        stop_file: Option<&str>,
+        output: &mut W,
+    ) -> Result<(), ServerFault>
+        ensures served { Serves config (option_map (λ w. w.now) stop_file.entry)
+            (W.contents output.old) (W.contents output.new) result };
+}

@@ -1,0 +1,76 @@
+//! The command that serves clients by a configuration.
+
+ghost use Rattle.std.specs.Prelude.{◌≡◌, ◌⊎◌, IfErr, IfOk, option_map};
+ghost use Rattle.ftpd_program.specs.Endings.{IsUnwritten};
+ghost use Rattle.ftpd_program.specs.Causes.{IsReadWhy};
+ghost use Rattle.ftpd_program.specs.Serving.{IsConfigIn, IsServeEnd, IsUnconfiguredEnd, end_of};
+
+use crate::ending::Ending;
+use crate::scripting::{ScriptFault, read_config};
+use crate::server::{Server, ServerFault};
+use server_config::Config;
+use sheets_program::{Ending as Common, Openings, text_cause};
+use std::alloc::Global;
+use text_io::{TextFault, TextWriter};
+
+/// Reads the configuration of a file, which is then closed. `Err` is the ending of the command without it.
+fn config_at<'w, O: Openings>(
+    alloc: Global,
+    path: &'w str,
+    files: &mut O,
+) -> Result<Config, Ending<'w>>
+    ensures config { IfOk result (IsConfigIn (O.Gives files.old path.now)) }
+    ensures refused { IfErr result (IsUnconfiguredEnd (O.Gives files.old path.now)) }
+    ensures why { IfErr result
+        (IsReadWhy path.now (O.MayRefuse files.old path.now ⊎ O.MayFail files.old path.now)) }
+    ensures opened { O.Opens files.old path.now files.new }
+{
+    let mut file = match files.open(path) {
+        Ok(file) => file,
+        Err(error) => {
+            let cause = text_cause(TextFault::ReadFault, path, Some(error));
+            return Err(Ending::Common(Common::Text(TextFault::ReadFault, cause)));
+        }
+    };
+    match read_config(alloc, &mut file) {
+        Ok(config) => Ok(config),
+        Err(ScriptFault::Config(fault)) => Err(Ending::Config(fault)),
+        Err(ScriptFault::Session(fault)) => Err(Ending::Session(fault)),
+        Err(ScriptFault::Text(fault)) => {
+            let cause = text_cause(fault, path, O::reason(&file));
+            Err(Ending::Common(Common::Text(fault, cause)))
+        }
+    }
+}
+
+fn ended<'w>(answer: Result<(), ServerFault>) -> Ending<'w>
+    ensures end { result ≡ end_of answer }
+{
+    match answer {
+        Ok(()) => Ending::Common(Common::Done),
+        Err(fault) => Ending::Server(fault),
+    }
+}
+
+/// Runs `serve`. The configuration is read whole and checked, and its file closed, before the server is called.
+pub(crate) fn serve<'w, O: Openings, W: TextWriter, V: Server<W>>(
+    alloc: Global,
+    config: &'w str,
+    stop_file: Option<&str>,
+    files: &mut O,
+    server: &mut V,
+    output: &mut W,
+) -> Ending<'w>
+    ensures end { IsServeEnd (O.Gives files.old config.now) V.Serves
+        (option_map (λ w. w.now) stop_file.entry)
+        (W.contents output.old) (W.contents output.new) result }
+    ensures why { IsReadWhy config.now
+        (O.MayRefuse files.old config.now ⊎ O.MayFail files.old config.now) result }
+    ensures opened { O.Opens files.old config.now files.new }
+    ensures unwritten { IsUnwritten result → output.new ≡ output.old }
+{
+    match config_at(alloc, config, files) {
+        Ok(config) => ended(server.serve(alloc, config, stop_file, output)),
+        Err(ending) => ending,
+    }
+}

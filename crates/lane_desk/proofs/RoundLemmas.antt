@@ -1,0 +1,164 @@
+-- What trying, deciding and posting leave.
+use Rattle.std.proofs.Common.{◌≡◌, ◌≢◌, ℕ, zero, suc, ◌+◌, ◌<◌, ◌≤◌, List, [], ◌∷◌, ◌++◌, map, length, get_or, set, sum, sym, refl, ap, ◌∙◌, subst, arith, Option, Some, None, IsPermutation, length-append}
+use Rattle.std.proofs.lemmas.List.Sorted.{IsPermutation-refl}
+use Rattle.limit_tree.specs.Sharing.{LimitTree}
+use Rattle.line_rates.specs.declared.ask.Ask.{Ask}
+use Rattle.line_rates.specs.Rates.{Rates}
+use Rattle.line_rates.specs.TickTree.{Asker, lane_in, IsPlan}
+use Rattle.grant_ledger.specs.Books.{BookView}
+use Rattle.desk_rule.specs.declared.view.TurnView.{TurnView}
+use Rattle.desk_rule.specs.Lanes.{unturned, has_missed, has_collected, has_posted, posted_in}
+use Rattle.lane_desk.specs.declared.refusal.RoundRefusal.{RoundRefusal}
+use Rattle.lane_desk.specs.Refusals.{IsRefused}
+use Rattle.lane_desk.specs.Tried.{tried_by, tried, asks_from, mark_of, AreMarks, AreTried}
+use Rattle.lane_desk.specs.Posted.{turn_at, posted_all, AreDue, AllAnswered, nothing_for}
+use Rattle.lane_desk.specs.Rounded.{IsAnswered, IsTurnedAway, IsRound, IsRefusedRound}
+use Rattle.lane_desk.proofs.TriedLemmas.{tried_at, length-tried, posted_same, posted_in-tried}
+use Rattle.lane_desk.proofs.DueLemmas.{many, many_moved, many_at, names_not, place_of, due_of}
+use Rattle.lane_desk.proofs.PostedLemmas.{post_else, post_at, length-posted_all, posted_sum, zero_at, zero_sum}
+
+abbrev Find : Type 0
+Find = Option Ask
+
+abbrev Outcome : Find → TurnView → TurnView → List ℕ → Type 0
+Outcome None t t' ns = t' ≡ has_missed t
+Outcome (Some a) t t' ns = (j : ℕ) × (t' ≡ has_posted (get_or ns j 0) (has_collected a t))
+
+within_due : (ls : List ℕ) (ts : List TurnView) (j : ℕ) → AreDue ls ts → j < length ls → get_or ls j 0 < length ts
+within_due [] ts j d h = absurd (omega (arith, h))
+within_due (l ∷ ls) ts zero d h = d.0
+within_due (l ∷ ls) ts (suc j) d h = within_due ls ts j d.3 (omega (arith, h))
+
+module _ (fs : List Find) (old : List TurnView) (order : List Asker) (ns : List ℕ) (wide : length fs ≡ length old) (answered : AllAnswered old) (moved : IsPermutation (asks_from 0 fs) order) (each : length (map lane_in order) ≡ length ns) where
+  due : AreDue (map lane_in order) (tried fs old)
+  due = due_of fs old order wide answered moved
+
+  many_of : (i : ℕ) → many i order ≡ mark_of (get_or fs i None)
+  many_of i = many_moved i (asks_from 0 fs) order moved ∙ many_at fs i
+
+  outcome : (i : ℕ) → i < length old → Outcome (get_or fs i None) (turn_at old i) (turn_at (posted_all (map lane_in order) ns (tried fs old)) i) ns
+  outcome i near = go (get_or fs i None) refl
+    where
+      go : (f : Find) → get_or fs i None ≡ f → Outcome f (turn_at old i) (turn_at (posted_all (map lane_in order) ns (tried fs old)) i) ns
+      go None e =
+          post_else (map lane_in order) ns (tried fs old) i (names_not i order (many_of i ∙ ap mark_of e))
+          ∙ tried_at fs old i wide near ∙ ap (λ (f : Find). tried_by f (turn_at old i)) e
+      go (Some a) e =
+          let r = place_of i order (many_of i ∙ ap mark_of e) in (
+            r.0,
+            ap (turn_at (posted_all (map lane_in order) ns (tried fs old))) (sym r.2)
+                ∙ post_at (map lane_in order) ns (tried fs old) r.0 due each r.1
+                ∙ ap (λ (k : ℕ). has_posted (get_or ns r.0 0) (turn_at (tried fs old) k)) r.2
+                ∙ ap (has_posted (get_or ns r.0 0)) (tried_at fs old i wide near ∙ ap (λ (f : Find). tried_by f (turn_at old i)) e),
+          )
+
+  posted : (j : ℕ) → j < length (map lane_in order) → (turn_at (posted_all (map lane_in order) ns (tried fs old)) (get_or (map lane_in order) j 0)).posted ≡ (turn_at old (get_or (map lane_in order) j 0)).posted ++ get_or ns j 0 ∷ []
+  posted j near =
+      let k : ℕ = get_or (map lane_in order) j 0 in
+      let here : k < length old = omega (arith, within_due (map lane_in order) (tried fs old) j due near, length-tried fs old) in
+      ap (λ (t : TurnView). t.posted) (post_at (map lane_in order) ns (tried fs old) j due each near)
+      ∙ ap (λ (t : TurnView). t.posted ++ get_or ns j 0 ∷ []) (tried_at fs old k wide here)
+      ∙ ap (λ (p : List ℕ). p ++ get_or ns j 0 ∷ []) (posted_same (get_or fs k None) (turn_at old k))
+
+  still : length (posted_all (map lane_in order) ns (tried fs old)) ≡ length old
+  still = length-posted_all (map lane_in order) ns (tried fs old) ∙ length-tried fs old
+
+  total : posted_in (posted_all (map lane_in order) ns (tried fs old)) ≡ posted_in old + sum ns
+  total = posted_sum (map lane_in order) ns (tried fs old) due each ∙ ap (λ (n : ℕ). n + sum ns) (posted_in-tried fs old)
+
+answers : (f : Find) (t t' : TurnView) (ns : List ℕ) → Outcome f t t' ns → IsAnswered f t t'
+answers None t t' ns o = o
+answers (Some a) t t' ns o = (get_or ns o.0 0, o.1)
+
+turns_away : (f : Find) (t t' : TurnView) (xs : List Asker) → Outcome f t t' (map nothing_for xs) → IsTurnedAway f t t'
+turns_away None t t' xs o = o
+turns_away (Some a) t t' xs o = o.1 ∙ ap (λ (n : ℕ). has_posted n (has_collected a t)) (zero_at xs o.0)
+
+even_after : (f : Find) (t t' : TurnView) → IsAnswered f t t' → length t.collected ≡ length t.posted → length t'.collected ≡ length t'.posted
+even_after None t t' is e = ap (λ (u : TurnView). length u.collected) is ∙ e ∙ sym (ap (λ (u : TurnView). length u.posted) is)
+even_after (Some a) t t' is e = omega (arith, e, ap (λ (u : TurnView). length u.collected) is.1, ap (λ (u : TurnView). length u.posted) is.1, length-append t.collected (a ∷ []), length-append t.posted (is.0 ∷ []))
+
+answered_so : (f : Find) (t t' : TurnView) → IsTurnedAway f t t' → IsAnswered f t t'
+answered_so None t t' is = is
+answered_so (Some a) t t' is = (0, is)
+
+-- the lanes of a plan are due
+pub due_plan : (rates : Rates) (tick : ℕ) (tree : LimitTree) (lanes : List ℕ) (fs : List Find) (old mid : List TurnView) (asks : List Asker) (marks : ℕ) → AreTried fs old mid asks marks → AllAnswered old → IsPlan rates tick asks tree lanes → AreDue lanes mid
+due_plan rates tick tree lanes fs old mid asks marks t answered p =
+    subst (λ (z : List ℕ × List TurnView). AreDue z.0 z.1) (λ q. (sym p.lanes_are q, sym t.turns q))
+    (due_of fs old p.order t.wide answered (subst (λ (xs : List Asker). IsPermutation xs p.order) t.asks_are p.all))
+
+-- so are those of the asks
+pub due_asks : (fs : List Find) (old mid : List TurnView) (asks : List Asker) (marks : ℕ) → AreTried fs old mid asks marks → AllAnswered old → AreDue (map lane_in asks) mid
+due_asks fs old mid asks marks t answered =
+    subst (λ (ts : List TurnView). AreDue (map lane_in asks) ts) (sym t.turns)
+    (due_of fs old asks t.wide answered (subst (λ (xs : List Asker). IsPermutation xs asks) t.asks_are (IsPermutation-refl asks)))
+
+pub posted_mid : (fs : List Find) (old mid : List TurnView) (asks : List Asker) (marks : ℕ) → AreTried fs old mid asks marks → posted_in mid ≡ posted_in old
+posted_mid fs old mid asks marks t = ap posted_in t.turns ∙ posted_in-tried fs old
+
+-- a round that was decided
+pub rounded : (rates : Rates) (tick : ℕ) (tree : LimitTree) (lanes grants : List ℕ) (fs : List Find) (old mid new : List TurnView) (asks : List Asker) (marks : ℕ) → AreTried fs old mid asks marks → AllAnswered old → IsPlan rates tick asks tree lanes
+    → length lanes ≡ length grants → new ≡ posted_all lanes grants mid → IsRound rates tick old new marks tree lanes grants
+rounded rates tick tree lanes grants fs old mid new asks marks t answered p each is =
+    let all : IsPermutation (asks_from 0 fs) p.order = subst (λ (xs : List Asker). IsPermutation xs p.order) t.asks_are p.all in
+    let long : length (map lane_in p.order) ≡ length grants = ap length (sym p.lanes_are) ∙ each in
+    let now : new ≡ posted_all (map lane_in p.order) grants (tried fs old) = is ∙ (λ q. posted_all (p.lanes_are q) grants (t.turns q)) in
+    record {
+      found = fs;
+      wide = t.wide;
+      still = ap length now ∙ still fs old p.order grants t.wide answered all long;
+      each = λ i near. subst (λ (ts : List TurnView). IsAnswered (get_or fs i None) (turn_at old i) (turn_at ts i)) (sym now)
+          (answers (get_or fs i None) (turn_at old i) (turn_at (posted_all (map lane_in p.order) grants (tried fs old)) i) grants (outcome fs old p.order grants t.wide answered all long i near));
+      marks = t.marks;
+      plan = subst (λ (xs : List Asker). IsPlan rates tick xs tree lanes) t.asks_are p;
+      posted = subst (λ (z : List ℕ × List TurnView). (j : ℕ) → j < length z.0 → (turn_at z.1 (get_or z.0 j 0)).posted ≡ (turn_at old (get_or z.0 j 0)).posted ++ get_or grants j 0 ∷ []) (λ q. (sym p.lanes_are q, sym now q))
+          (posted fs old p.order grants t.wide answered all long);
+    }
+
+pub round_total : (rates : Rates) (tick : ℕ) (tree : LimitTree) (lanes grants : List ℕ) (fs : List Find) (old mid new : List TurnView) (asks : List Asker) (marks : ℕ) → AreTried fs old mid asks marks → AllAnswered old → IsPlan rates tick asks tree lanes
+    → length lanes ≡ length grants → new ≡ posted_all lanes grants mid → posted_in new ≡ posted_in old + sum grants
+round_total rates tick tree lanes grants fs old mid new asks marks t answered p each is =
+    ap posted_in is ∙ posted_sum lanes grants mid (due_plan rates tick tree lanes fs old mid asks marks t answered p) each ∙ ap (λ (n : ℕ). n + sum grants) (posted_mid fs old mid asks marks t)
+
+pub answered_round : (rates : Rates) (tick : ℕ) (tree : LimitTree) (lanes grants : List ℕ) (old new : List TurnView) (marks : ℕ) → IsRound rates tick old new marks tree lanes grants → AllAnswered old → AllAnswered new
+answered_round rates tick tree lanes grants old new marks r answered i near =
+    let here : i < length old = omega (arith, near, r.still) in
+    even_after (get_or r.found i None) (turn_at old i) (turn_at new i) (r.each i here) (answered i here)
+
+-- a refused round
+pub refused : (A : Type 0) (rates : Rates) (tick : ℕ) (book : BookView) (reason : RoundRefusal) (fs : List Find) (old mid new : List TurnView) (asks : List Asker) (marks : ℕ) → AreTried fs old mid asks marks → AllAnswered old → IsRefused A rates tick asks book reason
+    → new ≡ posted_all (map lane_in asks) (map nothing_for asks) mid → IsRefusedRound A rates tick book old new marks reason
+refused A rates tick book reason fs old mid new asks marks t answered why is =
+    let all : IsPermutation (asks_from 0 fs) asks = subst (λ (xs : List Asker). IsPermutation xs asks) t.asks_are (IsPermutation-refl asks) in
+    let long : length (map lane_in asks) ≡ length (map nothing_for asks) = one_each asks in
+    let now : new ≡ posted_all (map lane_in asks) (map nothing_for asks) (tried fs old) = is ∙ ap (posted_all (map lane_in asks) (map nothing_for asks)) t.turns in
+    record {
+      found = fs;
+      wide = t.wide;
+      still = ap length now ∙ still fs old asks (map nothing_for asks) t.wide answered all long;
+      each = λ i near. subst (λ (ts : List TurnView). IsTurnedAway (get_or fs i None) (turn_at old i) (turn_at ts i)) (sym now)
+          (turns_away (get_or fs i None) (turn_at old i) (turn_at (posted_all (map lane_in asks) (map nothing_for asks) (tried fs old)) i) asks (outcome fs old asks (map nothing_for asks) t.wide answered all long i near));
+      marks = t.marks;
+      refused = subst (λ (xs : List Asker). IsRefused A rates tick xs book reason) t.asks_are why;
+    }
+  where
+    one_each : (xs : List Asker) → length (map lane_in xs) ≡ length (map nothing_for xs)
+    one_each [] = refl
+    one_each (x ∷ xs) = ap suc (one_each xs)
+
+pub refused_total : (fs : List Find) (old mid new : List TurnView) (asks : List Asker) (marks : ℕ) → AreTried fs old mid asks marks → AllAnswered old → new ≡ posted_all (map lane_in asks) (map nothing_for asks) mid → posted_in new ≡ posted_in old
+refused_total fs old mid new asks marks t answered is =
+    let d = due_asks fs old mid asks marks t answered in
+    let s = posted_sum (map lane_in asks) (map nothing_for asks) mid d (one_each asks) in
+    let m = posted_mid fs old mid asks marks t in
+    omega (arith, ap posted_in is, s, m, zero_sum asks)
+  where
+    one_each : (xs : List Asker) → length (map lane_in xs) ≡ length (map nothing_for xs)
+    one_each [] = refl
+    one_each (x ∷ xs) = ap suc (one_each xs)
+
+pub answered_refused : (A : Type 0) (rates : Rates) (tick : ℕ) (book : BookView) (reason : RoundRefusal) (old new : List TurnView) (marks : ℕ) → IsRefusedRound A rates tick book old new marks reason → AllAnswered old → AllAnswered new
+answered_refused A rates tick book reason old new marks r answered i near =
+    let here : i < length old = omega (arith, near, r.still) in
+    even_after (get_or r.found i None) (turn_at old i) (turn_at new i) (answered_so (get_or r.found i None) (turn_at old i) (turn_at new i) (r.each i here)) (answered i here)

@@ -1,0 +1,37 @@
+use Rattle.std.proofs.Common.{rules, ◌≡◌, ◌<◌, ◌≤◌, List, Option, Some, None, ℕ, ◌+◌, ◌^◌, length, [], ◌∷◌, ◌++◌, ap, ◌∙◌, sym, arith, length-append}
+use Rattle.std.specs.Int.{bit_at}
+use Rattle.line_rates.specs.TickTree.{Asker}
+use Rattle.lane_desk.specs.Turns.{turns}
+use Rattle.lane_desk.specs.Collected.{AsksView}
+use Rattle.lane_desk.proofs.TriedLemmas.{tried_more, asks_more, none_more, marks_missed, marks_found}
+use Rattle.lane_desk.proofs.collect.collect_all.Goals as goal
+use Rattle.lane_desk.proofs.collect.collect_all.Goals.{in-Some, in-None}
+
+pub loop-lane-preserved : goal.loop-lane-preserved
+loop-lane-preserved g c =
+    let l = c.loop-lane in
+    let k = l.invariant in
+    let ts = turns c.args.round.now in
+    let near : l.lane < length ts = omega (arith, c.loop-lane-test.true, c.lanes-lane-end.ensures.turns) in
+    elim c.match-collect.branch [
+      | in-Some w ↦ (
+          let a = w.in-Some.ask in
+          record {
+            found = k.found ++ Some a ∷ [];
+            count = omega (arith, length-append k.found (Some a ∷ []), k.count);
+            same = (c.collect.ensures.same.0 ∙ k.same.0, c.collect.ensures.same.1 ∙ k.same.1, c.collect.ensures.same.2 ∙ k.same.2);
+            turned = tried_more k.found (Some a) ts (turns l.round) (turns c.collect.new.self) l.lane k.count near k.turned w.in-Some.ensures.some;
+            room = omega (arith, ap (λ (q : AsksView). length q.asks) w.asks-is, ap length w.push.ensures.asks, length-append l.asks.asks ((l.lane, a) ∷ []), k.room);
+            asks_are = ap (λ (q : AsksView). q.asks) w.asks-is ∙ w.push.ensures.asks ∙ ap (λ (xs : List Asker). xs ++ (l.lane, a) ∷ []) k.asks_are ∙ sym (asks_more k.found (Some a) l.lane k.count);
+            marks = marks_found k.found a l.asks.answered c.match-collect.asks.answered l.lane k.count k.marks (ap (λ (q : AsksView). q.answered) w.asks-is ∙ w.push.ensures.answered);
+          })
+      | in-None w ↦ record {
+        found = k.found ++ None ∷ [];
+        count = omega (arith, length-append k.found (None ∷ []), k.count);
+        same = (c.collect.ensures.same.0 ∙ k.same.0, c.collect.ensures.same.1 ∙ k.same.1, c.collect.ensures.same.2 ∙ k.same.2);
+        turned = tried_more k.found None ts (turns l.round) (turns c.collect.new.self) l.lane k.count near k.turned w.in-None.ensures.none;
+        room = omega (arith, ap (λ (q : AsksView). length q.asks) w.asks-is, k.room);
+        asks_are = ap (λ (q : AsksView). q.asks) w.asks-is ∙ k.asks_are ∙ sym (none_more k.found l.lane k.count);
+        marks = λ i. ap (λ (q : AsksView). bit_at q.answered i) w.asks-is ∙ marks_missed k.found l.asks.answered k.marks i;
+      }
+    ]

@@ -1,0 +1,21 @@
+-- Names for callers of what the round's seat knows.
+use Rattle.std.specs.Prelude.{◌≡◌, ℕ, ◌<◌, List}
+use Rattle.desk_rule.specs.declared.view.LaneView.{LaneView}
+use Rattle.desk_rule.specs.declared.view.TurnView.{TurnView}
+use Rattle.lane_desk.specs.declared.desk.Desk.{Desk}
+use Rattle.lane_desk.specs.declared.round.RoundDesk.{RoundDesk}
+use Rattle.lane_desk.specs.Seats.{desk_id}
+use Rattle.lane_desk.specs.Held.{round_in}
+
+module _ {N : Type 0} where
+  abbrev pub turns : (RoundDesk N) → List TurnView
+  turns r = (round_in r.seat.me.0).turns
+
+  abbrev pub back : (RoundDesk N) → List LaneView
+  back r = (round_in r.seat.me.0).back
+
+  abbrev pub IsRoundOf : {A : Type 0} → Desk N A → RoundDesk N → Type 0
+  IsRoundOf d r = (r.seat.table_id ≡ desk_id d) × (r.lanes ≡ d.lanes)
+
+  abbrev pub IsSameRound : (RoundDesk N) → (RoundDesk N) → Type 0
+  IsSameRound r q = (q.seat.table_id ≡ r.seat.table_id) × (q.lanes ≡ r.lanes) × (back q ≡ back r)

@@ -1,0 +1,26 @@
+//! Faults of opening a desk.
+
+use std::alloc::AllocError;
+use thiserror::Error;
+
+/// Why a desk cannot be opened.
+#[derive(Clone, Copy, Debug, PartialEq, Eq, Error)]
+pub enum DeskFault {
+    /// It would have more than 64 lanes.
+    #[error("TooMany")]
+    TooMany,
+    /// Memory ran out.
+    #[error("Memory")]
+    Memory,
+}
+
+impl From<AllocError> for DeskFault {
+    ghost use Rattle.std.specs.Prelude.{◌≡◌};
+    ghost use Rattle.lane_desk.specs.declared.fault.DeskFault.TheVariants.{Memory};
+
+    ghost from_gives = { λ e fault. fault ≡ Memory };
+
+    fn from(_error: AllocError) -> DeskFault {
+        DeskFault::Memory
+    }
+}

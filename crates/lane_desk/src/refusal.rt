@@ -1,0 +1,33 @@
+//! Refusals of rounds.
+
+use limit_tree::TreeFault;
+use std::alloc::AllocError;
+use thiserror::Error;
+
+/// Why a round is refused: the first of these that applies, in the order `NotYet`, `Plan`, `Memory`, `BookFull`.
+#[derive(Clone, Copy, Debug, PartialEq, Eq, Error)]
+pub enum RoundRefusal {
+    /// The tick is not above that of the book's last entry, which is included.
+    #[error("NotYet")]
+    NotYet(u64),
+    /// The book would have issued more than `MAX_ISSUED` octets.
+    #[error("BookFull")]
+    BookFull,
+    /// The limit tree of the tick has a fault.
+    #[error("Plan")]
+    Plan(TreeFault),
+    /// Memory ran out.
+    #[error("Memory")]
+    Memory,
+}
+
+impl From<AllocError> for RoundRefusal {
+    ghost use Rattle.std.specs.Prelude.{◌≡◌};
+    ghost use Rattle.lane_desk.specs.declared.refusal.RoundRefusal.TheVariants.{Memory};
+
+    ghost from_gives = { λ e fault. fault ≡ Memory };
+
+    fn from(_error: AllocError) -> RoundRefusal {
+        RoundRefusal::Memory
+    }
+}

@@ -1,7 +1,0 @@
-use Rattle.std.proofs.Common.{rules}
-use Rattle.desk_rule.proofs.Keeps.{sits}
-use Rattle.lane_seats.proofs.Calls.{owns_of}
-use Rattle.lane_seats.proofs.seat.LaneSeat.sit.Goals as goal
-
-pub store-requires : goal.store-requires
-store-requires g c = (search rules, search rules, sits _ _ _ _ (owns_of _ _ _ c.args.self.now.knows.0) c.requires.state)

@@ -1,4 +1,0 @@
-pub mod MachinePaths
-pub mod Refusals
-pub mod Times
-pub mod Told

@@ -1,0 +1,23 @@
+-- Entries of a store in memory as contracts see them.
+use Rattle.std.specs.Prelude.{◌≡◌, ℕ, List, Vec}
+use Rattle.std.specs.Arc.{arc_value}
+use Rattle.std.specs.declared.sync.Arc.{Arc}
+use Rattle.virtual_path.specs.Path.{slashed, names_in, HasNoSlash}
+use Rattle.memory_store.specs.declared.entry.Held.{Held}
+use Rattle.memory_store.specs.declared.entry.Held.TheVariants as held
+use Rattle.memory_store.specs.Tree.{Node}
+use Rattle.memory_store.specs.Tree.Node.{Directory, File}
+
+abbrev pub node_of : {A : Type 0} → Held A → Node
+node_of held.Directory = Directory
+node_of (held.File octets moment) = File (arc_value octets).items moment
+
+-- the shared octets
+abbrev pub shared : {A B : Type 0} → Arc (Vec ℕ A) B → List ℕ
+shared octets = (arc_value octets).items
+
+-- the stored parts of an entry's path: the text of its directory, with `/` before each name, and its
+-- own name
+pub record IsSpotText (directory name : List ℕ) : Type 0 where
+  pub slashes : slashed (names_in directory) ≡ directory
+  pub no_slash : HasNoSlash name

@@ -1,0 +1,112 @@
+//! Entries of a store in memory.
+
+ghost use Rattle.std.specs.Prelude.{◌≡◌, IfOk};
+
+use ftp_terms::{EntryKind, Meta};
+use std::alloc::{AllocError, Allocator};
+use std::marker::Model;
+use std::sync::Arc;
+
+/// A directory, or a file's octets and its modification time.
+///
+/// A file's octets never change and are shared with their readers; a change makes a new list.
+#[derive(Drop)]
+pub(crate) enum Held<A: Allocator> {
+    Directory,
+    File(Arc<Vec<u8, A>, A>, u64),
+}
+
+/// An entry of a store in memory.
+#[derive(Drop)]
+pub(crate) struct Entry<A: Allocator> {
+    held: Held<A>,
+}
+
+impl<A: Allocator> Model for Entry<A> {
+    ghost use Rattle.memory_store.specs.Tree.{Node};
+    ghost use Rattle.memory_store.specs.TreeCodes.{node_code};
+
+    ghost Value = { Node };
+
+    ghost coded = { node_code };
+
+    ghost use Rattle.memory_store.specs.Held.{node_of};
+
+    ghost view = { λ entry. node_of entry.held };
+}
+
+impl<A: Allocator> Entry<A> {
+    ghost use Rattle.std.specs.Prelude.{◌≡◌, IfOk, Some, option_map};
+    ghost use Rattle.memory_store.specs.Held.{shared};
+    ghost use Rattle.memory_store.specs.Tree.{meta_of, size_of, kind_of, octets_of};
+    ghost use Rattle.memory_store.specs.Tree.Node.{Directory, File};
+
+    pub fn directory() -> Entry<A>
+        ensures { result ≡ Directory }
+    {
+        Entry {
+            held: Held::Directory,
+        }
+    }
+
+    pub fn file(octets: Arc<Vec<u8, A>, A>, moment: u64) -> Entry<A>
+        ensures { result ≡ File (shared octets) moment }
+    {
+        Entry {
+            held: Held::File(octets, moment),
+        }
+    }
+
+    pub fn kind(&self) -> EntryKind
+        ensures { result ≡ kind_of self.now }
+    {
+        match &self.held {
+            Held::Directory => EntryKind::Directory,
+            Held::File(_, _) => EntryKind::File,
+        }
+    }
+
+    pub fn size(&self) -> u64
+        ensures { result ≡ size_of self.now }
+    {
+        match &self.held {
+            Held::Directory => 0,
+            Held::File(octets, _) => octets.len() as u64,
+        }
+    }
+
+    pub fn meta(&self) -> Meta
+        ensures { result ≡ meta_of self.now }
+    {
+        match &self.held {
+            Held::Directory => Meta::new(EntryKind::Directory, 0, 0),
+            Held::File(octets, moment) => {
+                Meta::new(EntryKind::File, octets.len() as u64, *moment / 1000)
+            }
+        }
+    }
+
+    /// The octets of a file.
+    pub fn into_octets(self) -> Option<Arc<Vec<u8, A>, A>>
+        ensures { option_map shared result ≡ octets_of self }
+    {
+        match self.held {
+            Held::Directory => None,
+            Held::File(octets, _) => Some(octets),
+        }
+    }
+
+    /// Another handle to the same entry.
+    pub fn share(&self) -> Result<Entry<A>, AllocError>
+        ensures { IfOk result (λ entry. entry ≡ self.now) }
+    {
+        match &self.held {
+            Held::Directory => Ok(Entry {
+                held: Held::Directory,
+            }),
+            Held::File(octets, moment) => Ok(Entry {
+                held: Held::File(Arc::try_clone(octets)?, *moment),
+            }),
+        }
+    }
+}

@@ -1,3 +1,0 @@
-mod Unleased
-mod Leasing
-mod Givings

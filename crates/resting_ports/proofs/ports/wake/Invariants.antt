@@ -1,6 +1,0 @@
-use Rattle.std.proofs.Common.{◌≡◌, take}
-use Rattle.resting_ports.specs.Resting.{unleased}
-use Rattle.resting_ports.proofs.ports.wake.Given as goal
-
-abbrev pub invariant-loop-port : goal.invariant-loop-port
-invariant-loop-port g l = l.pool ≡ unleased l.initial.pool (take l.port-index l.resting)

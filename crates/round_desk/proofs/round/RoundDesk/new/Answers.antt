@@ -1,5 +1,0 @@
-use Rattle.round_desk.proofs.Beginning.{starts}
-use Rattle.round_desk.proofs.round.RoundDesk.new.Goals as goal
-
-pub invariant_of-result : goal.invariant_of-result
-invariant_of-result g c = record { few = c.requires.1; knows = starts _ _ c.requires.0 c.requires.1 }

@@ -1,7 +1,0 @@
--- The sheet of a round that has done nothing, once some lanes had a seat.
-use Rattle.std.specs.Prelude.{ℕ, [], replicate}
-use Rattle.desk_rule.specs.declared.view.RoundView.{RoundView}
-use Rattle.desk_rule.specs.Lanes.{unturned}
-
-abbrev pub dealt_round : ℕ → ℕ → RoundView
-dealt_round k i = record { dealt = i; turns = replicate k unturned; back = [] }

@@ -1,0 +1,19 @@
+use Rattle.script_session.specs.Served.{IsBrokenBy, IsUnserved}
+use Rattle.script_session.proofs.Stores.{no_folder, on_told, on_broken}
+use Rattle.script_session.proofs.serving.serve_config.Goals as goal
+
+pub returns-in-Memory : goal.returns-in-Memory
+returns-in-Memory g c = record {
+  served = on_told c.serve_memory-served.result c.told.result c.told.ensures.served c.serve_memory-served.ensures.served
+      (λ is. (c.in-Memory.store, c.in-Memory.is, is));
+  broken = on_broken
+      (IsBrokenBy c.args.config.users.users c.args.config.limits c.in-Memory.store c.args.config.settings c.args.config.numbers.passive_first
+      (g.R.TextReader.remaining c.args.reader.now) (g.R.TextReader.remaining c.serve_memory-served.new.reader)
+      (g.W.TextWriter.contents c.args.writer.now) (g.W.TextWriter.contents c.serve_memory-served.new.writer))
+      (IsUnserved c.args.config
+      (g.R.TextReader.remaining c.args.reader.now) (g.R.TextReader.remaining c.serve_memory-served.new.reader)
+      (g.W.TextWriter.contents c.args.writer.now) (g.W.TextWriter.contents c.serve_memory-served.new.writer))
+      c.serve_memory-served.result c.told.result c.told.ensures.broken c.serve_memory-served.ensures.broken
+      (λ why is. (c.in-Memory.store, c.in-Memory.is, is));
+  untouched = no_folder _ c.serve_memory-served.result c.told.result c.told.ensures.broken;
+}

@@ -1,0 +1,147 @@
+//! Listings over a data connection, and STAT of a path (RFC 959, section 4.1.3; RFC 3659, section 7).
+//!
+//! If memory runs out the session is unchanged, and the store is as the looks left it.
+
+ghost use Rattle.std.specs.Prelude.{◌≡◌, IfOk, OnErr};
+ghost use Rattle.session_file_rows.specs.Listed.{directory_row, listing_row, style_of};
+ghost use Rattle.session_table.specs.Plans.{RanByStore, Stops};
+ghost use Rattle.session_table.specs.TransferRows.{list_row, mlsd_row, stat_row};
+ghost use Rattle.session_table.specs.TransferRows.Style.{FactLines};
+ghost use Rattle.session_file_rows.specs.declared.style.Way.TheVariants.{OverData};
+
+use crate::style::{Style, Way};
+use crate::told::{tell_entries, tell_file};
+use authorizer::Authorizer;
+use ftp_terms::EntryKind;
+use session_state::{Location, State};
+use session_table::{Action, Refusal};
+use std::alloc::{AllocError, Allocator};
+use virtual_tree::Store;
+
+/// The entries of a directory.
+fn list_directory<A: Allocator + Clone, S: Store<A>>(
+    state: &mut State<A>,
+    users: &Authorizer<A>,
+    store: &mut S,
+    location: &Location<A>,
+    style: Style,
+    way: Way,
+) -> Result<Vec<Action<A, S::Source, S::Sink>, A>, AllocError>
+    ensures row { IfOk result (λ actions. RanByStore S.Step
+        (directory_row users.now.users state.old (style_of style) way location.now)
+        store.old store.new state.new actions.items) }
+    ensures unchanged { OnErr result (state.new ≡ state.old) }
+    ensures stops { OnErr result (Stops {A = A} {R = S.Source} {K = S.Sink} S.Step
+        (directory_row users.now.users state.old (style_of style) way location.now)
+        store.old store.new) }
+{
+    match store.list(location.stored()) {
+        Err(fault) => state.refuse(Refusal::Store(fault)),
+        Ok(entries) => tell_entries(
+            state,
+            users,
+            location.path(),
+            style,
+            way,
+            entries.as_slice(),
+        ),
+    }
+}
+
+/// The entries of a directory, or the file itself.
+fn list_location<A: Allocator + Clone, S: Store<A>>(
+    state: &mut State<A>,
+    users: &Authorizer<A>,
+    store: &mut S,
+    location: &Location<A>,
+    style: Style,
+    way: Way,
+) -> Result<Vec<Action<A, S::Source, S::Sink>, A>, AllocError>
+    ensures row { IfOk result (λ actions. RanByStore S.Step
+        (listing_row users.now.users state.old (style_of style) way location.now)
+        store.old store.new state.new actions.items) }
+    ensures unchanged { OnErr result (state.new ≡ state.old) }
+    ensures stops { OnErr result (Stops {A = A} {R = S.Source} {K = S.Sink} S.Step
+        (listing_row users.now.users state.old (style_of style) way location.now)
+        store.old store.new) }
+{
+    match store.stat(location.stored()) {
+        Err(fault) => state.refuse(Refusal::Store(fault)),
+        Ok(meta) => match meta.kind {
+            EntryKind::File => tell_file(state, users, location.path(), style, way, &meta),
+            EntryKind::Directory => list_directory(state, users, store, location, style, way),
+        },
+    }
+}
+
+/// LIST and NLST.
+pub fn list<A: Allocator + Clone, S: Store<A>>(
+    state: &mut State<A>,
+    users: &Authorizer<A>,
+    store: &mut S,
+    location: &Location<A>,
+    style: Style,
+) -> Result<Vec<Action<A, S::Source, S::Sink>, A>, AllocError>
+    ensures row { IfOk result (λ actions. RanByStore S.Step
+        (list_row users.now.users state.old (style_of style) location.now)
+        store.old store.new state.new actions.items) }
+    ensures unchanged { OnErr result (state.new ≡ state.old) }
+    ensures stops { OnErr result (Stops {A = A} {R = S.Source} {K = S.Sink} S.Step
+        (list_row users.now.users state.old (style_of style) location.now) store.old store.new) }
+{
+    list_location(state, users, store, location, style, Way::OverData)
+}
+
+/// MLSD.
+pub fn list_facts<A: Allocator + Clone, S: Store<A>>(
+    state: &mut State<A>,
+    users: &Authorizer<A>,
+    store: &mut S,
+    location: &Location<A>,
+) -> Result<Vec<Action<A, S::Source, S::Sink>, A>, AllocError>
+    ensures row { IfOk result
+        (λ actions. RanByStore S.Step (mlsd_row users.now.users state.old location.now)
+        store.old store.new state.new actions.items) }
+    ensures unchanged { OnErr result (state.new ≡ state.old) }
+    ensures stops { OnErr result (Stops {A = A} {R = S.Source} {K = S.Sink} S.Step
+        (mlsd_row users.now.users state.old location.now) store.old store.new) }
+{
+    match store.stat(location.stored()) {
+        Err(fault) => state.refuse(Refusal::Store(fault)),
+        Ok(meta) => match meta.kind {
+            EntryKind::File => state.refuse(Refusal::ListsNoFile),
+            EntryKind::Directory => list_directory(
+                state,
+                users,
+                store,
+                location,
+                Style::FactLines,
+                Way::OverData,
+            ),
+        },
+    }
+}
+
+/// STAT with an argument.
+pub fn tell_listing<A: Allocator + Clone, S: Store<A>>(
+    state: &mut State<A>,
+    users: &Authorizer<A>,
+    store: &mut S,
+    location: &Location<A>,
+) -> Result<Vec<Action<A, S::Source, S::Sink>, A>, AllocError>
+    ensures row { IfOk result
+        (λ actions. RanByStore S.Step (stat_row users.now.users state.old location.now)
+        store.old store.new state.new actions.items) }
+    ensures unchanged { OnErr result (state.new ≡ state.old) }
+    ensures stops { OnErr result (Stops {A = A} {R = S.Source} {K = S.Sink} S.Step
+        (stat_row users.now.users state.old location.now) store.old store.new) }
+{
+    list_location(
+        state,
+        users,
+        store,
+        location,
+        Style::LongLines,
+        Way::InReply,
+    )
+}

@@ -1,4 +1,0 @@
-pub mod Inputs
-pub mod Keeping
-pub mod Rows
-pub mod Sources

@@ -1,5 +1,0 @@
-use Rattle.session_laws.proofs.Inputs.{calls_are_rightful}
-use Rattle.session_laws.proofs.laws.calls_are_rightful.Goals as goal
-
-pub returns : goal.returns
-returns g c = record { rightful = calls_are_rightful _ _ _ }

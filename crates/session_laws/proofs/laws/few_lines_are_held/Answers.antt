@@ -1,5 +1,0 @@
-use Rattle.session_laws.proofs.Inputs.{few_lines_are_held}
-use Rattle.session_laws.proofs.laws.few_lines_are_held.Goals as goal
-
-pub returns : goal.returns
-returns g c = record { few = few_lines_are_held _ _ _ }

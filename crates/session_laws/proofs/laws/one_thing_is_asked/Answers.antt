@@ -1,5 +1,0 @@
-use Rattle.session_laws.proofs.Inputs.{one_thing_is_asked}
-use Rattle.session_laws.proofs.laws.one_thing_is_asked.Goals as goal
-
-pub returns : goal.returns
-returns g c = record { one = one_thing_is_asked _ _ _ }

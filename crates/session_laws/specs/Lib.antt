@@ -1,3 +1,0 @@
-pub mod Always
-pub mod Laws
-pub mod Steps

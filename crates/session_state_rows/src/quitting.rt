@@ -1,0 +1,25 @@
+//! QUIT.
+
+ghost use Rattle.std.specs.Prelude.{◌≡◌, ◌≤◌, ◌+◌, IfOk, OnErr, vec_len, vec_capacity};
+ghost use Rattle.session_table.specs.Plans.Plan.{Then};
+ghost use Rattle.session_table.specs.StateRows.{quit_row};
+
+use authorizer::Authorizer;
+use session_state::{Farewell, State, part, room_for};
+use session_table::Action;
+use std::alloc::{AllocError, Allocator};
+
+/// QUIT (RFC 959, section 4.1.1).
+pub fn quit<A: Allocator + Clone, R: Drop, K: Drop>(
+    state: &mut State<A>,
+    users: &Authorizer<A>,
+) -> Result<Vec<Action<A, R, K>, A>, AllocError>
+    ensures row { IfOk result (λ actions.
+        Then state.new actions.items ≡ quit_row users.now.users state.old) }
+    ensures unchanged { OnErr result (state.new ≡ state.old) }
+{
+    let mut actions = room_for(state, 4)?;
+    let farewell = Farewell::new(state, users)?;
+    part(state, farewell, &mut actions);
+    Ok(actions)
+}

@@ -1,0 +1,386 @@
+-- What each input does, and never does.
+use Rattle.std.proofs.Common.{◌≡◌, ℕ, ◌+◌, ◌≤◌, Bool, true, false, cond, not, ◌&&◌, List, [], ◌∷◌, ◌++◌, length, length-append, Option, Some, None, Result, Ok, refl, sym, ap, ◌∙◌, inl, inr, arith, nat_lt}
+use Rattle.std.proofs.lemmas.Bool.{false≢true, ltb-true}
+use Rattle.authorizer.specs.Users.{Users}
+use Rattle.ftp_wire.specs.Items.{Item}
+use Rattle.ftp_wire.specs.Reading.{item_of}
+use Rattle.ftp_wire.specs.declared.commands.Command.TheVariants as command
+use Rattle.ftp_wire.specs.declared.items.LineItem.{LineItem}
+use Rattle.virtual_tree.specs.declared.fault.StoreFault.{StoreFault}
+use Rattle.session_table.specs.Always.{Always}
+use Rattle.session_table.specs.Laws.{AdmissionsAreRightful, CallsAreRightful, FewLinesAreHeld, FloorsAreReleasedOnce, NoCallsOutside, NoTransferUnprepared, OneThingIsAsked, OthersAskNoFloors, IsAllowedCall, IsReturned, IsRightful, IsRightfulAdmission, Releases, asking, logged_in, most_asked, releases, starting}
+use Rattle.session_table.proofs.Keeping.{always_cond, always_taken, always_to}
+use Rattle.session_table.proofs.Rows.{CallFor, Fine, Quiet, UserFor, parting, quiet_then, served_fine, stays}
+use Rattle.session_table.specs.declared.actions.Action.{Action}
+use Rattle.session_table.specs.declared.actions.Action.TheVariants as action
+use Rattle.session_table.specs.declared.actions.HookCall.TheVariants as hook
+use Rattle.session_table.specs.declared.answers.Answer.{Answer}
+use Rattle.session_table.specs.declared.answers.Answer.TheVariants as answer
+use Rattle.session_table.specs.declared.inputs.End.{End}
+use Rattle.session_table.specs.declared.inputs.End.TheVariants as ended
+use Rattle.session_table.specs.declared.inputs.Input.{Input}
+use Rattle.session_table.specs.declared.inputs.Input.TheVariants as input
+use Rattle.session_table.specs.declared.refusals.Refusal.TheVariants as refusal
+use Rattle.session_table.specs.declared.stages.Control.{Control}
+use Rattle.session_table.specs.declared.stages.Control.TheVariants.{Open, Quitting, Closing}
+use Rattle.session_table.specs.declared.stages.Passive.{Passive}
+use Rattle.session_table.specs.Plans.{Plan}
+use Rattle.session_table.specs.Plans.Plan.{Then}
+use Rattle.session_table.specs.Steps.{asks_floors, in_its_turn, is_open, is_pass, is_pass_turn, serves_lines}
+use Rattle.session_table.specs.Table.{Taken, aborts, after_closed, and_quits, beside, closed_row, controlled, end_hook, end_reply, end_row, end_told, ended_by, ended_row, ended_with, held_row, holds, idle, in_turn, meanwhile, most_held, ready_as, ready_by, ready_row, served, table}
+use Rattle.session_table.specs.Calls.{Call}
+use Rattle.session_table.specs.Commands.{Line}
+use Rattle.session_table.specs.Views.{View, Begun, Carried, awaited, is_aborted, is_busy, is_closed, is_inside, running, runs}
+use Rattle.session_table.specs.Views.Begun.{Idle}
+use Rattle.session_table.specs.Views.Carried.{Listing as listing, Sending, Taking}
+
+module _ (A R K : Type 0) where
+  -- ---- lists of actions that start, ask for and release nothing
+
+  none : Quiet A R K []
+  none = record { starts_none = refl; asks_none = refl; releases_none = refl }
+
+  saying : (reply : Answer A) → Quiet A R K (action.Say reply ∷ [])
+  saying reply = record { starts_none = refl; asks_none = refl; releases_none = refl }
+
+  hooking : (errand : Carried) (end : End) → Quiet A R K (end_hook errand end)
+  hooking listing end = none
+  hooking (Sending path) ended.Done = record { starts_none = refl; asks_none = refl; releases_none = refl }
+  hooking (Sending path) _ = record { starts_none = refl; asks_none = refl; releases_none = refl }
+  hooking (Taking path) ended.Done = record { starts_none = refl; asks_none = refl; releases_none = refl }
+  hooking (Taking path) _ = record { starts_none = refl; asks_none = refl; releases_none = refl }
+
+  unless : (aborted : Bool) (reply : Answer A) → Quiet A R K (cond aborted [] (action.Say reply ∷ []))
+  unless true reply = none
+  unless false reply = saying reply
+
+  replying : (control : Control) (aborted : Bool) (reply : Answer A) → Quiet A R K (end_reply control aborted reply)
+  replying Closing aborted reply = none
+  replying Open aborted reply = unless aborted reply
+  replying Quitting aborted reply = unless aborted reply
+
+  aborting : (runs : Bool) → Quiet A R K (cond runs (action.Abort ∷ []) [])
+  aborting true = record { starts_none = refl; asks_none = refl; releases_none = refl }
+  aborting false = none
+
+  -- what the end of the control connection leaves to do
+  abbrev gone : View → Bool → Bool → List (Action A R K)
+  gone view runs inside = cond runs (action.Abort ∷ []) [] ++ cond inside (action.Hook (hook.Logout view.name) ∷ action.ReleaseFloor view.number ∷ []) [] ++ (action.Hook hook.Disconnect ∷ [])
+
+  gone_starts : (view : View) (runs inside : Bool) → starting (gone view runs inside) ≡ 0
+  gone_starts view true true = refl
+  gone_starts view true false = refl
+  gone_starts view false true = refl
+  gone_starts view false false = refl
+
+  gone_asks : (view : View) (runs inside : Bool) → asking (gone view runs inside) ≡ 0
+  gone_asks view true true = refl
+  gone_asks view true false = refl
+  gone_asks view false true = refl
+  gone_asks view false false = refl
+
+  gone_releases : (view : View) (runs inside : Bool) → releases (gone view runs inside) ≡ cond inside (view.number ∷ []) []
+  gone_releases view true true = refl
+  gone_releases view true false = refl
+  gone_releases view false true = refl
+  gone_releases view false false = refl
+
+  -- ---- inputs that are no lines
+
+  module _ (C : Call K → Type 0) (U : ℕ → Type 0) (users : Users) (view : View) where
+    abbrev E : List ℕ → View → List (Action A R K) → Type 0
+    E = Fine A R K view 0
+
+    quits : (begun : Begun) (prepared : Bool) (actions : List (Action A R K)) (control : Control) → Quiet A R K actions
+        → Always C U E [] (and_quits users (record view { begun = begun; prepared = prepared }) actions control)
+    quits begun prepared actions Open quiet = stays A R K view _ 0 actions quiet refl
+    quits begun prepared actions Quitting quiet = parting A R K view _ 0 _ actions quiet refl
+    quits begun prepared actions Closing quiet = stays A R K view _ 0 actions quiet refl
+
+    rests_fine : Always C U E [] (idle view)
+    rests_fine = stays A R K view view 0 [] none refl
+
+    ready_fine : (port : Option ℕ) → Always C U E [] (ready_row users view port)
+    ready_fine port = by (awaited view.begun)
+      where
+        at : (passive : Passive) (port : Option ℕ) → Always C U E [] (ready_as users view passive port)
+        at passive (Some port) = quits Idle true _ view.control (saying _)
+        at passive None = quits Idle view.prepared _ view.control (saying _)
+
+        by : (passive : Option Passive) → Always C U E [] (ready_by users view port passive)
+        by None = rests_fine
+        by (Some passive) = at passive port
+
+    closed_fine : Always C U E [] (closed_row view)
+    closed_fine = record {
+      unprepared = λ _. gone_starts view (runs view.begun) (is_inside view.stage);
+      asks = omega (arith, gone_asks view (runs view.begun) (is_inside view.stage));
+      floors = inr (gone_releases view (runs view.begun) (is_inside view.stage), refl);
+    }
+
+    end_fine : (errand : Carried) (aborted : Bool) (end : End) (finished : Result (Unit {0}) StoreFault) → Always C U E [] (end_row users view errand aborted end finished)
+    end_fine errand aborted end finished = always_cond C U E (is_closed view.stage) _ _ (stays A R K view _ 0 [] none refl)
+        (quits Idle view.prepared _ view.control (quiet_then A R K (end_reply view.control aborted (end_told end finished)) (end_hook errand end) (replying view.control aborted _) (hooking errand end)))
+
+  abbrev over : End → Option K → Input A K
+  over end sink = input.TransferEnded end sink
+
+  ended_fine : (U : ℕ → Type 0) (users : Users) (view : View) (held : List Item) (moment : ℕ) (end : End) (sink : Option K)
+      → Always (IsRightful users view held moment (over end sink)) U (Fine A R K view 0) [] (ended_row users view moment end sink)
+  ended_fine U users view held moment end sink = by sink (running view.begun)
+    where
+      with : (sink : Option K) (errand : Carried)
+          → Always (IsRightful users view held moment (over end sink)) U (Fine A R K view 0) [] (ended_with users view moment errand (is_aborted view.begun) end sink)
+      with (Some sink) errand = (inl (refl, refl), λ answer. end_fine (IsRightful users view held moment (over end (Some sink))) U users view errand (is_aborted view.begun) end answer)
+      with None errand = end_fine (IsRightful users view held moment (over end None)) U users view errand (is_aborted view.begun) end (Ok tt)
+
+      by : (sink : Option K) (errand : Option Carried)
+          → Always (IsRightful users view held moment (over end sink)) U (Fine A R K view 0) [] (ended_by users view moment end sink errand)
+      by sink None = stays A R K view view 0 [] none refl
+      by sink (Some errand) = with sink errand
+
+  -- ---- lines
+
+  not_pass : {X : Type 0} (users : Users) (view : View) (item : Item) (number : ℕ) → is_pass item ≡ false → UserFor A R K users view item number → X
+  not_pass users view item number is user = absurd (false≢true (sym is ∙ ap is_pass user.1))
+
+  module _ (users : Users) (view : View) (moment : ℕ) where
+    abbrev Ends : List ℕ → View → List (Action A R K) → Type 0
+    Ends = Fine A R K view 1
+
+    idle_fine : (C : Call K → Type 0) (U : ℕ → Type 0) → Always C U Ends [] (idle view)
+    idle_fine C U = stays A R K view view 1 [] none refl
+
+    holds_fine : (C : Call K → Type 0) (U : ℕ → Type 0) (held : List Item) (item : Item) → Always C U Ends [] (holds {A = A} {R = R} {K = K} view held item).plan
+    holds_fine C U held item = always_taken C U Ends (nat_lt (length held) most_held) _ _ (idle_fine C U)
+        (stays A R K view _ 1 _ (quiet_then A R K ((action.Say (answer.Refusal refusal.TooManyHeldLines) ∷ []) ++ aborts view) (action.CloseControl ∷ [])
+        (quiet_then A R K (action.Say (answer.Refusal refusal.TooManyHeldLines) ∷ []) (aborts view) (saying _) (aborting (runs view.begun)))
+        (record { starts_none = refl; asks_none = refl; releases_none = refl })) refl)
+
+    -- a line that is served at once is not PASS
+    at_once_fine : (U : ℕ → Type 0) (item : Item) → is_pass item ≡ false → Always (CallFor A R K users view moment item) U Ends [] (served {A = A} {R = R} {K = K} users view moment item)
+    at_once_fine U item is = always_to (CallFor A R K users view moment item) (CallFor A R K users view moment item) (UserFor A R K users view item) U Ends Ends
+        (λ call allowed. allowed) (λ number. not_pass users view item number is) (λ admitted after actions end. end) [] _ (served_fine A R K users view moment item)
+
+    meanwhile_fine : (U : ℕ → Type 0) (held : List Item) (item : Item) → Always (CallFor A R K users view moment item) U Ends [] (meanwhile {A = A} {R = R} {K = K} users view held moment item).plan
+    meanwhile_fine U held (Ok command.Abor) = at_once_fine U (Ok command.Abor) refl
+    meanwhile_fine U held (Ok command.Noop) = at_once_fine U (Ok command.Noop) refl
+    meanwhile_fine U held (Ok (command.Stat None)) = at_once_fine U (Ok (command.Stat None)) refl
+    meanwhile_fine U held (Ok command.Quit) = stays A R K view _ 1 [] none refl
+    meanwhile_fine U held item = holds_fine (CallFor A R K users view moment item) U held item
+
+    abbrev Rightful : List Item → Input A K → Call K → Type 0
+    Rightful held told = IsRightful users view held moment told
+
+    -- what is said of a line that is served holds of the input that it came with
+    comes : (U V : ℕ → Type 0) (held : List Item) (item : LineItem A) (plan : Plan A R K) → ((number : ℕ) → U number → V number)
+        → Always (CallFor A R K users view moment (item_of item)) U Ends [] plan → Always (Rightful held (input.Line item)) V Ends [] plan
+    comes U V held item plan user = always_to (CallFor A R K users view moment (item_of item)) (Rightful held (input.Line item)) U V Ends Ends (λ call allowed. inr allowed) user (λ admitted after actions end. end) [] plan
+
+    abbrev Admission : List Item → Input A K → ℕ → Type 0
+    Admission held told = IsRightfulAdmission users view held told
+
+    -- a user who may be admitted by the line whose turn it is
+    admission : (held : List Item) (told : Input A K) (item : Item) → serves_lines view ≡ true → in_its_turn told held ≡ Some item
+        → (number : ℕ) → UserFor A R K users view item number → Admission held told number
+    admission held told item serves turn number (text, is, named, right, whose) = record {
+      text = text;
+      serves = serves;
+      turn = turn ∙ ap Some is;
+      named = named;
+      right = right;
+      whose = whose;
+    }
+
+    in_turn_fine : (item : LineItem A) (held : List Item) → serves_lines view ≡ true
+        → Always (Rightful held (input.Line item)) (Admission held (input.Line item)) Ends [] (in_turn {A = A} {R = R} {K = K} users view moment (item_of item) held).plan
+    in_turn_fine item [] serves = comes (UserFor A R K users view (item_of item)) (Admission [] (input.Line item)) [] item _ (admission [] (input.Line item) (item_of item) serves refl) (served_fine A R K users view moment (item_of item))
+    in_turn_fine item (first ∷ others) serves = holds_fine (Rightful (first ∷ others) (input.Line item)) (Admission (first ∷ others) (input.Line item)) (first ∷ others) (item_of item)
+
+    line_fine : (item : LineItem A) (held : List Item) (busy : Bool) → (busy ≡ false → serves_lines view ≡ true)
+        → Always (Rightful held (input.Line item)) (Admission held (input.Line item)) Ends []
+        (cond busy (meanwhile {A = A} {R = R} {K = K} users view held moment (item_of item)) (in_turn users view moment (item_of item) held)).plan
+    line_fine item held true serves = comes (Admission held (input.Line item)) (Admission held (input.Line item)) held item _ (λ number user. user) (meanwhile_fine (Admission held (input.Line item)) held (item_of item))
+    line_fine item held false serves = in_turn_fine item held (serves refl)
+
+    held_fine : (held : List Item) (busy : Bool) → (busy ≡ false → serves_lines view ≡ true)
+        → Always (Rightful held input.Held) (Admission held input.Held) Ends [] (cond busy (beside held (idle view)) (held_row {A = A} {R = R} {K = K} users view moment held)).plan
+    held_fine held true serves = idle_fine (Rightful held input.Held) (Admission held input.Held)
+    held_fine [] false serves = idle_fine (Rightful [] input.Held) (Admission [] input.Held)
+    held_fine (first ∷ others) false serves = always_to (CallFor A R K users view moment first) (Rightful (first ∷ others) input.Held) (UserFor A R K users view first) (Admission (first ∷ others) input.Held) Ends Ends
+        (λ call allowed. inr allowed) (admission (first ∷ others) input.Held first (serves refl) refl) (λ admitted after actions end. end) [] _ (served_fine A R K users view moment first)
+
+  -- ---- all inputs
+
+  -- lines are served while the control connection is open and nothing is begun
+  serves_by : (view : View) → is_closed view.stage ≡ false → view.control ≡ Open → is_busy view.begun ≡ false → serves_lines view ≡ true
+  serves_by view stage_is control_is idle =
+      ap (λ (b : Bool). (not b && is_open view.control) && not (is_busy view.begun)) stage_is
+      ∙ (ap (λ (c : Control). (not false && is_open c) && not (is_busy view.begun)) control_is ∙ ap (λ (b : Bool). (not false && is_open Open) && not b) idle)
+
+  module _ (users : Users) (view : View) (held : List Item) (moment : ℕ) where
+    abbrev pub EndAt : Input A K → List ℕ → View → List (Action A R K) → Type 0
+    EndAt told = Fine A R K view (most_asked told)
+
+    abbrev pub CallAt : Input A K → Call K → Type 0
+    CallAt told = IsRightful users view held moment told
+
+    abbrev pub UserAt : Input A K → ℕ → Type 0
+    UserAt told = IsRightfulAdmission users view held told
+
+    abbrev At : Input A K → Bool → Control → Type 0
+    At told closed control = Always (CallAt told) (UserAt told) (EndAt told) []
+        (cond closed (beside held (after_closed users view moment told)) (controlled {A = A} {R = R} {K = K} users view held moment told control)).plan
+
+    pub input_fine : (told : Input A K) → Always (CallAt told) (UserAt told) (EndAt told) [] (table {A = A} {R = R} {K = K} users view held moment told).plan
+    input_fine (input.Line item) = by (is_closed view.stage) view.control refl refl
+      where
+        by : (closed : Bool) (control : Control) → is_closed view.stage ≡ closed → view.control ≡ control → At (input.Line item) closed control
+        by true control _ _ = idle_fine users view moment (CallAt (input.Line item)) (UserAt (input.Line item))
+        by false Open stage_is control_is = line_fine users view moment item held (is_busy view.begun) (serves_by view stage_is control_is)
+        by false Quitting _ _ = idle_fine users view moment (CallAt (input.Line item)) (UserAt (input.Line item))
+        by false Closing _ _ = idle_fine users view moment (CallAt (input.Line item)) (UserAt (input.Line item))
+    input_fine input.Held = by (is_closed view.stage) view.control refl refl
+      where
+        by : (closed : Bool) (control : Control) → is_closed view.stage ≡ closed → view.control ≡ control → At input.Held closed control
+        by true control _ _ = idle_fine users view moment (CallAt input.Held) (UserAt input.Held)
+        by false Open stage_is control_is = held_fine users view moment held (is_busy view.begun) (serves_by view stage_is control_is)
+        by false Quitting _ _ = idle_fine users view moment (CallAt input.Held) (UserAt input.Held)
+        by false Closing _ _ = idle_fine users view moment (CallAt input.Held) (UserAt input.Held)
+    input_fine (input.TransferEnded end sink) = by (is_closed view.stage) view.control
+      where
+        by : (closed : Bool) (control : Control) → At (input.TransferEnded end sink) closed control
+        by true control = ended_fine (UserAt (input.TransferEnded end sink)) users view held moment end sink
+        by false Open = ended_fine (UserAt (input.TransferEnded end sink)) users view held moment end sink
+        by false Quitting = ended_fine (UserAt (input.TransferEnded end sink)) users view held moment end sink
+        by false Closing = ended_fine (UserAt (input.TransferEnded end sink)) users view held moment end sink
+    input_fine (input.DataReady port) = by (is_closed view.stage) view.control
+      where
+        by : (closed : Bool) (control : Control) → At (input.DataReady port) closed control
+        by true control = rests_fine (CallAt (input.DataReady port)) (UserAt (input.DataReady port)) users view
+        by false Open = ready_fine (CallAt (input.DataReady port)) (UserAt (input.DataReady port)) users view port
+        by false Quitting = ready_fine (CallAt (input.DataReady port)) (UserAt (input.DataReady port)) users view port
+        by false Closing = rests_fine (CallAt (input.DataReady port)) (UserAt (input.DataReady port)) users view
+    input_fine input.Closed = by (is_closed view.stage) view.control
+      where
+        by : (closed : Bool) (control : Control) → At input.Closed closed control
+        by true control = rests_fine (CallAt input.Closed) (UserAt input.Closed) users view
+        by false Open = closed_fine (CallAt input.Closed) (UserAt input.Closed) users view
+        by false Quitting = closed_fine (CallAt input.Closed) (UserAt input.Closed) users view
+        by false Closing = closed_fine (CallAt input.Closed) (UserAt input.Closed) users view
+
+-- ---- calls while nobody is logged in
+
+allowed_inside : {K : Type 0} (users : Users) (view : View) (line : Line) (call : Call K) → IsAllowedCall users view line call → is_inside view.stage ≡ true
+allowed_inside users view line (Call.Stat path) is = is.inside
+allowed_inside users view line (Call.Listing path) is = is.inside
+allowed_inside users view line (Call.OpenRead path offset) is = is.inside
+allowed_inside users view line (Call.OpenWrite path mode moment) is = is.inside
+allowed_inside users view line (Call.Finish sink moment) is = absurd is
+allowed_inside users view line (Call.MakeDir path) is = is.inside
+allowed_inside users view line (Call.RemoveDir path) is = is.inside
+allowed_inside users view line (Call.RemoveFile path) is = is.inside
+allowed_inside users view line (Call.Rename from to) is = is.1.inside
+
+pub outside : {A K : Type 0} (users : Users) (view : View) (held : List Item) (moment : ℕ) (told : Input A K) (call : Call K)
+    → is_inside view.stage ≡ false → IsRightful users view held moment told call → IsReturned told moment call
+outside users view held moment told call not (inl returned) = returned
+outside users view held moment told call not (inr allowed) = absurd (false≢true (sym not ∙ allowed_inside users view allowed.0 call allowed.2))
+
+-- ---- held lines
+
+module _ (A R K : Type 0) where
+  abbrev Few : List Item → Type 0
+  Few held = length held ≤ most_held
+
+  few_cond : (b : Bool) (p q : Taken A R K) → Few p.held → Few q.held → Few (cond b p q).held
+  few_cond true p q is also = is
+  few_cond false p q is also = also
+
+  few_holds : (view : View) (held : List Item) (item : Item) → Few held → Few (holds {A = A} {R = R} {K = K} view held item).held
+  few_holds view held item few = by (nat_lt (length held) most_held) refl
+    where
+      by : (less : Bool) → nat_lt (length held) most_held ≡ less
+          → Few (cond {A = Taken A R K} less (record { plan = idle {A = A} {R = R} {K = K} view; held = held ++ item ∷ [] })
+          (record { plan = Then (record view { control = Closing }) ((action.Say (answer.Refusal refusal.TooManyHeldLines) ∷ []) ++ aborts view ++ (action.CloseControl ∷ [])); held = held })).held
+      by true is = omega (arith, length-append held (item ∷ []), ltb-true (length held) most_held is)
+      by false is = few
+
+  module _ (users : Users) (view : View) (moment : ℕ) where
+    few_meanwhile : (held : List Item) (item : Item) → Few held → Few (meanwhile {A = A} {R = R} {K = K} users view held moment item).held
+    few_meanwhile held (Ok command.Abor) few = few
+    few_meanwhile held (Ok command.Noop) few = few
+    few_meanwhile held (Ok (command.Stat None)) few = few
+    few_meanwhile held (Ok command.Quit) few = few
+    few_meanwhile held item few = few_holds view held item few
+
+    few_in_turn : (held : List Item) (item : Item) → Few held → Few (in_turn {A = A} {R = R} {K = K} users view moment item held).held
+    few_in_turn [] item few = few
+    few_in_turn (first ∷ others) item few = few_holds view (first ∷ others) item few
+
+    few_held : (held : List Item) → Few held → Few (held_row {A = A} {R = R} {K = K} users view moment held).held
+    few_held [] few = few
+    few_held (first ∷ others) few = omega (arith, few)
+
+    few_controlled : (held : List Item) (told : Input A K) (control : Control) → Few held → Few (controlled {A = A} {R = R} {K = K} users view held moment told control).held
+    few_controlled held (input.Line item) Open few = few_cond (is_busy view.begun) _ _ (few_meanwhile held (item_of item) few) (few_in_turn held (item_of item) few)
+    few_controlled held input.Held Open few = few_cond (is_busy view.begun) _ _ few (few_held held few)
+    few_controlled held (input.TransferEnded end sink) Open few = few
+    few_controlled held (input.DataReady port) Open few = few
+    few_controlled held input.Closed Open few = few
+    few_controlled held told Quitting few = few
+    few_controlled held told Closing few = few
+
+    pub few_table : (held : List Item) (told : Input A K) → Few held → Few (table {A = A} {R = R} {K = K} users view held moment told).held
+    few_table held told few = few_cond (is_closed view.stage) _ _ few (few_controlled held told view.control few)
+
+-- ---- the laws
+
+module _ (A R K : Type 0) (users : Users) (view : View) (held : List Item) (moment : ℕ) (told : Input A K) where
+  -- what is weaker than what is said of each input
+  weaker : (D : Call K → Type 0) (V : ℕ → Type 0) (F : List ℕ → View → List (Action A R K) → Type 0)
+      → ((call : Call K) → CallAt A R K users view held moment told call → D call) → ((number : ℕ) → UserAt A R K users view held moment told number → V number)
+      → ((admitted : List ℕ) (after : View) (actions : List (Action A R K)) → EndAt A R K users view held moment told admitted after actions → F admitted after actions)
+      → Always D V F [] (table {A = A} {R = R} {K = K} users view held moment told).plan
+  weaker D V F call user end =
+      always_to (CallAt A R K users view held moment told) D (UserAt A R K users view held moment told) V (EndAt A R K users view held moment told) F call user end [] _ (input_fine A R K users view held moment told)
+
+pub calls_are_rightful : (A R K : Type 0) → CallsAreRightful A R K
+unfolding CallsAreRightful
+calls_are_rightful A R K = λ users view held moment told.
+    weaker A R K users view held moment told (CallAt A R K users view held moment told) (λ number. Unit {0}) (λ admitted after actions. Unit {0}) (λ call allowed. allowed) (λ number user. tt) (λ admitted after actions end. tt)
+
+pub no_calls_outside : (A R K : Type 0) → NoCallsOutside A R K
+unfolding NoCallsOutside
+no_calls_outside A R K = λ users view held moment told not.
+    weaker A R K users view held moment told (IsReturned told moment) (λ number. Unit {0}) (λ admitted after actions. Unit {0}) (λ call allowed. outside users view held moment told call not allowed) (λ number user. tt) (λ admitted after actions end. tt)
+
+pub no_transfer_unprepared : (A R K : Type 0) → NoTransferUnprepared A R K
+unfolding NoTransferUnprepared
+no_transfer_unprepared A R K = λ users view held moment told not.
+    weaker A R K users view held moment told (λ call. Unit {0}) (λ number. Unit {0}) (λ admitted after actions. starting actions ≡ 0) (λ call allowed. tt) (λ number user. tt) (λ admitted after actions end. end.unprepared not)
+
+pub one_thing_is_asked : (A R K : Type 0) → OneThingIsAsked A R K
+unfolding OneThingIsAsked
+one_thing_is_asked A R K = λ users view held moment told.
+    weaker A R K users view held moment told (λ call. Unit {0}) (λ number. Unit {0}) (λ admitted after actions. asking actions ≤ most_asked told) (λ call allowed. tt) (λ number user. tt) (λ admitted after actions end. end.asks)
+
+pub floors_are_released_once : (A R K : Type 0) → FloorsAreReleasedOnce A R K
+unfolding FloorsAreReleasedOnce
+floors_are_released_once A R K = λ users view held moment told.
+    weaker A R K users view held moment told (λ call. Unit {0}) (λ number. Unit {0}) (λ admitted after actions. Releases admitted (logged_in view) (releases actions) (logged_in after)) (λ call allowed. tt) (λ number user. tt) (λ admitted after actions end. end.floors)
+
+pub admissions_are_rightful : (A R K : Type 0) → AdmissionsAreRightful A R K
+unfolding AdmissionsAreRightful
+admissions_are_rightful A R K = λ users view held moment told.
+    weaker A R K users view held moment told (λ call. Unit {0}) (UserAt A R K users view held moment told) (λ admitted after actions. Unit {0}) (λ call allowed. tt) (λ number user. user) (λ admitted after actions end. tt)
+
+pub others_ask_no_floors : (A R K : Type 0) → OthersAskNoFloors A R K
+unfolding OthersAskNoFloors
+others_ask_no_floors A R K = λ users view held moment told quiet.
+    weaker A R K users view held moment told (λ call. Unit {0}) (λ number. ⊥) (λ admitted after actions. Unit {0}) (λ call allowed. tt) (λ number user. absurd (false≢true (sym quiet ∙ ap is_pass_turn user.turn))) (λ admitted after actions end. tt)
+
+pub few_lines_are_held : (A R K : Type 0) → FewLinesAreHeld A R K
+unfolding FewLinesAreHeld
+few_lines_are_held A R K = λ users view held moment told few.
+    few_table A R K users view moment held told few

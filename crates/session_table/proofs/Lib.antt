@@ -1,0 +1,4 @@
+pub mod InputLaws
+pub mod Keeping
+pub mod Rows
+pub mod Sources

@@ -1,0 +1,204 @@
+-- What RNFR named: it comes from an RNFR that is served and allowed, and from nothing else.
+use Rattle.std.proofs.Common.{◌≡◌, ℕ, Bool, true, false, cond, not, ◌&&◌, List, [], ◌∷◌, ◌++◌, length, Option, Some, None, Result, Ok, Err, refl, sym, subst, nat_lt}
+use Rattle.authorizer.specs.Users.{Users}
+use Rattle.ftp_terms.specs.declared.entries.Meta.{Meta}
+use Rattle.ftp_wire.specs.Items.{Item}
+use Rattle.ftp_wire.specs.Reading.{item_of}
+use Rattle.ftp_wire.specs.declared.commands.Command.TheVariants as command
+use Rattle.ftp_wire.specs.declared.items.LineItem.{LineItem}
+use Rattle.virtual_path.specs.Path.{Path}
+use Rattle.virtual_tree.specs.declared.fault.StoreFault.{StoreFault}
+use Rattle.session_table.specs.Always.{Always}
+use Rattle.session_table.specs.Laws.{IsAllowedAt, IsNamed, SourcesAreNamed}
+use Rattle.session_table.specs.Steps.{in_its_turn, is_open, serves_lines}
+use Rattle.session_table.proofs.Keeping.{always_cond, always_left, always_taken, ends_all}
+use Rattle.session_table.proofs.Rows.{is_judged}
+use Rattle.session_table.specs.declared.actions.Action.{Action}
+use Rattle.session_table.specs.declared.actions.Action.TheVariants as action
+use Rattle.session_table.specs.declared.answers.Answer.{Answer}
+use Rattle.session_table.specs.declared.answers.Answer.TheVariants as answer
+use Rattle.session_table.specs.declared.inputs.End.{End}
+use Rattle.session_table.specs.declared.inputs.Input.{Input}
+use Rattle.session_table.specs.declared.inputs.Input.TheVariants as input
+use Rattle.session_table.specs.declared.refusals.Refusal.{Refusal}
+use Rattle.session_table.specs.declared.refusals.Refusal.TheVariants as refusal
+use Rattle.session_table.specs.declared.stages.Control.{Control}
+use Rattle.session_table.specs.declared.stages.Control.TheVariants.{Open, Quitting, Closing}
+use Rattle.session_table.specs.declared.stages.Passive.{Passive}
+use Rattle.session_table.specs.Calls.{Call}
+use Rattle.session_table.specs.Commands.{Line, is_rnfr}
+use Rattle.session_table.specs.FileRows.{is_root, rnfr_by, rnfr_row}
+use Rattle.session_table.specs.Judged.{Location, judged}
+use Rattle.session_table.specs.Plans.{Plan}
+use Rattle.session_table.specs.Plans.Plan.{Then}
+use Rattle.session_table.specs.Table.{Taken, aborts, after_closed, and_quits, beside, closed_row, controlled, end_hook, end_reply, end_row, end_told, ended_by, ended_row, ended_with, held_row, holds, idle, in_turn, judged_row, left, meanwhile, most_held, ready_as, ready_by, ready_row, served, table}
+use Rattle.session_table.specs.Views.{View, Begun, Carried, awaited, is_aborted, is_busy, is_closed, running}
+use Rattle.session_table.specs.Views.Begun.{Idle}
+
+-- what was named before
+kept : (users : Users) (view : View) (source : Option Path) → view.source ≡ source → IsNamed users view None source
+kept users view None is = tt
+kept users view (Some path) is = is
+
+-- no line is served: what was named stays
+stays : (users : Users) (view : View) (b : Bool) → IsNamed users view (cond b None None) view.source
+stays users view true = kept users view view.source refl
+stays users view false = kept users view view.source refl
+
+none_named : (users : Users) (view : View) (item : Option Item) → IsNamed users view item None
+none_named users view item = tt
+
+-- behind any line but RNFR nothing is named
+forgot : (users : Users) (view : View) (line : Line) (source : Option Path) → is_rnfr line ≡ false → IsNamed users view (Some (Ok line)) (cond (is_rnfr line) source None)
+forgot users view line source is = subst (λ (b : Bool). IsNamed users view (Some (Ok line)) (cond b source None)) (sym is) tt
+
+module _ (A R K : Type 0) (users : Users) (view : View) where
+  abbrev C : Call K → Type 0
+  C call = Unit {0}
+
+  abbrev U : ℕ → Type 0
+  U number = Unit {0}
+
+  -- the source is named, where this is the line that is served in its turn
+  abbrev E : Option Item → List ℕ → View → List (Action A R K) → Type 0
+  E item admitted after actions = IsNamed users view item after.source
+
+  abbrev Within : Option Item → Plan A R K → Type 0
+  Within item plan = Always {A = A} {R = R} {K = K} C U (E item) [] plan
+
+  module _ (moment : ℕ) where
+    -- RNFR, where it is not refused
+    rnfr_named : (text : List ℕ) (found : Result Location Refusal) → judged users view (command.Rnfr text) ≡ found
+        → Always C U (λ admitted after actions. E (Some (Ok (command.Rnfr text))) admitted (left (command.Rnfr text) after) actions) [] (judged_row {A = A} {R = R} {K = K} users view moment (command.Rnfr text) found)
+    rnfr_named text (Err why) is = tt
+    rnfr_named text (Ok location) is = always_cond C U (λ admitted after actions. E (Some (Ok (command.Rnfr text))) admitted (left (command.Rnfr text) after) actions) (is_root location.path) _ _ tt
+        (tt, by)
+      where
+        by : (answer : Result Meta StoreFault) → Always C U (λ admitted after actions. E (Some (Ok (command.Rnfr text))) admitted (left (command.Rnfr text) after) actions) [] (rnfr_by {A = A} {R = R} {K = K} view location.stored answer)
+        by (Err why) = tt
+        by (Ok meta) = (is_judged users view (command.Rnfr text) location is).at _ refl
+
+    other_named : (line : Line) (plan : Plan A R K) → is_rnfr line ≡ false → Always C U (λ admitted after actions. E (Some (Ok line)) admitted (left line after) actions) [] plan
+    other_named line plan is = ends_all (λ admitted after actions. E (Some (Ok line)) admitted (left line after) actions) (λ admitted after actions. forgot users view line after.source is) [] plan
+
+    line_named : (line : Line) (found : Result Location Refusal) → judged users view line ≡ found
+        → Always C U (λ admitted after actions. E (Some (Ok line)) admitted (left line after) actions) [] (judged_row {A = A} {R = R} {K = K} users view moment line found)
+    line_named (command.Rnfr text) found is = rnfr_named text found is
+    line_named line found is = other_named line _ refl
+
+    served_named : (item : Item) → Within (Some item) (served {A = A} {R = R} {K = K} users view moment item)
+    served_named (Err why) = tt
+    served_named (Ok line) = always_left C U (E (Some (Ok line))) (left line) [] _ (line_named line (judged users view line) refl)
+
+    -- a line that is served at once leaves nothing named
+    at_once : (line : Line) → is_rnfr line ≡ false → Within None (served {A = A} {R = R} {K = K} users view moment (Ok line))
+    at_once line is = always_left C U (E None) (left line) [] _
+        (ends_all (λ admitted after actions. E None admitted (left line after) actions) (λ admitted after actions. subst (λ (b : Bool). IsNamed users view None (cond b after.source None)) (sym is) tt) [] _)
+
+    held_named : (held : List Item) (item : Item) → Within None (holds {A = A} {R = R} {K = K} view held item).plan
+    held_named held item = always_taken C U (E None) (nat_lt (length held) most_held) _ _ (kept users view view.source refl) (kept users view view.source refl)
+
+    meanwhile_named : (held : List Item) (item : Item) → Within None (meanwhile {A = A} {R = R} {K = K} users view held moment item).plan
+    meanwhile_named held (Ok command.Abor) = at_once command.Abor refl
+    meanwhile_named held (Ok command.Noop) = at_once command.Noop refl
+    meanwhile_named held (Ok (command.Stat None)) = at_once (command.Stat None) refl
+    meanwhile_named held (Ok command.Quit) = kept users view view.source refl
+    meanwhile_named held item = held_named held item
+
+    turn_named : (item : LineItem A) (held : List Item) → Within (in_its_turn {K = K} (input.Line item) held) (in_turn {A = A} {R = R} {K = K} users view moment (item_of item) held).plan
+    turn_named item [] = served_named (item_of item)
+    turn_named item (first ∷ others) = held_named (first ∷ others) (item_of item)
+
+    open_named : (item : LineItem A) (held : List Item) (busy : Bool) → Within (cond ((true && true) && not busy) (in_its_turn {K = K} (input.Line item) held) None)
+        (cond busy (meanwhile {A = A} {R = R} {K = K} users view held moment (item_of item)) (in_turn users view moment (item_of item) held)).plan
+    open_named item held true = meanwhile_named held (item_of item)
+    open_named item held false = turn_named item held
+
+    due_named : (held : List Item) (busy : Bool) → Within (cond ((true && true) && not busy) (in_its_turn {A = A} {K = K} input.Held held) None)
+        (cond busy (beside held (idle view)) (held_row {A = A} {R = R} {K = K} users view moment held)).plan
+    due_named held true = kept users view view.source refl
+    due_named [] false = kept users view view.source refl
+    due_named (first ∷ others) false = served_named first
+
+  -- inputs that are no lines
+  quits : (b : Bool) (begun : Begun) (prepared : Bool) (actions : List (Action A R K)) (control : Control)
+      → Within (cond b None None) (and_quits users (record view { begun = begun; prepared = prepared }) actions control)
+  quits b begun prepared actions Open = stays users view b
+  quits b begun prepared actions Quitting = stays users view b
+  quits b begun prepared actions Closing = stays users view b
+
+  ready_named : (b : Bool) (port : Option ℕ) → Within (cond b None None) (ready_row users view port)
+  ready_named b port = by (awaited view.begun)
+    where
+      at : (passive : Passive) (port : Option ℕ) → Within (cond b None None) (ready_as users view passive port)
+      at passive (Some port) = quits b Idle true _ view.control
+      at passive None = quits b Idle view.prepared _ view.control
+
+      by : (passive : Option Passive) → Within (cond b None None) (ready_by users view port passive)
+      by None = stays users view b
+      by (Some passive) = at passive port
+
+  end_named : (b : Bool) (errand : Carried) (aborted : Bool) (end : End) (finished : Result (Unit {0}) StoreFault)
+      → Within (cond b None None) (end_row users view errand aborted end finished)
+  end_named b errand aborted end finished = always_cond C U (E (cond b None None)) (is_closed view.stage) _ _ (stays users view b) (quits b Idle view.prepared _ view.control)
+
+  ended_named : (b : Bool) (moment : ℕ) (end : End) (sink : Option K) → Within (cond b None None) (ended_row users view moment end sink)
+  ended_named b moment end sink = by sink (running view.begun)
+    where
+      with : (sink : Option K) (errand : Carried) → Within (cond b None None) (ended_with users view moment errand (is_aborted view.begun) end sink)
+      with (Some sink) errand = (tt, λ answer. end_named b errand (is_aborted view.begun) end answer)
+      with None errand = end_named b errand (is_aborted view.begun) end (Ok tt)
+
+      by : (sink : Option K) (errand : Option Carried) → Within (cond b None None) (ended_by users view moment end sink errand)
+      by sink None = stays users view b
+      by sink (Some errand) = with sink errand
+
+  module _ (held : List Item) (moment : ℕ) where
+    abbrev Taking : Input A K → Type 0
+    Taking told = Within (cond (serves_lines view) (in_its_turn told held) None) (table {A = A} {R = R} {K = K} users view held moment told).plan
+
+    named : (told : Input A K) → Taking told
+    named (input.Line item) = by (is_closed view.stage) view.control
+      where
+        by : (closed : Bool) (control : Control) → Within (cond ((not closed && is_open control) && not (is_busy view.begun)) (in_its_turn {K = K} (input.Line item) held) None)
+            (cond closed (beside held (after_closed users view moment (input.Line item))) (controlled {A = A} {R = R} {K = K} users view held moment (input.Line item) control)).plan
+        by true control = kept users view view.source refl
+        by false Open = open_named moment item held (is_busy view.begun)
+        by false Quitting = kept users view view.source refl
+        by false Closing = kept users view view.source refl
+    named input.Held = by (is_closed view.stage) view.control
+      where
+        by : (closed : Bool) (control : Control) → Within (cond ((not closed && is_open control) && not (is_busy view.begun)) (in_its_turn {A = A} {K = K} input.Held held) None)
+            (cond closed (beside held (after_closed users view moment input.Held)) (controlled {A = A} {R = R} {K = K} users view held moment input.Held control)).plan
+        by true control = kept users view view.source refl
+        by false Open = due_named moment held (is_busy view.begun)
+        by false Quitting = kept users view view.source refl
+        by false Closing = kept users view view.source refl
+    named (input.TransferEnded end sink) = by (is_closed view.stage) view.control
+      where
+        by : (closed : Bool) (control : Control) → Within (cond (serves_lines view) None None)
+            (cond closed (beside held (after_closed users view moment (input.TransferEnded end sink))) (controlled {A = A} {R = R} {K = K} users view held moment (input.TransferEnded end sink) control)).plan
+        by true control = ended_named (serves_lines view) moment end sink
+        by false Open = ended_named (serves_lines view) moment end sink
+        by false Quitting = ended_named (serves_lines view) moment end sink
+        by false Closing = ended_named (serves_lines view) moment end sink
+    named (input.DataReady port) = by (is_closed view.stage) view.control
+      where
+        by : (closed : Bool) (control : Control) → Within (cond (serves_lines view) None None)
+            (cond closed (beside held (after_closed users view moment (input.DataReady port))) (controlled {A = A} {R = R} {K = K} users view held moment (input.DataReady port) control)).plan
+        by true control = stays users view (serves_lines view)
+        by false Open = ready_named (serves_lines view) port
+        by false Quitting = ready_named (serves_lines view) port
+        by false Closing = stays users view (serves_lines view)
+    named input.Closed = by (is_closed view.stage) view.control
+      where
+        by : (closed : Bool) (control : Control) → Within (cond (serves_lines view) None None)
+            (cond closed (beside held (after_closed users view moment input.Closed)) (controlled {A = A} {R = R} {K = K} users view held moment input.Closed control)).plan
+        by true control = stays users view (serves_lines view)
+        by false Open = stays users view (serves_lines view)
+        by false Quitting = stays users view (serves_lines view)
+        by false Closing = stays users view (serves_lines view)
+
+pub sources_are_named : (A R K : Type 0) → SourcesAreNamed A R K
+unfolding SourcesAreNamed
+sources_are_named A R K = λ users view held moment told. named A R K users view held moment told

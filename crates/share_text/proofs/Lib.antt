@@ -1,7 +1,0 @@
-mod Taking
-mod Placed
-mod Wants
-mod Readings
-mod Numbered
-mod Filling
-mod Full

@@ -1,0 +1,93 @@
+-- Laws of every run from a new world.
+use Rattle.std.specs.Prelude.{◌≡◌, ◌≢◌, ℕ, ◌+◌, ◌≤◌, if◌then◌else◌, List, ◌∷◌, ◌++◌, map, slice_get, sum, sum_by, Some, Ok, IsPermutation}
+use Rattle.limit_tree.specs.Sharing.{LimitTree, IsBest}
+use Rattle.line_rates.specs.declared.ask.Ask.{Ask}
+use Rattle.line_rates.specs.declared.ask.Name.{Name}
+use Rattle.line_rates.specs.declared.ask.Name.TheVariants.{Server}
+use Rattle.line_rates.specs.Names.{floor_of}
+use Rattle.line_rates.specs.Rates.{Rates, rate_of}
+use Rattle.line_rates.specs.Ticks.{rate_limit}
+use Rattle.line_rates.specs.TickTree.{IsTickTree, ask_in, bears_in}
+use Rattle.world_terms.specs.declared.event.LaneState.TheVariants as state
+use Rattle.world_terms.specs.declared.event.Event.{Event}
+use Rattle.world_terms.specs.declared.event.Event.TheVariants as event
+use Rattle.world_terms.specs.declared.event.EventAnswer.{EventAnswer}
+use Rattle.world_terms.specs.declared.event.EventAnswer.TheVariants as answer
+use Rattle.world_terms.specs.Decisions.{decided_of, in_round}
+use Rattle.world_terms.specs.Lanes.{Lane, World, amount, new_world}
+use Rattle.world_terms.specs.Runs.{Occasion, Runs, exchanges, last_ask, limits_under, moved_in_all, moved_under}
+use Rattle.world_terms.specs.Steps.{Step}
+use Rattle.world_terms.specs.Sums.{shares_in}
+
+-- P holds for each lane after every run from a new world
+abbrev pub OfEachLane : (Lane → Type 0) → Type 0
+OfEachLane P = (rates : Rates) (k : ℕ) (past : List Occasion) (end : World) (i : ℕ) (l : Lane) → Runs rates (new_world k) past end → slice_get end.lanes i ≡ Some l → P l
+
+-- for each lane, the amounts taken are those moved, given back and in hand
+abbrev pub TakenIsAccountedFor : Type 0
+TakenIsAccountedFor = OfEachLane (λ l. l.hidden.moved + l.hidden.back + amount l.hidden.hand ≡ sum l.shown.taken)
+
+-- for each lane, the amounts taken are a prefix of those posted
+abbrev pub TakenBeginsPosted : Type 0
+TakenBeginsPosted = OfEachLane (λ l. (rest : List ℕ) × (l.shown.posted ≡ l.shown.taken ++ rest))
+
+-- the exchange before a grant is taken: the grant was posted for the last ask, which was collected, with no other
+-- exchange on the word between, so in one sitting
+pub record AnswersLastAsk (past : List Occasion) (i n : ℕ) : Type 0 where
+  pub ask : Ask
+  pub older : List (Event × EventAnswer)
+  pub exchanged : exchanges i past ≡ (event.Post i, answer.Posted n) ∷ (event.Collect i, answer.Got) ∷ (event.Asked i ask, answer.Done) ∷ older
+  pub last : last_ask i past ≡ Some ask
+
+-- the last event of this run takes a grant
+abbrev pub Takes : Rates → ℕ → List Occasion → World → ℕ → ℕ → World → Type 0
+Takes rates k past w i n end = Runs rates (new_world k) (record { before = w; event = event.Taken i; reply = Ok (answer.Taken n) } ∷ past) end
+
+-- a grant that is taken answers the last ask of the same sitting
+abbrev pub TakenAnswersLastAsk : Type 0
+TakenAnswersLastAsk = (rates : Rates) (k : ℕ) (past : List Occasion) (w : World) (i n : ℕ) (end : World) → Takes rates k past w i n end → AnswersLastAsk past i n
+
+-- the octets issued are the sum of the shares
+abbrev pub IssuedIsShares : Type 0
+IssuedIsShares = (rates : Rates) (k : ℕ) (past : List Occasion) (end : World) → Runs rates (new_world k) past end → end.issued ≡ shares_in end
+
+-- the octets moved under a name with a limit are at most the sum of its limits over the decisions whose trees have its
+-- branch
+abbrev pub MovedIsWithinLimits : Type 0
+MovedIsWithinLimits = (rates : Rates) (k : ℕ) (past : List Occasion) (end : World) (n : Name) → Runs rates (new_world k) past end
+    → rate_of rates n ≢ 0 → moved_under rates n past ≤ limits_under rates n past
+
+-- if the server has a limit, all octets moved are at most the sum of its limits over the decisions
+abbrev pub MovedInAllIsWithinLimits : Type 0
+MovedInAllIsWithinLimits = (rates : Rates) (k : ℕ) (past : List Occasion) (end : World) → Runs rates (new_world k) past end
+    → rates.server ≢ 0 → moved_in_all past ≤ limits_under rates Server past
+
+-- P holds for each decision that is not refused, with its tick and total, in any world
+abbrev pub OfEachDecision : (Rates → World → ℕ → ℕ → World → Type 0) → Type 0
+OfEachDecision P = (rates : Rates) (w : World) (moment tick total : ℕ) (w' : World) → Step rates w (event.Decide moment) (Ok (answer.Decided tick total)) w' → P rates w tick total w'
+
+-- best grants for a tree of the tick over exactly the asks of the lanes in Round, with this total
+pub record AreBestInRound (rates : Rates) (w : World) (tick total : ℕ) : Type 0 where
+  pub asks : List Ask
+  pub all : IsPermutation (map ask_in (in_round w.lanes)) asks
+  pub tree : LimitTree
+  pub of_tick : IsTickTree rates tick asks tree
+  pub grants : List ℕ
+  pub best : IsBest tree grants
+  pub total_is : total ≡ sum grants
+
+abbrev pub DecisionsAreBest : Type 0
+DecisionsAreBest = OfEachDecision (λ rates w tick total w'. AreBestInRound rates w tick total)
+
+-- the octets decided for a lane whose ask counts under the name
+abbrev pub decided_under : Rates → Name → Lane → ℕ
+decided_under rates n l = if bears_in rates n l.shown.ask then decided_of l else 0
+
+-- each decision keeps the limit of each name in its tick
+abbrev pub DecisionsKeepLimits : Type 0
+DecisionsKeepLimits = OfEachDecision (λ rates w tick total w'. (n : Name) (most : ℕ) → rate_limit (rate_of rates n) tick ≡ Some most → sum_by (decided_under rates n) w'.lanes ≤ most)
+
+-- each lane in Round gets at least the floor of its ask
+abbrev pub DecisionsKeepFloors : Type 0
+DecisionsKeepFloors = OfEachDecision (λ rates w tick total w'. (i : ℕ) (l m : Lane) (a : Ask) → slice_get w.lanes i ≡ Some l → slice_get w'.lanes i ≡ Some m
+    → l.shown.state ≡ state.Round → l.shown.ask ≡ Some a → floor_of rates a ≤ decided_of m)

@@ -1,5 +1,0 @@
-use Rattle.sheet_nodes.specs.Rows.{AreRowsTo}
-use Rattle.sheet_nodes.proofs.node.Nodes.kids.Given as goal
-
-abbrev pub invariant-loop-place : goal.invariant-loop-place
-invariant-loop-place g l = AreRowsTo l.self l.place l.rows

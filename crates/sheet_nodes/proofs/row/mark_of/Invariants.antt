@@ -1,6 +1,0 @@
-use Rattle.std.proofs.Common.{◌≡◌, take}
-use Rattle.sheet_nodes.specs.Named.{mark_of}
-use Rattle.sheet_nodes.proofs.row.mark_of.Given as goal
-
-abbrev pub invariant-loop-octet : goal.invariant-loop-octet
-invariant-loop-octet l = l.mark ≡ mark_of (take l.octet-index l.name)

@@ -1,9 +1,0 @@
-pub mod Within
-pub mod Listing
-pub mod Texts
-pub mod Over
-pub mod Held
-pub mod Nodes
-pub mod Whole
-pub mod Mentioned
-pub mod Stated

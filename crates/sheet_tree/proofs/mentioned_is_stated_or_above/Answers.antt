@@ -1,5 +1,0 @@
-use Rattle.sheet_tree.proofs.Mentioned.{stated_or_above}
-use Rattle.sheet_tree.proofs.mentioned_is_stated_or_above.Goals as goal
-
-pub returns : goal.returns
-returns c = λ stated. stated_or_above stated

@@ -1,4 +1,0 @@
-pub mod Paths
-pub mod Forest
-pub mod Mentions
-pub mod Law

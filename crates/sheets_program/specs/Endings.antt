@@ -1,0 +1,57 @@
+-- The endings of a program on sheets.
+use Rattle.std.specs.Prelude.{◌≡◌, ◌≢◌, ℕ, List, Option, IsFalse, IsTrue, string_bytes}
+use Rattle.std.specs.Io.KnownBytes.{Appends}
+use Rattle.command_line.specs.declared.words.WordsFault.{WordsFault}
+use Rattle.command_line.specs.declared.words.WordsFault.TheVariants.{Memory as NoMemory, Refused as NoCommand}
+use Rattle.sheet_check.specs.declared.fault.CheckFault.TheVariants.{Text as CheckText}
+use Rattle.sheet_share.specs.declared.fault.ShareFault.TheVariants.{Text as ShareText}
+use Rattle.text_io.specs.declared.fault.TextFault.TheVariants.{Memory, WriteFault}
+use Rattle.sheets_program.specs.declared.ending.Ending.{Ending}
+use Rattle.sheets_program.specs.declared.ending.Ending.TheVariants.{Done, Flawed, Refused, Text, Share, Check}
+
+abbrev pub status_of : Ending → ℕ
+status_of Done = 0
+status_of (Text fault cause) = 1
+status_of (Share fault cause) = 1
+status_of (Check fault cause) = 1
+status_of (Refused text) = 2
+status_of Flawed = 3
+
+-- nothing was written: the command line is refused, or there is a fault other than that of the output
+abbrev pub IsUnwritten : Ending → Type 0
+IsUnwritten Done = ⊥
+IsUnwritten Flawed = ⊥
+IsUnwritten (Refused text) = Unit {0}
+IsUnwritten (Text fault cause) = fault ≢ WriteFault
+IsUnwritten (Share fault cause) = fault ≢ ShareText WriteFault
+IsUnwritten (Check fault cause) = fault ≢ CheckText WriteFault
+
+-- memory ran out before a command
+abbrev pub IsOutOfMemory : Ending → Type 0
+IsOutOfMemory Done = ⊥
+IsOutOfMemory Flawed = ⊥
+IsOutOfMemory (Refused text) = ⊥
+IsOutOfMemory (Text fault cause) = fault ≡ Memory
+IsOutOfMemory (Share fault cause) = ⊥
+IsOutOfMemory (Check fault cause) = ⊥
+
+-- the command line is refused with that text, or memory ran out
+abbrev pub IsRefusedAs : List ℕ → Ending → Type 0
+IsRefusedAs told (Refused text) = string_bytes text ≡ told
+IsRefusedAs told ending = IsOutOfMemory ending
+
+-- the words of the line cannot be read: it is refused, or memory ran out
+abbrev pub IsNoLine : Ending → Type 0
+IsNoLine (Refused text) = Unit {0}
+IsNoLine ending = IsOutOfMemory ending
+
+-- the ending of words without a command: the help or version that they asked for is appended to the
+-- output, and a refusal is the ending
+abbrev pub IsToldEnd : WordsFault → Option (List ℕ) → Option (List ℕ) → Ending → Type 0
+IsToldEnd NoMemory old new ending = IsOutOfMemory ending
+IsToldEnd (NoCommand text is_help) old new Done = IsTrue is_help × Appends old new (string_bytes text)
+IsToldEnd (NoCommand text is_help) old new Flawed = ⊥
+IsToldEnd (NoCommand text is_help) old new (Refused told) = IsFalse is_help × (told ≡ text)
+IsToldEnd (NoCommand text is_help) old new (Text fault cause) = IsTrue is_help × (fault ≡ WriteFault)
+IsToldEnd (NoCommand text is_help) old new (Share fault cause) = ⊥
+IsToldEnd (NoCommand text is_help) old new (Check fault cause) = ⊥

@@ -1,0 +1,85 @@
+//! The endings of a program on sheets.
+ghost use Rattle.std.specs.Prelude.{◌≡◌};
+ghost use Rattle.sheets_program.specs.Endings.{IsRefusedAs, IsToldEnd, IsUnwritten, status_of};
+
+use crate::cause::Cause;
+use command_line::WordsFault;
+use sheet_check::CheckFault;
+use sheet_share::ShareFault;
+use std::alloc::Global;
+use text_io::{TextFault, TextWriter, write_whole};
+
+/// The ending of a run of the program.
+#[derive(Debug, Drop)]
+pub enum Ending<'w> {
+    /// The command did its work, or the words asked for help or the version.
+    Done,
+    /// The grants have a flaw, which was written to standard output.
+    Flawed,
+    /// The command line is refused; the text has the reason, and ends its line.
+    Refused(String),
+    /// A file could not be read whole, the output could not be written, or memory ran out.
+    Text(TextFault, Cause<'w>),
+    /// A sheet is not shared.
+    Share(ShareFault, Cause<'w>),
+    /// Grants are not checked.
+    Check(CheckFault, Cause<'w>),
+}
+
+impl<'w> Ending<'w> {
+    /// The status: 0 for work that is done, 1 for a fault, 2 for a refused command line, 3 for grants with a flaw.
+    pub fn status(&self) -> u8
+        ensures status { result ≡ status_of self.now }
+    {
+        match self {
+            Ending::Done => 0,
+            Ending::Text(_, _) | Ending::Share(_, _) | Ending::Check(_, _) => 1,
+            Ending::Refused(_) => 2,
+            Ending::Flawed => 3,
+        }
+    }
+
+    /// Memory ran out.
+    pub fn out_of_memory() -> Ending<'w>
+        ensures memory { result ≡ Ending.Text TextFault.Memory (record { file = None; reason = None }) }
+    {
+        let cause = Cause {
+            file: None,
+            reason: None,
+        };
+        Ending::Text(TextFault::Memory, cause)
+    }
+
+    /// A command line that is refused with this text.
+    pub fn refused(alloc: Global, text: &str) -> Ending<'w>
+        ensures refused { IsRefusedAs text.now result }
+    {
+        match String::from_str(alloc, text) {
+            Ok(text) => Ending::Refused(text),
+            Err(_) => Ending::out_of_memory(),
+        }
+    }
+}
+
+/// Returns the ending of words without a command. Help or the version, if they asked for it, is written to the output.
+pub fn tell<'w, W: TextWriter>(fault: WordsFault, output: &mut W) -> Ending<'w>
+    ensures told { IsToldEnd fault (W.contents output.old) (W.contents output.new) result }
+    ensures unwritten { IsUnwritten result → output.new ≡ output.old }
+{
+    let WordsFault::Refused { text, is_help } = fault else {
+        return Ending::out_of_memory();
+    };
+    if !is_help {
+        return Ending::Refused(text);
+    }
+    match write_whole(&text, output) {
+        Ok(()) => Ending::Done,
+        Err(fault) => {
+            let cause = Cause {
+                file: None,
+                reason: None,
+            };
+            Ending::Text(fault, cause)
+        }
+    }
+}

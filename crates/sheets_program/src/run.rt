@@ -1,0 +1,166 @@
+//! Running the command of a line's words.
+ghost use Rattle.std.specs.Prelude.{◌≡◌, ◌≢◌, ◌⊎◌, ◌↔◌, ◌∷◌, [], ℕ, List, IsTrue, codes, map};
+ghost use Rattle.clap.specs.Words.{fault_of, subcommand_of};
+ghost use Rattle.command_line.specs.Commands.{sheets};
+ghost use Rattle.command_line.specs.Given.{IsPlainWord, IsRefusal, IsSheetFound};
+ghost use Rattle.command_line.specs.declared.words.SheetWords.{SheetWords};
+ghost use Rattle.command_line.specs.declared.words.WordsFault.{WordsFault};
+ghost use Rattle.sheets_program.specs.Causes.{AreBothOpened, AreOpened, IsCheckReason, IsShareReason, IsSheetWhy};
+ghost use Rattle.sheets_program.specs.Endings.{IsOutOfMemory, IsToldEnd, IsUnwritten};
+ghost use Rattle.sheets_program.specs.Runs.{IsCheckEnd, IsNamedTwice, IsShareEnd, IsSheetEnd};
+
+use crate::cause::{Cause, check_cause, share_cause};
+use crate::ending::{Ending, tell};
+use crate::files::{Openings, is_input};
+use command_line::{SheetWords, read_sheet_words};
+use grant_certificate::Verdict;
+use sheet_check::{CheckFault, run_check};
+use sheet_share::{ShareFault, run_share};
+use std::alloc::Global;
+use text_io::{TextFault, TextWriter};
+
+const READ_TWICE: &str = "error: standard input cannot be both the sheet and the grants\n";
+
+fn share<'w, O: Openings, W: TextWriter>(
+    alloc: Global,
+    sheet: &'w str,
+    files: &mut O,
+    output: &mut W,
+) -> Ending<'w>
+    ensures end { IsShareEnd (O.Gives files.old) sheet.now
+        (W.contents output.old) (W.contents output.new) result }
+    ensures why { IsShareReason (O.Gives files.old sheet.now) (O.MayRefuse files.old sheet.now)
+        (O.MayFail files.old sheet.now) (W.may_refuse output.old) result }
+    ensures opened { O.Opens files.old sheet.now files.new }
+    ensures unwritten { IsUnwritten result → output.new ≡ output.old }
+{
+    let mut file = match files.open(sheet) {
+        Ok(file) => file,
+        Err(error) => {
+            let cause = Cause {
+                file: Some(sheet),
+                reason: Some(error),
+            };
+            return Ending::Share(ShareFault::Text(TextFault::ReadFault), cause);
+        }
+    };
+    match run_share(alloc, &mut file, output) {
+        Ok(()) => Ending::Done,
+        Err(fault) => Ending::Share(fault, share_cause(fault, sheet, O::reason(&file))),
+    }
+}
+
+fn is_named_twice(sheet: &str, grants: &str) -> bool
+    ensures { IsTrue result ↔ IsNamedTwice sheet.now grants.now }
+{
+    is_input(sheet) && is_input(grants)
+}
+
+/// Runs `check`. Both files are opened before anything is read.
+fn check<'w, O: Openings, W: TextWriter>(
+    alloc: Global,
+    sheet: &'w str,
+    grants: &'w str,
+    files: &mut O,
+    output: &mut W,
+) -> Ending<'w>
+    ensures end { IsCheckEnd (O.Gives files.old) sheet.now grants.now
+        (W.contents output.old) (W.contents output.new) result }
+    ensures why { IsCheckReason (O.Gives files.old sheet.now) (O.Gives files.old grants.now)
+        (O.MayRefuse files.old sheet.now ⊎ O.MayFail files.old sheet.now)
+        (O.MayRefuse files.old grants.now ⊎ O.MayFail files.old grants.now)
+        (W.may_refuse output.old) result }
+    ensures opened { AreBothOpened O.Opens files.old files.new
+        (O.MayRefuse files.old) sheet.now grants.now result }
+    ensures unwritten { IsUnwritten result → output.new ≡ output.old }
+{
+    if is_named_twice(sheet, grants) {
+        return Ending::refused(alloc, READ_TWICE);
+    }
+    let mut first = match files.open(sheet) {
+        Ok(file) => file,
+        Err(error) => {
+            let cause = Cause {
+                file: Some(sheet),
+                reason: Some(error),
+            };
+            return Ending::Check(CheckFault::SheetText(TextFault::ReadFault), cause);
+        }
+    };
+    let mut second = match files.open(grants) {
+        Ok(file) => file,
+        Err(error) => {
+            let cause = Cause {
+                file: Some(grants),
+                reason: Some(error),
+            };
+            return Ending::Check(CheckFault::GrantsText(TextFault::ReadFault), cause);
+        }
+    };
+    match run_check(alloc, &mut first, &mut second, output) {
+        Ok(Verdict::Yes) => Ending::Done,
+        Ok(Verdict::No(_)) => Ending::Flawed,
+        Err(fault) => {
+            let cause = check_cause(fault, sheet, O::reason(&first), grants, O::reason(&second));
+            Ending::Check(fault, cause)
+        }
+    }
+}
+
+/// Runs a command on a sheet, `share` or `check`, on files that are opened in the order of its words. Nothing is
+/// written to the output if standard input is named twice, nor before a fault other than that of the output.
+pub fn run_sheet_words<'w, O: Openings, W: TextWriter>(
+    alloc: Global,
+    words: SheetWords<'w>,
+    files: &mut O,
+    output: &mut W,
+) -> Ending<'w>
+    ensures end { IsSheetEnd (O.Gives files.old) words.entry
+        (W.contents output.old) (W.contents output.new) result }
+    ensures why { IsSheetWhy (O.Gives files.old) (O.MayRefuse files.old)
+        (O.MayFail files.old) (W.may_refuse output.old) words.entry result }
+    ensures opened { AreOpened O.Opens files.old files.new
+        (O.MayRefuse files.old) words.entry result }
+    ensures unwritten { IsUnwritten result → output.new ≡ output.old }
+{
+    match words {
+        SheetWords::Share { sheet } => share(alloc, sheet, files, output),
+        SheetWords::Check { sheet, grants } => check(alloc, sheet, grants, files, output),
+    }
+}
+
+/// Runs the command of the words of `sheets`, which do not include the program's name. Nothing is written to the output
+/// if the words are refused, nor before a fault other than that of the output.
+pub fn run_sheets<'w, O: Openings, W: TextWriter>(
+    alloc: Global,
+    words: &'w [&'w str],
+    files: &mut O,
+    output: &mut W,
+) -> Ending<'w>
+    ensures share { (sheet : List ℕ) → IsPlainWord sheet
+        → map (λ s. s.now) words.now ≡ codes "share" ∷ sheet ∷ []
+        → IsShareEnd (O.Gives files.old) sheet
+        (W.contents output.old) (W.contents output.new) result }
+    ensures check { (sheet grants : List ℕ) → IsPlainWord sheet → IsPlainWord grants
+        → map (λ s. s.now) words.now ≡ codes "check" ∷ sheet ∷ grants ∷ []
+        → IsCheckEnd (O.Gives files.old) sheet grants
+        (W.contents output.old) (W.contents output.new) result }
+    ensures command { fault_of sheets (map (λ s. s.now) words.now) ≡ []
+        → IsOutOfMemory result ⊎ ((command : SheetWords)
+        × IsSheetFound (subcommand_of sheets (map (λ s. s.now) words.now)) command
+        × IsSheetEnd (O.Gives files.old) command
+        (W.contents output.old) (W.contents output.new) result
+        × IsSheetWhy (O.Gives files.old) (O.MayRefuse files.old)
+        (O.MayFail files.old) (W.may_refuse output.old) command result
+        × AreOpened O.Opens files.old files.new (O.MayRefuse files.old) command result) }
+    ensures told { fault_of sheets (map (λ s. s.now) words.now) ≢ [] → (fault : WordsFault)
+        × IsRefusal (fault_of sheets (map (λ s. s.now) words.now)) fault
+        × IsToldEnd fault (W.contents output.old) (W.contents output.new) result
+        × (files.new ≡ files.old) }
+    ensures unwritten { IsUnwritten result → output.new ≡ output.old }
+{
+    match read_sheet_words(alloc, words) {
+        Ok(words) => run_sheet_words(alloc, words, files, output),
+        Err(fault) => tell(fault, output),
+    }
+}

@@ -1,0 +1,121 @@
+//! A world, its output, and the rows of the next one.
+
+use crate::fault::Fault;
+use crate::words::{Line, line_of};
+use line_rates::{GroupRate, Limits, UserRate};
+use share_world::{Event, EventAnswer, StepFault, World};
+use std::alloc::{AllocError, Global};
+use std::io::Write;
+use std::mem;
+
+#[derive(Drop)]
+pub(crate) struct Room {
+    alloc: Global,
+    world: World,
+    groups: Vec<GroupRate>,
+    users: Vec<UserRate>,
+}
+
+fn limits(rates: [u64; 3], groups: Vec<GroupRate>, users: Vec<UserRate>) -> Result<Limits, Fault> {
+    let [server, down, up] = rates;
+    match Limits::of(server, down, up, groups, users) {
+        Ok(limits) => Ok(limits),
+        Err(_) => Err(Fault::Refused),
+    }
+}
+
+fn tell_answer<W: Write>(writer: &mut W, answer: EventAnswer) -> Result<(), Fault> {
+    match answer {
+        EventAnswer::Done => writeln!(writer, "done")?,
+        EventAnswer::Got => writeln!(writer, "got")?,
+        EventAnswer::Missed => writeln!(writer, "missed")?,
+        EventAnswer::Decided { tick, total } => writeln!(writer, "decided {tick} {total}")?,
+        EventAnswer::Posted(octets) => writeln!(writer, "posted {octets}")?,
+        EventAnswer::Taken(octets) => writeln!(writer, "taken {octets}")?,
+    }
+    Ok(())
+}
+
+fn tell_fault<W: Write>(writer: &mut W, fault: StepFault) -> Result<(), Fault> {
+    match fault {
+        StepFault::NotYet(last) => writeln!(writer, "NotYet {last}")?,
+        fault => writeln!(writer, "{fault}")?,
+    }
+    Ok(())
+}
+
+fn tell_amounts<W: Write>(writer: &mut W, word: &str, amounts: &[u64]) -> Result<(), Fault> {
+    write!(writer, " {word}")?;
+    for octets in amounts {
+        write!(writer, " {octets}")?;
+    }
+    Ok(())
+}
+
+fn tell_world<W: Write>(writer: &mut W, world: &World) -> Result<(), Fault> {
+    let issued = world.issued();
+    writeln!(writer, "issued {issued}")?;
+    for lane in 0..world.lanes() {
+        let (moved, back) = (world.moved(lane), world.back(lane));
+        write!(writer, "lane {lane} moved {moved} back {back}")?;
+        tell_amounts(writer, "posted", world.posted(lane))?;
+        tell_amounts(writer, "taken", world.taken(lane))?;
+        writeln!(writer)?;
+    }
+    Ok(())
+}
+
+impl Room {
+    /// A world without lanes and limits.
+    pub fn new(alloc: Global) -> Result<Room, Fault> {
+        let limits = limits([0, 0, 0], Vec::new(alloc), Vec::new(alloc))?;
+        Ok(Room {
+            alloc,
+            world: World::new(alloc, 0, limits)?,
+            groups: Vec::new(alloc),
+            users: Vec::new(alloc),
+        })
+    }
+
+    /// Plays a line of standard input, and prints the result.
+    pub fn play<W: Write>(&mut self, writer: &mut W, line: &[u8]) -> Result<(), Fault> {
+        match str::from_utf8(line) {
+            Ok(text) => self.follow(writer, line_of(text.trim_end()).ok_or(Fault::Word)?),
+            Err(_) => Err(Fault::Word),
+        }
+    }
+
+    fn follow<W: Write>(&mut self, writer: &mut W, line: Line) -> Result<(), Fault> {
+        match line {
+            Line::Group(row) => Ok(self.add_group(row)?),
+            Line::User(row) => Ok(self.add_user(row)?),
+            Line::World(lanes, rates) => self.begin(lanes, rates),
+            Line::Event(event) => self.make(writer, event),
+            Line::Look => tell_world(writer, &self.world),
+        }
+    }
+
+    fn add_group(&mut self, row: GroupRate) -> Result<(), AllocError> {
+        self.groups.push(row)?;
+        Ok(())
+    }
+
+    fn add_user(&mut self, row: UserRate) -> Result<(), AllocError> {
+        self.users.push(row)?;
+        Ok(())
+    }
+
+    fn begin(&mut self, lanes: u64, rates: [u64; 3]) -> Result<(), Fault> {
+        let groups = mem::replace(&mut self.groups, Vec::new(self.alloc));
+        let users = mem::replace(&mut self.users, Vec::new(self.alloc));
+        self.world = World::new(self.alloc, lanes as usize, limits(rates, groups, users)?)?;
+        Ok(())
+    }
+
+    fn make<W: Write>(&mut self, writer: &mut W, event: Event) -> Result<(), Fault> {
+        match self.world.step(event) {
+            Ok(answer) => tell_answer(writer, answer),
+            Err(fault) => tell_fault(writer, fault),
+        }
+    }
+}

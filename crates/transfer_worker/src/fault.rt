@@ -1,0 +1,26 @@
+//! Faults of opening a board.
+
+use std::alloc::AllocError;
+use thiserror::Error;
+
+/// Why a board cannot be opened. They are checked in this order.
+#[derive(Clone, Copy, Debug, PartialEq, Eq, Error)]
+pub enum BoardFault {
+    /// The board would have no places.
+    #[error("BadSize")]
+    BadSize,
+    /// There is no memory for the places or the passes.
+    #[error("Memory")]
+    Memory,
+}
+
+impl From<AllocError> for BoardFault {
+    ghost use Rattle.std.specs.Prelude.{◌≡◌};
+    ghost use Rattle.transfer_worker.specs.declared.fault.BoardFault.TheVariants.{Memory};
+
+    ghost from_gives = { λ _ fault. fault ≡ Memory };
+
+    fn from(_error: AllocError) -> BoardFault {
+        BoardFault::Memory
+    }
+}

@@ -1,4 +1,0 @@
-pub mod Effects
-pub mod Grants
-pub mod Kept
-pub mod Sittings

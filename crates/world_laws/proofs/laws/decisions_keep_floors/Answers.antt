@@ -1,5 +1,0 @@
-use Rattle.world_laws.proofs.Grants.{keeps_floors}
-use Rattle.world_laws.proofs.laws.decisions_keep_floors.Goals as goal
-
-pub returns : goal.returns
-returns c = record { kept = λ r w moment tick total end d. keeps_floors r tick w.lanes end.lanes d.shared }

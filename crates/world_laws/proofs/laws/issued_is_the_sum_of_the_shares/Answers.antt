@@ -1,5 +1,0 @@
-use Rattle.world_laws.proofs.Kept.{kept_by_runs}
-use Rattle.world_laws.proofs.laws.issued_is_the_sum_of_the_shares.Goals as goal
-
-pub returns : goal.returns
-returns c = record { shares = λ r k past end e. (kept_by_runs c.grants_keep_names.ensures.kept r k past end e).issued }

@@ -1,5 +1,0 @@
-use Rattle.world_laws.proofs.Kept.{moved_all}
-use Rattle.world_laws.proofs.laws.moved_in_all_is_within_the_limits.Goals as goal
-
-pub returns : goal.returns
-returns c = record { within = moved_all c.grants_keep_names.ensures.kept }

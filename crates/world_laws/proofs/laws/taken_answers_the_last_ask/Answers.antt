@@ -1,5 +1,0 @@
-use Rattle.world_laws.proofs.Sittings.{answers_last}
-use Rattle.world_laws.proofs.laws.taken_answers_the_last_ask.Goals as goal
-
-pub returns : goal.returns
-returns c = record { answers = answers_last c.grants_keep_names.ensures.kept }

@@ -219,10 +219,18 @@ def path_of(text):
     return tuple(names) if sum(len(it.encode()) + 1 for it in names) <= LONGEST_PATH else None
 
 
+def quoted(character):
+    """A character in quotes, as Rust shows one."""
+    if is_control(character):
+        return f"'\\u{{{ord(character):x}}}'"
+    return "'\\''" if character == "'" else "'\\\\'" if character == "\\" else f"'{character}'"
+
+
 def refusal_of(letters, path):
     """Why letters with a path are refused, or nothing."""
-    if not set(letters) <= LETTERS:
-        return "no such permission letter"
+    strays = [it for it in letters if it not in LETTERS]
+    if strays:
+        return f"{quoted(strays[0])} is no permission letter; the letters are {' '.join(sorted(LETTERS))}"
     return "not a path" if path_of(path) is None else None
 
 
@@ -245,10 +253,14 @@ def refusal_above(entries, path):
     for length in range(len(path)):
         above = path[:length]
         if above not in entries:
-            return "not found"
+            return "its parent directory is missing; write a [[dir]] row for it first"
         if entries[above] is not None:
-            return "not a directory"
+            return "its path leads through a file, not a directory"
     return None
+
+
+EXISTS = "a directory has that path already; remove this row"
+IS_DIRECTORY = "a directory has that path; choose another for the file"
 
 
 def refusal_to_make(entries, path, text, capacity):
@@ -256,15 +268,15 @@ def refusal_to_make(entries, path, text, capacity):
     if path is None:
         return "path: a name or the path is too long"
     if path == ROOT:
-        return "already exists" if text is None else "a directory"
+        return EXISTS if text is None else IS_DIRECTORY
     if refusal := refusal_above(entries, path):
         return refusal
     if text is None:
-        return "already exists" if path in entries else None
+        return EXISTS if path in entries else None
     if path in entries and entries[path] is None:
-        return "a directory"
+        return IS_DIRECTORY
     others = sum(size for place, size in entries.items() if size is not None and place != path)
-    return "full" if others + len(text.encode()) > capacity else None
+    return "the files have more octets than `capacity`; raise it" if others + len(text.encode()) > capacity else None
 
 
 def store_fault(document):
@@ -280,7 +292,7 @@ def store_fault(document):
         for row, made in enumerate(document.get(table, []), 1):
             path, text = path_of(made["path"]), made.get("text")
             if refusal := refusal_to_make(entries, path, text, server.get("capacity", 1048576)):
-                yield Fault(f"{header(f'[[{table}]]', row)}: {refusal}", "BadStore")
+                yield Fault(f"{header(f'[[{table}]]', row, made['path'])}: {refusal}", "BadStore")
             entries[path] = None if text is None else len(text.encode())
 
 

@@ -57,7 +57,8 @@ pub struct Header<'a> {
     pub table: TableName,
     /// Number of the row in its list, from 1; 0 for a table that is no row.
     pub row: usize,
-    /// The name that the row states, or, for an override, the name of its user.
+    /// The name that the row states; for an override, the name of its user; for a directory or a file
+    /// that cannot be made, its path.
     pub name: Option<&'a str>,
 }
 

@@ -1,5 +1,5 @@
 -- Directories and files that are refused, after those that were made.
-use Rattle.std.proofs.Common.{◌≡◌, ℕ, ◌<◌, List, length, take, get_or, Some, None, Result, Ok, Err, IfErr, refl, sym, ap, subst, ◌∙◌, inr}
+use Rattle.std.proofs.Common.{◌≡◌, ℕ, ◌<◌, List, length, take, get_or, Some, Result, Ok, Err, IfErr, refl, sym, ap, subst, ◌∙◌, inr}
 use Rattle.std.proofs.lemmas.Option.{slice_get-get_or}
 use Rattle.std.specs.Io.KnownBytes.{Appends}
 use Rattle.memory_terms.specs.Lack.{Unless}
@@ -20,12 +20,12 @@ pub told_more : (First Second : Place → StoreProblem → Type 0) → ((place :
 told_more First Second more (fault.At header told) is = more (place_of header) told is
 told_more First Second more fault.Memory is = tt
 
-pub row_refused : {R : Type 0} (table : TableName) (Makes : R → Memory → Memory → Type 0) (Refuses : R → Memory → StoreProblem → Type 0) (rows : List R) (i : ℕ) (row other : R)
+pub row_refused : {R : Type 0} (table : TableName) (path : R → List ℕ) (Makes : R → Memory → Memory → Type 0) (Refuses : R → Memory → StoreProblem → Type 0) (rows : List R) (i : ℕ) (row other : R)
     (old mid : Memory) (problem : StoreProblem) (answer : Fault StoreProblem) → i < length rows → row ≡ get_or rows i other → MakesAll Makes (take i rows) old mid
-    → Refuses row mid problem → FaultIs (λ place told. (place ≡ row_at table i None) × (told ≡ problem)) answer
-    → FaultIs (IsRefusedRow table Makes Refuses rows old) answer
-row_refused table Makes Refuses rows i row other old mid problem answer within at before is =
-    told_more (λ place told. (place ≡ row_at table i None) × (told ≡ problem)) (IsRefusedRow table Makes Refuses rows old)
+    → Refuses row mid problem → FaultIs (λ place told. (place ≡ row_at table i (Some (path row))) × (told ≡ problem)) answer
+    → FaultIs (IsRefusedRow table path Makes Refuses rows old) answer
+row_refused table path Makes Refuses rows i row other old mid problem answer within at before is =
+    told_more (λ place told. (place ≡ row_at table i (Some (path row))) × (told ≡ problem)) (IsRefusedRow table path Makes Refuses rows old)
     (λ place told same. record {
       index = i;
       row = row;

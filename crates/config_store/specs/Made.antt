@@ -82,22 +82,28 @@ IsFileProblem file old (problem.Path fault) = IsPathProblem file.path.now (probl
 IsFileProblem file old (problem.Store fault) = Unless StoreFault.Memory (λ why.
     (path : Path) × (resolved [] file.path.now ≡ Ok path) × IsNotFilled path file.text.now (file.modified * 1000) old why) fault
 
--- the rows before one are made, and that one is refused
-pub record IsRefusedRow {R : Type 0} (table : TableName) (Makes : R → Memory → Memory → Type 0) (Refuses : R → Memory → StoreProblem → Type 0) (rows : List R) (old : Memory)
-    (at : Place) (problem : StoreProblem) : Type 0 where
+-- The rows before one are made, and that one is refused. It is named by its path.
+pub record IsRefusedRow {R : Type 0} (table : TableName) (path : R → List ℕ) (Makes : R → Memory → Memory → Type 0)
+    (Refuses : R → Memory → StoreProblem → Type 0) (rows : List R) (old : Memory) (at : Place) (problem : StoreProblem) : Type 0 where
   pub index : ℕ
   pub row : R
   pub mid : Memory
   pub stands : slice_get rows index ≡ Some row
   pub before : MakesAll Makes (take index rows) old mid
   pub refused : Refuses row mid problem
-  pub place : at ≡ row_at table index None
+  pub place : at ≡ row_at table index (Some (path row))
+
+abbrev pub IsRefusedDir : List DirTable → Memory → Place → StoreProblem → Type 0
+IsRefusedDir dirs old place told = IsRefusedRow TableName.Dir (λ dir. dir.path.now) MakesDir IsDirProblem dirs old place told
+
+abbrev pub IsRefusedFile : List FileTable → Memory → Place → StoreProblem → Type 0
+IsRefusedFile files old place told = IsRefusedRow TableName.File (λ file. file.path.now) MakesFile IsFileProblem files old place told
 
 -- a directory is refused, or otherwise a file
 abbrev pub IsNotMade : ServerTable → List DirTable → List FileTable → Place → StoreProblem → Type 0
 IsNotMade server dirs files place told =
-    IsRefusedRow TableName.Dir MakesDir IsDirProblem dirs (empty_store server.capacity) place told
-    ⊎ ((made : Memory) × MakesAll MakesDir dirs (empty_store server.capacity) made × IsRefusedRow TableName.File MakesFile IsFileProblem files made place told)
+    IsRefusedDir dirs (empty_store server.capacity) place told
+    ⊎ ((made : Memory) × MakesAll MakesDir dirs (empty_store server.capacity) made × IsRefusedFile files made place told)
 
 -- the range of ports is empty; or otherwise a store in memory is not made
 abbrev pub IsStoreProblem : ServerTable → List DirTable → List FileTable → Place → StoreProblem → Type 0

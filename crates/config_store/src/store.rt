@@ -1,12 +1,11 @@
 //! A store with the directories and files of a configuration.
 
-ghost use Rattle.std.specs.Prelude.{◌≡◌, ◌≤◌, ◌<◌, ◌^◌, None, [], Err, IfErr, IfOk, OnOk, Ok};
+ghost use Rattle.std.specs.Prelude.{◌≡◌, ◌≤◌, ◌<◌, ◌^◌, Some, [], Err, IfErr, IfOk, OnOk, Ok};
 ghost use Rattle.memory_terms.specs.Lack.{Unless};
 ghost use Rattle.virtual_path.specs.Path.{resolved};
 ghost use Rattle.config_store.specs.Made.{MakesDir, MakesFile, MakesAll, IsFilled, IsStoreOf};
-ghost use Rattle.config_store.specs.Made.{IsDirProblem, IsFileProblem, IsNotFilled, IsRefusedRow, IsStoreProblem, IsPathProblem};
+ghost use Rattle.config_store.specs.Made.{IsDirProblem, IsFileProblem, IsNotFilled, IsRefusedDir, IsRefusedFile, IsStoreProblem, IsPathProblem};
 ghost use Rattle.config_file.specs.Lists.{FaultIs, row_at};
-ghost use Rattle.config_file.specs.declared.fault.TableName.TheVariants as TableName;
 ghost use Rattle.virtual_tree.specs.declared.fault.StoreFault.TheVariants as StoreFault;
 
 use crate::fault::StoreProblem;
@@ -70,10 +69,15 @@ fn make_file(alloc: Global, store: &mut MemStore, file: &FileTable) -> Result<()
     }
 }
 
-/// The refusal of the row at an index of its list, from 0.
-fn refused<'a>(table: TableName, index: usize, problem: StoreProblem) -> Fault<'a, StoreProblem>
+/// The refusal of the row at an index of its list, from 0, which is named by its path.
+fn refused<'a>(
+    table: TableName,
+    index: usize,
+    path: &'a str,
+    problem: StoreProblem,
+) -> Fault<'a, StoreProblem>
     requires within { index < 2 ^ 63 }
-    ensures told { FaultIs (λ place told. (place ≡ row_at table index None)
+    ensures told { FaultIs (λ place told. (place ≡ row_at table index (Some path.now))
         × (told ≡ problem)) result }
 {
     match problem {
@@ -81,7 +85,7 @@ fn refused<'a>(table: TableName, index: usize, problem: StoreProblem) -> Fault<'
             Fault::Memory
         }
         _ => {
-            let header = Header::row(table, index, None);
+            let header = Header::row(table, index, Some(path));
             Fault::At { header, problem }
         }
     }
@@ -90,16 +94,15 @@ fn refused<'a>(table: TableName, index: usize, problem: StoreProblem) -> Fault<'
 fn make_dirs<'a>(
     alloc: Global,
     store: &mut MemStore,
-    dirs: &[DirTable],
+    dirs: &[DirTable<'a>],
 ) -> Result<(), Fault<'a, StoreProblem>>
     ensures made { OnOk result (MakesAll MakesDir dirs.now store.old store.new) }
-    ensures refused { IfErr result (FaultIs
-        (IsRefusedRow TableName.Dir MakesDir IsDirProblem dirs.now store.old)) }
+    ensures refused { IfErr result (FaultIs (IsRefusedDir dirs.now store.old)) }
 {
     for (index, dir) in dirs.iter().enumerate() {
         match make_dir(alloc, store, dir) {
             Ok(()) => {}
-            Err(problem) => return Err(refused(TableName::Dir, index, problem)),
+            Err(problem) => return Err(refused(TableName::Dir, index, dir.path, problem)),
         }
     }
     Ok(())
@@ -108,16 +111,15 @@ fn make_dirs<'a>(
 fn make_files<'a>(
     alloc: Global,
     store: &mut MemStore,
-    files: &[FileTable],
+    files: &[FileTable<'a>],
 ) -> Result<(), Fault<'a, StoreProblem>>
     ensures made { OnOk result (MakesAll MakesFile files.now store.old store.new) }
-    ensures refused { IfErr result (FaultIs
-        (IsRefusedRow TableName.File MakesFile IsFileProblem files.now store.old)) }
+    ensures refused { IfErr result (FaultIs (IsRefusedFile files.now store.old)) }
 {
     for (index, file) in files.iter().enumerate() {
         match make_file(alloc, store, file) {
             Ok(()) => {}
-            Err(problem) => return Err(refused(TableName::File, index, problem)),
+            Err(problem) => return Err(refused(TableName::File, index, file.path, problem)),
         }
     }
     Ok(())
@@ -129,8 +131,8 @@ fn make_files<'a>(
 pub fn make_store<'a>(
     alloc: Global,
     server: &ServerTable,
-    dirs: &[DirTable],
-    files: &[FileTable],
+    dirs: &[DirTable<'a>],
+    files: &[FileTable<'a>],
 ) -> Result<ServedStore, Fault<'a, StoreProblem>>
     ensures range { OnOk result (server.now.passive_first ≤ server.now.passive_last) }
     ensures store { IfOk result (IsStoreOf server.now dirs.now files.now) }

@@ -11,6 +11,8 @@ use Rattle.config_file.specs.declared.stated.UserTable.{UserTable}
 use Rattle.config_file.specs.declared.stated.OverrideTable.{OverrideTable}
 use Rattle.config_file.specs.declared.fault.TableName.TheVariants as TableName
 use Rattle.config_file.specs.Lists.{Place, row_at}
+use Rattle.config_users.specs.Problems.{IsToldAs}
+use Rattle.config_users.specs.declared.problem.UserProblem.{UserProblem}
 
 -- an override of a user
 abbrev pub AddsRule : List ℕ → OverrideTable → Accounts → Accounts → Type 0
@@ -43,13 +45,15 @@ AddsUsers groups _ _ old new = ⊥
 -- ---- refusals
 
 -- the overrides before one are made, and that one is refused
-pub record IsRefusedRule (name : List ℕ) (rules : List OverrideTable) (old : Accounts) (at : Place) (fault : AuthorizerFault) : Type 0 where
+pub record IsRefusedRule (name : List ℕ) (rules : List OverrideTable) (old : Accounts) (at : Place) (problem : UserProblem) : Type 0 where
   pub index : ℕ
   pub rule : OverrideTable
   pub mid : Accounts
   pub stands : slice_get rules index ≡ Some rule
   pub before : AddsRules name (take index rules) old mid
+  pub fault : AuthorizerFault
   pub refused : overridden mid name rule.path.now rule.perms.now rule.recursive ≡ Err fault
+  pub told : IsToldAs rule.perms.now fault problem
   pub place : at ≡ row_at TableName.Override index (Some name)
 
 -- a user is refused; or otherwise the messages; or otherwise the group
@@ -62,13 +66,14 @@ IsRefusedAccount group user old fault =
     × (with_group greeted user.name.now group ≡ Err fault))))
 
 -- the user at an index is refused, or otherwise one of their overrides
-abbrev pub IsRefusedUser : ℕ → Option ℕ → UserTable → List OverrideTable → Accounts → Place → AuthorizerFault → Type 0
-IsRefusedUser index group user rules old place fault =
-    ((place ≡ row_at TableName.User index (Some user.name.now)) × IsRefusedAccount group user old fault)
-    ⊎ ((next : Accounts) × AddsAccount group user old next × IsRefusedRule user.name.now rules next place fault)
+abbrev pub IsRefusedUser : ℕ → Option ℕ → UserTable → List OverrideTable → Accounts → Place → UserProblem → Type 0
+IsRefusedUser index group user rules old place problem =
+    ((place ≡ row_at TableName.User index (Some user.name.now))
+    × ((fault : AuthorizerFault) × IsRefusedAccount group user old fault × IsToldAs user.perms.now fault problem))
+    ⊎ ((next : Accounts) × AddsAccount group user old next × IsRefusedRule user.name.now rules next place problem)
 
 -- the users before one are added, and that one is refused
-pub record IsFirstRefusal (groups : List GroupTable) (users : List UserTable) (overrides : List (Vec OverrideTable Global)) (at : Place) (fault : AuthorizerFault) : Type 0 where
+pub record IsFirstRefusal (groups : List GroupTable) (users : List UserTable) (overrides : List (Vec OverrideTable Global)) (at : Place) (problem : UserProblem) : Type 0 where
   pub index : ℕ
   pub user : UserTable
   pub rules : Vec OverrideTable Global
@@ -76,4 +81,4 @@ pub record IsFirstRefusal (groups : List GroupTable) (users : List UserTable) (o
   pub stands : slice_get users index ≡ Some user
   pub has : slice_get overrides index ≡ Some rules
   pub before : AddsUsers groups (take index users) (take index overrides) no_users mid
-  pub refused : IsRefusedUser index (group_in groups user.group) user rules.items mid at fault
+  pub refused : IsRefusedUser index (group_in groups user.group) user rules.items mid at problem

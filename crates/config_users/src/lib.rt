@@ -7,6 +7,8 @@
 //! ```
 #![tactic(auto)]
 
+mod problem;
 mod users;
 
+pub use problem::UserProblem;
 pub use users::make_users;

@@ -1,40 +1,44 @@
 //! An authorizer with the users of a file.
 
-ghost use Rattle.std.specs.Prelude.{◌≡◌, ◌≢◌, ◌<◌, ◌^◌, Err, Some, IfErr, IfOk, OnOk, List, length};
+ghost use Rattle.std.specs.Prelude.{◌≡◌, ◌≢◌, ◌<◌, ◌^◌, Err, Some, None, IfErr, IfOk, OnOk, List, length};
 ghost use Rattle.memory_terms.specs.Lack.{Unless};
 ghost use Rattle.authorizer.specs.Numbers.{no_users};
 ghost use Rattle.config_rates.specs.Rows.{user_rows};
 ghost use Rattle.config_file.specs.declared.stated.GroupTable.{GroupTable};
 ghost use Rattle.config_users.specs.Added.{AddsRule, AddsRules, AddsAccount, AddsUser, AddsUsers};
 ghost use Rattle.authorizer.specs.declared.fault.AuthorizerFault.TheVariants as AuthorizerFault;
+ghost use Rattle.config_users.specs.Problems.{IsToldAs};
 ghost use Rattle.config_users.specs.Added.{IsRefusedRule, IsRefusedAccount, IsRefusedUser, IsFirstRefusal};
 ghost use Rattle.config_file.specs.Lists.{FaultIs, row_at};
 ghost use Rattle.authorizer.specs.Changes.{overridden};
+ghost use Rattle.ftp_terms.specs.Letters.{letters_of};
 
+use crate::problem::{UserProblem, stray_letter};
 use authorizer::{Authorizer, AuthorizerFault};
 use config_file::{Fault, Header, OverrideTable, TableName, UserTable};
 use line_rates::UserRate;
 use std::alloc::Global;
 
-/// The refusal of the row at an index of its list, from 0.
+/// The refusal of a row that states these letters, at an index of its list, from 0.
 fn refused<'a>(
     table: TableName,
     index: usize,
     name: &'a str,
+    letters: &str,
     fault: AuthorizerFault,
-) -> Fault<'a, AuthorizerFault>
+) -> Fault<'a, UserProblem>
     requires within { index < 2 ^ 63 }
+    requires stray { fault ≡ AuthorizerFault.BadLetter → letters_of letters.now ≡ None }
     ensures told { FaultIs (λ place told. (place ≡ row_at table index (Some name.now))
-        × (told ≡ fault) × (fault ≢ AuthorizerFault.Memory)) result }
+        × IsToldAs letters.now fault told × (fault ≢ AuthorizerFault.Memory)) result }
 {
-    if fault == AuthorizerFault::Memory {
-        return Fault::Memory;
-    }
+    let problem = match fault {
+        AuthorizerFault::Memory => return Fault::Memory,
+        AuthorizerFault::BadLetter => UserProblem::BadLetter(stray_letter(letters)),
+        fault => UserProblem::Refused(fault),
+    };
     let header = Header::row(table, index, Some(name));
-    Fault::At {
-        header,
-        problem: fault,
-    }
+    Fault::At { header, problem }
 }
 
 /// Adds a user with their messages and their group, and no override yet.
@@ -66,14 +70,14 @@ fn add_rules<'a>(
     users: &mut Authorizer,
     name: &'a str,
     rules: &[OverrideTable<'a>],
-) -> Result<(), Fault<'a, AuthorizerFault>>
+) -> Result<(), Fault<'a, UserProblem>>
     ensures rules { OnOk result (AddsRules name.now rules.now users.old users.new) }
     ensures refused { IfErr result (FaultIs (IsRefusedRule name.now rules.now users.old)) }
 {
     for (index, rule) in rules.iter().enumerate() {
         match add_rule(users, name, rule) {
             Ok(()) => {}
-            Err(fault) => return Err(refused(TableName::Override, index, name, fault)),
+            Err(fault) => return Err(refused(TableName::Override, index, name, rule.perms, fault)),
         }
     }
     Ok(())
@@ -86,7 +90,7 @@ fn add_user<'a>(
     user: &UserTable<'a>,
     rules: &[OverrideTable<'a>],
     group: Option<u32>,
-) -> Result<(), Fault<'a, AuthorizerFault>>
+) -> Result<(), Fault<'a, UserProblem>>
     requires within { index < 2 ^ 63 }
     ensures user { OnOk result (AddsUser group user.now rules.now users.old users.new) }
     ensures refused { IfErr result
@@ -94,7 +98,7 @@ fn add_user<'a>(
 {
     match add_account(users, user, group) {
         Ok(()) => add_rules(users, user.name, rules),
-        Err(fault) => Err(refused(TableName::User, index, user.name, fault)),
+        Err(fault) => Err(refused(TableName::User, index, user.name, user.perms, fault)),
     }
 }
 
@@ -105,7 +109,7 @@ pub fn make_users<'a>(
     users: &[UserTable<'a>],
     overrides: &[Vec<OverrideTable<'a>>],
     rows: &[UserRate],
-) -> Result<Authorizer, Fault<'a, AuthorizerFault>>
+) -> Result<Authorizer, Fault<'a, UserProblem>>
     requires overrides { length overrides.now ≡ length users.now }
     requires rows { length rows.now ≡ length users.now }
     ensures users { (groups : List GroupTable) → rows.now ≡ user_rows groups users.now

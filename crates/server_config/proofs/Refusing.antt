@@ -4,7 +4,7 @@ use Rattle.authorizer.specs.Numbers.{no_users}
 use Rattle.authorizer.specs.Users.{Accounts}
 use Rattle.toml.specs.Data.{Members}
 use Rattle.toml.specs.Parse.{parse_document}
-use Rattle.authorizer.specs.declared.fault.AuthorizerFault.{AuthorizerFault}
+use Rattle.config_users.specs.declared.problem.UserProblem.{UserProblem}
 use Rattle.config_rates.specs.Groups.{AreApart, AreGrouped, IsFault, IsProblem}
 use Rattle.config_rates.specs.declared.fault.GroupProblem.{GroupProblem}
 use Rattle.config_store.specs.Made.{IsStoreProblem}
@@ -48,7 +48,7 @@ groups_refused tables gs us fault TooLong same_groups same_users refused told = 
 groups_refused tables gs us fault Memory same_groups same_users refused told = tt
 
 -- a user is refused, and groups are not
-pub users_refused : (tables : Tables) (gs : List GroupTable) (us : List UserTable) (os : List (Vec OverrideTable Global)) (fault : Fault AuthorizerFault) (answer : ConfigFault)
+pub users_refused : (tables : Tables) (gs : List GroupTable) (us : List UserTable) (os : List (Vec OverrideTable Global)) (fault : Fault UserProblem) (answer : ConfigFault)
     → gs ≡ tables.groups.items → us ≡ tables.users.items → os ≡ tables.overrides.items → AreApart gs → AreGrouped gs us
     → FaultIs (IsFirstRefusal gs us os) fault → TellsUser fault answer → IsFaultOfTables tables answer
 users_refused tables gs us os fault (BadUser header problem) same_groups same_users same_rules apart grouped refused told = (

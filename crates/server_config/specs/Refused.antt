@@ -20,7 +20,7 @@ use Rattle.config_file.specs.declared.fault.Fault.{Fault}
 use Rattle.config_file.specs.declared.fault.Fault.TheVariants.{At}
 use Rattle.config_file.specs.declared.tables.Tables.{Tables}
 use Rattle.config_users.specs.Added.{AddsUsers, IsFirstRefusal}
-use Rattle.authorizer.specs.declared.fault.AuthorizerFault.{AuthorizerFault}
+use Rattle.config_users.specs.declared.problem.UserProblem.{UserProblem}
 use Rattle.server_config.specs.declared.fault.ConfigFault.{ConfigFault}
 use Rattle.server_config.specs.declared.fault.OwnedHeader.{OwnedHeader}
 use Rattle.server_config.specs.declared.fault.ConfigFault.TheVariants.{NotToml, Key, BadGroup, BadUser, BadStore, BadDate, TooDeep, TooLong, Memory}
@@ -78,7 +78,7 @@ TellsGroup fault (BadGroup header problem) = IsAt fault header problem
 TellsGroup fault Memory = Unit {0}
 TellsGroup fault _ = ⊥
 
-abbrev pub TellsUser : Fault AuthorizerFault → ConfigFault → Type 0
+abbrev pub TellsUser : Fault UserProblem → ConfigFault → Type 0
 TellsUser fault (BadUser header problem) = IsAt fault header problem
 TellsUser fault Memory = Unit {0}
 TellsUser fault _ = ⊥

@@ -7,10 +7,10 @@ ghost use Rattle.server_config.specs.Faults.{name_of};
 ghost use Rattle.server_config.specs.declared.fault.ConfigFault.TheVariants.{Memory};
 
 use crate::similar::similar_to;
-use authorizer::AuthorizerFault;
 use config_file::{Fault, Header, KeyFault, Problem, TableName};
 use config_rates::GroupProblem;
 use config_store::StoreProblem;
+use config_users::UserProblem;
 use std::alloc::{AllocError, Global};
 use std::fmt;
 use thiserror::Error;
@@ -24,7 +24,8 @@ pub struct OwnedHeader {
     pub table: TableName,
     /// The number of the row among those of its list, from 1; 0 for a table that is no row.
     pub row: usize,
-    /// The name that the row states, or, of an override, that its user states.
+    /// The name that the row states; of an override, the name of its user; of a directory or a file that
+    /// cannot be made, its path.
     pub name: Option<String>,
 }
 
@@ -68,7 +69,7 @@ pub enum ConfigFault {
     #[error("{header}: {problem}")]
     BadUser {
         header: OwnedHeader,
-        problem: AuthorizerFault,
+        problem: UserProblem,
     },
     /// The store refuses a directory or a file, or there is no port for passive connections.
     #[error("{header}: {problem}")]
@@ -268,7 +269,7 @@ pub(crate) fn of_groups(alloc: Global, fault: Fault<GroupProblem>) -> ConfigFaul
 }
 
 /// The fault of users.
-pub(crate) fn of_users(alloc: Global, fault: Fault<AuthorizerFault>) -> ConfigFault
+pub(crate) fn of_users(alloc: Global, fault: Fault<UserProblem>) -> ConfigFault
     ensures told { TellsUser fault.entry result }
 {
     match located(alloc, fault) {

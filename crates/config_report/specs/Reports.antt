@@ -2,7 +2,7 @@
 use Rattle.std.specs.Prelude.{◌≡◌, ℕ, List, Some}
 use Rattle.toml.specs.Data.{Members}
 use Rattle.toml.specs.Parse.{parse_document}
-use Rattle.config_store.specs.declared.store.ServedStore.{ServedStore}
+use Rattle.server_config.specs.declared.store.ServedStore.{ServedStore}
 use Rattle.config_file.specs.Tables.{IsTables}
 use Rattle.config_file.specs.declared.tables.Tables.{Tables}
 use Rattle.server_config.specs.Configs.{IsConfigText}

@@ -9,8 +9,8 @@ use Rattle.virtual_path.specs.Path.{Path, resolved}
 use Rattle.virtual_path.specs.declared.fault.PathFault.{PathFault}
 use Rattle.memory_store.specs.InMemory.{Memory, kind_at}
 use Rattle.config_file.specs.declared.stated.ServerTable.{ServerTable}
-use Rattle.config_store.specs.declared.store.ServedStore.{ServedStore}
-use Rattle.config_store.specs.declared.store.ServedStore.TheVariants as served
+use Rattle.server_config.specs.declared.store.ServedStore.{ServedStore}
+use Rattle.server_config.specs.declared.store.ServedStore.TheVariants as served
 use Rattle.config_file.specs.declared.stated.GroupTable.{GroupTable}
 use Rattle.config_file.specs.declared.stated.UserTable.{UserTable}
 use Rattle.server_config.specs.Settings.{told_address}

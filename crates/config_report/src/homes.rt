@@ -5,9 +5,9 @@ ghost use Rattle.virtual_path.specs.Path.{resolved};
 ghost use Rattle.virtual_tree.specs.declared.fault.StoreFault.TheVariants as StoreFault;
 ghost use Rattle.config_report.specs.Warnings.{has_home, is_directory, is_home};
 
-use config_store::ServedStore;
 use ftp_terms::EntryKind;
 use memory_store::MemStore;
+use server_config::ServedStore;
 use std::alloc::{AllocError, Global};
 use virtual_path::{PathFault, VPath};
 use virtual_tree::{Store, StoreFault};

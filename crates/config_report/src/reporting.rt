@@ -8,8 +8,7 @@ ghost use Rattle.config_report.specs.Reports.{IsReport, IsReportOf, report_of};
 use crate::lines::lines_of;
 use crate::warnings::warnings_of;
 use config_file::{Tables, read_tables};
-use config_store::ServedStore;
-use server_config::{Config, ConfigFault};
+use server_config::{Config, ConfigFault, ServedStore};
 use std::alloc::{AllocError, Global};
 
 /// Returns the report on tables and the store that is made of them.

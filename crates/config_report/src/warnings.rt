@@ -8,7 +8,7 @@ use crate::floors::is_single;
 use crate::homes::has_home;
 use crate::warning::Warning;
 use config_file::{GroupTable, ServerTable, UserTable};
-use config_store::ServedStore;
+use server_config::ServedStore;
 use std::alloc::{AllocError, Global};
 use std::net::Ipv4Addr;
 

@@ -3,10 +3,9 @@
 use crate::documents::{FOLDER, MEMORY};
 use crate::expect::{holds, same};
 use authorizer::Authorizer;
-use config_store::ServedStore;
 use ftp_terms::Letter;
 use line_rates::{Limits, Name, Way};
-use server_config::{Config, ServerNumbers, migrate, numbers_agree};
+use server_config::{Config, ServedStore, ServerNumbers, migrate, numbers_agree};
 use std::alloc::Global;
 use std::process::Abort;
 use virtual_path::VPath;

@@ -1,15 +1,9 @@
 //! The examples in the heads of these crates. `tools/examples` compares their lines.
 
-ghost use Rattle.std.specs.Prelude.{◌≡◌, length};
-
 use crate::expect::holds;
-use authorizer::AuthorizerFault;
 use config_file::{Fault, KeyFault, TableName, Tables, read_tables, rows_of};
-use config_rates::{GroupProblem, RateRows, limits_of, read_rows};
 use config_report::{Warning, report, warnings_of};
-use config_store::{ServedStore, StoreProblem, make_store};
-use config_users::make_users;
-use server_config::{Config, ConfigFault, migrate};
+use server_config::{Config, ConfigFault, ServedStore, migrate};
 use std::process::Abort;
 use toml::Table;
 
@@ -34,40 +28,6 @@ fn config_file<'a>(
     let tables = read_tables(rt.alloc(), document)?; // of a file with `port = 2121`
     holds(rt, tables.server.port == 2121 && tables.server.lanes == 16);
     holds(rt, rows_of(TableName::Dir).len() == 1); // its key `path`
-    Ok(())
-}
-
-fn config_rates<'a>(
-    rt: &(impl Abort + AllocGlobal),
-    tables: &Tables<'a>,
-) -> Result<(), Fault<'a, GroupProblem>> {
-    let rows = read_rows(rt.alloc(), &tables.groups, &tables.users)?; // of a file
-    let limits = limits_of(&tables.server, rows);
-    holds(rt, limits.users().len() == 1); // of the one user, `ann`
-    Ok(())
-}
-
-fn config_users<'a>(
-    rt: &(impl Abort + AllocGlobal),
-    tables: &Tables<'a>,
-    rows: &RateRows,
-) -> Result<(), Fault<'a, AuthorizerFault>>
-    requires overrides { length tables.now.overrides.items ≡ length tables.now.users.items }
-    requires rows { length rows.now.users.items ≡ length tables.now.users.items }
-{
-    // the tables of a file with a user `ann`, and the rows of rates that `config_rates` reads
-    let users = make_users(rt.alloc(), &tables.users, &tables.overrides, &rows.users)?;
-    holds(rt, users.check_password("ann", "secret"));
-    Ok(())
-}
-
-fn config_store<'a>(
-    rt: &(impl Abort + AllocGlobal),
-    tables: &Tables<'a>,
-) -> Result<(), Fault<'a, StoreProblem>> {
-    // the tables of a file with `root = "memory"`
-    let store = make_store(rt.alloc(), &tables.server, &tables.dirs, &tables.files)?;
-    holds(rt, matches!(store, ServedStore::Memory(_))); // otherwise a folder, by its path
     Ok(())
 }
 
@@ -105,23 +65,12 @@ fn warnings(rt: &(impl Abort + AllocGlobal), tables: &Tables<'_>) {
     );
 }
 
-/// Makes all parts from the tables of a document.
-fn of_tables<'a>(rt: &(impl Abort + AllocGlobal), tables: &Tables<'a>)
-    requires overrides { length tables.now.overrides.items ≡ length tables.now.users.items }
-{
-    config_rates(rt, tables).expect(rt, "rates");
-    config_store(rt, tables).expect(rt, "a store");
-    let rows = read_rows(rt.alloc(), &tables.groups, &tables.users).expect(rt, "rates");
-    config_users(rt, tables, &rows).expect(rt, "users");
-    warnings(rt, tables);
-}
-
 #[test]
 fn examples(rt: HostRuntime) {
     let document = toml::table_from_str(rt.alloc(), SMALL).expect(&rt, "a document");
     config_file(&rt, &document).expect(&rt, "tables");
     let tables = read_tables(rt.alloc(), &document).expect(&rt, "tables");
-    of_tables(&rt, &tables);
+    warnings(&rt, &tables);
     server_config(&rt).expect(&rt, "a configuration");
     config_report(&rt).expect(&rt, "a report");
 }

@@ -5,13 +5,12 @@
 //! thread alone. So functions on files and the console name the runtime itself, and functions that start threads have a
 //! type parameter for their permission.
 
-use config_store::ServedStore;
 use folder_store::DirStore;
 use ftp_daemon::{ServeFault, Service, StopSign, serve};
 use ftpd_program::{Ending, Server, ServerFault};
 use log::sink::Console;
 use log::{Level, Logged};
-use server_config::Config;
+use server_config::{Config, ServedStore};
 use session_notes::Notes;
 use sheets_program::Ending as Common;
 use std::alloc::{AllocError, Global};

@@ -2,7 +2,7 @@
 use Rattle.std.specs.Prelude.{◌≡◌, ◌⊎◌, ℕ, List, Option, String, Result, Ok, Err}
 use Rattle.std.specs.declared.alloc.Global.{Global}
 use Rattle.authorizer.specs.Users.{Users}
-use Rattle.config_store.specs.declared.store.ServedStore.TheVariants as served
+use Rattle.server_config.specs.declared.store.ServedStore.TheVariants as served
 use Rattle.line_rates.specs.Rates.{Rates}
 use Rattle.memory_store.specs.InMemory.{Memory}
 use Rattle.rate_floors.specs.Promises.{HasNoSessions, Promises}

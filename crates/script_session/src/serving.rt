@@ -8,11 +8,10 @@ ghost use Rattle.script_session.specs.Served.{IsBrokenBy, IsServed, IsServedBy, 
 use crate::fault::SessionFault;
 use crate::script::serve_text;
 use authorizer::Authorizer;
-use config_store::ServedStore;
 use line_rates::Limits;
 use memory_store::MemStore;
 use rate_floors::Floors;
-use server_config::Config;
+use server_config::{Config, ServedStore};
 use session_host::ControlFault;
 use session_table::Settings;
 use std::alloc::Global;

@@ -5,8 +5,8 @@ use Rattle.std.specs.Prelude.{bytes_eq, codes}
 use Rattle.toml.specs.Data.{Data, table, Items, no_items, item, Members, get_member}
 use Rattle.config_file.specs.declared.kind.Kind.{Kind}
 use Rattle.config_file.specs.declared.kind.Kind.TheVariants as kind
-use Rattle.config_rates.specs.Groups.{number_named, group_in}
-use Rattle.config_rates.specs.Rows.{numbered, group_row, user_row}
+use Rattle.server_config.specs.Groups.{number_named, group_in}
+use Rattle.server_config.specs.RateRows.{numbered, group_row, user_row}
 use Rattle.config_file.specs.Keys.{AllHeld, JudgesFound, KeyRow, needed, optional}
 use Rattle.config_file.specs.Lists.{AreRows}
 use Rattle.config_file.specs.TableKeys.{group_rows, group_values, rate_row, text_of, user_rows, user_values}

@@ -1,7 +1,16 @@
 pub mod Alike
 pub mod Depths
+pub mod GroupsRefused
 pub mod Kept
+pub mod Lengths
+pub mod LimitsFit
 pub mod Making
+pub mod Numbering
 pub mod Places
 pub mod Refusing
+pub mod StoreMade
+pub mod StoreRefused
+pub mod StrayLetters
+pub mod UsersAdded
+pub mod UsersRefused
 pub mod Versions

@@ -5,7 +5,7 @@ use Rattle.line_rates.specs.Stated.{stated}
 use Rattle.line_rates.specs.declared.row.GroupRate.{GroupRate}
 use Rattle.line_rates.specs.declared.row.UserRate.{UserRate}
 use Rattle.toml.specs.Data.{Members}
-use Rattle.config_rates.specs.Rows.{group_rows, user_rows, rates_of}
+use Rattle.server_config.specs.RateRows.{group_rows, user_rows, rates_of}
 use Rattle.config_file.specs.declared.stated.ServerTable.{ServerTable}
 use Rattle.config_file.specs.Tables.{IsTables}
 use Rattle.config_file.specs.declared.stated.GroupTable.{GroupTable}

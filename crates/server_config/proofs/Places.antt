@@ -17,12 +17,12 @@ use Rattle.authorizer.specs.declared.fault.AuthorizerFault.{AuthorizerFault}
 use Rattle.authorizer.specs.declared.fault.AuthorizerFault.TheVariants.{UserExists}
 use Rattle.authorizer.proofs.Maps.{equal_keys}
 use Rattle.authorizer.proofs.Outcomes.{IsAdded, is-added, IsChanged, is-changed, is-overridden}
-use Rattle.config_rates.specs.Groups.{group_in}
-use Rattle.config_rates.specs.Rows.{numbered, user_row, user_rows}
+use Rattle.server_config.specs.Groups.{group_in}
+use Rattle.server_config.specs.RateRows.{numbered, user_row, user_rows}
 use Rattle.config_file.specs.declared.stated.GroupTable.{GroupTable}
 use Rattle.config_file.specs.declared.stated.OverrideTable.{OverrideTable}
 use Rattle.config_file.specs.declared.stated.UserTable.{UserTable}
-use Rattle.config_users.specs.Added.{AddsAccount, AddsRules, AddsUser, AddsUsers}
+use Rattle.server_config.specs.Users.{AddsAccount, AddsRules, AddsUser, AddsUsers}
 use Rattle.line_rates.specs.Stated.{user_number}
 use Rattle.line_rates.proofs.RowLemmas.{first_row, get-by_number}
 use Rattle.server_config.specs.Numbers.{HasNumber, NumbersAgree}

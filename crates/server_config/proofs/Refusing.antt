@@ -4,11 +4,11 @@ use Rattle.authorizer.specs.Numbers.{no_users}
 use Rattle.authorizer.specs.Users.{Accounts}
 use Rattle.toml.specs.Data.{Members}
 use Rattle.toml.specs.Parse.{parse_document}
-use Rattle.config_users.specs.declared.problem.UserProblem.{UserProblem}
-use Rattle.config_rates.specs.Groups.{AreApart, AreGrouped, IsFault, IsProblem}
-use Rattle.config_rates.specs.declared.fault.GroupProblem.{GroupProblem}
-use Rattle.config_store.specs.Made.{IsStoreProblem}
-use Rattle.config_store.specs.declared.fault.StoreProblem.{StoreProblem}
+use Rattle.server_config.specs.declared.user_problem.UserProblem.{UserProblem}
+use Rattle.server_config.specs.Groups.{AreApart, AreGrouped, IsFault, IsProblem}
+use Rattle.server_config.specs.declared.group_problem.GroupProblem.{GroupProblem}
+use Rattle.server_config.specs.Store.{IsStoreProblem}
+use Rattle.server_config.specs.declared.store_problem.StoreProblem.{StoreProblem}
 use Rattle.config_file.specs.Refused.{IsFirstFault, Tells as Tells_table}
 use Rattle.config_file.specs.declared.fault.Fault.{Fault}
 use Rattle.config_file.specs.declared.fault.KeyFault.{KeyFault}
@@ -20,7 +20,7 @@ use Rattle.config_file.specs.declared.stated.GroupTable.{GroupTable}
 use Rattle.config_file.specs.declared.stated.OverrideTable.{OverrideTable}
 use Rattle.config_file.specs.declared.stated.UserTable.{UserTable}
 use Rattle.config_file.specs.declared.tables.Tables.{Tables}
-use Rattle.config_users.specs.Added.{AddsUsers, IsFirstRefusal}
+use Rattle.server_config.specs.Users.{AddsUsers, IsFirstRefusal}
 use Rattle.server_config.specs.Refused.{IsAt, IsFaultOf, IsFaultOfTables, IsFaultOfText, TellsGroup, TellsKey, TellsStore, TellsUser, owned_place}
 use Rattle.server_config.specs.declared.config.Config.{Config}
 use Rattle.server_config.specs.declared.fault.ConfigFault.{ConfigFault}

@@ -4,12 +4,12 @@ use Rattle.std.specs.List.{AllByRecursion}
 use Rattle.toml.specs.Data.{Members}
 use Rattle.toml.specs.Parse.{parse_document}
 use Rattle.authorizer.specs.Numbers.{no_users}
-use Rattle.config_rates.specs.Groups.{AreApart, HasGroup}
-use Rattle.config_rates.specs.Rows.{rates_of}
-use Rattle.config_store.specs.Made.{IsStoreOf}
+use Rattle.server_config.specs.Groups.{AreApart, HasGroup}
+use Rattle.server_config.specs.RateRows.{rates_of}
+use Rattle.server_config.specs.Store.{IsStoreOf}
 use Rattle.config_file.specs.Tables.{IsTables}
 use Rattle.config_file.specs.declared.tables.Tables.{Tables}
-use Rattle.config_users.specs.Added.{AddsUsers}
+use Rattle.server_config.specs.Users.{AddsUsers}
 use Rattle.server_config.specs.Settings.{AreSettings, AreNumbers}
 use Rattle.server_config.specs.declared.config.Config.{Config}
 

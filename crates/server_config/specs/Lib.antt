@@ -1,6 +1,11 @@
 pub mod Configs
 pub mod Faults
+pub mod Groups
 pub mod Migrated
 pub mod Numbers
+pub mod RateRows
 pub mod Refused
 pub mod Settings
+pub mod Store
+pub mod UserProblems
+pub mod Users

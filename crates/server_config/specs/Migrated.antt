@@ -7,7 +7,7 @@ use Rattle.line_rates.specs.declared.ask.Ask.{Ask}
 use Rattle.toml.specs.Data.{Members, integer, get_member, members_depth, members_have_valid_dates}
 use Rattle.toml.specs.Parse.{parse_document}
 use Rattle.toml.specs.Text.{IsDocumentText}
-use Rattle.config_rates.specs.Rows.{rates_of}
+use Rattle.server_config.specs.RateRows.{rates_of}
 use Rattle.config_file.specs.Tables.{IsTables}
 use Rattle.config_file.specs.declared.tables.Tables.{Tables}
 use Rattle.server_config.specs.Configs.{IsConfigText}

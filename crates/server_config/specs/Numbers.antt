@@ -2,7 +2,7 @@
 use Rattle.std.specs.Prelude.{◌≡◌, ℕ, List, Some, slice_get}
 use Rattle.std.specs.FinMap as finite
 use Rattle.authorizer.specs.Users.{Accounts, User}
-use Rattle.config_rates.specs.Rows.{user_row}
+use Rattle.server_config.specs.RateRows.{user_row}
 use Rattle.config_file.specs.declared.stated.UserTable.{UserTable}
 use Rattle.config_file.specs.declared.tables.Tables.{Tables}
 use Rattle.server_config.specs.Configs.{IsMadeOf}

@@ -6,10 +6,10 @@ use Rattle.toml.specs.Parse.{parse_document}
 use Rattle.toml.specs.declared.de.error.Error.{Error}
 use Rattle.authorizer.specs.Numbers.{no_users}
 use Rattle.authorizer.specs.Users.{Accounts}
-use Rattle.config_rates.specs.Groups.{AreApart, AreGrouped, IsProblem}
-use Rattle.config_rates.specs.declared.fault.GroupProblem.{GroupProblem}
-use Rattle.config_store.specs.Made.{IsStoreProblem}
-use Rattle.config_store.specs.declared.fault.StoreProblem.{StoreProblem}
+use Rattle.server_config.specs.Groups.{AreApart, AreGrouped, IsProblem}
+use Rattle.server_config.specs.declared.group_problem.GroupProblem.{GroupProblem}
+use Rattle.server_config.specs.Store.{IsStoreProblem}
+use Rattle.server_config.specs.declared.store_problem.StoreProblem.{StoreProblem}
 use Rattle.config_file.specs.Lists.{Place, place_of}
 use Rattle.config_file.specs.Refused.{IsFirstFault}
 use Rattle.config_file.specs.Tables.{IsTables}
@@ -19,8 +19,8 @@ use Rattle.config_file.specs.declared.fault.Problem.{Problem}
 use Rattle.config_file.specs.declared.fault.Fault.{Fault}
 use Rattle.config_file.specs.declared.fault.Fault.TheVariants.{At}
 use Rattle.config_file.specs.declared.tables.Tables.{Tables}
-use Rattle.config_users.specs.Added.{AddsUsers, IsFirstRefusal}
-use Rattle.config_users.specs.declared.problem.UserProblem.{UserProblem}
+use Rattle.server_config.specs.Users.{AddsUsers, IsFirstRefusal}
+use Rattle.server_config.specs.declared.user_problem.UserProblem.{UserProblem}
 use Rattle.server_config.specs.declared.fault.ConfigFault.{ConfigFault}
 use Rattle.server_config.specs.declared.fault.OwnedHeader.{OwnedHeader}
 use Rattle.server_config.specs.declared.fault.ConfigFault.TheVariants.{NotToml, Key, BadGroup, BadUser, BadStore, BadDate, TooDeep, TooLong, Memory}

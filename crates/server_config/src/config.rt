@@ -7,12 +7,13 @@ ghost use Rattle.server_config.specs.Configs.{IsMadeOf, IsConfig, IsConfigText};
 ghost use Rattle.server_config.specs.Refused.{IsFaultOf, IsFaultOfTables, IsFaultOfText};
 
 use crate::fault::{ConfigFault, not_toml, of_groups, of_key, of_store, of_users};
+use crate::limits::limits_of;
+use crate::rate_rows::read_rows;
 use crate::settings::{ServerNumbers, numbers_of, settings_of};
+use crate::store::{ServedStore, make_store};
+use crate::users::make_users;
 use authorizer::Authorizer;
 use config_file::{Tables, read_tables};
-use config_rates::{limits_of, read_rows};
-use config_store::{ServedStore, make_store};
-use config_users::make_users;
 use line_rates::Limits;
 use session_table::Settings;
 use std::alloc::Global;

@@ -6,11 +6,11 @@ ghost use Rattle.server_config.specs.Refused.{IsAt, IsKeyFault, owned_place, Tel
 ghost use Rattle.server_config.specs.Faults.{name_of};
 ghost use Rattle.server_config.specs.declared.fault.ConfigFault.TheVariants.{Memory};
 
+use crate::group_problem::GroupProblem;
 use crate::similar::similar_to;
+use crate::store_problem::StoreProblem;
+use crate::user_problem::UserProblem;
 use config_file::{Fault, Header, KeyFault, Problem, TableName};
-use config_rates::GroupProblem;
-use config_store::StoreProblem;
-use config_users::UserProblem;
 use std::alloc::{AllocError, Global};
 use std::fmt;
 use thiserror::Error;

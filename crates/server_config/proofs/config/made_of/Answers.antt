@@ -1,14 +1,14 @@
 use Rattle.std.proofs.Common.{◌≡◌, ◌∙◌, List, Vec, Global, ap, sym, subst, length}
 use Rattle.std.specs.List.{AllByRecursion}
 use Rattle.authorizer.specs.Numbers.{no_users}
-use Rattle.config_rates.specs.Groups.{AreApart, AreGrouped, HasGroup}
-use Rattle.config_store.specs.Made.{IsStoreOf}
+use Rattle.server_config.specs.Groups.{AreApart, AreGrouped, HasGroup}
+use Rattle.server_config.specs.Store.{IsStoreOf}
 use Rattle.config_file.specs.declared.stated.DirTable.{DirTable}
 use Rattle.config_file.specs.declared.stated.FileTable.{FileTable}
 use Rattle.config_file.specs.declared.stated.GroupTable.{GroupTable}
 use Rattle.config_file.specs.declared.stated.UserTable.{UserTable}
 use Rattle.config_file.specs.declared.stated.OverrideTable.{OverrideTable}
-use Rattle.config_users.specs.Added.{AddsUsers}
+use Rattle.server_config.specs.Users.{AddsUsers}
 use Rattle.server_config.proofs.Making.{moved, moved_all, limits_made}
 use Rattle.server_config.proofs.Refusing.{groups_refused, store_refused, users_refused}
 use Rattle.server_config.proofs.config.made_of.Goals as goal

@@ -1,4 +1,0 @@
-pub mod Fits
-pub mod Lengths
-pub mod Numbering
-pub mod Refusals

@@ -1,6 +1,0 @@
-use Rattle.std.proofs.Common.{take}
-use Rattle.config_store.specs.Made.{MakesDir, MakesAll}
-use Rattle.config_store.proofs.store.make_dirs.Given as goal
-
-abbrev pub invariant-loop-index : goal.invariant-loop-index
-invariant-loop-index l = MakesAll MakesDir (take l.index l.dirs) l.initial.store l.store

@@ -1,0 +1,27 @@
+use Rattle.std.proofs.Common.{refl}
+use Rattle.std.proofs.lemmas.Option.{slice_get-get_or}
+use Rattle.config_file.specs.declared.fault.TableName.TheVariants.{Override}
+use Rattle.server_config.specs.Users.{IsRefusedRule}
+use Rattle.server_config.proofs.UsersAdded.{rules-next}
+use Rattle.server_config.proofs.StrayLetters.{rule_lacks}
+use Rattle.server_config.proofs.UsersRefused.{told_as}
+use Rattle.server_config.proofs.users.add_rules.Goals as goal
+
+pub loop-index-preserved : goal.loop-index-preserved
+loop-index-preserved c =
+    rules-next c.args.name.now c.args.rules.now c.loop-index.index _ _ c.args.users.now c.loop-index.users c.add_rule.new.users
+    c.loop-index-test.true refl c.loop-index.invariant c.in-Ok.ensures.rule
+
+pub returns-in-Err-clause-refused : goal.returns-in-Err-clause-refused
+returns-in-Err-clause-refused c =
+    told_as (IsRefusedRule c.args.name.now c.args.rules.now c.args.users.now) Override c.loop-index.index c.args.name.now _ c.in-Err.fault c.refused.result c.refused.ensures.told (λ problem lack told. record {
+      index = c.loop-index.index;
+      rule = _;
+      mid = c.loop-index.users;
+      stands = slice_get-get_or c.args.rules.now c.loop-index.index _ c.loop-index-test.true;
+      before = c.loop-index.invariant;
+      fault = c.in-Err.fault;
+      refused = c.in-Err.ensures.refused lack;
+      told = told;
+      place = refl;
+    })

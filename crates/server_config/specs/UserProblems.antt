@@ -1,0 +1,20 @@
+-- The problem that is told of an authorizer's refusal.
+use Rattle.std.specs.Prelude.{◌≡◌, ◌≢◌, ℕ, List, ◌++◌, None, encode_utf8}
+use Rattle.authorizer.specs.declared.fault.AuthorizerFault.{AuthorizerFault}
+use Rattle.authorizer.specs.declared.fault.AuthorizerFault.TheVariants as AuthorizerFault
+use Rattle.ftp_terms.specs.Letters.{letters_of}
+use Rattle.server_config.specs.declared.user_problem.UserProblem.{UserProblem}
+use Rattle.server_config.specs.declared.user_problem.UserProblem.TheVariants.{BadLetter, Refused}
+
+-- the first character of a text that is no permission letter: those before it are letters
+pub record IsStrayLetter (text : List ℕ) (character : ℕ) : Type 0 where
+  pub before : List ℕ
+  pub after : List ℕ
+  pub is : text ≡ before ++ encode_utf8 character ++ after
+  pub letters : letters_of before ≢ None
+  pub stray : letters_of (encode_utf8 character) ≡ None
+
+-- of letters the stray one is told, and otherwise the fault itself
+abbrev pub IsToldAs : List ℕ → AuthorizerFault → UserProblem → Type 0
+IsToldAs letters fault (BadLetter character) = (fault ≡ AuthorizerFault.BadLetter) × IsStrayLetter letters character
+IsToldAs letters fault (Refused told) = (told ≡ fault) × (fault ≢ AuthorizerFault.BadLetter)

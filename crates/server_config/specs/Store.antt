@@ -94,10 +94,12 @@ pub record IsRefusedRow {R : Type 0} (table : TableName) (path : R → List ℕ)
   pub place : at ≡ row_at table index (Some (path row))
 
 abbrev pub IsRefusedDir : List DirTable → Memory → Place → StoreProblem → Type 0
-IsRefusedDir dirs old place told = IsRefusedRow TableName.Dir (λ dir. dir.path.now) MakesDir IsDirProblem dirs old place told
+IsRefusedDir dirs old place told =
+    IsRefusedRow TableName.Dir (λ dir. dir.path.now) MakesDir IsDirProblem dirs old place told
 
 abbrev pub IsRefusedFile : List FileTable → Memory → Place → StoreProblem → Type 0
-IsRefusedFile files old place told = IsRefusedRow TableName.File (λ file. file.path.now) MakesFile IsFileProblem files old place told
+IsRefusedFile files old place told =
+    IsRefusedRow TableName.File (λ file. file.path.now) MakesFile IsFileProblem files old place told
 
 -- a directory is refused, or otherwise a file
 abbrev pub IsNotMade : ServerTable → List DirTable → List FileTable → Place → StoreProblem → Type 0

@@ -8,12 +8,18 @@
 //! holds(rt, config.settings.login_attempts == 3);
 //! ```
 //!
-//! The tables that the file states (`config_file`) become a configuration part by part, in this order, which is that of
-//! the faults: groups and users are numbered, with a row of rates each (`groups`, `rate_rows`, `limits`); users are added
-//! to an authorizer (`users`); the store is made (`store`); and the settings of sessions and the server's numbers are
-//! copied (`settings`). `config` joins the parts, and `fault` reports the first refusal with its place (`group_problem`,
-//! `user_problem`, `store_problem`; `similar`: the key that may have been meant). `migration` prints a file in version 2,
-//! unless it is too deep (`depth`), and `numbers` is a law: a user has one number in all parts.
+//! The tables that a file states (`config_file`) become a configuration part by part, in this order,
+//! which is that of the faults:
+//!
+//! - `groups`, `rate_rows`, `limits`: groups and users are numbered, each with a row of rates.
+//! - `users`: users and their overrides are added to an authorizer.
+//! - `store`: the directories and files are made in a store in memory.
+//! - `settings`: the settings of sessions and the numbers of the server are copied.
+//!
+//! `config` joins the parts. `fault` is the first refusal with its place, and `group_problem`,
+//! `user_problem` and `store_problem` say what is wrong there; `similar` finds the key that may have
+//! been meant. `migration` prints a file in version 2, unless it is too deep (`depth`). `numbers` is a
+//! law: a user has one number in all parts.
 //!
 //! docs/configuration.md has each key with its kind, its range and its default, and the order of the faults.
 #![tactic(auto)]

@@ -25,3 +25,8 @@ returns-in-Err-clause-refused c =
       told = told;
       place = refl;
     })
+
+pub refused-requires-clause-stray : goal.refused-requires-clause-stray
+refused-requires-clause-stray c =
+    let rule = c.index-rules-index.result in
+    rule_lacks c.loop-index.users c.args.name.now rule.path.now rule.perms.now rule.recursive c.in-Err.fault c.in-Err.ensures.refused

@@ -18,3 +18,7 @@ pub returns-in-Err-clause-refused : goal.returns-in-Err-clause-refused
 returns-in-Err-clause-refused c =
     told_as (IsRefusedUser c.args.index c.args.group c.args.user.now c.args.rules.now c.args.users.now) User c.args.index c.args.user.now.name.now c.args.user.now.perms.now c.in-Err.fault c.refused.result c.refused.ensures.told
     (λ problem lack told. inl (refl, (c.in-Err.fault, c.in-Err.ensures.refused lack, told)))
+
+pub refused-requires-clause-stray : goal.refused-requires-clause-stray
+refused-requires-clause-stray c =
+    account_lacks c.args.group c.args.user.now c.args.users.now c.in-Err.fault c.in-Err.ensures.refused

@@ -1,5 +1,5 @@
 -- Where the parser has no fault with the words of a program, it holds a command with each of its words.
-use Rattle.std.proofs.Common.{◌≡◌, Bool, codes, false, ◌||◌, not, true, refl, sym, subst, List, [], ◌∷◌, Option, None, Some, option_map}
+use Rattle.std.proofs.Common.{◌≡◌, ◌∙◌, ap, Bool, codes, false, ◌||◌, not, true, refl, sym, subst, List, [], ◌∷◌, Option, None, Some, option_map}
 use Rattle.std.specs.Borrow.{Bor}
 use Rattle.std.specs.Str.{bytes_eq}
 use Rattle.std.specs.List.{find, list_any}
@@ -9,7 +9,7 @@ use Rattle.clap.specs.Faults.{level_fault}
 use Rattle.clap.specs.Simple.{App, Shape, built, entered, label_of, rows_at}
 use Rattle.clap.specs.Words.{fault_of, subcommand_of}
 use Rattle.command_line.specs.Commands.{ftpd, sheets}
-use Rattle.command_line.specs.Given.{IsFound, IsSheetFound}
+use Rattle.command_line.specs.Given.{IsCheck, IsCheckConfig, IsFound, IsMigrate, IsOfSheets, IsScript, IsServe, IsShare, IsSheetFound}
 use Rattle.command_line.specs.declared.words.SheetWords.{SheetWords}
 use Rattle.command_line.specs.declared.words.SheetWords.TheVariants.{Share, Check}
 use Rattle.command_line.specs.declared.words.Words.{Words}
@@ -134,25 +134,85 @@ ftpd_found any words none =
       ),
     )
 
--- a command that the parser found is one of those that the code looks for
+-- ---- a command that the parser found under a name, by the words that it has
 
-pub no_other_sheet_command : (found : Option (Text × List Row)) (command : SheetWords) → IsSheetFound found command
-    → ((rows : List Row) (word : Text) → found ≡ Some (codes "share", rows) → first_of (codes "SHEET") rows ≡ Some word → ⊥)
-    → ((rows : List Row) (first second : Text) → found ≡ Some (codes "check", rows) → first_of (codes "SHEET") rows ≡ Some first → first_of (codes "GRANTS") rows ≡ Some second → ⊥)
-    → ⊥
-no_other_sheet_command found (Share sheet) is share check = share is.0 sheet.now is.1 is.2
-no_other_sheet_command found (Check sheet grants) is share check = check is.0 sheet.now grants.now is.1 is.2 is.3
+-- what was found has one name and one list of rows
+one_pair : (found : Option (Text × List Row)) (name also : Text) (rows other : List Row) → found ≡ Some (name, rows) → found ≡ Some (also, other)
+    → ◌≡◌ {A = Text × List Row} (name, rows) (also, other)
+one_pair found name also rows other one two =
+    let both : ◌≡◌ {A = Option (Text × List Row)} (Some (name, rows)) (Some (also, other)) = sym one ∙ two in
+    cc
 
-pub no_other_command : (found : Option (Text × List Row)) (command : Words) → IsFound found command
-    → ((rows : List Row) (word : Text) → found ≡ Some (codes "share", rows) → first_of (codes "SHEET") rows ≡ Some word → ⊥)
-    → ((rows : List Row) (first second : Text) → found ≡ Some (codes "check", rows) → first_of (codes "SHEET") rows ≡ Some first → first_of (codes "GRANTS") rows ≡ Some second → ⊥)
-    → ((rows : List Row) (word : Text) → found ≡ Some (codes "check-config", rows) → first_of (codes "CONFIG") rows ≡ Some word → ⊥)
-    → ((rows : List Row) (word : Text) → found ≡ Some (codes "migrate", rows) → first_of (codes "CONFIG") rows ≡ Some word → ⊥)
-    → ((rows : List Row) (word : Text) → found ≡ Some (codes "script", rows) → first_of (codes "CONFIG") rows ≡ Some word → ⊥)
-    → ((rows : List Row) (word : Text) → found ≡ Some (codes "serve", rows) → first_of (codes "CONFIG") rows ≡ Some word → ⊥)
-    → ⊥
-no_other_command found (Sheet words) is share check check_config migrate script serve = no_other_sheet_command found words is share check
-no_other_command found (CheckConfig config) is share check check_config migrate script serve = check_config is.0 config.now is.1 is.2
-no_other_command found (Migrate config) is share check check_config migrate script serve = migrate is.0 config.now is.1 is.2
-no_other_command found (Script config) is share check check_config migrate script serve = script is.0 config.now is.1 is.2
-no_other_command found (Serve config stop_file) is share check check_config migrate script serve = serve is.0 config.now is.1 is.2
+same_rows : (found : Option (Text × List Row)) (name also : Text) (rows other : List Row) → found ≡ Some (name, rows) → found ≡ Some (also, other) → rows ≡ other
+same_rows found name also rows other one two = ap (λ (p : Text × List Row). p.1) (one_pair found name also rows other one two)
+
+different : (found : Option (Text × List Row)) (name also : Text) (rows other : List Row) → bytes_eq name also ≡ false → found ≡ Some (name, rows) → found ≡ Some (also, other) → ⊥
+different found name also rows other apart one two =
+    let yes = (bytes_eq-Decides name also).1 (ap (λ (p : Text × List Row). p.0) (one_pair found name also rows other one two)) in
+    absurd (cc)
+
+pub share_is : (found : Option (Text × List Row)) (command : SheetWords) (rows : List Row) (word : Text) → found ≡ Some (codes "share", rows) → first_of (codes "SHEET") rows ≡ Some word
+    → IsSheetFound found command → IsShare word command
+share_is found (Share sheet) rows word named first (other, same, given) = let are = same_rows _ _ _ _ _ named same in cc
+share_is found (Check sheet grants) rows word named first (other, same, given, also) = absurd (different _ _ _ _ _ refl named same)
+
+pub check_is : (found : Option (Text × List Row)) (command : SheetWords) (rows : List Row) (word also : Text) → found ≡ Some (codes "check", rows) → first_of (codes "SHEET") rows ≡ Some word
+    → first_of (codes "GRANTS") rows ≡ Some also → IsSheetFound found command → IsCheck word also command
+check_is found (Share sheet) rows word also named first second (other, same, given) = absurd (different _ _ _ _ _ refl named same)
+check_is found (Check sheet grants) rows word also named first second (other, same, given, more) = let are = same_rows _ _ _ _ _ named same in (cc, cc)
+
+-- a command of one of the names on sheets is one on a sheet
+sheet_named : (P : SheetWords → Type 0) (found : Option (Text × List Row)) (command : Words) (rows : List Row) (name : Text) → found ≡ Some (name, rows)
+    → bytes_eq name (codes "check-config") ≡ false → bytes_eq name (codes "migrate") ≡ false → bytes_eq name (codes "script") ≡ false → bytes_eq name (codes "serve") ≡ false
+    → ((words : SheetWords) → IsSheetFound found words → P words) → IsFound found command → IsOfSheets P command
+sheet_named P found (Sheet words) rows name named config migrate script serve holds is = holds words is
+sheet_named P found (CheckConfig config) rows name named config_apart migrate_apart script_apart serve_apart holds (other, same, given) = absurd (different _ _ _ _ _ config_apart named same)
+sheet_named P found (Migrate config) rows name named config_apart migrate_apart script_apart serve_apart holds (other, same, given) = absurd (different _ _ _ _ _ migrate_apart named same)
+sheet_named P found (Script config) rows name named config_apart migrate_apart script_apart serve_apart holds (other, same, given) = absurd (different _ _ _ _ _ script_apart named same)
+sheet_named P found (Serve config stop_file) rows name named config_apart migrate_apart script_apart serve_apart holds (other, same, given, path) = absurd (different _ _ _ _ _ serve_apart named same)
+
+pub share_of_sheets : (found : Option (Text × List Row)) (command : Words) (rows : List Row) (word : Text) → found ≡ Some (codes "share", rows) → first_of (codes "SHEET") rows ≡ Some word
+    → IsFound found command → IsOfSheets (IsShare word) command
+share_of_sheets found command rows word named first is =
+    sheet_named (IsShare word) found command rows (codes "share") named refl refl refl refl (λ words held. share_is found words rows word named first held) is
+
+pub check_of_sheets : (found : Option (Text × List Row)) (command : Words) (rows : List Row) (word also : Text) → found ≡ Some (codes "check", rows) → first_of (codes "SHEET") rows ≡ Some word
+    → first_of (codes "GRANTS") rows ≡ Some also → IsFound found command → IsOfSheets (IsCheck word also) command
+check_of_sheets found command rows word also named first second is =
+    sheet_named (IsCheck word also) found command rows (codes "check") named refl refl refl refl (λ words held. check_is found words rows word also named first second held) is
+
+pub check_config_is : (found : Option (Text × List Row)) (command : Words) (rows : List Row) (word : Text) → found ≡ Some (codes "check-config", rows) → first_of (codes "CONFIG") rows ≡ Some word
+    → IsFound found command → IsCheckConfig word command
+check_config_is found (Sheet (Share sheet)) rows word named first (other, same, given) = absurd (different _ _ _ _ _ refl named same)
+check_config_is found (Sheet (Check sheet grants)) rows word named first (other, same, given, also) = absurd (different _ _ _ _ _ refl named same)
+check_config_is found (CheckConfig config) rows word named first (other, same, given) = let are = same_rows _ _ _ _ _ named same in cc
+check_config_is found (Migrate config) rows word named first (other, same, given) = absurd (different _ _ _ _ _ refl named same)
+check_config_is found (Script config) rows word named first (other, same, given) = absurd (different _ _ _ _ _ refl named same)
+check_config_is found (Serve config stop_file) rows word named first (other, same, given, path) = absurd (different _ _ _ _ _ refl named same)
+
+pub migrate_is : (found : Option (Text × List Row)) (command : Words) (rows : List Row) (word : Text) → found ≡ Some (codes "migrate", rows) → first_of (codes "CONFIG") rows ≡ Some word
+    → IsFound found command → IsMigrate word command
+migrate_is found (Sheet (Share sheet)) rows word named first (other, same, given) = absurd (different _ _ _ _ _ refl named same)
+migrate_is found (Sheet (Check sheet grants)) rows word named first (other, same, given, also) = absurd (different _ _ _ _ _ refl named same)
+migrate_is found (CheckConfig config) rows word named first (other, same, given) = absurd (different _ _ _ _ _ refl named same)
+migrate_is found (Migrate config) rows word named first (other, same, given) = let are = same_rows _ _ _ _ _ named same in cc
+migrate_is found (Script config) rows word named first (other, same, given) = absurd (different _ _ _ _ _ refl named same)
+migrate_is found (Serve config stop_file) rows word named first (other, same, given, path) = absurd (different _ _ _ _ _ refl named same)
+
+pub script_is : (found : Option (Text × List Row)) (command : Words) (rows : List Row) (word : Text) → found ≡ Some (codes "script", rows) → first_of (codes "CONFIG") rows ≡ Some word
+    → IsFound found command → IsScript word command
+script_is found (Sheet (Share sheet)) rows word named first (other, same, given) = absurd (different _ _ _ _ _ refl named same)
+script_is found (Sheet (Check sheet grants)) rows word named first (other, same, given, also) = absurd (different _ _ _ _ _ refl named same)
+script_is found (CheckConfig config) rows word named first (other, same, given) = absurd (different _ _ _ _ _ refl named same)
+script_is found (Migrate config) rows word named first (other, same, given) = absurd (different _ _ _ _ _ refl named same)
+script_is found (Script config) rows word named first (other, same, given) = let are = same_rows _ _ _ _ _ named same in cc
+script_is found (Serve config stop_file) rows word named first (other, same, given, path) = absurd (different _ _ _ _ _ refl named same)
+
+pub serve_is : (found : Option (Text × List Row)) (command : Words) (rows : List Row) (word : Text) → found ≡ Some (codes "serve", rows) → first_of (codes "CONFIG") rows ≡ Some word
+    → IsFound found command → IsServe word (first_of (codes "PATH") rows) command
+serve_is found (Sheet (Share sheet)) rows word named first (other, same, given) = absurd (different _ _ _ _ _ refl named same)
+serve_is found (Sheet (Check sheet grants)) rows word named first (other, same, given, also) = absurd (different _ _ _ _ _ refl named same)
+serve_is found (CheckConfig config) rows word named first (other, same, given) = absurd (different _ _ _ _ _ refl named same)
+serve_is found (Migrate config) rows word named first (other, same, given) = absurd (different _ _ _ _ _ refl named same)
+serve_is found (Script config) rows word named first (other, same, given) = absurd (different _ _ _ _ _ refl named same)
+serve_is found (Serve config stop_file) rows word named first (other, same, given, path) = let are = same_rows _ _ _ _ _ named same in (cc, cc)

@@ -332,12 +332,14 @@ named name rows s = (name s, rows s)
 abbrev pub rows_of_named : Text × List Row → List Row
 rows_of_named pair = pair.1
 
--- the name and the rows of what was found, read one by one
-pub named_rows : {S : Type 0} (name : S → Text) (rows : S → List Row) (found : Option S) (n : Text) (r : List Row)
-    → option_map name found ≡ Some n → option_map rows_of_named (option_map (named name rows) found) ≡ Some r
-    → option_map (named name rows) found ≡ Some (n, r)
-named_rows name rows None n r name_is rows_are = cc
-named_rows name rows (Some s) n r name_is rows_are =
-    let first : name s ≡ n = cc in
-    let second : rows s ≡ r = cc in
-    rw (first, second) refl
+-- the name and the rows of what was found, read one by one, are those of a result that has both
+pub entered_as : {S P : Type 0} (name : S → Text) (rows : S → List Row) (head : P → Text) (tail : P → List Row) (found : Option S) (result : Option P)
+    → option_map head result ≡ option_map name found → option_map tail result ≡ option_map rows_of_named (option_map (named name rows) found)
+    → option_map (named head tail) result ≡ option_map (named name rows) found
+entered_as name rows head tail None None first second = refl
+entered_as name rows head tail None (Some p) first second = cc
+entered_as name rows head tail (Some s) None first second = cc
+entered_as name rows head tail (Some s) (Some p) first second =
+    let is : head p ≡ name s = cc in
+    let are : tail p ≡ rows s = cc in
+    rw (is, are) refl

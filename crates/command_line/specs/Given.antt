@@ -1,6 +1,8 @@
 -- The commands that words give, and the refusals of words.
 use Rattle.std.specs.Prelude.{◌≡◌, ◌≢◌, ◌↔◌, ◌⊎◌, ℕ, List, [], ◌∷◌, IsTrue, MatchResult, Option, Result, Some, codes, option_map}
-use Rattle.clap.specs.Words.{IsAmong, Kinds, Row, Text, first_of}
+use Rattle.std.specs.Borrow.{Bor}
+use Rattle.clap.specs.declared.parser.matches.ArgMatches.{ArgMatches}
+use Rattle.clap.specs.Words.{IsAmong, Kinds, Row, Text, first_of, found_of, rows_of}
 use Rattle.clap.specs.declared.error.kind.ErrorKind.{ErrorKind}
 use Rattle.clap.specs.declared.error.kind.ErrorKind.TheVariants.{DisplayHelp, DisplayVersion}
 use Rattle.command_line.specs.declared.words.SheetWords.{SheetWords}
@@ -64,6 +66,10 @@ IsServe word path (CheckConfig config) = ⊥
 IsServe word path (Migrate config) = ⊥
 IsServe word path (Script config) = ⊥
 IsServe word path (Serve config stop_file) = (config.now ≡ word) × (option_map (λ w. w.now) stop_file ≡ path)
+
+-- the name of a command that the parser entered, and its arguments
+abbrev pub entered_rows : Bor Text × Bor ArgMatches → Text × List Row
+entered_rows found = (found.0.now, rows_of (found_of found.1.now))
 
 -- the parser found the command on a sheet, and the words after it
 abbrev pub IsSheetFound : Option (Text × List Row) → SheetWords → Type 0

@@ -74,12 +74,8 @@ fn share_command<'a>(alloc: Global) -> Result<Command<'a>, AllocError>
     let about = "Share the limits of a sheet: who gets how much, and which limit holds whom back";
     let sheet =
         "File of lines `limit PATH N`, `want PATH N` or `want PATH N FLOOR`; - is standard input";
-    with_file(
-        alloc,
-        bare_command(alloc, "share", about, ABOUT_SHARE),
-        "SHEET",
-        sheet,
-    )
+    let command = bare_command(alloc, "share", about, ABOUT_SHARE);
+    with_file(alloc, command, "SHEET", sheet)
 }
 
 fn check_command<'a>(alloc: Global) -> Result<Command<'a>, AllocError>
@@ -89,25 +85,38 @@ fn check_command<'a>(alloc: Global) -> Result<Command<'a>, AllocError>
     let sheet = "File of limits and wants, as for `share`; - is standard input";
     let grants =
         "File of lines `grant PATH N` or `grant PATH N NODE`, in the order of the wants; - is standard input";
-    let command = with_file(
-        alloc,
-        bare_command(alloc, "check", about, ABOUT_CHECK),
-        "SHEET",
-        sheet,
-    )?;
+    let command = bare_command(alloc, "check", about, ABOUT_CHECK);
+    let command = with_file(alloc, command, "SHEET", sheet)?;
     with_file(alloc, command, "GRANTS", grants)
+}
+
+const CONFIG_FILE: &str = "File of a configuration, in TOML; - is standard input";
+
+/// A command with the file of a configuration as its word.
+fn config_command<'a>(
+    alloc: Global,
+    name: &'a str,
+    about: &'a str,
+    below: &'a str,
+    file: &'a str,
+) -> Result<Command<'a>, AllocError>
+    ensures config { IfOk result
+        (λ c. app_of c ≡ with_rule (bare name.entry.now) (file_rule (codes "CONFIG"))) }
+{
+    let command = bare_command(alloc, name, about, below);
+    with_file(alloc, command, "CONFIG", file)
 }
 
 fn check_config_command<'a>(alloc: Global) -> Result<Command<'a>, AllocError>
     ensures check_config { IfOk result (λ c. app_of c ≡ check_config) }
 {
     let about = "Judge a configuration: print its users, groups, rates and guarantees, and warn";
-    let config = "File of a configuration, in TOML; - is standard input";
-    with_file(
+    config_command(
         alloc,
-        bare_command(alloc, "check-config", about, ABOUT_CHECK_CONFIG),
-        "CONFIG",
-        config,
+        "check-config",
+        about,
+        ABOUT_CHECK_CONFIG,
+        CONFIG_FILE,
     )
 }
 
@@ -115,27 +124,16 @@ fn migrate_command<'a>(alloc: Global) -> Result<Command<'a>, AllocError>
     ensures migrate { IfOk result (λ c. app_of c ≡ migrate) }
 {
     let about = "Print a configuration in its latest version";
-    let config = "File of a configuration, in TOML; - is standard input";
-    with_file(
-        alloc,
-        bare_command(alloc, "migrate", about, ABOUT_MIGRATE),
-        "CONFIG",
-        config,
-    )
+    config_command(alloc, "migrate", about, ABOUT_MIGRATE, CONFIG_FILE)
 }
 
 fn script_command<'a>(alloc: Global) -> Result<Command<'a>, AllocError>
     ensures script { IfOk result (λ c. app_of c ≡ script) }
 {
     let about = "Serve the control session on standard input, and print its replies";
-    let config =
+    let file =
         "File of a configuration, in TOML; not -, standard input, which has the control text";
-    with_file(
-        alloc,
-        bare_command(alloc, "script", about, ABOUT_SCRIPT),
-        "CONFIG",
-        config,
-    )
+    config_command(alloc, "script", about, ABOUT_SCRIPT, file)
 }
 
 /// The command with an optional stop file, given by its path.
@@ -154,13 +152,7 @@ fn serve_command<'a>(alloc: Global) -> Result<Command<'a>, AllocError>
 {
     let about =
         "Serve clients by a configuration, until a number of sessions or a stop file ends it";
-    let config = "File of a configuration, in TOML; - is standard input";
-    let command = with_file(
-        alloc,
-        bare_command(alloc, "serve", about, ABOUT_SERVE),
-        "CONFIG",
-        config,
-    )?;
+    let command = config_command(alloc, "serve", about, ABOUT_SERVE, CONFIG_FILE)?;
     with_stop_file(alloc, command)
 }
 

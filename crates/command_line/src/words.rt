@@ -1,8 +1,8 @@
 //! The words of a command line.
-ghost use Rattle.std.specs.Prelude.{◌≡◌, ◌↔◌, ◌∷◌, [], ℕ, List, None, Some, IfOk, IfErr, IfSome, IsSomeAnd, IsTrue, map, codes, option_map, true};
-ghost use Rattle.clap.specs.Words.{Row, app_of, fault_of, first_of, is_simple, is_simple_and_free, kind_of, subcommand_of, subcommand_rows_of, takes};
+ghost use Rattle.std.specs.Prelude.{◌≡◌, ◌↔◌, ◌∷◌, [], ℕ, List, None, Some, IfOk, IfErr, IfSome, IsTrue, map, codes, option_map, true};
+ghost use Rattle.clap.specs.Words.{app_of, fault_of, first_of, found_of, is_simple, is_simple_and_free, kind_of, rows_of, subcommand_of, subcommand_rows_of, takes};
 ghost use Rattle.command_line.specs.Commands.{ftpd, sheets};
-ghost use Rattle.command_line.specs.Given.{GivesOneOrMemory, GivesOrMemory, IsCheck, IsCheckConfig, IsFound, IsHelp, IsMigrate, IsOfSheets, IsPlainWord, IsRefusal, IsRefusedAs, IsScript, IsServe, IsSheetFound, IsShare};
+ghost use Rattle.command_line.specs.Given.{GivesOneOrMemory, GivesOrMemory, IsCheck, IsCheckConfig, IsFound, IsHelp, IsMigrate, IsOfSheets, IsPlainWord, IsRefusal, IsRefusedAs, IsScript, IsServe, IsSheetFound, IsShare, entered_rows};
 
 use crate::grammar::{ftpd_command, sheets_command};
 use clap::error::ErrorKind;
@@ -76,187 +76,81 @@ fn refused(alloc: Global, error: &Error) -> WordsFault
     }
 }
 
-/// Returns the argument `id` of a command, if the words have that command.
-fn word_of<'a>(matches: &ArgMatches<'a>, command: &str, id: &str) -> Option<&'a str>
-    ensures given { (rows : List Row) (word : List ℕ)
-        → subcommand_rows_of matches.now ≡ Some (command.now, rows)
-        → first_of id.now rows ≡ Some word → option_map (λ w. w.now) result ≡ Some word }
-    ensures whole { (rows : List Row) → subcommand_rows_of matches.now ≡ Some (command.now, rows)
-        → option_map (λ w. w.now) result ≡ first_of id.now rows }
-    ensures found { IfSome result (λ word. (rows : List Row)
-        × (subcommand_rows_of matches.now ≡ Some (command.now, rows))
-        × (first_of id.now rows ≡ Some word.now)) }
+/// The command that the parser entered: its name, and its arguments.
+fn entered<'m, 'a>(matches: &'m ArgMatches<'a>) -> Option<(&'a str, &'m ArgMatches<'a>)>
+    ensures entered { option_map entered_rows result ≡ subcommand_rows_of matches.now }
 {
-    let inner = matches.subcommand_matches(command)?;
-    let word = inner.get_str(id)?;
-    Some(word)
+    matches.subcommand()
 }
 
-fn share_given<'a>(matches: &ArgMatches<'a>) -> Option<SheetWords<'a>>
-    ensures share { (rows : List Row) (word : List ℕ)
-        → subcommand_rows_of matches.now ≡ Some (codes "share", rows)
-        → first_of (codes "SHEET") rows ≡ Some word → IsSomeAnd result (IsShare word) }
+/// The argument `id` of the command that was entered.
+fn word_of<'a>(inner: &ArgMatches<'a>, id: &str) -> Option<&'a str>
+    ensures word { option_map (λ w. w.now) result ≡ first_of id.now (rows_of (found_of inner.now)) }
+{
+    inner.get_str(id)
+}
+
+/// The command on a sheet of that name, with its words.
+fn sheet_given<'a>(name: &str, inner: &ArgMatches<'a>) -> Option<SheetWords<'a>>
+    ensures found { IfSome result
+        (IsSheetFound (Some (name.now, rows_of (found_of inner.now)))) }
+    ensures none { result ≡ None → (words : SheetWords)
+        → IsSheetFound (Some (name.now, rows_of (found_of inner.now))) words → ⊥ }
+{
+    match name {
+        "share" => Some(SheetWords::Share {
+            sheet: word_of(inner, "SHEET")?,
+        }),
+        "check" => Some(SheetWords::Check {
+            sheet: word_of(inner, "SHEET")?,
+            grants: word_of(inner, "GRANTS")?,
+        }),
+        _ => None,
+    }
+}
+
+/// The command on a sheet that the parser entered.
+fn sheet_words<'a>(matches: &ArgMatches<'a>) -> Option<SheetWords<'a>>
     ensures found { IfSome result (IsSheetFound (subcommand_rows_of matches.now)) }
+    ensures none { result ≡ None → (words : SheetWords)
+        → IsSheetFound (subcommand_rows_of matches.now) words → ⊥ }
 {
-    let sheet = word_of(matches, "share", "SHEET")?;
-    Some(SheetWords::Share { sheet })
+    let (name, inner) = entered(matches)?;
+    sheet_given(name, inner)
 }
 
-fn check_given<'a>(matches: &ArgMatches<'a>) -> Option<SheetWords<'a>>
-    ensures check { (rows : List Row) (first second : List ℕ)
-        → subcommand_rows_of matches.now ≡ Some (codes "check", rows)
-        → first_of (codes "SHEET") rows ≡ Some first → first_of (codes "GRANTS") rows ≡ Some second
-        → IsSomeAnd result (IsCheck first second) }
-    ensures found { IfSome result (IsSheetFound (subcommand_rows_of matches.now)) }
+/// The command of that name, with its words.
+fn given<'a>(name: &str, inner: &ArgMatches<'a>) -> Option<Words<'a>>
+    ensures found { IfSome result (IsFound (Some (name.now, rows_of (found_of inner.now)))) }
+    ensures none { result ≡ None → (words : Words)
+        → IsFound (Some (name.now, rows_of (found_of inner.now))) words → ⊥ }
 {
-    let sheet = word_of(matches, "check", "SHEET")?;
-    let grants = word_of(matches, "check", "GRANTS")?;
-    Some(SheetWords::Check { sheet, grants })
-}
-
-/// The command on a sheet, if the words have one.
-fn sheet_given<'a>(matches: &ArgMatches<'a>) -> Option<SheetWords<'a>>
-    ensures share { (rows : List Row) (word : List ℕ)
-        → subcommand_rows_of matches.now ≡ Some (codes "share", rows)
-        → first_of (codes "SHEET") rows ≡ Some word → IsSomeAnd result (IsShare word) }
-    ensures check { (rows : List Row) (first second : List ℕ)
-        → subcommand_rows_of matches.now ≡ Some (codes "check", rows)
-        → first_of (codes "SHEET") rows ≡ Some first → first_of (codes "GRANTS") rows ≡ Some second
-        → IsSomeAnd result (IsCheck first second) }
-    ensures found { IfSome result (IsSheetFound (subcommand_rows_of matches.now)) }
-{
-    match share_given(matches) {
-        Some(words) => Some(words),
-        None => check_given(matches),
+    match name {
+        "check-config" => Some(Words::CheckConfig {
+            config: word_of(inner, "CONFIG")?,
+        }),
+        "migrate" => Some(Words::Migrate {
+            config: word_of(inner, "CONFIG")?,
+        }),
+        "script" => Some(Words::Script {
+            config: word_of(inner, "CONFIG")?,
+        }),
+        "serve" => Some(Words::Serve {
+            config: word_of(inner, "CONFIG")?,
+            stop_file: word_of(inner, "PATH"),
+        }),
+        _ => Some(Words::Sheet(sheet_given(name, inner)?)),
     }
 }
 
-fn check_config_given<'a>(matches: &ArgMatches<'a>) -> Option<Words<'a>>
-    ensures check_config { (rows : List Row) (word : List ℕ)
-        → subcommand_rows_of matches.now ≡ Some (codes "check-config", rows)
-        → first_of (codes "CONFIG") rows ≡ Some word → IsSomeAnd result (IsCheckConfig word) }
+/// The command that the parser entered.
+fn words_of<'a>(matches: &ArgMatches<'a>) -> Option<Words<'a>>
     ensures found { IfSome result (IsFound (subcommand_rows_of matches.now)) }
+    ensures none { result ≡ None → (words : Words)
+        → IsFound (subcommand_rows_of matches.now) words → ⊥ }
 {
-    let config = word_of(matches, "check-config", "CONFIG")?;
-    Some(Words::CheckConfig { config })
-}
-
-fn migrate_given<'a>(matches: &ArgMatches<'a>) -> Option<Words<'a>>
-    ensures migrate { (rows : List Row) (word : List ℕ)
-        → subcommand_rows_of matches.now ≡ Some (codes "migrate", rows)
-        → first_of (codes "CONFIG") rows ≡ Some word → IsSomeAnd result (IsMigrate word) }
-    ensures found { IfSome result (IsFound (subcommand_rows_of matches.now)) }
-{
-    let config = word_of(matches, "migrate", "CONFIG")?;
-    Some(Words::Migrate { config })
-}
-
-fn script_given<'a>(matches: &ArgMatches<'a>) -> Option<Words<'a>>
-    ensures script { (rows : List Row) (word : List ℕ)
-        → subcommand_rows_of matches.now ≡ Some (codes "script", rows)
-        → first_of (codes "CONFIG") rows ≡ Some word → IsSomeAnd result (IsScript word) }
-    ensures found { IfSome result (IsFound (subcommand_rows_of matches.now)) }
-{
-    let config = word_of(matches, "script", "CONFIG")?;
-    Some(Words::Script { config })
-}
-
-/// The command `serve`; its stop file is optional.
-fn serve_given<'a>(matches: &ArgMatches<'a>) -> Option<Words<'a>>
-    ensures serve { (rows : List Row) (word : List ℕ)
-        → subcommand_rows_of matches.now ≡ Some (codes "serve", rows)
-        → first_of (codes "CONFIG") rows ≡ Some word
-        → IsSomeAnd result (IsServe word (first_of (codes "PATH") rows)) }
-    ensures found { IfSome result (IsFound (subcommand_rows_of matches.now)) }
-{
-    let config = word_of(matches, "serve", "CONFIG")?;
-    let stop_file = word_of(matches, "serve", "PATH");
-    Some(Words::Serve { config, stop_file })
-}
-
-/// The command that serves sessions, if the words have one.
-fn of_sessions<'a>(matches: &ArgMatches<'a>) -> Option<Words<'a>>
-    ensures script { (rows : List Row) (word : List ℕ)
-        → subcommand_rows_of matches.now ≡ Some (codes "script", rows)
-        → first_of (codes "CONFIG") rows ≡ Some word → IsSomeAnd result (IsScript word) }
-    ensures serve { (rows : List Row) (word : List ℕ)
-        → subcommand_rows_of matches.now ≡ Some (codes "serve", rows)
-        → first_of (codes "CONFIG") rows ≡ Some word
-        → IsSomeAnd result (IsServe word (first_of (codes "PATH") rows)) }
-    ensures found { IfSome result (IsFound (subcommand_rows_of matches.now)) }
-{
-    match script_given(matches) {
-        Some(words) => Some(words),
-        None => serve_given(matches),
-    }
-}
-
-/// The command that prints a text about a configuration, if the words have one.
-fn of_text<'a>(matches: &ArgMatches<'a>) -> Option<Words<'a>>
-    ensures check_config { (rows : List Row) (word : List ℕ)
-        → subcommand_rows_of matches.now ≡ Some (codes "check-config", rows)
-        → first_of (codes "CONFIG") rows ≡ Some word → IsSomeAnd result (IsCheckConfig word) }
-    ensures migrate { (rows : List Row) (word : List ℕ)
-        → subcommand_rows_of matches.now ≡ Some (codes "migrate", rows)
-        → first_of (codes "CONFIG") rows ≡ Some word → IsSomeAnd result (IsMigrate word) }
-    ensures found { IfSome result (IsFound (subcommand_rows_of matches.now)) }
-{
-    match check_config_given(matches) {
-        Some(words) => Some(words),
-        None => migrate_given(matches),
-    }
-}
-
-/// The command on a configuration, if the words have one.
-fn of_config<'a>(matches: &ArgMatches<'a>) -> Option<Words<'a>>
-    ensures check_config { (rows : List Row) (word : List ℕ)
-        → subcommand_rows_of matches.now ≡ Some (codes "check-config", rows)
-        → first_of (codes "CONFIG") rows ≡ Some word → IsSomeAnd result (IsCheckConfig word) }
-    ensures migrate { (rows : List Row) (word : List ℕ)
-        → subcommand_rows_of matches.now ≡ Some (codes "migrate", rows)
-        → first_of (codes "CONFIG") rows ≡ Some word → IsSomeAnd result (IsMigrate word) }
-    ensures script { (rows : List Row) (word : List ℕ)
-        → subcommand_rows_of matches.now ≡ Some (codes "script", rows)
-        → first_of (codes "CONFIG") rows ≡ Some word → IsSomeAnd result (IsScript word) }
-    ensures serve { (rows : List Row) (word : List ℕ)
-        → subcommand_rows_of matches.now ≡ Some (codes "serve", rows)
-        → first_of (codes "CONFIG") rows ≡ Some word
-        → IsSomeAnd result (IsServe word (first_of (codes "PATH") rows)) }
-    ensures found { IfSome result (IsFound (subcommand_rows_of matches.now)) }
-{
-    match of_text(matches) {
-        Some(words) => Some(words),
-        None => of_sessions(matches),
-    }
-}
-
-fn given<'a>(matches: &ArgMatches<'a>) -> Option<Words<'a>>
-    ensures share { (rows : List Row) (word : List ℕ)
-        → subcommand_rows_of matches.now ≡ Some (codes "share", rows)
-        → first_of (codes "SHEET") rows ≡ Some word → IsSomeAnd result (IsOfSheets (IsShare word)) }
-    ensures check { (rows : List Row) (first second : List ℕ)
-        → subcommand_rows_of matches.now ≡ Some (codes "check", rows)
-        → first_of (codes "SHEET") rows ≡ Some first → first_of (codes "GRANTS") rows ≡ Some second
-        → IsSomeAnd result (IsOfSheets (IsCheck first second)) }
-    ensures check_config { (rows : List Row) (word : List ℕ)
-        → subcommand_rows_of matches.now ≡ Some (codes "check-config", rows)
-        → first_of (codes "CONFIG") rows ≡ Some word → IsSomeAnd result (IsCheckConfig word) }
-    ensures migrate { (rows : List Row) (word : List ℕ)
-        → subcommand_rows_of matches.now ≡ Some (codes "migrate", rows)
-        → first_of (codes "CONFIG") rows ≡ Some word → IsSomeAnd result (IsMigrate word) }
-    ensures script { (rows : List Row) (word : List ℕ)
-        → subcommand_rows_of matches.now ≡ Some (codes "script", rows)
-        → first_of (codes "CONFIG") rows ≡ Some word → IsSomeAnd result (IsScript word) }
-    ensures serve { (rows : List Row) (word : List ℕ)
-        → subcommand_rows_of matches.now ≡ Some (codes "serve", rows)
-        → first_of (codes "CONFIG") rows ≡ Some word
-        → IsSomeAnd result (IsServe word (first_of (codes "PATH") rows)) }
-    ensures found { IfSome result (IsFound (subcommand_rows_of matches.now)) }
-{
-    match sheet_given(matches) {
-        Some(words) => Some(Words::Sheet(words)),
-        None => of_config(matches),
-    }
+    let (name, inner) = entered(matches)?;
+    given(name, inner)
 }
 
 /// Parses the words, which do not include the program's name.
@@ -308,7 +202,7 @@ pub fn read_sheet_words<'a>(
         Ok(matches) => matches,
         Err(fault) => return Err(fault),
     };
-    match sheet_given(&matches) {
+    match sheet_words(&matches) {
         Some(words) => Ok(words),
         None => unreachable!("words that the parser takes give a command"),
     }
@@ -353,7 +247,7 @@ pub fn read_words<'a>(alloc: Global, words: &'a [&'a str]) -> Result<Words<'a>, 
         Ok(matches) => matches,
         Err(fault) => return Err(fault),
     };
-    match given(&matches) {
+    match words_of(&matches) {
         Some(words) => Ok(words),
         None => unreachable!("words that the parser takes give a command"),
     }

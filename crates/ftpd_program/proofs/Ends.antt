@@ -7,11 +7,12 @@ use Rattle.command_line.specs.declared.words.Words.TheVariants.{Sheet, CheckConf
 use Rattle.script_session.specs.declared.fault.SessionFault.{SessionFault}
 use Rattle.sheets_program.specs.Runs.{IsCheckEnd, IsShareEnd, Octets}
 use Rattle.ftpd_program.specs.Endings.{IsCommon}
-use Rattle.ftpd_program.specs.Runs.{IsCommandEnd, IsMigrateEnd, IsReportEnd, IsScriptEnd}
+use Rattle.ftpd_program.specs.Runs.{IsCommandEnd, IsPrintEnd, IsScriptEnd}
 use Rattle.ftpd_program.specs.Scripting.{IsUnscripted}
 use Rattle.ftpd_program.specs.Serving.{IsServeEnd, Service}
 use Rattle.ftpd_program.specs.declared.ending.Ending.{Ending}
 use Rattle.ftpd_program.specs.declared.ending.Ending.TheVariants.{Common, Config, Session, Server}
+use Rattle.ftpd_program.specs.declared.printing.Print.TheVariants.{Report, Latest}
 use Rattle.ftpd_program.specs.declared.scripting.ScriptFault.{ScriptFault}
 use Rattle.ftpd_program.specs.declared.scripting.ScriptFault.TheVariants.{Session as Unserved}
 
@@ -42,16 +43,16 @@ check_end gives serves Refuses (Script path) sheet grants old new ending is end 
 check_end gives serves Refuses (Serve path stop_file) sheet grants old new ending is end = absurd is
 
 pub report_end : (gives : List ℕ → Octets) (serves : Service) (Refuses : List ℕ → Type 0) (words : Words) (config : List ℕ) (old new : Option (List ℕ)) (ending : Ending)
-    → IsCheckConfig config words → IsCommandEnd gives serves Refuses words old new ending → IsReportEnd (gives config) Refuses old new ending
-report_end gives serves Refuses (CheckConfig path) config old new ending is end = subst (λ (p : List ℕ). IsReportEnd (gives p) Refuses old new ending) is end
+    → IsCheckConfig config words → IsCommandEnd gives serves Refuses words old new ending → IsPrintEnd Report (gives config) Refuses old new ending
+report_end gives serves Refuses (CheckConfig path) config old new ending is end = subst (λ (p : List ℕ). IsPrintEnd Report (gives p) Refuses old new ending) is end
 report_end gives serves Refuses (Sheet words) config old new ending is end = absurd is
 report_end gives serves Refuses (Migrate path) config old new ending is end = absurd is
 report_end gives serves Refuses (Script path) config old new ending is end = absurd is
 report_end gives serves Refuses (Serve path stop_file) config old new ending is end = absurd is
 
 pub migrate_end : (gives : List ℕ → Octets) (serves : Service) (Refuses : List ℕ → Type 0) (words : Words) (config : List ℕ) (old new : Option (List ℕ)) (ending : Ending)
-    → IsMigrate config words → IsCommandEnd gives serves Refuses words old new ending → IsMigrateEnd (gives config) Refuses old new ending
-migrate_end gives serves Refuses (Migrate path) config old new ending is end = subst (λ (p : List ℕ). IsMigrateEnd (gives p) Refuses old new ending) is end
+    → IsMigrate config words → IsCommandEnd gives serves Refuses words old new ending → IsPrintEnd Latest (gives config) Refuses old new ending
+migrate_end gives serves Refuses (Migrate path) config old new ending is end = subst (λ (p : List ℕ). IsPrintEnd Latest (gives p) Refuses old new ending) is end
 migrate_end gives serves Refuses (Sheet words) config old new ending is end = absurd is
 migrate_end gives serves Refuses (CheckConfig path) config old new ending is end = absurd is
 migrate_end gives serves Refuses (Script path) config old new ending is end = absurd is

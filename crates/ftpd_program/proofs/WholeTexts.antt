@@ -1,26 +1,24 @@
 -- A configuration that was read whole.
 use Rattle.std.proofs.Common.{◌≡◌, ◌∙◌, ℕ, List, ◌++◌, Option, Some, None, append-nil, sym, ap, subst}
 use Rattle.std.specs.Io.KnownBytes.{Appends, Consumes, IsAtEnd}
-use Rattle.config_report.specs.Reports.{IsReportOf}
-use Rattle.server_config.specs.Migrated.{IsMigrated}
-use Rattle.ftpd_program.specs.Checking.{AppendsReport}
-use Rattle.ftpd_program.specs.Migrating.{AppendsMigrated}
+use Rattle.text_io.specs.Texts.{IsTextOf}
+use Rattle.ftpd_program.specs.Printing.{AppendsPrint, IsPrintFault, IsPrintOf, IsPrintRefusal}
+use Rattle.ftpd_program.specs.declared.printing.Print.{Print}
+use Rattle.ftpd_program.specs.declared.printing.PrintFault.{PrintFault}
+use Rattle.ftpd_program.specs.declared.printing.PrintFault.TheVariants.{Config, Text}
 
 pub whole : (text rest items : List ℕ) → Consumes (Some text) (Some rest) items → IsAtEnd (Some rest) → items ≡ text
 whole text rest items taken end = sym (append-nil items) ∙ ap (λ (r : List ℕ). items ++ r) (sym end) ∙ sym taken
 
--- what holds of the octets that were read holds of the text
-pub told : (old new : Option (List ℕ)) (items read printed : List ℕ) (before after : Option (List ℕ)) → Consumes old new items → IsAtEnd new → read ≡ items → IsMigrated read printed
-    → Appends before after printed → AppendsMigrated old before after
-told None new items read printed before after taken end same migrated appended = tt
-told (Some text) None items read printed before after taken end same migrated appended = absurd taken
-told (Some text) (Some rest) items read printed before after taken end same migrated appended =
-    (printed, subst (λ (t : List ℕ). IsMigrated t printed) (same ∙ whole text rest items taken end) migrated, appended)
+-- a text about the octets that were read is one about the text
+pub told : (print : Print) (old new : Option (List ℕ)) (items read printed : List ℕ) (before after : Option (List ℕ)) → Consumes old new items → IsAtEnd new → read ≡ items
+    → IsPrintOf print read printed → Appends before after printed → AppendsPrint print old before after
+told print None new items read printed before after taken end same prints appended = tt
+told print (Some text) None items read printed before after taken end same prints appended = absurd taken
+told print (Some text) (Some rest) items read printed before after taken end same prints appended =
+    (printed, subst (λ (t : List ℕ). IsPrintOf print t printed) (same ∙ whole text rest items taken end) prints, appended)
 
--- the same of a report
-pub reported : (old new : Option (List ℕ)) (items read printed : List ℕ) (before after : Option (List ℕ)) → Consumes old new items → IsAtEnd new → read ≡ items → IsReportOf read printed
-    → Appends before after printed → AppendsReport old before after
-reported None new items read printed before after taken end same is appended = tt
-reported (Some text) None items read printed before after taken end same is appended = absurd taken
-reported (Some text) (Some rest) items read printed before after taken end same is appended =
-    (printed, subst (λ (t : List ℕ). IsReportOf t printed) (same ∙ whole text rest items taken end) is, appended)
+-- a refusal of the octets that were read is one of the text of the end
+pub refused_at : (print : Print) (left : Option (List ℕ)) (text : List ℕ) (fault : PrintFault) → IsTextOf text left → IsPrintRefusal print text fault → IsPrintFault print left fault
+refused_at print left text (Text why) of is = tt
+refused_at print left text (Config why) of is = (text, of, is)

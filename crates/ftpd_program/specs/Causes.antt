@@ -1,8 +1,9 @@
 -- The causes for which a command ends with its fault, and the files that it opens, one after another. `refused` and
 -- `fails` are tests of a path: that its file may be refused, and that reading it may fail.
-use Rattle.std.specs.Prelude.{◌≡◌, ◌⊎◌, ℕ, List, Some}
+use Rattle.std.specs.Prelude.{◌≡◌, ◌≤◌, ◌+◌, ◌⊎◌, ℕ, List, Option, Some, IfSome, length}
 use Rattle.command_line.specs.declared.words.Words.{Words}
 use Rattle.command_line.specs.declared.words.Words.TheVariants.{Sheet, CheckConfig, Migrate, Script, Serve}
+use Rattle.script_session.specs.Served.{IsSessionBreak, most_reads}
 use Rattle.sheets_program.specs.Causes.{AreOpened, IsSheetWhy}
 use Rattle.sheets_program.specs.Runs.{IsInput, Octets, file_of}
 use Rattle.sheets_program.specs.declared.ending.Ending.TheVariants.{Text}
@@ -10,7 +11,7 @@ use Rattle.sheets_program.specs.declared.files.TheConstants.{STANDARD_INPUT}
 use Rattle.text_io.specs.declared.fault.TextFault.TheVariants.{ReadFault, TooLong}
 use Rattle.ftpd_program.specs.Endings.{IsCommon}
 use Rattle.ftpd_program.specs.declared.ending.Ending.{Ending}
-use Rattle.ftpd_program.specs.declared.ending.Ending.TheVariants.{Common}
+use Rattle.ftpd_program.specs.declared.ending.Ending.TheVariants.{Common, Session}
 
 -- the cause of a fault of reading the file of that path: only if it is possible, and the file is named
 abbrev pub IsReadWhy : List ℕ → Type 0 → Ending → Type 0
@@ -18,13 +19,20 @@ IsReadWhy path may (Common (Text fault cause)) =
     (fault ≡ ReadFault → may × (file_of cause ≡ Some path)) × (fault ≡ TooLong → file_of cause ≡ Some path)
 IsReadWhy path may _ = Unit {0}
 
--- the same for `script`, which opens standard input too
-abbrev pub IsScriptWhy : (List ℕ → Type 0) → (List ℕ → Type 0) → List ℕ → Ending → Type 0
-IsScriptWhy refused fails config (Common (Text fault cause)) =
+-- reading the input of a session may break it off: a read may fail, or the text is long enough for all reads of a session
+abbrev pub MayBreakInput : Octets → Type 0 → Type 0
+MayBreakInput gives fails = fails ⊎ ((text : Option (List ℕ)) × gives text × IfSome text (λ known. most_reads ≤ length known + 1))
+
+-- the same for `script`, which opens standard input too, and whose session may break off: `breaks` is that the output may
+-- refuse a reply
+abbrev pub IsScriptWhy : (List ℕ → Octets) → (List ℕ → Type 0) → (List ℕ → Type 0) → Type 0 → List ℕ → Ending → Type 0
+IsScriptWhy gives refused fails breaks config (Common (Text fault cause)) =
     (fault ≡ ReadFault → ((refused config ⊎ fails config) × (file_of cause ≡ Some config))
     ⊎ (refused STANDARD_INPUT.now × (file_of cause ≡ Some STANDARD_INPUT.now)))
     × (fault ≡ TooLong → file_of cause ≡ Some config)
-IsScriptWhy refused fails config _ = Unit {0}
+IsScriptWhy gives refused fails breaks config (Session fault) =
+    IsSessionBreak (MayBreakInput (gives STANDARD_INPUT.now) (fails STANDARD_INPUT.now)) breaks fault
+IsScriptWhy gives refused fails breaks config _ = Unit {0}
 
 -- a command ends without its configuration
 abbrev pub IsWithoutConfig : Ending → Type 0
@@ -40,12 +48,12 @@ AreScriptOpened {O} opens old new refused config ending =
     ⊎ ((between : O) × opens old config between × opens between STANDARD_INPUT.now new))
 
 -- the cause of the fault with which that command ends, if it ends with one
-abbrev pub IsCommandWhy : (List ℕ → Octets) → (List ℕ → Type 0) → (List ℕ → Type 0) → (List ℕ → Type 0) → Words → Ending → Type 0
-IsCommandWhy gives refused fails refuses (Sheet words) ending = IsCommon (IsSheetWhy gives refused fails refuses words) ending
-IsCommandWhy gives refused fails refuses (CheckConfig config) ending = IsReadWhy config.now (refused config.now ⊎ fails config.now) ending
-IsCommandWhy gives refused fails refuses (Migrate config) ending = IsReadWhy config.now (refused config.now ⊎ fails config.now) ending
-IsCommandWhy gives refused fails refuses (Script config) ending = IsScriptWhy refused fails config.now ending
-IsCommandWhy gives refused fails refuses (Serve config stop_file) ending = IsReadWhy config.now (refused config.now ⊎ fails config.now) ending
+abbrev pub IsCommandWhy : (List ℕ → Octets) → (List ℕ → Type 0) → (List ℕ → Type 0) → (List ℕ → Type 0) → Type 0 → Words → Ending → Type 0
+IsCommandWhy gives refused fails refuses breaks (Sheet words) ending = IsCommon (IsSheetWhy gives refused fails refuses words) ending
+IsCommandWhy gives refused fails refuses breaks (CheckConfig config) ending = IsReadWhy config.now (refused config.now ⊎ fails config.now) ending
+IsCommandWhy gives refused fails refuses breaks (Migrate config) ending = IsReadWhy config.now (refused config.now ⊎ fails config.now) ending
+IsCommandWhy gives refused fails refuses breaks (Script config) ending = IsScriptWhy gives refused fails breaks config.now ending
+IsCommandWhy gives refused fails refuses breaks (Serve config stop_file) ending = IsReadWhy config.now (refused config.now ⊎ fails config.now) ending
 
 -- the files that a command opens, in the order of its words
 abbrev pub AreCommandOpened : {O : Type 0} → (O → List ℕ → O → Type 0) → O → O → (List ℕ → Type 0) → Words → Ending → Type 0

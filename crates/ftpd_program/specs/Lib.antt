@@ -1,8 +1,7 @@
 pub mod Causes
-pub mod Checking
+pub mod Printing
 pub mod Endings
 pub mod Faults
-pub mod Migrating
 pub mod Runs
 pub mod Scripting
 pub mod Serving

@@ -4,34 +4,26 @@
 use Rattle.std.specs.Prelude.{ℕ, List, Option, option_map}
 use Rattle.command_line.specs.declared.words.Words.{Words}
 use Rattle.command_line.specs.declared.words.Words.TheVariants.{Sheet, CheckConfig, Migrate, Script, Serve}
-use Rattle.config_report.specs.Reports.{IsReportOf}
-use Rattle.server_config.specs.Migrated.{IsMigrated}
 use Rattle.sheets_program.specs.Runs.{IsInput, IsSheetEnd, Octets}
 use Rattle.sheets_program.specs.declared.ending.Ending.TheVariants.{Done, Refused, Text}
 use Rattle.sheets_program.specs.declared.files.TheConstants.{STANDARD_INPUT}
-use Rattle.ftpd_program.specs.Checking.{AppendsReport}
 use Rattle.ftpd_program.specs.Endings.{IsCommon}
 use Rattle.ftpd_program.specs.Faults.{IsPrintingFaultOf, IsReadingFaultOf}
-use Rattle.ftpd_program.specs.Migrating.{AppendsMigrated, IsUnmigrated}
+use Rattle.ftpd_program.specs.Printing.{AppendsPrint, IsPrintOf, IsUnprintedAt}
 use Rattle.ftpd_program.specs.Scripting.{IsRefusalOf, IsScripted, IsUnscripted}
 use Rattle.ftpd_program.specs.Serving.{IsServeEnd, Service}
 use Rattle.ftpd_program.specs.declared.ending.Ending.{Ending}
 use Rattle.ftpd_program.specs.declared.ending.Ending.TheVariants.{Common, Config, Session, Server}
+use Rattle.ftpd_program.specs.declared.printing.Print.{Print}
+use Rattle.ftpd_program.specs.declared.printing.Print.TheVariants.{Report, Latest}
 use Rattle.ftpd_program.specs.declared.scripting.ScriptFault.TheVariants.{Session as Unserved}
 
--- the ending of `check-config`, by the contents that the configuration may have
-abbrev pub IsReportEnd : Octets → (List ℕ → Type 0) → Option (List ℕ) → Option (List ℕ) → Ending → Type 0
-IsReportEnd gives Refuses old new (Common Done) = (text : Option (List ℕ)) × gives text × AppendsReport text old new
-IsReportEnd gives Refuses old new (Common (Text fault cause)) = IsPrintingFaultOf gives IsReportOf Refuses fault
-IsReportEnd gives Refuses old new (Config fault) = (text : Option (List ℕ)) × gives text × IsRefusalOf text fault
-IsReportEnd gives Refuses old new _ = ⊥
-
--- the ending of `migrate`, by the contents that the configuration may have
-abbrev pub IsMigrateEnd : Octets → (List ℕ → Type 0) → Option (List ℕ) → Option (List ℕ) → Ending → Type 0
-IsMigrateEnd gives Refuses old new (Common Done) = (text : Option (List ℕ)) × gives text × AppendsMigrated text old new
-IsMigrateEnd gives Refuses old new (Common (Text fault cause)) = IsPrintingFaultOf gives IsMigrated Refuses fault
-IsMigrateEnd gives Refuses old new (Config fault) = (text : Option (List ℕ)) × gives text × IsUnmigrated text fault
-IsMigrateEnd gives Refuses old new _ = ⊥
+-- the ending of a command that prints a text about a configuration, by the contents that its file may have
+abbrev pub IsPrintEnd : Print → Octets → (List ℕ → Type 0) → Option (List ℕ) → Option (List ℕ) → Ending → Type 0
+IsPrintEnd print gives Refuses old new (Common Done) = (text : Option (List ℕ)) × gives text × AppendsPrint print text old new
+IsPrintEnd print gives Refuses old new (Common (Text fault cause)) = IsPrintingFaultOf gives (IsPrintOf print) Refuses fault
+IsPrintEnd print gives Refuses old new (Config fault) = (text : Option (List ℕ)) × gives text × IsUnprintedAt print text fault
+IsPrintEnd print gives Refuses old new _ = ⊥
 
 -- the ending of `script` for the path of a configuration; the control text is that of standard
 -- input
@@ -48,8 +40,8 @@ IsScriptEnd gives config old new _ = ⊥
 -- the ending of that command, by a server
 abbrev pub IsCommandEnd : (List ℕ → Octets) → Service → (List ℕ → Type 0) → Words → Option (List ℕ) → Option (List ℕ) → Ending → Type 0
 IsCommandEnd gives serves Refuses (Sheet words) old new ending = IsCommon (IsSheetEnd gives words old new) ending
-IsCommandEnd gives serves Refuses (CheckConfig config) old new ending = IsReportEnd (gives config.now) Refuses old new ending
-IsCommandEnd gives serves Refuses (Migrate config) old new ending = IsMigrateEnd (gives config.now) Refuses old new ending
+IsCommandEnd gives serves Refuses (CheckConfig config) old new ending = IsPrintEnd Report (gives config.now) Refuses old new ending
+IsCommandEnd gives serves Refuses (Migrate config) old new ending = IsPrintEnd Latest (gives config.now) Refuses old new ending
 IsCommandEnd gives serves Refuses (Script config) old new ending = IsScriptEnd gives config.now old new ending
 IsCommandEnd gives serves Refuses (Serve config stop_file) old new ending =
     IsServeEnd (gives config.now) serves (option_map (λ w. w.now) stop_file) old new ending

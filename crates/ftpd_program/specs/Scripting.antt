@@ -1,6 +1,6 @@
 -- The effect of `script`.
 use Rattle.std.specs.Prelude.{◌≡◌, ◌≢◌, ℕ, List, Option}
-use Rattle.script_session.specs.Served.{IsServed, IsUnserved}
+use Rattle.script_session.specs.Served.{IsServed, IsSessionBreak, IsUnserved}
 use Rattle.script_session.specs.declared.fault.SessionFault.TheVariants.{Control, Folder}
 use Rattle.server_config.specs.Configs.{IsConfigText}
 use Rattle.server_config.specs.Refused.{IsFaultOfText}
@@ -41,6 +41,12 @@ abbrev pub IsUnscripted : Option (List ℕ) → Option (List ℕ) → Option (Li
 IsUnscripted left old new out out' (Text fault) = fault ≢ WriteFault
 IsUnscripted left old new out out' (Refused fault) = IsRefusalOf left fault
 IsUnscripted left old new out out' (Session fault) = (config : Config) × IsConfigOf left config × IsUnserved config old new out out' fault
+
+-- the session breaks off by a fault of the input or of the output only if these may have one
+abbrev pub IsScriptBreak : Type 0 → Type 0 → ScriptFault → Type 0
+IsScriptBreak reading writing (Text fault) = Unit {0}
+IsScriptBreak reading writing (Refused fault) = Unit {0}
+IsScriptBreak reading writing (Session fault) = IsSessionBreak reading writing fault
 
 -- the session was not begun
 abbrev pub IsNotBegun : ScriptFault → Type 0

@@ -12,17 +12,15 @@
 //! ```
 #![tactic(auto)]
 
-mod checking;
 mod ending;
-mod migrating;
+mod printing;
 mod run;
 mod scripting;
 mod server;
 mod serving;
 
-pub use checking::{ReportFault, run_check_config};
 pub use ending::{Ending, Told};
-pub use migrating::{MigrateFault, run_migrate};
+pub use printing::{Print, PrintFault, run_print};
 pub use run::run_words;
 pub use scripting::{ScriptFault, run_script};
 pub use server::{Server, ServerFault};

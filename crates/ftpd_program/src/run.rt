@@ -5,16 +5,16 @@ ghost use Rattle.command_line.specs.Commands.{ftpd};
 ghost use Rattle.command_line.specs.Given.{IsFound, IsPlainWord, IsRefusal};
 ghost use Rattle.command_line.specs.declared.words.Words.{Words};
 ghost use Rattle.command_line.specs.declared.words.WordsFault.{WordsFault};
+ghost use Rattle.script_session.specs.Breaks.{MayBreakWriting};
 ghost use Rattle.sheets_program.specs.Endings.{IsOutOfMemory, IsToldEnd};
 ghost use Rattle.sheets_program.specs.Runs.{IsCheckEnd, IsShareEnd};
 ghost use Rattle.ftpd_program.specs.Causes.{AreCommandOpened, AreScriptOpened, IsCommandWhy, IsReadWhy, IsScriptWhy};
 ghost use Rattle.ftpd_program.specs.Endings.{IsCommon, IsUnwritten};
-ghost use Rattle.ftpd_program.specs.Runs.{IsCommandEnd, IsMigrateEnd, IsReportEnd, IsScriptEnd};
+ghost use Rattle.ftpd_program.specs.Runs.{IsCommandEnd, IsPrintEnd, IsScriptEnd};
 ghost use Rattle.ftpd_program.specs.Serving.{IsServeEnd};
 
-use super::checking::{ReportFault, run_check_config};
 use super::ending::Ending;
-use super::migrating::{MigrateFault, run_migrate};
+use super::printing::{Print, PrintFault, run_print};
 use super::scripting::{ScriptFault, run_script};
 use super::server::Server;
 use super::serving::serve;
@@ -28,13 +28,15 @@ use text_io::{TextFault, TextWriter};
 const NO_TEXT_LEFT: &str =
     "error: standard input cannot be both the configuration and the control text\n";
 
-fn check_config<'w, O: Openings, W: TextWriter>(
+/// Prints a text about a configuration.
+fn print_text<'w, O: Openings, W: TextWriter>(
     alloc: Global,
+    print: Print,
     config: &'w str,
     files: &mut O,
     output: &mut W,
 ) -> Ending<'w>
-    ensures end { IsReportEnd (O.Gives files.old config.now) (W.may_refuse output.old)
+    ensures end { IsPrintEnd print (O.Gives files.old config.now) (W.may_refuse output.old)
         (W.contents output.old) (W.contents output.new) result }
     ensures why { IsReadWhy config.now
         (O.MayRefuse files.old config.now ⊎ O.MayFail files.old config.now) result }
@@ -48,40 +50,10 @@ fn check_config<'w, O: Openings, W: TextWriter>(
             return Ending::Common(Common::Text(TextFault::ReadFault, cause));
         }
     };
-    match run_check_config(alloc, &mut file, output) {
+    match run_print(alloc, print, &mut file, output) {
         Ok(()) => Ending::Common(Common::Done),
-        Err(ReportFault::Config(fault)) => Ending::Config(fault),
-        Err(ReportFault::Text(fault)) => {
-            let cause = text_cause(fault, config, O::reason(&file));
-            Ending::Common(Common::Text(fault, cause))
-        }
-    }
-}
-
-fn migrate<'w, O: Openings, W: TextWriter>(
-    alloc: Global,
-    config: &'w str,
-    files: &mut O,
-    output: &mut W,
-) -> Ending<'w>
-    ensures end { IsMigrateEnd (O.Gives files.old config.now) (W.may_refuse output.old)
-        (W.contents output.old) (W.contents output.new) result }
-    ensures why { IsReadWhy config.now
-        (O.MayRefuse files.old config.now ⊎ O.MayFail files.old config.now) result }
-    ensures opened { O.Opens files.old config.now files.new }
-    ensures unwritten { IsUnwritten result → output.new ≡ output.old }
-{
-    let mut file = match files.open(config) {
-        Ok(file) => file,
-        Err(error) => {
-            let cause = text_cause(TextFault::ReadFault, config, Some(error));
-            return Ending::Common(Common::Text(TextFault::ReadFault, cause));
-        }
-    };
-    match run_migrate(alloc, &mut file, output) {
-        Ok(()) => Ending::Common(Common::Done),
-        Err(MigrateFault::Config(fault)) => Ending::Config(fault),
-        Err(MigrateFault::Text(fault)) => {
+        Err(PrintFault::Config(fault)) => Ending::Config(fault),
+        Err(PrintFault::Text(fault)) => {
             let cause = text_cause(fault, config, O::reason(&file));
             Ending::Common(Common::Text(fault, cause))
         }
@@ -97,8 +69,8 @@ fn script<'w, O: Openings, W: TextWriter>(
 ) -> Ending<'w>
     ensures end { IsScriptEnd (O.Gives files.old) config.now
         (W.contents output.old) (W.contents output.new) result }
-    ensures why { IsScriptWhy (O.MayRefuse files.old)
-        (O.MayFail files.old) config.now result }
+    ensures why { IsScriptWhy (O.Gives files.old) (O.MayRefuse files.old) (O.MayFail files.old)
+        (MayBreakWriting W.contents W.may_refuse output.old) config.now result }
     ensures opened { AreScriptOpened O.Opens files.old files.new
         (O.MayRefuse files.old) config.now result }
     ensures unwritten { IsUnwritten result → output.new ≡ output.old }
@@ -141,15 +113,16 @@ fn run_command<'w, O: Openings, W: TextWriter, V: Server<W>>(
     ensures end { IsCommandEnd (O.Gives files.old) V.Serves (W.may_refuse output.old) words.entry
         (W.contents output.old) (W.contents output.new) result }
     ensures why { IsCommandWhy (O.Gives files.old) (O.MayRefuse files.old)
-        (O.MayFail files.old) (W.may_refuse output.old) words.entry result }
+        (O.MayFail files.old) (W.may_refuse output.old)
+        (MayBreakWriting W.contents W.may_refuse output.old) words.entry result }
     ensures opened { AreCommandOpened O.Opens files.old files.new
         (O.MayRefuse files.old) words.entry result }
     ensures unwritten { IsUnwritten result → output.new ≡ output.old }
 {
     match words {
         Words::Sheet(words) => Ending::Common(run_sheet_words(alloc, words, files, output)),
-        Words::CheckConfig { config } => check_config(alloc, config, files, output),
-        Words::Migrate { config } => migrate(alloc, config, files, output),
+        Words::CheckConfig { config } => { print_text(alloc, Print::Report, config, files, output) }
+        Words::Migrate { config } => print_text(alloc, Print::Latest, config, files, output),
         Words::Script { config } => script(alloc, config, files, output),
         Words::Serve { config, stop_file } => {
             serve(alloc, config, stop_file, files, server, output)
@@ -177,11 +150,11 @@ pub fn run_words<'w, O: Openings, W: TextWriter, V: Server<W>>(
         (W.contents output.old) (W.contents output.new)) result }
     ensures check_config { (config : List ℕ) → IsPlainWord config
         → map (λ s. s.now) words.now ≡ codes "check-config" ∷ config ∷ []
-        → IsReportEnd (O.Gives files.old config) (W.may_refuse output.old)
+        → IsPrintEnd Print.Report (O.Gives files.old config) (W.may_refuse output.old)
         (W.contents output.old) (W.contents output.new) result }
     ensures migrate { (config : List ℕ) → IsPlainWord config
         → map (λ s. s.now) words.now ≡ codes "migrate" ∷ config ∷ []
-        → IsMigrateEnd (O.Gives files.old config) (W.may_refuse output.old)
+        → IsPrintEnd Print.Latest (O.Gives files.old config) (W.may_refuse output.old)
         (W.contents output.old) (W.contents output.new) result }
     ensures script { (config : List ℕ) → IsPlainWord config
         → map (λ s. s.now) words.now ≡ codes "script" ∷ config ∷ []
@@ -201,7 +174,8 @@ pub fn run_words<'w, O: Openings, W: TextWriter, V: Server<W>>(
         × IsCommandEnd (O.Gives files.old) V.Serves (W.may_refuse output.old) command
         (W.contents output.old) (W.contents output.new) result
         × IsCommandWhy (O.Gives files.old) (O.MayRefuse files.old)
-        (O.MayFail files.old) (W.may_refuse output.old) command result
+        (O.MayFail files.old) (W.may_refuse output.old)
+        (MayBreakWriting W.contents W.may_refuse output.old) command result
         × AreCommandOpened O.Opens files.old files.new (O.MayRefuse files.old) command result) }
     ensures told { fault_of ftpd (map (λ s. s.now) words.now) ≢ [] → (fault : WordsFault)
         × IsRefusal (fault_of ftpd (map (λ s. s.now) words.now)) fault

@@ -1,8 +1,10 @@
 //! The command that serves a control session by a configuration.
 
 ghost use Rattle.std.specs.Prelude.{◌≡◌, ◌<◌, true, IfErr, IfOk, IfSome, IsErrOf, OnOk, length};
+ghost use Rattle.script_session.specs.Breaks.{MayBreakReading, MayBreakWriting};
+ghost use Rattle.script_session.specs.Served.{most_reads};
 ghost use Rattle.server_config.specs.Configs.{IsConfigText};
-ghost use Rattle.ftpd_program.specs.Scripting.{IsConfigOf, IsJudgement, IsNotBegun, IsScripted, IsUnconfigured, IsUnscripted};
+ghost use Rattle.ftpd_program.specs.Scripting.{IsConfigOf, IsJudgement, IsNotBegun, IsScriptBreak, IsScripted, IsUnconfigured, IsUnscripted};
 
 use script_session::{SessionFault, serve_config};
 use server_config::{Config, ConfigFault};
@@ -54,6 +56,8 @@ pub(crate) fn read_config<C: TextReader>(
 /// nothing is written. Of a session that breaks off, some replies may have been.
 ///
 /// `TooLong`: the configuration has more than `MAX_TEXT` octets. `Text(ReadFault)`: a read of it failed.
+/// `Session(Control(ReadFault))`: a read of the input failed, or the session made all its reads.
+/// `Session(Control(WriteFault))`: the writer refused a reply.
 pub fn run_script<C: TextReader, R: TextReader, W: TextWriter>(
     alloc: Global,
     config: &mut C,
@@ -66,6 +70,9 @@ pub fn run_script<C: TextReader, R: TextReader, W: TextWriter>(
     ensures unserved { IfErr result (IsUnscripted (C.remaining config.old)
         (R.remaining input.old) (R.remaining input.new)
         (W.contents writer.old) (W.contents writer.new)) }
+    ensures breaks { IfErr result (IsScriptBreak
+        (MayBreakReading most_reads (R.may_fail input.old) (R.remaining input.old))
+        (MayBreakWriting W.contents W.may_refuse writer.old)) }
     ensures not_begun { IfErr result (λ fault. IsNotBegun fault
         → (input.new ≡ input.old) × (writer.new ≡ writer.old)) }
     ensures too_long { IsErrOf result (ScriptFault.Text TextFault.TooLong)

@@ -4,7 +4,7 @@ use crate::ends::{Files, Given};
 use crate::expect::{holds, same, tells};
 use crate::texts::{LOGIN, LUNCH, LUNCH_GRANTS, MIGRATED, SMALL, WELCOME};
 use command_line::{SheetWords, WordsFault};
-use ftpd_program::{STANDARD_INPUT, run_check_config, run_migrate, run_script};
+use ftpd_program::{Print, STANDARD_INPUT, run_print, run_script};
 use sheets_program::{Ending, Told, as_words, run_sheet_words, tell};
 
 #[test]
@@ -56,7 +56,12 @@ fn texts_are_words(rt: HostRuntime) {
 #[test]
 fn a_configuration_is_reported(rt: HostRuntime) {
     let mut output = Vec::new(rt.alloc());
-    let reported = run_check_config(rt.alloc(), &mut SMALL.as_bytes(), &mut output);
+    let reported = run_print(
+        rt.alloc(),
+        Print::Report,
+        &mut SMALL.as_bytes(),
+        &mut output,
+    );
     holds(&rt, reported.is_ok());
     holds(&rt, output.starts_with(b"listens on 127.0.0.1:2121\n"));
 }
@@ -64,7 +69,12 @@ fn a_configuration_is_reported(rt: HostRuntime) {
 #[test]
 fn a_configuration_is_migrated(rt: HostRuntime) {
     let mut output = Vec::new(rt.alloc());
-    let migrated = run_migrate(rt.alloc(), &mut SMALL.as_bytes(), &mut output);
+    let migrated = run_print(
+        rt.alloc(),
+        Print::Latest,
+        &mut SMALL.as_bytes(),
+        &mut output,
+    );
     holds(&rt, migrated.is_ok());
     same(&rt, &output, MIGRATED);
 }

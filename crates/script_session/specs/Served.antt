@@ -9,6 +9,7 @@ use Rattle.rate_floors.specs.Promises.{HasNoSessions, Promises}
 use Rattle.script_session.specs.ControlFault.{ControlFault}
 use Rattle.script_session.specs.ControlFault.TheVariants.{Memory as NoMemory}
 use Rattle.script_session.specs.Scripts.{IsScript}
+use Rattle.session_host.specs.Breaks.{IsBreak}
 use Rattle.server_config.specs.declared.config.Config.{Config}
 use Rattle.session_table.specs.declared.settings.Settings.{Settings}
 use Rattle.script_session.specs.declared.fault.SessionFault.{SessionFault}
@@ -42,3 +43,12 @@ abbrev pub IsUnserved : Config → Option (List ℕ) → Option (List ℕ) → O
 IsUnserved config old new out out' Folder = ((text : String Global) × (config.store ≡ served.Folder text)) × (new ≡ old) × (out' ≡ out)
 IsUnserved config old new out out' (Control why) =
     InStore (λ store. IsBrokenBy config.users.users config.limits store config.settings config.numbers.passive_first old new out out' why) config
+
+-- the number of reads that a session may make
+abbrev pub most_reads : ℕ
+most_reads = 4294967295
+
+-- a folder is configured; or the session breaks off, if reading and writing may break it off
+abbrev pub IsSessionBreak : Type 0 → Type 0 → SessionFault → Type 0
+IsSessionBreak reading writing Folder = Unit {0}
+IsSessionBreak reading writing (Control why) = IsBreak reading writing why

@@ -1,8 +1,10 @@
 //! A control session without sockets.
 
-ghost use Rattle.std.specs.Prelude.{◌≡◌, ℕ, List};
+ghost use Rattle.std.specs.Prelude.{◌≡◌, ℕ, List, IfErr};
 ghost use Rattle.std.specs.declared.alloc.Global.{Global};
 ghost use Rattle.memory_store.specs.InMemory.{InMemory, Upload};
+ghost use Rattle.session_host.specs.Breaks.{IsBreak, MayBreakReading, MayBreakWriting};
+ghost use Rattle.script_session.specs.Served.{most_reads};
 ghost use Rattle.script_session.specs.Scripts.{AnswersScript, IsScript, StandsStill, home_address, script_parts, unasked};
 ghost use Rattle.script_session.specs.declared.side.ScriptSide.{ScriptSide};
 ghost use Rattle.session_host.specs.Alone.{AloneDoes};
@@ -26,7 +28,8 @@ const HOME: [u8; 4] = [127, 0, 0, 1];
 /// its replies. Each passive port is `port`; a download is read to its end and dropped, an upload brings no octets.
 /// However the session ends, the floors are unchanged.
 ///
-/// `ReadFault` is also the result after 4,294,967,295 reads, of at most 4,096 octets each.
+/// `ReadFault`: a read failed, or 4,294,967,295 reads were made, each of at most 4,096 octets, and each but the last of
+/// one at least. `WriteFault`: the writer refused a reply.
 pub fn serve_text<F: Allocator + Clone, R: TextReader, W: TextWriter>(
     alloc: Global,
     reader: &mut R,
@@ -47,6 +50,9 @@ pub fn serve_text<F: Allocator + Clone, R: TextReader, W: TextWriter>(
     ensures script { IsScript users.now.users settings port floors.old store.old store.new
         (R.remaining reader.old) (R.remaining reader.new)
         (W.contents writer.old) (W.contents writer.new) result }
+    ensures breaks { IfErr result (IsBreak
+        (MayBreakReading most_reads (R.may_fail reader.old) (R.remaining reader.old))
+        (MayBreakWriting W.contents W.may_refuse writer.old)) }
     ensures floors { floors.new ≡ floors.old }
 {
     let mut clock = StillClock;

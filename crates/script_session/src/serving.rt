@@ -3,7 +3,8 @@
 ghost use Rattle.std.specs.Prelude.{◌≡◌, Err, IfErr, Ok, OnOk};
 ghost use Rattle.script_session.specs.ControlFault.{ControlFault};
 ghost use Rattle.script_session.specs.declared.fault.SessionFault.TheVariants as SessionFault;
-ghost use Rattle.script_session.specs.Served.{IsBrokenBy, IsServed, IsServedBy, IsUnserved};
+ghost use Rattle.session_host.specs.Breaks.{IsBreak, MayBreakReading, MayBreakWriting};
+ghost use Rattle.script_session.specs.Served.{IsBrokenBy, IsServed, IsServedBy, IsSessionBreak, IsUnserved, most_reads};
 
 use crate::fault::SessionFault;
 use crate::script::serve_text;
@@ -34,6 +35,9 @@ fn serve_memory<R: TextReader, W: TextWriter>(
     ensures broken { IfErr result (IsBrokenBy users.now.users limits.now store settings port
         (R.remaining reader.old) (R.remaining reader.new)
         (W.contents writer.old) (W.contents writer.new)) }
+    ensures breaks { IfErr result (IsBreak
+        (MayBreakReading most_reads (R.may_fail reader.old) (R.remaining reader.old))
+        (MayBreakWriting W.contents W.may_refuse writer.old)) }
 {
     let mut store = store;
     let mut floors = Floors::of(alloc, limits)?;
@@ -76,6 +80,9 @@ pub fn serve_config<R: TextReader, W: TextWriter>(
     ensures broken { IfErr result (IsUnserved config
         (R.remaining reader.old) (R.remaining reader.new)
         (W.contents writer.old) (W.contents writer.new)) }
+    ensures breaks { IfErr result (IsSessionBreak
+        (MayBreakReading most_reads (R.may_fail reader.old) (R.remaining reader.old))
+        (MayBreakWriting W.contents W.may_refuse writer.old)) }
     ensures untouched { IfErr result (λ fault. fault ≡ SessionFault.Folder
         → (reader.new ≡ reader.old) × (writer.new ≡ writer.old)) }
 {

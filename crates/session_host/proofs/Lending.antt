@@ -34,7 +34,7 @@ module _ {A S C D R W H Q K : Type 0} (Gives : C → ℕ → C → Type 0) (Asks
   alone_floors old new (Noted event) did = ap (λ (host : Parts S C D R W H). host.promises) did.1
   alone_floors old new (Wrote text) did = ap (λ (host : Parts S C D R W H). host.promises) did.1
   alone_floors old new (Broke text) did = ap (λ (host : Parts S C D R W H). host.promises) did.2
-  alone_floors old new (Read octets) did = ap (λ (host : Parts S C D R W H). host.promises) did.rest
+  alone_floors old new (Read octets) did = ap (λ (host : Parts S C D R W H). host.promises) did.0.rest
   alone_floors old new ReadEnd did = ap (λ (host : Parts S C D R W H). host.promises) did.0.rest
   alone_floors old new ReadFailed did = ap (λ (host : Parts S C D R W H). host.promises) did.0.rest
   alone_floors old new (Asked call) did = ap (λ (host : Parts S C D R W H). host.promises) did.1

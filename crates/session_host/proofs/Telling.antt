@@ -472,7 +472,7 @@ module _ {A S C D R W H Q K : Type 0} (Gives : C → ℕ → C → Type 0) (Asks
         let (did, rest) = one old new calls (Asked (Settles event)) trace chain in
         asks_told items before after old new event none same (inr (gone, did)) rest
     move_told items later before after calls old new is (Reads octets found idle live unended same trace) chain =
-        let did = one old new calls (Read octets) trace chain in
+        let (did, some) = one old new calls (Read octets) trace chain in
         reads_told items before after old new _ octets idle live refl same did.rest did.taken refl (λ ended. never before.heard.ended unended ended)
     move_told items later before after calls old new is (Ends idle live unended same trace) chain =
         let (did, ends) = one old new calls ReadEnd trace chain in

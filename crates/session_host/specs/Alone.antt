@@ -1,6 +1,6 @@
 -- The effect of each call on a host with all parts for one session: each call changes only its
 -- part.
-use Rattle.std.specs.Prelude.{ℕ, ◌≡◌, Bool, true, List, [], Option}
+use Rattle.std.specs.Prelude.{ℕ, ◌≡◌, ◌<◌, Bool, true, List, [], Option, length}
 use Rattle.std.specs.Io.KnownBytes.{Appends, Consumes, IsAtEnd}
 use Rattle.handler_hooks.specs.Events.{Event}
 use Rattle.rate_floors.specs.Promises.{Promises, after_release}
@@ -82,7 +82,7 @@ module _ {A S C D R W H Q K : Type 0} (Gives : C → ℕ → C → Type 0)
   AloneDoes old (Broke text) new =
       may_refuse old.writer text × AppendsPart (contents old.writer) (contents new.writer) text
       × (new ≡ record old { writer = new.writer })
-  AloneDoes old (Read octets) new = Takes old octets new
+  AloneDoes old (Read octets) new = Takes old octets new × (0 < length octets)
   AloneDoes old ReadEnd new = Takes old [] new × IsAtEnd (remaining new.reader)
   AloneDoes old ReadFailed new = Takes old [] new × (may_fail old.reader ≡ true)
   AloneDoes old (Asked call) new =

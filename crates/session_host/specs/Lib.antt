@@ -9,3 +9,4 @@ pub use Rattle.control_session.specs.Standing
 pub use Rattle.control_session.specs.Turns
 pub use Rattle.control_session.specs.declared.fault.ControlFault
 pub use Rattle.control_session.specs.Sides
+pub mod Breaks

@@ -1,11 +1,12 @@
 //! A control session on a host of its own.
 
-ghost use Rattle.std.specs.Prelude.{◌≡◌};
+ghost use Rattle.std.specs.Prelude.{◌≡◌, IfErr};
 ghost use Rattle.std.specs.declared.alloc.Global.{Global};
 ghost use Rattle.control_session.specs.Floors.{HasFloors};
 ghost use Rattle.control_session.specs.Rows.{IsRow};
 ghost use Rattle.control_session.specs.Sessions.{IsServed, new_session};
 ghost use Rattle.rate_floors.specs.Promises.{Promises};
+ghost use Rattle.session_host.specs.Breaks.{IsBreak, MayBreakReading, MayBreakWriting};
 ghost use Rattle.session_host.specs.Alone.{AloneDoes, SameLent, parts};
 ghost use Rattle.session_host.specs.Told.{IsTold};
 
@@ -69,6 +70,9 @@ pub fn run_alone<
     ensures told { IsTold (IsRow S.Step (U.known users.now).users)
         C.Gives D.Asks H.Told R.remaining W.contents
         result (new_session (T.given settings) peer) (parts host.old) (parts host.new) }
+    ensures breaks { IfErr result (IsBreak
+        (MayBreakReading turns (R.may_fail host.old.reader.now) (R.remaining host.old.reader.now))
+        (MayBreakWriting W.contents W.may_refuse host.old.writer.now)) }
     ensures floors { host.new.floors.now ≡ host.old.floors.now }
     ensures same { SameLent host.old host.new }
 {

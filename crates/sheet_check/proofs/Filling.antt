@@ -162,7 +162,7 @@ one_line text line kept read = ap (λ (b : Bool). cond b [] (option_to_list (gra
 
 pub line_judged : (sheet : SheetValue) (place number : ℕ) (text : List ℕ) (line : GrantLine) → is_skipped text ≡ false → grant_of text ≡ Some line → grants_line_fault sheet place number text ≡ grant_fault sheet place number line
 line_judged sheet place number text line kept read =
-    ap (λ (b : Bool). cond b None (read_grant_fault sheet place number (grant_of text))) kept ∙ ap (read_grant_fault sheet place number) read
+    ap (λ (b : Bool). cond b None (read_grant_fault sheet place number text (grant_of text))) kept ∙ ap (read_grant_fault sheet place number text) read
 
 pub filled_line : {A : Type 0} (sheet : SheetValue) (slots now : Slots A) (lines : List GrantLine) (text : List ℕ) (line : GrantLine) (leaf : ℕ) → Filled sheet slots lines → line_grants text ≡ line ∷ [] → leaf < length sheet.leaves
     → position_from (nat_eq leaf) 0 sheet.wants ≡ Some (length lines) → now.lines ≡ slots.lines + 1 → now.slots.items ≡ set slots.slots.items leaf (Some (given_by sheet line)) → Filled sheet now (lines ++ line_grants text)

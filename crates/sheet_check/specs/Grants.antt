@@ -6,6 +6,7 @@ use Rattle.std.specs.Str.Lines.{lines}
 use Rattle.limit_tree.specs.Faults.{or_else}
 use Rattle.sheet_check.specs.declared.grants_fault.GrantsFault.{GrantsFault}
 use Rattle.sheet_check.specs.declared.grants_fault.GrantsFault.TheVariants.{BadLine, WrongPath, NoSuchNode}
+use Rattle.sheet_text.specs.Hints.{hint_of}
 use Rattle.sheet_text.specs.Paths.{Octets, Path, place_of, same_path}
 use Rattle.sheet_text.specs.Text.{GrantLine, grant_of}
 use Rattle.sheet_text.specs.Sheet.{is_skipped}
@@ -35,12 +36,12 @@ grant_fault sheet place number line =
     else if names_no_node sheet line.node then Some (NoSuchNode number)
     else None
 
-abbrev pub read_grant_fault : SheetValue → ℕ → ℕ → Option GrantLine → Option GrantsFault
-read_grant_fault sheet place number None = Some (BadLine number)
-read_grant_fault sheet place number (Some line) = grant_fault sheet place number line
+abbrev pub read_grant_fault : SheetValue → ℕ → ℕ → Octets → Option GrantLine → Option GrantsFault
+read_grant_fault sheet place number text None = Some (BadLine number (hint_of text))
+read_grant_fault sheet place number text (Some line) = grant_fault sheet place number line
 
 abbrev pub grants_line_fault : SheetValue → ℕ → ℕ → Octets → Option GrantsFault
-grants_line_fault sheet place number line = if is_skipped line then None else read_grant_fault sheet place number (grant_of line)
+grants_line_fault sheet place number line = if is_skipped line then None else read_grant_fault sheet place number line (grant_of line)
 
 abbrev pub line_grants : Octets → List GrantLine
 line_grants line = if is_skipped line then [] else option_to_list (grant_of line)

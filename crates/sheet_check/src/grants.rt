@@ -13,7 +13,7 @@ ghost use Rattle.sheet_text.specs.Views.{IsSheetOf};
 
 use crate::grants_fault::GrantsFault;
 use grant_certificate::Certificate;
-use sheet_text::{Grant, Sheet, cut_line, is_skipped, read_grant};
+use sheet_text::{Grant, Sheet, cut_line, hint_of, is_skipped, read_grant};
 use std::alloc::{AllocError, Allocator};
 
 /// The grant of a leaf, with the number of the named node.
@@ -112,7 +112,7 @@ impl<A: Allocator + Clone> Slots<A> {
             return Ok(());
         }
         let Some(grant) = read_grant(line) else {
-            return Err(GrantsFault::BadLine(number));
+            return Err(GrantsFault::BadLine(number, hint_of(line)));
         };
         let (leaf, given) = judge(sheet, self.lines, number, grant)?;
         self.slots[leaf] = Some(given);

@@ -1,5 +1,6 @@
 //! Faults of a grants file.
 
+use sheet_text::Hint;
 use std::alloc::AllocError;
 use thiserror::Error;
 
@@ -7,9 +8,9 @@ use thiserror::Error;
 /// line the order is that below.
 #[derive(Clone, Copy, Debug, PartialEq, Eq, Error)]
 pub enum GrantsFault {
-    /// The line is neither of the two forms.
+    /// The line is neither of the two forms. Its octets may show why.
     #[error("line {0}: BadLine")]
-    BadLine(usize),
+    BadLine(usize, Option<Hint>),
     /// The path is not that of the sheet's next want, or each want has its line already.
     #[error("line {0}: WrongPath")]
     WrongPath(usize),

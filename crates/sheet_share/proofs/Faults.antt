@@ -9,7 +9,7 @@ use Rattle.sheet_share.specs.declared.fault.ShareFault.TheVariants.{Sheet, Text}
 
 -- a fault that is told as that of a sheet is that fault, and not lack of memory
 pub sheet_told : (e fault : SheetFault) → of_sheet e ≡ Sheet fault → (e ≡ fault) × (e ≢ NoSheetMemory)
-sheet_told (BadLine line) fault is = (cc, λ no. cc)
+sheet_told (BadLine line hint) fault is = (cc, λ no. cc)
 sheet_told (Twice line) fault is = (cc, λ no. cc)
 sheet_told (LeafHasKids line) fault is = (cc, λ no. cc)
 sheet_told (Tree line f) fault is = (cc, λ no. cc)
@@ -17,7 +17,7 @@ sheet_told NoSheetMemory fault is = absurd (cc)
 
 -- of a sheet's faults lack of memory alone is told as one of texts
 pub memory_told : (e : SheetFault) (why : TextFault) → of_sheet e ≡ Text why → why ≡ Memory
-memory_told (BadLine line) why is = absurd (cc)
+memory_told (BadLine line hint) why is = absurd (cc)
 memory_told (Twice line) why is = absurd (cc)
 memory_told (LeafHasKids line) why is = absurd (cc)
 memory_told (Tree line f) why is = absurd (cc)

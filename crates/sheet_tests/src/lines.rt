@@ -2,7 +2,9 @@
 
 use crate::expect::holds;
 use limit_tree::NodeKind;
-use sheet_text::{cut_at, cut_line, read_entry, read_named_path, read_number, read_path};
+use sheet_text::{
+    Hint, cut_at, cut_line, hint_of, read_entry, read_named_path, read_number, read_path,
+};
 
 static LINES: [&[u8]; 4] = [b"a", b"", b"#b", b"c\r"];
 
@@ -43,6 +45,26 @@ fn entries(rt: HostRuntime) {
     for (line, path, kind) in &ENTRIES {
         let entry = read_entry(line).expect(&rt, "an entry");
         holds(&rt, entry.path == *path && entry.kind == *kind);
+    }
+}
+
+/// At several slips of a line the first hint in the order of this list is that of the line.
+static HINTS: [(&[u8], Option<Hint>); 9] = [
+    (b"\xef\xbb\xbfwant\t/a 1", Some(Hint::ByteOrderMark)),
+    (b"want /a\t10M", Some(Hint::Tab)),
+    (b"want /a 10  # lunch", Some(Hint::Remark)),
+    (b"want /a  10M", Some(Hint::Blank)),
+    (b" want /a 10", Some(Hint::Blank)),
+    (b"want /a 10 ", Some(Hint::Blank)),
+    (b"want /a 10M", Some(Hint::Unit)),
+    (b"limit /a1x# 10 5", None),
+    (b"want a 10", None),
+];
+
+#[test]
+fn hints(rt: HostRuntime) {
+    for (line, hint) in &HINTS {
+        holds(&rt, hint_of(line) == *hint);
     }
 }
 

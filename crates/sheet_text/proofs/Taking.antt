@@ -22,11 +22,11 @@ use Rattle.sheet_text.specs.Sheet.{and_then, entry_taken, is_skipped, line_state
 line_folds : (table new : Table) (number : ℕ) (line : Octets) (rest : List Stated) → line_taken table number line ≡ Ok new → fold take_on (Ok table) (line_states number line ++ rest) ≡ fold take_on (Ok new) rest
 line_folds table new number line rest e = go (is_skipped line) e
   where
-    read : (o : Option Entry) → entry_taken table number o ≡ Ok new → fold take_on (Ok table) (stated number o ++ rest) ≡ fold take_on (Ok new) rest
+    read : (o : Option Entry) → entry_taken table number line o ≡ Ok new → fold take_on (Ok table) (stated number o ++ rest) ≡ fold take_on (Ok new) rest
     read None h = cc
     read (Some entry) h = ap (λ (r : Result Table SheetFault). fold take_on r rest) h
 
-    go : (b : Bool) → cond b (Ok table) (entry_taken table number (entry_of line)) ≡ Ok new → fold take_on (Ok table) (cond b [] (stated number (entry_of line)) ++ rest) ≡ fold take_on (Ok new) rest
+    go : (b : Bool) → cond b (Ok table) (entry_taken table number line (entry_of line)) ≡ Ok new → fold take_on (Ok table) (cond b [] (stated number (entry_of line)) ++ rest) ≡ fold take_on (Ok new) rest
     go true h = ap (λ (r : Result Table SheetFault). fold take_on r rest) h
     go false h = read (entry_of line) h
 

@@ -3,6 +3,7 @@ pub mod Forest
 pub mod Mentions
 pub mod TreeLaw
 pub mod Text
+pub mod Hints
 pub mod LineViews
 pub mod Table
 pub mod Inside

@@ -2,6 +2,7 @@
 use Rattle.std.specs.Prelude.{◌≡◌, ◌≢◌, ℕ, ◌+◌, nat_eq, Bool, ◌||◌, if◌then◌else◌, List, [], ◌∷◌, ◌++◌, length, map, filter, slice_index, Option, Some, None, Result, Ok, Err}
 use Rattle.std.specs.Str.Lines.{lines}
 use Rattle.limit_tree.specs.Outline.{is_leaf_kind}
+use Rattle.sheet_text.specs.Hints.{hint_of}
 use Rattle.sheet_text.specs.Paths.{Octets, Path}
 use Rattle.sheet_text.specs.declared.fault.SheetFault.{SheetFault}
 use Rattle.sheet_text.specs.declared.fault.SheetFault.TheVariants.{BadLine, Memory}
@@ -16,13 +17,14 @@ use Rattle.sheet_text.specs.Text.{entry_of}
 abbrev pub is_skipped : Octets → Bool
 is_skipped line = nat_eq (length line) 0 || nat_eq (slice_index line 0) 35
 
-abbrev pub entry_taken : Table → ℕ → Option Entry → Result Table SheetFault
-entry_taken table number None = Err (BadLine number)
-entry_taken table number (Some entry) = taken table number entry
+-- the table after the entry of the numbered line, or the fault of a line that has none
+abbrev pub entry_taken : Table → ℕ → Octets → Option Entry → Result Table SheetFault
+entry_taken table number line None = Err (BadLine number (hint_of line))
+entry_taken table number line (Some entry) = taken table number entry
 
 -- the table after the numbered line, or the line's fault
 abbrev pub line_taken : Table → ℕ → Octets → Result Table SheetFault
-line_taken table number line = if is_skipped line then Ok table else entry_taken table number (entry_of line)
+line_taken table number line = if is_skipped line then Ok table else entry_taken table number line (entry_of line)
 
 abbrev pub and_then : Result Table SheetFault → (Table → Result Table SheetFault) → Result Table SheetFault
 and_then (Ok table) next = next table

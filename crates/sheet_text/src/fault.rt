@@ -1,4 +1,5 @@
 //! Faults of a sheet.
+use crate::hint::Hint;
 use limit_tree::TreeFault;
 use std::alloc::AllocError;
 use thiserror::Error;
@@ -7,9 +8,9 @@ use thiserror::Error;
 /// the order is that below.
 #[derive(Clone, Copy, Debug, PartialEq, Eq, Error)]
 pub enum SheetFault {
-    /// The line is none of the four forms.
+    /// The line is none of the four forms. Its octets may show why.
     #[error("line {0}: BadLine")]
-    BadLine(usize),
+    BadLine(usize, Option<Hint>),
     /// The path has a line already.
     #[error("line {0}: Twice")]
     Twice(usize),

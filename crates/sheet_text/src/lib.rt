@@ -17,6 +17,7 @@ mod entry;
 mod fault;
 mod grant;
 mod grow;
+mod hint;
 mod kids;
 mod laws;
 mod names;
@@ -36,6 +37,7 @@ pub use cut::{cut_at, cut_line};
 pub use entry::{Entry, read_entry};
 pub use fault::SheetFault;
 pub use grant::{Grant, read_grant};
+pub use hint::{Hint, hint_of};
 pub use laws::{
     mentioned_is_stated_or_above, nodes_hold_what_is_beneath, sheet_is_of_its_lines,
     tree_is_of_lines, tree_is_of_what_is_mentioned, tree_is_of_what_is_stated,

@@ -8,7 +8,7 @@ ghost use Rattle.sheet_text.specs.Text.{digit, is_number, number};
 /// Maximum number of digits of a number.
 pub const MOST_DIGITS: usize = 19;
 
-fn are_digits(text: &[u8]) -> bool
+pub(crate) fn are_digits(text: &[u8]) -> bool
     ensures digits { result ≡ list_all is_ascii_digit text.now }
 {
     text.iter().all(|octet| octet.is_ascii_digit())

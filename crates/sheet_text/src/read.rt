@@ -12,6 +12,7 @@ ghost use Rattle.sheet_text.specs.Kept.{wanted};
 use crate::cut::cut_line;
 use crate::entry::{Entry, read_entry};
 use crate::fault::SheetFault;
+use crate::hint::hint_of;
 use crate::node::{Nodes, is_leaf};
 use limit_tree::NodeKind;
 use std::alloc::{AllocError, Allocator};
@@ -79,7 +80,7 @@ impl<'t, A: Allocator + Clone> Reading<'t, A> {
             return Ok(());
         }
         let Some(entry) = read_entry(line) else {
-            return Err(SheetFault::BadLine(number));
+            return Err(SheetFault::BadLine(number, hint_of(line)));
         };
         self.take(number, entry)
     }

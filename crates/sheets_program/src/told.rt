@@ -5,7 +5,7 @@ use crate::ending::Ending;
 use limit_tree::TreeFault;
 use sheet_check::{CheckFault, GrantsFault};
 use sheet_share::ShareFault;
-use sheet_text::SheetFault;
+use sheet_text::{Hint, SheetFault};
 use std::{fmt, io};
 use text_io::{MAX_TEXT, TextFault};
 
@@ -13,9 +13,6 @@ const SHEET_LINE: &str =
     "a line is `limit PATH N`, `limit PATH -`, `want PATH N` or `want PATH N FLOOR`";
 
 const GRANTS_LINE: &str = "a line is `grant PATH N` or `grant PATH N NODE`";
-
-const WORDS_OF_A_LINE: &str =
-    "hint: one blank between words; no tab, no byte order mark; digits alone, 10000000 for 10M; a remark has its own line";
 
 /// An ending, as the program of that name prints it.
 #[derive(Clone, Copy)]
@@ -64,7 +61,7 @@ fn tree_words(fault: TreeFault) -> &'static str {
 
 fn sheet_words(fault: SheetFault) -> &'static str {
     match fault {
-        SheetFault::BadLine(_) => SHEET_LINE,
+        SheetFault::BadLine(_, _) => SHEET_LINE,
         SheetFault::Twice(_) => "the path has a line already",
         SheetFault::LeafHasKids(_) => {
             "the path is beneath a want, or wants and is above another path"
@@ -76,10 +73,21 @@ fn sheet_words(fault: SheetFault) -> &'static str {
 
 fn grants_words(fault: GrantsFault) -> &'static str {
     match fault {
-        GrantsFault::BadLine(_) => GRANTS_LINE,
+        GrantsFault::BadLine(_, _) => GRANTS_LINE,
         GrantsFault::WrongPath(_) => "there is one line for each want, in the order of the wants",
         GrantsFault::NoSuchNode(_) => "the sheet has no node of the last path",
         GrantsFault::Memory => "memory ran out",
+    }
+}
+
+/// The way to mend a line that is no statement.
+fn hint_words(hint: Hint) -> &'static str {
+    match hint {
+        Hint::ByteOrderMark => "the line begins with a byte order mark; save the file without one",
+        Hint::Tab => "the line has a tab; there is one blank between words",
+        Hint::Remark => "a remark has a line of its own, which begins with `#`",
+        Hint::Blank => "there is one blank between words, and none before or after them",
+        Hint::Unit => "a number is digits alone, as 10000000 for 10M",
     }
 }
 
@@ -90,10 +98,10 @@ fn sheet_above<W: fmt::Write>(
     fault: SheetFault,
 ) -> fmt::Result {
     writeln!(f, "{}: {}", name_of(cause), sheet_words(fault))?;
-    if let SheetFault::BadLine(_) = fault {
-        writeln!(f, "{WORDS_OF_A_LINE}")?;
+    match fault {
+        SheetFault::BadLine(_, Some(hint)) => writeln!(f, "hint: {}", hint_words(hint)),
+        _ => Ok(()),
     }
-    Ok(())
 }
 
 /// The lines above the fault of a grants file.
@@ -103,10 +111,10 @@ fn grants_above<W: fmt::Write>(
     fault: GrantsFault,
 ) -> fmt::Result {
     writeln!(f, "{}: {}", name_of(cause), grants_words(fault))?;
-    if let GrantsFault::BadLine(_) = fault {
-        writeln!(f, "{WORDS_OF_A_LINE}")?;
+    match fault {
+        GrantsFault::BadLine(_, Some(hint)) => writeln!(f, "hint: {}", hint_words(hint)),
+        _ => Ok(()),
     }
-    Ok(())
 }
 
 impl Told<'_, '_> {

@@ -4,7 +4,7 @@ use Rattle.command_line.specs.Commands.{sheets}
 use Rattle.command_line.specs.Given.{IsSheetFound, IsRefusal}
 use Rattle.clap.specs.Words.{App, Row, Text, app_of, fault_of, is_simple, is_simple_and_free, subcommand_of, takes}
 use Rattle.command_line.proofs.Taken.{refused_by_none, sheets_is_free, sheets_is_simple, sheets_checks, sheets_shares}
-use Rattle.command_line.proofs.GivenCommand.{no_other_sheet_command, sheets_found}
+use Rattle.command_line.proofs.GivenCommand.{check_is, share_is, sheets_found}
 use Rattle.command_line.proofs.words.read_sheet_words.Goals as goal
 
 pub returns-in-Err-clause-share : goal.returns-in-Err-clause-share
@@ -42,21 +42,21 @@ unreachable-requires c =
     let entered = c.in-Ok-parsed.ensures.found simple ∙ ap (λ (a : App). subcommand_of a texts) c.in-Ok.ensures.sheets in
     let found = sheets_found c.args.words texts none in
     let held = subst (λ (o : Option (Text × List Row)). IsSheetFound o found.0) (sym entered) found.1 in
-    no_other_sheet_command _ found.0 held c.in-None.ensures.share c.in-None.ensures.check
+    c.in-None.ensures.none refl found.0 held
 
 pub returns-clause-share : goal.returns-clause-share
 returns-clause-share c = λ word plain are.
     let held = sheets_shares word plain in
     let simple : is_simple (app_of c.in-Ok.command) ≡ true = ap is_simple c.in-Ok.ensures.sheets ∙ sheets_is_simple in
     let entered = c.in-Ok-parsed.ensures.found simple ∙ ap₂ subcommand_of c.in-Ok.ensures.sheets are ∙ held.entered in
-    c.in-Some.ensures.share held.rows word entered held.sheet
+    share_is _ _ held.rows word entered held.sheet c.in-Some.ensures.found
 
 pub returns-clause-check : goal.returns-clause-check
 returns-clause-check c = λ first second plain also are.
     let held = sheets_checks first second plain also in
     let simple : is_simple (app_of c.in-Ok.command) ≡ true = ap is_simple c.in-Ok.ensures.sheets ∙ sheets_is_simple in
     let entered = c.in-Ok-parsed.ensures.found simple ∙ ap₂ subcommand_of c.in-Ok.ensures.sheets are ∙ held.entered in
-    c.in-Some.ensures.check held.rows first second entered held.sheet held.grants
+    check_is _ _ held.rows first second entered held.sheet held.grants c.in-Some.ensures.found
 
 pub returns-clause-found : goal.returns-clause-found
 returns-clause-found c =

@@ -4,7 +4,7 @@ use Rattle.command_line.specs.Commands.{ftpd}
 use Rattle.command_line.specs.Given.{IsFound, IsRefusal, IsServe}
 use Rattle.clap.specs.Words.{App, Row, Text, app_of, fault_of, is_simple, is_simple_and_free, subcommand_of, takes}
 use Rattle.command_line.proofs.Taken.{refused_by_none, ftpd_is_free, ftpd_is_simple, ftpd_checks, ftpd_shares, checks_config, migrates, scripts, serves, serves_until}
-use Rattle.command_line.proofs.GivenCommand.{no_other_command, ftpd_found}
+use Rattle.command_line.proofs.GivenCommand.{check_config_is, check_of_sheets, ftpd_found, migrate_is, script_is, serve_is, share_of_sheets}
 use Rattle.command_line.proofs.words.read_words.Goals as goal
 
 pub returns-in-Err-clause-share : goal.returns-in-Err-clause-share
@@ -62,56 +62,56 @@ unreachable-requires c =
     let entered = c.in-Ok-parsed.ensures.found simple ∙ ap (λ (a : App). subcommand_of a texts) c.in-Ok.ensures.ftpd in
     let found = ftpd_found c.args.words texts none in
     let held = subst (λ (o : Option (Text × List Row)). IsFound o found.0) (sym entered) found.1 in
-    no_other_command _ found.0 held c.in-None.ensures.share c.in-None.ensures.check c.in-None.ensures.check_config c.in-None.ensures.migrate c.in-None.ensures.script (λ rows word is first. c.in-None.ensures.serve rows word is first)
+    c.in-None.ensures.none refl found.0 held
 
 pub returns-clause-share : goal.returns-clause-share
 returns-clause-share c = λ word plain are.
     let held = ftpd_shares word plain in
     let simple : is_simple (app_of c.in-Ok.command) ≡ true = ap is_simple c.in-Ok.ensures.ftpd ∙ ftpd_is_simple in
     let entered = c.in-Ok-parsed.ensures.found simple ∙ ap₂ subcommand_of c.in-Ok.ensures.ftpd are ∙ held.entered in
-    c.in-Some.ensures.share held.rows word entered held.sheet
+    share_of_sheets _ _ held.rows word entered held.sheet c.in-Some.ensures.found
 
 pub returns-clause-check : goal.returns-clause-check
 returns-clause-check c = λ first second plain also are.
     let held = ftpd_checks first second plain also in
     let simple : is_simple (app_of c.in-Ok.command) ≡ true = ap is_simple c.in-Ok.ensures.ftpd ∙ ftpd_is_simple in
     let entered = c.in-Ok-parsed.ensures.found simple ∙ ap₂ subcommand_of c.in-Ok.ensures.ftpd are ∙ held.entered in
-    c.in-Some.ensures.check held.rows first second entered held.sheet held.grants
+    check_of_sheets _ _ held.rows first second entered held.sheet held.grants c.in-Some.ensures.found
 
 pub returns-clause-check_config : goal.returns-clause-check_config
 returns-clause-check_config c = λ word plain are.
     let held = checks_config word plain in
     let simple : is_simple (app_of c.in-Ok.command) ≡ true = ap is_simple c.in-Ok.ensures.ftpd ∙ ftpd_is_simple in
     let entered = c.in-Ok-parsed.ensures.found simple ∙ ap₂ subcommand_of c.in-Ok.ensures.ftpd are ∙ held.entered in
-    c.in-Some.ensures.check_config held.rows word entered held.config
+    check_config_is _ _ held.rows word entered held.config c.in-Some.ensures.found
 
 pub returns-clause-migrate : goal.returns-clause-migrate
 returns-clause-migrate c = λ word plain are.
     let held = migrates word plain in
     let simple : is_simple (app_of c.in-Ok.command) ≡ true = ap is_simple c.in-Ok.ensures.ftpd ∙ ftpd_is_simple in
     let entered = c.in-Ok-parsed.ensures.found simple ∙ ap₂ subcommand_of c.in-Ok.ensures.ftpd are ∙ held.entered in
-    c.in-Some.ensures.migrate held.rows word entered held.config
+    migrate_is _ _ held.rows word entered held.config c.in-Some.ensures.found
 
 pub returns-clause-script : goal.returns-clause-script
 returns-clause-script c = λ word plain are.
     let held = scripts word plain in
     let simple : is_simple (app_of c.in-Ok.command) ≡ true = ap is_simple c.in-Ok.ensures.ftpd ∙ ftpd_is_simple in
     let entered = c.in-Ok-parsed.ensures.found simple ∙ ap₂ subcommand_of c.in-Ok.ensures.ftpd are ∙ held.entered in
-    c.in-Some.ensures.script held.rows word entered held.config
+    script_is _ _ held.rows word entered held.config c.in-Some.ensures.found
 
 pub returns-clause-serve : goal.returns-clause-serve
 returns-clause-serve c = λ word plain are.
     let held = serves word plain in
     let simple : is_simple (app_of c.in-Ok.command) ≡ true = ap is_simple c.in-Ok.ensures.ftpd ∙ ftpd_is_simple in
     let entered = c.in-Ok-parsed.ensures.found simple ∙ ap₂ subcommand_of c.in-Ok.ensures.ftpd are ∙ held.entered in
-    subst (λ (path : Option Text). IsServe word path c.in-Some.words) held.no_path (c.in-Some.ensures.serve held.rows word entered held.config)
+    subst (λ (path : Option Text). IsServe word path c.in-Some.words) held.no_path (serve_is _ _ held.rows word entered held.config c.in-Some.ensures.found)
 
 pub returns-clause-serve_until : goal.returns-clause-serve_until
 returns-clause-serve_until c = λ word path plain also are.
     let held = serves_until word path plain also in
     let simple : is_simple (app_of c.in-Ok.command) ≡ true = ap is_simple c.in-Ok.ensures.ftpd ∙ ftpd_is_simple in
     let entered = c.in-Ok-parsed.ensures.found simple ∙ ap₂ subcommand_of c.in-Ok.ensures.ftpd are ∙ held.entered in
-    subst (λ (path : Option Text). IsServe word path c.in-Some.words) held.stop_file (c.in-Some.ensures.serve held.rows word entered held.config)
+    subst (λ (path : Option Text). IsServe word path c.in-Some.words) held.stop_file (serve_is _ _ held.rows word entered held.config c.in-Some.ensures.found)
 
 pub returns-clause-found : goal.returns-clause-found
 returns-clause-found c =

@@ -1,3 +1,4 @@
+use Rattle.session_host.proofs.Breaking.{breaks}
 use Rattle.session_host.proofs.Lending.{lent_none, lent_then, sole_floors, sole_lent, sole_seen}
 use Rattle.session_host.proofs.Seeing.{served_keeps, served_seen}
 use Rattle.session_host.proofs.Telling.{served_told}
@@ -23,5 +24,11 @@ returns-clause-same g c =
 pub returns-clause-told : goal.returns-clause-told
 returns-clause-told g c =
     served_told g.C.Moments.Gives g.D.DataSide.Asks g.H.Hooks.Told g.R.TextReader.remaining g.R.TextReader.may_fail g.W.TextWriter.contents g.W.TextWriter.may_refuse _ _ _ _ _ _
+    (served_seen _ _ parts (sole_seen g.C.Moments.Gives g.D.DataSide.Asks g.H.Hooks.Told g.R.TextReader.remaining g.R.TextReader.may_fail g.W.TextWriter.contents g.W.TextWriter.may_refuse)
+    _ _ _ _ _ _ c.run_on.ensures.whole)
+
+pub returns-clause-breaks : goal.returns-clause-breaks
+returns-clause-breaks g c =
+    breaks g.C.Moments.Gives g.D.DataSide.Asks g.H.Hooks.Told g.R.TextReader.remaining g.R.TextReader.may_fail g.W.TextWriter.contents g.W.TextWriter.may_refuse _ _ _ _ _ _
     (served_seen _ _ parts (sole_seen g.C.Moments.Gives g.D.DataSide.Asks g.H.Hooks.Told g.R.TextReader.remaining g.R.TextReader.may_fail g.W.TextWriter.contents g.W.TextWriter.may_refuse)
     _ _ _ _ _ _ c.run_on.ensures.whole)

@@ -1,7 +1,7 @@
 use Rattle.std.proofs.Common.{ap, ◌∙◌, Err}
-use Rattle.ftpd_program.specs.declared.migrating.MigrateFault.TheVariants.{Text}
-use Rattle.ftpd_program.proofs.Printing.{printing}
-use Rattle.ftpd_program.proofs.run.migrate.Goals as goal
+use Rattle.ftpd_program.specs.declared.printing.PrintFault.TheVariants.{Text}
+use Rattle.ftpd_program.proofs.Printed.{printing}
+use Rattle.ftpd_program.proofs.run.print_text.Goals as goal
 
 pub returns-clause-end : goal.returns-clause-end
 returns-clause-end g c = printing _ _ _ _ c.in-Err-Text.fault c.in-Ok.ensures.gives

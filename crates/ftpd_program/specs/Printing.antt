@@ -1,0 +1,42 @@
+-- The texts about a configuration that commands print.
+use Rattle.std.specs.Prelude.{◌≡◌, ℕ, List, Option, Some, None}
+use Rattle.std.specs.Io.KnownBytes.{Appends}
+use Rattle.config_report.specs.Reports.{IsReportOf}
+use Rattle.server_config.specs.Migrated.{IsMigrated, IsUnmigrated}
+use Rattle.server_config.specs.Refused.{IsFaultOfText}
+use Rattle.server_config.specs.declared.fault.ConfigFault.{ConfigFault}
+use Rattle.text_io.specs.Texts.{IsTextOf}
+use Rattle.text_io.specs.declared.fault.TextFault.TheVariants.{Memory}
+use Rattle.ftpd_program.specs.declared.printing.Print.{Print}
+use Rattle.ftpd_program.specs.declared.printing.Print.TheVariants.{Report, Latest}
+use Rattle.ftpd_program.specs.declared.printing.PrintFault.{PrintFault}
+use Rattle.ftpd_program.specs.declared.printing.PrintFault.TheVariants.{Config, Text}
+
+-- the report on the configuration of a text, or a text that has the same configuration in version 2
+abbrev pub IsPrintOf : Print → List ℕ → List ℕ → Type 0
+IsPrintOf Report text printed = IsReportOf text printed
+IsPrintOf Latest text printed = IsMigrated text printed
+
+-- the text is refused for that fault; or, in version 2, it has no print that is read back
+abbrev pub IsUnprinted : Print → List ℕ → ConfigFault → Type 0
+IsUnprinted Report text fault = IsFaultOfText text fault
+IsUnprinted Latest text fault = IsUnmigrated text fault
+
+-- memory ran out, or the text is refused for that fault
+abbrev pub IsPrintRefusal : Print → List ℕ → PrintFault → Type 0
+IsPrintRefusal print text (Text why) = why ≡ Memory
+IsPrintRefusal print text (Config fault) = IsUnprinted print text fault
+
+-- a text about the configuration of the octets that were read is appended
+abbrev pub AppendsPrint : Print → Option (List ℕ) → Option (List ℕ) → Option (List ℕ) → Type 0
+AppendsPrint print None old new = Unit {0}
+AppendsPrint print (Some text) old new = (printed : List ℕ) × IsPrintOf print text printed × Appends old new printed
+
+-- the text of an end is refused for that fault
+abbrev pub IsUnprintedAt : Print → Option (List ℕ) → ConfigFault → Type 0
+IsUnprintedAt print left fault = (text : List ℕ) × IsTextOf text left × IsUnprinted print text fault
+
+-- a fault of the configuration at an end; a fault of texts is not constrained
+abbrev pub IsPrintFault : Print → Option (List ℕ) → PrintFault → Type 0
+IsPrintFault print left (Text why) = Unit {0}
+IsPrintFault print left (Config fault) = IsUnprintedAt print left fault

@@ -1,0 +1,82 @@
+//! The commands that print a text about a configuration.
+
+ghost use Rattle.std.specs.Prelude.{◌≡◌, ◌≢◌, ◌<◌, ℕ, List, true, IfErr, IfOk, IfSome, IsErrOf, OnOk, length, string_bytes};
+ghost use Rattle.text_io.specs.Texts.{IsTextOf};
+ghost use Rattle.ftpd_program.specs.Printing.{AppendsPrint, IsPrintFault, IsPrintOf, IsPrintRefusal};
+
+use config_report::report;
+use server_config::{ConfigFault, migrate};
+use std::alloc::Global;
+use text_io::{MAX_TEXT, TextFault, TextReader, TextWriter, read_whole, write_whole};
+
+/// A text about a configuration.
+#[derive(Clone, Copy, Debug, PartialEq, Eq)]
+pub enum Print {
+    /// The report on it, with its warnings.
+    Report,
+    /// Its text in version 2.
+    Latest,
+}
+
+/// The reason for which no text about a configuration is printed.
+#[derive(Debug, Drop)]
+pub enum PrintFault {
+    /// The file could not be read whole, the output could not be written, or memory ran out.
+    Text(TextFault),
+    /// The configuration is refused, or its text in version 2 could not be read back.
+    Config(ConfigFault),
+}
+
+/// Returns the text about the configuration of these octets.
+fn text_about(alloc: Global, print: Print, octets: &[u8]) -> Result<String, PrintFault>
+    ensures prints { IfOk result (λ text. IsPrintOf print octets.now (string_bytes text)) }
+    ensures refused { IfErr result (IsPrintRefusal print octets.now) }
+{
+    let text = match print {
+        Print::Report => report(alloc, octets),
+        Print::Latest => migrate(alloc, octets),
+    };
+    match text {
+        Ok(text) => Ok(text),
+        Err(ConfigFault::Memory) => Err(PrintFault::Text(TextFault::Memory)),
+        Err(fault) => Err(PrintFault::Config(fault)),
+    }
+}
+
+/// Reads a configuration, and writes a text about it; if the configuration is refused, nothing is written. A fault
+/// other than the output's own comes before the first octet is written.
+///
+/// `TooLong`: the configuration has more than `MAX_TEXT` octets. `ReadFault`: a read of it failed. `WriteFault`: the
+/// writer refuses this text.
+pub fn run_print<R: TextReader, W: TextWriter>(
+    alloc: Global,
+    print: Print,
+    reader: &mut R,
+    writer: &mut W,
+) -> Result<(), PrintFault>
+    ensures printed { OnOk result (AppendsPrint print (R.remaining reader.old)
+        (W.contents writer.old) (W.contents writer.new)) }
+    ensures refused { IfErr result (IsPrintFault print (R.remaining reader.old)) }
+    ensures too_long { IsErrOf result (PrintFault.Text TextFault.TooLong)
+        → IfSome (R.remaining reader.old) (λ text. MAX_TEXT < length text) }
+    ensures read_fault { IsErrOf result (PrintFault.Text TextFault.ReadFault)
+        → R.may_fail reader.old ≡ true }
+    ensures write_fault { IsErrOf result (PrintFault.Text TextFault.WriteFault)
+        → (text printed : List ℕ) × IsTextOf text (R.remaining reader.old)
+        × IsPrintOf print text printed × W.may_refuse writer.old printed }
+    ensures unwritten { IfErr result (λ fault. fault ≢ PrintFault.Text TextFault.WriteFault
+        → writer.new ≡ writer.old) }
+{
+    let octets = match read_whole(alloc, reader) {
+        Ok(octets) => octets,
+        Err(fault) => return Err(PrintFault::Text(fault)),
+    };
+    let text = match text_about(alloc, print, octets.as_slice()) {
+        Ok(text) => text,
+        Err(fault) => return Err(fault),
+    };
+    match write_whole(text.as_str(), writer) {
+        Ok(()) => Ok(()),
+        Err(fault) => Err(PrintFault::Text(fault)),
+    }
+}

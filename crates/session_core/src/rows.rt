@@ -138,7 +138,7 @@ fn ask_at<A: Allocator + Clone, S: Store<A>>(
 }
 
 /// The row of a rule.
-pub(crate) fn row<A: Allocator + Clone, F: Allocator + Clone, S: Store<A>>(
+pub(crate) fn carry_out<A: Allocator + Clone, F: Allocator + Clone, S: Store<A>>(
     state: &mut State<A>,
     users: &Authorizer<A>,
     floors: &mut Floors<F>,

@@ -149,101 +149,109 @@ fn text_or_none<A: Allocator>(text: &Option<String<A>>) -> &str
     }
 }
 
-fn login<'a>(conditions: Conditions, row: LoginRow<'a>) -> Rule<'a>
-    ensures rule { result ≡ record { conditions = conditions; row = Row.Login row } }
-{
-    Rule {
-        conditions,
-        row: Row::Login(row),
-    }
+/// A rule with a row on logins.
+macro_rules! login {
+    ($conditions:expr, $row:expr) => {
+        Rule {
+            conditions: $conditions,
+            row: Row::Login($row),
+        }
+    };
 }
 
-fn alone<'a>(conditions: Conditions, row: StateRow) -> Rule<'a>
-    ensures rule { result ≡ record { conditions = conditions; row = Row.State row } }
-{
-    Rule {
-        conditions,
-        row: Row::State(row),
-    }
+/// A rule with another row without a path.
+macro_rules! alone {
+    ($conditions:expr, $row:expr) => {
+        Rule {
+            conditions: $conditions,
+            row: Row::State($row),
+        }
+    };
 }
 
-fn at<'a>(conditions: Conditions, letter: Letter, text: &'a str, row: FileRow) -> Rule<'a>
-    ensures rule { result
-        ≡ record {
-          conditions = conditions;
-          row = Row.At (record { letter = letter; text = text; row = row });
-        } }
-{
-    Rule {
-        conditions,
-        row: Row::At(Place { letter, text, row }),
-    }
+/// A rule with a row at the location of a text.
+macro_rules! at {
+    ($conditions:expr, $letter:expr, $text:expr, $row:expr) => {
+        Rule {
+            conditions: $conditions,
+            row: Row::At(Place {
+                letter: $letter,
+                text: $text,
+                row: $row,
+            }),
+        }
+    };
 }
 
 /// The rule of a command.
-pub(crate) fn rule<A: Allocator, R, K>(command: &Command<String<A>>) -> Rule<'_>
+pub(crate) fn rule_of<A: Allocator, R, K>(command: &Command<String<A>>) -> Rule<'_>
     ensures rule { (users : Users) (view : View) (moment : ℕ)
         → ruling {A = A} {R = R} {K = K} users view moment result
         ≡ rule users view moment (with_texts string_bytes command.now) }
 {
     match command {
-        Command::User(name) => login(AT_ANY_TIME, LoginRow::User(name.as_str())),
-        Command::Pass(text) => login(AT_ANY_TIME, LoginRow::Pass(text_or_none(text))),
-        Command::Quit => login(QUITTING, LoginRow::Quit),
-        Command::Rein => login(AT_ANY_TIME, LoginRow::Rein),
-        Command::Noop => alone(SERVED_AT_ANY_TIME, StateRow::Note(Notice::Fine)),
-        Command::Syst => alone(AT_ANY_TIME, StateRow::Note(Notice::System)),
-        Command::Help(_) => alone(AT_ANY_TIME, StateRow::Note(Notice::Standards)),
-        Command::Feat => alone(AT_ANY_TIME, StateRow::Feat),
-        Command::Opts(wanted) => alone(AT_ANY_TIME, StateRow::Opts(*wanted)),
-        Command::Allo(_) => alone(AFTER_LOGIN, StateRow::Note(Notice::NoAllocation)),
-        Command::SetType(wanted) => alone(AFTER_LOGIN, StateRow::Type(*wanted)),
-        Command::Mode => alone(AFTER_LOGIN, StateRow::Note(Notice::ModeIsStream)),
-        Command::Stru => alone(AFTER_LOGIN, StateRow::Note(Notice::StructureIsFile)),
-        Command::Rest(offset) => alone(AFTER_LOGIN, StateRow::Rest(*offset)),
-        Command::Port(to) => alone(UNLESS_ONLY_EXTENDED, StateRow::Port(*to)),
-        Command::Eprt(to) => alone(UNLESS_ONLY_EXTENDED, StateRow::Eprt(*to)),
-        Command::Pasv => alone(UNLESS_ONLY_EXTENDED, StateRow::Pasv),
-        Command::Epsv(wanted) => alone(AFTER_LOGIN, StateRow::Epsv(*wanted)),
-        Command::Pwd => alone(AFTER_LOGIN, StateRow::Pwd),
-        Command::Stat(None) => alone(SERVED_AFTER_LOGIN, StateRow::Stat),
-        Command::Abor => alone(SERVED_AFTER_LOGIN, StateRow::Abor),
-        Command::Cwd(text) => at(
+        Command::User(name) => login!(AT_ANY_TIME, LoginRow::User(name.as_str())),
+        Command::Pass(text) => login!(AT_ANY_TIME, LoginRow::Pass(text_or_none(text))),
+        Command::Quit => login!(QUITTING, LoginRow::Quit),
+        Command::Rein => login!(AT_ANY_TIME, LoginRow::Rein),
+        Command::Noop => alone!(SERVED_AT_ANY_TIME, StateRow::Note(Notice::Fine)),
+        Command::Syst => alone!(AT_ANY_TIME, StateRow::Note(Notice::System)),
+        Command::Help(_) => alone!(AT_ANY_TIME, StateRow::Note(Notice::Standards)),
+        Command::Feat => alone!(AT_ANY_TIME, StateRow::Feat),
+        Command::Opts(wanted) => alone!(AT_ANY_TIME, StateRow::Opts(*wanted)),
+        Command::Allo(_) => alone!(AFTER_LOGIN, StateRow::Note(Notice::NoAllocation)),
+        Command::SetType(wanted) => alone!(AFTER_LOGIN, StateRow::Type(*wanted)),
+        Command::Mode => alone!(AFTER_LOGIN, StateRow::Note(Notice::ModeIsStream)),
+        Command::Stru => alone!(AFTER_LOGIN, StateRow::Note(Notice::StructureIsFile)),
+        Command::Rest(offset) => alone!(AFTER_LOGIN, StateRow::Rest(*offset)),
+        Command::Port(to) => alone!(UNLESS_ONLY_EXTENDED, StateRow::Port(*to)),
+        Command::Eprt(to) => alone!(UNLESS_ONLY_EXTENDED, StateRow::Eprt(*to)),
+        Command::Pasv => alone!(UNLESS_ONLY_EXTENDED, StateRow::Pasv),
+        Command::Epsv(wanted) => alone!(AFTER_LOGIN, StateRow::Epsv(*wanted)),
+        Command::Pwd => alone!(AFTER_LOGIN, StateRow::Pwd),
+        Command::Stat(None) => alone!(SERVED_AFTER_LOGIN, StateRow::Stat),
+        Command::Abor => alone!(SERVED_AFTER_LOGIN, StateRow::Abor),
+        Command::Cwd(text) => at!(
             AFTER_LOGIN,
             Letter::ChangeDirectory,
             text.as_str(),
-            FileRow::Cwd,
+            FileRow::Cwd
         ),
-        Command::Cdup => at(AFTER_LOGIN, Letter::ChangeDirectory, "..", FileRow::Cwd),
-        Command::Mkd(text) => at(
+        Command::Cdup => at!(AFTER_LOGIN, Letter::ChangeDirectory, "..", FileRow::Cwd),
+        Command::Mkd(text) => at!(
             AFTER_LOGIN,
             Letter::MakeDirectory,
             text.as_str(),
-            FileRow::Mkd,
+            FileRow::Mkd
         ),
-        Command::Rmd(text) => at(AFTER_LOGIN, Letter::Delete, text.as_str(), FileRow::Rmd),
-        Command::Dele(text) => at(AFTER_LOGIN, Letter::Delete, text.as_str(), FileRow::Dele),
-        Command::Rnfr(text) => at(KEEPING_SOURCE, Letter::Rename, text.as_str(), FileRow::Rnfr),
-        Command::Rnto(text) => at(FROM_SOURCE, Letter::Rename, text.as_str(), FileRow::Rnto),
-        Command::Size(text) => at(AFTER_LOGIN, Letter::Listing, text.as_str(), FileRow::Size),
-        Command::Mdtm(text) => at(AFTER_LOGIN, Letter::Listing, text.as_str(), FileRow::Mdtm),
-        Command::Stat(Some(text)) => at(AFTER_LOGIN, Letter::Listing, text.as_str(), FileRow::Stat),
-        Command::Mlst(text) => at(
+        Command::Rmd(text) => at!(AFTER_LOGIN, Letter::Delete, text.as_str(), FileRow::Rmd),
+        Command::Dele(text) => at!(AFTER_LOGIN, Letter::Delete, text.as_str(), FileRow::Dele),
+        Command::Rnfr(text) => at!(KEEPING_SOURCE, Letter::Rename, text.as_str(), FileRow::Rnfr),
+        Command::Rnto(text) => at!(FROM_SOURCE, Letter::Rename, text.as_str(), FileRow::Rnto),
+        Command::Size(text) => at!(AFTER_LOGIN, Letter::Listing, text.as_str(), FileRow::Size),
+        Command::Mdtm(text) => at!(AFTER_LOGIN, Letter::Listing, text.as_str(), FileRow::Mdtm),
+        Command::Stat(Some(text)) => at!(
+            AFTER_LOGIN,
+            Letter::Listing,
+            text.as_str(),
+            FileRow::Stat
+        ),
+        Command::Mlst(text) => at!(
             AFTER_LOGIN,
             Letter::Listing,
             text_or_none(text),
-            FileRow::Mlst,
+            FileRow::Mlst
         ),
-        Command::List(text) => at(MOVING, Letter::Listing, text_or_none(text), FileRow::List),
-        Command::Nlst(text) => at(MOVING, Letter::Listing, text_or_none(text), FileRow::Nlst),
-        Command::Mlsd(text) => at(MOVING, Letter::Listing, text_or_none(text), FileRow::Mlsd),
-        Command::Retr(text) => at(MOVING, Letter::Retrieve, text.as_str(), FileRow::Retr),
-        Command::Stor(text) => at(MOVING, Letter::Store, text.as_str(), FileRow::Stor),
-        Command::Appe(text) => at(
+        Command::List(text) => at!(MOVING, Letter::Listing, text_or_none(text), FileRow::List),
+        Command::Nlst(text) => at!(MOVING, Letter::Listing, text_or_none(text), FileRow::Nlst),
+        Command::Mlsd(text) => at!(MOVING, Letter::Listing, text_or_none(text), FileRow::Mlsd),
+        Command::Retr(text) => at!(MOVING, Letter::Retrieve, text.as_str(), FileRow::Retr),
+        Command::Stor(text) => at!(MOVING, Letter::Store, text.as_str(), FileRow::Stor),
+        Command::Appe(text) => at!(
             MOVING_FROM_START,
             Letter::AppendTo,
             text.as_str(),
-            FileRow::Appe,
+            FileRow::Appe
         ),
     }
 }
@@ -254,7 +262,7 @@ pub(crate) fn meanwhile_of<A: Allocator, R, K>(item: &LineItem<A>) -> Meanwhile
         → result ≡ meanwhile_of A R K users view moment (item_of item.now) }
 {
     match item {
-        LineItem::Command(command) => rule::<A, R, K>(command).conditions.meanwhile,
+        LineItem::Command(command) => rule_of::<A, R, K>(command).conditions.meanwhile,
         LineItem::Fault(_) => Meanwhile::Waits,
     }
 }

@@ -7,8 +7,8 @@ ghost use Rattle.session_table.specs.Plans.{Ran, Stops};
 ghost use Rattle.session_table.specs.Table.{left, ruled, served};
 
 use crate::order::refused_at_once;
-use crate::rows::row;
-use crate::rules::{Rule, rule};
+use crate::rows::carry_out;
+use crate::rules::{Rule, rule_of};
 use authorizer::Authorizer;
 use ftp_wire::LineItem;
 use rate_floors::Floors;
@@ -41,7 +41,7 @@ fn serve_rule<A: Allocator + Clone, F: Allocator + Clone, S: Store<A>>(
     if let Some(refusal) = refused_at_once(state, rule.conditions) {
         return state.refuse(refusal);
     }
-    row(state, users, floors, store, rule, moment)
+    carry_out(state, users, floors, store, rule, moment)
 }
 
 /// Forgets the path that RNFR named, unless the command keeps it, and the offset after a command that moves data.
@@ -83,7 +83,7 @@ pub(crate) fn serve<A: Allocator + Clone, F: Allocator + Clone, S: Store<A>>(
             Ok(actions)
         }
         LineItem::Command(command) => {
-            let rule = rule::<A, S::Source, S::Sink>(command);
+            let rule = rule_of::<A, S::Source, S::Sink>(command);
             let actions = serve_rule(state, users, floors, store, rule, moment)?;
             leave(state, rule.conditions);
             Ok(actions)

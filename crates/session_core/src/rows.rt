@@ -33,7 +33,7 @@ fn settle_login<A: Allocator + Clone, F: Allocator + Clone, R: Drop, K: Drop>(
     row: LoginRow<'_>,
 ) -> Result<Vec<Action<A, R, K>, A>, AllocError>
     ensures row { IfOk result (λ actions.
-        RanByFloors (login_row users.now.users state.old row)
+        RanByFloors (login_row users.now.users state.old row.entry)
         floors.old floors.new state.new actions.items) }
     ensures unchanged { OnErr result (state.new ≡ state.old) }
     ensures uncounted { OnErr result (floors.new ≡ floors.old) }
@@ -119,16 +119,16 @@ fn ask_at<A: Allocator + Clone, S: Store<A>>(
 ) -> Result<Vec<Action<A, S::Source, S::Sink>, A>, AllocError>
     ensures row { IfOk result (λ actions.
         RanByStore S.Step
-        (at_found state.old (file_row users.now.users state.old moment place.row)
-        (judged_at users.now.users state.old conditions place.letter
-        (located users.now.users state.old place.text.now)))
+        (at_found state.old (file_row users.now.users state.old moment place.entry.row)
+        (judged_at users.now.users state.old conditions place.entry.letter
+        (located users.now.users state.old place.entry.text.now)))
         store.old store.new state.new actions.items) }
     ensures unchanged { OnErr result (state.new ≡ state.old) }
     ensures stops { OnErr result (
         Stops {A = A} {R = S.Source} {K = S.Sink} S.Step
-        (at_found state.old (file_row users.now.users state.old moment place.row)
-        (judged_at users.now.users state.old conditions place.letter
-        (located users.now.users state.old place.text.now)))
+        (at_found state.old (file_row users.now.users state.old moment place.entry.row)
+        (judged_at users.now.users state.old conditions place.entry.letter
+        (located users.now.users state.old place.entry.text.now)))
         store.old store.new) }
 {
     match judge(state, users, conditions, place.letter, place.text)? {
@@ -148,14 +148,14 @@ pub(crate) fn carry_out<A: Allocator + Clone, F: Allocator + Clone, S: Store<A>>
 ) -> Result<Vec<Action<A, S::Source, S::Sink>, A>, AllocError>
     ensures row { IfOk result (λ actions.
         Ran S.Step
-        (row_plan users.now.users state.old rule.conditions
-        (row_of users.now.users state.old moment rule.row))
+        (row_plan users.now.users state.old rule.entry.conditions
+        (row_of users.now.users state.old moment rule.entry.row))
         store.old store.new floors.old floors.new state.new actions.items) }
     ensures unchanged { OnErr result (state.new ≡ state.old) }
     ensures stops { OnErr result (
         Stops {A = A} {R = S.Source} {K = S.Sink} S.Step
-        (row_plan users.now.users state.old rule.conditions
-        (row_of users.now.users state.old moment rule.row))
+        (row_plan users.now.users state.old rule.entry.conditions
+        (row_of users.now.users state.old moment rule.entry.row))
         store.old store.new) }
     ensures uncounted { OnErr result (floors.new ≡ floors.old) }
 {

@@ -29,12 +29,12 @@ fn serve_rule<A: Allocator + Clone, F: Allocator + Clone, S: Store<A>>(
 ) -> Result<Vec<Action<A, S::Source, S::Sink>, A>, AllocError>
     ensures row { IfOk result (λ actions.
         Ran S.Step
-        (ruled users.now.users state.old (ruling users.now.users state.old moment rule))
+        (ruled users.now.users state.old (ruling users.now.users state.old moment rule.entry))
         store.old store.new floors.old floors.new state.new actions.items) }
     ensures unchanged { OnErr result (state.new ≡ state.old) }
     ensures stops { OnErr result (
         Stops {A = A} {R = S.Source} {K = S.Sink} S.Step
-        (ruled users.now.users state.old (ruling users.now.users state.old moment rule))
+        (ruled users.now.users state.old (ruling users.now.users state.old moment rule.entry))
         store.old store.new) }
     ensures uncounted { OnErr result (floors.new ≡ floors.old) }
 {

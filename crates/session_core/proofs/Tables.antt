@@ -4,21 +4,17 @@ use Rattle.std.proofs.lemmas.Bool.{false≢true, lt-ltb, true≢false}
 use Rattle.authorizer.specs.Users.{Users}
 use Rattle.ftp_wire.specs.Items.{Item}
 use Rattle.ftp_wire.specs.Reading.{item_of}
-use Rattle.ftp_wire.specs.declared.commands.Command.TheVariants as command
 use Rattle.ftp_wire.specs.declared.items.LineItem.{LineItem}
-use Rattle.session_core.specs.Turns.{asks_store, closed_at, gives_up, is_login, ready_at, ready_in, taken_by, turn_of}
-use Rattle.session_core.specs.declared.turns.Turn.{Turn}
-use Rattle.session_core.specs.declared.turns.Turn.TheVariants as turn
-use Rattle.session_table.specs.declared.refusals.Refusal.{Refusal}
-use Rattle.session_table.specs.Commands.{Line}
-use Rattle.session_table.specs.Judged.{judged}
+use Rattle.session_core.specs.Rows.{meanwhile_of}
+use Rattle.session_core.specs.Turns.{closed_at, gives_up, ready_at, ready_in}
+use Rattle.session_table.specs.declared.rules.Meanwhile.{Meanwhile}
 use Rattle.session_table.specs.declared.inputs.End.{End}
 use Rattle.session_table.specs.declared.inputs.Input.{Input}
 use Rattle.session_table.specs.declared.inputs.Input.TheVariants as input
 use Rattle.session_table.specs.declared.stages.Control.{Control}
 use Rattle.session_table.specs.declared.stages.Control.TheVariants.{Open, Quitting, Closing}
 use Rattle.session_table.specs.Steps.{counts_lines, holds_some, is_due, is_open}
-use Rattle.session_table.specs.Table.{Taken, after_closed, beside, closed_row, controlled, ended_row, held_row, holds, idle, in_turn, meanwhile, most_held, open_row, served, table}
+use Rattle.session_table.specs.Table.{Taken, after_closed, beside, closed_row, controlled, ended_row, held_row, holds, idle, in_turn, meanwhile, meanwhile_as, most_held, open_row, served, table}
 use Rattle.session_table.specs.Views.{View, is_busy, is_closed}
 
 module _ {A R K : Type 0} (users : Users) (view : View) (held : List Item) (moment : ℕ) where
@@ -86,15 +82,12 @@ module _ {A R K : Type 0} (users : Users) (view : View) (held : List Item) (mome
       by false Closing = refl
 
   -- a line while something has begun, by what becomes of it
-  pub meanwhile_by : (item : Item) → meanwhile {A = A} {R = R} {K = K} users view held moment item ≡ taken_by users view held moment item (turn_of item)
-  meanwhile_by (Ok command.Abor) = refl
-  meanwhile_by (Ok command.Noop) = refl
-  meanwhile_by (Ok (command.Stat None)) = refl
-  meanwhile_by (Ok command.Quit) = refl
-  meanwhile_by _ = refl
+  pub meanwhile_is : (item : Item) → meanwhile {A = A} {R = R} {K = K} users view held moment item ≡ meanwhile_as view held item (served users view moment item) (meanwhile_of A R K users view moment item)
+  meanwhile_is (Err why) = refl
+  meanwhile_is (Ok line) = refl
 
-  pub meanwhile_at : (item : Item) (t : Turn) → turn_of item ≡ t → meanwhile {A = A} {R = R} {K = K} users view held moment item ≡ taken_by users view held moment item t
-  meanwhile_at item t is = meanwhile_by item ∙ ap (taken_by users view held moment item) is
+  pub meanwhile_at : (item : Item) (m : Meanwhile) → meanwhile_of A R K users view moment item ≡ m → meanwhile {A = A} {R = R} {K = K} users view held moment item ≡ meanwhile_as view held item (served users view moment item) m
+  meanwhile_at item m is = meanwhile_is item ∙ ap (meanwhile_as view held item (served users view moment item)) is
 
   -- a line, while something has begun and while nothing has
   pub at_busy_line : (item : LineItem A) → counts_lines view ≡ true → is_busy view.begun ≡ true

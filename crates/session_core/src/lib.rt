@@ -1,7 +1,7 @@
 //! The session machine: `step` is the row of the session table for each input.
 //!
-//! `order.rt` finds the first refusal of a line, or the location of its command; `served.rt` serves a line that is not
-//! refused.
+//! `rules.rt` has the rule of each command; `order.rt` finds its first refusal, or the location of its row; `rows.rt`
+//! carries the rows out.
 //!
 //! ```text
 //! let mut session = Session::new(rt.alloc(), settings(), PEER)?; // of a client at that address
@@ -13,14 +13,12 @@
 //! ```
 #![tactic(auto)]
 
-mod asking;
-mod commands;
 mod events;
 mod order;
+mod rows;
+mod rules;
 mod served;
 mod session;
-mod settled;
-mod turns;
 
 pub use events::DataEvent;
 pub use session::{MOST_HELD, Session};

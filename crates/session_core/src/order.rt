@@ -1,17 +1,13 @@
 //! The refusals of a line, in their order.
 
 ghost use Rattle.std.specs.Prelude.{◌≡◌, IfOk};
-ghost use Rattle.std.specs.String.{string_bytes};
-ghost use Rattle.ftp_wire.specs.Commands.{with_texts};
-ghost use Rattle.session_table.specs.Judged.{at_once, at_location, first_refusal, home_of, judged, judged_at, located, stored_at};
+ghost use Rattle.session_table.specs.Judged.{at_once, at_location, first_refusal, home_of, judged_at, located, stored_at};
 ghost use Rattle.virtual_path.specs.Path.{joined, resolved};
 
-use crate::commands::{asked, is_appe, is_rnto, needs_data, needs_login, needs_plain};
 use authorizer::Authorizer;
 use ftp_terms::Letter;
-use ftp_wire::Command;
 use session_state::{Location, State};
-use session_table::Refusal;
+use session_table::{Conditions, Refusal};
 use std::alloc::{AllocError, Allocator};
 use virtual_path::{PathFault, VPath};
 
@@ -78,23 +74,22 @@ fn located<A: Allocator + Clone>(
 }
 
 /// The first refusal that does not depend on the path.
-fn refused_at_once<A: Allocator + Clone>(
+pub(crate) fn refused_at_once<A: Allocator + Clone>(
     state: &State<A>,
-    command: &Command<String<A>>,
+    conditions: Conditions,
 ) -> Option<Refusal>
-    ensures refusal { result
-        ≡ first_refusal (at_once state.now (with_texts string_bytes command.now)) }
+    ensures refusal { result ≡ first_refusal (at_once state.now conditions) }
 {
-    if needs_login(command) && !state.is_inside() {
+    if conditions.needs_login && !state.is_inside() {
         return Some(Refusal::LogInFirst);
     }
-    if is_rnto(command) && state.source().is_none() {
+    if conditions.needs_source && state.source().is_none() {
         return Some(Refusal::NoSource);
     }
-    if is_appe(command) && state.offset() > 0 {
+    if conditions.needs_no_offset && state.offset() > 0 {
         return Some(Refusal::OffsetBeforeAppend);
     }
-    if needs_plain(command) && state.forbids_plain() {
+    if conditions.needs_plain && state.forbids_plain() {
         return Some(Refusal::OnlyExtended);
     }
     None
@@ -104,64 +99,46 @@ fn refused_at_once<A: Allocator + Clone>(
 fn refused_at_location<A: Allocator + Clone>(
     state: &State<A>,
     users: &Authorizer<A>,
-    command: &Command<String<A>>,
+    conditions: Conditions,
     letter: Letter,
     path: &VPath<A>,
 ) -> Option<Refusal>
     ensures refusal { result
-        ≡ first_refusal
-        (at_location users.now.users state.now (with_texts string_bytes command.now)
-        letter path.now) }
+        ≡ first_refusal (at_location users.now.users state.now conditions letter path.now) }
 {
     if !users.has_perm(state.name(), letter, path) {
         return Some(Refusal::NotPermitted);
     }
-    if needs_data(command) && !state.is_prepared() {
+    if conditions.moves_data && !state.is_prepared() {
         return Some(Refusal::NothingPrepared);
     }
     None
 }
 
-fn judge_path<A: Allocator + Clone>(
+/// The location of a text for users who have the letter there, or the first refusal. `Err` is lack of memory.
+pub(crate) fn judge<A: Allocator + Clone>(
     state: &State<A>,
     users: &Authorizer<A>,
-    command: &Command<String<A>>,
+    conditions: Conditions,
     letter: Letter,
     text: &str,
 ) -> Result<Result<Location<A>, Refusal>, AllocError>
     ensures judged { IfOk result (λ found.
         found
-        ≡ judged_at users.now.users state.now (with_texts string_bytes command.now)
+        ≡ judged_at users.now.users state.now conditions
         letter (located users.now.users state.now text.now)) }
 {
     match located(state, users, text)? {
         Err(fault) => Ok(Err(Refusal::Path(fault))),
-        Ok(location) => match refused_at_location(state, users, command, letter, location.path()) {
+        Ok(location) => match refused_at_location(
+            state,
+            users,
+            conditions,
+            letter,
+            location.path(),
+        ) {
             Some(refusal) => Ok(Err(refusal)),
             None => Ok(Ok(location)),
         },
-    }
-}
-
-/// The first refusal of a command, or its location. `Err` is lack of memory.
-#[tactic(auto, unfolding(session_table::specs::Judged::judged))]
-pub(crate) fn judge<A: Allocator + Clone>(
-    state: &State<A>,
-    users: &Authorizer<A>,
-    command: &Command<String<A>>,
-) -> Result<Result<Location<A>, Refusal>, AllocError>
-    ensures judged { IfOk result (λ found.
-        found ≡ judged users.now.users state.now (with_texts string_bytes command.now)) }
-{
-    if let Some(refusal) = refused_at_once(state, command) {
-        return Ok(Err(refusal));
-    }
-    match asked(command) {
-        Some((letter, text)) => judge_path(state, users, command, letter, text),
-        None => {
-            let root = VPath::root(state.alloc()?);
-            let stored = VPath::root(state.alloc()?);
-            Ok(Ok(Location::new(root, stored)))
-        }
     }
 }

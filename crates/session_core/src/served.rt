@@ -1,91 +1,57 @@
-//! One served line: the first refusal, or the row of its command.
+//! One served line: the first refusal of its rule, or its row.
 
 ghost use Rattle.std.specs.Prelude.{◌≡◌, IfOk, OnErr};
-ghost use Rattle.std.specs.String.{string_bytes};
-ghost use Rattle.ftp_wire.specs.Commands.{with_texts};
 ghost use Rattle.ftp_wire.specs.Reading.{item_of};
-ghost use Rattle.session_table.specs.Judged.{judged};
+ghost use Rattle.session_core.specs.Rows.{ruling};
 ghost use Rattle.session_table.specs.Plans.{Ran, Stops};
-ghost use Rattle.session_table.specs.Table.{judged_row, left, row, served};
+ghost use Rattle.session_table.specs.Table.{left, ruled, served};
 
-use crate::asking::ask;
-use crate::commands::{is_rnfr, needs_data};
-use crate::order::judge;
-use crate::settled::settle;
-use crate::turns::asks_store;
+use crate::order::refused_at_once;
+use crate::rows::carry_out;
+use crate::rules::{Rule, rule_of};
 use authorizer::Authorizer;
-use ftp_wire::{Command, LineItem};
+use ftp_wire::LineItem;
 use rate_floors::Floors;
-use session_state::{Location, State};
-use session_table::{Action, Answer};
+use session_state::State;
+use session_table::{Action, Answer, Conditions};
 use std::alloc::{AllocError, Allocator};
 use virtual_tree::Store;
 
-/// The row of a command that is not refused, at its location.
-fn row<A: Allocator + Clone, F: Allocator + Clone, S: Store<A>>(
+/// The first refusal of a rule, or its row.
+#[tactic(auto, unfolding(session_table::specs::Table::ruled))]
+fn serve_rule<A: Allocator + Clone, F: Allocator + Clone, S: Store<A>>(
     state: &mut State<A>,
     users: &Authorizer<A>,
     floors: &mut Floors<F>,
     store: &mut S,
-    command: &Command<String<A>>,
-    location: Location<A>,
+    rule: Rule<'_>,
     moment: u64,
 ) -> Result<Vec<Action<A, S::Source, S::Sink>, A>, AllocError>
     ensures row { IfOk result (λ actions.
         Ran S.Step
-        (row users.now.users state.old moment location (with_texts string_bytes command.now))
+        (ruled users.now.users state.old (ruling users.now.users state.old moment rule.entry))
         store.old store.new floors.old floors.new state.new actions.items) }
     ensures unchanged { OnErr result (state.new ≡ state.old) }
     ensures stops { OnErr result (
         Stops {A = A} {R = S.Source} {K = S.Sink} S.Step
-        (row users.now.users state.old moment location (with_texts string_bytes command.now))
+        (ruled users.now.users state.old (ruling users.now.users state.old moment rule.entry))
         store.old store.new) }
     ensures uncounted { OnErr result (floors.new ≡ floors.old) }
 {
-    if asks_store(command) {
-        return ask(state, users, store, command, location, moment);
+    if let Some(refusal) = refused_at_once(state, rule.conditions) {
+        return state.refuse(refusal);
     }
-    settle(state, users, floors, command)
+    carry_out(state, users, floors, store, rule, moment)
 }
 
-/// The first refusal of a command, or its row.
-fn serve_judged<A: Allocator + Clone, F: Allocator + Clone, S: Store<A>>(
-    state: &mut State<A>,
-    users: &Authorizer<A>,
-    floors: &mut Floors<F>,
-    store: &mut S,
-    command: &Command<String<A>>,
-    moment: u64,
-) -> Result<Vec<Action<A, S::Source, S::Sink>, A>, AllocError>
-    ensures row { IfOk result (λ actions.
-        Ran S.Step
-        (judged_row users.now.users state.old moment
-        (with_texts string_bytes command.now)
-        (judged users.now.users state.old (with_texts string_bytes command.now)))
-        store.old store.new floors.old floors.new state.new actions.items) }
-    ensures unchanged { OnErr result (state.new ≡ state.old) }
-    ensures stops { OnErr result (
-        Stops {A = A} {R = S.Source} {K = S.Sink} S.Step
-        (judged_row users.now.users state.old moment
-        (with_texts string_bytes command.now)
-        (judged users.now.users state.old (with_texts string_bytes command.now)))
-        store.old store.new) }
-    ensures uncounted { OnErr result (floors.new ≡ floors.old) }
+/// Forgets the path that RNFR named, unless the command keeps it, and the offset after a command that moves data.
+fn leave<A: Allocator + Clone>(state: &mut State<A>, conditions: Conditions)
+    ensures left { state.new ≡ left conditions state.old }
 {
-    match judge(state, users, command)? {
-        Err(refusal) => state.refuse(refusal),
-        Ok(location) => row(state, users, floors, store, command, location, moment),
-    }
-}
-
-/// Forgets the path that RNFR named, unless this is RNFR, and the offset after a command that moves data.
-fn leave<A: Allocator + Clone>(state: &mut State<A>, command: &Command<String<A>>)
-    ensures left { state.new ≡ left (with_texts string_bytes command.now) state.old }
-{
-    if !is_rnfr(command) {
+    if !conditions.keeps_source {
         state.forget_source();
     }
-    if needs_data(command) && state.is_inside() {
+    if conditions.moves_data && state.is_inside() {
         state.set_offset(0);
     }
 }
@@ -117,8 +83,9 @@ pub(crate) fn serve<A: Allocator + Clone, F: Allocator + Clone, S: Store<A>>(
             Ok(actions)
         }
         LineItem::Command(command) => {
-            let actions = serve_judged(state, users, floors, store, command, moment)?;
-            leave(state, command);
+            let rule = rule_of::<A, S::Source, S::Sink>(command);
+            let actions = serve_rule(state, users, floors, store, rule, moment)?;
+            leave(state, rule.conditions);
             Ok(actions)
         }
     }

@@ -5,15 +5,15 @@ ghost use Rattle.session_core.specs.Turns.{IsTaken, closed_at, gives_up, ready_a
 ghost use Rattle.session_table.specs.declared.inputs.Input.TheVariants.{Held, Line};
 
 use crate::events::lacking;
+use crate::rules::{is_pass, meanwhile_of};
 use crate::served::serve;
-use crate::turns::{Turn, is_pass, turn_of};
 use authorizer::Authorizer;
 use ftp_wire::LineItem;
 use rate_floors::Floors;
 use session_events::{close, take_port};
 use session_state::{State, put, put_abort, room_for};
 use session_state_rows::greet;
-use session_table::{Action, Answer, Control, Input, Refusal, Settings, Stage};
+use session_table::{Action, Answer, Control, Input, Meanwhile, Refusal, Settings, Stage};
 use std::alloc::{AllocError, Allocator, Global};
 use std::marker::Model;
 use virtual_tree::Store;
@@ -174,19 +174,19 @@ impl<A: Allocator + Clone> Session<A> {
             (item_of item)).plan store.old store.new) }
         ensures uncounted { OnErr result (floors.new ≡ floors.old) }
     {
-        match turn_of(&item) {
-            Turn::AtOnce => {
+        match meanwhile_of::<A, S::Source, S::Sink>(&item) {
+            Meanwhile::Served => {
                 let answer = serve(&mut self.state, users, floors, store, &item, moment);
                 drop(item);
                 answer
             }
-            Turn::AtTheEnd => {
+            Meanwhile::QuitsLater => {
                 drop(item);
                 let actions = self.nothing()?;
                 self.state.await_quit();
                 Ok(actions)
             }
-            Turn::Held => self.hold(item),
+            Meanwhile::Waits => self.hold(item),
         }
     }
 

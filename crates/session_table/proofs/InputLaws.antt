@@ -1,14 +1,15 @@
 -- What each input does, and never does.
-use Rattle.std.proofs.Common.{◌≡◌, ℕ, ◌+◌, ◌≤◌, Bool, true, false, cond, not, ◌&&◌, List, [], ◌∷◌, ◌++◌, length, length-append, Option, Some, None, Result, Ok, refl, sym, ap, ◌∙◌, inl, inr, arith, nat_lt}
+use Rattle.std.proofs.Common.{◌≡◌, ℕ, ◌≤◌, Bool, true, false, cond, not, ◌&&◌, List, [], ◌∷◌, ◌++◌, length, length-append, Option, Some, None, Result, Ok, refl, sym, ap, ◌∙◌, inl, inr, arith, nat_lt}
 use Rattle.std.proofs.lemmas.Bool.{false≢true, ltb-true}
 use Rattle.authorizer.specs.Users.{Users}
+use Rattle.ftp_terms.specs.declared.letters.Letter.{Letter}
 use Rattle.ftp_wire.specs.Items.{Item}
 use Rattle.ftp_wire.specs.Reading.{item_of}
 use Rattle.ftp_wire.specs.declared.commands.Command.TheVariants as command
 use Rattle.ftp_wire.specs.declared.items.LineItem.{LineItem}
 use Rattle.virtual_tree.specs.declared.fault.StoreFault.{StoreFault}
 use Rattle.session_table.specs.Always.{Always}
-use Rattle.session_table.specs.Laws.{AdmissionsAreRightful, CallsAreRightful, FewLinesAreHeld, FloorsAreReleasedOnce, NoCallsOutside, NoTransferUnprepared, OneThingIsAsked, OthersAskNoFloors, IsAllowedCall, IsReturned, IsRightful, IsRightfulAdmission, Releases, asking, logged_in, most_asked, releases, starting}
+use Rattle.session_table.specs.Laws.{AdmissionsAreRightful, CallsAreRightful, FewLinesAreHeld, FloorsAreReleasedOnce, NoCallsOutside, NoTransferUnprepared, OneThingIsAsked, OthersAskNoFloors, IsAllowedCall, IsAllowedFor, IsReturned, IsRightful, IsRightfulAdmission, Releases, asking, logged_in, most_asked, releases, starting}
 use Rattle.session_table.proofs.Keeping.{always_cond, always_taken, always_to}
 use Rattle.session_table.proofs.Rows.{CallFor, Fine, Quiet, UserFor, parting, quiet_then, served_fine, stays}
 use Rattle.session_table.specs.declared.actions.Action.{Action}
@@ -26,10 +27,11 @@ use Rattle.session_table.specs.declared.stages.Control.TheVariants.{Open, Quitti
 use Rattle.session_table.specs.declared.stages.Passive.{Passive}
 use Rattle.session_table.specs.Plans.{Plan}
 use Rattle.session_table.specs.Plans.Plan.{Then}
-use Rattle.session_table.specs.Steps.{asks_floors, in_its_turn, is_open, is_pass, is_pass_turn, serves_lines}
+use Rattle.session_table.specs.Steps.{in_its_turn, is_open, is_pass, is_pass_turn, serves_lines}
 use Rattle.session_table.specs.Table.{Taken, aborts, after_closed, and_quits, beside, closed_row, controlled, end_hook, end_reply, end_row, end_told, ended_by, ended_row, ended_with, held_row, holds, idle, in_turn, meanwhile, most_held, ready_as, ready_by, ready_row, served, table}
 use Rattle.session_table.specs.Calls.{Call}
-use Rattle.session_table.specs.Commands.{Line}
+use Rattle.session_table.specs.Rules.{Row}
+use Rattle.session_table.specs.Rules.Row.{Alone, At}
 use Rattle.session_table.specs.Views.{View, Begun, Carried, awaited, is_aborted, is_busy, is_closed, is_inside, running, runs}
 use Rattle.session_table.specs.Views.Begun.{Idle}
 use Rattle.session_table.specs.Views.Carried.{Listing as listing, Sending, Taking}
@@ -126,16 +128,16 @@ module _ (A R K : Type 0) where
   over end sink = input.TransferEnded end sink
 
   ended_fine : (U : ℕ → Type 0) (users : Users) (view : View) (held : List Item) (moment : ℕ) (end : End) (sink : Option K)
-      → Always (IsRightful users view held moment (over end sink)) U (Fine A R K view 0) [] (ended_row users view moment end sink)
+      → Always (IsRightful A R K users view held moment (over end sink)) U (Fine A R K view 0) [] (ended_row users view moment end sink)
   ended_fine U users view held moment end sink = by sink (running view.begun)
     where
       with : (sink : Option K) (errand : Carried)
-          → Always (IsRightful users view held moment (over end sink)) U (Fine A R K view 0) [] (ended_with users view moment errand (is_aborted view.begun) end sink)
-      with (Some sink) errand = (inl (refl, refl), λ answer. end_fine (IsRightful users view held moment (over end (Some sink))) U users view errand (is_aborted view.begun) end answer)
-      with None errand = end_fine (IsRightful users view held moment (over end None)) U users view errand (is_aborted view.begun) end (Ok tt)
+          → Always (IsRightful A R K users view held moment (over end sink)) U (Fine A R K view 0) [] (ended_with users view moment errand (is_aborted view.begun) end sink)
+      with (Some sink) errand = (inl (refl, refl), λ answer. end_fine (IsRightful A R K users view held moment (over end (Some sink))) U users view errand (is_aborted view.begun) end answer)
+      with None errand = end_fine (IsRightful A R K users view held moment (over end None)) U users view errand (is_aborted view.begun) end (Ok tt)
 
       by : (sink : Option K) (errand : Option Carried)
-          → Always (IsRightful users view held moment (over end sink)) U (Fine A R K view 0) [] (ended_by users view moment end sink errand)
+          → Always (IsRightful A R K users view held moment (over end sink)) U (Fine A R K view 0) [] (ended_by users view moment end sink errand)
       by sink None = stays A R K view view 0 [] none refl
       by sink (Some errand) = with sink errand
 
@@ -170,7 +172,7 @@ module _ (A R K : Type 0) where
     meanwhile_fine U held item = holds_fine (CallFor A R K users view moment item) U held item
 
     abbrev Rightful : List Item → Input A K → Call K → Type 0
-    Rightful held told = IsRightful users view held moment told
+    Rightful held told = IsRightful A R K users view held moment told
 
     -- what is said of a line that is served holds of the input that it came with
     comes : (U V : ℕ → Type 0) (held : List Item) (item : LineItem A) (plan : Plan A R K) → ((number : ℕ) → U number → V number)
@@ -223,47 +225,47 @@ module _ (A R K : Type 0) where
     EndAt told = Fine A R K view (most_asked told)
 
     abbrev pub CallAt : Input A K → Call K → Type 0
-    CallAt told = IsRightful users view held moment told
+    CallAt told = IsRightful A R K users view held moment told
 
     abbrev pub UserAt : Input A K → ℕ → Type 0
     UserAt told = IsRightfulAdmission users view held told
 
-    abbrev At : Input A K → Bool → Control → Type 0
-    At told closed control = Always (CallAt told) (UserAt told) (EndAt told) []
+    abbrev Within : Input A K → Bool → Control → Type 0
+    Within told closed control = Always (CallAt told) (UserAt told) (EndAt told) []
         (cond closed (beside held (after_closed users view moment told)) (controlled {A = A} {R = R} {K = K} users view held moment told control)).plan
 
     pub input_fine : (told : Input A K) → Always (CallAt told) (UserAt told) (EndAt told) [] (table {A = A} {R = R} {K = K} users view held moment told).plan
     input_fine (input.Line item) = by (is_closed view.stage) view.control refl refl
       where
-        by : (closed : Bool) (control : Control) → is_closed view.stage ≡ closed → view.control ≡ control → At (input.Line item) closed control
+        by : (closed : Bool) (control : Control) → is_closed view.stage ≡ closed → view.control ≡ control → Within (input.Line item) closed control
         by true control _ _ = idle_fine users view moment (CallAt (input.Line item)) (UserAt (input.Line item))
         by false Open stage_is control_is = line_fine users view moment item held (is_busy view.begun) (serves_by view stage_is control_is)
         by false Quitting _ _ = idle_fine users view moment (CallAt (input.Line item)) (UserAt (input.Line item))
         by false Closing _ _ = idle_fine users view moment (CallAt (input.Line item)) (UserAt (input.Line item))
     input_fine input.Held = by (is_closed view.stage) view.control refl refl
       where
-        by : (closed : Bool) (control : Control) → is_closed view.stage ≡ closed → view.control ≡ control → At input.Held closed control
+        by : (closed : Bool) (control : Control) → is_closed view.stage ≡ closed → view.control ≡ control → Within input.Held closed control
         by true control _ _ = idle_fine users view moment (CallAt input.Held) (UserAt input.Held)
         by false Open stage_is control_is = held_fine users view moment held (is_busy view.begun) (serves_by view stage_is control_is)
         by false Quitting _ _ = idle_fine users view moment (CallAt input.Held) (UserAt input.Held)
         by false Closing _ _ = idle_fine users view moment (CallAt input.Held) (UserAt input.Held)
     input_fine (input.TransferEnded end sink) = by (is_closed view.stage) view.control
       where
-        by : (closed : Bool) (control : Control) → At (input.TransferEnded end sink) closed control
+        by : (closed : Bool) (control : Control) → Within (input.TransferEnded end sink) closed control
         by true control = ended_fine (UserAt (input.TransferEnded end sink)) users view held moment end sink
         by false Open = ended_fine (UserAt (input.TransferEnded end sink)) users view held moment end sink
         by false Quitting = ended_fine (UserAt (input.TransferEnded end sink)) users view held moment end sink
         by false Closing = ended_fine (UserAt (input.TransferEnded end sink)) users view held moment end sink
     input_fine (input.DataReady port) = by (is_closed view.stage) view.control
       where
-        by : (closed : Bool) (control : Control) → At (input.DataReady port) closed control
+        by : (closed : Bool) (control : Control) → Within (input.DataReady port) closed control
         by true control = rests_fine (CallAt (input.DataReady port)) (UserAt (input.DataReady port)) users view
         by false Open = ready_fine (CallAt (input.DataReady port)) (UserAt (input.DataReady port)) users view port
         by false Quitting = ready_fine (CallAt (input.DataReady port)) (UserAt (input.DataReady port)) users view port
         by false Closing = rests_fine (CallAt (input.DataReady port)) (UserAt (input.DataReady port)) users view
     input_fine input.Closed = by (is_closed view.stage) view.control
       where
-        by : (closed : Bool) (control : Control) → At input.Closed closed control
+        by : (closed : Bool) (control : Control) → Within input.Closed closed control
         by true control = rests_fine (CallAt input.Closed) (UserAt input.Closed) users view
         by false Open = closed_fine (CallAt input.Closed) (UserAt input.Closed) users view
         by false Quitting = closed_fine (CallAt input.Closed) (UserAt input.Closed) users view
@@ -271,21 +273,25 @@ module _ (A R K : Type 0) where
 
 -- ---- calls while nobody is logged in
 
-allowed_inside : {K : Type 0} (users : Users) (view : View) (line : Line) (call : Call K) → IsAllowedCall users view line call → is_inside view.stage ≡ true
-allowed_inside users view line (Call.Stat path) is = is.inside
-allowed_inside users view line (Call.Listing path) is = is.inside
-allowed_inside users view line (Call.OpenRead path offset) is = is.inside
-allowed_inside users view line (Call.OpenWrite path mode moment) is = is.inside
-allowed_inside users view line (Call.Finish sink moment) is = absurd is
-allowed_inside users view line (Call.MakeDir path) is = is.inside
-allowed_inside users view line (Call.RemoveDir path) is = is.inside
-allowed_inside users view line (Call.RemoveFile path) is = is.inside
-allowed_inside users view line (Call.Rename from to) is = is.1.inside
+allowed_inside : {K : Type 0} (users : Users) (view : View) (letter : Letter) (text : List ℕ) (call : Call K) → IsAllowedCall users view letter text call → is_inside view.stage ≡ true
+allowed_inside users view letter text (Call.Stat path) is = is.inside
+allowed_inside users view letter text (Call.Listing path) is = is.inside
+allowed_inside users view letter text (Call.OpenRead path offset) is = is.inside
+allowed_inside users view letter text (Call.OpenWrite path mode moment) is = is.inside
+allowed_inside users view letter text (Call.Finish sink moment) is = absurd is
+allowed_inside users view letter text (Call.MakeDir path) is = is.inside
+allowed_inside users view letter text (Call.RemoveDir path) is = is.inside
+allowed_inside users view letter text (Call.RemoveFile path) is = is.inside
+allowed_inside users view letter text (Call.Rename from to) is = is.1.inside
 
-pub outside : {A K : Type 0} (users : Users) (view : View) (held : List Item) (moment : ℕ) (told : Input A K) (call : Call K)
-    → is_inside view.stage ≡ false → IsRightful users view held moment told call → IsReturned told moment call
-outside users view held moment told call not (inl returned) = returned
-outside users view held moment told call not (inr allowed) = absurd (false≢true (sym not ∙ allowed_inside users view allowed.0 call allowed.2))
+row_inside : {A R K : Type 0} (users : Users) (view : View) (row : Row A R K) (call : Call K) → IsAllowedFor users view row call → is_inside view.stage ≡ true
+row_inside users view (Alone plan) call is = absurd is
+row_inside users view (At letter text row) call is = allowed_inside users view letter text call is
+
+pub outside : (A R K : Type 0) (users : Users) (view : View) (held : List Item) (moment : ℕ) (told : Input A K) (call : Call K)
+    → is_inside view.stage ≡ false → IsRightful A R K users view held moment told call → IsReturned told moment call
+outside A R K users view held moment told call not (inl returned) = returned
+outside A R K users view held moment told call not (inr allowed) = absurd (false≢true (sym not ∙ row_inside users view _ call allowed.2))
 
 -- ---- held lines
 
@@ -353,7 +359,7 @@ calls_are_rightful A R K = λ users view held moment told.
 pub no_calls_outside : (A R K : Type 0) → NoCallsOutside A R K
 unfolding NoCallsOutside
 no_calls_outside A R K = λ users view held moment told not.
-    weaker A R K users view held moment told (IsReturned told moment) (λ number. Unit {0}) (λ admitted after actions. Unit {0}) (λ call allowed. outside users view held moment told call not allowed) (λ number user. tt) (λ admitted after actions end. tt)
+    weaker A R K users view held moment told (IsReturned told moment) (λ number. Unit {0}) (λ admitted after actions. Unit {0}) (λ call allowed. outside A R K users view held moment told call not allowed) (λ number user. tt) (λ admitted after actions end. tt)
 
 pub no_transfer_unprepared : (A R K : Type 0) → NoTransferUnprepared A R K
 unfolding NoTransferUnprepared

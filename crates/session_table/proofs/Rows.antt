@@ -1,5 +1,5 @@
 -- What each row of the table does, and never does.
-use Rattle.std.proofs.Common.{◌==◌, ◌≡◌, ℕ, ◌+◌, ◌≤◌, Bool, true, false, cond, not, ◌&&◌, List, [], ◌∷◌, ◌++◌, Option, Some, None, Result, Ok, Err, unwrap_or, is_some, is_none, refl, sym, ap, ◌∙◌, subst, inl, inr, arith, nat_lt, append_assoc}
+use Rattle.std.proofs.Common.{◌==◌, ◌≡◌, ℕ, ◌+◌, ◌≤◌, Bool, true, false, cond, not, ◌&&◌, List, [], ◌∷◌, ◌++◌, Option, Some, None, Result, Ok, Err, unwrap_or, is_some, refl, sym, ap, ◌∙◌, subst, inl, inr, arith, append_assoc}
 use Rattle.std.proofs.lemmas.Bool.{false≢true, not-false, true≢false}
 use Rattle.authorizer.specs.Users.{Users, allowed}
 use Rattle.authorizer.specs.Changes.{is_password}
@@ -21,7 +21,7 @@ use Rattle.virtual_path.specs.declared.fault.PathFault.{PathFault}
 use Rattle.virtual_tree.specs.Calls.{Entry}
 use Rattle.virtual_tree.specs.declared.fault.StoreFault.{StoreFault}
 use Rattle.session_table.specs.Always.{Always}
-use Rattle.session_table.specs.Laws.{IsAllowedAt, IsAllowedCall, Releases, asking, logged_in, release_by, releases, starting}
+use Rattle.session_table.specs.Laws.{IsAllowedAt, IsAllowedCall, IsAllowedFor, Releases, asking, logged_in, release_by, releases, starting}
 use Rattle.session_table.proofs.Keeping.{always_cond, always_left, always_to}
 use Rattle.session_table.specs.declared.actions.Action.{Action}
 use Rattle.session_table.specs.declared.actions.Action.TheVariants as action
@@ -31,6 +31,7 @@ use Rattle.session_table.specs.declared.answers.Answer.{Answer}
 use Rattle.session_table.specs.declared.answers.Answer.TheVariants as answer
 use Rattle.session_table.specs.declared.refusals.Refusal.{Refusal}
 use Rattle.session_table.specs.declared.refusals.Refusal.TheVariants as refusal
+use Rattle.session_table.specs.declared.rules.Conditions.{Conditions}
 use Rattle.session_table.specs.declared.stages.Passive.{Passive}
 use Rattle.session_table.specs.declared.stages.Passive.TheVariants.{Plain, Extended}
 use Rattle.session_table.specs.declared.notices.Notice.TheVariants as notice
@@ -38,21 +39,97 @@ use Rattle.session_table.specs.declared.stages.Stage.{Stage}
 use Rattle.session_table.specs.declared.stages.Stage.TheVariants as stage
 use Rattle.session_table.specs.Calls.{Call}
 use Rattle.session_table.specs.Calls.Call.{Stat}
-use Rattle.session_table.specs.Commands.{Line, asked, is_appe, is_rnto, needs_data, needs_login, needs_plain}
 use Rattle.session_table.specs.FileRows.{cwd_by, cwd_row, dele_row, goes_to, is_root, mdtm_by, mdtm_row, mkd_row, moment_of, rmd_row, rnfr_by, rnfr_row, rnto_from, size_by, size_of, size_row}
-use Rattle.session_table.specs.Judged.{Location, at_location, first_refusal, from_home, home_of, judged, judged_at, judged_path, located, stored_at, unless_refused}
+use Rattle.session_table.specs.Judged.{Location, at_location, at_once, first_refusal, from_home, home_of, judged_at, located, stored_at, unless_refused}
 use Rattle.session_table.specs.Plans.{Plan}
 use Rattle.session_table.specs.Plans.Plan.{Ask, AskAdmit}
 use Rattle.session_table.specs.StateRows.{abor_row, enters, eprt_row, epsv_row, farewell, is_ascii, is_last_attempt, leaves, needs_image, number_of, opens, opts_row, pass_by, port_by, port_refusal, quit_row, refuses, rest_row, turned_away}
-use Rattle.session_table.specs.Table.{judged_row, left, row, served}
+use Rattle.session_table.specs.Rules.{Line, Row, Rule, rule}
+use Rattle.session_table.specs.Rules.Row.{Alone, At}
+use Rattle.session_table.specs.Table.{at_found, left, row_plan, ruled, served, unless_refuses}
 use Rattle.session_table.specs.TransferRows.{Style, appe_row, list_row, listed_by, looked_by, looked_in, mlsd_row, mlst_by, mlst_row, retr_row, sends, starts, stat_row, stor_row, takes}
 use Rattle.session_table.specs.TransferRows.Style.{LongLines, Names}
 use Rattle.session_table.specs.Views.{View, Carried, anew, has_transfer, is_inside}
 
--- what is known of a command that is not refused, at the location that it names
-pub record IsJudged (users : Users) (view : View) (line : Line) (stored : Path) : Type 0 where
-  pub at : (wanted : Letter × List ℕ) → asked line ≡ Some wanted → IsAllowedAt users view line stored
-  pub prepared : needs_data line ≡ true → view.prepared ≡ true
+-- ---- refusals
+
+abbrev ok_of : {X Y : Type 0} → X → Result X Y → X
+ok_of otherwise (Ok x) = x
+ok_of otherwise (Err y) = otherwise
+
+abbrev is_good : {X Y : Type 0} → Result X Y → Bool
+is_good (Ok x) = true
+is_good (Err y) = false
+
+-- where the text leads, as far as it is known
+record Leads (users : Users) (view : View) (text : List ℕ) (location : Location) : Type 0 where
+  names : resolved view.cwd text ≡ Ok location.path
+  stands : joined (home_of users view.name) location.path ≡ Ok location.stored
+
+leads : (users : Users) (view : View) (text : List ℕ) (location : Location) → located users view text ≡ Ok location → Leads users view text location
+leads users view text location e = by (resolved view.cwd text) refl e
+  where
+    stood : (path : Path) → resolved view.cwd text ≡ Ok path → (stored : Result Path PathFault) → joined (home_of users view.name) path ≡ stored → stored_at path stored ≡ Ok location → Leads users view text location
+    stood path is (Err fault) where_stored e = absurd (false≢true (ap is_good e))
+    stood path is (Ok stored) where_stored e =
+        subst (λ (at : Location). Leads users view text at) (ap (ok_of (record { path = path; stored = stored })) e) (record { names = is; stands = where_stored })
+
+    by : (found : Result Path PathFault) → resolved view.cwd text ≡ found → from_home (home_of users view.name) found ≡ Ok location → Leads users view text location
+    by (Err fault) is e = absurd (false≢true (ap is_good e))
+    by (Ok path) is e = stood path is (joined (home_of users view.name) path) refl e
+
+-- the first condition of a refusal does not hold, and none of the others
+none_holds : (holds : Bool) (why : Refusal) (others : Option Refusal) → cond holds (Some why) others ≡ None → (holds ≡ false) × (others ≡ None)
+none_holds true why others e = absurd (true≢false (ap is_some e))
+none_holds false why others e = (refl, e)
+
+from_and : (a b : Bool) → (a && not b) ≡ false → a ≡ true → b ≡ true
+from_and true b e is = not-false b e
+from_and false b e is = absurd (false≢true is)
+
+-- ---- a rule
+
+module _ (A R K : Type 0) (users : Users) (view : View) (U : ℕ → Type 0) (E : List ℕ → View → List (Action A R K) → Type 0) where
+  -- what is said of a row, where its conditions are met
+  abbrev pub RowHas : Conditions → Row A R K → Type 0
+  RowHas conditions (Alone plan) = Always (λ call. ⊥) U E [] plan
+  RowHas conditions (At letter text row) = (conditions.needs_login ≡ true)
+      × ((location : Location) → IsAllowedAt users view letter text location.stored → (conditions.moves_data ≡ true → view.prepared ≡ true)
+      → Always (IsAllowedCall users view letter text) U E [] (row location))
+
+  module _ (refusing : (why : Refusal) → E [] (record view { source = None }) (action.Say (answer.Refusal why) ∷ [])) where
+    row_has : (conditions : Conditions) (row : Row A R K) → (conditions.needs_login && not (is_inside view.stage)) ≡ false → RowHas conditions row
+        → Always (IsAllowedFor users view row) U E [] (row_plan users view conditions row)
+    row_has conditions (Alone plan) login has = has
+    row_has conditions (At letter text row) login has = found (located users view text) refl
+      where
+        here : (location : Location) → located users view text ≡ Ok location → (why : Option Refusal) → first_refusal (at_location users view conditions letter location.path) ≡ why
+            → Always (IsAllowedCall users view letter text) U E [] (at_found view row (unless_refused why (Ok location)))
+        here location is (Some why) refused = refusing why
+        here location is None refused =
+            let permitted = none_holds (not (allowed users view.name letter location.path)) refusal.NotPermitted _ refused in
+            let ready = none_holds (conditions.moves_data && not view.prepared) refusal.NothingPrepared None permitted.1 in
+            let led = leads users view text location is in
+            has.1 location (record {
+              path = location.path;
+              inside = from_and conditions.needs_login (is_inside view.stage) login has.0;
+              names = led.names;
+              stands = led.stands;
+              holds = not-false (allowed users view.name letter location.path) permitted.0;
+            }) (from_and conditions.moves_data view.prepared ready.0)
+
+        found : (place : Result Location PathFault) → located users view text ≡ place → Always (IsAllowedCall users view letter text) U E [] (at_found view row (judged_at users view conditions letter place))
+        found (Err fault) is = refusing (refusal.Path fault)
+        found (Ok location) is = here location is (first_refusal (at_location users view conditions letter location.path)) refl
+
+    -- a command is refused, or its row is carried out
+    pub ruled_has : (rule : Rule A R K) → RowHas rule.conditions rule.row → Always (IsAllowedFor users view rule.row) U E [] (ruled users view rule)
+    unfolding ruled
+    ruled_has rule has = by (first_refusal (at_once view rule.conditions)) refl
+      where
+        by : (why : Option Refusal) → first_refusal (at_once view rule.conditions) ≡ why → Always (IsAllowedFor users view rule.row) U E [] (unless_refuses view why (row_plan users view rule.conditions rule.row))
+        by (Some why) refused = refusing why
+        by None refused = row_has rule.conditions rule.row (none_holds (rule.conditions.needs_login && not (is_inside view.stage)) refusal.LogInFirst _ refused).0 has
 
 module _ (A R K : Type 0) where
   -- what is said of the end of a row
@@ -232,9 +309,9 @@ module _ (A R K : Type 0) where
 
   -- ---- rows that ask the store
 
-  module _ (U : ℕ → Type 0) (users : Users) (view : View) (line : Line) (location : Location) (allowed : IsAllowedAt users view line location.stored) where
+  module _ (U : ℕ → Type 0) (users : Users) (view : View) (letter : Letter) (text : List ℕ) (location : Location) (allowed : IsAllowedAt users view letter text location.stored) where
     abbrev Calls : Call K → Type 0
-    Calls = IsAllowedCall users view line
+    Calls = IsAllowedCall users view letter text
 
     abbrev Ends : List ℕ → View → List (Action A R K) → Type 0
     Ends = Fine view 1
@@ -359,201 +436,71 @@ module _ (A R K : Type 0) where
   UserFor users view item number = (text : Option (List ℕ)) × (item ≡ Ok (command.Pass text)) × (view.stage ≡ stage.Named)
       × (is_password users view.name (unwrap_or text []) ≡ true) × (number ≡ number_of users view.name)
 
-  module _ (users : Users) (view : View) (moment : ℕ) (location : Location) where
-    row_fine : (line : Line) → IsJudged users view line location.stored
-        → Always (IsAllowedCall users view line) (UserFor users view (Ok line)) (Fine view 1) [] (row {A = A} {R = R} {K = K} users view moment location line)
-    row_fine (command.User name) is = restarting view name stage.Named _ refl
-    row_fine (command.Pass text) is = pass_fine (IsAllowedCall users view (command.Pass text)) (UserFor users view (Ok (command.Pass text))) view users (unwrap_or text []) view.stage refl
+  module _ (users : Users) (view : View) (moment : ℕ) where
+    abbrev Of : Line → Type 0
+    Of line = RowHas A R K users view (UserFor users view (Ok line)) (Fine view 1) (rule {A = A} {R = R} {K = K} users view moment line).conditions (rule {A = A} {R = R} {K = K} users view moment line).row
+
+    abbrev No : Call K → Type 0
+    No call = ⊥
+
+    abbrev By : Line → ℕ → Type 0
+    By line = UserFor users view (Ok line)
+
+    row_fine : (line : Line) → Of line
+    row_fine (command.User name) = restarting view name stage.Named _ refl
+    row_fine (command.Pass text) = pass_fine No (By (command.Pass text)) view users (unwrap_or text []) view.stage refl
         (λ named right. (text, refl, named, right, refl))
-    row_fine command.Quit is = quit_fine (IsAllowedCall users view command.Quit) (UserFor users view (Ok command.Quit)) view users
-    row_fine command.Rein is = restarting view [] stage.Greeted _ refl
-    row_fine command.Noop is = told _ _ _ refl
-    row_fine command.Syst is = told _ _ _ refl
-    row_fine (command.Help text) is = told _ _ _ refl
-    row_fine command.Feat is = told _ _ _ refl
-    row_fine (command.Opts wanted) is = opts_fine (IsAllowedCall users view (command.Opts wanted)) (UserFor users view (Ok (command.Opts wanted))) view wanted
-    row_fine (command.Allo text) is = told _ _ _ refl
-    row_fine (command.SetType wanted) is = told _ _ _ refl
-    row_fine command.Mode is = told _ _ _ refl
-    row_fine command.Stru is = told _ _ _ refl
-    row_fine (command.Rest offset) is = rest_fine (IsAllowedCall users view (command.Rest offset)) (UserFor users view (Ok (command.Rest offset))) view offset
-    row_fine (command.Port to) is = port_fine (IsAllowedCall users view (command.Port to)) (UserFor users view (Ok (command.Port to))) view to (port_refusal view to)
-    row_fine (command.Eprt to) is = eprt_fine (IsAllowedCall users view (command.Eprt to)) (UserFor users view (Ok (command.Eprt to))) view to
-    row_fine command.Pasv is = opens_fine (IsAllowedCall users view command.Pasv) (UserFor users view (Ok command.Pasv)) view Plain
-    row_fine (command.Epsv wanted) is = epsv_fine (IsAllowedCall users view (command.Epsv wanted)) (UserFor users view (Ok (command.Epsv wanted))) view wanted
-    row_fine command.Pwd is = told _ _ _ refl
-    row_fine (command.Cwd text) is = cwd_fine (UserFor users view (Ok (command.Cwd text))) users view _ location (is.at _ refl)
-    row_fine command.Cdup is = cwd_fine (UserFor users view (Ok command.Cdup)) users view _ location (is.at _ refl)
-    row_fine (command.Mkd text) is = mkd_fine (UserFor users view (Ok (command.Mkd text))) users view _ location (is.at _ refl)
-    row_fine (command.Rmd text) is = rmd_fine (UserFor users view (Ok (command.Rmd text))) users view _ location (is.at _ refl)
-    row_fine (command.Dele text) is = dele_fine (UserFor users view (Ok (command.Dele text))) users view _ location (is.at _ refl)
-    row_fine (command.Rnfr text) is = rnfr_fine (UserFor users view (Ok (command.Rnfr text))) users view _ location (is.at _ refl)
-    row_fine (command.Rnto text) is = rnto_fine (UserFor users view (Ok (command.Rnto text))) users view _ location (is.at _ refl) view.source refl
-    row_fine (command.Size text) is = size_fine (UserFor users view (Ok (command.Size text))) users view _ location (is.at _ refl)
-    row_fine (command.Mdtm text) is = mdtm_fine (UserFor users view (Ok (command.Mdtm text))) users view _ location (is.at _ refl)
-    row_fine (command.Stat None) is = told _ _ _ refl
-    row_fine (command.Stat (Some text)) is = stat_fine (UserFor users view (Ok (command.Stat (Some text)))) users view _ location (is.at _ refl)
-    row_fine (command.Mlst text) is = mlst_fine (UserFor users view (Ok (command.Mlst text))) users view _ location (is.at _ refl)
-    row_fine (command.List text) is = list_fine (UserFor users view (Ok (command.List text))) users view _ location (is.at _ refl) (is.prepared refl) LongLines
-    row_fine (command.Nlst text) is = list_fine (UserFor users view (Ok (command.Nlst text))) users view _ location (is.at _ refl) (is.prepared refl) Names
-    row_fine (command.Mlsd text) is = mlsd_fine (UserFor users view (Ok (command.Mlsd text))) users view _ location (is.at _ refl) (is.prepared refl)
-    row_fine (command.Retr text) is = retr_fine (UserFor users view (Ok (command.Retr text))) users view _ location (is.at _ refl) (is.prepared refl)
-    row_fine (command.Stor text) is = stor_fine (UserFor users view (Ok (command.Stor text))) users view _ location (is.at _ refl) (is.prepared refl) moment
-    row_fine (command.Appe text) is = appe_fine (UserFor users view (Ok (command.Appe text))) users view _ location (is.at _ refl) (is.prepared refl) moment
-    row_fine command.Abor is = abor_fine (IsAllowedCall users view command.Abor) (UserFor users view (Ok command.Abor)) view
-
--- ---- refusals
-
-abbrev ok_of : {X Y : Type 0} → X → Result X Y → X
-ok_of otherwise (Ok x) = x
-ok_of otherwise (Err y) = otherwise
-
-abbrev is_good : {X Y : Type 0} → Result X Y → Bool
-is_good (Ok x) = true
-is_good (Err y) = false
-
--- the first refusal does not hold, and what is left is so
-passed : {X : Type 0} (holds : Bool) (why : Refusal) (others : Option Refusal) (otherwise : Result X Refusal) (x : X)
-    → unless_refused (cond holds (Some why) others) otherwise ≡ Ok x → (holds ≡ false) × (unless_refused others otherwise ≡ Ok x)
-passed true why others otherwise x e = absurd (false≢true (ap is_good e))
-passed false why others otherwise x e = (refl, e)
-
--- where the text leads, as far as it is known
-record Leads (users : Users) (view : View) (text : List ℕ) (location : Location) : Type 0 where
-  names : resolved view.cwd text ≡ Ok location.path
-  stands : joined (home_of users view.name) location.path ≡ Ok location.stored
-
-leads : (users : Users) (view : View) (text : List ℕ) (location : Location) → located users view text ≡ Ok location → Leads users view text location
-leads users view text location e = by (resolved view.cwd text) refl e
-  where
-    stood : (path : Path) → resolved view.cwd text ≡ Ok path → (stored : Result Path PathFault) → joined (home_of users view.name) path ≡ stored → stored_at path stored ≡ Ok location → Leads users view text location
-    stood path is (Err fault) where_stored e = absurd (false≢true (ap is_good e))
-    stood path is (Ok stored) where_stored e =
-        subst (λ (at : Location). Leads users view text at) (ap (ok_of (record { path = path; stored = stored })) e) (record { names = is; stands = where_stored })
-
-    by : (found : Result Path PathFault) → resolved view.cwd text ≡ found → from_home (home_of users view.name) found ≡ Ok location → Leads users view text location
-    by (Err fault) is e = absurd (false≢true (ap is_good e))
-    by (Ok path) is e = stood path is (joined (home_of users view.name) path) refl e
-
--- what is known of a command that asks for a letter
-record Allowed (users : Users) (view : View) (line : Line) (letter : Letter) (text : List ℕ) (location : Location) : Type 0 where
-  leads : Leads users view text location
-  holds : allowed users view.name letter location.path ≡ true
-  prepared : (needs_data line && not view.prepared) ≡ false
-
-allowed_by : (users : Users) (view : View) (line : Line) (letter : Letter) (text : List ℕ) (location : Location)
-    → judged_at users view line letter (located users view text) ≡ Ok location → Allowed users view line letter text location
-allowed_by users view line letter text location e = by (located users view text) refl e
-  where
-    at : (found : Location) → located users view text ≡ Ok found → unless_refused (first_refusal (at_location users view line letter found.path)) (Ok found) ≡ Ok location → Allowed users view line letter text location
-    at found is e =
-        let first = passed (not (allowed users view.name letter found.path)) refusal.NotPermitted _ (Ok found) location e in
-        let second = passed (needs_data line && not view.prepared) refusal.NothingPrepared None (Ok found) location first.1 in
-        subst (λ (here : Location). Allowed users view line letter text here) (ap (ok_of found) second.1)
-        (record { leads = leads users view text found is; holds = not-false (allowed users view.name letter found.path) first.0; prepared = second.0 })
-
-    by : (found : Result Location PathFault) → located users view text ≡ found → judged_at users view line letter found ≡ Ok location → Allowed users view line letter text location
-    by (Err fault) is e = absurd (false≢true (ap is_good e))
-    by (Ok found) is e = at found is e
-
--- a command that is not refused
-record Passed (users : Users) (view : View) (line : Line) (location : Location) : Type 0 where
-  inside : (needs_login line && not (is_inside view.stage)) ≡ false
-  found : judged_path users view line (asked line) ≡ Ok location
-
-abbrev fourth : View → Line → Option Refusal
-fourth view line = cond (needs_plain line && view.only_extended) (Some refusal.OnlyExtended) None
-
-abbrev third : View → Line → Option Refusal
-third view line = cond (is_appe line && nat_lt 0 view.offset) (Some refusal.OffsetBeforeAppend) (fourth view line)
-
-abbrev second : View → Line → Option Refusal
-second view line = cond (is_rnto line && is_none view.source) (Some refusal.NoSource) (third view line)
-
-passed_all : (users : Users) (view : View) (line : Line) (location : Location) → judged users view line ≡ Ok location → Passed users view line location
-unfolding judged
-passed_all users view line location e =
-    let login = passed (needs_login line && not (is_inside view.stage)) refusal.LogInFirst (second view line) (judged_path users view line (asked line)) location e in
-    let source = passed (is_rnto line && is_none view.source) refusal.NoSource (third view line) (judged_path users view line (asked line)) location login.1 in
-    let offset = passed (is_appe line && nat_lt 0 view.offset) refusal.OffsetBeforeAppend (fourth view line) (judged_path users view line (asked line)) location source.1 in
-    let plain = passed (needs_plain line && view.only_extended) refusal.OnlyExtended None (judged_path users view line (asked line)) location offset.1 in
-    record { inside = login.0; found = plain.1 }
-
-from_and : (a b : Bool) → (a && not b) ≡ false → a ≡ true → b ≡ true
-from_and true b e is = not-false b e
-from_and false b e is = absurd (false≢true is)
-
--- whoever asks for a letter must be logged in
-asks_inside : (line : Line) (wanted : Letter × List ℕ) → asked line ≡ Some wanted → needs_login line ≡ true
-asks_inside (command.User name) wanted is = absurd (false≢true (ap is_some is))
-asks_inside (command.Pass text) wanted is = absurd (false≢true (ap is_some is))
-asks_inside command.Quit wanted is = absurd (false≢true (ap is_some is))
-asks_inside command.Rein wanted is = absurd (false≢true (ap is_some is))
-asks_inside (command.Opts given) wanted is = absurd (false≢true (ap is_some is))
-asks_inside command.Feat wanted is = absurd (false≢true (ap is_some is))
-asks_inside command.Syst wanted is = absurd (false≢true (ap is_some is))
-asks_inside (command.Help text) wanted is = absurd (false≢true (ap is_some is))
-asks_inside command.Noop wanted is = absurd (false≢true (ap is_some is))
-asks_inside _ wanted is = refl
-
-data_asks : (line : Line) → needs_data line ≡ true → (wanted : Letter × List ℕ) × (asked line ≡ Some wanted)
-data_asks (command.Retr text) moves = (_, refl)
-data_asks (command.Stor text) moves = (_, refl)
-data_asks (command.Appe text) moves = (_, refl)
-data_asks (command.List text) moves = (_, refl)
-data_asks (command.Nlst text) moves = (_, refl)
-data_asks (command.Mlsd text) moves = (_, refl)
-data_asks _ moves = absurd (false≢true moves)
-
-pub is_judged : (users : Users) (view : View) (line : Line) (location : Location) → judged users view line ≡ Ok location → IsJudged users view line location.stored
-is_judged users view line location e = record { at = at; prepared = prepared }
-  where
-    are : Passed users view line location
-    are = passed_all users view line location e
-
-    of : (wanted : Letter × List ℕ) → asked line ≡ Some wanted → Allowed users view line wanted.0 wanted.1 location
-    of wanted is = allowed_by users view line wanted.0 wanted.1 location (ap (judged_path users view line) (sym is) ∙ are.found)
-
-    at : (wanted : Letter × List ℕ) → asked line ≡ Some wanted → IsAllowedAt users view line location.stored
-    at wanted is = record {
-      letter = wanted.0;
-      text = wanted.1;
-      path = location.path;
-      inside = from_and (needs_login line) (is_inside view.stage) are.inside (asks_inside line wanted is);
-      asks = is;
-      names = (of wanted is).leads.names;
-      stands = (of wanted is).leads.stands;
-      holds = (of wanted is).holds;
-    }
-
-    prepared : needs_data line ≡ true → view.prepared ≡ true
-    prepared moves = from_and (needs_data line) view.prepared (of (data_asks line moves).0 (data_asks line moves).1).prepared moves
+    row_fine command.Quit = quit_fine No (By command.Quit) view users
+    row_fine command.Rein = restarting view [] stage.Greeted _ refl
+    row_fine (command.Opts wanted) = opts_fine No (By (command.Opts wanted)) view wanted
+    row_fine (command.Rest offset) = rest_fine No (By (command.Rest offset)) view offset
+    row_fine (command.Port to) = port_fine No (By (command.Port to)) view to (port_refusal view to)
+    row_fine (command.Eprt to) = eprt_fine No (By (command.Eprt to)) view to
+    row_fine command.Pasv = opens_fine No (By command.Pasv) view Plain
+    row_fine (command.Epsv wanted) = epsv_fine No (By (command.Epsv wanted)) view wanted
+    row_fine command.Abor = abor_fine No (By command.Abor) view
+    row_fine (command.Cwd text) = (refl, λ location is prepared. cwd_fine (By (command.Cwd text)) users view _ _ location is)
+    row_fine command.Cdup = (refl, λ location is prepared. cwd_fine (By command.Cdup) users view _ _ location is)
+    row_fine (command.Mkd text) = (refl, λ location is prepared. mkd_fine (By (command.Mkd text)) users view _ _ location is)
+    row_fine (command.Rmd text) = (refl, λ location is prepared. rmd_fine (By (command.Rmd text)) users view _ _ location is)
+    row_fine (command.Dele text) = (refl, λ location is prepared. dele_fine (By (command.Dele text)) users view _ _ location is)
+    row_fine (command.Rnfr text) = (refl, λ location is prepared. rnfr_fine (By (command.Rnfr text)) users view _ _ location is)
+    row_fine (command.Rnto text) = (refl, λ location is prepared. rnto_fine (By (command.Rnto text)) users view _ _ location is view.source refl)
+    row_fine (command.Size text) = (refl, λ location is prepared. size_fine (By (command.Size text)) users view _ _ location is)
+    row_fine (command.Mdtm text) = (refl, λ location is prepared. mdtm_fine (By (command.Mdtm text)) users view _ _ location is)
+    row_fine (command.Stat None) = told _ _ _ refl
+    row_fine (command.Stat (Some text)) = (refl, λ location is prepared. stat_fine (By (command.Stat (Some text))) users view _ _ location is)
+    row_fine (command.Mlst text) = (refl, λ location is prepared. mlst_fine (By (command.Mlst text)) users view _ _ location is)
+    row_fine (command.List text) = (refl, λ location is prepared. list_fine (By (command.List text)) users view _ _ location is (prepared refl) LongLines)
+    row_fine (command.Nlst text) = (refl, λ location is prepared. list_fine (By (command.Nlst text)) users view _ _ location is (prepared refl) Names)
+    row_fine (command.Mlsd text) = (refl, λ location is prepared. mlsd_fine (By (command.Mlsd text)) users view _ _ location is (prepared refl))
+    row_fine (command.Retr text) = (refl, λ location is prepared. retr_fine (By (command.Retr text)) users view _ _ location is (prepared refl))
+    row_fine (command.Stor text) = (refl, λ location is prepared. stor_fine (By (command.Stor text)) users view _ _ location is (prepared refl) moment)
+    row_fine (command.Appe text) = (refl, λ location is prepared. appe_fine (By (command.Appe text)) users view _ _ location is (prepared refl) moment)
+    -- a row that only replies
+    row_fine _ = told _ _ _ refl
 
 -- ---- a line that is served
 
 module _ (A R K : Type 0) (users : Users) (view : View) (moment : ℕ) where
   -- a call for a line
   abbrev pub CallFor : Item → Call K → Type 0
-  CallFor item call = (line : Line) × (item ≡ Ok line) × IsAllowedCall users view line call
+  CallFor item call = (line : Line) × (item ≡ Ok line) × IsAllowedFor users view (rule {A = A} {R = R} {K = K} users view moment line).row call
 
   abbrev pub EndFor : List ℕ → View → List (Action A R K) → Type 0
   EndFor = Fine A R K view 1
 
-  again : (line : Line) (admitted : List ℕ) (after : View) (actions : List (Action A R K)) → EndFor admitted after actions → EndFor admitted (left line after) actions
-  again line admitted after actions is = record { unprepared = is.unprepared; asks = is.asks; floors = is.floors }
+  again : (conditions : Conditions) (admitted : List ℕ) (after : View) (actions : List (Action A R K)) → EndFor admitted after actions → EndFor admitted (left conditions after) actions
+  again conditions admitted after actions is = record { unprepared = is.unprepared; asks = is.asks; floors = is.floors }
 
-  judged_fine : (line : Line) (found : Result Location Refusal) → judged users view line ≡ found
-      → Always (CallFor (Ok line)) (UserFor A R K users view (Ok line)) EndFor [] (judged_row {A = A} {R = R} {K = K} users view moment line found)
-  judged_fine line (Err why) is = record { unprepared = λ _. refl; asks = omega arith; floors = inl (refl, refl) }
-  judged_fine line (Ok location) is =
-      always_to (IsAllowedCall users view line) (CallFor (Ok line)) (UserFor A R K users view (Ok line)) (UserFor A R K users view (Ok line)) EndFor EndFor
-      (λ call allowed. (line, refl, allowed)) (λ user asks. asks) (λ admitted after actions end. end) [] _
-      (row_fine A R K users view moment location line (is_judged users view line location is))
+  refusing : (why : Refusal) → EndFor [] (record view { source = None }) (action.Say (answer.Refusal why) ∷ [])
+  refusing why = record { unprepared = λ _. refl; asks = omega arith; floors = inl (refl, refl) }
 
   pub served_fine : (item : Item) → Always (CallFor item) (UserFor A R K users view item) EndFor [] (served {A = A} {R = R} {K = K} users view moment item)
   served_fine (Err why) = record { unprepared = λ _. refl; asks = omega arith; floors = inl (refl, refl) }
   served_fine (Ok line) =
-      always_left (CallFor (Ok line)) (UserFor A R K users view (Ok line)) EndFor (left line) [] _
-      (always_to (CallFor (Ok line)) (CallFor (Ok line)) (UserFor A R K users view (Ok line)) (UserFor A R K users view (Ok line)) EndFor (λ admitted after actions. EndFor admitted (left line after) actions)
-      (λ call allowed. allowed) (λ user asks. asks) (again line) [] _
-      (judged_fine line (judged users view line) refl))
+      let rule = rule {A = A} {R = R} {K = K} users view moment line in
+      always_left (CallFor (Ok line)) (UserFor A R K users view (Ok line)) EndFor (left rule.conditions) [] (ruled users view rule)
+      (always_to (IsAllowedFor users view rule.row) (CallFor (Ok line)) (UserFor A R K users view (Ok line)) (UserFor A R K users view (Ok line)) EndFor (λ admitted after actions. EndFor admitted (left rule.conditions after) actions)
+      (λ call allowed. (line, refl, allowed)) (λ user asks. asks) (again rule.conditions) [] (ruled users view rule)
+      (ruled_has A R K users view (UserFor A R K users view (Ok line)) EndFor refusing rule (row_fine A R K users view moment line)))

@@ -1,7 +1,8 @@
 -- What RNFR named: it comes from an RNFR that is served and allowed, and from nothing else.
-use Rattle.std.proofs.Common.{◌≡◌, ℕ, Bool, true, false, cond, not, ◌&&◌, List, [], ◌∷◌, ◌++◌, length, Option, Some, None, Result, Ok, Err, refl, sym, subst, nat_lt}
+use Rattle.std.proofs.Common.{◌≡◌, ℕ, Bool, true, false, cond, not, ◌&&◌, List, [], ◌∷◌, length, Option, Some, None, Result, Ok, Err, refl, sym, subst, nat_lt}
 use Rattle.authorizer.specs.Users.{Users}
 use Rattle.ftp_terms.specs.declared.entries.Meta.{Meta}
+use Rattle.ftp_terms.specs.declared.letters.Letter.TheVariants.{Rename}
 use Rattle.ftp_wire.specs.Items.{Item}
 use Rattle.ftp_wire.specs.Reading.{item_of}
 use Rattle.ftp_wire.specs.declared.commands.Command.TheVariants as command
@@ -9,29 +10,23 @@ use Rattle.ftp_wire.specs.declared.items.LineItem.{LineItem}
 use Rattle.virtual_path.specs.Path.{Path}
 use Rattle.virtual_tree.specs.declared.fault.StoreFault.{StoreFault}
 use Rattle.session_table.specs.Always.{Always}
-use Rattle.session_table.specs.Laws.{IsAllowedAt, IsNamed, SourcesAreNamed}
+use Rattle.session_table.specs.Laws.{IsAllowedAt, IsAllowedCall, IsAllowedFor, IsNamed, SourcesAreNamed}
 use Rattle.session_table.specs.Steps.{in_its_turn, is_open, serves_lines}
-use Rattle.session_table.proofs.Keeping.{always_cond, always_left, always_taken, ends_all}
-use Rattle.session_table.proofs.Rows.{is_judged}
+use Rattle.session_table.proofs.Keeping.{always_cond, always_left, always_taken, always_to, ends_all}
+use Rattle.session_table.proofs.Rows.{RowHas, ruled_has}
 use Rattle.session_table.specs.declared.actions.Action.{Action}
-use Rattle.session_table.specs.declared.actions.Action.TheVariants as action
-use Rattle.session_table.specs.declared.answers.Answer.{Answer}
-use Rattle.session_table.specs.declared.answers.Answer.TheVariants as answer
 use Rattle.session_table.specs.declared.inputs.End.{End}
 use Rattle.session_table.specs.declared.inputs.Input.{Input}
 use Rattle.session_table.specs.declared.inputs.Input.TheVariants as input
-use Rattle.session_table.specs.declared.refusals.Refusal.{Refusal}
-use Rattle.session_table.specs.declared.refusals.Refusal.TheVariants as refusal
 use Rattle.session_table.specs.declared.stages.Control.{Control}
 use Rattle.session_table.specs.declared.stages.Control.TheVariants.{Open, Quitting, Closing}
 use Rattle.session_table.specs.declared.stages.Passive.{Passive}
 use Rattle.session_table.specs.Calls.{Call}
-use Rattle.session_table.specs.Commands.{Line, is_rnfr}
-use Rattle.session_table.specs.FileRows.{is_root, rnfr_by, rnfr_row}
-use Rattle.session_table.specs.Judged.{Location, judged}
+use Rattle.session_table.specs.FileRows.{is_root, rnfr_by}
+use Rattle.session_table.specs.Judged.{Location}
 use Rattle.session_table.specs.Plans.{Plan}
-use Rattle.session_table.specs.Plans.Plan.{Then}
-use Rattle.session_table.specs.Table.{Taken, aborts, after_closed, and_quits, beside, closed_row, controlled, end_hook, end_reply, end_row, end_told, ended_by, ended_row, ended_with, held_row, holds, idle, in_turn, judged_row, left, meanwhile, most_held, ready_as, ready_by, ready_row, served, table}
+use Rattle.session_table.specs.Rules.{Line, Rule, rule}
+use Rattle.session_table.specs.Table.{after_closed, and_quits, beside, controlled, end_row, ended_by, ended_row, ended_with, held_row, holds, idle, in_turn, left, meanwhile, most_held, ready_as, ready_by, ready_row, ruled, served, served_by, table}
 use Rattle.session_table.specs.Views.{View, Begun, Carried, awaited, is_aborted, is_busy, is_closed, running}
 use Rattle.session_table.specs.Views.Begun.{Idle}
 
@@ -48,10 +43,6 @@ stays users view false = kept users view view.source refl
 none_named : (users : Users) (view : View) (item : Option Item) → IsNamed users view item None
 none_named users view item = tt
 
--- behind any line but RNFR nothing is named
-forgot : (users : Users) (view : View) (line : Line) (source : Option Path) → is_rnfr line ≡ false → IsNamed users view (Some (Ok line)) (cond (is_rnfr line) source None)
-forgot users view line source is = subst (λ (b : Bool). IsNamed users view (Some (Ok line)) (cond b source None)) (sym is) tt
-
 module _ (A R K : Type 0) (users : Users) (view : View) where
   abbrev C : Call K → Type 0
   C call = Unit {0}
@@ -67,33 +58,43 @@ module _ (A R K : Type 0) (users : Users) (view : View) where
   Within item plan = Always {A = A} {R = R} {K = K} C U (E item) [] plan
 
   module _ (moment : ℕ) where
+    abbrev Ruled : Line → Rule A R K
+    Ruled line = rule users view moment line
+
+    -- the end of RNFR, before its conditions are seen to
+    abbrev EndOf : List ℕ → List ℕ → View → List (Action A R K) → Type 0
+    EndOf text admitted after actions = E (Some (Ok (command.Rnfr text))) admitted (left (Ruled (command.Rnfr text)).conditions after) actions
+
     -- RNFR, where it is not refused
-    rnfr_named : (text : List ℕ) (found : Result Location Refusal) → judged users view (command.Rnfr text) ≡ found
-        → Always C U (λ admitted after actions. E (Some (Ok (command.Rnfr text))) admitted (left (command.Rnfr text) after) actions) [] (judged_row {A = A} {R = R} {K = K} users view moment (command.Rnfr text) found)
-    rnfr_named text (Err why) is = tt
-    rnfr_named text (Ok location) is = always_cond C U (λ admitted after actions. E (Some (Ok (command.Rnfr text))) admitted (left (command.Rnfr text) after) actions) (is_root location.path) _ _ tt
-        (tt, by)
+    rnfr_has : (text : List ℕ) → RowHas A R K users view U (EndOf text) (Ruled (command.Rnfr text)).conditions (Ruled (command.Rnfr text)).row
+    rnfr_has text = (refl, λ location allowed prepared. always_cond (IsAllowedCall users view Rename text) U (EndOf text) (is_root location.path) _ _ tt (allowed, by location allowed))
       where
-        by : (answer : Result Meta StoreFault) → Always C U (λ admitted after actions. E (Some (Ok (command.Rnfr text))) admitted (left (command.Rnfr text) after) actions) [] (rnfr_by {A = A} {R = R} {K = K} view location.stored answer)
-        by (Err why) = tt
-        by (Ok meta) = (is_judged users view (command.Rnfr text) location is).at _ refl
+        by : (location : Location) → IsAllowedAt users view Rename text location.stored → (answer : Result Meta StoreFault)
+            → Always (IsAllowedCall users view Rename text) U (EndOf text) [] (rnfr_by {A = A} {R = R} {K = K} view location.stored answer)
+        by location allowed (Err why) = tt
+        by location allowed (Ok meta) = allowed
 
-    other_named : (line : Line) (plan : Plan A R K) → is_rnfr line ≡ false → Always C U (λ admitted after actions. E (Some (Ok line)) admitted (left line after) actions) [] plan
-    other_named line plan is = ends_all (λ admitted after actions. E (Some (Ok line)) admitted (left line after) actions) (λ admitted after actions. forgot users view line after.source is) [] plan
+    rnfr_named : (text : List ℕ) → Within (Some (Ok (command.Rnfr text))) (served {A = A} {R = R} {K = K} users view moment (Ok (command.Rnfr text)))
+    rnfr_named text = always_left C U (E (Some (Ok (command.Rnfr text)))) (left (Ruled (command.Rnfr text)).conditions) [] _
+        (always_to (IsAllowedFor users view (Ruled (command.Rnfr text)).row) C U U (EndOf text) (EndOf text) (λ call allowed. tt) (λ user asks. tt) (λ admitted after actions end. end) [] (ruled users view (Ruled (command.Rnfr text)))
+        (ruled_has A R K users view U (EndOf text) (λ why. tt) (Ruled (command.Rnfr text)) (rnfr_has text)))
 
-    line_named : (line : Line) (found : Result Location Refusal) → judged users view line ≡ found
-        → Always C U (λ admitted after actions. E (Some (Ok line)) admitted (left line after) actions) [] (judged_row {A = A} {R = R} {K = K} users view moment line found)
-    line_named (command.Rnfr text) found is = rnfr_named text found is
-    line_named line found is = other_named line _ refl
+    -- any other rule leaves nothing named
+    forgets : (item : Option Item) (rule : Rule A R K) → rule.conditions.keeps_source ≡ false → Within item (served_by users view rule)
+    forgets item rule is = always_left C U (E item) (left rule.conditions) [] _
+        (ends_all (λ admitted after actions. E item admitted (left rule.conditions after) actions)
+        (λ admitted after actions. subst (λ (b : Bool). IsNamed users view item (cond b after.source None)) (sym is) (none_named users view item)) [] _)
 
     served_named : (item : Item) → Within (Some item) (served {A = A} {R = R} {K = K} users view moment item)
     served_named (Err why) = tt
-    served_named (Ok line) = always_left C U (E (Some (Ok line))) (left line) [] _ (line_named line (judged users view line) refl)
+    served_named (Ok (command.Rnfr text)) = rnfr_named text
+    served_named (Ok (command.Stat None)) = forgets (Some (Ok (command.Stat None))) (Ruled (command.Stat None)) refl
+    served_named (Ok (command.Stat (Some text))) = forgets (Some (Ok (command.Stat (Some text)))) (Ruled (command.Stat (Some text))) refl
+    served_named (Ok line) = forgets (Some (Ok line)) (Ruled line) refl
 
     -- a line that is served at once leaves nothing named
-    at_once : (line : Line) → is_rnfr line ≡ false → Within None (served {A = A} {R = R} {K = K} users view moment (Ok line))
-    at_once line is = always_left C U (E None) (left line) [] _
-        (ends_all (λ admitted after actions. E None admitted (left line after) actions) (λ admitted after actions. subst (λ (b : Bool). IsNamed users view None (cond b after.source None)) (sym is) tt) [] _)
+    at_once : (line : Line) → (Ruled line).conditions.keeps_source ≡ false → Within None (served {A = A} {R = R} {K = K} users view moment (Ok line))
+    at_once line is = forgets None (Ruled line) is
 
     held_named : (held : List Item) (item : Item) → Within None (holds {A = A} {R = R} {K = K} view held item).plan
     held_named held item = always_taken C U (E None) (nat_lt (length held) most_held) _ _ (kept users view view.source refl) (kept users view view.source refl)

@@ -7,17 +7,13 @@ use Rattle.virtual_path.specs.Path.{Path, resolved, joined}
 use Rattle.virtual_path.specs.declared.fault.PathFault.{PathFault}
 use Rattle.session_table.specs.declared.refusals.Refusal.{Refusal}
 use Rattle.session_table.specs.declared.refusals.Refusal.TheVariants as refusal
-use Rattle.session_table.specs.Commands.{Line, asked, is_appe, is_rnto, needs_data, needs_login, needs_plain}
+use Rattle.session_table.specs.declared.rules.Conditions.{Conditions}
 use Rattle.session_table.specs.Views.{View, is_inside}
 
 -- a location: the path as the user sees it, and the path in the store
 pub record Location : Type 0 where
   pub path : Path
   pub stored : Path
-
--- the location of a command without a path
-abbrev pub nowhere : Location
-nowhere = record { path = []; stored = [] }
 
 -- the first refusal whose condition holds
 abbrev pub first_refusal : List (Bool × Refusal) → Option Refusal
@@ -47,36 +43,25 @@ abbrev pub located : Users → View → List ℕ → Result Location PathFault
 located users view text = from_home (home_of users view.name) (resolved view.cwd text)
 
 -- 2 to 4: before the path is resolved
-abbrev pub at_once : View → Line → List (Bool × Refusal)
-at_once view command =
-    (needs_login command && not (is_inside view.stage), refusal.LogInFirst)
-    ∷ (is_rnto command && is_none view.source, refusal.NoSource)
-    ∷ (is_appe command && nat_lt 0 view.offset, refusal.OffsetBeforeAppend)
-    ∷ (needs_plain command && view.only_extended, refusal.OnlyExtended)
+abbrev pub at_once : View → Conditions → List (Bool × Refusal)
+at_once view conditions =
+    (conditions.needs_login && not (is_inside view.stage), refusal.LogInFirst)
+    ∷ (conditions.needs_source && is_none view.source, refusal.NoSource)
+    ∷ (conditions.needs_no_offset && nat_lt 0 view.offset, refusal.OffsetBeforeAppend)
+    ∷ (conditions.needs_plain && view.only_extended, refusal.OnlyExtended)
     ∷ []
 
 -- 6 and 7: at the location
-abbrev pub at_location : Users → View → Line → Letter → Path → List (Bool × Refusal)
-at_location users view command letter path =
+abbrev pub at_location : Users → View → Conditions → Letter → Path → List (Bool × Refusal)
+at_location users view conditions letter path =
     (not (allowed users view.name letter path), refusal.NotPermitted)
-    ∷ (needs_data command && not view.prepared, refusal.NothingPrepared)
+    ∷ (conditions.moves_data && not view.prepared, refusal.NothingPrepared)
     ∷ []
 
--- 5: the path, between them
-abbrev pub judged_at : Users → View → Line → Letter → Result Location PathFault
+-- 5 to 7: the path, and the first refusal at its location
+abbrev pub judged_at : Users → View → Conditions → Letter → Result Location PathFault
     → Result Location Refusal
-judged_at users view command letter (Err fault) = Err (refusal.Path fault)
-judged_at users view command letter (Ok location) =
-    unless_refused (first_refusal (at_location users view command letter location.path))
+judged_at users view conditions letter (Err fault) = Err (refusal.Path fault)
+judged_at users view conditions letter (Ok location) =
+    unless_refused (first_refusal (at_location users view conditions letter location.path))
     (Ok location)
-
-abbrev pub judged_path : Users → View → Line → Option (Letter × List ℕ) → Result Location Refusal
-judged_path users view command None = Ok nowhere
-judged_path users view command (Some wanted) =
-    judged_at users view command wanted.0 (located users view wanted.1)
-
--- the first refusal of a command, or its location
-unfoldable pub judged : Users → View → Line → Result Location Refusal
-judged users view command =
-    unless_refused (first_refusal (at_once view command))
-    (judged_path users view command (asked command))

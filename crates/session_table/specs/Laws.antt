@@ -1,8 +1,9 @@
 -- Laws of the session table.
-use Rattle.std.specs.Prelude.{ℕ, ◌≡◌, ◌+◌, ◌≤◌, ◌⊎◌, Bool, true, false, cond, List, [], ◌∷◌, ◌++◌, length, Option, Some, None, Ok, unwrap_or}
+use Rattle.std.specs.Prelude.{ℕ, ◌≡◌, ◌+◌, ◌≤◌, ◌⊎◌, true, false, cond, List, [], ◌∷◌, ◌++◌, length, Option, Some, None, Ok, unwrap_or}
 use Rattle.authorizer.specs.Changes.{is_password}
 use Rattle.authorizer.specs.Users.{Users, allowed}
 use Rattle.ftp_terms.specs.declared.letters.Letter.{Letter}
+use Rattle.ftp_terms.specs.declared.letters.Letter.TheVariants.{Rename}
 use Rattle.ftp_wire.specs.Items.{Item}
 use Rattle.ftp_wire.specs.Reading.{item_of}
 use Rattle.ftp_wire.specs.declared.commands.Command.TheVariants as command
@@ -14,8 +15,9 @@ use Rattle.session_table.specs.declared.inputs.Input.{Input}
 use Rattle.session_table.specs.declared.inputs.Input.TheVariants as input
 use Rattle.session_table.specs.declared.stages.Stage.TheVariants.{Named}
 use Rattle.session_table.specs.Calls.{Call}
-use Rattle.session_table.specs.Commands.{Line, asked}
 use Rattle.session_table.specs.Judged.{home_of}
+use Rattle.session_table.specs.Rules.{Line, Row, rule}
+use Rattle.session_table.specs.Rules.Row.{Alone, At}
 use Rattle.session_table.specs.StateRows.{number_of}
 use Rattle.session_table.specs.Steps.{asks_floors, in_its_turn, serves_lines}
 use Rattle.session_table.specs.Table.{most_held, table}
@@ -23,29 +25,35 @@ use Rattle.session_table.specs.Views.{View, is_inside}
 
 -- ---- calls of the store
 
--- the store's path of a command, by a user who is logged in and has the command's letter there
-pub record IsAllowedAt (users : Users) (view : View) (line : Line) (stored : Path) : Type 0 where
-  pub letter : Letter
-  pub text : List ℕ
+-- the store's path of a text, by a user who is logged in and has the letter there
+pub record IsAllowedAt (users : Users) (view : View) (letter : Letter) (text : List ℕ)
+    (stored : Path) : Type 0 where
   pub path : Path
   pub inside : is_inside view.stage ≡ true
-  pub asks : asked line ≡ Some (letter, text)
   pub names : resolved view.cwd text ≡ Ok path
   pub stands : joined (home_of users view.name) path ≡ Ok stored
   pub holds : allowed users view.name letter path ≡ true
 
 -- the call is on such paths; the entry to rename is the one that RNFR named
-abbrev pub IsAllowedCall : {K : Type 0} → Users → View → Line → Call K → Type 0
-IsAllowedCall users view line (Call.Stat path) = IsAllowedAt users view line path
-IsAllowedCall users view line (Call.Listing path) = IsAllowedAt users view line path
-IsAllowedCall users view line (Call.OpenRead path offset) = IsAllowedAt users view line path
-IsAllowedCall users view line (Call.OpenWrite path mode moment) = IsAllowedAt users view line path
-IsAllowedCall users view line (Call.Finish sink moment) = ⊥
-IsAllowedCall users view line (Call.MakeDir path) = IsAllowedAt users view line path
-IsAllowedCall users view line (Call.RemoveDir path) = IsAllowedAt users view line path
-IsAllowedCall users view line (Call.RemoveFile path) = IsAllowedAt users view line path
-IsAllowedCall users view line (Call.Rename from to) =
-    (view.source ≡ Some from) × IsAllowedAt users view line to
+abbrev pub IsAllowedCall : {K : Type 0} → Users → View → Letter → List ℕ → Call K → Type 0
+IsAllowedCall users view letter text (Call.Stat path) = IsAllowedAt users view letter text path
+IsAllowedCall users view letter text (Call.Listing path) = IsAllowedAt users view letter text path
+IsAllowedCall users view letter text (Call.OpenRead path offset) =
+    IsAllowedAt users view letter text path
+IsAllowedCall users view letter text (Call.OpenWrite path mode moment) =
+    IsAllowedAt users view letter text path
+IsAllowedCall users view letter text (Call.Finish sink moment) = ⊥
+IsAllowedCall users view letter text (Call.MakeDir path) = IsAllowedAt users view letter text path
+IsAllowedCall users view letter text (Call.RemoveDir path) = IsAllowedAt users view letter text path
+IsAllowedCall users view letter text (Call.RemoveFile path) =
+    IsAllowedAt users view letter text path
+IsAllowedCall users view letter text (Call.Rename from to) =
+    (view.source ≡ Some from) × IsAllowedAt users view letter text to
+
+-- the call is for a row at a location, by its letter and its text; a row without a path makes none
+abbrev pub IsAllowedFor : {A R K : Type 0} → Users → View → Row A R K → Call K → Type 0
+IsAllowedFor users view (Alone plan) call = ⊥
+IsAllowedFor users view (At letter text row) call = IsAllowedCall users view letter text call
 
 -- a line that may be served at this input: the line that comes, or the first of those that wait
 abbrev pub MayServe : {A K : Type 0} → Input A K → List Item → Line → Type 0
@@ -66,15 +74,17 @@ abbrev pub IsReturned : {A K : Type 0} → Input A K → ℕ → Call K → Type
 IsReturned (input.TransferEnded end (Some sink)) moment call = IsFinishOf sink moment call
 IsReturned _ moment call = ⊥
 
-abbrev pub IsRightful : {A K : Type 0} → Users → View → List Item → ℕ → Input A K → Call K → Type 0
-IsRightful users view held moment told call =
+abbrev pub IsRightful : (A R K : Type 0) → Users → View → List Item → ℕ → Input A K → Call K
+    → Type 0
+IsRightful A R K users view held moment told call =
     IsReturned told moment call
-    ⊎ ((line : Line) × MayServe told held line × IsAllowedCall users view line call)
+    ⊎ ((line : Line) × MayServe told held line
+    × IsAllowedFor users view (rule {A = A} {R = R} {K = K} users view moment line).row call)
 
 unfoldable pub CallsAreRightful : (A R K : Type 0) → Type 0
 CallsAreRightful A R K =
     (users : Users) (view : View) (held : List Item) (moment : ℕ) (told : Input A K)
-    → EachCall (IsRightful users view held moment told)
+    → EachCall (IsRightful A R K users view held moment told)
     (table {A = A} {R = R} {K = K} users view held moment told).plan
 
 unfoldable pub NoCallsOutside : (A R K : Type 0) → Type 0
@@ -199,7 +209,7 @@ abbrev pub IsNamed : Users → View → Option Item → Option Path → Type 0
 IsNamed users view item None = Unit {0}
 IsNamed users view None (Some path) = view.source ≡ Some path
 IsNamed users view (Some (Ok (command.Rnfr text))) (Some path) =
-    IsAllowedAt users view (command.Rnfr text) path
+    IsAllowedAt users view Rename text path
 IsNamed users view (Some _) (Some path) = ⊥
 
 unfoldable pub SourcesAreNamed : (A R K : Type 0) → Type 0

@@ -3,12 +3,12 @@ pub mod Laws
 pub mod Steps
 pub mod Answers
 pub mod Calls
-pub mod Commands
 pub mod FileRows
 pub mod Judged
 pub mod Notices
 pub mod Plans
 pub mod Refusals
+pub mod Rules
 pub mod StateRows
 pub mod Table
 pub mod Texts

@@ -1,12 +1,11 @@
 -- The session table: the plan of each input in each state of a session.
-use Rattle.std.specs.Prelude.{ℕ, ◌≡◌, ◌&&◌, Bool, true, cond, List, [], ◌∷◌, ◌++◌, Option, Some, None, Result, Ok, Err, codes, length, nat_lt, unwrap_or}
+use Rattle.std.specs.Prelude.{ℕ, ◌≡◌, ◌&&◌, Bool, true, cond, List, [], ◌∷◌, ◌++◌, Option, Some, None, Result, Ok, Err, codes, length, nat_lt}
 use Rattle.std.specs.Fmt.{decimal}
 use Rattle.authorizer.specs.Users.{Users}
 use Rattle.ftp_reply.specs.Replies.{OneLine}
 use Rattle.ftp_wire.specs.Items.{Item}
 use Rattle.ftp_wire.specs.Reading.{item_of}
 use Rattle.ftp_wire.specs.Written.{port_text}
-use Rattle.ftp_wire.specs.declared.commands.Command.TheVariants as command
 use Rattle.virtual_tree.specs.Calls.{Exchange}
 use Rattle.virtual_tree.specs.declared.fault.StoreFault.{StoreFault}
 use Rattle.virtual_tree.specs.declared.fault.StoreFault.TheVariants as fault
@@ -22,6 +21,9 @@ use Rattle.session_table.specs.declared.inputs.Input.TheVariants as input
 use Rattle.session_table.specs.declared.notices.Notice.TheVariants as notice
 use Rattle.session_table.specs.declared.refusals.Refusal.{Refusal}
 use Rattle.session_table.specs.declared.refusals.Refusal.TheVariants as refusal
+use Rattle.session_table.specs.declared.rules.Conditions.{Conditions}
+use Rattle.session_table.specs.declared.rules.Meanwhile.{Meanwhile}
+use Rattle.session_table.specs.declared.rules.Meanwhile.TheVariants.{Waits, Served, QuitsLater}
 use Rattle.session_table.specs.declared.stages.Control.{Control}
 use Rattle.session_table.specs.declared.stages.Control.TheVariants.{Open, Quitting, Closing}
 use Rattle.session_table.specs.declared.stages.Passive.{Passive}
@@ -29,14 +31,12 @@ use Rattle.session_table.specs.declared.stages.Passive.TheVariants.{Plain, Exten
 use Rattle.session_table.specs.declared.stages.Stage.TheVariants as stage
 use Rattle.rate_floors.specs.Promises.{Promises}
 use Rattle.session_table.specs.Calls.Call.{Finish}
-use Rattle.session_table.specs.Commands.{Line, is_rnfr, needs_data}
-use Rattle.session_table.specs.FileRows.{cwd_row, dele_row, mdtm_row, mkd_row, rmd_row, rnfr_row, rnto_row, size_row}
-use Rattle.session_table.specs.Judged.{Location, judged}
+use Rattle.session_table.specs.Judged.{Location, at_once, first_refusal, judged_at, located}
 use Rattle.session_table.specs.Plans.{Plan, Ran}
 use Rattle.session_table.specs.Plans.Plan.{Then, WithLine, WithLines, Ask, AskAdmit}
-use Rattle.session_table.specs.StateRows.{abor_row, eprt_row, epsv_row, feat_row, leaves, notes, opens, opts_row, pass_row, port_row, pwd_row, quit_after, quit_row, refuses, rein_row, rest_row, status_row, type_row, user_row}
-use Rattle.session_table.specs.TransferRows.{appe_row, list_row, mlsd_row, mlst_row, retr_row, stat_row, stor_row}
-use Rattle.session_table.specs.TransferRows.Style.{LongLines, Names}
+use Rattle.session_table.specs.Rules.{Row, Rule, rule}
+use Rattle.session_table.specs.Rules.Row.{Alone, At}
+use Rattle.session_table.specs.StateRows.{leaves, quit_after, refuses}
 use Rattle.session_table.specs.Views.{View, Carried, awaited, is_aborted, is_busy, is_closed, is_inside, running, runs}
 use Rattle.session_table.specs.Views.Begun.{Idle}
 use Rattle.session_table.specs.Views.Carried.{Listing, Sending, Taking}
@@ -47,10 +47,10 @@ most_held = 16
 
 -- The state after a command: the path that RNFR named is forgotten at any next line, and after a
 -- command that moves data, even if it is refused, the offset is 0 if a user is logged in.
-abbrev pub left : Line → View → View
-left command view = record view {
-  source = cond (is_rnfr command) view.source None;
-  offset = cond (needs_data command && is_inside view.stage) 0 view.offset;
+abbrev pub left : Conditions → View → View
+left conditions view = record view {
+  source = cond conditions.keeps_source view.source None;
+  offset = cond (conditions.moves_data && is_inside view.stage) 0 view.offset;
 }
 
 -- the reply with a passive port
@@ -92,58 +92,34 @@ module _ {A R K : Type 0} where
   then_left change (Ask call next) = Ask call (λ answer. then_left change (next answer))
   then_left change (AskAdmit user next) = AskAdmit user (λ fits. then_left change (next fits))
 
-  -- the row of a command that is not refused, at its location; a moment is in milliseconds since
-  -- 1970
-  abbrev pub row : Users → View → ℕ → Location → Line → Plan A R K
-  row users view moment location (command.User name) = user_row view name
-  row users view moment location (command.Pass text) = pass_row users view (unwrap_or text [])
-  row users view moment location command.Quit = quit_row users view
-  row users view moment location command.Rein = rein_row view
-  row users view moment location command.Noop = notes view notice.Fine
-  row users view moment location command.Syst = notes view notice.System
-  row users view moment location (command.Help text) = notes view notice.Standards
-  row users view moment location command.Feat = feat_row view
-  row users view moment location (command.Opts wanted) = opts_row view wanted
-  row users view moment location (command.Allo text) = notes view notice.NoAllocation
-  row users view moment location (command.SetType wanted) = type_row view wanted
-  row users view moment location command.Mode = notes view notice.ModeIsStream
-  row users view moment location command.Stru = notes view notice.StructureIsFile
-  row users view moment location (command.Rest offset) = rest_row view offset
-  row users view moment location (command.Port to) = port_row view to
-  row users view moment location (command.Eprt to) = eprt_row view to
-  row users view moment location command.Pasv = opens view Plain
-  row users view moment location (command.Epsv wanted) = epsv_row view wanted
-  row users view moment location command.Pwd = pwd_row view
-  row users view moment location (command.Cwd text) = cwd_row view location
-  row users view moment location command.Cdup = cwd_row view location
-  row users view moment location (command.Mkd text) = mkd_row view location
-  row users view moment location (command.Rmd text) = rmd_row view location
-  row users view moment location (command.Dele text) = dele_row view location
-  row users view moment location (command.Rnfr text) = rnfr_row view location
-  row users view moment location (command.Rnto text) = rnto_row view location
-  row users view moment location (command.Size text) = size_row view location
-  row users view moment location (command.Mdtm text) = mdtm_row view location
-  row users view moment location (command.Stat None) = status_row view
-  row users view moment location (command.Stat (Some text)) = stat_row users view location
-  row users view moment location (command.Mlst text) = mlst_row users view location
-  row users view moment location (command.List text) = list_row users view LongLines location
-  row users view moment location (command.Nlst text) = list_row users view Names location
-  row users view moment location (command.Mlsd text) = mlsd_row users view location
-  row users view moment location (command.Retr text) = retr_row view location
-  row users view moment location (command.Stor text) = stor_row view moment location
-  row users view moment location (command.Appe text) = appe_row view moment location
-  row users view moment location command.Abor = abor_row view
+  abbrev pub at_found : View → (Location → Plan A R K) → Result Location Refusal → Plan A R K
+  at_found view row (Err why) = refuses view why
+  at_found view row (Ok location) = row location
 
-  abbrev pub judged_row : Users → View → ℕ → Line → Result Location Refusal → Plan A R K
-  judged_row users view moment command (Err why) = refuses view why
-  judged_row users view moment command (Ok location) = row users view moment location command
+  -- 5 to 8: a row, at its location if it has one
+  abbrev pub row_plan : Users → View → Conditions → Row A R K → Plan A R K
+  row_plan users view conditions (Alone plan) = plan
+  row_plan users view conditions (At letter text row) =
+      at_found view row (judged_at users view conditions letter (located users view text))
 
-  -- a served line: the first refusal, or the row of the command
+  abbrev pub unless_refuses : View → Option Refusal → Plan A R K → Plan A R K
+  unless_refuses view (Some why) plan = refuses view why
+  unless_refuses view None plan = plan
+
+  -- the first refusal of a command, or its row
+  unfoldable pub ruled : Users → View → Rule A R K → Plan A R K
+  ruled users view rule =
+      unless_refuses view (first_refusal (at_once view rule.conditions))
+      (row_plan users view rule.conditions rule.row)
+
+  abbrev pub served_by : Users → View → Rule A R K → Plan A R K
+  served_by users view rule = then_left (left rule.conditions) (ruled users view rule)
+
+  -- a served line
   abbrev pub served : Users → View → ℕ → Item → Plan A R K
   served users view moment (Err why) =
       Then (record view { source = None }) (action.Say (answer.Fault why) ∷ [])
-  served users view moment (Ok command) =
-      then_left (left command) (judged_row users view moment command (judged users view command))
+  served users view moment (Ok command) = served_by users view (rule users view moment command)
 
   -- a transfer that runs is aborted
   abbrev pub aborts : View → List (Action A R K)
@@ -160,17 +136,21 @@ module _ {A R K : Type 0} where
         held = held;
       })
 
+  abbrev pub meanwhile_as : View → List Item → Item → Plan A R K → Meanwhile → Taken A R K
+  meanwhile_as view held item plan Waits = holds view held item
+  meanwhile_as view held item plan Served = record { plan = plan; held = held }
+  meanwhile_as view held item plan QuitsLater =
+      record { plan = Then (record view { control = Quitting }) []; held = held }
+
+  abbrev pub meanwhile_by : Users → View → List Item → Item → Rule A R K → Taken A R K
+  meanwhile_by users view held item rule =
+      meanwhile_as view held item (served_by users view rule) rule.conditions.meanwhile
+
   -- a line while a transfer runs or a passive port is awaited
   abbrev pub meanwhile : Users → View → List Item → ℕ → Item → Taken A R K
-  meanwhile users view held moment (Ok command.Abor) =
-      record { plan = served users view moment (Ok command.Abor); held = held }
-  meanwhile users view held moment (Ok command.Noop) =
-      record { plan = served users view moment (Ok command.Noop); held = held }
-  meanwhile users view held moment (Ok (command.Stat None)) =
-      record { plan = served users view moment (Ok (command.Stat None)); held = held }
-  meanwhile users view held moment (Ok command.Quit) =
-      record { plan = Then (record view { control = Quitting }) []; held = held }
-  meanwhile users view held moment item = holds view held item
+  meanwhile users view held moment (Err why) = holds view held (Err why)
+  meanwhile users view held moment (Ok command) =
+      meanwhile_by users view held (Ok command) (rule users view moment command)
 
   -- a line while nothing is begun: it waits if others wait
   abbrev pub in_turn : Users → View → ℕ → Item → List Item → Taken A R K

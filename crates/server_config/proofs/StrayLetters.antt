@@ -14,6 +14,7 @@ use Rattle.authorizer.specs.Changes.{added, letters_then, new_user, overridden, 
 use Rattle.authorizer.specs.Users.{Accounts, User}
 use Rattle.authorizer.specs.declared.fault.AuthorizerFault.{AuthorizerFault}
 use Rattle.authorizer.specs.declared.fault.AuthorizerFault.TheVariants as AuthorizerFault
+use Rattle.config_file.specs.declared.stated.OverrideTable.{OverrideTable}
 use Rattle.config_file.specs.declared.stated.UserTable.{UserTable}
 use Rattle.server_config.specs.Users.{IsRefusedAccount}
 
@@ -87,10 +88,15 @@ not_memory : (fault : AuthorizerFault) → fault ≡ AuthorizerFault.BadLetter �
 not_memory fault same memory = absurd (let e : AuthorizerFault.BadLetter ≡ AuthorizerFault.Memory = sym same ∙ memory in cc)
 
 -- an override is refused for letters only if they are none
-pub rule_lacks : (old : Accounts) (name path letters : List ℕ) (recursive : Bool) (fault : AuthorizerFault)
+rule_lacks : (old : Accounts) (name path letters : List ℕ) (recursive : Bool) (fault : AuthorizerFault)
     → Unless AuthorizerFault.Memory (λ why. overridden old name path letters recursive ≡ Err why) fault → fault ≡ AuthorizerFault.BadLetter → letters_of letters ≡ None
 rule_lacks old name path letters recursive fault is same =
     overridden_lack old name path letters recursive (is (not_memory fault same) ∙ ap (λ (why : AuthorizerFault). Err why) same)
+
+-- the same by its row
+pub row_lacks : (old : Accounts) (name : List ℕ) (rule : OverrideTable) (fault : AuthorizerFault)
+    → Unless AuthorizerFault.Memory (λ why. overridden old name rule.path.now rule.perms.now rule.recursive ≡ Err why) fault → fault ≡ AuthorizerFault.BadLetter → letters_of rule.perms.now ≡ None
+row_lacks old name rule fault is same = rule_lacks old name rule.path.now rule.perms.now rule.recursive fault is same
 
 refused_lacks : (group : Option ℕ) (user : UserTable) (old : Accounts) → IsRefusedAccount group user old AuthorizerFault.BadLetter → letters_of user.perms.now ≡ None
 refused_lacks group user old (inl is) = added_lack old user.name.now user.password.now user.home.now user.perms.now is

@@ -1,9 +1,9 @@
-use Rattle.std.proofs.Common.{refl}
+use Rattle.std.proofs.Common.{get_or, refl}
 use Rattle.std.proofs.lemmas.Option.{slice_get-get_or}
 use Rattle.config_file.specs.declared.fault.TableName.TheVariants.{Override}
 use Rattle.server_config.specs.Users.{IsRefusedRule}
 use Rattle.server_config.proofs.UsersAdded.{rules-next}
-use Rattle.server_config.proofs.StrayLetters.{rule_lacks}
+use Rattle.server_config.proofs.StrayLetters.{row_lacks}
 use Rattle.server_config.proofs.UsersRefused.{told_as}
 use Rattle.server_config.proofs.users.add_rules.Goals as goal
 
@@ -28,5 +28,4 @@ returns-in-Err-clause-refused c =
 
 pub refused-requires-clause-stray : goal.refused-requires-clause-stray
 refused-requires-clause-stray c =
-    let rule = c.index-rules-index.result in
-    rule_lacks c.loop-index.users c.args.name.now rule.path.now rule.perms.now rule.recursive c.in-Err.fault c.in-Err.ensures.refused
+    row_lacks c.loop-index.users c.args.name.now (get_or c.args.rules.now c.loop-index.index _) c.in-Err.fault c.in-Err.ensures.refused

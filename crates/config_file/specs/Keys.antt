@@ -28,8 +28,8 @@ is_anonymous (Some (string name)) = bytes_eq name (codes "anonymous")
 is_anonymous _ = false
 
 abbrev pub is_unread : Kind → Members → Bool
-is_unread Password members = is_anonymous (get_member (codes "name") members)
-is_unread _ members = false
+is_unread Password given = is_anonymous (get_member (codes "name") given)
+is_unread _ given = false
 
 -- the default of a key that is not stated
 abbrev pub when_absent : Kind → Option Held → Judged
@@ -41,16 +41,16 @@ JudgesFound row (Some found) judged = Reads row.kind found judged
 JudgesFound row None judged = judged ≡ when_absent row.kind row.default
 
 abbrev pub JudgesUnless : Bool → KeyRow → Members → Judged → Type 0
-JudgesUnless true row members judged = judged ≡ Ok (text [])
-JudgesUnless false row members judged = JudgesFound row (get_member row.key members) judged
+JudgesUnless true row given judged = judged ≡ Ok (text [])
+JudgesUnless false row given judged = JudgesFound row (get_member row.key given) judged
 
 -- the value of the row's key in a table, or its problem
 abbrev pub Judges : KeyRow → Members → Judged → Type 0
-Judges row members judged = JudgesUnless (is_unread row.kind members) row members judged
+Judges row given judged = JudgesUnless (is_unread row.kind given) row given judged
 
 -- the row's key has a value
 abbrev pub Fits : KeyRow → Members → Type 0
-Fits row members = (held : Held) × Judges row members (Ok held)
+Fits row given = (held : Held) × Judges row given (Ok held)
 
 -- ---- the keys that a table may have
 
@@ -60,7 +60,7 @@ is_among known key = list_any (λ it. bytes_eq it key) known
 -- the keys of the members, which ascend
 abbrev pub keys_in : Members → List (List ℕ)
 keys_in no_members = []
-keys_in (member key found members) = key ∷ keys_in members
+keys_in (member key found given) = key ∷ keys_in given
 
 -- the first of these keys that is not in the list
 abbrev pub first_stray : List (List ℕ) → List (List ℕ) → Option (List ℕ)
@@ -69,7 +69,7 @@ first_stray known (key ∷ keys) = if is_among known key then first_stray known 
 
 -- the least key of the table that is not in the list
 abbrev pub stray : List (List ℕ) → Members → Option (List ℕ)
-stray known members = first_stray known (keys_in members)
+stray known given = first_stray known (keys_in given)
 
 -- a file without groups knows no key `group`
 abbrev pub is_known : Bool → List ℕ → Bool
@@ -84,32 +84,32 @@ keys_of grouped (row ∷ rows) = if is_known grouped row.key then row.key ∷ ke
 
 -- the table has these values, one for each row
 abbrev pub AllHeld : List KeyRow → Members → List Held → Type 0
-AllHeld [] members [] = Unit {0}
-AllHeld (row ∷ rows) members (held ∷ more) = Judges row members (Ok held) × AllHeld rows members more
-AllHeld _ members _ = ⊥
+AllHeld [] given [] = Unit {0}
+AllHeld (row ∷ rows) given (held ∷ more) = Judges row given (Ok held) × AllHeld rows given more
+AllHeld _ given _ = ⊥
 
 -- the table has these values, and no other keys
 abbrev pub States : Bool → List KeyRow → Members → List Held → Type 0
-States grouped rows members held = (stray (keys_of grouped rows) members ≡ None) × AllHeld rows members held
+States grouped rows given held = (stray (keys_of grouped rows) given ≡ None) × AllHeld rows given held
 
 -- each key has a value
 abbrev pub AllFit : List KeyRow → Members → Type 0
-AllFit [] members = Unit {0}
-AllFit (row ∷ rows) members = Fits row members × AllFit rows members
+AllFit [] given = Unit {0}
+AllFit (row ∷ rows) given = Fits row given × AllFit rows given
 
 -- the table has no problem
 abbrev pub IsFine : Bool → List KeyRow → Members → Type 0
-IsFine grouped rows members = (stray (keys_of grouped rows) members ≡ None) × AllFit rows members
+IsFine grouped rows given = (stray (keys_of grouped rows) given ≡ None) × AllFit rows given
 
 -- the first of the rows whose key is refused, with its problem
 abbrev pub IsFirstProblem : List KeyRow → Members → List ℕ → Problem → Type 0
-IsFirstProblem [] members key problem = ⊥
-IsFirstProblem (row ∷ rows) members key problem =
-    ((key ≡ row.key) × Judges row members (Err problem)) ⊎ (Fits row members × IsFirstProblem rows members key problem)
+IsFirstProblem [] given key problem = ⊥
+IsFirstProblem (row ∷ rows) given key problem =
+    ((key ≡ row.key) × Judges row given (Err problem)) ⊎ (Fits row given × IsFirstProblem rows given key problem)
 
 -- The first problem of a table: its least key that is unknown; or there is none, and it is that of
 -- the first row whose key is refused.
 abbrev pub IsRefused : Bool → List KeyRow → Members → List ℕ → Problem → Type 0
-IsRefused grouped rows members key problem =
-    ((stray (keys_of grouped rows) members ≡ Some key) × (problem ≡ Unknown))
-    ⊎ ((stray (keys_of grouped rows) members ≡ None) × IsFirstProblem rows members key problem)
+IsRefused grouped rows given key problem =
+    ((stray (keys_of grouped rows) given ≡ Some key) × (problem ≡ Unknown))
+    ⊎ ((stray (keys_of grouped rows) given ≡ None) × IsFirstProblem rows given key problem)

@@ -56,7 +56,7 @@ name_for (Some owner) row = Some owner
 name_for None row = text_in (get (codes "name") row)
 
 abbrev pub IsNoTable : Data → Type 0
-IsNoTable (table members) = ⊥
+IsNoTable (table _) = ⊥
 IsNoTable _ = Unit {0}
 
 -- the row has no problem

@@ -8,7 +8,7 @@
 use config_store::ServedStore;
 use folder_store::DirStore;
 use ftp_daemon::{ServeFault, Service, StopSign, serve};
-use ftpd_program::{Ending, Server, ServerFault};
+use ftpd_program::{Ending, Server};
 use log::sink::Console;
 use log::{Level, Logged};
 use server_config::Config;
@@ -58,13 +58,13 @@ impl<W: TextWriter> Server<W> for Asked {
         config: Config,
         stop_file: Option<&str>,
         _output: &mut W,
-    ) -> Result<(), ServerFault> {
+    ) -> Result<(), ServeFault> {
         match copied(alloc, stop_file) {
             Ok(path) => {
                 self.service = Some((config, path));
                 Ok(())
             }
-            Err(AllocError) => Err(ServerFault::Memory),
+            Err(AllocError) => Err(ServeFault::Memory),
         }
     }
 }
@@ -79,17 +79,6 @@ struct StopFile {
 impl StopSign for StopFile {
     fn is_up(&self) -> bool {
         fs::metadata(&self.machine, self.path.as_str()).is_ok()
-    }
-}
-
-fn fault_of(fault: ServeFault) -> ServerFault {
-    match fault {
-        ServeFault::Bind => ServerFault::Bind,
-        ServeFault::NoThread => ServerFault::NoThread,
-        ServeFault::WriteFault => ServerFault::WriteFault,
-        ServeFault::Store => ServerFault::Store,
-        ServeFault::Memory => ServerFault::Memory,
-        ServeFault::Stopped => ServerFault::Stopped,
     }
 }
 
@@ -205,6 +194,6 @@ where
     };
     match serve_config(rt, machine, config, stop, output) {
         Ok(()) => Ending::Common(Common::Done),
-        Err(fault) => Ending::Server(fault_of(fault)),
+        Err(fault) => Ending::Server(fault),
     }
 }

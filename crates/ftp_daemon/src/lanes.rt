@@ -4,7 +4,7 @@ ghost use Rattle.std.specs.Thread.{IsSend, IsSync};
 
 use crate::accepting::accept_all;
 use crate::crew::Crew;
-use crate::fault::ServeFault;
+use ftpd_program::ServeFault;
 use lent_parts::PartsName;
 use server_house::{House, ServerHooks};
 use std::alloc::Global;

@@ -3,11 +3,14 @@
 //! [`serve`] listens, writes `ready`, and serves until it has had its sessions or its stop file appears. Then it waits for
 //! the sessions in progress, gathers all shares, and writes `settled issued I moved M back B`: by the types of what the
 //! threads were lent, the octets issued are those moved and those given back, whatever happened.
+//!
+//! The crate is the programs as a library too: the commands that need no server, with what they take and return, are
+//! re-exported. [`run_share`] and [`run_check`] are those on sheets, [`run_script`] serves a session without sockets, and
+//! [`migrate`] returns a configuration in version 2.
 #![tactic(auto)]
 
 mod accepting;
 mod crew;
-mod fault;
 mod lanes;
 mod opening;
 mod serving;
@@ -15,7 +18,13 @@ mod settling;
 mod watching;
 mod works;
 
-pub use fault::ServeFault;
+pub use ftpd_program::{ScriptFault, ServeFault, run_script};
+pub use grant_certificate::Verdict;
 pub use opening::Service;
+pub use script_session::SessionFault;
+pub use server_config::{Config, ConfigFault, migrate};
 pub use serving::serve;
+pub use sheet_check::{CheckFault, run_check};
+pub use sheet_share::{ShareFault, run_share};
+pub use text_io::{TextFault, TextReader, TextWriter};
 pub use watching::StopSign;

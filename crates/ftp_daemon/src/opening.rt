@@ -7,10 +7,10 @@ ghost use Rattle.lane_desk.specs.Seats.{desk_id};
 ghost use Rattle.lane_desk.specs.Posted.{AllAnswered};
 ghost use Rattle.lane_desk.specs.Turns.{back, turns, IsRoundOf};
 
-use crate::fault::ServeFault;
 use authorizer::Authorizer;
 use data_sockets::TransferCell;
 use event_word::micros;
+use ftpd_program::ServeFault;
 use grant_ledger::{Book, Settled, Tally, settle};
 use handler_hooks::Hooks;
 use lane_desk::{Desk, LaneSeat, RoundDesk, Worked, open_desk};

@@ -5,7 +5,6 @@ ghost use Rattle.std.specs.Thread.{IsSend, IsSync};
 ghost use Rattle.lent_parts.specs.Names.{IsBoardOf, IsNamed};
 ghost use Rattle.transfer_worker.specs.Boards.{AreNewPasses};
 
-use crate::fault::ServeFault;
 use crate::lanes::{run_threads, serve_clients};
 use crate::opening::{Line, Rooms, Service, open_line, open_rooms};
 use crate::settling::{Lent, Room, settle_served, settle_unlent};
@@ -13,6 +12,7 @@ use crate::watching::{StopSign, is_up};
 use crate::works::{Lists, Waiting, Works, lend_passes, lend_seats, new_lists};
 use data_sockets::socket_address;
 use event_word::{EventCount, SharedEventCount};
+use ftpd_program::ServeFault;
 use grant_ledger::Settled;
 use handler_hooks::Hooks;
 use lane_desk::Rounds;

@@ -7,7 +7,7 @@
 
 use folder_store::DirStore;
 use ftp_daemon::{ServeFault, Service, StopSign, serve};
-use ftpd_program::{Ending, Server, ServerFault};
+use ftpd_program::{Ending, Server};
 use log::sink::Console;
 use log::{Level, Logged};
 use server_config::{Config, ServedStore};
@@ -57,13 +57,13 @@ impl<W: TextWriter> Server<W> for Asked {
         config: Config,
         stop_file: Option<&str>,
         _output: &mut W,
-    ) -> Result<(), ServerFault> {
+    ) -> Result<(), ServeFault> {
         match copied(alloc, stop_file) {
             Ok(path) => {
                 self.service = Some((config, path));
                 Ok(())
             }
-            Err(AllocError) => Err(ServerFault::Memory),
+            Err(AllocError) => Err(ServeFault::Memory),
         }
     }
 }
@@ -78,17 +78,6 @@ struct StopFile {
 impl StopSign for StopFile {
     fn is_up(&self) -> bool {
         fs::metadata(&self.machine, self.path.as_str()).is_ok()
-    }
-}
-
-fn fault_of(fault: ServeFault) -> ServerFault {
-    match fault {
-        ServeFault::Bind => ServerFault::Bind,
-        ServeFault::NoThread => ServerFault::NoThread,
-        ServeFault::WriteFault => ServerFault::WriteFault,
-        ServeFault::Store => ServerFault::Store,
-        ServeFault::Memory => ServerFault::Memory,
-        ServeFault::Stopped => ServerFault::Stopped,
     }
 }
 
@@ -204,6 +193,6 @@ where
     };
     match serve_config(rt, machine, config, stop, output) {
         Ok(()) => Ending::Common(Common::Done),
-        Err(fault) => Ending::Server(fault_of(fault)),
+        Err(fault) => Ending::Server(fault),
     }
 }

@@ -7,10 +7,10 @@ use Rattle.ftpd_program.specs.Faults.{IsReadingFaultOf}
 use Rattle.ftpd_program.specs.Scripting.{IsConfigOf, IsRefusalOf}
 use Rattle.ftpd_program.specs.declared.ending.Ending.{Ending}
 use Rattle.ftpd_program.specs.declared.ending.Ending.TheVariants.{Common, Config as Unread, Server}
-use Rattle.ftpd_program.specs.declared.server.ServerFault.{ServerFault}
+use Rattle.ftpd_program.specs.declared.server.ServeFault.{ServeFault}
 
 abbrev pub Answer : Type 0
-Answer = Result (Unit {0}) ServerFault
+Answer = Result (Unit {0}) ServeFault
 
 -- the possible calls of a server: the configuration, the stop file, the contents of the output before and after, and
 -- the result

@@ -2,7 +2,7 @@
 ghost use Rattle.std.specs.Prelude.{◌≡◌};
 ghost use Rattle.ftpd_program.specs.Endings.{status_of};
 
-use crate::server::ServerFault;
+use crate::server::ServeFault;
 use script_session::SessionFault;
 use server_config::ConfigFault;
 use sheets_program::{Ending as Common, Told as SheetsTold};
@@ -22,7 +22,7 @@ pub enum Ending<'w> {
     /// A folder is configured, but the store has to be in memory; or the control session broke off.
     Session(SessionFault),
     /// The server ended otherwise than its configuration says.
-    Server(ServerFault),
+    Server(ServeFault),
 }
 
 impl<'w> Ending<'w> {

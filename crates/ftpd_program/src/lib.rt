@@ -23,5 +23,5 @@ pub use ending::{Ending, Told};
 pub use printing::{Print, PrintFault, run_print};
 pub use run::run_words;
 pub use scripting::{ScriptFault, run_script};
-pub use server::{Server, ServerFault};
+pub use server::{ServeFault, Server};
 pub use sheets_program::{Openings, STANDARD_INPUT};

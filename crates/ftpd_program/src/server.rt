@@ -4,13 +4,13 @@ ghost use Rattle.std.specs.Prelude.{option_map};
 ghost use Rattle.ftpd_program.specs.Serving.{Service};
 
 use server_config::Config;
-use std::alloc::Global;
+use std::alloc::{AllocError, Global};
 use text_io::TextWriter;
 use thiserror::Error;
 
 /// The reason for which a server ended otherwise than its configuration says. It prints as its name.
 #[derive(Clone, Copy, Debug, PartialEq, Eq, Error)]
-pub enum ServerFault {
+pub enum ServeFault {
     /// The server cannot listen on the control port.
     #[error("Bind")]
     Bind,
@@ -31,6 +31,17 @@ pub enum ServerFault {
     Stopped,
 }
 
+impl From<AllocError> for ServeFault {
+    ghost use Rattle.std.specs.Prelude.{◌≡◌};
+    ghost use Rattle.ftpd_program.specs.declared.server.ServeFault.TheVariants.{Memory};
+
+    ghost from_gives = { λ _ fault. fault ≡ Memory };
+
+    fn from(_error: AllocError) -> ServeFault {
+        ServeFault::Memory
+    }
+}
+
 /// A server of clients. It writes a message to an output when it is ready, and the settled counts at its end.
 pub trait Server<W: TextWriter> {
     /// The possible calls: the configuration, the stop file, the contents of the output before and after, and the
@@ -45,7 +56,7 @@ pub trait Server<W: TextWriter> {
         config: Config,
         stop_file: Option<&str>,
         output: &mut W,
-    ) -> Result<(), ServerFault>
+    ) -> Result<(), ServeFault>
         ensures served { Serves config (option_map (λ w. w.now) stop_file.entry)
             (W.contents output.old) (W.contents output.new) result };
 }

@@ -7,7 +7,7 @@ ghost use Rattle.ftpd_program.specs.Serving.{IsConfigIn, IsServeEnd, IsUnconfigu
 
 use crate::ending::Ending;
 use crate::scripting::{ScriptFault, read_config};
-use crate::server::{Server, ServerFault};
+use crate::server::{ServeFault, Server};
 use server_config::Config;
 use sheets_program::{Ending as Common, Openings, text_cause};
 use std::alloc::Global;
@@ -43,7 +43,7 @@ fn config_at<'w, O: Openings>(
     }
 }
 
-fn ended<'w>(answer: Result<(), ServerFault>) -> Ending<'w>
+fn ended<'w>(answer: Result<(), ServeFault>) -> Ending<'w>
     ensures end { result ≡ end_of answer }
 {
     match answer {

@@ -3,7 +3,7 @@
 use crate::ends::{Files, Given};
 use crate::expect::{holds, same, tells};
 use crate::texts::SMALL;
-use ftpd_program::{Ending, Server, ServerFault, Told, run_words};
+use ftpd_program::{Ending, ServeFault, Server, Told, run_words};
 use server_config::Config;
 use std::alloc::Global;
 use std::process::Abort;
@@ -18,7 +18,7 @@ pub(crate) struct Noting {
     port: u16,
     /// The last stop file.
     stop_file: Option<String>,
-    fault: Option<ServerFault>,
+    fault: Option<ServeFault>,
 }
 
 impl Noting {
@@ -39,7 +39,7 @@ impl<W: TextWriter> Server<W> for Noting {
         config: Config,
         stop_file: Option<&str>,
         output: &mut W,
-    ) -> Result<(), ServerFault> {
+    ) -> Result<(), ServeFault> {
         self.calls = self.calls.saturating_add(1);
         self.port = config.numbers.port;
         self.stop_file = match stop_file {
@@ -47,7 +47,7 @@ impl<W: TextWriter> Server<W> for Noting {
             None => None,
         };
         if output.write_text(b"ready\n").is_err() {
-            return Err(ServerFault::WriteFault);
+            return Err(ServeFault::WriteFault);
         }
         match self.fault {
             Some(fault) => Err(fault),
@@ -100,13 +100,13 @@ fn a_server_is_called(rt: HostRuntime) {
 }
 
 /// Faults of a server, and their names.
-static FAULTS: [(ServerFault, &str); 6] = [
-    (ServerFault::Bind, "ftpd: Bind\n"),
-    (ServerFault::NoThread, "ftpd: NoThread\n"),
-    (ServerFault::WriteFault, "ftpd: WriteFault\n"),
-    (ServerFault::Store, "ftpd: Store\n"),
-    (ServerFault::Memory, "ftpd: Memory\n"),
-    (ServerFault::Stopped, "ftpd: Stopped\n"),
+static FAULTS: [(ServeFault, &str); 6] = [
+    (ServeFault::Bind, "ftpd: Bind\n"),
+    (ServeFault::NoThread, "ftpd: NoThread\n"),
+    (ServeFault::WriteFault, "ftpd: WriteFault\n"),
+    (ServeFault::Store, "ftpd: Store\n"),
+    (ServeFault::Memory, "ftpd: Memory\n"),
+    (ServeFault::Stopped, "ftpd: Stopped\n"),
 ];
 
 #[test]

@@ -12,6 +12,7 @@ pub mod Looks
 pub mod Absorbs
 pub mod Shapes
 pub mod Hops
+pub mod Bare
 pub mod Rows
 pub mod Told
 pub mod Copied

@@ -183,6 +183,8 @@ fn absorb_row(places: &[Place], first: usize, trees: usize, level: u64) -> u64
         let place = place_at(places, node);
         total += match place.kind {
             NodeKind::Leaf { want, floor } => level.max(floor).min(want),
+            // (most nodes of a large sheet may be limits with no want below: no kid of theirs is examined)
+            NodeKind::Branch { .. } if place.leaves == 0 => 0,
             NodeKind::Branch { limit } => {
                 let below = absorb_row(places, node + 1, place.kids, level);
                 at_most(limit, below)

@@ -1,8 +1,9 @@
 use Rattle.std.proofs.Common.{arith, ◌≡◌, ◌+◌, ◌-◌, ◌∙◌, suc, ap}
 use Rattle.limit_tree.specs.Outline.{cut}
 use Rattle.limit_tree.specs.Flat.{taken_in, HasRow}
+use Rattle.limit_tree.proofs.Bare.{absorbed-bare}
 use Rattle.limit_tree.proofs.Hops.{absorbed-leaf, absorbed-branch, taken-more, taken-wants, row-next, row-inside}
-use Rattle.limit_tree.proofs.flat.+absorb_row.Goals.{in-Leaf, in-Branch}
+use Rattle.limit_tree.proofs.flat.+absorb_row.Goals.{in-Leaf, in-Branch, in-Branch-2}
 use Rattle.limit_tree.proofs.flat.+absorb_row.Goals as goal
 
 pub place_at-place-requires : goal.place_at-place-requires
@@ -12,7 +13,7 @@ pub absorb_row-below-requires : goal.absorb_row-below-requires
 absorb_row-below-requires t c =
     let p = c.place_at-place.result in
     let tree = c.requires.flat.shaped c.loop-tree.node p c.place_at-place.ensures.place in
-    let row : HasRow c.args.places.now (c.loop-tree.node + 1) p.kids = (p.first, c.loop-tree.node + p.nodes, p.first + p.leaves, tree.branch c.in-Branch.limit c.in-Branch.is) in
+    let row : HasRow c.args.places.now (c.loop-tree.node + 1) p.kids = (p.first, c.loop-tree.node + p.nodes, p.first + p.leaves, tree.branch c.in-Branch-2.limit c.in-Branch-2.is) in
     (omega (arith, tree.inside, tree.some, c.loop-tree.invariant.past), (c.requires.flat, row))
 
 pub overflow_add-total : goal.overflow_add-total
@@ -30,8 +31,11 @@ overflow_add-total t c =
     elim c.match-place.branch [
       | in-Leaf w ↦ omega (arith, c.loop-tree.invariant.value, was, taken, wants, octets, leaves, absorbed-leaf c.args.level ps node p w.in-Leaf.want w.in-Leaf.floor c.place_at-place.ensures.place w.in-Leaf.is, w.total-is)
       | in-Branch w ↦
-          let below = absorbed-branch c.args.level ps node p w.in-Branch.limit c.place_at-place.ensures.place w.in-Branch.is in
-          let cuts = w.at_most.ensures.cut ∙ ap (cut w.in-Branch.limit) w.absorb_row-below.ensures.absorbed in
+          let bare = absorbed-bare c.args.level ps node p c.requires.flat.shaped c.place_at-place.ensures.place w.if-place-eq0.true in
+          omega (arith, c.loop-tree.invariant.value, was, taken, wants, octets, leaves, bare, w.total-is)
+      | in-Branch-2 w ↦
+          let below = absorbed-branch c.args.level ps node p w.in-Branch-2.limit c.place_at-place.ensures.place w.in-Branch-2.is in
+          let cuts = w.at_most.ensures.cut ∙ ap (cut w.in-Branch-2.limit) w.absorb_row-below.ensures.absorbed in
           omega (arith, c.loop-tree.invariant.value, was, taken, wants, octets, leaves, below, cuts, w.total-is)
     ]
 
@@ -55,8 +59,11 @@ loop-tree-preserved t c =
       value = elim c.match-place.branch [
         | in-Leaf w ↦ omega (arith, c.loop-tree.invariant.value, was, taken, absorbed-leaf c.args.level ps node p w.in-Leaf.want w.in-Leaf.floor c.place_at-place.ensures.place w.in-Leaf.is, w.total-is)
         | in-Branch w ↦
-            let below = absorbed-branch c.args.level ps node p w.in-Branch.limit c.place_at-place.ensures.place w.in-Branch.is in
-            let cuts = w.at_most.ensures.cut ∙ ap (cut w.in-Branch.limit) w.absorb_row-below.ensures.absorbed in
+            let bare = absorbed-bare c.args.level ps node p c.requires.flat.shaped c.place_at-place.ensures.place w.if-place-eq0.true in
+            omega (arith, c.loop-tree.invariant.value, was, taken, bare, w.total-is)
+        | in-Branch-2 w ↦
+            let below = absorbed-branch c.args.level ps node p w.in-Branch-2.limit c.place_at-place.ensures.place w.in-Branch-2.is in
+            let cuts = w.at_most.ensures.cut ∙ ap (cut w.in-Branch-2.limit) w.absorb_row-below.ensures.absorbed in
             omega (arith, c.loop-tree.invariant.value, was, taken, below, cuts, w.total-is)
       ];
     }

@@ -73,9 +73,6 @@ take_whole : (path : Path) → take (length path) path ≡ path
 take_whole [] = refl
 take_whole (name ∷ names) = ap (λ (rest : Path). name ∷ rest) (take_whole names)
 
-pub above-zero : (path : Path) → above 0 path ≡ path
-above-zero path = ap (λ n. take n path) (let n : length path - 0 ≡ length path = omega arith in n) ∙ take_whole path
-
 pub one_deepest : (overrides : Overrides) (path : Path) (up : ℕ) (rule : Rule) (other : ℕ) (next : Rule) → IsDeepest overrides path up rule → IsDeepest overrides path other next → rule ≡ next
 one_deepest overrides path up rule other next is are =
     let below : up ≤ other = is.deepest other next are.covered in

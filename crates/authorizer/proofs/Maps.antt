@@ -63,9 +63,6 @@ get-found v bs m x e = get-map_of v m bs ∙ ap (option_map v) (sym e)
 pub get-missing : {Y X V : Type 0} (v : X → V) (bs : List ℕ) (m : BTreeMap (String Y) X) → None ≡ tree.get_by_text m bs → finite.get (map_of v m) bs ≡ None
 get-missing v bs m e = get-map_of v m bs ∙ ap (option_map v) (sym e)
 
-pub map_of-unchanged : {Y X V : Type 0} (v : X → V) (m n : BTreeMap (String Y) X) → n.entries ≡ m.entries → map_of v n ≡ map_of v m
-map_of-unchanged v m n e = ap (λ es. finite.from_entries (map (λ e. (string_bytes e.0, v e.1)) es)) e
-
 pub found : {Y X V : Type 0} (v : X → V) (bs : List ℕ) (m : BTreeMap (String Y) X) (r : Option (Bor X)) → option_copied r ≡ tree.get_by_text m bs
     → MatchOption r (finite.get (map_of v m) bs ≡ None) (λ x. finite.get (map_of v m) bs ≡ Some (v x.now))
 found v bs m None e = get-missing v bs m e

@@ -35,24 +35,10 @@ pub first_stray-other : (known : List (List ℕ)) (keys rest : List (String Glob
     → false ≡ is_among known text → first_stray known (map string_bytes keys) ≡ Some text
 first_stray-other known keys rest key text at same other = rw (at, ← same, ← other)
 
--- a row that has the key
-pub among_here : (grouped : Bool) (row : KeyRow) (rows : List KeyRow) (key : List ℕ) → bytes_eq row.key key ≡ true → is_known grouped row.key ≡ true
-    → is_among (keys_of grouped (row ∷ rows)) key ≡ true
-among_here grouped row rows key same known = rw (known, same)
-
 skipped : (known : Bool) (mine : List ℕ) (keys : List (List ℕ)) (key : List ℕ) → bytes_eq mine key ≡ false
     → is_among (if known then mine ∷ keys else keys) key ≡ is_among keys key
 skipped true mine keys key other = rw other
 skipped false mine keys key other = refl
-
--- a row that has it not, or is unknown
-pub among_later : (grouped : Bool) (row : KeyRow) (rows : List KeyRow) (key : List ℕ) → bytes_eq row.key key ≡ false
-    → is_among (keys_of grouped (row ∷ rows)) key ≡ is_among (keys_of grouped rows) key
-among_later grouped row rows key other = skipped (is_known grouped row.key) row.key (keys_of grouped rows) key other
-
-pub among_unknown : (grouped : Bool) (row : KeyRow) (rows : List KeyRow) (key : List ℕ) → is_known grouped row.key ≡ false
-    → is_among (keys_of grouped (row ∷ rows)) key ≡ is_among (keys_of grouped rows) key
-among_unknown grouped row rows key unknown = rw unknown
 
 -- a text in which no control octet is found has none
 pub plain : (text : List ℕ) → list_any is_control text ≡ false → HasNoControl text
@@ -60,7 +46,3 @@ plain [] none = tt
 plain (octet ∷ text) none =
     let (here, later) = or_parts (is_control octet) (list_any is_control text) none in
     (here, plain text later)
-
--- and stands on one line
-pub plain_line : (text : List ℕ) → HasNoControl text → IsLine text
-plain_line text none = line_printed text none

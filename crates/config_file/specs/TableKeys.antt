@@ -83,10 +83,6 @@ server_values server =
     ∷ number server.up_rate
     ∷ []
 
--- the values of the table are those of the server
-abbrev pub IsServer : Members → ServerTable → Type 0
-IsServer members server = States true server_rows members (server_values server)
-
 -- ---- [[group]]
 
 abbrev pub group_rows : List KeyRow

@@ -87,10 +87,6 @@ pub or_false : (b : Bool) → (b || false) ≡ b
 or_false true = refl
 or_false false = refl
 
-pub or_true : (b : Bool) → true ≡ (b || true)
-or_true true = refl
-or_true false = refl
-
 pub heard_as : {H A S R K : Type 0} (Does : H → HostCall A S R K → H → Type 0) (host host' : H) (buffer : List ℕ) (p q : Piece) → p ≡ q → Does host (piece_call p buffer) host' → Does host (piece_call q buffer) host'
 heard_as Does host host' buffer p q same did = subst (λ (x : Piece). Does host (piece_call x buffer) host') same did
 
@@ -101,10 +97,6 @@ of_err_ok (Err fault) P Q is holds = (tt, holds)
 pub on_ok_to : {T E : Type 0} (answer : Result T E) (P Q : Type 0) → (P → Q) → OnOk answer P → OnOk answer Q
 on_ok_to (Ok value) P Q to p = to p
 on_ok_to (Err fault) P Q to p = tt
-
-pub or_both : (a b : Bool) → a ≡ false → b ≡ false → (a || b) ≡ false
-or_both true b first second = absurd (false≢true (sym first))
-or_both false b first second = second
 
 pub pick : (b : Bool) (P : Type 0) → (b ≡ true) ⊎ P → b ≡ false → P
 pick b P (inl is) other = absurd (false≢true (sym other ∙ is))

@@ -31,15 +31,6 @@ module _ {T : Type 0} where
   no_turn_read (Err fault) turn.Write is same = absurd (cc)
   no_turn_read (Err fault) turn.Memory is same = absurd (cc)
 
-  pub lost_memory : (answer : Result T ControlFault) (lost : Option TurnFault) → IsErrAnd answer (λ fault. fault ≡ Memory) → IfErr answer (IsLostTo lost)
-  lost_memory (Ok value) lost is = tt
-  lost_memory (Err fault) lost is = subst (λ (f : ControlFault). IsLostTo lost f) (sym is) tt
-
-  pub lost_turn : (answer : Result T ControlFault) (why : TurnFault) (lost : Option TurnFault) → IsErrAnd answer (λ fault. fault ≡ fault_of why) → IsLost lost why → IfErr answer (IsLostTo lost)
-  lost_turn (Ok value) why lost is holds = tt
-  lost_turn (Err fault) turn.Write lost is holds = subst (λ (f : ControlFault). IsLostTo lost f) (sym is) holds
-  lost_turn (Err fault) turn.Memory lost is holds = subst (λ (f : ControlFault). IsLostTo lost f) (sym is) tt
-
   -- a fault that is handed on is the same
   pub same_read : (answer : Result T ControlFault) (why : ControlFault) → IsErrAnd answer (λ fault. fault ≡ why) → IsErrOf answer ReadFault → why ≡ ReadFault
   same_read (Ok value) why is same = absurd is

@@ -17,45 +17,7 @@ to_come-let_go data_type n waiting None = tt
 to_come-let_go data_type n waiting (Some octets) =
     ap (λ l. l ++ sent data_type octets) (sym (take-append-drop n waiting)) ∙ append_assoc (take n waiting) (drop n waiting) (sent data_type octets)
 
--- what a read gave was to come
-pub to_come-filled : (data_type : DataType) (old new : Option (List ℕ)) (count : ℕ) (wire : List ℕ) → Fills data_type old new count wire
-    → Keeps (still_to_come data_type [] old) (still_to_come data_type wire new)
-to_come-filled data_type None new count wire filled = tt
-to_come-filled data_type (Some xs) None count wire filled = absurd filled.consumed
-to_come-filled data_type (Some xs) (Some ys) count wire filled =
-    ap (λ l. l ++ sent data_type ys) filled.turned
-    ∙ (sym (sent-append data_type filled.read ys) ∙ ap (sent data_type) (sym filled.consumed))
-
-pub to_come-kept : (data_type : DataType) (waiting : List ℕ) (old new : Option (List ℕ)) → Keeps old new
-    → Keeps (still_to_come data_type waiting old) (still_to_come data_type waiting new)
-to_come-kept data_type waiting None new kept = tt
-to_come-kept data_type waiting (Some xs) None kept = absurd kept
-to_come-kept data_type waiting (Some xs) (Some ys) kept = ap (λ l. waiting ++ sent data_type l) kept
-
-sent-nil : (data_type : DataType) → sent data_type [] ≡ []
-sent-nil Ascii = refl
-sent-nil Image = refl
-
-pub to_come-at_end : (data_type : DataType) (known : Option (List ℕ)) → IsAtEnd known → IsAtEnd (still_to_come data_type [] known)
-to_come-at_end data_type None ended = tt
-to_come-at_end data_type (Some xs) ended = ap (sent data_type) ended ∙ sent-nil data_type
-
--- what holds where it is so, where it is so
-pub on_true : (b : Bool) {P : Type 0} → OnTrue b P → b ≡ true → P
-on_true true h is = h
-on_true false h is = absurd (cc is)
-
 module _ {S K : Type 0} (remaining : S → Option (List ℕ)) (contents : K → Option (List ℕ)) where
-  pub sending_at_open : (before octets : List ℕ) (out : OutFlow S K) → contents out.connection ≡ Some before
-      → to_come remaining out ≡ Some (sent out.data_type octets) → IsSending remaining contents before (sent out.data_type octets) out
-  sending_at_open before octets out holds comes = record {
-    written = [];
-    rest = sent out.data_type octets;
-    holds = holds ∙ ap Some (sym (append-nil before));
-    comes = comes;
-    whole = refl;
-  }
-
   pub sending_moved : (octets : ℕ) (old new : OutFlow S K) (pumped : Pumped) (before text : List ℕ)
       → MovesOut remaining contents octets old new pumped → IsSending remaining contents before text old
       → IsSending remaining contents before text new

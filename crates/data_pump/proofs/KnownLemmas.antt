@@ -16,10 +16,6 @@ pub known-consumed : (a b : Option (List ℕ)) (xs gone : List ℕ) → a ≡ So
 known-consumed a None xs gone e h = absurd (subst (λ o. Consumes o None gone) e h)
 known-consumed a (Some ys) xs gone e h = record { rest = ys; known = refl; whole = subst (λ o. Consumes o (Some ys) gone) e h }
 
-pub known-kept : (a b : Option (List ℕ)) (xs : List ℕ) → a ≡ Some xs → Keeps a b → b ≡ Some xs
-known-kept a None xs e h = absurd (subst (λ o. Keeps o None) e h)
-known-kept a (Some ys) xs e h = ap Some (subst (λ o. Keeps o (Some ys)) e h)
-
 pub known-at_end : (a : Option (List ℕ)) (xs : List ℕ) → a ≡ Some xs → IsAtEnd a → xs ≡ []
 known-at_end a xs e h = subst IsAtEnd e h
 

@@ -224,12 +224,6 @@ module _ {N : Type 0} where
     pub each_lane : (i : ℕ) → i < length s.homes → Agrees i (slice_index s.words i) (get_elem? s.homes i) (lane i) (turn i) (phase i)
     pub each_view : (j : ℕ) (v : DeskView) → get_elem? s.views j ≡ some v → Knows (length s.homes) lane turn owner desk dealt j v
 
-  abbrev pub ask_held : List (ℕ × (LaneSlot N)) → List Ask
-  ask_held [] = []
-  ask_held ((k, Blank) ∷ xs) = []
-  ask_held ((k, WithAsk a) ∷ xs) = a ∷ []
-  ask_held ((k, WithGrant g) ∷ xs) = []
-
   abbrev pub sits : Step (LaneSlot N) → Me (LaneSlot N) DeskView → ℕ → Me (LaneSlot N) DeskView → Type 0
   sits st m r m' = m' ≡ (with_lane st.word (sat_down (lane_in st.word m.0)) m.0, (st.word, Blank) ∷ m.1)
 

@@ -35,11 +35,6 @@ pub names_further : {B : Type 0} (text_of : B → List ℕ) (names : List B) (i 
 names_further text_of names i other within =
     sym (map-append text_of (take i names) (get_or names i other ∷ [])) ∙ sym (ap (λ n. map text_of n) (take_more names i other within))
 
--- all names but the last, and then the last
-pub names_with_last : {B : Type 0} (text_of : B → List ℕ) (all names : List B) (last : B) (path : Path) → all ≡ names ++ last ∷ [] → map text_of all ≡ path
-    → map text_of names ++ text_of last ∷ [] ≡ path
-names_with_last text_of all names last path is are = sym (map-append text_of names (last ∷ [])) ∙ sym (ap (λ n. map text_of n) is) ∙ are
-
 pub leads_next : {B : Type 0} (text_of : B → List ℕ) (names : List B) (i : ℕ) (other : B) (folder place new : List ℕ) → i < length names → LeadsTo folder (map text_of (take i names)) place
     → IsOpenText new ⊎ (new ≡ place ++ 47 ∷ text_of (get_or names i other)) → LeadsTo folder (map text_of (take (i + 1) names)) new
 leads_next text_of names i other folder place new within at step =

@@ -7,9 +7,6 @@ use Rattle.std.specs.List.{flat_map}
 use lib.Utf8.{encode}
 use Rattle.ftp_reply.specs.Quoting.{doubled}
 
-pub doubled_quote : flat_map doubled (encode 34) ≡ codes "\"\""
-doubled_quote = rw (encode_ascii 34 (omega arith)) refl
-
 -- octets above ASCII stay
 unquoted : (octets : List ℕ) → ((k : ℕ) → k < length octets → 128 ≤ get_or octets k 0) → flat_map doubled octets ≡ octets
 unquoted [] high = refl

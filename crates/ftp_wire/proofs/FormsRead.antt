@@ -35,10 +35,6 @@ unfolding type_of
 type_reads Ascii = refl
 type_reads Image = refl
 
-pub type_visible : (d : DataType) → is_visible_text (type_text d) ≡ true
-type_visible Ascii = refl
-type_visible Image = refl
-
 pub type_argument : (d : DataType) → IsArgument (type_text d)
 type_argument Ascii = visible_argument (codes "A") refl refl
 type_argument Image = visible_argument (codes "I") refl refl

@@ -10,19 +10,6 @@ use Rattle.ftp_wire.specs.Lines.{Cuts}
 use Rattle.ftp_wire.proofs.Cutting.{cuts_end, cuts_more, same_lines}
 use Rattle.ftp_wire.proofs.TokensApart.{same_text, strips_of}
 
--- an octet of which nothing stays
-pub read_nothing : {A : Type 0} (octets : List ℕ) (items : List Item) (octet : ℕ) (old new : LineReader A) → HasRead octets items old
-    → ((o t : List ℕ) → StripsTo o t old.stage → StripsTo (o ++ octet ∷ []) (t ++ []) new.stage) → new.line ≡ old.line → HasRead (octets ++ octet ∷ []) items new
-read_nothing {A} octets items octet old new h strips same = record {
-  text = h.text;
-  lines = h.lines;
-  rest = h.rest;
-  strips = subst (λ t. StripsTo (octets ++ octet ∷ []) t new.stage) (append-nil h.text) (strips octets h.text h.strips);
-  cuts = h.cuts;
-  items_are = h.items_are;
-  holds = subst (λ (l : OpenLine A). Holds h.rest l) (sym same) h.holds;
-}
-
 -- an octet that stays, and ends no line
 pub read_octet : {A : Type 0} (octets : List ℕ) (items : List Item) (octet kept : ℕ) (old new : LineReader A) → HasRead octets items old
     → ((o t : List ℕ) → StripsTo o t old.stage → StripsTo (o ++ octet ∷ []) (t ++ kept ∷ []) new.stage) → kept ≢ 10

@@ -43,20 +43,11 @@ ends octets text old octet s token good is = record {
 pub text_plain : (octets text : List ℕ) (octet : ℕ) → octet ≢ 255 → StripsTo octets text stage.Text → StripsTo (octets ++ octet ∷ []) (text ++ octet ∷ []) stage.Text
 text_plain octets text octet ne s = ends octets text stage.Text octet s (plain octet) ne (ap (λ t. t ++ octet ∷ []) (sym s.is_start))
 
-pub text_iac : (octets text : List ℕ) → StripsTo octets text stage.Text → StripsTo (octets ++ 255 ∷ []) text stage.Command
-text_iac octets text s = waits octets text stage.Text stage.Command 255 s (255 ∷ []) (ap (λ t. t ++ 255 ∷ []) (sym s.is_start)) refl
-
 pub command_escaped : (octets text : List ℕ) (octet : ℕ) → (octet < 240) ⊎ (octet ≡ 255) → StripsTo octets text stage.Command → StripsTo (octets ++ octet ∷ []) (text ++ octet ∷ []) stage.Text
 command_escaped octets text octet good s = ends octets text stage.Command octet s (escaped octet) good (ap (λ t. t ++ octet ∷ []) (sym s.is_start))
 
 pub command_whole : (octets text : List ℕ) (octet : ℕ) → 240 ≤ octet → octet < 250 → StripsTo octets text stage.Command → StripsTo (octets ++ octet ∷ []) (text ++ []) stage.Text
 command_whole octets text octet low high s = ends octets text stage.Command octet s (command octet) (low, high) (ap (λ t. t ++ octet ∷ []) (sym s.is_start))
-
-pub command_option : (octets text : List ℕ) (octet : ℕ) → 250 < octet → octet < 255 → StripsTo octets text stage.Command → StripsTo (octets ++ octet ∷ []) text stage.Option
-command_option octets text octet low high s = waits octets text stage.Command stage.Option octet s (255 ∷ octet ∷ []) (ap (λ t. t ++ octet ∷ []) (sym s.is_start)) (octet, low, high, refl)
-
-pub command_inside : (octets text : List ℕ) → StripsTo octets text stage.Command → StripsTo (octets ++ 250 ∷ []) text stage.Inside
-command_inside octets text s = waits octets text stage.Command stage.Inside 250 s (255 ∷ 250 ∷ []) (ap (λ t. t ++ 250 ∷ []) (sym s.is_start)) ([], tt, refl)
 
 pub option_whole : (octets text : List ℕ) (octet : ℕ) → StripsTo octets text stage.Option → StripsTo (octets ++ octet ∷ []) (text ++ []) stage.Text
 option_whole octets text octet s =
@@ -71,11 +62,6 @@ pub inside_octet : (octets text : List ℕ) (octet : ℕ) → octet ≢ 255 → 
 inside_octet octets text octet ne s =
     let (parts, good, is) = s.is_start in
     waits octets text stage.Inside stage.Inside octet s _ (more_part parts (one octet) s.start (octet ∷ []) is refl) (parts ++ one octet ∷ [], push_each IsPart parts (one octet) good ne, refl)
-
-pub inside_iac : (octets text : List ℕ) → StripsTo octets text stage.Inside → StripsTo (octets ++ 255 ∷ []) text stage.InsideCommand
-inside_iac octets text s =
-    let (parts, good, is) = s.is_start in
-    waits octets text stage.Inside stage.InsideCommand 255 s _ (ap (λ t. t ++ 255 ∷ []) (sym is)) (parts, good, refl)
 
 pub inside_end : (octets text : List ℕ) → StripsTo octets text stage.InsideCommand → StripsTo (octets ++ 240 ∷ []) (text ++ []) stage.Text
 inside_end octets text s =

@@ -12,16 +12,3 @@ pub answered : (gives : Octets) (serves : Service) (path old new : Option (List 
     → serves config path old new answer → IsServeEnd gives serves path old new (end_of answer)
 answered gives serves path old new config (Ok tt) read is = (config, read, is)
 answered gives serves path old new config (Err why) read is = (config, read, is)
-
--- the server was not called
-pub not_called : (gives : Octets) (serves : Service) (path old new : Option (List ℕ)) (ending : Ending) → IsUnconfiguredEnd gives ending
-    → IsServeEnd gives serves path old new ending
-not_called gives serves path old new (Common Done) is = absurd is
-not_called gives serves path old new (Common Flawed) is = absurd is
-not_called gives serves path old new (Common (Refused told)) is = absurd is
-not_called gives serves path old new (Common (Text why cause)) is = is
-not_called gives serves path old new (Common (Share why cause)) is = absurd is
-not_called gives serves path old new (Common (Check why cause)) is = absurd is
-not_called gives serves path old new (Unread why) is = is
-not_called gives serves path old new (Session why) is = absurd is
-not_called gives serves path old new (Server why) is = absurd is

@@ -79,9 +79,6 @@ pub rest_next : (ls ns : List ℕ) (ts us : List TurnView) (i : ℕ) → i < len
 rest_next ls ns ts us i h e is =
     ap (posted_all (drop (i + 1) ls) (drop (i + 1) ns)) is ∙ (λ q. posted_all (sym (drops ls 0 i h) q) (sym (drops ns 0 i (omega (arith, h, e))) q) ts)
 
-pub rest_done : (ls ns : List ℕ) (ts : List TurnView) (i : ℕ) → length ls ≤ i → posted_all (drop i ls) ns ts ≡ ts
-rest_done ls ns ts i h = ap (λ (xs : List ℕ). posted_all xs ns ts) (drop_all i ls h)
-
 pub sum_next : (ns : List ℕ) (i : ℕ) → i < length ns → sum (drop i ns) ≡ get_or ns i 0 + sum (drop (i + 1) ns)
 sum_next ns i h = sum_by-drop_more (λ (n : ℕ). n) ns i 0 h
 

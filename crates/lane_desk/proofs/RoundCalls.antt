@@ -95,9 +95,6 @@ module _ {N : Type 0} where
   pub left_slot : (held : List Bool) (i n n' : ℕ) (l : List (ℕ × (LaneSlot N))) → i < length held → l ≡ below held i ++ above held (suc i) n' → n ≡ suc n' → l ≡ stack (set held i false) i n
   left_slot held i n n' l near is e = is ∙ leaves_front held i n' near ∙ ap (stack (set held i false) i) (sym e)
 
-  round_same : (m m' : (Me (LaneSlot N) DeskView)) (l : List (ℕ × (LaneSlot N))) → m' ≡ (m.0, l) → m'.0 ≡ m.0
-  round_same m m' l e = ap (λ x. x.0) e
-
   pub collects_of : (n id : ℕ) (m0 m1 : (Me (LaneSlot N) DeskView)) (lanes : ℕ) (held : List Bool) (i : ℕ) (l : List (ℕ × (LaneSlot N))) → KnowsDesk m0 lanes held → i < lanes → m1 ≡ (m0.0, l) → Allows Kept n id m1 i (λ y. either (eqb y 2) 3 y) (spec.collects (step n i 2 3 none) m1)
   collects_of n id m0 m1 lanes held i l k near is = subst (λ (u : (Me (LaneSlot N) DeskView)). Allows Kept n id u i (λ y. either (eqb y 2) 3 y) (spec.collects (step n i 2 3 none) u)) (sym is)
       (collects n id (m0.0, l) i (rounds_of m0.0 i k.view_is (subst (λ (z : ℕ). i < z) (sym k.wide) near)))

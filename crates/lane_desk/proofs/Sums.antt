@@ -63,7 +63,3 @@ module _ {N : Type 0} where
   next_worker z n all ys r w are is =
       let k = are.1 (length ys) w (ap (λ l. slice_get l (length ys)) (sym is) ∙ get_middle ys w r) in
       (k.1, omega (arith, k.0, are.0, ap length is, length-append ys (w ∷ r)), k.0)
-
--- a step of the round that posts nothing
-pub posted_kept : (ts ts' : List TurnView) (i : ℕ) (t : TurnView) → i < length ts → ts' ≡ set ts i t → sum t.posted ≡ sum (get_or ts i unturned).posted → posted_in ts' ≡ posted_in ts
-posted_kept ts ts' i t near e same = omega (arith, ap posted_in e, posted_set ts i t near, same)

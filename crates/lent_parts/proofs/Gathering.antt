@@ -29,13 +29,6 @@ module _ {N : Type 0} where
     λ i x e. ⊎_elim (k.1 i x) (λ (t : (i ≡ length ws) × (w ≡ x)). subst (λ (y : (Worked N)). (y.seat.lane ≡ i) × (y.seat.seat.table_id ≡ z)) t.1 (a ∙ sym t.0, b)) (get_end ws w x i e),
   )
 
-  pub no_worker : (z : TableId) → AreWorkers {N = N} z 0 []
-  no_worker z = (refl, λ i x e. absurd (never i x e))
-    where
-      never : (i : ℕ) (x : (Worked N)) → slice_get {X = Worked N} [] i ≡ Some x → ⊥
-      never zero x e = cc
-      never (suc i) x e = cc
-
 -- what they tell as moved is passed on with them
 module _ {B N : Type 0} {names : Ghosts B} where
   pub moved_passed : (gs gs' : List (Worked N)) (g : Worked N) (ws ws' : List (LentWorker B N names)) (w : LentWorker B N names) (all : ℕ)

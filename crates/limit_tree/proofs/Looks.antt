@@ -39,9 +39,6 @@ wants-branch seen p limit e = filter_map-append (λ (x : Place). leaf_want x.kin
 pub floors-branch : (seen : List Place) (p : Place) (limit : Option ℕ) → p.kind ≡ Branch limit → (limits (seen ++ p ∷ [])).floors ≡ (limits seen).floors
 floors-branch seen p limit e = filter_map-append (λ (x : Place). leaf_floor x.kind) seen (p ∷ []) ∙ (ap (λ (k : NodeKind). (limits seen).floors ++ cons_option (leaf_floor k) []) e ∙ append-nil (limits seen).floors)
 
-at_place : Option Place → Option SharedBranch
-at_place o = option_and_then (λ (x : Place). branch_of x.kind x.first x.leaves) o
-
 -- a branch of the nodes seen and one more is one of those seen, or that one
 pub branch_either : (seen : List Place) (p : Place) (k : ℕ) (b : SharedBranch) → IsBranch (limits (seen ++ p ∷ [])) k b → IsBranch (limits seen) k b ⊎ ((k ≡ length seen) × (branch_of p.kind p.first p.leaves ≡ Some b))
 branch_either seen p k b is = elim (cases_eq (length seen) k) [

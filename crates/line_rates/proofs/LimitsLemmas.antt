@@ -60,9 +60,6 @@ no_row_alike gs hs e (Some group) = ap (λ (m : Groups). not (finite.contains_ke
 
 -- The rows gs and us are those that are stated, hs and vs the same in the order of their numbers.
 module _ (server down up : ℕ) (gs hs : List GroupRate) (us vs : List UserRate) where
-  pub refused_large : has_large_rate server down up gs us ≡ true → limits_fault server down up gs us ≡ Some RateTooLarge
-  refused_large e = on_true _ _ _ e
-
   module _ (small : has_large_rate server down up gs us ≡ false) (groups : IsPermutation gs hs) where
     moved_groups : has_twice (map group_number gs) ≡ has_twice (map group_number hs)
     moved_groups = twice-moved (map group_number gs) (map group_number hs) (IsPermutation-map group_number gs hs groups)

@@ -100,9 +100,6 @@ places-deeper : (ms : List Mark) → map place_in (map mark_deeper ms) ≡ map d
 places-deeper [] = refl
 places-deeper (m ∷ ms) = ap (λ ps. deeper m.place ∷ ps) (places-deeper ms)
 
-one_if : Bool → ℕ
-one_if b = cond b 1 0
-
 abbrev mark_count : Name → Mark → ℕ
 mark_count n m = cond (is_marked n m) 1 0
 

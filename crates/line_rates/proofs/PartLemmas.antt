@@ -10,10 +10,6 @@ module _ {X : Type 0} where
   pub drop_at : (xs ys zs : List X) (n : ℕ) → zs ≡ xs ++ ys → n ≡ length xs → drop n zs ≡ ys
   drop_at xs ys zs n e l = ap (λ (m : ℕ). drop m zs) l ∙ ap (drop (length xs)) e ∙ drop-append_seam xs ys
 
-  -- a part in the middle
-  pub mid_at : (xs ys zs all : List X) (a k : ℕ) → all ≡ xs ++ (ys ++ zs) → a ≡ length xs → k ≡ length ys → mid_of a k all ≡ ys
-  mid_at xs ys zs all a k e la lk = ap (take k) (drop_at xs (ys ++ zs) all a e la) ∙ take_at ys zs (ys ++ zs) k refl lk
-
   pub put_at : (xs ys zs all new : List X) (a k : ℕ) → all ≡ xs ++ (ys ++ zs) → a ≡ length xs → k ≡ length ys → put_mid a k all new ≡ xs ++ (new ++ zs)
   put_at xs ys zs all new a k e la lk =
       ap (λ us. us ++ (new ++ drop k (drop a all))) (take_at xs (ys ++ zs) all a e la)

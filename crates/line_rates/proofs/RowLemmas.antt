@@ -159,7 +159,3 @@ same_rows {X} number xs ys q p up = go (first_row number q xs) refl
 pub same_by_number : {X : Type 0} (number : X → ℕ) (xs ys : List X) → IsPermutation xs ys → IsRising number ys → by_number number xs ≡ by_number number ys
 same_by_number number xs ys p up = same_map nat_cmp_total nat_cmp-IsAntisymmetric (by_number number xs) (by_number number ys)
     (λ q. get-by_number number q xs ∙ same_rows number xs ys q p up ∙ sym (get-by_number number q ys))
-
--- what all rows are, the one that is found is
-pub all_at : {X : Type 0} (P : X → Type 0) (xs : List X) (x : X) → All P xs → Contains xs x → P x
-all_at P xs x all c = subst P c.2 (all c.0 x c.1)

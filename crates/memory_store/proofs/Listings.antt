@@ -169,23 +169,6 @@ pub bare_answer : {A : Type 0} (shows : A → Spot × Node) (s t : List (Spot ×
 bare_answer shows s t r true is e = sym (ap not e) ∙ found_first shows s t r is
 bare_answer shows s t r false is e = sym (ap not e) ∙ found_first shows s t r is
 
--- one more entry is told, or one that no path can name is passed over
-pub told_more : {A : Type 0} (shows : A → Spot × Node) (told all : List Entry) (s t : List (Spot × Node)) (r : Option A) (x : A) (entry : Entry) → told ++ map told_of (filter is_named s) ≡ all → r ≡ Some x → TakesFirst shows s r t → entry ≡ told_of (shows x) → is_named (shows x) ≡ true
-    → (told ++ entry ∷ []) ++ map told_of (filter is_named t) ≡ all
-told_more shows told all s t r x entry so_far is step entry_is named =
-    append_assoc told (entry ∷ []) (map told_of (filter is_named t))
-    ∙ ap (λ e. told ++ e ∷ map told_of (filter is_named t)) entry_is
-    ∙ ap (λ b. told ++ map told_of (cond b (shows x ∷ filter is_named t) (filter is_named t))) (sym named)
-    ∙ ap (λ es. told ++ map told_of (filter is_named es)) (sym (rest_more shows s t r x is step))
-    ∙ so_far
-
-pub told_past : {A : Type 0} (shows : A → Spot × Node) (told all : List Entry) (s t : List (Spot × Node)) (r : Option A) (x : A) → told ++ map told_of (filter is_named s) ≡ all → r ≡ Some x → TakesFirst shows s r t → is_named (shows x) ≡ false
-    → told ++ map told_of (filter is_named t) ≡ all
-told_past shows told all s t r x so_far is step named =
-    ap (λ b. told ++ map told_of (cond b (shows x ∷ filter is_named t) (filter is_named t))) (sym named)
-    ∙ ap (λ es. told ++ map told_of (filter is_named es)) (sym (rest_more shows s t r x is step))
-    ∙ so_far
-
 pub told_all : {A : Type 0} (shows : A → Spot × Node) (told all : List Entry) (s t : List (Spot × Node)) (r : Option A) → told ++ map told_of (filter is_named s) ≡ all → r ≡ None → TakesFirst shows s r t → told ≡ all
 told_all shows told all s t r so_far is step = sym (append-nil told) ∙ ap (λ es. told ++ map told_of (filter is_named es)) (sym (rest_all shows s t r is step)) ∙ so_far
 
@@ -272,10 +255,3 @@ pub listing_rises_where : {A B E : Type 0} (answer : Result (Vec (ListedEntry A)
     → IfOk answer (λ listed. IsStrictlySortedBy text_cmp (names_of listed))
 listing_rises_where (Ok listed) tree directory is = listing_rises listed tree directory is
 listing_rises_where (Err error) tree directory is = tt
-
-pub entries_push : {A : Type 0} (listed more : List (ListedEntry A)) (entry : ListedEntry A) (rest : List Entry) → more ≡ listed ++ entry ∷ [] → map entry_of more ++ rest ≡ (map entry_of listed ++ entry_of entry ∷ []) ++ rest
-entries_push listed more entry rest is = ap (λ entries. map entry_of entries ++ rest) is ∙ ap (λ entries. entries ++ rest) (pushed listed entry)
-  where
-    pushed : {A : Type 0} (listed : List (ListedEntry A)) (entry : ListedEntry A) → map entry_of (listed ++ entry ∷ []) ≡ map entry_of listed ++ entry_of entry ∷ []
-    pushed [] entry = refl
-    pushed (first ∷ listed) entry = ap (λ entries. entry_of first ∷ entries) (pushed listed entry)

@@ -172,12 +172,6 @@ last_entry shows s t (Some y) x is step = step ∙ ap (λ e. t ++ shows e ∷ []
     same : {A : Type 0} (y x : A) → Some y ≡ Some x → y ≡ x
     same y x e = cc
 
-pub one_fewer : {A : Type 0} (shows : A → Spot × Node) (s t : List (Spot × Node)) (r : Option A) (x : A) → r ≡ Some x → TakesLast shows s r t → length t < length s
-one_fewer shows s t r x is step = fewer (length t) (length s) (ap length (last_entry shows s t r x is step) ∙ length-append t (shows x ∷ []))
-  where
-    fewer : (m n : ℕ) → n ≡ m + 1 → m < n
-    fewer m n e = omega arith
-
 pub parts_of_all : {A : Type 0} (shows : A → Spot × Node) (all s t done : List (Spot × Node)) (r : Option A) (x : A) → all ≡ s ++ done → r ≡ Some x → TakesLast shows s r t → all ≡ (t ++ shows x ∷ []) ++ done
 parts_of_all shows all s t done r x is found step = is ∙ ap (λ (es : List (Spot × Node)). es ++ done) (last_entry shows s t r x found step)
 
@@ -220,9 +214,3 @@ put_fits from to rest done es x tree stored e is all bound =
     (subst (λ (t : Tree). total t ≤ sizes done) (sym is) (subst (λ n. total (from_entries {R = path_cmp} (map (moved_entry from to) done)) ≤ n) (sizes-moved from to done) (total-from_entries (map (moved_entry from to) done))))
     (sum_of_parts rest done es x e ∙ all)
     bound
-
-pub one_moved : (from to : Path) (done : List (Spot × Node)) (x : Spot × Node) (tree after : Tree) (spot : Spot) (node : Node) → tree ≡ from_entries {R = path_cmp} (map (moved_entry from to) done) → after ≡ insert tree spot node → spot ≡ moved from to x.0 → node ≡ x.1 → after ≡ from_entries {R = path_cmp} (map (moved_entry from to) (x ∷ done))
-one_moved from to done x tree after spot node is put at same =
-    put ∙ ap (λ (t : Tree). insert t spot node) is
-    ∙ ap (λ (p : Spot). insert (from_entries {R = path_cmp} (map (moved_entry from to) done)) p node) at
-    ∙ ap (insert (from_entries {R = path_cmp} (map (moved_entry from to) done)) (moved from to x.0)) same

@@ -69,13 +69,6 @@ connections-remove old new key updates = same _ _ (λ q. get-connections new q �
     ∙ ap (λ b. cond b None (finite.get (connections_of old) q)) (untied q key elsewhere) ∙ get-connections old q))
     (cases_eq q key))
 
--- to remove a key that is not there changes nothing
-pub remove-absent : (m : Connections) (key : ℕ) → finite.get m key ≡ None → m ≡ finite.remove m key
-remove-absent m key absent = same _ _ (λ q. ⊎_elim
-    (λ here. ap (finite.get m) here ∙ absent ∙ sym (get-remove nat_cmp_total m key q ∙ ap (λ b. cond b None (finite.get m q)) (tied q key here)))
-    (λ elsewhere. sym (get-remove nat_cmp_total m key q ∙ ap (λ b. cond b None (finite.get m q)) (untied q key elsewhere)))
-    (cases_eq q key))
-
 count_by-cons : (p : List ℕ → Bool) (x : List ℕ) (xs : List (List ℕ)) → count_by p (x ∷ xs) ≡ cond (p x) 1 0 + count_by p xs
 count_by-cons p x xs = sum_by-cons (λ y. cond (p y) 1 0) x xs
 
@@ -132,10 +125,6 @@ module _ (limit limit_of_address : ℕ) where
         counted = λ address. ap (λ es. lookup (tree.is_at (slice_cmp nat_cmp address)) es) no_counts ∙ sym (ap kept_count (no_count address));
         within = record { all = omega (arith, no_len); of_address = λ some address. omega (arith, no_count address) };
       }
-
-  pub starts_with_none : (addresses : Slab (List ℕ)) → addresses.slots ≡ [] → kept_admitted limit limit_of_address addresses ≡ none_admitted limit limit_of_address
-  starts_with_none addresses no_slots =
-      ap (λ slots. record { limit = limit; limit_of_address = limit_of_address; connections = finite.from_entries (entries_from 0 slots) }) no_slots
 
   -- the count that a registry keeps is that of its connections
   pub count_kept : (addresses : Slab (List ℕ)) (counts : Counts) (address : List ℕ) → IsRegistry limit limit_of_address addresses counts

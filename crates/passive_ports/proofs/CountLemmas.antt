@@ -31,7 +31,3 @@ unwrap_or-kept_count (suc count) = ap (λ b. unwrap_or (cond b None (Some (suc c
 
 pub same_address : (a b : List ℕ) → bytes_eq a b ≡ true → a ≡ b
 same_address a b e = (bytes_eq-Decides a b).0 e
-
--- where there is no count there is nothing to take from
-pub none_left : (old : Option ℕ) (rest : ℕ) → None ≡ old → rest ≡ unwrap_or old 0 - 1 → rest ≡ 0
-none_left old rest none is = is ∙ ap (λ o. unwrap_or o 0 - 1) (sym none)

@@ -35,24 +35,10 @@ is_used pool ks port c r = unleased_has pool ks port ∙ both (set.contains pool
 abbrev resting : ℕ → ℕ → FinSet nat_cmp → List ℕ → ℕ → Resting
 resting first last used ks most = record { first = first; last = last; in_use = used; at_rest = ks; most = most }
 
--- none may rest
-pub none_rests : (pool next : Ports) (ks : List ℕ) (most port : ℕ) → most ≡ 0 → ks ≡ [] → next ≡ without_lease pool port → kept_ports next ks most ≡ rested (kept_ports pool ks most) port
-none_rests pool next ks most port none empty is =
-    ap (λ (p : Ports). kept_ports p ks most) is
-    ∙ (ap (λ (ks' : List ℕ). resting pool.first pool.last (unleased (without_lease pool port) ks').leased ks' most) empty
-    ∙ (ap (λ (n : ℕ). resting pool.first pool.last (set.remove pool.leased port) (keep_last n (port ∷ [])) most) (sym none)
-    ∙ ap (λ (ks' : List ℕ). resting pool.first pool.last (set.remove (unleased pool ks').leased port) (keep_last most (ks' ++ port ∷ [])) most) (sym empty)))
-
 -- the first and what stands behind it
 pub split_first : (xs : List ℕ) (x : ℕ) → 0 < length xs → x ≡ slice_index_or xs 0 x → xs ≡ x ∷ drop 1 xs
 split_first [] x some e = absurd (omega arith)
 split_first (y ∷ ys) x some e = ap (λ (z : ℕ). z ∷ ys) (sym e)
-
-pub one_left : (ks : List ℕ) (most : ℕ) → 0 < most → length ks ≡ most → keep_last (most - 1) ks ≡ drop 1 ks
-one_left ks most some h = let e : length ks - (most - 1) ≡ 1 = omega arith in ap (λ (n : ℕ). drop n ks) e
-
-pub all_left : (ks : List ℕ) (most : ℕ) → length ks < most → keep_last (most - 1) ks ≡ ks
-all_left ks most h = let e : length ks - (most - 1) ≡ 0 = omega arith in ap (λ (n : ℕ). drop n ks) e
 
 drop-with : (n : ℕ) (xs : List ℕ) (x : ℕ) → n ≤ length xs → drop n (xs ++ x ∷ []) ≡ drop n xs ++ x ∷ []
 drop-with zero xs x h = refl

@@ -57,13 +57,6 @@ module _ (p : Promises) (down up : ℕ) (groups : List GroupPromise) (users : Li
   times_more : (r l : ℕ) → (r + 1) * l ≡ r * l + l
   times_more r l = omega arith
 
-  pub user_room : is_small (counted p (user_key entry)) entry.sessions ≡ true → ((entry.sessions + 1) * entry.row.session_down_floor ≤ MAX_PROMISED) × ((entry.sessions + 1) * entry.row.session_up_floor ≤ MAX_PROMISED)
-  user_room small =
-      let parts = and_parts _ _ small in
-      let le = leb-true (promised (counted p (user_key entry)).users Down + promised (counted p (user_key entry)).users Up) MAX_PROMISED parts.0 in
-      let a = is_after.down_after in let b = is_after.up_after in let c = is_after.down_user in let d = is_after.up_user in
-      (omega (arith, times_more entry.sessions entry.row.session_down_floor), omega (arith, times_more entry.sessions entry.row.session_up_floor))
-
   -- the group at a place
   pub group_room : (i : ℕ) (d : GroupPromise) → i < length groups → ((get_or groups i d).down + entry.row.session_down_floor < 2 ^ 64) × ((get_or groups i d).up + entry.row.session_up_floor < 2 ^ 64)
   group_room i d lt =

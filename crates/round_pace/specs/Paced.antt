@@ -62,16 +62,6 @@ pub record IsPaced (server down up : Credit) (groups : List GroupPace) (users : 
   pub are_groups : AreTheGroups offered groups
   pub are_users : AreTheUsers offered users
 
--- the rates that are paced
-abbrev pub paced_group : GroupPace → GroupRate
-paced_group g = record { group = g.group; down = g.down.rate; up = g.up.rate }
-
-abbrev pub paced_user : UserPace → UserRate
-paced_user u = u.row
-
-abbrev pub paced_rates : Paced → Rates
-paced_rates p = stated p.server.rate p.down.rate p.up.rate (map paced_group p.groups) (map paced_user p.users)
-
 -- a credit with nothing earned
 abbrev pub no_credit : ℕ → Credit
 no_credit rate = record { rate = rate; left = 0 }

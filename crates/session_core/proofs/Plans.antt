@@ -58,10 +58,6 @@ pub ran_left_to : {S A R K : Type 0} (Step : S → Exchange R K → S → Type 0
 ran_left_to Step change plan old new promises promises' view after actions is ran =
     subst (λ v. Ran Step (then_left change plan) old new promises promises' v actions) (sym is) (ran_left Step change plan old new promises promises' view actions ran)
 
-pub on_ok : {T E P : Type 0} (r : Result T E) → P → OnOk r P
-on_ok (Ok x) p = p
-on_ok (Err e) p = tt
-
 pub on_err : {T E P : Type 0} (r : Result T E) → P → OnErr r P
 on_err (Ok x) p = tt
 on_err (Err e) p = p
@@ -94,15 +90,6 @@ step_stops_here {R = R} Step users view held moment told old = stops_here Step (
 pub on_err_from : {T E P Q : Type 0} (r : Result T E) → (P → Q) → OnErr r P → OnErr r Q
 on_err_from (Ok x) f p = tt
 on_err_from (Err e) f p = f p
-
-pub on_ok_from : {T E P Q : Type 0} (r : Result T E) → (P → Q) → OnOk r P → OnOk r Q
-on_ok_from (Ok x) f p = f p
-on_ok_from (Err e) f p = tt
-
--- what holds in both cases holds
-pub either_way : {T E P : Type 0} (r : Result T E) → OnOk r P → OnErr r P → P
-either_way (Ok x) p q = p
-either_way (Err e) p q = q
 
 -- what a session knows with the lines that it holds
 abbrev pub standing_of : View → List Item → Standing

@@ -23,10 +23,6 @@ pub positive : (n : ℕ) → (n == 0) ≡ false → 0 < n
 positive zero is = absurd (true≢false is)
 positive (suc n) is = omega arith
 
-and_left : (b c : Bool) → (b && c) ≡ true → b ≡ true
-and_left true c both = refl
-and_left false c both = absurd (false≢true both)
-
 and_right : (b c : Bool) → (b && c) ≡ true → c ≡ true
 and_right true c both = both
 and_right false c both = absurd (false≢true both)

@@ -71,17 +71,6 @@ CutBy None (Some fault) written said = (rest : List ℕ) × (said ≡ written ++
 CutBy (Some why) None written said = ⊥
 CutBy (Some why) (Some fault) written said = written ≡ []
 
-cut_more : (lost lost' : Option TurnFault) (written said more saying : List ℕ) → Cut lost written said → CutBy lost lost' more saying → Cut lost' (written ++ more) (said ++ saying)
-cut_more None None written said more saying whole same = ap (λ (x : List ℕ). x ++ more) whole ∙ ap (λ (x : List ℕ). said ++ x) same
-cut_more None (Some fault) written said more saying whole (rest, is) =
-    (rest, ap (λ (x : List ℕ). x ++ saying) (sym whole) ∙ (ap (λ (x : List ℕ). written ++ x) is ∙ sym (append_assoc written more rest)))
-cut_more (Some why) None written said more saying cut same = absurd same
-cut_more (Some why) (Some fault) written said more saying (rest, is) none = (
-  rest ++ saying,
-  ap (λ (x : List ℕ). x ++ saying) is
-      ∙ (append_assoc written rest saying ∙ ap (λ (x : List ℕ). x ++ (rest ++ saying)) (sym (append-nil written) ∙ ap (λ (x : List ℕ). written ++ x) (sym none))),
-)
-
 cut_by_more : (a b c : Option TurnFault) (first says second telling : List ℕ) → CutBy a b first says → CutBy b c second telling → CutBy a c (first ++ second) (says ++ telling)
 cut_by_more None b c first says second telling one two = by b c one two
   where

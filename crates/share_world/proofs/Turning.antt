@@ -95,12 +95,6 @@ set_length [] i m = refl
 set_length (x ∷ ls) zero m = omega arith
 set_length (x ∷ ls) (suc i) m = omega (arith, set_length ls i m)
 
--- a lane's shares are within what is issued
-pub shares_within : (ls : List Lane) (i : ℕ) (l : Lane) → slice_get ls i ≡ Some l → shares l ≤ sum_by shares ls
-shares_within [] i l e = absurd (cc)
-shares_within (x ∷ ls) zero l e = let same : shares x ≡ shares l = ap shares (let s : x ≡ l = cc in s) in omega (arith, sum_by-cons shares x ls)
-shares_within (x ∷ ls) (suc i) l e = omega (arith, shares_within ls i l e, sum_by-cons shares x ls)
-
 here : (ls : List Lane) (i : ℕ) (l : Lane) → i < length ls → l ≡ get_or ls i l → slice_get ls i ≡ Some l
 here ls i l less e = slice_get-get_or ls i l less ∙ ap (λ (x : Lane). Some x) (sym e)
 

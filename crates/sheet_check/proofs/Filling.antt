@@ -37,16 +37,6 @@ found leaf wants place e =
     let same : at.0 ≡ place = omega (arith, at.1) in
     (omega (arith, at.2), sym (eqb-true leaf (get_or wants place 0) (ap (λ (n : ℕ). nat_eq leaf (get_or wants n 0)) (sym same) ∙ at.3)))
 
--- a search, one step on and at its end
-pub position_here : {X : Type 0} (test : X → Bool) (xs : List X) (i : ℕ) (d : X) → i < length xs → test (get_or xs i d) ≡ true → position_from test i (drop i xs) ≡ Some i
-position_here test xs i d l e = ap (position_from test i) (drop_more xs i d l) ∙ ap (λ (b : Bool). cond b (Some i) (position_from test (i + 1) (drop (i + 1) xs))) e
-
-pub position_past : {X : Type 0} (test : X → Bool) (xs : List X) (i : ℕ) (d : X) → i < length xs → test (get_or xs i d) ≡ false → position_from test i (drop i xs) ≡ position_from test (i + 1) (drop (i + 1) xs)
-position_past test xs i d l e = ap (position_from test i) (drop_more xs i d l) ∙ ap (λ (b : Bool). cond b (Some i) (position_from test (i + 1) (drop (i + 1) xs))) e
-
-pub position_none : {X : Type 0} (test : X → Bool) (xs : List X) (i : ℕ) → length xs ≤ i → position_from test i (drop i xs) ≡ None
-position_none test xs i l = ap (position_from test i) (drop_all i xs l)
-
 -- a want that is like no other is found at its own place
 pub first_place : (wants : List ℕ) (place leaf : ℕ) → IsDistinct nat_eq wants → slice_get wants place ≡ Some leaf → position_from (nat_eq leaf) 0 wants ≡ Some place
 first_place wants place leaf distinct e = go (position_from (nat_eq leaf) 0 wants) refl

@@ -14,11 +14,3 @@ sheet_told (Twice line) fault is = (cc, λ no. cc)
 sheet_told (LeafHasKids line) fault is = (cc, λ no. cc)
 sheet_told (Tree line f) fault is = (cc, λ no. cc)
 sheet_told NoSheetMemory fault is = absurd (cc)
-
--- of a sheet's faults lack of memory alone is told as one of texts
-pub memory_told : (e : SheetFault) (why : TextFault) → of_sheet e ≡ Text why → why ≡ Memory
-memory_told (BadLine line hint) why is = absurd (cc)
-memory_told (Twice line) why is = absurd (cc)
-memory_told (LeafHasKids line) why is = absurd (cc)
-memory_told (Tree line f) why is = absurd (cc)
-memory_told NoSheetMemory why is = cc

@@ -94,21 +94,6 @@ line_is table order node place line once less is within order_is e =
     ap (λ (o : Option ℕ). unwrap_or o 0) (e ∙ sym (line_there table place once within))
     ∙ ap (λ (p : Path). unwrap_or (line_in table p) 0) (ap (path_at table) is ∙ sym (get_or-map (path_at table) order node 0 [] less) ∙ ap (λ (ps : List Path). get_or ps node []) order_is)
 
-pub no_line : (table : Table) (fault : TreeFault) → ((node : ℕ) → fault ≡ FloorsOverLimit node → ⊥) → 0 ≡ fault_line table fault
-no_line table TooDeep other = refl
-no_line table TooManyLeaves other = refl
-no_line table WantTooLarge other = refl
-no_line table LimitTooLarge other = refl
-no_line table FloorTooLarge other = refl
-no_line table (FloorsOverLimit node) other = absurd (other node refl)
-
--- what the tree of the nodes gives for the whole
-pub whole_none : (table : Table) (places : List Place) → places ≡ outline_of table → tree_fault places ≡ None → whole_fault table ≡ None
-whole_none table places is e = ap (option_map (λ fault. Tree (fault_line table fault) fault)) (ap tree_fault (sym is) ∙ e)
-
-pub whole_some : (table : Table) (places : List Place) (fault : TreeFault) (line : ℕ) → places ≡ outline_of table → tree_fault places ≡ Some fault → line ≡ fault_line table fault → whole_fault table ≡ Some (Tree line fault)
-whole_some table places fault line is e line_is = ap (option_map (λ fault. Tree (fault_line table fault) fault)) (ap tree_fault (sym is) ∙ e) ∙ ap (λ (n : ℕ). Some (Tree n fault)) (sym line_is)
-
 -- as many nodes as paths
 matched : (wants : List Path) (os : List Place) (ps : List Path) → AreOver wants os ps → length os ≡ length ps
 matched wants [] [] over = refl

@@ -6,32 +6,6 @@ use Rattle.std.proofs.lemmas.Bool.Decides.{nat_tests}
 use Rattle.sheet_text.proofs.Within.{is_name}
 use Rattle.sheet_text.specs.Named.{held_by, mark_of}
 
--- a name more under a mark that was free
-pub marked_more : (name : List ℕ) (mark place : ℕ) (key : Bor (List ℕ)) (before after : ℕ → Option (Bor (List ℕ) × ℕ)) (others : List ℕ → Option ℕ) → mark ≡ mark_of name → key.now ≡ name → before mark ≡ None
-    → ((q : ℕ) → after q ≡ cond (is_at (nat_cmp mark) q) (Some (key, place)) (before q))
-    → (q : List ℕ) → held_by (after (mark_of q)) q (others q) ≡ cond (bytes_eq name q) (Some place) (held_by (before (mark_of q)) q (others q))
-marked_more name mark place key before after others is holds free updates q = go (bytes_eq name q) (is_at (nat_cmp mark) (mark_of q)) refl refl
-  where
-    same : (a b : ℕ) → is_eq (nat_cmp a b) ≡ true → a ≡ b
-    same a b e = grind (arith, nat_tests, e)
-
-    itself : (a b : ℕ) → a ≡ b → is_eq (nat_cmp a b) ≡ true
-    itself a b e = grind (arith, nat_tests, e)
-
-    there : is_at (nat_cmp mark) (mark_of q) ≡ true → held_by (after (mark_of q)) q (others q) ≡ cond (bytes_eq name q) (Some place) (others q)
-    there e =
-        ap (λ (o : Option (Bor (List ℕ) × ℕ)). held_by o q (others q)) (updates (mark_of q) ∙ ap (λ (t : Bool). cond t (Some (key, place)) (before (mark_of q))) e)
-        ∙ ap (λ (n : List ℕ). cond (bytes_eq n q) (Some place) (others q)) holds
-
-    go : (b t : Bool) → bytes_eq name q ≡ b → is_at (nat_cmp mark) (mark_of q) ≡ t → held_by (after (mark_of q)) q (others q) ≡ cond b (Some place) (held_by (before (mark_of q)) q (others q))
-    go true t e s =
-        there (itself mark (mark_of q) (is ∙ ap mark_of (is_name name q e)))
-        ∙ ap (λ (u : Bool). cond u (Some place) (others q)) e
-    go false true e s =
-        there s ∙ ap (λ (u : Bool). cond u (Some place) (others q)) e
-        ∙ sym (ap (λ (o : Option (Bor (List ℕ) × ℕ)). held_by o q (others q)) (ap before (sym (same mark (mark_of q) s)) ∙ free))
-    go false false e s = ap (λ (o : Option (Bor (List ℕ) × ℕ)). held_by o q (others q)) (updates (mark_of q) ∙ ap (λ (t : Bool). cond t (Some (key, place)) (before (mark_of q))) s)
-
 -- a name more among the others
 pub other_more : (name : List ℕ) (place : ℕ) (marks : ℕ → Option (Bor (List ℕ) × ℕ)) (before after : List ℕ → Option ℕ) → held_by (marks (mark_of name)) name (before name) ≡ None
     → ((q : List ℕ) → after q ≡ cond (bytes_eq name q) (Some place) (before q))

@@ -19,16 +19,3 @@ read_text_of (Some xs) new items taken end = sym (read_whole_text (Some xs) new 
 -- a text that was read whole has no more octets than were read
 pub read_whole_few : (old new : Option (List ℕ)) (items text : List ℕ) (most : ℕ) → Consumes old new items → IsAtEnd new → old ≡ Some text → length items ≤ most → most < length text → ⊥
 read_whole_few old new items text most taken end known few more = omega (arith, few, more, ap length (read_whole_text old new items text taken end known))
-
--- what holds of the octets that were read holds of the text
-pub read_text_is : (old new : Option (List ℕ)) (items : List ℕ) (P : List ℕ → Type 0) → Consumes old new items → IsAtEnd new → P items → IfSome old P
-read_text_is None new items P taken end p = tt
-read_text_is (Some xs) new items P taken end p = subst P (read_whole_text (Some xs) new items xs taken end refl) p
-
--- a read behind one that left the known octets as they were
-pub read_kept : {E : Type 0} (a b d : Option (List ℕ)) (r : Result ℕ E) (buffer : List ℕ) → Keeps a b → ReadConsumes b d r buffer → ReadConsumes a d r buffer
-read_kept None b d (Ok n) buffer kept read = (tt, read.1)
-read_kept (Some xs) None d r buffer kept read = absurd kept
-read_kept (Some xs) (Some ys) None (Ok n) buffer kept read = absurd read.0
-read_kept (Some xs) (Some ys) (Some zs) (Ok n) buffer kept read = (sym kept ∙ read.0, read.1)
-read_kept a b d (Err e) buffer kept read = Keeps-trans a b d kept read

@@ -11,15 +11,6 @@ pub if_err_of : {T E : Type 0} (r : Result T E) (fault : E) (P : E → Type 0) �
 if_err_of (Ok value) fault P p is = absurd (cc)
 if_err_of {T} {E} (Err f) fault P p is = let same : f ≡ fault = cc in subst P same p
 
--- a refusal that tells one fault is of its kind
-pub err_and : {T E : Type 0} (r : Result T E) (e : E) (P : E → Type 0) → IsErrAnd r (λ f. f ≡ e) → P e → IsErrAnd r P
-err_and (Ok value) e P gives p = absurd gives
-err_and (Err f) e P gives p = subst P (sym gives) p
-
--- a refusal that tells a fault of some kind has none but of that kind
-pub kind_told : {T E : Type 0} (r : Result T E) (e fault : E) (Kind : E → Type 0) → IsErrAnd r (λ f. f ≡ e) → Kind e → IsErrOf r fault → Kind fault
-kind_told r e fault Kind gives kind is = subst Kind (told_as r e fault gives is) kind
-
 -- a refusal that tells one fault is of each kind that this fault is of
 pub if_err : {T E : Type 0} (r : Result T E) (e : E) (P : E → Type 0) → IsErrAnd r (λ f. f ≡ e) → P e → IfErr r P
 if_err (Ok value) e P gives p = absurd gives

@@ -70,26 +70,6 @@ module _ (session moved : ℕ) (v : WorkerView) where
     };
   }
 
--- a take that found a grant, which was pumped
-pub takes_then : {R K C : Type 0} (k : Known R K C) (session moved : ℕ) (flow next : Flow R K C) (pumped : Pumped) (v : WorkerView) (between : List ℕ) (octets : ℕ) (x y : LaneView) (t s : TallyView) (h : Heard) (a : Asked)
-    → Adds [] [] (length between) [] (leaves session moved between) v (worker x t h a) → x.sittings ≡ v.lane.sittings
-    → y ≡ has_taken octets x → s.moved ≡ capped t.moved pumped.moved → Pumps k octets flow next pumped
-    → Takes k session moved flow next pumped v (worker y s h a)
-takes_then k session moved flow next pumped v between octets x y t s h a p sittings e tally pumps = record {
-  between = between;
-  octets = octets;
-  state_is = ap (λ (l : LaneView). l.state) e;
-  sittings_are = ap (λ (l : LaneView). l.sittings) e ∙ sittings;
-  adds = record {
-    asks_are = ap (λ (l : LaneView). l.asks) e ∙ p.asks_are;
-    taken_are = ap (λ (l : LaneView). l.taken) e ∙ ap (λ (l : List ℕ). l ++ octets ∷ []) (p.taken_are ∙ append-nil v.lane.taken);
-    looks_are = ap (λ (l : LaneView). l.looks) e ∙ p.looks_are;
-    moved_is = tally ∙ ap (λ (n : ℕ). capped n pumped.moved) p.moved_is;
-    passes = p.passes;
-  };
-  pumps = pumps;
-}
-
 -- a turn: leave to ask, the ask, and the grant
 pub adds_turn : (session moved before : ℕ) (a : Ask) (between : List ℕ) (octets : ℕ) (pumped : Pumped) (x y : LaneView) (t : TallyView) (h g : Heard) (q r : Asked) (w : WorkerView)
     → Passes q r (calls_until session moved On before) → y ≡ has_asked a x

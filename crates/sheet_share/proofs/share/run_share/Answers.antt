@@ -9,7 +9,7 @@ use Rattle.sheet_text.specs.declared.fault.SheetFault.TheVariants.{Memory as NoS
 use Rattle.sheet_share.specs.Faults.{of_sheet}
 use Rattle.sheet_share.specs.Sharing.{IsSharingOf}
 use Rattle.sheet_share.specs.declared.fault.ShareFault.TheVariants.{Sheet, Text}
-use Rattle.sheet_share.proofs.Faults.{memory_told, sheet_told}
+use Rattle.sheet_share.proofs.Faults.{sheet_told}
 use Rattle.sheet_share.proofs.share.run_share.Goals as goal
 
 pub returns-in_err-lines-clause-long : goal.returns-in_err-lines-clause-long

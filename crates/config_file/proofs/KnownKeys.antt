@@ -46,3 +46,7 @@ plain [] none = tt
 plain (octet ∷ text) none =
     let (here, later) = or_parts (is_control octet) (list_any is_control text) none in
     (here, plain text later)
+
+-- and stands on one line
+pub plain_line : (text : List ℕ) → HasNoControl text → IsLine text
+plain_line text none = line_printed text none

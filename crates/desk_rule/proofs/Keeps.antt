@@ -298,6 +298,10 @@ module _ {N : Type 0} where
           ),
         )
 
+  -- the state is as it was
+  unmoved : (s : State (LaneSlot N) DeskView) (r : Kept s) (id i : ℕ) (v : DeskView) → get_elem? s.views id ≡ some v → Kept record { words = set s.words i (get_or s.words i 0); homes = s.homes; views = set s.views id v }
+  unmoved s r id i v at = subst Kept (λ q. record { words = sym (set-get_or s.words i 0) q; homes = s.homes; views = sym (set_again s.views id v at) q }) r
+
   abbrev ask_at : List (ℕ × (LaneSlot N)) → Ask → Ask
   ask_at [] d = d
   ask_at ((k, Blank) ∷ xs) d = d

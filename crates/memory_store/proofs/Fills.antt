@@ -59,3 +59,8 @@ pub passed_is : (old : Memory) (upload : Upload) (moment : ℕ) (octets : List �
 passed_is old upload moment octets first came is first_is came_is =
     ap (λ n. total old.tree - length octets + first + n) came_is
     ∙ ap (λ n. total old.tree - length octets + n + length upload.octets) first_is ∙ filled_total old upload moment octets is
+
+-- where nothing stays, what came is all
+pub none_kept : (kept : ℕ) (first others joined : List ℕ) → kept ≡ 0 → joined ≡ others → joined ≡ take kept first ++ others
+none_kept zero first others joined none is = is
+none_kept (suc kept) first others joined none is = absurd (omega arith)

@@ -113,3 +113,22 @@ document_refused octets document (BadGroup header problem) parsed is = inr (docu
 document_refused octets document (BadUser header problem) parsed is = inr (document, parsed, is)
 document_refused octets document (BadStore header problem) parsed is = inr (document, parsed, is)
 document_refused octets document Memory parsed is = inl refl
+
+pub text_refused : (octets : List ℕ) (document : Members) (answer : Result Config ConfigFault) → parse_document octets ≡ Some document
+    → IfErr answer (IsFaultOf document) → IfErr answer (IsFaultOfText octets)
+text_refused octets document (Ok config) parsed is = tt
+text_refused octets document (Err fault) parsed is = document_refused octets document fault parsed is
+
+-- the first fault of a document is told
+pub key_refused : (document : Members) (fault : Fault KeyFault) (answer : ConfigFault) → Tells_table (IsFirstFault document) fault → TellsKey fault answer → IsFaultOf document answer
+key_refused document fault (Key header key problem) first told =
+    let here = subst (Tells_table (IsFirstFault document)) told.2 first in
+    rw (told.3.0, told.3.1, told.3.2) here
+key_refused document fault (NotToml line error) first told = absurd told
+key_refused document fault (BadGroup header problem) first told = absurd told
+key_refused document fault (BadUser header problem) first told = absurd told
+key_refused document fault (BadStore header problem) first told = absurd told
+key_refused document fault BadDate first told = absurd told
+key_refused document fault TooDeep first told = absurd told
+key_refused document fault TooLong first told = absurd told
+key_refused document fault Memory first told = inl refl

@@ -226,6 +226,23 @@ there_is table text walk there is w e = go there e
         some_names [] l = absurd (omega arith)
         some_names (o ∷ t) l = omega (arith, length-slice_split (λ (x : ℕ). x == 47) t)
 
+-- where a walk ends that comes to the end of its text
+pub ends_there : (table : Table) (text : List ℕ) (walk : Walk) → IsTable table → IsWalk table text walk → walk.at ≡ length text → path_at table walk.place ≡ names_of text
+ends_there table text walk is w e =
+    let all : drop walk.at text ≡ [] = drop_of_length-le text (omega (arith, e)) in
+    no_more (path_at table walk.place) (names_of text) (names_of (drop walk.at text)) (walk_end table text walk is w).joins (ap names_of all)
+
+-- the place of a path
+pub place_found : (table : Table) (text : List ℕ) (walk : Walk) → IsTable table → IsWalk table text walk → length text ≤ walk.at → Some walk.place ≡ place_of (paths_in table) (names_of text)
+place_found table text walk is w past =
+    let all : walk.at ≡ length text = omega (arith, past, w.stand.at_in) in
+    sym (ap (place_of (paths_in table)) (sym (ends_there table text walk is w all)) ∙ place_at (paths_in table) walk.place is.names.once (omega (arith, count table, w.stand.place_in)))
+
+pub place_missing : (table : Table) (text : List ℕ) (walk : Walk) → IsTable table → IsWalk table text walk → walk.at < length text → None ≡ place_of (paths_in table) (names_of text)
+place_missing table text walk is w short =
+    let apart : (walk.at == length text) ≡ false = ne_eqb walk.at (length text) (λ e. absurd (omega (arith, short, e))) in
+    sym (place_none (paths_in table) (names_of text) (there_is table text walk false is w (sym apart)))
+
 -- whether the path has a line
 pub lined : (table : Table) (text : List ℕ) (walk : Walk) (there some : Bool) → IsTable table → IsWalk table text walk → there ≡ (walk.at == length text) → some ≡ is_some (mention_at table walk.place).line → has_line table (names_of text) ≡ (there && some)
 lined table text walk there some is w e f = go there e (there_is table text walk there is w e)

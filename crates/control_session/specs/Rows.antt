@@ -21,9 +21,8 @@ module _ {A S R K : Type 0} (Step : S → Exchange R K → S → Type 0) (users 
     where
       pub told : Input A K
       pub told_is : given_of told ≡ given
-      pub stepped : SessionStep Step users session.view session.held moment told store store' promises
-          promises'
-          session'.view session'.held actions
+      pub stepped : SessionStep Step users session.view session.held moment told store store'
+          promises promises' session'.view session'.held actions
 
 -- lack of memory may stop the step here: the store is as the looks of that row, if any, left it
 pub record IsStopped (A : Type 0) {S R K : Type 0} (Step : S → Exchange R K → S → Type 0)

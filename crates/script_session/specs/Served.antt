@@ -15,9 +15,12 @@ use Rattle.session_table.specs.declared.settings.Settings.{Settings}
 use Rattle.script_session.specs.declared.fault.SessionFault.{SessionFault}
 use Rattle.script_session.specs.declared.fault.SessionFault.TheVariants.{Folder, Control}
 
--- A whole session over a store, from floors of these rates without a counted session, which are the same at the end:
--- old and new are the octets left to read, out and out' those written, before and after.
-pub record IsServedBy (users : Users) (rates : Rates) (store : Memory) (settings : Settings Global) (port : ℕ) (old new out out' : Option (List ℕ)) (result : Result (Unit {0}) ControlFault) : Type 0 where
+-- A whole session over a store, from floors of these rates without a counted session, which are the
+-- same at the end: old and new are the octets left to read, out and out' those written, before and
+-- after.
+pub record IsServedBy (users : Users) (rates : Rates) (store : Memory) (settings : Settings Global)
+    (port : ℕ) (old new out out' : Option (List ℕ)) (result : Result (Unit {0}) ControlFault)
+    : Type 0 where
   pub promises : Promises
   pub store' : Memory
   pub rates_are : promises.rates ≡ rates
@@ -25,24 +28,31 @@ pub record IsServedBy (users : Users) (rates : Rates) (store : Memory) (settings
   pub script : IsScript users settings port promises store store' old new out out' result
 
 -- a session that breaks off, or for whose floors there was no memory
-abbrev pub IsBrokenBy : Users → Rates → Memory → Settings Global → ℕ → Option (List ℕ) → Option (List ℕ) → Option (List ℕ) → Option (List ℕ) → ControlFault → Type 0
+abbrev pub IsBrokenBy : Users → Rates → Memory → Settings Global → ℕ → Option (List ℕ)
+    → Option (List ℕ) → Option (List ℕ) → Option (List ℕ) → ControlFault → Type 0
 IsBrokenBy users rates store settings port old new out out' why =
-    IsServedBy users rates store settings port old new out out' (Err why) ⊎ ((why ≡ NoMemory) × (new ≡ old) × (out' ≡ out))
+    IsServedBy users rates store settings port old new out out' (Err why)
+    ⊎ ((why ≡ NoMemory) × (new ≡ old) × (out' ≡ out))
 
 -- the configured store is in memory, and has this property
 abbrev pub InStore : (Memory → Type 0) → Config → Type 0
 InStore Holds config = (store : Memory) × (config.store ≡ served.Memory store) × Holds store
 
 -- the session over the configured store was served whole
-abbrev pub IsServed : Config → Option (List ℕ) → Option (List ℕ) → Option (List ℕ) → Option (List ℕ) → Type 0
+abbrev pub IsServed : Config → Option (List ℕ) → Option (List ℕ) → Option (List ℕ)
+    → Option (List ℕ) → Type 0
 IsServed config old new out out' =
-    InStore (λ store. IsServedBy config.users.users config.limits store config.settings config.numbers.passive_first old new out out' (Ok tt)) config
+    InStore (λ store. IsServedBy config.users.users config.limits store config.settings
+    config.numbers.passive_first old new out out' (Ok tt)) config
 
 -- a folder is configured, or the session over the configured store breaks off
-abbrev pub IsUnserved : Config → Option (List ℕ) → Option (List ℕ) → Option (List ℕ) → Option (List ℕ) → SessionFault → Type 0
-IsUnserved config old new out out' Folder = ((text : String Global) × (config.store ≡ served.Folder text)) × (new ≡ old) × (out' ≡ out)
+abbrev pub IsUnserved : Config → Option (List ℕ) → Option (List ℕ) → Option (List ℕ)
+    → Option (List ℕ) → SessionFault → Type 0
+IsUnserved config old new out out' Folder =
+    ((text : String Global) × (config.store ≡ served.Folder text)) × (new ≡ old) × (out' ≡ out)
 IsUnserved config old new out out' (Control why) =
-    InStore (λ store. IsBrokenBy config.users.users config.limits store config.settings config.numbers.passive_first old new out out' why) config
+    InStore (λ store. IsBrokenBy config.users.users config.limits store config.settings
+    config.numbers.passive_first old new out out' why) config
 
 -- the number of reads that a session may make
 abbrev pub most_reads : ℕ

@@ -7,9 +7,8 @@ use Rattle.authorizer.specs.Users.{Users}
 use Rattle.ftp_wire.specs.Items.{Item}
 use Rattle.ftp_wire.specs.Reading.{items_of}
 use Rattle.ftp_wire.specs.declared.items.LineItem.{LineItem}
-use Rattle.session_table.specs.declared.inputs.Input.TheVariants as input
-use Rattle.session_table.specs.Views.{View}
-use Rattle.session_table.specs.Steps.{holds_some, in_its_turn, is_due, serves_lines}
+use Rattle.session_table.specs.Views.{View, serves_lines}
+use Rattle.session_table.specs.Steps.{is_due}
 
 pub front : {X : Type 0} (items : List X) (x : X) → 0 < length items → x ≡ slice_index_or items 0 x → items ≡ x ∷ remove items 0
 front [] x some is = absurd (omega (arith, some))

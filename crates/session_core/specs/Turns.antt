@@ -5,13 +5,12 @@ use Rattle.session_table.specs.declared.actions.Action.{Action}
 use Rattle.session_table.specs.declared.actions.Action.TheVariants as action
 use Rattle.session_table.specs.declared.answers.Answer.TheVariants as answer
 use Rattle.session_table.specs.declared.refusals.Refusal.TheVariants as refusal
+use Rattle.session_table.specs.declared.stages.Control.TheVariants.{Closing}
 use Rattle.session_table.specs.Plans.{Plan}
 use Rattle.session_table.specs.Plans.Plan.{Then}
 use Rattle.session_table.specs.Steps.{Standing}
 use Rattle.session_table.specs.Table.{Taken, aborts, closed_row, idle, ready_row}
-use Rattle.session_table.specs.Views.{View, is_closed}
-use Rattle.session_table.specs.declared.stages.Control.{Control}
-use Rattle.session_table.specs.declared.stages.Control.TheVariants.{Open, Quitting, Closing}
+use Rattle.session_table.specs.Views.{View, awaits_ports, is_closed}
 
 module _ {A R K : Type 0} where
   -- a line too many
@@ -20,15 +19,8 @@ module _ {A R K : Type 0} where
       ((action.Say (answer.Refusal refusal.TooManyHeldLines) ∷ []) ++ aborts view
       ++ (action.CloseControl ∷ []))
 
-  -- a port, by the state of the control connection
-  abbrev pub ready_in : Users → View → Option ℕ → Control → Plan A R K
-  ready_in users view port Open = ready_row users view port
-  ready_in users view port Quitting = ready_row users view port
-  ready_in users view port Closing = idle view
-
   abbrev pub ready_at : Users → View → Option ℕ → Plan A R K
-  ready_at users view port =
-      cond (is_closed view.stage) (idle view) (ready_in users view port view.control)
+  ready_at users view port = cond (awaits_ports view) (ready_row users view port) (idle view)
 
   abbrev pub closed_at : View → Plan A R K
   closed_at view = cond (is_closed view.stage) (idle view) (closed_row view)

@@ -1,52 +1,49 @@
 //! The rows: without a path, and at a location.
 
 ghost use Rattle.std.specs.Prelude.{◌≡◌, IfOk, OnErr};
-ghost use Rattle.session_core.specs.Rows.{file_row, login_row, row_of, state_row};
+ghost use Rattle.session_core.specs.Rows.{login_by, row_by};
 ghost use Rattle.session_table.specs.Judged.{judged_at, located};
 ghost use Rattle.session_table.specs.Plans.{Ran, RanByFloors, RanByStore, Stops};
 ghost use Rattle.session_table.specs.Plans.Plan.{Then};
-ghost use Rattle.session_table.specs.Table.{at_found, row_plan};
+ghost use Rattle.session_table.specs.Rows.{at_found, file_row, login_row, row_plan, state_row};
 
 use crate::order::judge;
-use crate::rules::{FileRow, LoginRow, Place, Row, Rule, StateRow};
 use authorizer::Authorizer;
 use rate_floors::Floors;
 use session_file_rows::{
-    Style, append, change_directory, list, list_facts, make_directory, remove_directory,
-    remove_file, rename_from, rename_to, retrieve, store_file, tell_entry, tell_listing,
-    tell_moment, tell_size,
+    appe_row, cwd_row, dele_row, list_row, mdtm_row, mkd_row, mlsd_row, mlst_row, retr_row,
+    rmd_row, rnfr_row, rnto_row, size_row, stat_row, stor_row,
 };
 use session_state::{Location, State};
 use session_state_rows::{
-    abort, check_password, connect_to, connect_to_extended, name_user, open_extended, open_passive,
-    quit, reinitialize, set_offset, set_option, set_type, tell_directory, tell_features,
-    tell_status,
+    abor_row, eprt_row, epsv_row, feat_row, opts_row, pass_row, pasv_row, port_row, pwd_row,
+    quit_row, rein_row, rest_row, status_row, type_row, user_row,
 };
-use session_table::{Action, Conditions, Passive};
+use session_table::{Action, Conditions, FileRow, LocatedRow, LoginRow, NamedRow, Rule, StateRow};
 use std::alloc::{AllocError, Allocator};
 use virtual_tree::Store;
 
-fn settle_login<A: Allocator + Clone, F: Allocator + Clone, R: Drop, K: Drop>(
+fn login_row<A: Allocator + Clone, F: Allocator + Clone, R: Drop, K: Drop>(
     state: &mut State<A>,
     users: &Authorizer<A>,
     floors: &mut Floors<F>,
-    row: LoginRow<'_>,
+    row: LoginRow<&str>,
 ) -> Result<Vec<Action<A, R, K>, A>, AllocError>
     ensures row { IfOk result (λ actions.
-        RanByFloors (login_row users.now.users state.old row.entry)
+        RanByFloors (login_row users.now.users state.old (login_by (λ text. text.now) row.entry))
         floors.old floors.new state.new actions.items) }
     ensures unchanged { OnErr result (state.new ≡ state.old) }
     ensures uncounted { OnErr result (floors.new ≡ floors.old) }
 {
     match row {
-        LoginRow::User(name) => name_user(state, name),
-        LoginRow::Pass(password) => check_password(state, users, floors, password),
-        LoginRow::Quit => quit(state, users),
-        LoginRow::Rein => reinitialize(state),
+        LoginRow::User(name) => user_row(state, name),
+        LoginRow::Pass(password) => pass_row(state, users, floors, password),
+        LoginRow::Quit => quit_row(state, users),
+        LoginRow::Rein => rein_row(state),
     }
 }
 
-fn settle<A: Allocator + Clone, R: Drop, K: Drop>(
+fn state_row<A: Allocator + Clone, R: Drop, K: Drop>(
     state: &mut State<A>,
     row: StateRow,
 ) -> Result<Vec<Action<A, R, K>, A>, AllocError>
@@ -56,22 +53,22 @@ fn settle<A: Allocator + Clone, R: Drop, K: Drop>(
 {
     match row {
         StateRow::Note(notice) => state.note(notice),
-        StateRow::Feat => tell_features(state),
-        StateRow::Opts(wanted) => set_option(state, wanted),
-        StateRow::Type(wanted) => set_type(state, wanted),
-        StateRow::Rest(offset) => set_offset(state, offset),
-        StateRow::Port(to) => connect_to(state, to),
-        StateRow::Eprt(to) => connect_to_extended(state, to),
-        StateRow::Pasv => open_passive(state, Passive::Plain),
-        StateRow::Epsv(wanted) => open_extended(state, wanted),
-        StateRow::Pwd => tell_directory(state),
-        StateRow::Stat => tell_status(state),
-        StateRow::Abor => abort(state),
+        StateRow::Feat => feat_row(state),
+        StateRow::Opts(wanted) => opts_row(state, wanted),
+        StateRow::Type(wanted) => type_row(state, wanted),
+        StateRow::Rest(offset) => rest_row(state, offset),
+        StateRow::Port(to) => port_row(state, to),
+        StateRow::Eprt(to) => eprt_row(state, to),
+        StateRow::Pasv => pasv_row(state),
+        StateRow::Epsv(wanted) => epsv_row(state, wanted),
+        StateRow::Pwd => pwd_row(state),
+        StateRow::Status => status_row(state),
+        StateRow::Abor => abor_row(state),
     }
 }
 
 /// A row at its location.
-fn ask<A: Allocator + Clone, S: Store<A>>(
+fn file_row<A: Allocator + Clone, S: Store<A>>(
     state: &mut State<A>,
     users: &Authorizer<A>,
     store: &mut S,
@@ -89,32 +86,31 @@ fn ask<A: Allocator + Clone, S: Store<A>>(
         store.old store.new) }
 {
     match row {
-        FileRow::Cwd => change_directory(state, store, location),
-        FileRow::Mkd => make_directory(state, store, &location),
-        FileRow::Rmd => remove_directory(state, store, &location),
-        FileRow::Dele => remove_file(state, store, &location),
-        FileRow::Rnfr => rename_from(state, store, location),
-        FileRow::Rnto => rename_to(state, store, &location),
-        FileRow::Size => tell_size(state, store, &location),
-        FileRow::Mdtm => tell_moment(state, store, &location),
-        FileRow::Stat => tell_listing(state, users, store, &location),
-        FileRow::Mlst => tell_entry(state, users, store, &location),
-        FileRow::List => list(state, users, store, &location, Style::LongLines),
-        FileRow::Nlst => list(state, users, store, &location, Style::Names),
-        FileRow::Mlsd => list_facts(state, users, store, &location),
-        FileRow::Retr => retrieve(state, store, location),
-        FileRow::Stor => store_file(state, store, location, moment),
-        FileRow::Appe => append(state, store, location, moment),
+        FileRow::Cwd => cwd_row(state, store, location),
+        FileRow::Mkd => mkd_row(state, store, &location),
+        FileRow::Rmd => rmd_row(state, store, &location),
+        FileRow::Dele => dele_row(state, store, &location),
+        FileRow::Rnfr => rnfr_row(state, store, location),
+        FileRow::Rnto => rnto_row(state, store, &location),
+        FileRow::Size => size_row(state, store, &location),
+        FileRow::Mdtm => mdtm_row(state, store, &location),
+        FileRow::Stat => stat_row(state, users, store, &location),
+        FileRow::Mlst => mlst_row(state, users, store, &location),
+        FileRow::List(style) => list_row(state, users, store, &location, style),
+        FileRow::Mlsd => mlsd_row(state, users, store, &location),
+        FileRow::Retr => retr_row(state, store, location),
+        FileRow::Stor => stor_row(state, store, location, moment),
+        FileRow::Appe => appe_row(state, store, location, moment),
     }
 }
 
 /// A row at the location of its text, or the first refusal there.
-fn ask_at<A: Allocator + Clone, S: Store<A>>(
+fn row_at<A: Allocator + Clone, S: Store<A>>(
     state: &mut State<A>,
     users: &Authorizer<A>,
     store: &mut S,
     conditions: Conditions,
-    place: Place<'_>,
+    place: LocatedRow<&str>,
     moment: u64,
 ) -> Result<Vec<Action<A, S::Source, S::Sink>, A>, AllocError>
     ensures row { IfOk result (λ actions.
@@ -133,7 +129,7 @@ fn ask_at<A: Allocator + Clone, S: Store<A>>(
 {
     match judge(state, users, conditions, place.letter, place.text)? {
         Err(refusal) => state.refuse(refusal),
-        Ok(location) => ask(state, users, store, place.row, location, moment),
+        Ok(location) => file_row(state, users, store, place.row, location, moment),
     }
 }
 
@@ -143,25 +139,25 @@ pub(crate) fn carry_out<A: Allocator + Clone, F: Allocator + Clone, S: Store<A>>
     users: &Authorizer<A>,
     floors: &mut Floors<F>,
     store: &mut S,
-    rule: Rule<'_>,
+    rule: Rule<&str>,
     moment: u64,
 ) -> Result<Vec<Action<A, S::Source, S::Sink>, A>, AllocError>
     ensures row { IfOk result (λ actions.
         Ran S.Step
-        (row_plan users.now.users state.old rule.entry.conditions
-        (row_of users.now.users state.old moment rule.entry.row))
+        (row_plan users.now.users state.old moment rule.entry.conditions
+        (row_by (λ text. text.now) rule.entry.row))
         store.old store.new floors.old floors.new state.new actions.items) }
     ensures unchanged { OnErr result (state.new ≡ state.old) }
     ensures stops { OnErr result (
         Stops {A = A} {R = S.Source} {K = S.Sink} S.Step
-        (row_plan users.now.users state.old rule.entry.conditions
-        (row_of users.now.users state.old moment rule.entry.row))
+        (row_plan users.now.users state.old moment rule.entry.conditions
+        (row_by (λ text. text.now) rule.entry.row))
         store.old store.new) }
     ensures uncounted { OnErr result (floors.new ≡ floors.old) }
 {
     match rule.row {
-        Row::Login(row) => settle_login(state, users, floors, row),
-        Row::State(row) => settle(state, row),
-        Row::At(place) => ask_at(state, users, store, rule.conditions, place, moment),
+        NamedRow::Login(row) => login_row(state, users, floors, row),
+        NamedRow::State(row) => state_row(state, row),
+        NamedRow::At(place) => row_at(state, users, store, rule.conditions, place, moment),
     }
 }

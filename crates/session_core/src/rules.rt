@@ -1,87 +1,19 @@
-//! The rule of each command: its conditions, and its row.
+//! The rule of each command: its conditions, and its row by name.
 
-ghost use Rattle.std.specs.Prelude.{◌≡◌, ℕ, [], option_map, unwrap_or};
+ghost use Rattle.std.specs.Prelude.{◌≡◌, [], option_map, unwrap_or};
 ghost use Rattle.std.specs.String.{string_bytes};
-ghost use Rattle.authorizer.specs.Users.{Users};
 ghost use Rattle.ftp_wire.specs.Commands.{with_texts};
 ghost use Rattle.ftp_wire.specs.Reading.{item_of};
-ghost use Rattle.session_core.specs.Rows.{meanwhile_of, ruling};
+ghost use Rattle.session_core.specs.Rows.{meanwhile_of, rule_by};
 ghost use Rattle.session_table.specs.Rules.{rule};
 ghost use Rattle.session_table.specs.Steps.{is_pass};
-ghost use Rattle.session_table.specs.Views.{View};
 
-use ftp_terms::{DataType, Letter};
-use ftp_wire::{Command, ExtendedPassive, ExtendedPort, FeatureOption, HostPort, LineItem};
-use session_table::{Conditions, Meanwhile, Notice, Passive};
+use ftp_terms::Letter;
+use ftp_wire::{Command, LineItem};
+use session_table::{
+    Conditions, FileRow, LocatedRow, LoginRow, Meanwhile, NamedRow, Notice, Rule, StateRow, Style,
+};
 use std::alloc::Allocator;
-
-/// A row on logins.
-#[derive(Clone, Copy)]
-pub(crate) enum LoginRow<'a> {
-    User(&'a str),
-    Pass(&'a str),
-    Quit,
-    Rein,
-}
-
-/// Any other row without a path.
-#[derive(Clone, Copy)]
-pub(crate) enum StateRow {
-    Note(Notice),
-    Feat,
-    Opts(FeatureOption),
-    Type(DataType),
-    Rest(u64),
-    Port(HostPort),
-    Eprt(ExtendedPort),
-    Pasv,
-    Epsv(ExtendedPassive),
-    Pwd,
-    Stat,
-    Abor,
-}
-
-/// A row at a location.
-#[derive(Clone, Copy)]
-pub(crate) enum FileRow {
-    Cwd,
-    Mkd,
-    Rmd,
-    Dele,
-    Rnfr,
-    Rnto,
-    Size,
-    Mdtm,
-    Stat,
-    Mlst,
-    List,
-    Nlst,
-    Mlsd,
-    Retr,
-    Stor,
-    Appe,
-}
-
-/// A row at the location of a text, for users who have the letter there.
-#[derive(Clone, Copy)]
-pub(crate) struct Place<'a> {
-    pub(crate) letter: Letter,
-    pub(crate) text: &'a str,
-    pub(crate) row: FileRow,
-}
-
-#[derive(Clone, Copy)]
-pub(crate) enum Row<'a> {
-    Login(LoginRow<'a>),
-    State(StateRow),
-    At(Place<'a>),
-}
-
-#[derive(Clone, Copy)]
-pub(crate) struct Rule<'a> {
-    pub(crate) conditions: Conditions,
-    pub(crate) row: Row<'a>,
-}
 
 const AT_ANY_TIME: Conditions = Conditions {
     needs_login: false,
@@ -154,7 +86,7 @@ macro_rules! login {
     ($conditions:expr, $row:expr) => {
         Rule {
             conditions: $conditions,
-            row: Row::Login($row),
+            row: NamedRow::Login($row),
         }
     };
 }
@@ -164,18 +96,18 @@ macro_rules! alone {
     ($conditions:expr, $row:expr) => {
         Rule {
             conditions: $conditions,
-            row: Row::State($row),
+            row: NamedRow::State($row),
         }
     };
 }
 
 /// A rule with a row at the location of a text.
 macro_rules! at {
-    ($conditions:expr, $letter:expr, $text:expr, $row:expr) => {
+    ($conditions:expr, $letter:ident, $text:expr, $row:expr) => {
         Rule {
             conditions: $conditions,
-            row: Row::At(Place {
-                letter: $letter,
+            row: NamedRow::At(LocatedRow {
+                letter: Letter::$letter,
                 text: $text,
                 row: $row,
             }),
@@ -183,11 +115,14 @@ macro_rules! at {
     };
 }
 
+const LONG_LIST: FileRow = FileRow::List(Style::LongLines);
+
+const NAME_LIST: FileRow = FileRow::List(Style::Names);
+
 /// The rule of a command.
-pub(crate) fn rule_of<A: Allocator, R, K>(command: &Command<String<A>>) -> Rule<'_>
-    ensures rule { (users : Users) (view : View) (moment : ℕ)
-        → ruling {A = A} {R = R} {K = K} users view moment result
-        ≡ rule users view moment (with_texts string_bytes command.now) }
+pub(crate) fn rule_of<A: Allocator>(command: &Command<String<A>>) -> Rule<&str>
+    ensures rule { rule_by (λ text. text.now) result
+        ≡ rule (with_texts string_bytes command.now) }
 {
     match command {
         Command::User(name) => login!(AT_ANY_TIME, LoginRow::User(name.as_str())),
@@ -209,60 +144,34 @@ pub(crate) fn rule_of<A: Allocator, R, K>(command: &Command<String<A>>) -> Rule<
         Command::Pasv => alone!(UNLESS_ONLY_EXTENDED, StateRow::Pasv),
         Command::Epsv(wanted) => alone!(AFTER_LOGIN, StateRow::Epsv(*wanted)),
         Command::Pwd => alone!(AFTER_LOGIN, StateRow::Pwd),
-        Command::Stat(None) => alone!(SERVED_AFTER_LOGIN, StateRow::Stat),
+        Command::Stat(None) => alone!(SERVED_AFTER_LOGIN, StateRow::Status),
         Command::Abor => alone!(SERVED_AFTER_LOGIN, StateRow::Abor),
-        Command::Cwd(text) => at!(
-            AFTER_LOGIN,
-            Letter::ChangeDirectory,
-            text.as_str(),
-            FileRow::Cwd
-        ),
-        Command::Cdup => at!(AFTER_LOGIN, Letter::ChangeDirectory, "..", FileRow::Cwd),
-        Command::Mkd(text) => at!(
-            AFTER_LOGIN,
-            Letter::MakeDirectory,
-            text.as_str(),
-            FileRow::Mkd
-        ),
-        Command::Rmd(text) => at!(AFTER_LOGIN, Letter::Delete, text.as_str(), FileRow::Rmd),
-        Command::Dele(text) => at!(AFTER_LOGIN, Letter::Delete, text.as_str(), FileRow::Dele),
-        Command::Rnfr(text) => at!(KEEPING_SOURCE, Letter::Rename, text.as_str(), FileRow::Rnfr),
-        Command::Rnto(text) => at!(FROM_SOURCE, Letter::Rename, text.as_str(), FileRow::Rnto),
-        Command::Size(text) => at!(AFTER_LOGIN, Letter::Listing, text.as_str(), FileRow::Size),
-        Command::Mdtm(text) => at!(AFTER_LOGIN, Letter::Listing, text.as_str(), FileRow::Mdtm),
-        Command::Stat(Some(text)) => at!(
-            AFTER_LOGIN,
-            Letter::Listing,
-            text.as_str(),
-            FileRow::Stat
-        ),
-        Command::Mlst(text) => at!(
-            AFTER_LOGIN,
-            Letter::Listing,
-            text_or_none(text),
-            FileRow::Mlst
-        ),
-        Command::List(text) => at!(MOVING, Letter::Listing, text_or_none(text), FileRow::List),
-        Command::Nlst(text) => at!(MOVING, Letter::Listing, text_or_none(text), FileRow::Nlst),
-        Command::Mlsd(text) => at!(MOVING, Letter::Listing, text_or_none(text), FileRow::Mlsd),
-        Command::Retr(text) => at!(MOVING, Letter::Retrieve, text.as_str(), FileRow::Retr),
-        Command::Stor(text) => at!(MOVING, Letter::Store, text.as_str(), FileRow::Stor),
-        Command::Appe(text) => at!(
-            MOVING_FROM_START,
-            Letter::AppendTo,
-            text.as_str(),
-            FileRow::Appe
-        ),
+        Command::Cwd(text) => at!(AFTER_LOGIN, ChangeDirectory, text.as_str(), FileRow::Cwd),
+        Command::Cdup => at!(AFTER_LOGIN, ChangeDirectory, "..", FileRow::Cwd),
+        Command::Mkd(text) => at!(AFTER_LOGIN, MakeDirectory, text.as_str(), FileRow::Mkd),
+        Command::Rmd(text) => at!(AFTER_LOGIN, Delete, text.as_str(), FileRow::Rmd),
+        Command::Dele(text) => at!(AFTER_LOGIN, Delete, text.as_str(), FileRow::Dele),
+        Command::Rnfr(text) => at!(KEEPING_SOURCE, Rename, text.as_str(), FileRow::Rnfr),
+        Command::Rnto(text) => at!(FROM_SOURCE, Rename, text.as_str(), FileRow::Rnto),
+        Command::Size(text) => at!(AFTER_LOGIN, Listing, text.as_str(), FileRow::Size),
+        Command::Mdtm(text) => at!(AFTER_LOGIN, Listing, text.as_str(), FileRow::Mdtm),
+        Command::Stat(Some(text)) => at!(AFTER_LOGIN, Listing, text.as_str(), FileRow::Stat),
+        Command::Mlst(text) => at!(AFTER_LOGIN, Listing, text_or_none(text), FileRow::Mlst),
+        Command::List(text) => at!(MOVING, Listing, text_or_none(text), LONG_LIST),
+        Command::Nlst(text) => at!(MOVING, Listing, text_or_none(text), NAME_LIST),
+        Command::Mlsd(text) => at!(MOVING, Listing, text_or_none(text), FileRow::Mlsd),
+        Command::Retr(text) => at!(MOVING, Retrieve, text.as_str(), FileRow::Retr),
+        Command::Stor(text) => at!(MOVING, Store, text.as_str(), FileRow::Stor),
+        Command::Appe(text) => at!(MOVING_FROM_START, AppendTo, text.as_str(), FileRow::Appe),
     }
 }
 
 /// The fate of a line while a transfer runs or a passive port is awaited; a line that is no command waits.
-pub(crate) fn meanwhile_of<A: Allocator, R, K>(item: &LineItem<A>) -> Meanwhile
-    ensures meanwhile { (users : Users) (view : View) (moment : ℕ)
-        → result ≡ meanwhile_of A R K users view moment (item_of item.now) }
+pub(crate) fn meanwhile_of<A: Allocator>(item: &LineItem<A>) -> Meanwhile
+    ensures meanwhile { result ≡ meanwhile_of (item_of item.now) }
 {
     match item {
-        LineItem::Command(command) => rule_of::<A, R, K>(command).conditions.meanwhile,
+        LineItem::Command(command) => rule_of(command).conditions.meanwhile,
         LineItem::Fault(_) => Meanwhile::Waits,
     }
 }

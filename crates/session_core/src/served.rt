@@ -2,18 +2,18 @@
 
 ghost use Rattle.std.specs.Prelude.{◌≡◌, IfOk, OnErr};
 ghost use Rattle.ftp_wire.specs.Reading.{item_of};
-ghost use Rattle.session_core.specs.Rows.{ruling};
+ghost use Rattle.session_core.specs.Rows.{rule_by};
 ghost use Rattle.session_table.specs.Plans.{Ran, Stops};
 ghost use Rattle.session_table.specs.Table.{left, ruled, served};
 
 use crate::order::refused_at_once;
 use crate::rows::carry_out;
-use crate::rules::{Rule, rule_of};
+use crate::rules::rule_of;
 use authorizer::Authorizer;
 use ftp_wire::LineItem;
 use rate_floors::Floors;
 use session_state::State;
-use session_table::{Action, Answer, Conditions};
+use session_table::{Action, Answer, Conditions, Rule};
 use std::alloc::{AllocError, Allocator};
 use virtual_tree::Store;
 
@@ -24,17 +24,17 @@ fn serve_rule<A: Allocator + Clone, F: Allocator + Clone, S: Store<A>>(
     users: &Authorizer<A>,
     floors: &mut Floors<F>,
     store: &mut S,
-    rule: Rule<'_>,
+    rule: Rule<&str>,
     moment: u64,
 ) -> Result<Vec<Action<A, S::Source, S::Sink>, A>, AllocError>
     ensures row { IfOk result (λ actions.
         Ran S.Step
-        (ruled users.now.users state.old (ruling users.now.users state.old moment rule.entry))
+        (ruled users.now.users state.old moment (rule_by (λ text. text.now) rule.entry))
         store.old store.new floors.old floors.new state.new actions.items) }
     ensures unchanged { OnErr result (state.new ≡ state.old) }
     ensures stops { OnErr result (
         Stops {A = A} {R = S.Source} {K = S.Sink} S.Step
-        (ruled users.now.users state.old (ruling users.now.users state.old moment rule.entry))
+        (ruled users.now.users state.old moment (rule_by (λ text. text.now) rule.entry))
         store.old store.new) }
     ensures uncounted { OnErr result (floors.new ≡ floors.old) }
 {
@@ -83,7 +83,7 @@ pub(crate) fn serve<A: Allocator + Clone, F: Allocator + Clone, S: Store<A>>(
             Ok(actions)
         }
         LineItem::Command(command) => {
-            let rule = rule_of::<A, S::Source, S::Sink>(command);
+            let rule = rule_of(command);
             let actions = serve_rule(state, users, floors, store, rule, moment)?;
             leave(state, rule.conditions);
             Ok(actions)

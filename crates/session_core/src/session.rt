@@ -12,7 +12,7 @@ use ftp_wire::LineItem;
 use rate_floors::Floors;
 use session_events::{close, take_port};
 use session_state::{State, put, put_abort, room_for};
-use session_state_rows::greet;
+use session_state_rows::greeting;
 use session_table::{Action, Answer, Control, Input, Meanwhile, Refusal, Settings, Stage};
 use std::alloc::{AllocError, Allocator, Global};
 use std::marker::Model;
@@ -42,9 +42,9 @@ impl<A: Allocator + Clone> Session<A> {
     ghost use Rattle.session_table.specs.Plans.{Stops};
     ghost use Rattle.session_table.specs.Plans.Plan.{Then};
     ghost use Rattle.session_table.specs.StateRows.{greeting};
-    ghost use Rattle.session_table.specs.Steps.{SessionStops, Took, asks_floors, counts_lines, is_due};
+    ghost use Rattle.session_table.specs.Steps.{SessionStops, Took, asks_floors, is_due};
     ghost use Rattle.session_table.specs.Table.{SessionStep, holds, idle, meanwhile};
-    ghost use Rattle.session_table.specs.Views.{fresh, is_closed};
+    ghost use Rattle.session_table.specs.Views.{counts_lines, fresh, is_closed};
 
     /// A new session of a client at this address.
     pub fn new(alloc: A, settings: Settings<A>, peer: [u8; 4]) -> Result<Session<A>, AllocError>
@@ -61,7 +61,7 @@ impl<A: Allocator + Clone> Session<A> {
         ensures row { IfOk result (λ actions.
             Then self.now.view actions.items ≡ greeting self.now.view) }
     {
-        greet(&self.state)
+        greeting(&self.state)
     }
 
     pub(crate) fn is_closed(&self) -> bool
@@ -117,7 +117,7 @@ impl<A: Allocator + Clone> Session<A> {
         put(&mut actions, Action::Say(refused));
         put_abort(&mut actions, self.state.runs());
         put(&mut actions, Action::CloseControl);
-        self.state.close();
+        self.state.close_control();
         Ok(actions)
     }
 
@@ -174,7 +174,7 @@ impl<A: Allocator + Clone> Session<A> {
             (item_of item)).plan store.old store.new) }
         ensures uncounted { OnErr result (floors.new ≡ floors.old) }
     {
-        match meanwhile_of::<A, S::Source, S::Sink>(&item) {
+        match meanwhile_of(&item) {
             Meanwhile::Served => {
                 let answer = serve(&mut self.state, users, floors, store, &item, moment);
                 drop(item);

@@ -32,13 +32,13 @@ pub struct Leaving<A: Allocator> {
 pub fn leave<A: Allocator + Clone>(state: &mut State<A>, nobody: Text<A>) -> Leaving<A>
     requires nobody { nobody ≡ [] }
     ensures silent { state.new ≡ record state.old { stage = Closed; name = [] } }
-    ensures aborts { result.aborts ≡ runs state.old.begun }
+    ensures aborts { result.aborts ≡ runs state.old.work }
     ensures left { result.left ≡ left_by state.old }
 {
     let aborts = state.runs();
     let was_inside = state.is_inside();
     let number = state.number();
-    let name = state.go_silent(nobody);
+    let name = state.disconnect(nobody);
     let left = if was_inside {
         Some(LoggedOut { name, number })
     } else {
@@ -59,7 +59,7 @@ pub fn close<A: Allocator + Clone, R: Drop, K: Drop>(
     let was_inside = state.is_inside();
     let number = state.number();
     put_abort(&mut actions, state.runs());
-    let name = state.go_silent(nobody);
+    let name = state.disconnect(nobody);
     put_leaving(&mut actions, was_inside, name, number);
     put(&mut actions, Action::Hook(HookCall::Disconnect));
     Ok(actions)

@@ -5,15 +5,17 @@ ghost use Rattle.session_table.specs.Plans.{RanByStore};
 ghost use Rattle.session_table.specs.Plans.Plan.{Then};
 ghost use Rattle.session_table.specs.StateRows.{farewell};
 ghost use Rattle.session_table.specs.Table.{and_quits, end_hook, end_reply, end_row, end_told, ended_row, ended_with};
-ghost use Rattle.session_table.specs.Views.{carried, is_closed};
+ghost use Rattle.session_table.specs.Views.{is_closed};
 ghost use Rattle.authorizer.specs.Users.{Users};
 ghost use Rattle.session_table.specs.declared.inputs.End.{End};
-ghost use Rattle.session_table.specs.Views.Begun.{Idle};
+ghost use Rattle.session_state.specs.Waiting.{if_quitting};
+ghost use Rattle.session_table.specs.declared.stages.Work.TheVariants.{Idle};
 
 use authorizer::Authorizer;
-use session_state::{Farewell, State, part, put, room_for};
+use session_state::{Farewell, State, put, put_farewell, room_for};
 use session_table::{Action, Answer, Control, End, Errand, HookCall, Notice, Refusal, Stage};
 use std::alloc::{AllocError, Allocator};
+use virtual_path::VPath;
 use virtual_tree::{Store, StoreFault};
 
 /// The reply to the end of a transfer, with the result of `finish`.
@@ -59,11 +61,11 @@ fn put_reply<A: Allocator, R: Drop, K: Drop>(
 /// Appends the event for the handler; listings have none.
 fn put_hook<A: Allocator, R: Drop, K: Drop>(
     actions: &mut Vec<Action<A, R, K>, A>,
-    errand: Errand<A>,
+    errand: Errand<VPath<A>>,
     end: End,
 )
     requires room { vec_len actions.old < vec_capacity actions.old }
-    ensures items { actions.new.items ≡ actions.old.items ++ end_hook (carried errand) end }
+    ensures items { actions.new.items ≡ actions.old.items ++ end_hook errand end }
     ensures len { vec_len actions.new ≤ vec_len actions.old + 1 }
     ensures kept { vec_capacity actions.old ≤ vec_capacity actions.new }
 {
@@ -87,45 +89,53 @@ fn put_hook<A: Allocator, R: Drop, K: Drop>(
 pub(crate) fn quit_if_waiting<A: Allocator + Clone, R: Drop, K: Drop>(
     state: &mut State<A>,
     users: &Authorizer<A>,
-    parting: Farewell<A>,
+    parting: Option<Farewell<A>>,
     actions: &mut Vec<Action<A, R, K>, A>,
 )
-    requires farewell { parting ≡ farewell users.now.users state.old }
+    requires farewell { parting
+        ≡ if_quitting state.old.control (farewell users.now.users state.old) }
     requires room { vec_len actions.old + 4 ≤ vec_capacity actions.old }
     ensures row { Then state.new actions.new.items
         ≡ and_quits users.now.users state.old actions.old.items state.old.control }
 {
-    match state.control() {
-        Control::Open | Control::Closing => {}
-        Control::Quitting => part(state, parting, actions),
+    if let Some(farewell) = parting {
+        put_farewell(state, farewell, actions);
     }
+}
+
+/// A transfer that has ended.
+#[derive(Drop)]
+struct Ending<A: Allocator> {
+    errand: Errand<VPath<A>>,
+    was_aborted: bool,
+    end: End,
+    /// The reply to a QUIT that waits.
+    parting: Option<Farewell<A>>,
 }
 
 /// Appends the replies and events of the end of a transfer.
 fn tell_end<A: Allocator + Clone, R: Drop, K: Drop>(
     state: &mut State<A>,
     users: &Authorizer<A>,
-    parting: Farewell<A>,
-    errand: Errand<A>,
-    was_aborted: bool,
-    end: End,
+    ending: Ending<A>,
     finished: Result<(), StoreFault>,
     actions: &mut Vec<Action<A, R, K>, A>,
 )
-    requires idle { state.old.begun ≡ Idle }
-    requires farewell { parting ≡ farewell users.now.users state.old }
+    requires idle { state.old.work ≡ Idle }
+    requires farewell { ending.parting
+        ≡ if_quitting state.old.control (farewell users.now.users state.old) }
     requires empty { actions.old.items ≡ [] }
     requires room { vec_len actions.old + 6 ≤ vec_capacity actions.old }
     ensures row { Then state.new actions.new.items
-        ≡ end_row users.now.users state.old (carried errand) was_aborted end finished }
+        ≡ end_row users.now.users state.old ending.errand ending.was_aborted ending.end finished }
 {
     if state.stage() == Stage::Closed {
         return;
     }
-    let reply = end_told(end, finished);
-    put_reply(actions, state.control(), was_aborted, reply);
-    put_hook(actions, errand, end);
-    quit_if_waiting(state, users, parting, actions);
+    let reply = end_told(ending.end, finished);
+    put_reply(actions, state.control(), ending.was_aborted, reply);
+    put_hook(actions, ending.errand, ending.end);
+    quit_if_waiting(state, users, ending.parting, actions);
 }
 
 /// Finishes a returned sink, and reports the end.
@@ -133,80 +143,26 @@ fn end_errand<A: Allocator + Clone, S: Store<A>>(
     state: &mut State<A>,
     users: &Authorizer<A>,
     store: &mut S,
-    parting: Farewell<A>,
-    errand: Errand<A>,
-    was_aborted: bool,
-    end: End,
+    ending: Ending<A>,
     sink: Option<S::Sink>,
     moment: u64,
     actions: &mut Vec<Action<A, S::Source, S::Sink>, A>,
 )
-    requires idle { state.old.begun ≡ Idle }
-    requires farewell { parting ≡ farewell users.now.users state.old }
+    requires idle { state.old.work ≡ Idle }
+    requires farewell { ending.parting
+        ≡ if_quitting state.old.control (farewell users.now.users state.old) }
     requires empty { actions.old.items ≡ [] }
     requires room { vec_len actions.old + 6 ≤ vec_capacity actions.old }
-    ensures row { RanByStore S.Step
-        (ended_with users.now.users state.old moment (carried errand) was_aborted end sink)
+    ensures row { RanByStore S.Step (ended_with users.now.users state.old moment ending.errand
+        ending.was_aborted ending.end sink)
         store.old store.new state.new actions.new.items }
 {
     match sink {
         Some(sink) => {
             let finished = store.finish(sink, moment);
-            tell_end(
-                state,
-                users,
-                parting,
-                errand,
-                was_aborted,
-                end,
-                finished,
-                actions,
-            );
+            tell_end(state, users, ending, finished, actions);
         }
-        None => tell_end(
-            state,
-            users,
-            parting,
-            errand,
-            was_aborted,
-            end,
-            Ok(()),
-            actions,
-        ),
-    }
-}
-
-/// The end of a transfer, with room for its actions.
-fn end_within<A: Allocator + Clone, S: Store<A>>(
-    state: &mut State<A>,
-    users: &Authorizer<A>,
-    store: &mut S,
-    parting: Farewell<A>,
-    end: End,
-    sink: Option<S::Sink>,
-    moment: u64,
-    actions: &mut Vec<Action<A, S::Source, S::Sink>, A>,
-)
-    requires farewell { parting ≡ farewell users.now.users state.old }
-    requires empty { actions.old.items ≡ [] }
-    requires room { vec_len actions.old + 6 ≤ vec_capacity actions.old }
-    ensures row { RanByStore S.Step (ended_row users.now.users state.old moment end sink)
-        store.old store.new state.new actions.new.items }
-{
-    let was_aborted = state.is_aborted();
-    if let Some(errand) = state.end_transfer() {
-        end_errand(
-            state,
-            users,
-            store,
-            parting,
-            errand,
-            was_aborted,
-            end,
-            sink,
-            moment,
-            actions,
-        );
+        None => tell_end(state, users, ending, Ok(()), actions),
     }
 }
 
@@ -228,18 +184,19 @@ pub fn end_transfer<A: Allocator + Clone, S: Store<A>>(
     ensures kept { OnErr result (sink.new ≡ sink.old) }
 {
     let mut actions = room_for(state, 6)?;
-    let parting = Farewell::new(state, users)?;
+    let parting = Farewell::if_waiting(state, users)?;
     let came = sink.take();
-    end_within(
-        state,
-        users,
-        store,
-        parting,
+    let was_aborted = state.is_aborted();
+    let Some(errand) = state.end_transfer() else {
+        return Ok(actions);
+    };
+    let ending = Ending {
+        errand,
+        was_aborted,
         end,
-        came,
-        moment,
-        &mut actions,
-    );
+        parting,
+    };
+    end_errand(state, users, store, ending, came, moment, &mut actions);
     Ok(actions)
 }
 

@@ -74,7 +74,7 @@ fn tell_port<A: Allocator + Clone, R: Drop, K: Drop>(
     ensures unchanged { OnErr result (state.new ≡ state.old) }
 {
     let mut actions = say_port(state, passive, port)?;
-    let parting = Farewell::new(state, users)?;
+    let parting = Farewell::if_waiting(state, users)?;
     state.end_waiting();
     state.prepare();
     quit_if_waiting(state, users, parting, &mut actions);
@@ -92,7 +92,7 @@ fn tell_none<A: Allocator + Clone, R: Drop, K: Drop>(
     ensures unchanged { OnErr result (state.new ≡ state.old) }
 {
     let mut actions = room_for(state, 5)?;
-    let parting = Farewell::new(state, users)?;
+    let parting = Farewell::if_waiting(state, users)?;
     let none = Answer::Refusal(Refusal::NoPassivePort);
     put(&mut actions, Action::Say(none));
     state.end_waiting();

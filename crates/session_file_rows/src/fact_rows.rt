@@ -70,7 +70,7 @@ fn entry_answer<A: Allocator + Clone>(
 }
 
 /// MLST. If memory runs out the session is unchanged, and the store is as the look left it.
-pub fn tell_entry<A: Allocator + Clone, S: Store<A>>(
+pub fn mlst_row<A: Allocator + Clone, S: Store<A>>(
     state: &mut State<A>,
     users: &Authorizer<A>,
     store: &mut S,

@@ -29,7 +29,7 @@ fn is_ascii(data_type: DataType) -> bool
 }
 
 /// SIZE: the octets of a file, as TYPE I moves them.
-pub fn tell_size<A: Allocator + Clone, S: Store<A>>(
+pub fn size_row<A: Allocator + Clone, S: Store<A>>(
     state: &mut State<A>,
     store: &mut S,
     location: &Location<A>,
@@ -58,7 +58,7 @@ pub fn tell_size<A: Allocator + Clone, S: Store<A>>(
 }
 
 /// MDTM: the time of the last change of a file.
-pub fn tell_moment<A: Allocator + Clone, S: Store<A>>(
+pub fn mdtm_row<A: Allocator + Clone, S: Store<A>>(
     state: &mut State<A>,
     store: &mut S,
     location: &Location<A>,

@@ -1,19 +1,42 @@
 //! Transfers of files: RETR, STOR, APPE (RFC 959, section 4.1.3; RFC 3659, section 5).
 
-ghost use Rattle.std.specs.Prelude.{◌≡◌, [], IfOk, OnErr, vec_len, vec_capacity};
-ghost use Rattle.session_table.specs.Calls.Call.{OpenWrite};
+ghost use Rattle.std.specs.Prelude.{◌≡◌, IfOk, OnErr};
 ghost use Rattle.session_table.specs.Plans.{RanByStore, Stops};
-ghost use Rattle.session_table.specs.Plans.Plan.{Ask};
-ghost use Rattle.session_table.specs.TransferRows.{appe_row, retr_row, stor_row, store_mode, takes};
+ghost use Rattle.session_table.specs.TransferRows.{appe_row, reads, retr_row, stor_row, store_mode, writes};
 
-use crate::opened::{put_sending, put_taking};
+use crate::outcomes::{put_refusal, put_start};
 use session_state::{Location, State, room_for};
-use session_table::Action;
+use session_table::{Action, Errand, Job};
 use std::alloc::{AllocError, Allocator};
 use virtual_tree::{Store, WriteMode};
 
+/// Opens a file for reading from this offset on. After an error session and store are unchanged.
+fn reads<A: Allocator + Clone, S: Store<A>>(
+    state: &mut State<A>,
+    store: &mut S,
+    location: Location<A>,
+    offset: u64,
+) -> Result<Vec<Action<A, S::Source, S::Sink>, A>, AllocError>
+    ensures row { IfOk result (λ actions.
+        RanByStore S.Step (reads state.old offset location)
+        store.old store.new state.new actions.items) }
+    ensures unchanged { OnErr result (state.new ≡ state.old) }
+    ensures untouched { OnErr result (store.new ≡ store.old) }
+{
+    let mut actions = room_for(state, 2)?;
+    match store.open_read(location.stored(), offset) {
+        Err(fault) => put_refusal(state, fault, &mut actions),
+        Ok(source) => {
+            let job = Job::SendFile(source, state.data_type());
+            let errand = Errand::Sending(location.into_path());
+            put_start(state, errand, job, &mut actions);
+        }
+    }
+    Ok(actions)
+}
+
 /// RETR: a file from the offset on. After an error session and store are unchanged.
-pub fn retrieve<A: Allocator + Clone, S: Store<A>>(
+pub fn retr_row<A: Allocator + Clone, S: Store<A>>(
     state: &mut State<A>,
     store: &mut S,
     location: Location<A>,
@@ -27,14 +50,12 @@ pub fn retrieve<A: Allocator + Clone, S: Store<A>>(
         (retr_row state.old location) store.old store.new) }
     ensures untouched { OnErr result (store.new ≡ store.old) }
 {
-    let mut actions = room_for(state, 2)?;
-    let opened = store.open_read(location.stored(), state.offset());
-    put_sending(state, location.into_path(), opened, &mut actions);
-    Ok(actions)
+    let offset = state.offset();
+    reads(state, store, location, offset)
 }
 
 /// Opens a file for writing in this mode. After an error session and store are unchanged.
-fn write_file<A: Allocator + Clone, S: Store<A>>(
+fn writes<A: Allocator + Clone, S: Store<A>>(
     state: &mut State<A>,
     store: &mut S,
     location: Location<A>,
@@ -42,15 +63,20 @@ fn write_file<A: Allocator + Clone, S: Store<A>>(
     moment: u64,
 ) -> Result<Vec<Action<A, S::Source, S::Sink>, A>, AllocError>
     ensures row { IfOk result (λ actions.
-        RanByStore S.Step
-        (Ask (OpenWrite location.stored mode moment) (takes state.old location.path))
+        RanByStore S.Step (writes state.old mode moment location)
         store.old store.new state.new actions.items) }
     ensures unchanged { OnErr result (state.new ≡ state.old) }
     ensures untouched { OnErr result (store.new ≡ store.old) }
 {
     let mut actions = room_for(state, 2)?;
-    let opened = store.open_write(location.stored(), mode, moment);
-    put_taking(state, location.into_path(), opened, &mut actions);
+    match store.open_write(location.stored(), mode, moment) {
+        Err(fault) => put_refusal(state, fault, &mut actions),
+        Ok(sink) => {
+            let job = Job::TakeFile(sink, state.data_type());
+            let errand = Errand::Taking(location.into_path());
+            put_start(state, errand, job, &mut actions);
+        }
+    }
     Ok(actions)
 }
 
@@ -67,7 +93,7 @@ fn store_mode(offset: u64) -> WriteMode
 
 /// STOR: a file from the offset on. The moment is in milliseconds since 1970. After an error session and store are
 /// unchanged.
-pub fn store_file<A: Allocator + Clone, S: Store<A>>(
+pub fn stor_row<A: Allocator + Clone, S: Store<A>>(
     state: &mut State<A>,
     store: &mut S,
     location: Location<A>,
@@ -83,12 +109,12 @@ pub fn store_file<A: Allocator + Clone, S: Store<A>>(
     ensures untouched { OnErr result (store.new ≡ store.old) }
 {
     let mode = store_mode(state.offset());
-    write_file(state, store, location, mode, moment)
+    writes(state, store, location, mode, moment)
 }
 
 /// APPE: after the last octet of a file. The moment is in milliseconds since 1970. After an error session and store are
 /// unchanged.
-pub fn append<A: Allocator + Clone, S: Store<A>>(
+pub fn appe_row<A: Allocator + Clone, S: Store<A>>(
     state: &mut State<A>,
     store: &mut S,
     location: Location<A>,
@@ -103,5 +129,5 @@ pub fn append<A: Allocator + Clone, S: Store<A>>(
         (appe_row state.old moment location) store.old store.new) }
     ensures untouched { OnErr result (store.new ≡ store.old) }
 {
-    write_file(state, store, location, WriteMode::Append, moment)
+    writes(state, store, location, WriteMode::Append, moment)
 }

@@ -1,9 +1,10 @@
-//! The rows of the session table that call the store: paths, changes, transfers and listings.
+//! The rows of the session table that call the store: paths, changes, transfers and listings. Each has the name of its row
+//! there.
 //!
 //! ```text
-//! let told = make_directory(state, store, &place); // or what the store refused
+//! let told = mkd_row(state, store, &place); // or what the store refused
 //! says(rt, told, "257 \"/in\"\r\n");
-//! let told = rename_from(state, store, place); // the path is kept for RNTO
+//! let told = rnfr_row(state, store, place); // the path is kept for RNTO
 //! says(rt, told, "350 Send RNTO\r\n");
 //! ```
 #![tactic(auto)]
@@ -14,15 +15,14 @@ mod facts;
 mod files;
 mod lines;
 mod listing_rows;
-mod opened;
+mod outcomes;
 mod paths;
-mod style;
 mod told;
+mod way;
 
-pub use changes::{make_directory, remove_directory, remove_file, rename_from, rename_to};
-pub use fact_rows::tell_entry;
-pub use facts::{tell_moment, tell_size};
-pub use files::{append, retrieve, store_file};
-pub use listing_rows::{list, list_facts, tell_listing};
-pub use paths::change_directory;
-pub use style::Style;
+pub use changes::{dele_row, mkd_row, rmd_row, rnfr_row, rnto_row};
+pub use fact_rows::mlst_row;
+pub use facts::{mdtm_row, size_row};
+pub use files::{appe_row, retr_row, stor_row};
+pub use listing_rows::{list_row, mlsd_row, stat_row};
+pub use paths::cwd_row;

@@ -3,18 +3,17 @@
 ghost use Rattle.std.specs.Prelude.{◌≡◌, ◌++◌, ◌∷◌, [], IfOk, OnOk, map};
 ghost use Rattle.ftp_terms.specs.LineText.{text_of};
 ghost use Rattle.ftp_terms.specs.Lines.{IsLine};
-ghost use Rattle.session_file_rows.specs.Listed.{style_of};
-ghost use Rattle.session_table.specs.Texts.{AreTold, IsTold, ended_lines};
-ghost use Rattle.session_table.specs.TransferRows.{entry_told, itself, last_name, letters_by, letters_held};
+ghost use Rattle.session_file_rows.specs.Listed.{AreEnded};
+ghost use Rattle.session_table.specs.Texts.{AreTold, IsTold};
+ghost use Rattle.session_table.specs.TransferRows.{entry_told, last_name, letters_by, letters_held};
 ghost use Rattle.virtual_path.specs.Path.{child_of};
 ghost use Rattle.virtual_tree.specs.Calls.{entry_of};
 
-use crate::style::Style;
 use authorizer::Authorizer;
 use ftp_reply::{list_line, mlst_entry};
 use ftp_terms::{Letters, LineText, Meta};
-use session_state::{State, put, with_room};
-use session_table::Octets;
+use session_state::State;
+use session_table::{Octets, Style};
 use std::alloc::{AllocError, Allocator};
 use virtual_path::{PathFault, VPath};
 use virtual_tree::ListedEntry;
@@ -71,7 +70,7 @@ fn entry_line<A: Allocator + Clone>(
 ) -> Result<LineText<A>, AllocError>
     requires line { IsLine name.now }
     ensures told { IfOk result (λ line. IsTold
-        (entry_told users.now.users state.now above.now (style_of style) (name.now, meta.now))
+        (entry_told users.now.users state.now above.now style (name.now, meta.now))
         (text_of line)) }
 {
     match style {
@@ -84,7 +83,7 @@ fn entry_line<A: Allocator + Clone>(
     }
 }
 
-/// The lines of a directory's entries.
+/// The lines of a directory's entries, for a reply.
 pub(crate) fn lines_of<A: Allocator + Clone>(
     state: &State<A>,
     users: &Authorizer<A>,
@@ -93,7 +92,7 @@ pub(crate) fn lines_of<A: Allocator + Clone>(
     entries: &[ListedEntry<A>],
 ) -> Result<Vec<LineText<A>, A>, AllocError>
     ensures told { IfOk result (λ lines. AreTold
-        (map (entry_told users.now.users state.now above.now (style_of style))
+        (map (entry_told users.now.users state.now above.now style)
         (map entry_of entries.now))
         (map text_of lines.items)) }
 {
@@ -106,24 +105,25 @@ pub(crate) fn lines_of<A: Allocator + Clone>(
     Ok(lines)
 }
 
-/// The line of a file itself.
-pub(crate) fn line_of_file<A: Allocator + Clone>(
+/// The octets of the lines of a directory's entries, each ended by CR LF.
+pub(crate) fn octets_of<A: Allocator + Clone>(
     state: &State<A>,
     users: &Authorizer<A>,
-    path: &VPath<A>,
+    above: &VPath<A>,
     style: Style,
-    meta: &Meta,
-) -> Result<Vec<LineText<A>, A>, AllocError>
-    ensures told { IfOk result (λ lines. AreTold
-        (map (entry_told users.now.users state.now path.now (style_of style))
-        (itself path.now meta.now))
-        (map text_of lines.items)) }
+    entries: &[ListedEntry<A>],
+) -> Result<Octets<A>, AllocError>
+    ensures told { IfOk result (λ octets. AreEnded
+        (map (entry_told users.now.users state.now above.now style) (map entry_of entries.now))
+        octets) }
 {
-    let name = last_name(path);
-    let line = entry_line(state, users, path, style, name, meta)?;
-    let mut lines = with_room(state.alloc()?, 1)?;
-    put(&mut lines, line);
-    Ok(lines)
+    let mut octets = Vec::new(state.alloc()?);
+    for entry in entries {
+        let name = entry.name.as_str();
+        let line = entry_line(state, users, above, style, name, &entry.meta)?;
+        push_line(&mut octets, line.as_str())?;
+    }
+    Ok(Octets::new(octets))
 }
 
 fn last_name<A: Allocator>(path: &VPath<A>) -> &str
@@ -133,24 +133,27 @@ fn last_name<A: Allocator>(path: &VPath<A>) -> &str
     path.file_name().unwrap_or("")
 }
 
-fn push_line<A: Allocator>(octets: &mut Vec<u8, A>, line: &str) -> Result<(), AllocError>
+/// The line of a file itself.
+pub(crate) fn line_of_file<A: Allocator + Clone>(
+    state: &State<A>,
+    users: &Authorizer<A>,
+    path: &VPath<A>,
+    style: Style,
+    meta: &Meta,
+) -> Result<LineText<A>, AllocError>
+    ensures told { IfOk result (λ line. IsTold
+        (entry_told users.now.users state.now path.now style (last_name path.now, meta.now))
+        (text_of line)) }
+{
+    let name = last_name(path);
+    entry_line(state, users, path, style, name, meta)
+}
+
+/// Appends a line, ended by CR LF.
+pub(crate) fn push_line<A: Allocator>(octets: &mut Vec<u8, A>, line: &str) -> Result<(), AllocError>
     ensures line { OnOk result (
         octets.new.items ≡ octets.old.items ++ (line.now ++ 13 ∷ 10 ∷ [])) }
 {
     octets.extend_from_slice(line.as_bytes())?;
     octets.extend_from_slice(b"\r\n")
-}
-
-/// The octets of lines, each ended by CR LF.
-pub(crate) fn ended_lines<A: Allocator>(
-    alloc: A,
-    lines: &[LineText<A>],
-) -> Result<Octets<A>, AllocError>
-    ensures octets { IfOk result (λ octets. octets ≡ ended_lines (map text_of lines.now)) }
-{
-    let mut octets = Vec::new(alloc);
-    for line in lines {
-        push_line(&mut octets, line.as_str())?;
-    }
-    Ok(Octets::new(octets))
 }

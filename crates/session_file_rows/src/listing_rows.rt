@@ -3,18 +3,16 @@
 //! If memory runs out the session is unchanged, and the store is as the looks left it.
 
 ghost use Rattle.std.specs.Prelude.{◌≡◌, IfOk, OnErr};
-ghost use Rattle.session_file_rows.specs.Listed.{directory_row, listing_row, style_of};
+ghost use Rattle.session_file_rows.specs.Listed.{told_by};
 ghost use Rattle.session_table.specs.Plans.{RanByStore, Stops};
-ghost use Rattle.session_table.specs.TransferRows.{list_row, mlsd_row, stat_row};
-ghost use Rattle.session_table.specs.TransferRows.Style.{FactLines};
-ghost use Rattle.session_file_rows.specs.declared.style.Way.TheVariants.{OverData};
+ghost use Rattle.session_table.specs.TransferRows.{list_row, lists_directory, lists_location, mlsd_row, stat_row};
 
-use crate::style::{Style, Way};
 use crate::told::{tell_entries, tell_file};
+use crate::way::Way;
 use authorizer::Authorizer;
 use ftp_terms::EntryKind;
 use session_state::{Location, State};
-use session_table::{Action, Refusal};
+use session_table::{Action, Refusal, Style};
 use std::alloc::{AllocError, Allocator};
 use virtual_tree::Store;
 
@@ -28,11 +26,11 @@ fn list_directory<A: Allocator + Clone, S: Store<A>>(
     way: Way,
 ) -> Result<Vec<Action<A, S::Source, S::Sink>, A>, AllocError>
     ensures row { IfOk result (λ actions. RanByStore S.Step
-        (directory_row users.now.users state.old (style_of style) way location.now)
+        (lists_directory users.now.users state.old style location.now (told_by way state.old))
         store.old store.new state.new actions.items) }
     ensures unchanged { OnErr result (state.new ≡ state.old) }
     ensures stops { OnErr result (Stops {A = A} {R = S.Source} {K = S.Sink} S.Step
-        (directory_row users.now.users state.old (style_of style) way location.now)
+        (lists_directory users.now.users state.old style location.now (told_by way state.old))
         store.old store.new) }
 {
     match store.list(location.stored()) {
@@ -58,11 +56,11 @@ fn list_location<A: Allocator + Clone, S: Store<A>>(
     way: Way,
 ) -> Result<Vec<Action<A, S::Source, S::Sink>, A>, AllocError>
     ensures row { IfOk result (λ actions. RanByStore S.Step
-        (listing_row users.now.users state.old (style_of style) way location.now)
+        (lists_location users.now.users state.old style location.now (told_by way state.old))
         store.old store.new state.new actions.items) }
     ensures unchanged { OnErr result (state.new ≡ state.old) }
     ensures stops { OnErr result (Stops {A = A} {R = S.Source} {K = S.Sink} S.Step
-        (listing_row users.now.users state.old (style_of style) way location.now)
+        (lists_location users.now.users state.old style location.now (told_by way state.old))
         store.old store.new) }
 {
     match store.stat(location.stored()) {
@@ -75,7 +73,7 @@ fn list_location<A: Allocator + Clone, S: Store<A>>(
 }
 
 /// LIST and NLST.
-pub fn list<A: Allocator + Clone, S: Store<A>>(
+pub fn list_row<A: Allocator + Clone, S: Store<A>>(
     state: &mut State<A>,
     users: &Authorizer<A>,
     store: &mut S,
@@ -83,17 +81,17 @@ pub fn list<A: Allocator + Clone, S: Store<A>>(
     style: Style,
 ) -> Result<Vec<Action<A, S::Source, S::Sink>, A>, AllocError>
     ensures row { IfOk result (λ actions. RanByStore S.Step
-        (list_row users.now.users state.old (style_of style) location.now)
+        (list_row users.now.users state.old style location.now)
         store.old store.new state.new actions.items) }
     ensures unchanged { OnErr result (state.new ≡ state.old) }
     ensures stops { OnErr result (Stops {A = A} {R = S.Source} {K = S.Sink} S.Step
-        (list_row users.now.users state.old (style_of style) location.now) store.old store.new) }
+        (list_row users.now.users state.old style location.now) store.old store.new) }
 {
     list_location(state, users, store, location, style, Way::OverData)
 }
 
 /// MLSD.
-pub fn list_facts<A: Allocator + Clone, S: Store<A>>(
+pub fn mlsd_row<A: Allocator + Clone, S: Store<A>>(
     state: &mut State<A>,
     users: &Authorizer<A>,
     store: &mut S,
@@ -123,7 +121,7 @@ pub fn list_facts<A: Allocator + Clone, S: Store<A>>(
 }
 
 /// STAT with an argument.
-pub fn tell_listing<A: Allocator + Clone, S: Store<A>>(
+pub fn stat_row<A: Allocator + Clone, S: Store<A>>(
     state: &mut State<A>,
     users: &Authorizer<A>,
     store: &mut S,

@@ -1,9 +1,11 @@
 //! The current directory: CWD and CDUP (RFC 959, section 4.1.1).
 
 ghost use Rattle.std.specs.Prelude.{◌≡◌, IfOk, OnErr};
-ghost use Rattle.session_table.specs.FileRows.{cwd_by, cwd_row};
+ghost use Rattle.session_table.specs.FileRows.{by_kind, cwd_row, unless_fault};
 ghost use Rattle.session_table.specs.Plans.{RanByStore, Stops};
 ghost use Rattle.session_table.specs.Plans.Plan.{Then};
+ghost use Rattle.session_table.specs.StateRows.{notes, refuses};
+ghost use Rattle.session_table.specs.declared.notices.Notice.TheVariants.{DirectoryChanged};
 
 use ftp_terms::{EntryKind, Meta};
 use session_state::{Location, State};
@@ -19,7 +21,9 @@ fn go_to<A: Allocator + Clone, R: Drop, K: Drop>(
     looked: Result<Meta, StoreFault>,
 ) -> Result<Vec<Action<A, R, K>, A>, AllocError>
     ensures row { IfOk result (λ actions.
-        Then state.new actions.items ≡ cwd_by state.old path looked) }
+        Then state.new actions.items ≡ unless_fault state.old (λ meta. by_kind
+        (notes (record state.old { cwd = path }) DirectoryChanged)
+        (refuses state.old (Refusal.Store StoreFault.NotDir)) meta.kind) looked) }
     ensures unchanged { OnErr result (state.new ≡ state.old) }
 {
     match looked {
@@ -36,7 +40,7 @@ fn go_to<A: Allocator + Clone, R: Drop, K: Drop>(
 }
 
 /// CWD, and CDUP as CWD of the directory above.
-pub fn change_directory<A: Allocator + Clone, S: Store<A>>(
+pub fn cwd_row<A: Allocator + Clone, S: Store<A>>(
     state: &mut State<A>,
     store: &mut S,
     location: Location<A>,

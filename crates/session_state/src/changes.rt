@@ -1,6 +1,6 @@
 //! The changes of the state of a session.
 
-ghost use Rattle.std.specs.Prelude.{◌≡◌, ◌-◌, [], Some, None, MatchOption, false, option_map, true};
+ghost use Rattle.std.specs.Prelude.{◌≡◌, ◌-◌, [], Some, None, MatchOption, false, true};
 
 use crate::state::State;
 use ftp_terms::{DataType, Facts};
@@ -10,8 +10,8 @@ use std::mem;
 use virtual_path::VPath;
 
 impl<A: Allocator> State<A> {
-    ghost use Rattle.session_table.specs.Views.{aborted, anew, carried, running};
-    ghost use Rattle.session_table.specs.Views.Begun.{AwaitsPort, Idle, Transfers};
+    ghost use Rattle.session_table.specs.Views.{aborted, anew, running};
+    ghost use Rattle.session_table.specs.declared.stages.Work.TheVariants.{AwaitsPort, Idle, Transfers};
     ghost use Rattle.session_table.specs.declared.stages.Control.TheVariants.{Closing, Quitting};
     ghost use Rattle.session_table.specs.declared.stages.Stage.TheVariants.{Closed, Greeted, Inside};
 
@@ -37,7 +37,7 @@ impl<A: Allocator> State<A> {
     }
 
     /// Logs the user with this number in.
-    pub fn go_inside(&mut self, number: u32)
+    pub fn log_in(&mut self, number: u32)
         ensures inside { self.new ≡ record self.old { stage = Inside; number = number } }
     {
         self.stage = Stage::Inside;
@@ -45,9 +45,9 @@ impl<A: Allocator> State<A> {
     }
 
     /// Marks the control connection for closing and forgets the user. Returns the previous user name.
-    pub fn go_away(&mut self, empty: Text<A>) -> Text<A>
+    pub fn log_out(&mut self, empty: Text<A>) -> Text<A>
         requires empty { empty ≡ [] }
-        ensures away { self.new
+        ensures out { self.new
             ≡ record self.old { stage = Greeted; name = []; control = Closing } }
         ensures name { result ≡ self.old.name }
     {
@@ -64,7 +64,7 @@ impl<A: Allocator> State<A> {
     }
 
     /// Marks the control connection as gone. Returns the previous user name.
-    pub fn go_silent(&mut self, empty: Text<A>) -> Text<A>
+    pub fn disconnect(&mut self, empty: Text<A>) -> Text<A>
         requires empty { empty ≡ [] }
         ensures closed { self.new ≡ record self.old { stage = Closed; name = [] } }
         ensures name { result ≡ self.old.name }
@@ -74,7 +74,7 @@ impl<A: Allocator> State<A> {
     }
 
     /// Marks the control connection for closing.
-    pub fn close(&mut self)
+    pub fn close_control(&mut self)
         ensures closing { self.new ≡ record self.old { control = Closing } }
     {
         self.control = Control::Closing;
@@ -140,16 +140,16 @@ impl<A: Allocator> State<A> {
     /// Awaits a passive port, and forgets a prepared data connection.
     pub fn await_port(&mut self, passive: Passive)
         ensures awaited { self.new
-            ≡ record self.old { prepared = false; begun = AwaitsPort passive } }
+            ≡ record self.old { prepared = false; work = AwaitsPort passive } }
     {
         self.prepared = false;
         self.work = Work::AwaitsPort(passive);
     }
 
     /// Begins a transfer, which uses up the prepared data connection.
-    pub fn begin(&mut self, errand: Errand<A>)
+    pub fn begin(&mut self, errand: Errand<VPath<A>>)
         ensures begun { self.new
-            ≡ record self.old { prepared = false; begun = Transfers (carried errand) } }
+            ≡ record self.old { prepared = false; work = Transfers errand } }
     {
         self.prepared = false;
         self.work = Work::Transfers(errand);
@@ -157,7 +157,7 @@ impl<A: Allocator> State<A> {
 
     /// Aborts a running transfer; its end is still to come.
     pub fn abort(&mut self)
-        ensures aborted { self.new ≡ record self.old { begun = aborted self.old.begun } }
+        ensures aborted { self.new ≡ record self.old { work = aborted self.old.work } }
     {
         self.work = match mem::replace(&mut self.work, Work::Idle) {
             Work::Transfers(errand) => Work::Aborted(errand),
@@ -167,17 +167,17 @@ impl<A: Allocator> State<A> {
 
     /// Ends the wait for a passive port.
     pub fn end_waiting(&mut self)
-        ensures ended { self.new ≡ record self.old { begun = Idle } }
+        ensures ended { self.new ≡ record self.old { work = Idle } }
     {
         self.work = Work::Idle;
     }
 
     /// Ends a transfer, aborted or not. Returns its content; None if no transfer runs.
-    pub fn end_transfer(&mut self) -> Option<Errand<A>>
-        ensures errand { option_map carried result ≡ running self.old.begun }
+    pub fn end_transfer(&mut self) -> Option<Errand<VPath<A>>>
+        ensures errand { result ≡ running self.old.work }
         ensures ended { MatchOption result
             (self.new ≡ self.old)
-            (λ errand. self.new ≡ record self.old { begun = Idle }) }
+            (λ errand. self.new ≡ record self.old { work = Idle }) }
     {
         match mem::replace(&mut self.work, Work::Idle) {
             Work::Transfers(errand) | Work::Aborted(errand) => Some(errand),

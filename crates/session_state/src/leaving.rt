@@ -1,6 +1,7 @@
 //! The end of a login: the reply to QUIT, and the actions by which a user leaves.
 
 ghost use Rattle.std.specs.Prelude.{◌≡◌, ◌<◌, ◌≤◌, ◌+◌, [], ◌∷◌, ◌++◌, cond, IfOk, vec_len, vec_capacity};
+ghost use Rattle.session_state.specs.Waiting.{if_quitting};
 ghost use Rattle.session_table.specs.Plans.Plan.{Then};
 ghost use Rattle.session_table.specs.StateRows.{farewell, parts};
 ghost use Rattle.session_table.specs.declared.actions.Action.TheVariants.{Abort, Hook, ReleaseFloor};
@@ -10,7 +11,7 @@ use crate::answers::copied;
 use crate::room::put;
 use crate::state::State;
 use authorizer::Authorizer;
-use session_table::{Action, Answer, HookCall, Notice, Text};
+use session_table::{Action, Answer, Control, HookCall, Notice, Text};
 use std::alloc::{AllocError, Allocator};
 use std::marker::Model;
 
@@ -88,10 +89,27 @@ impl<A: Allocator + Clone> Farewell<A> {
         let reply = quit_reply(state, users)?;
         Ok(Farewell { reply, nobody })
     }
+
+    /// The reply to a QUIT that waits; `None` if none waits.
+    pub fn if_waiting(
+        state: &State<A>,
+        users: &Authorizer<A>,
+    ) -> Result<Option<Farewell<A>>, AllocError>
+        ensures reply { IfOk result (λ reply.
+            reply ≡ if_quitting state.now.control (farewell users.now.users state.now)) }
+    {
+        match state.control() {
+            Control::Open | Control::Closing => Ok(None),
+            Control::Quitting => {
+                let farewell = Farewell::new(state, users)?;
+                Ok(Some(farewell))
+            }
+        }
+    }
 }
 
 /// Appends the farewell to other actions: the reply, the leave of the user, and the close.
-pub fn part<A: Allocator + Clone, R: Drop, K: Drop>(
+pub fn put_farewell<A: Allocator + Clone, R: Drop, K: Drop>(
     state: &mut State<A>,
     farewell: Farewell<A>,
     actions: &mut Vec<Action<A, R, K>, A>,
@@ -101,7 +119,7 @@ pub fn part<A: Allocator + Clone, R: Drop, K: Drop>(
 {
     let was_inside = state.is_inside();
     let number = state.number();
-    let name = state.go_away(farewell.nobody);
+    let name = state.log_out(farewell.nobody);
     put(actions, Action::Say(farewell.reply));
     put_leaving(actions, was_inside, name, number);
     put(actions, Action::CloseControl);

@@ -17,7 +17,7 @@ mod state;
 mod told;
 
 pub use answers::{copied, made, path_answer};
-pub use leaving::{Farewell, part, put_abort, put_leaving};
+pub use leaving::{Farewell, put_abort, put_farewell, put_leaving};
 pub use location::Location;
 pub use room::{put, room_for, with_room};
 pub use state::State;

@@ -28,13 +28,13 @@ pub struct State<A: Allocator = Global> {
     pub(crate) only_extended: bool,
     pub(crate) prepared: bool,
     pub(crate) source: Option<VPath<A>>,
-    pub(crate) work: Work<A>,
+    pub(crate) work: Work<VPath<A>>,
     pub(crate) alloc: A,
 }
 
 impl<A: Allocator> Model for State<A> {
     ghost use Rattle.ftp_terms.specs.LineText.{text_of};
-    ghost use Rattle.session_table.specs.Views.{View, begun};
+    ghost use Rattle.session_table.specs.Views.{View};
 
     ghost Value = { View };
 
@@ -56,7 +56,7 @@ impl<A: Allocator> Model for State<A> {
       only_extended = state.only_extended;
       prepared = state.prepared;
       source = state.source;
-      begun = begun state.work;
+      work = state.work;
     } };
 }
 
@@ -199,7 +199,7 @@ impl<A: Allocator + Clone> State<A> {
 
     /// The command that awaits a passive port, if any.
     pub fn awaited(&self) -> Option<Passive>
-        ensures awaited { result ≡ awaited self.now.begun }
+        ensures awaited { result ≡ awaited self.now.work }
     {
         match &self.work {
             Work::AwaitsPort(passive) => Some(*passive),
@@ -209,28 +209,28 @@ impl<A: Allocator + Clone> State<A> {
 
     /// Returns whether a transfer runs, aborted or not, or a passive port is awaited.
     pub fn is_busy(&self) -> bool
-        ensures busy { result ≡ is_busy self.now.begun }
+        ensures busy { result ≡ is_busy self.now.work }
     {
         !matches!(&self.work, Work::Idle)
     }
 
     /// Returns whether an aborted transfer has not ended.
     pub fn is_aborted(&self) -> bool
-        ensures aborted { result ≡ is_aborted self.now.begun }
+        ensures aborted { result ≡ is_aborted self.now.work }
     {
         matches!(&self.work, Work::Aborted(_))
     }
 
     /// Returns whether a transfer has not ended, aborted or not.
     pub fn runs(&self) -> bool
-        ensures runs { result ≡ runs self.now.begun }
+        ensures runs { result ≡ runs self.now.work }
     {
         matches!(&self.work, Work::Transfers(_) | Work::Aborted(_))
     }
 
     /// Returns whether a transfer runs and is not aborted.
     pub fn has_transfer(&self) -> bool
-        ensures transfer { result ≡ has_transfer self.now.begun }
+        ensures transfer { result ≡ has_transfer self.now.work }
     {
         matches!(&self.work, Work::Transfers(_))
     }

@@ -2,7 +2,7 @@
 
 ghost use Rattle.std.specs.Prelude.{◌≡◌, IfOk, OnErr};
 ghost use Rattle.session_table.specs.Plans.Plan.{Then};
-ghost use Rattle.session_table.specs.StateRows.{abor_row, eprt_row, epsv_row, opens, port_refusal, port_row};
+ghost use Rattle.session_table.specs.StateRows.{abor_row, eprt_row, epsv_row, opens, pasv_row, port_refusal, port_row};
 ghost use Rattle.ftp_wire.specs.declared.commands.ExtendedPassive.TheVariants.{All};
 
 use ftp_wire::{ExtendedPassive, ExtendedPort, HostPort};
@@ -25,7 +25,7 @@ fn port_refusal<A: Allocator + Clone>(state: &State<A>, to: HostPort) -> Option<
 }
 
 /// PORT (RFC 959, section 4.1.2).
-pub fn connect_to<A: Allocator + Clone, R: Drop, K: Drop>(
+pub fn port_row<A: Allocator + Clone, R: Drop, K: Drop>(
     state: &mut State<A>,
     to: HostPort,
 ) -> Result<Vec<Action<A, R, K>, A>, AllocError>
@@ -43,7 +43,7 @@ pub fn connect_to<A: Allocator + Clone, R: Drop, K: Drop>(
 }
 
 /// EPRT (RFC 2428, section 2).
-pub fn connect_to_extended<A: Allocator + Clone, R: Drop, K: Drop>(
+pub fn eprt_row<A: Allocator + Clone, R: Drop, K: Drop>(
     state: &mut State<A>,
     to: ExtendedPort,
 ) -> Result<Vec<Action<A, R, K>, A>, AllocError>
@@ -51,13 +51,13 @@ pub fn connect_to_extended<A: Allocator + Clone, R: Drop, K: Drop>(
     ensures unchanged { OnErr result (state.new ≡ state.old) }
 {
     match to {
-        ExtendedPort::Ipv4(to) => connect_to(state, to),
+        ExtendedPort::Ipv4(to) => port_row(state, to),
         ExtendedPort::Unsupported(_) => state.refuse(Refusal::OtherProtocol),
     }
 }
 
-/// PASV, and EPSV with the protocol in use (RFC 959, section 4.1.2; RFC 2428, section 3).
-pub fn open_passive<A: Allocator + Clone, R: Drop, K: Drop>(
+/// Asks for a passive port.
+fn opens<A: Allocator + Clone, R: Drop, K: Drop>(
     state: &mut State<A>,
     passive: Passive,
 ) -> Result<Vec<Action<A, R, K>, A>, AllocError>
@@ -69,6 +69,16 @@ pub fn open_passive<A: Allocator + Clone, R: Drop, K: Drop>(
     put(&mut actions, Action::OpenPassive);
     state.await_port(passive);
     Ok(actions)
+}
+
+/// PASV (RFC 959, section 4.1.2).
+pub fn pasv_row<A: Allocator + Clone, R: Drop, K: Drop>(
+    state: &mut State<A>,
+) -> Result<Vec<Action<A, R, K>, A>, AllocError>
+    ensures row { IfOk result (λ actions. Then state.new actions.items ≡ pasv_row state.old) }
+    ensures unchanged { OnErr result (state.new ≡ state.old) }
+{
+    opens(state, Passive::Plain)
 }
 
 /// EPSV ALL (RFC 2428, section 4).
@@ -85,7 +95,7 @@ fn forbid_plain<A: Allocator + Clone, R: Drop, K: Drop>(
 }
 
 /// EPSV (RFC 2428, sections 3 and 4).
-pub fn open_extended<A: Allocator + Clone, R: Drop, K: Drop>(
+pub fn epsv_row<A: Allocator + Clone, R: Drop, K: Drop>(
     state: &mut State<A>,
     wanted: ExtendedPassive,
 ) -> Result<Vec<Action<A, R, K>, A>, AllocError>
@@ -94,11 +104,11 @@ pub fn open_extended<A: Allocator + Clone, R: Drop, K: Drop>(
     ensures unchanged { OnErr result (state.new ≡ state.old) }
 {
     match wanted {
-        ExtendedPassive::Same => open_passive(state, Passive::Extended),
+        ExtendedPassive::Same => opens(state, Passive::Extended),
         ExtendedPassive::All => forbid_plain(state),
         ExtendedPassive::Protocol(protocol) => {
             if protocol == 1 {
-                return open_passive(state, Passive::Extended);
+                return opens(state, Passive::Extended);
             }
             state.refuse(Refusal::OtherProtocol)
         }
@@ -106,7 +116,7 @@ pub fn open_extended<A: Allocator + Clone, R: Drop, K: Drop>(
 }
 
 /// ABOR (RFC 959, section 4.1.3). An aborted transfer counts as none.
-pub fn abort<A: Allocator + Clone, R: Drop, K: Drop>(
+pub fn abor_row<A: Allocator + Clone, R: Drop, K: Drop>(
     state: &mut State<A>,
 ) -> Result<Vec<Action<A, R, K>, A>, AllocError>
     ensures row { IfOk result (λ actions. Then state.new actions.items ≡ abor_row state.old) }

@@ -61,7 +61,7 @@ fn features_answer<A: Allocator + Clone>(alloc: A, facts: Facts) -> Result<Answe
 }
 
 /// FEAT (RFC 2389, section 3).
-pub fn tell_features<A: Allocator + Clone, R: Drop, K: Drop>(
+pub fn feat_row<A: Allocator + Clone, R: Drop, K: Drop>(
     state: &State<A>,
 ) -> Result<Vec<Action<A, R, K>, A>, AllocError>
     ensures row { IfOk result (λ actions. Then state.now actions.items ≡ feat_row state.now) }
@@ -70,7 +70,7 @@ pub fn tell_features<A: Allocator + Clone, R: Drop, K: Drop>(
     state.tell(answer)
 }
 
-fn set_facts<A: Allocator + Clone, R: Drop, K: Drop>(
+fn facts_row<A: Allocator + Clone, R: Drop, K: Drop>(
     state: &mut State<A>,
     facts: Facts,
 ) -> Result<Vec<Action<A, R, K>, A>, AllocError>
@@ -85,7 +85,7 @@ fn set_facts<A: Allocator + Clone, R: Drop, K: Drop>(
 }
 
 /// OPTS (RFC 2389, section 4; RFC 3659, section 7.9).
-pub fn set_option<A: Allocator + Clone, R: Drop, K: Drop>(
+pub fn opts_row<A: Allocator + Clone, R: Drop, K: Drop>(
     state: &mut State<A>,
     wanted: FeatureOption,
 ) -> Result<Vec<Action<A, R, K>, A>, AllocError>
@@ -95,6 +95,6 @@ pub fn set_option<A: Allocator + Clone, R: Drop, K: Drop>(
 {
     match wanted {
         FeatureOption::Utf8On => state.note(Notice::Utf8IsOn),
-        FeatureOption::Mlst(facts) => set_facts(state, facts),
+        FeatureOption::Mlst(facts) => facts_row(state, facts),
     }
 }

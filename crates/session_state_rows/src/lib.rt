@@ -1,9 +1,10 @@
-//! The rows of the session table that make no call of the store: logins, parameters, data connections.
+//! The rows of the session table that make no call of the store: logins, parameters, data connections. Each has the name
+//! of its row there.
 //!
 //! ```text
-//! says(rt, set_type(state, DataType::Image), "200 Type is I\r\n");
-//! says(rt, set_offset(state, 1000), "350 Restart at 1000\r\n");
-//! let told = open_passive(state, Passive::Plain); // a port is asked for: the reply comes with it
+//! says(rt, type_row(state, DataType::Image), "200 Type is I\r\n");
+//! says(rt, rest_row(state, 1000), "350 Restart at 1000\r\n");
+//! let told = pasv_row(state); // a port is asked for: the reply comes with it
 //! says(rt, told, "");
 //! ```
 #![tactic(auto)]
@@ -15,9 +16,9 @@ mod naming;
 mod parameters;
 mod quitting;
 
-pub use connections::{abort, connect_to, connect_to_extended, open_extended, open_passive};
-pub use features::{set_option, tell_features};
-pub use login::check_password;
-pub use naming::{greet, name_user, reinitialize};
-pub use parameters::{set_offset, set_type, tell_directory, tell_status};
-pub use quitting::quit;
+pub use connections::{abor_row, eprt_row, epsv_row, pasv_row, port_row};
+pub use features::{feat_row, opts_row};
+pub use login::pass_row;
+pub use naming::{greeting, rein_row, user_row};
+pub use parameters::{pwd_row, rest_row, status_row, type_row};
+pub use quitting::quit_row;

@@ -89,10 +89,10 @@ fn settle<A: Allocator + Clone, R: Drop, K: Drop>(
     ensures row { Then state.new result.items ≡ enters users.now.users state.old fits }
 {
     if fits {
-        state.go_inside(number);
+        state.log_in(number);
         return welcomed;
     }
-    state.close();
+    state.close_control();
     refused
 }
 
@@ -154,7 +154,7 @@ fn turn_away<A: Allocator + Clone, R: Drop, K: Drop>(
 }
 
 /// PASS (RFC 959, section 4.1.1). After an error the session and the floors are unchanged.
-pub fn check_password<A: Allocator + Clone, F: Allocator + Clone, R: Drop, K: Drop>(
+pub fn pass_row<A: Allocator + Clone, F: Allocator + Clone, R: Drop, K: Drop>(
     state: &mut State<A>,
     users: &Authorizer<A>,
     floors: &mut Floors<F>,

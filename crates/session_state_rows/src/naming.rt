@@ -47,7 +47,7 @@ fn restart<A: Allocator + Clone, R: Drop, K: Drop>(
 }
 
 /// USER (RFC 959, section 4.1.1).
-pub fn name_user<A: Allocator + Clone, R: Drop, K: Drop>(
+pub fn user_row<A: Allocator + Clone, R: Drop, K: Drop>(
     state: &mut State<A>,
     name: &str,
 ) -> Result<Vec<Action<A, R, K>, A>, AllocError>
@@ -70,7 +70,7 @@ fn banner_reply<A: Allocator + Clone>(state: &State<A>) -> Result<Answer<A>, All
 }
 
 /// REIN (RFC 959, section 4.1.1).
-pub fn reinitialize<A: Allocator + Clone, R: Drop, K: Drop>(
+pub fn rein_row<A: Allocator + Clone, R: Drop, K: Drop>(
     state: &mut State<A>,
 ) -> Result<Vec<Action<A, R, K>, A>, AllocError>
     ensures row { IfOk result (λ actions. Then state.new actions.items ≡ rein_row state.old) }
@@ -85,7 +85,7 @@ pub fn reinitialize<A: Allocator + Clone, R: Drop, K: Drop>(
 }
 
 /// Makes the greeting (RFC 959, section 5.4).
-pub fn greet<A: Allocator + Clone, R: Drop, K: Drop>(
+pub fn greeting<A: Allocator + Clone, R: Drop, K: Drop>(
     state: &State<A>,
 ) -> Result<Vec<Action<A, R, K>, A>, AllocError>
     ensures row { IfOk result (λ actions. Then state.now actions.items ≡ greeting state.now) }

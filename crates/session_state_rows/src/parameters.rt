@@ -13,7 +13,7 @@ use session_table::{Action, Answer, Notice, Refusal};
 use std::alloc::{AllocError, Allocator};
 
 /// TYPE (RFC 959, section 4.1.2).
-pub fn set_type<A: Allocator + Clone, R: Drop, K: Drop>(
+pub fn type_row<A: Allocator + Clone, R: Drop, K: Drop>(
     state: &mut State<A>,
     data_type: DataType,
 ) -> Result<Vec<Action<A, R, K>, A>, AllocError>
@@ -42,7 +42,7 @@ fn needs_image<A: Allocator + Clone>(state: &State<A>, offset: u64) -> bool
 }
 
 /// REST (RFC 3659, section 5).
-pub fn set_offset<A: Allocator + Clone, R: Drop, K: Drop>(
+pub fn rest_row<A: Allocator + Clone, R: Drop, K: Drop>(
     state: &mut State<A>,
     offset: u64,
 ) -> Result<Vec<Action<A, R, K>, A>, AllocError>
@@ -60,7 +60,7 @@ pub fn set_offset<A: Allocator + Clone, R: Drop, K: Drop>(
 }
 
 /// PWD (RFC 959, section 4.1.3 and appendix II).
-pub fn tell_directory<A: Allocator + Clone, R: Drop, K: Drop>(
+pub fn pwd_row<A: Allocator + Clone, R: Drop, K: Drop>(
     state: &State<A>,
 ) -> Result<Vec<Action<A, R, K>, A>, AllocError>
     ensures row { IfOk result (λ actions. Then state.now actions.items ≡ pwd_row state.now) }
@@ -70,7 +70,7 @@ pub fn tell_directory<A: Allocator + Clone, R: Drop, K: Drop>(
 }
 
 /// STAT without an argument (RFC 959, section 4.1.3).
-pub fn tell_status<A: Allocator + Clone, R: Drop, K: Drop>(
+pub fn status_row<A: Allocator + Clone, R: Drop, K: Drop>(
     state: &State<A>,
 ) -> Result<Vec<Action<A, R, K>, A>, AllocError>
     ensures row { IfOk result (λ actions. Then state.now actions.items ≡ status_row state.now) }

@@ -5,12 +5,12 @@ ghost use Rattle.session_table.specs.Plans.Plan.{Then};
 ghost use Rattle.session_table.specs.StateRows.{quit_row};
 
 use authorizer::Authorizer;
-use session_state::{Farewell, State, part, room_for};
+use session_state::{Farewell, State, put_farewell, room_for};
 use session_table::Action;
 use std::alloc::{AllocError, Allocator};
 
 /// QUIT (RFC 959, section 4.1.1).
-pub fn quit<A: Allocator + Clone, R: Drop, K: Drop>(
+pub fn quit_row<A: Allocator + Clone, R: Drop, K: Drop>(
     state: &mut State<A>,
     users: &Authorizer<A>,
 ) -> Result<Vec<Action<A, R, K>, A>, AllocError>
@@ -20,6 +20,6 @@ pub fn quit<A: Allocator + Clone, R: Drop, K: Drop>(
 {
     let mut actions = room_for(state, 4)?;
     let farewell = Farewell::new(state, users)?;
-    part(state, farewell, &mut actions);
+    put_farewell(state, farewell, &mut actions);
     Ok(actions)
 }

@@ -24,17 +24,20 @@ use Rattle.session_table.specs.declared.inputs.Input.TheVariants as input
 use Rattle.session_table.specs.declared.refusals.Refusal.TheVariants as refusal
 use Rattle.session_table.specs.declared.stages.Control.{Control}
 use Rattle.session_table.specs.declared.stages.Control.TheVariants.{Open, Quitting, Closing}
+use Rattle.session_table.specs.declared.rules.NamedRow.{NamedRow}
+use Rattle.session_table.specs.declared.rules.NamedRow.TheVariants as row
+use Rattle.session_table.specs.declared.stages.Errand.{Errand}
+use Rattle.session_table.specs.declared.stages.Errand.TheVariants.{Listing as listing, Sending, Taking}
 use Rattle.session_table.specs.declared.stages.Passive.{Passive}
+use Rattle.session_table.specs.declared.stages.Work.{Work}
+use Rattle.session_table.specs.declared.stages.Work.TheVariants.{Idle}
 use Rattle.session_table.specs.Plans.{Plan}
 use Rattle.session_table.specs.Plans.Plan.{Then}
-use Rattle.session_table.specs.Steps.{in_its_turn, is_open, is_pass, is_pass_turn, serves_lines}
-use Rattle.session_table.specs.Table.{Taken, aborts, after_closed, and_quits, beside, closed_row, controlled, end_hook, end_reply, end_row, end_told, ended_by, ended_row, ended_with, held_row, holds, idle, in_turn, meanwhile, most_held, ready_as, ready_by, ready_row, served, table}
+use Rattle.session_table.specs.Steps.{in_its_turn, is_pass, is_pass_turn}
+use Rattle.session_table.specs.Table.{Taken, aborts, and_quits, beside, closed_row, end_hook, end_reply, end_row, end_told, ended_by, ended_row, ended_with, held_row, holds, idle, in_turn, meanwhile, most_held, ready_as, ready_by, ready_row, served, table}
 use Rattle.session_table.specs.Calls.{Call}
-use Rattle.session_table.specs.Rules.{Row}
-use Rattle.session_table.specs.Rules.Row.{Alone, At}
-use Rattle.session_table.specs.Views.{View, Begun, Carried, awaited, is_aborted, is_busy, is_closed, is_inside, running, runs}
-use Rattle.session_table.specs.Views.Begun.{Idle}
-use Rattle.session_table.specs.Views.Carried.{Listing as listing, Sending, Taking}
+use Rattle.session_table.specs.Views.{View, awaited, awaits_ports, counts_lines, is_aborted, is_busy, is_closed, is_inside, running, runs, serves_lines}
+use Rattle.virtual_path.specs.Path.{Path}
 
 module _ (A R K : Type 0) where
   -- ---- lists of actions that start, ask for and release nothing
@@ -45,7 +48,7 @@ module _ (A R K : Type 0) where
   saying : (reply : Answer A) → Quiet A R K (action.Say reply ∷ [])
   saying reply = record { starts_none = refl; asks_none = refl; releases_none = refl }
 
-  hooking : (errand : Carried) (end : End) → Quiet A R K (end_hook errand end)
+  hooking : (errand : Errand Path) (end : End) → Quiet A R K (end_hook errand end)
   hooking listing end = none
   hooking (Sending path) ended.Done = record { starts_none = refl; asks_none = refl; releases_none = refl }
   hooking (Sending path) _ = record { starts_none = refl; asks_none = refl; releases_none = refl }
@@ -93,17 +96,17 @@ module _ (A R K : Type 0) where
     abbrev E : List ℕ → View → List (Action A R K) → Type 0
     E = Fine A R K view 0
 
-    quits : (begun : Begun) (prepared : Bool) (actions : List (Action A R K)) (control : Control) → Quiet A R K actions
-        → Always C U E [] (and_quits users (record view { begun = begun; prepared = prepared }) actions control)
-    quits begun prepared actions Open quiet = stays A R K view _ 0 actions quiet refl
-    quits begun prepared actions Quitting quiet = parting A R K view _ 0 _ actions quiet refl
-    quits begun prepared actions Closing quiet = stays A R K view _ 0 actions quiet refl
+    quits : (work : Work Path) (prepared : Bool) (actions : List (Action A R K)) (control : Control) → Quiet A R K actions
+        → Always C U E [] (and_quits users (record view { work = work; prepared = prepared }) actions control)
+    quits work prepared actions Open quiet = stays A R K view _ 0 actions quiet refl
+    quits work prepared actions Quitting quiet = parting A R K view _ 0 _ actions quiet refl
+    quits work prepared actions Closing quiet = stays A R K view _ 0 actions quiet refl
 
     rests_fine : Always C U E [] (idle view)
     rests_fine = stays A R K view view 0 [] none refl
 
     ready_fine : (port : Option ℕ) → Always C U E [] (ready_row users view port)
-    ready_fine port = by (awaited view.begun)
+    ready_fine port = by (awaited view.work)
       where
         at : (passive : Passive) (port : Option ℕ) → Always C U E [] (ready_as users view passive port)
         at passive (Some port) = quits Idle true _ view.control (saying _)
@@ -115,12 +118,12 @@ module _ (A R K : Type 0) where
 
     closed_fine : Always C U E [] (closed_row view)
     closed_fine = record {
-      unprepared = λ _. gone_starts view (runs view.begun) (is_inside view.stage);
-      asks = omega (arith, gone_asks view (runs view.begun) (is_inside view.stage));
-      floors = inr (gone_releases view (runs view.begun) (is_inside view.stage), refl);
+      unprepared = λ _. gone_starts view (runs view.work) (is_inside view.stage);
+      asks = omega (arith, gone_asks view (runs view.work) (is_inside view.stage));
+      floors = inr (gone_releases view (runs view.work) (is_inside view.stage), refl);
     }
 
-    end_fine : (errand : Carried) (aborted : Bool) (end : End) (finished : Result (Unit {0}) StoreFault) → Always C U E [] (end_row users view errand aborted end finished)
+    end_fine : (errand : Errand Path) (aborted : Bool) (end : End) (finished : Result (Unit {0}) StoreFault) → Always C U E [] (end_row users view errand aborted end finished)
     end_fine errand aborted end finished = always_cond C U E (is_closed view.stage) _ _ (stays A R K view _ 0 [] none refl)
         (quits Idle view.prepared _ view.control (quiet_then A R K (end_reply view.control aborted (end_told end finished)) (end_hook errand end) (replying view.control aborted _) (hooking errand end)))
 
@@ -128,16 +131,16 @@ module _ (A R K : Type 0) where
   over end sink = input.TransferEnded end sink
 
   ended_fine : (U : ℕ → Type 0) (users : Users) (view : View) (held : List Item) (moment : ℕ) (end : End) (sink : Option K)
-      → Always (IsRightful A R K users view held moment (over end sink)) U (Fine A R K view 0) [] (ended_row users view moment end sink)
-  ended_fine U users view held moment end sink = by sink (running view.begun)
+      → Always (IsRightful users view held moment (over end sink)) U (Fine A R K view 0) [] (ended_row users view moment end sink)
+  ended_fine U users view held moment end sink = by sink (running view.work)
     where
-      with : (sink : Option K) (errand : Carried)
-          → Always (IsRightful A R K users view held moment (over end sink)) U (Fine A R K view 0) [] (ended_with users view moment errand (is_aborted view.begun) end sink)
-      with (Some sink) errand = (inl (refl, refl), λ answer. end_fine (IsRightful A R K users view held moment (over end (Some sink))) U users view errand (is_aborted view.begun) end answer)
-      with None errand = end_fine (IsRightful A R K users view held moment (over end None)) U users view errand (is_aborted view.begun) end (Ok tt)
+      with : (sink : Option K) (errand : Errand Path)
+          → Always (IsRightful users view held moment (over end sink)) U (Fine A R K view 0) [] (ended_with users view moment errand (is_aborted view.work) end sink)
+      with (Some sink) errand = (inl (refl, refl), λ answer. end_fine (IsRightful users view held moment (over end (Some sink))) U users view errand (is_aborted view.work) end answer)
+      with None errand = end_fine (IsRightful users view held moment (over end None)) U users view errand (is_aborted view.work) end (Ok tt)
 
-      by : (sink : Option K) (errand : Option Carried)
-          → Always (IsRightful A R K users view held moment (over end sink)) U (Fine A R K view 0) [] (ended_by users view moment end sink errand)
+      by : (sink : Option K) (errand : Option (Errand Path))
+          → Always (IsRightful users view held moment (over end sink)) U (Fine A R K view 0) [] (ended_by users view moment end sink errand)
       by sink None = stays A R K view view 0 [] none refl
       by sink (Some errand) = with sink errand
 
@@ -156,7 +159,7 @@ module _ (A R K : Type 0) where
     holds_fine : (C : Call K → Type 0) (U : ℕ → Type 0) (held : List Item) (item : Item) → Always C U Ends [] (holds {A = A} {R = R} {K = K} view held item).plan
     holds_fine C U held item = always_taken C U Ends (nat_lt (length held) most_held) _ _ (idle_fine C U)
         (stays A R K view _ 1 _ (quiet_then A R K ((action.Say (answer.Refusal refusal.TooManyHeldLines) ∷ []) ++ aborts view) (action.CloseControl ∷ [])
-        (quiet_then A R K (action.Say (answer.Refusal refusal.TooManyHeldLines) ∷ []) (aborts view) (saying _) (aborting (runs view.begun)))
+        (quiet_then A R K (action.Say (answer.Refusal refusal.TooManyHeldLines) ∷ []) (aborts view) (saying _) (aborting (runs view.work)))
         (record { starts_none = refl; asks_none = refl; releases_none = refl })) refl)
 
     -- a line that is served at once is not PASS
@@ -172,7 +175,7 @@ module _ (A R K : Type 0) where
     meanwhile_fine U held item = holds_fine (CallFor A R K users view moment item) U held item
 
     abbrev Rightful : List Item → Input A K → Call K → Type 0
-    Rightful held told = IsRightful A R K users view held moment told
+    Rightful held told = IsRightful users view held moment told
 
     -- what is said of a line that is served holds of the input that it came with
     comes : (U V : ℕ → Type 0) (held : List Item) (item : LineItem A) (plan : Plan A R K) → ((number : ℕ) → U number → V number)
@@ -199,77 +202,40 @@ module _ (A R K : Type 0) where
     in_turn_fine item [] serves = comes (UserFor A R K users view (item_of item)) (Admission [] (input.Line item)) [] item _ (admission [] (input.Line item) (item_of item) serves refl) (served_fine A R K users view moment (item_of item))
     in_turn_fine item (first ∷ others) serves = holds_fine (Rightful (first ∷ others) (input.Line item)) (Admission (first ∷ others) (input.Line item)) (first ∷ others) (item_of item)
 
-    line_fine : (item : LineItem A) (held : List Item) (busy : Bool) → (busy ≡ false → serves_lines view ≡ true)
+    line_fine : (item : LineItem A) (held : List Item) (counts busy : Bool) → (counts && not busy) ≡ serves_lines view
         → Always (Rightful held (input.Line item)) (Admission held (input.Line item)) Ends []
-        (cond busy (meanwhile {A = A} {R = R} {K = K} users view held moment (item_of item)) (in_turn users view moment (item_of item) held)).plan
-    line_fine item held true serves = comes (Admission held (input.Line item)) (Admission held (input.Line item)) held item _ (λ number user. user) (meanwhile_fine (Admission held (input.Line item)) held (item_of item))
-    line_fine item held false serves = in_turn_fine item held (serves refl)
+        (cond counts (cond busy (meanwhile {A = A} {R = R} {K = K} users view held moment (item_of item)) (in_turn users view moment (item_of item) held)) (beside held (idle view))).plan
+    line_fine item held false busy serves = idle_fine (Rightful held (input.Line item)) (Admission held (input.Line item))
+    line_fine item held true true serves = comes (Admission held (input.Line item)) (Admission held (input.Line item)) held item _ (λ number user. user) (meanwhile_fine (Admission held (input.Line item)) held (item_of item))
+    line_fine item held true false serves = in_turn_fine item held (sym serves)
 
-    held_fine : (held : List Item) (busy : Bool) → (busy ≡ false → serves_lines view ≡ true)
-        → Always (Rightful held input.Held) (Admission held input.Held) Ends [] (cond busy (beside held (idle view)) (held_row {A = A} {R = R} {K = K} users view moment held)).plan
-    held_fine held true serves = idle_fine (Rightful held input.Held) (Admission held input.Held)
-    held_fine [] false serves = idle_fine (Rightful [] input.Held) (Admission [] input.Held)
-    held_fine (first ∷ others) false serves = always_to (CallFor A R K users view moment first) (Rightful (first ∷ others) input.Held) (UserFor A R K users view first) (Admission (first ∷ others) input.Held) Ends Ends
-        (λ call allowed. inr allowed) (admission (first ∷ others) input.Held first (serves refl) refl) (λ admitted after actions end. end) [] _ (served_fine A R K users view moment first)
+    held_fine : (held : List Item) (serves : Bool) → serves_lines view ≡ serves
+        → Always (Rightful held input.Held) (Admission held input.Held) Ends [] (cond serves (held_row {A = A} {R = R} {K = K} users view moment held) (beside held (idle view))).plan
+    held_fine held false is = idle_fine (Rightful held input.Held) (Admission held input.Held)
+    held_fine [] true is = idle_fine (Rightful [] input.Held) (Admission [] input.Held)
+    held_fine (first ∷ others) true is = always_to (CallFor A R K users view moment first) (Rightful (first ∷ others) input.Held) (UserFor A R K users view first) (Admission (first ∷ others) input.Held) Ends Ends
+        (λ call allowed. inr allowed) (admission (first ∷ others) input.Held first is refl) (λ admitted after actions end. end) [] _ (served_fine A R K users view moment first)
 
   -- ---- all inputs
-
-  -- lines are served while the control connection is open and nothing is begun
-  serves_by : (view : View) → is_closed view.stage ≡ false → view.control ≡ Open → is_busy view.begun ≡ false → serves_lines view ≡ true
-  serves_by view stage_is control_is idle =
-      ap (λ (b : Bool). (not b && is_open view.control) && not (is_busy view.begun)) stage_is
-      ∙ (ap (λ (c : Control). (not false && is_open c) && not (is_busy view.begun)) control_is ∙ ap (λ (b : Bool). (not false && is_open Open) && not b) idle)
 
   module _ (users : Users) (view : View) (held : List Item) (moment : ℕ) where
     abbrev pub EndAt : Input A K → List ℕ → View → List (Action A R K) → Type 0
     EndAt told = Fine A R K view (most_asked told)
 
     abbrev pub CallAt : Input A K → Call K → Type 0
-    CallAt told = IsRightful A R K users view held moment told
+    CallAt told = IsRightful users view held moment told
 
     abbrev pub UserAt : Input A K → ℕ → Type 0
     UserAt told = IsRightfulAdmission users view held told
 
-    abbrev Within : Input A K → Bool → Control → Type 0
-    Within told closed control = Always (CallAt told) (UserAt told) (EndAt told) []
-        (cond closed (beside held (after_closed users view moment told)) (controlled {A = A} {R = R} {K = K} users view held moment told control)).plan
-
     pub input_fine : (told : Input A K) → Always (CallAt told) (UserAt told) (EndAt told) [] (table {A = A} {R = R} {K = K} users view held moment told).plan
-    input_fine (input.Line item) = by (is_closed view.stage) view.control refl refl
-      where
-        by : (closed : Bool) (control : Control) → is_closed view.stage ≡ closed → view.control ≡ control → Within (input.Line item) closed control
-        by true control _ _ = idle_fine users view moment (CallAt (input.Line item)) (UserAt (input.Line item))
-        by false Open stage_is control_is = line_fine users view moment item held (is_busy view.begun) (serves_by view stage_is control_is)
-        by false Quitting _ _ = idle_fine users view moment (CallAt (input.Line item)) (UserAt (input.Line item))
-        by false Closing _ _ = idle_fine users view moment (CallAt (input.Line item)) (UserAt (input.Line item))
-    input_fine input.Held = by (is_closed view.stage) view.control refl refl
-      where
-        by : (closed : Bool) (control : Control) → is_closed view.stage ≡ closed → view.control ≡ control → Within input.Held closed control
-        by true control _ _ = idle_fine users view moment (CallAt input.Held) (UserAt input.Held)
-        by false Open stage_is control_is = held_fine users view moment held (is_busy view.begun) (serves_by view stage_is control_is)
-        by false Quitting _ _ = idle_fine users view moment (CallAt input.Held) (UserAt input.Held)
-        by false Closing _ _ = idle_fine users view moment (CallAt input.Held) (UserAt input.Held)
-    input_fine (input.TransferEnded end sink) = by (is_closed view.stage) view.control
-      where
-        by : (closed : Bool) (control : Control) → Within (input.TransferEnded end sink) closed control
-        by true control = ended_fine (UserAt (input.TransferEnded end sink)) users view held moment end sink
-        by false Open = ended_fine (UserAt (input.TransferEnded end sink)) users view held moment end sink
-        by false Quitting = ended_fine (UserAt (input.TransferEnded end sink)) users view held moment end sink
-        by false Closing = ended_fine (UserAt (input.TransferEnded end sink)) users view held moment end sink
-    input_fine (input.DataReady port) = by (is_closed view.stage) view.control
-      where
-        by : (closed : Bool) (control : Control) → Within (input.DataReady port) closed control
-        by true control = rests_fine (CallAt (input.DataReady port)) (UserAt (input.DataReady port)) users view
-        by false Open = ready_fine (CallAt (input.DataReady port)) (UserAt (input.DataReady port)) users view port
-        by false Quitting = ready_fine (CallAt (input.DataReady port)) (UserAt (input.DataReady port)) users view port
-        by false Closing = rests_fine (CallAt (input.DataReady port)) (UserAt (input.DataReady port)) users view
-    input_fine input.Closed = by (is_closed view.stage) view.control
-      where
-        by : (closed : Bool) (control : Control) → Within input.Closed closed control
-        by true control = rests_fine (CallAt input.Closed) (UserAt input.Closed) users view
-        by false Open = closed_fine (CallAt input.Closed) (UserAt input.Closed) users view
-        by false Quitting = closed_fine (CallAt input.Closed) (UserAt input.Closed) users view
-        by false Closing = closed_fine (CallAt input.Closed) (UserAt input.Closed) users view
+    input_fine (input.Line item) = line_fine users view moment item held (counts_lines view) (is_busy view.work) refl
+    input_fine input.Held = held_fine users view moment held (serves_lines view) refl
+    input_fine (input.TransferEnded end sink) = ended_fine (UserAt (input.TransferEnded end sink)) users view held moment end sink
+    input_fine (input.DataReady port) = always_cond (CallAt (input.DataReady port)) (UserAt (input.DataReady port)) (EndAt (input.DataReady port)) (awaits_ports view) _ _
+        (ready_fine (CallAt (input.DataReady port)) (UserAt (input.DataReady port)) users view port) (rests_fine (CallAt (input.DataReady port)) (UserAt (input.DataReady port)) users view)
+    input_fine input.Closed = always_cond (CallAt input.Closed) (UserAt input.Closed) (EndAt input.Closed) (is_closed view.stage) _ _
+        (rests_fine (CallAt input.Closed) (UserAt input.Closed) users view) (closed_fine (CallAt input.Closed) (UserAt input.Closed) users view)
 
 -- ---- calls while nobody is logged in
 
@@ -284,14 +250,15 @@ allowed_inside users view letter text (Call.RemoveDir path) is = is.inside
 allowed_inside users view letter text (Call.RemoveFile path) is = is.inside
 allowed_inside users view letter text (Call.Rename from to) is = is.1.inside
 
-row_inside : {A R K : Type 0} (users : Users) (view : View) (row : Row A R K) (call : Call K) → IsAllowedFor users view row call → is_inside view.stage ≡ true
-row_inside users view (Alone plan) call is = absurd is
-row_inside users view (At letter text row) call is = allowed_inside users view letter text call is
+row_inside : {K : Type 0} (users : Users) (view : View) (row : NamedRow (List ℕ)) (call : Call K) → IsAllowedFor users view row call → is_inside view.stage ≡ true
+row_inside users view (row.Login what) call is = absurd is
+row_inside users view (row.State what) call is = absurd is
+row_inside users view (row.At place) call is = allowed_inside users view place.letter place.text call is
 
-pub outside : (A R K : Type 0) (users : Users) (view : View) (held : List Item) (moment : ℕ) (told : Input A K) (call : Call K)
-    → is_inside view.stage ≡ false → IsRightful A R K users view held moment told call → IsReturned told moment call
-outside A R K users view held moment told call not (inl returned) = returned
-outside A R K users view held moment told call not (inr allowed) = absurd (false≢true (sym not ∙ row_inside users view _ call allowed.2))
+pub outside : {A K : Type 0} (users : Users) (view : View) (held : List Item) (moment : ℕ) (told : Input A K) (call : Call K)
+    → is_inside view.stage ≡ false → IsRightful users view held moment told call → IsReturned told moment call
+outside users view held moment told call not (inl returned) = returned
+outside users view held moment told call not (inr allowed) = absurd (false≢true (sym not ∙ row_inside users view _ call allowed.2))
 
 -- ---- held lines
 
@@ -328,17 +295,13 @@ module _ (A R K : Type 0) where
     few_held [] few = few
     few_held (first ∷ others) few = omega (arith, few)
 
-    few_controlled : (held : List Item) (told : Input A K) (control : Control) → Few held → Few (controlled {A = A} {R = R} {K = K} users view held moment told control).held
-    few_controlled held (input.Line item) Open few = few_cond (is_busy view.begun) _ _ (few_meanwhile held (item_of item) few) (few_in_turn held (item_of item) few)
-    few_controlled held input.Held Open few = few_cond (is_busy view.begun) _ _ few (few_held held few)
-    few_controlled held (input.TransferEnded end sink) Open few = few
-    few_controlled held (input.DataReady port) Open few = few
-    few_controlled held input.Closed Open few = few
-    few_controlled held told Quitting few = few
-    few_controlled held told Closing few = few
-
     pub few_table : (held : List Item) (told : Input A K) → Few held → Few (table {A = A} {R = R} {K = K} users view held moment told).held
-    few_table held told few = few_cond (is_closed view.stage) _ _ few (few_controlled held told view.control few)
+    few_table held (input.Line item) few =
+        few_cond (counts_lines view) _ _ (few_cond (is_busy view.work) _ _ (few_meanwhile held (item_of item) few) (few_in_turn held (item_of item) few)) few
+    few_table held input.Held few = few_cond (serves_lines view) _ _ (few_held held few) few
+    few_table held (input.TransferEnded end sink) few = few
+    few_table held (input.DataReady port) few = few
+    few_table held input.Closed few = few
 
 -- ---- the laws
 
@@ -359,7 +322,7 @@ calls_are_rightful A R K = λ users view held moment told.
 pub no_calls_outside : (A R K : Type 0) → NoCallsOutside A R K
 unfolding NoCallsOutside
 no_calls_outside A R K = λ users view held moment told not.
-    weaker A R K users view held moment told (IsReturned told moment) (λ number. Unit {0}) (λ admitted after actions. Unit {0}) (λ call allowed. outside A R K users view held moment told call not allowed) (λ number user. tt) (λ admitted after actions end. tt)
+    weaker A R K users view held moment told (IsReturned told moment) (λ number. Unit {0}) (λ admitted after actions. Unit {0}) (λ call allowed. outside users view held moment told call not allowed) (λ number user. tt) (λ admitted after actions end. tt)
 
 pub no_transfer_unprepared : (A R K : Type 0) → NoTransferUnprepared A R K
 unfolding NoTransferUnprepared

@@ -32,6 +32,12 @@ use Rattle.session_table.specs.declared.answers.Answer.TheVariants as answer
 use Rattle.session_table.specs.declared.refusals.Refusal.{Refusal}
 use Rattle.session_table.specs.declared.refusals.Refusal.TheVariants as refusal
 use Rattle.session_table.specs.declared.rules.Conditions.{Conditions}
+use Rattle.session_table.specs.declared.rules.NamedRow.{NamedRow}
+use Rattle.session_table.specs.declared.rules.NamedRow.TheVariants as row
+use Rattle.session_table.specs.declared.rules.Rule.{Rule}
+use Rattle.session_table.specs.declared.rules.Style.{Style}
+use Rattle.session_table.specs.declared.rules.Style.TheVariants.{LongLines, Names, FactLines}
+use Rattle.session_table.specs.declared.stages.Errand.{Errand}
 use Rattle.session_table.specs.declared.stages.Passive.{Passive}
 use Rattle.session_table.specs.declared.stages.Passive.TheVariants.{Plain, Extended}
 use Rattle.session_table.specs.declared.notices.Notice.TheVariants as notice
@@ -39,17 +45,16 @@ use Rattle.session_table.specs.declared.stages.Stage.{Stage}
 use Rattle.session_table.specs.declared.stages.Stage.TheVariants as stage
 use Rattle.session_table.specs.Calls.{Call}
 use Rattle.session_table.specs.Calls.Call.{Stat}
-use Rattle.session_table.specs.FileRows.{cwd_by, cwd_row, dele_row, goes_to, is_root, mdtm_by, mdtm_row, mkd_row, moment_of, rmd_row, rnfr_by, rnfr_row, rnto_from, size_by, size_of, size_row}
+use Rattle.session_table.specs.FileRows.{by_kind, cwd_row, dele_row, is_root, mdtm_row, mkd_row, rmd_row, rnfr_row, rnto_from, size_row, unless_fault}
 use Rattle.session_table.specs.Judged.{Location, at_location, at_once, first_refusal, from_home, home_of, judged_at, located, stored_at, unless_refused}
 use Rattle.session_table.specs.Plans.{Plan}
 use Rattle.session_table.specs.Plans.Plan.{Ask, AskAdmit}
 use Rattle.session_table.specs.StateRows.{abor_row, enters, eprt_row, epsv_row, farewell, is_ascii, is_last_attempt, leaves, needs_image, number_of, opens, opts_row, pass_by, port_by, port_refusal, quit_row, refuses, rest_row, turned_away}
-use Rattle.session_table.specs.Rules.{Line, Row, Rule, rule}
-use Rattle.session_table.specs.Rules.Row.{Alone, At}
-use Rattle.session_table.specs.Table.{at_found, left, row_plan, ruled, served, unless_refuses}
-use Rattle.session_table.specs.TransferRows.{Style, appe_row, list_row, listed_by, looked_by, looked_in, mlsd_row, mlst_by, mlst_row, retr_row, sends, starts, stat_row, stor_row, takes}
-use Rattle.session_table.specs.TransferRows.Style.{LongLines, Names}
-use Rattle.session_table.specs.Views.{View, Carried, anew, has_transfer, is_inside}
+use Rattle.session_table.specs.Rows.{at_found, file_row, login_row, row_plan, state_row}
+use Rattle.session_table.specs.Rules.{Line, rule}
+use Rattle.session_table.specs.Table.{left, ruled, served, unless_refuses}
+use Rattle.session_table.specs.TransferRows.{appe_row, list_row, lists_directory, mlsd_row, mlst_row, retr_row, sends_lines, starts, stat_row, status_lines, stor_row}
+use Rattle.session_table.specs.Views.{View, anew, has_transfer, is_inside}
 
 -- ---- refusals
 
@@ -89,45 +94,50 @@ from_and false b e is = absurd (false≢true is)
 
 -- ---- a rule
 
-module _ (A R K : Type 0) (users : Users) (view : View) (U : ℕ → Type 0) (E : List ℕ → View → List (Action A R K) → Type 0) where
+module _ (A R K : Type 0) (users : Users) (view : View) (moment : ℕ) (U : ℕ → Type 0) (E : List ℕ → View → List (Action A R K) → Type 0) where
   -- what is said of a row, where its conditions are met
-  abbrev pub RowHas : Conditions → Row A R K → Type 0
-  RowHas conditions (Alone plan) = Always (λ call. ⊥) U E [] plan
-  RowHas conditions (At letter text row) = (conditions.needs_login ≡ true)
-      × ((location : Location) → IsAllowedAt users view letter text location.stored → (conditions.moves_data ≡ true → view.prepared ≡ true)
-      → Always (IsAllowedCall users view letter text) U E [] (row location))
+  abbrev pub RowHas : Conditions → NamedRow (List ℕ) → Type 0
+  RowHas conditions (row.Login what) = Always {R = R} {K = K} (λ call. ⊥) U E [] (login_row users view what)
+  RowHas conditions (row.State what) = Always {R = R} {K = K} (λ call. ⊥) U E [] (state_row view what)
+  RowHas conditions (row.At place) = (conditions.needs_login ≡ true)
+      × ((location : Location) → IsAllowedAt users view place.letter place.text location.stored → (conditions.moves_data ≡ true → view.prepared ≡ true)
+      → Always (IsAllowedCall users view place.letter place.text) U E [] (file_row users view moment place.row location))
 
   module _ (refusing : (why : Refusal) → E [] (record view { source = None }) (action.Say (answer.Refusal why) ∷ [])) where
-    row_has : (conditions : Conditions) (row : Row A R K) → (conditions.needs_login && not (is_inside view.stage)) ≡ false → RowHas conditions row
-        → Always (IsAllowedFor users view row) U E [] (row_plan users view conditions row)
-    row_has conditions (Alone plan) login has = has
-    row_has conditions (At letter text row) login has = found (located users view text) refl
+    row_has : (conditions : Conditions) (row : NamedRow (List ℕ)) → (conditions.needs_login && not (is_inside view.stage)) ≡ false → RowHas conditions row
+        → Always (IsAllowedFor users view row) U E [] (row_plan users view moment conditions row)
+    row_has conditions (row.Login what) login has = has
+    row_has conditions (row.State what) login has = has
+    row_has conditions (row.At place) login has = found (located users view place.text) refl
       where
-        here : (location : Location) → located users view text ≡ Ok location → (why : Option Refusal) → first_refusal (at_location users view conditions letter location.path) ≡ why
-            → Always (IsAllowedCall users view letter text) U E [] (at_found view row (unless_refused why (Ok location)))
+        here : (location : Location) → located users view place.text ≡ Ok location → (why : Option Refusal)
+            → first_refusal (at_location users view conditions place.letter location.path) ≡ why
+            → Always (IsAllowedCall users view place.letter place.text) U E [] (at_found view (file_row users view moment place.row) (unless_refused why (Ok location)))
         here location is (Some why) refused = refusing why
         here location is None refused =
-            let permitted = none_holds (not (allowed users view.name letter location.path)) refusal.NotPermitted _ refused in
+            let permitted = none_holds (not (allowed users view.name place.letter location.path)) refusal.NotPermitted _ refused in
             let ready = none_holds (conditions.moves_data && not view.prepared) refusal.NothingPrepared None permitted.1 in
-            let led = leads users view text location is in
+            let led = leads users view place.text location is in
             has.1 location (record {
               path = location.path;
               inside = from_and conditions.needs_login (is_inside view.stage) login has.0;
               names = led.names;
               stands = led.stands;
-              holds = not-false (allowed users view.name letter location.path) permitted.0;
+              holds = not-false (allowed users view.name place.letter location.path) permitted.0;
             }) (from_and conditions.moves_data view.prepared ready.0)
 
-        found : (place : Result Location PathFault) → located users view text ≡ place → Always (IsAllowedCall users view letter text) U E [] (at_found view row (judged_at users view conditions letter place))
+        found : (known : Result Location PathFault) → located users view place.text ≡ known
+            → Always (IsAllowedCall users view place.letter place.text) U E [] (at_found view (file_row users view moment place.row) (judged_at users view conditions place.letter known))
         found (Err fault) is = refusing (refusal.Path fault)
-        found (Ok location) is = here location is (first_refusal (at_location users view conditions letter location.path)) refl
+        found (Ok location) is = here location is (first_refusal (at_location users view conditions place.letter location.path)) refl
 
     -- a command is refused, or its row is carried out
-    pub ruled_has : (rule : Rule A R K) → RowHas rule.conditions rule.row → Always (IsAllowedFor users view rule.row) U E [] (ruled users view rule)
+    pub ruled_has : (rule : Rule (List ℕ)) → RowHas rule.conditions rule.row → Always (IsAllowedFor users view rule.row) U E [] (ruled users view moment rule)
     unfolding ruled
     ruled_has rule has = by (first_refusal (at_once view rule.conditions)) refl
       where
-        by : (why : Option Refusal) → first_refusal (at_once view rule.conditions) ≡ why → Always (IsAllowedFor users view rule.row) U E [] (unless_refuses view why (row_plan users view rule.conditions rule.row))
+        by : (why : Option Refusal) → first_refusal (at_once view rule.conditions) ≡ why
+            → Always (IsAllowedFor users view rule.row) U E [] (unless_refuses view why (row_plan users view moment rule.conditions rule.row))
         by (Some why) refused = refusing why
         by None refused = row_has rule.conditions rule.row (none_holds (rule.conditions.needs_login && not (is_inside view.stage)) refusal.LogInFirst _ refused).0 has
 
@@ -271,7 +281,7 @@ module _ (A R K : Type 0) where
     epsv_fine (extended.Protocol protocol) = always_cond C U E (protocol == 1) _ _ (opens_fine Extended) (told _ _ _ refl)
 
     abor_fine : Always C U E [] (abor_row view)
-    abor_fine = always_cond C U E (has_transfer view.begun) _ _ (record { unprepared = λ _. refl; asks = omega arith; floors = inl (refl, refl) }) (told _ _ _ refl)
+    abor_fine = always_cond C U E (has_transfer view.work) _ _ (record { unprepared = λ _. refl; asks = omega arith; floors = inl (refl, refl) }) (told _ _ _ refl)
 
     quit_fine : (users : Users) → Always C U E [] (quit_row users view)
     quit_fine users = parting view _ 1 (farewell users view) [] quiet_none refl
@@ -319,115 +329,73 @@ module _ (A R K : Type 0) where
     refused : (why : Refusal) → Always Calls U Ends [] (refuses view why)
     refused why = told _ _ _ refl
 
-    cwd_fine : Always Calls U Ends [] (cwd_row view location)
-    cwd_fine = (allowed, by)
-      where
-        goes : (kind : EntryKind) → Always Calls U Ends [] (goes_to view location.path kind)
-        goes kind.Directory = told _ _ _ refl
-        goes kind.File = told _ _ _ refl
+    -- what a call of the store comes to, by what comes of each answer
+    answered : {X : Type 0} (next : X → Plan A R K) → ((x : X) → Always Calls U Ends [] (next x))
+        → (answer : Result X StoreFault) → Always Calls U Ends [] (unless_fault view next answer)
+    answered next each (Err why) = refused _
+    answered next each (Ok x) = each x
 
-        by : (answer : Result Meta StoreFault) → Always Calls U Ends [] (cwd_by view location.path answer)
-        by (Err why) = told _ _ _ refl
-        by (Ok meta) = goes meta.kind
+    of_kind : (p q : Plan A R K) → Always Calls U Ends [] p → Always Calls U Ends [] q → (kind : EntryKind) → Always Calls U Ends [] (by_kind p q kind)
+    of_kind p q is also kind.Directory = is
+    of_kind p q is also kind.File = also
+
+    cwd_fine : Always Calls U Ends [] (cwd_row view location)
+    cwd_fine = (allowed, answered _ (λ meta. of_kind _ _ (told _ _ _ refl) (refused _) meta.kind))
 
     mkd_fine : Always Calls U Ends [] (mkd_row view location)
-    mkd_fine = (allowed, λ answer. told _ _ _ refl)
+    mkd_fine = (allowed, answered _ (λ done. told _ _ _ refl))
 
     rmd_fine : Always Calls U Ends [] (rmd_row view location)
-    rmd_fine = always_cond Calls U Ends (is_root location.path) _ _ (told _ _ _ refl) ((allowed, λ answer. told _ _ _ refl))
+    rmd_fine = always_cond Calls U Ends (is_root location.path) _ _ (refused _) ((allowed, answered _ (λ done. told _ _ _ refl)))
 
     dele_fine : Always Calls U Ends [] (dele_row view location)
-    dele_fine = (allowed, λ answer. told _ _ _ refl)
+    dele_fine = (allowed, answered _ (λ done. told _ _ _ refl))
 
     rnfr_fine : Always Calls U Ends [] (rnfr_row view location)
-    rnfr_fine = always_cond Calls U Ends (is_root location.path) _ _ (told _ _ _ refl) ((allowed, by))
-      where
-        by : (answer : Result Meta StoreFault) → Always Calls U Ends [] (rnfr_by view location.stored answer)
-        by (Err why) = told _ _ _ refl
-        by (Ok meta) = told _ _ _ refl
+    rnfr_fine = always_cond Calls U Ends (is_root location.path) _ _ (refused _) ((allowed, answered _ (λ meta. told _ _ _ refl)))
 
     rnto_fine : (source : Option Path) → view.source ≡ source → Always Calls U Ends [] (rnto_from view location.stored source)
-    rnto_fine None is = told _ _ _ refl
-    rnto_fine (Some source) is = ((is, allowed), λ answer. told _ _ _ refl)
+    rnto_fine None is = refused _
+    rnto_fine (Some source) is = ((is, allowed), answered _ (λ done. told _ _ _ refl))
 
     size_fine : Always Calls U Ends [] (size_row view location)
-    size_fine = always_cond Calls U Ends (is_ascii view.data_type) _ _ (told _ _ _ refl) ((allowed, by))
-      where
-        of_kind : (size : ℕ) (kind : EntryKind) → Always Calls U Ends [] (size_of view size kind)
-        of_kind size kind.Directory = told _ _ _ refl
-        of_kind size kind.File = told _ _ _ refl
-
-        by : (answer : Result Meta StoreFault) → Always Calls U Ends [] (size_by view answer)
-        by (Err why) = told _ _ _ refl
-        by (Ok meta) = of_kind meta.size meta.kind
+    size_fine = always_cond Calls U Ends (is_ascii view.data_type) _ _ (refused _)
+        ((allowed, answered _ (λ meta. of_kind _ _ (refused _) (told _ _ _ refl) meta.kind)))
 
     mdtm_fine : Always Calls U Ends [] (mdtm_row view location)
-    mdtm_fine = (allowed, by)
-      where
-        of_kind : (modified : ℕ) (kind : EntryKind) → Always Calls U Ends [] (moment_of view modified kind)
-        of_kind modified kind.Directory = told _ _ _ refl
-        of_kind modified kind.File = λ line. told _ _ _ refl
-
-        by : (answer : Result Meta StoreFault) → Always Calls U Ends [] (mdtm_by view answer)
-        by (Err why) = told _ _ _ refl
-        by (Ok meta) = of_kind meta.modified meta.kind
+    mdtm_fine = (allowed, answered _ (λ meta. of_kind _ _ (refused _) (λ line. told _ _ _ refl) meta.kind))
 
     mlst_fine : Always Calls U Ends [] (mlst_row users view location)
-    mlst_fine = (allowed, by)
-      where
-        by : (answer : Result Meta StoreFault) → Always Calls U Ends [] (mlst_by users view location.path answer)
-        by (Err why) = told _ _ _ refl
-        by (Ok meta) = λ line. told _ _ _ refl
+    mlst_fine = (allowed, answered _ (λ meta line. told _ _ _ refl))
 
-    -- a look at what stands there, and at a directory's entries
-    looking : (next : List Entry → Plan A R K) (of_file : Meta → Plan A R K)
-        → ((entries : List Entry) → Always Calls U Ends [] (next entries)) → ((meta : Meta) → Always Calls U Ends [] (of_file meta))
-        → Always Calls U Ends [] (Ask (Stat location.stored) (looked_by view location next of_file))
-    looking next of_file nexts files = (allowed, by)
-      where
-        listed : (answer : Result (List Entry) StoreFault) → Always Calls U Ends [] (listed_by view next answer)
-        listed (Err why) = told _ _ _ refl
-        listed (Ok entries) = nexts entries
-
-        of_kind : (meta : Meta) (kind : EntryKind) → Always Calls U Ends [] (looked_in view location next of_file meta kind)
-        of_kind meta kind.Directory = (allowed, listed)
-        of_kind meta kind.File = files meta
-
-        by : (answer : Result Meta StoreFault) → Always Calls U Ends [] (looked_by view location next of_file answer)
-        by (Err why) = told _ _ _ refl
-        by (Ok meta) = of_kind meta meta.kind
+    -- the entries of a directory
+    listed : (style : Style) (next : List (List ℕ) → Plan A R K) → ((lines : List (List ℕ)) → Always Calls U Ends [] (next lines))
+        → Always Calls U Ends [] (lists_directory users view style location next)
+    listed style next each = (allowed, answered _ (λ entries. each))
 
     stat_fine : Always Calls U Ends [] (stat_row users view location)
-    stat_fine = looking _ _ (λ entries lines. told _ _ _ refl) (λ meta lines. told _ _ _ refl)
+    stat_fine = (allowed, answered _ (λ meta. of_kind _ _ (listed LongLines (status_lines view) (λ lines. told _ _ _ refl)) (λ lines. told _ _ _ refl) meta.kind))
 
     -- ---- transfers
 
     module _ (prepared : view.prepared ≡ true) where
-      starting_fine : (errand : Carried) (what : Job A R K) → Always Calls U Ends [] (starts view errand what)
+      starting_fine : (errand : Errand Path) (what : Job A R K) → Always Calls U Ends [] (starts view errand what)
       starting_fine errand what = record { unprepared = λ not. absurd (true≢false (sym prepared ∙ not)); asks = omega arith; floors = inl (refl, refl) }
 
       list_fine : (style : Style) → Always Calls U Ends [] (list_row users view style location)
-      list_fine style = looking _ _ (λ entries lines. starting_fine _ _) (λ meta lines. starting_fine _ _)
+      list_fine style = (allowed, answered _ (λ meta. of_kind _ _ (listed style (sends_lines view) (λ lines. starting_fine _ _)) (λ lines. starting_fine _ _) meta.kind))
 
       mlsd_fine : Always Calls U Ends [] (mlsd_row users view location)
-      mlsd_fine = looking _ _ (λ entries lines. starting_fine _ _) (λ meta. told _ _ _ refl)
+      mlsd_fine = (allowed, answered _ (λ meta. of_kind _ _ (listed FactLines (sends_lines view) (λ lines. starting_fine _ _)) (refused _) meta.kind))
 
       retr_fine : Always Calls U Ends [] (retr_row view location)
-      retr_fine = (allowed, by)
-        where
-          by : (answer : Result R StoreFault) → Always Calls U Ends [] (sends view location.path answer)
-          by (Err why) = told _ _ _ refl
-          by (Ok source) = starting_fine _ _
-
-      taking : (answer : Result K StoreFault) → Always Calls U Ends [] (takes view location.path answer)
-      taking (Err why) = told _ _ _ refl
-      taking (Ok sink) = starting_fine _ _
+      retr_fine = (allowed, answered _ (λ source. starting_fine _ _))
 
       stor_fine : (moment : ℕ) → Always Calls U Ends [] (stor_row view moment location)
-      stor_fine moment = (allowed, taking)
+      stor_fine moment = (allowed, answered _ (λ sink. starting_fine _ _))
 
       appe_fine : (moment : ℕ) → Always Calls U Ends [] (appe_row view moment location)
-      appe_fine moment = (allowed, taking)
+      appe_fine moment = (allowed, answered _ (λ sink. starting_fine _ _))
 
   -- ---- all rows
 
@@ -438,7 +406,7 @@ module _ (A R K : Type 0) where
 
   module _ (users : Users) (view : View) (moment : ℕ) where
     abbrev Of : Line → Type 0
-    Of line = RowHas A R K users view (UserFor users view (Ok line)) (Fine view 1) (rule {A = A} {R = R} {K = K} users view moment line).conditions (rule {A = A} {R = R} {K = K} users view moment line).row
+    Of line = RowHas A R K users view moment (UserFor users view (Ok line)) (Fine view 1) (rule line).conditions (rule line).row
 
     abbrev No : Call K → Type 0
     No call = ⊥
@@ -485,7 +453,7 @@ module _ (A R K : Type 0) where
 module _ (A R K : Type 0) (users : Users) (view : View) (moment : ℕ) where
   -- a call for a line
   abbrev pub CallFor : Item → Call K → Type 0
-  CallFor item call = (line : Line) × (item ≡ Ok line) × IsAllowedFor users view (rule {A = A} {R = R} {K = K} users view moment line).row call
+  CallFor item call = (line : Line) × (item ≡ Ok line) × IsAllowedFor users view (rule line).row call
 
   abbrev pub EndFor : List ℕ → View → List (Action A R K) → Type 0
   EndFor = Fine A R K view 1
@@ -499,8 +467,8 @@ module _ (A R K : Type 0) (users : Users) (view : View) (moment : ℕ) where
   pub served_fine : (item : Item) → Always (CallFor item) (UserFor A R K users view item) EndFor [] (served {A = A} {R = R} {K = K} users view moment item)
   served_fine (Err why) = record { unprepared = λ _. refl; asks = omega arith; floors = inl (refl, refl) }
   served_fine (Ok line) =
-      let rule = rule {A = A} {R = R} {K = K} users view moment line in
-      always_left (CallFor (Ok line)) (UserFor A R K users view (Ok line)) EndFor (left rule.conditions) [] (ruled users view rule)
+      let rule = rule line in
+      always_left (CallFor (Ok line)) (UserFor A R K users view (Ok line)) EndFor (left rule.conditions) [] (ruled users view moment rule)
       (always_to (IsAllowedFor users view rule.row) (CallFor (Ok line)) (UserFor A R K users view (Ok line)) (UserFor A R K users view (Ok line)) EndFor (λ admitted after actions. EndFor admitted (left rule.conditions after) actions)
-      (λ call allowed. (line, refl, allowed)) (λ user asks. asks) (again rule.conditions) [] (ruled users view rule)
-      (ruled_has A R K users view (UserFor A R K users view (Ok line)) EndFor refusing rule (row_fine A R K users view moment line)))
+      (λ call allowed. (line, refl, allowed)) (λ user asks. asks) (again rule.conditions) [] (ruled users view moment rule)
+      (ruled_has A R K users view moment (UserFor A R K users view (Ok line)) EndFor refusing rule (row_fine A R K users view moment line)))

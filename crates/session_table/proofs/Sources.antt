@@ -11,7 +11,7 @@ use Rattle.virtual_path.specs.Path.{Path}
 use Rattle.virtual_tree.specs.declared.fault.StoreFault.{StoreFault}
 use Rattle.session_table.specs.Always.{Always}
 use Rattle.session_table.specs.Laws.{IsAllowedAt, IsAllowedCall, IsAllowedFor, IsNamed, SourcesAreNamed}
-use Rattle.session_table.specs.Steps.{in_its_turn, is_open, serves_lines}
+use Rattle.session_table.specs.Steps.{in_its_turn}
 use Rattle.session_table.proofs.Keeping.{always_cond, always_left, always_taken, always_to, ends_all}
 use Rattle.session_table.proofs.Rows.{RowHas, ruled_has}
 use Rattle.session_table.specs.declared.actions.Action.{Action}
@@ -20,15 +20,20 @@ use Rattle.session_table.specs.declared.inputs.Input.{Input}
 use Rattle.session_table.specs.declared.inputs.Input.TheVariants as input
 use Rattle.session_table.specs.declared.stages.Control.{Control}
 use Rattle.session_table.specs.declared.stages.Control.TheVariants.{Open, Quitting, Closing}
+use Rattle.session_table.specs.declared.notices.Notice.TheVariants as notice
+use Rattle.session_table.specs.declared.rules.Rule.{Rule}
+use Rattle.session_table.specs.declared.stages.Errand.{Errand}
 use Rattle.session_table.specs.declared.stages.Passive.{Passive}
+use Rattle.session_table.specs.declared.stages.Work.{Work}
+use Rattle.session_table.specs.declared.stages.Work.TheVariants.{Idle}
 use Rattle.session_table.specs.Calls.{Call}
-use Rattle.session_table.specs.FileRows.{is_root, rnfr_by}
+use Rattle.session_table.specs.FileRows.{is_root, unless_fault}
 use Rattle.session_table.specs.Judged.{Location}
 use Rattle.session_table.specs.Plans.{Plan}
-use Rattle.session_table.specs.Rules.{Line, Rule, rule}
-use Rattle.session_table.specs.Table.{after_closed, and_quits, beside, controlled, end_row, ended_by, ended_row, ended_with, held_row, holds, idle, in_turn, left, meanwhile, most_held, ready_as, ready_by, ready_row, ruled, served, served_by, table}
-use Rattle.session_table.specs.Views.{View, Begun, Carried, awaited, is_aborted, is_busy, is_closed, running}
-use Rattle.session_table.specs.Views.Begun.{Idle}
+use Rattle.session_table.specs.Rules.{Line, rule}
+use Rattle.session_table.specs.StateRows.{notes}
+use Rattle.session_table.specs.Table.{and_quits, beside, end_row, ended_by, ended_row, ended_with, held_row, holds, idle, in_turn, left, meanwhile, most_held, ready_as, ready_by, ready_row, ruled, served, served_by, table}
+use Rattle.session_table.specs.Views.{View, awaited, awaits_ports, counts_lines, is_aborted, is_busy, is_closed, running, serves_lines}
 
 -- what was named before
 kept : (users : Users) (view : View) (source : Option Path) → view.source ≡ source → IsNamed users view None source
@@ -58,29 +63,26 @@ module _ (A R K : Type 0) (users : Users) (view : View) where
   Within item plan = Always {A = A} {R = R} {K = K} C U (E item) [] plan
 
   module _ (moment : ℕ) where
-    abbrev Ruled : Line → Rule A R K
-    Ruled line = rule users view moment line
-
     -- the end of RNFR, before its conditions are seen to
     abbrev EndOf : List ℕ → List ℕ → View → List (Action A R K) → Type 0
-    EndOf text admitted after actions = E (Some (Ok (command.Rnfr text))) admitted (left (Ruled (command.Rnfr text)).conditions after) actions
+    EndOf text admitted after actions = E (Some (Ok (command.Rnfr text))) admitted (left (rule (command.Rnfr text)).conditions after) actions
 
     -- RNFR, where it is not refused
-    rnfr_has : (text : List ℕ) → RowHas A R K users view U (EndOf text) (Ruled (command.Rnfr text)).conditions (Ruled (command.Rnfr text)).row
+    rnfr_has : (text : List ℕ) → RowHas A R K users view moment U (EndOf text) (rule (command.Rnfr text)).conditions (rule (command.Rnfr text)).row
     rnfr_has text = (refl, λ location allowed prepared. always_cond (IsAllowedCall users view Rename text) U (EndOf text) (is_root location.path) _ _ tt (allowed, by location allowed))
       where
         by : (location : Location) → IsAllowedAt users view Rename text location.stored → (answer : Result Meta StoreFault)
-            → Always (IsAllowedCall users view Rename text) U (EndOf text) [] (rnfr_by {A = A} {R = R} {K = K} view location.stored answer)
+            → Always {A = A} {R = R} {K = K} (IsAllowedCall users view Rename text) U (EndOf text) [] (unless_fault view (λ meta. notes (record view { source = Some location.stored }) notice.SendRnto) answer)
         by location allowed (Err why) = tt
         by location allowed (Ok meta) = allowed
 
     rnfr_named : (text : List ℕ) → Within (Some (Ok (command.Rnfr text))) (served {A = A} {R = R} {K = K} users view moment (Ok (command.Rnfr text)))
-    rnfr_named text = always_left C U (E (Some (Ok (command.Rnfr text)))) (left (Ruled (command.Rnfr text)).conditions) [] _
-        (always_to (IsAllowedFor users view (Ruled (command.Rnfr text)).row) C U U (EndOf text) (EndOf text) (λ call allowed. tt) (λ user asks. tt) (λ admitted after actions end. end) [] (ruled users view (Ruled (command.Rnfr text)))
-        (ruled_has A R K users view U (EndOf text) (λ why. tt) (Ruled (command.Rnfr text)) (rnfr_has text)))
+    rnfr_named text = always_left C U (E (Some (Ok (command.Rnfr text)))) (left (rule (command.Rnfr text)).conditions) [] _
+        (always_to (IsAllowedFor users view (rule (command.Rnfr text)).row) C U U (EndOf text) (EndOf text) (λ call allowed. tt) (λ user asks. tt) (λ admitted after actions end. end) [] (ruled users view moment (rule (command.Rnfr text)))
+        (ruled_has A R K users view moment U (EndOf text) (λ why. tt) (rule (command.Rnfr text)) (rnfr_has text)))
 
     -- any other rule leaves nothing named
-    forgets : (item : Option Item) (rule : Rule A R K) → rule.conditions.keeps_source ≡ false → Within item (served_by users view rule)
+    forgets : (item : Option Item) (rule : Rule (List ℕ)) → rule.conditions.keeps_source ≡ false → Within item (served_by users view moment rule)
     forgets item rule is = always_left C U (E item) (left rule.conditions) [] _
         (ends_all (λ admitted after actions. E item admitted (left rule.conditions after) actions)
         (λ admitted after actions. subst (λ (b : Bool). IsNamed users view item (cond b after.source None)) (sym is) (none_named users view item)) [] _)
@@ -88,13 +90,13 @@ module _ (A R K : Type 0) (users : Users) (view : View) where
     served_named : (item : Item) → Within (Some item) (served {A = A} {R = R} {K = K} users view moment item)
     served_named (Err why) = tt
     served_named (Ok (command.Rnfr text)) = rnfr_named text
-    served_named (Ok (command.Stat None)) = forgets (Some (Ok (command.Stat None))) (Ruled (command.Stat None)) refl
-    served_named (Ok (command.Stat (Some text))) = forgets (Some (Ok (command.Stat (Some text)))) (Ruled (command.Stat (Some text))) refl
-    served_named (Ok line) = forgets (Some (Ok line)) (Ruled line) refl
+    served_named (Ok (command.Stat None)) = forgets (Some (Ok (command.Stat None))) (rule (command.Stat None)) refl
+    served_named (Ok (command.Stat (Some text))) = forgets (Some (Ok (command.Stat (Some text)))) (rule (command.Stat (Some text))) refl
+    served_named (Ok line) = forgets (Some (Ok line)) (rule line) refl
 
     -- a line that is served at once leaves nothing named
-    at_once : (line : Line) → (Ruled line).conditions.keeps_source ≡ false → Within None (served {A = A} {R = R} {K = K} users view moment (Ok line))
-    at_once line is = forgets None (Ruled line) is
+    at_once : (line : Line) → (rule line).conditions.keeps_source ≡ false → Within None (served {A = A} {R = R} {K = K} users view moment (Ok line))
+    at_once line is = forgets None (rule line) is
 
     held_named : (held : List Item) (item : Item) → Within None (holds {A = A} {R = R} {K = K} view held item).plan
     held_named held item = always_taken C U (E None) (nat_lt (length held) most_held) _ _ (kept users view view.source refl) (kept users view view.source refl)
@@ -110,26 +112,27 @@ module _ (A R K : Type 0) (users : Users) (view : View) where
     turn_named item [] = served_named (item_of item)
     turn_named item (first ∷ others) = held_named (first ∷ others) (item_of item)
 
-    open_named : (item : LineItem A) (held : List Item) (busy : Bool) → Within (cond ((true && true) && not busy) (in_its_turn {K = K} (input.Line item) held) None)
-        (cond busy (meanwhile {A = A} {R = R} {K = K} users view held moment (item_of item)) (in_turn users view moment (item_of item) held)).plan
-    open_named item held true = meanwhile_named held (item_of item)
-    open_named item held false = turn_named item held
+    line_named : (item : LineItem A) (held : List Item) (counts busy : Bool) → Within (cond (counts && not busy) (in_its_turn {K = K} (input.Line item) held) None)
+        (cond counts (cond busy (meanwhile {A = A} {R = R} {K = K} users view held moment (item_of item)) (in_turn users view moment (item_of item) held)) (beside held (idle view))).plan
+    line_named item held false busy = kept users view view.source refl
+    line_named item held true true = meanwhile_named held (item_of item)
+    line_named item held true false = turn_named item held
 
-    due_named : (held : List Item) (busy : Bool) → Within (cond ((true && true) && not busy) (in_its_turn {A = A} {K = K} input.Held held) None)
-        (cond busy (beside held (idle view)) (held_row {A = A} {R = R} {K = K} users view moment held)).plan
-    due_named held true = kept users view view.source refl
-    due_named [] false = kept users view view.source refl
-    due_named (first ∷ others) false = served_named first
+    due_named : (held : List Item) (serves : Bool) → Within (cond serves (in_its_turn {A = A} {K = K} input.Held held) None)
+        (cond serves (held_row {A = A} {R = R} {K = K} users view moment held) (beside held (idle view))).plan
+    due_named held false = kept users view view.source refl
+    due_named [] true = kept users view view.source refl
+    due_named (first ∷ others) true = served_named first
 
   -- inputs that are no lines
-  quits : (b : Bool) (begun : Begun) (prepared : Bool) (actions : List (Action A R K)) (control : Control)
-      → Within (cond b None None) (and_quits users (record view { begun = begun; prepared = prepared }) actions control)
-  quits b begun prepared actions Open = stays users view b
-  quits b begun prepared actions Quitting = stays users view b
-  quits b begun prepared actions Closing = stays users view b
+  quits : (b : Bool) (work : Work Path) (prepared : Bool) (actions : List (Action A R K)) (control : Control)
+      → Within (cond b None None) (and_quits users (record view { work = work; prepared = prepared }) actions control)
+  quits b work prepared actions Open = stays users view b
+  quits b work prepared actions Quitting = stays users view b
+  quits b work prepared actions Closing = stays users view b
 
   ready_named : (b : Bool) (port : Option ℕ) → Within (cond b None None) (ready_row users view port)
-  ready_named b port = by (awaited view.begun)
+  ready_named b port = by (awaited view.work)
     where
       at : (passive : Passive) (port : Option ℕ) → Within (cond b None None) (ready_as users view passive port)
       at passive (Some port) = quits b Idle true _ view.control
@@ -139,18 +142,18 @@ module _ (A R K : Type 0) (users : Users) (view : View) where
       by None = stays users view b
       by (Some passive) = at passive port
 
-  end_named : (b : Bool) (errand : Carried) (aborted : Bool) (end : End) (finished : Result (Unit {0}) StoreFault)
+  end_named : (b : Bool) (errand : Errand Path) (aborted : Bool) (end : End) (finished : Result (Unit {0}) StoreFault)
       → Within (cond b None None) (end_row users view errand aborted end finished)
   end_named b errand aborted end finished = always_cond C U (E (cond b None None)) (is_closed view.stage) _ _ (stays users view b) (quits b Idle view.prepared _ view.control)
 
   ended_named : (b : Bool) (moment : ℕ) (end : End) (sink : Option K) → Within (cond b None None) (ended_row users view moment end sink)
-  ended_named b moment end sink = by sink (running view.begun)
+  ended_named b moment end sink = by sink (running view.work)
     where
-      with : (sink : Option K) (errand : Carried) → Within (cond b None None) (ended_with users view moment errand (is_aborted view.begun) end sink)
-      with (Some sink) errand = (tt, λ answer. end_named b errand (is_aborted view.begun) end answer)
-      with None errand = end_named b errand (is_aborted view.begun) end (Ok tt)
+      with : (sink : Option K) (errand : Errand Path) → Within (cond b None None) (ended_with users view moment errand (is_aborted view.work) end sink)
+      with (Some sink) errand = (tt, λ answer. end_named b errand (is_aborted view.work) end answer)
+      with None errand = end_named b errand (is_aborted view.work) end (Ok tt)
 
-      by : (sink : Option K) (errand : Option Carried) → Within (cond b None None) (ended_by users view moment end sink errand)
+      by : (sink : Option K) (errand : Option (Errand Path)) → Within (cond b None None) (ended_by users view moment end sink errand)
       by sink None = stays users view b
       by sink (Some errand) = with sink errand
 
@@ -159,46 +162,11 @@ module _ (A R K : Type 0) (users : Users) (view : View) where
     Taking told = Within (cond (serves_lines view) (in_its_turn told held) None) (table {A = A} {R = R} {K = K} users view held moment told).plan
 
     named : (told : Input A K) → Taking told
-    named (input.Line item) = by (is_closed view.stage) view.control
-      where
-        by : (closed : Bool) (control : Control) → Within (cond ((not closed && is_open control) && not (is_busy view.begun)) (in_its_turn {K = K} (input.Line item) held) None)
-            (cond closed (beside held (after_closed users view moment (input.Line item))) (controlled {A = A} {R = R} {K = K} users view held moment (input.Line item) control)).plan
-        by true control = kept users view view.source refl
-        by false Open = open_named moment item held (is_busy view.begun)
-        by false Quitting = kept users view view.source refl
-        by false Closing = kept users view view.source refl
-    named input.Held = by (is_closed view.stage) view.control
-      where
-        by : (closed : Bool) (control : Control) → Within (cond ((not closed && is_open control) && not (is_busy view.begun)) (in_its_turn {A = A} {K = K} input.Held held) None)
-            (cond closed (beside held (after_closed users view moment input.Held)) (controlled {A = A} {R = R} {K = K} users view held moment input.Held control)).plan
-        by true control = kept users view view.source refl
-        by false Open = due_named moment held (is_busy view.begun)
-        by false Quitting = kept users view view.source refl
-        by false Closing = kept users view view.source refl
-    named (input.TransferEnded end sink) = by (is_closed view.stage) view.control
-      where
-        by : (closed : Bool) (control : Control) → Within (cond (serves_lines view) None None)
-            (cond closed (beside held (after_closed users view moment (input.TransferEnded end sink))) (controlled {A = A} {R = R} {K = K} users view held moment (input.TransferEnded end sink) control)).plan
-        by true control = ended_named (serves_lines view) moment end sink
-        by false Open = ended_named (serves_lines view) moment end sink
-        by false Quitting = ended_named (serves_lines view) moment end sink
-        by false Closing = ended_named (serves_lines view) moment end sink
-    named (input.DataReady port) = by (is_closed view.stage) view.control
-      where
-        by : (closed : Bool) (control : Control) → Within (cond (serves_lines view) None None)
-            (cond closed (beside held (after_closed users view moment (input.DataReady port))) (controlled {A = A} {R = R} {K = K} users view held moment (input.DataReady port) control)).plan
-        by true control = stays users view (serves_lines view)
-        by false Open = ready_named (serves_lines view) port
-        by false Quitting = ready_named (serves_lines view) port
-        by false Closing = stays users view (serves_lines view)
-    named input.Closed = by (is_closed view.stage) view.control
-      where
-        by : (closed : Bool) (control : Control) → Within (cond (serves_lines view) None None)
-            (cond closed (beside held (after_closed users view moment input.Closed)) (controlled {A = A} {R = R} {K = K} users view held moment input.Closed control)).plan
-        by true control = stays users view (serves_lines view)
-        by false Open = stays users view (serves_lines view)
-        by false Quitting = stays users view (serves_lines view)
-        by false Closing = stays users view (serves_lines view)
+    named (input.Line item) = line_named moment item held (counts_lines view) (is_busy view.work)
+    named input.Held = due_named moment held (serves_lines view)
+    named (input.TransferEnded end sink) = ended_named (serves_lines view) moment end sink
+    named (input.DataReady port) = always_cond C U (E (cond (serves_lines view) None None)) (awaits_ports view) _ _ (ready_named (serves_lines view) port) (stays users view (serves_lines view))
+    named input.Closed = always_cond C U (E (cond (serves_lines view) None None)) (is_closed view.stage) _ _ (stays users view (serves_lines view)) (stays users view (serves_lines view))
 
 pub sources_are_named : (A R K : Type 0) → SourcesAreNamed A R K
 unfolding SourcesAreNamed

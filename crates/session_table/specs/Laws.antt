@@ -13,15 +13,24 @@ use Rattle.session_table.specs.declared.actions.Action.{Action}
 use Rattle.session_table.specs.declared.actions.Action.TheVariants as action
 use Rattle.session_table.specs.declared.inputs.Input.{Input}
 use Rattle.session_table.specs.declared.inputs.Input.TheVariants as input
+use Rattle.session_table.specs.declared.rules.NamedRow.{NamedRow}
+use Rattle.session_table.specs.declared.rules.NamedRow.TheVariants.{At}
 use Rattle.session_table.specs.declared.stages.Stage.TheVariants.{Named}
 use Rattle.session_table.specs.Calls.{Call}
 use Rattle.session_table.specs.Judged.{home_of}
-use Rattle.session_table.specs.Rules.{Line, Row, rule}
-use Rattle.session_table.specs.Rules.Row.{Alone, At}
+use Rattle.session_table.specs.Rules.{Line, rule}
 use Rattle.session_table.specs.StateRows.{number_of}
-use Rattle.session_table.specs.Steps.{asks_floors, in_its_turn, serves_lines}
+use Rattle.session_table.specs.Plans.{Plan}
+use Rattle.session_table.specs.Steps.{asks_floors, in_its_turn}
 use Rattle.session_table.specs.Table.{most_held, table}
-use Rattle.session_table.specs.Views.{View, is_inside}
+use Rattle.session_table.specs.Views.{View, is_inside, serves_lines}
+
+-- of each step, whatever a client sends and a store answers
+abbrev pub InEachStep : (A R K : Type 0)
+    → (Users → View → List Item → ℕ → Input A K → Plan A R K → Type 0) → Type 0
+InEachStep A R K Holds =
+    (users : Users) (view : View) (held : List Item) (moment : ℕ) (told : Input A K)
+    → Holds users view held moment told (table users view held moment told).plan
 
 -- ---- calls of the store
 
@@ -51,18 +60,15 @@ IsAllowedCall users view letter text (Call.Rename from to) =
     (view.source ≡ Some from) × IsAllowedAt users view letter text to
 
 -- the call is for a row at a location, by its letter and its text; a row without a path makes none
-abbrev pub IsAllowedFor : {A R K : Type 0} → Users → View → Row A R K → Call K → Type 0
-IsAllowedFor users view (Alone plan) call = ⊥
-IsAllowedFor users view (At letter text row) call = IsAllowedCall users view letter text call
+abbrev pub IsAllowedFor : {K : Type 0} → Users → View → NamedRow (List ℕ) → Call K → Type 0
+IsAllowedFor users view (At place) call = IsAllowedCall users view place.letter place.text call
+IsAllowedFor users view _ call = ⊥
 
 -- a line that may be served at this input: the line that comes, or the first of those that wait
 abbrev pub MayServe : {A K : Type 0} → Input A K → List Item → Line → Type 0
 MayServe (input.Line item) held line = item_of item ≡ Ok line
-MayServe input.Held [] line = ⊥
 MayServe input.Held (first ∷ others) line = first ≡ Ok line
-MayServe (input.TransferEnded end sink) held line = ⊥
-MayServe (input.DataReady port) held line = ⊥
-MayServe input.Closed held line = ⊥
+MayServe _ held line = ⊥
 
 -- the call is the `finish` of this sink
 abbrev pub IsFinishOf : {K : Type 0} → K → ℕ → Call K → Type 0
@@ -74,25 +80,17 @@ abbrev pub IsReturned : {A K : Type 0} → Input A K → ℕ → Call K → Type
 IsReturned (input.TransferEnded end (Some sink)) moment call = IsFinishOf sink moment call
 IsReturned _ moment call = ⊥
 
-abbrev pub IsRightful : (A R K : Type 0) → Users → View → List Item → ℕ → Input A K → Call K
-    → Type 0
-IsRightful A R K users view held moment told call =
-    IsReturned told moment call
-    ⊎ ((line : Line) × MayServe told held line
-    × IsAllowedFor users view (rule {A = A} {R = R} {K = K} users view moment line).row call)
+abbrev pub IsRightful : {A K : Type 0} → Users → View → List Item → ℕ → Input A K → Call K → Type 0
+IsRightful users view held moment told call = IsReturned told moment call
+    ⊎ ((line : Line) × MayServe told held line × IsAllowedFor users view (rule line).row call)
 
 unfoldable pub CallsAreRightful : (A R K : Type 0) → Type 0
-CallsAreRightful A R K =
-    (users : Users) (view : View) (held : List Item) (moment : ℕ) (told : Input A K)
-    → EachCall (IsRightful A R K users view held moment told)
-    (table {A = A} {R = R} {K = K} users view held moment told).plan
+CallsAreRightful A R K = InEachStep A R K (λ users view held moment told.
+    EachCall (IsRightful users view held moment told))
 
 unfoldable pub NoCallsOutside : (A R K : Type 0) → Type 0
-NoCallsOutside A R K =
-    (users : Users) (view : View) (held : List Item) (moment : ℕ) (told : Input A K)
-    → is_inside view.stage ≡ false
-    → EachCall (IsReturned told moment)
-    (table {A = A} {R = R} {K = K} users view held moment told).plan
+NoCallsOutside A R K = InEachStep A R K (λ users view held moment told plan.
+    is_inside view.stage ≡ false → EachCall (IsReturned told moment) plan)
 
 -- ---- actions
 
@@ -125,25 +123,18 @@ module _ {A R K : Type 0} where
   releases (action ∷ actions) = release_by action ++ releases actions
 
 unfoldable pub NoTransferUnprepared : (A R K : Type 0) → Type 0
-NoTransferUnprepared A R K =
-    (users : Users) (view : View) (held : List Item) (moment : ℕ) (told : Input A K)
-    → view.prepared ≡ false
-    → EachEnd (λ admitted after actions. starting actions ≡ 0)
-    (table {A = A} {R = R} {K = K} users view held moment told).plan
+NoTransferUnprepared A R K = InEachStep A R K (λ users view held moment told plan.
+    view.prepared ≡ false → EachEnd (λ admitted after actions. starting actions ≡ 0) plan)
 
 -- only a line asks for something
 abbrev pub most_asked : {A K : Type 0} → Input A K → ℕ
 most_asked (input.Line item) = 1
 most_asked input.Held = 1
-most_asked (input.TransferEnded end sink) = 0
-most_asked (input.DataReady port) = 0
-most_asked input.Closed = 0
+most_asked _ = 0
 
 unfoldable pub OneThingIsAsked : (A R K : Type 0) → Type 0
-OneThingIsAsked A R K =
-    (users : Users) (view : View) (held : List Item) (moment : ℕ) (told : Input A K)
-    → EachEnd (λ admitted after actions. asking actions ≤ most_asked told)
-    (table {A = A} {R = R} {K = K} users view held moment told).plan
+OneThingIsAsked A R K = InEachStep A R K (λ users view held moment told.
+    EachEnd (λ admitted after actions. asking actions ≤ most_asked told))
 
 -- ---- held lines
 
@@ -171,16 +162,13 @@ Releases (number ∷ []) before released after =
 Releases (number ∷ other ∷ others) before released after = ⊥
 
 unfoldable pub FloorsAreReleasedOnce : (A R K : Type 0) → Type 0
-FloorsAreReleasedOnce A R K =
-    (users : Users) (view : View) (held : List Item) (moment : ℕ) (told : Input A K)
-    → EachEnd (λ admitted after actions. Releases admitted (logged_in view) (releases actions)
-    (logged_in after))
-    (table {A = A} {R = R} {K = K} users view held moment told).plan
+FloorsAreReleasedOnce A R K = InEachStep A R K (λ users view held moment told.
+    EachEnd (λ admitted after actions.
+    Releases admitted (logged_in view) (releases actions) (logged_in after)))
 
 -- admission is asked for the user who was named, by PASS in its turn with that user's password
 pub record IsRightfulAdmission {A K : Type 0} (users : Users) (view : View) (held : List Item)
-    (told : Input A K)
-    (number : ℕ) : Type 0 where
+    (told : Input A K) (number : ℕ) : Type 0 where
   pub text : Option (List ℕ)
   pub serves : serves_lines view ≡ true
   pub turn : in_its_turn told held ≡ Some (Ok (command.Pass text))
@@ -189,17 +177,13 @@ pub record IsRightfulAdmission {A K : Type 0} (users : Users) (view : View) (hel
   pub whose : number ≡ number_of users view.name
 
 unfoldable pub AdmissionsAreRightful : (A R K : Type 0) → Type 0
-AdmissionsAreRightful A R K =
-    (users : Users) (view : View) (held : List Item) (moment : ℕ) (told : Input A K)
-    → EachAdmission (IsRightfulAdmission users view held told)
-    (table {A = A} {R = R} {K = K} users view held moment told).plan
+AdmissionsAreRightful A R K = InEachStep A R K (λ users view held moment told.
+    EachAdmission (IsRightfulAdmission users view held told))
 
 -- a step that does not serve PASS asks for no admission
 unfoldable pub OthersAskNoFloors : (A R K : Type 0) → Type 0
-OthersAskNoFloors A R K =
-    (users : Users) (view : View) (held : List Item) (moment : ℕ) (told : Input A K)
-    → asks_floors held told ≡ false
-    → EachAdmission (λ number. ⊥) (table {A = A} {R = R} {K = K} users view held moment told).plan
+OthersAskNoFloors A R K = InEachStep A R K (λ users view held moment told plan.
+    asks_floors held told ≡ false → EachAdmission (λ number. ⊥) plan)
 
 -- ---- what RNFR named
 
@@ -213,8 +197,6 @@ IsNamed users view (Some (Ok (command.Rnfr text))) (Some path) =
 IsNamed users view (Some _) (Some path) = ⊥
 
 unfoldable pub SourcesAreNamed : (A R K : Type 0) → Type 0
-SourcesAreNamed A R K =
-    (users : Users) (view : View) (held : List Item) (moment : ℕ) (told : Input A K)
-    → EachEnd (λ admitted after actions. IsNamed users view
-    (cond (serves_lines view) (in_its_turn told held) None) after.source)
-    (table {A = A} {R = R} {K = K} users view held moment told).plan
+SourcesAreNamed A R K = InEachStep A R K (λ users view held moment told.
+    EachEnd (λ admitted after actions. IsNamed users view
+    (cond (serves_lines view) (in_its_turn told held) None) after.source))

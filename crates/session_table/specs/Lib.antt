@@ -8,6 +8,7 @@ pub mod Judged
 pub mod Notices
 pub mod Plans
 pub mod Refusals
+pub mod Rows
 pub mod Rules
 pub mod StateRows
 pub mod Table

@@ -1,21 +1,21 @@
--- The rule of each command: its conditions, and its row.
-use Rattle.std.specs.Prelude.{ℕ, true, false, List, [], Some, None, codes, unwrap_or}
-use Rattle.authorizer.specs.Users.{Users}
+-- The rule of each command: its conditions, and its row by name.
+use Rattle.std.specs.Prelude.{true, false, List, ℕ, [], Some, None, codes, unwrap_or}
 use Rattle.ftp_terms.specs.declared.letters.Letter.{Letter}
 use Rattle.ftp_terms.specs.declared.letters.Letter.TheVariants as letter
 use Rattle.ftp_wire.specs.declared.commands.Command.{Command}
 use Rattle.ftp_wire.specs.declared.commands.Command.TheVariants as command
 use Rattle.session_table.specs.declared.notices.Notice.TheVariants as notice
 use Rattle.session_table.specs.declared.rules.Conditions.{Conditions}
+use Rattle.session_table.specs.declared.rules.FileRow.{FileRow}
+use Rattle.session_table.specs.declared.rules.FileRow.TheVariants as file
+use Rattle.session_table.specs.declared.rules.LoginRow.{LoginRow}
+use Rattle.session_table.specs.declared.rules.LoginRow.TheVariants as login
 use Rattle.session_table.specs.declared.rules.Meanwhile.TheVariants.{Waits, Served, QuitsLater}
-use Rattle.session_table.specs.declared.stages.Passive.TheVariants.{Plain}
-use Rattle.session_table.specs.FileRows.{cwd_row, dele_row, mdtm_row, mkd_row, rmd_row, rnfr_row, rnto_row, size_row}
-use Rattle.session_table.specs.Judged.{Location}
-use Rattle.session_table.specs.Plans.{Plan}
-use Rattle.session_table.specs.StateRows.{abor_row, eprt_row, epsv_row, feat_row, notes, opens, opts_row, pass_row, port_row, pwd_row, quit_row, rein_row, rest_row, status_row, type_row, user_row}
-use Rattle.session_table.specs.TransferRows.{appe_row, list_row, mlsd_row, mlst_row, retr_row, stat_row, stor_row}
-use Rattle.session_table.specs.TransferRows.Style.{LongLines, Names}
-use Rattle.session_table.specs.Views.{View}
+use Rattle.session_table.specs.declared.rules.NamedRow.TheVariants as row
+use Rattle.session_table.specs.declared.rules.Rule.{Rule}
+use Rattle.session_table.specs.declared.rules.StateRow.{StateRow}
+use Rattle.session_table.specs.declared.rules.StateRow.TheVariants as state
+use Rattle.session_table.specs.declared.rules.Style.TheVariants.{LongLines, Names}
 
 -- a command with its texts as octets
 abbrev pub Line : Type 0
@@ -45,76 +45,63 @@ unless_only_extended = record after_login { needs_plain = true }
 abbrev pub moving : Conditions
 moving = record after_login { moves_data = true }
 
--- The row of a command: without a path; or at the location of the path that a text names, for users
--- who have a letter there.
-pub data Row (A R K : Type 0) : Type 0 where
-  Alone : Plan A R K → Row A R K
-  At : Letter → List ℕ → (Location → Plan A R K) → Row A R K
+-- served even while a transfer runs
+abbrev pub served_at_once : Conditions → Conditions
+served_at_once conditions = record conditions { meanwhile = Served }
 
-pub record Rule (A R K : Type 0) : Type 0 where
-  pub conditions : Conditions
-  pub row : Row A R K
+abbrev pub of_login : Conditions → LoginRow (List ℕ) → Rule (List ℕ)
+of_login conditions what = record { conditions = conditions; row = row.Login what }
 
-module _ {A R K : Type 0} where
-  abbrev pub alone : Conditions → Plan A R K → Rule A R K
-  alone conditions plan = record { conditions = conditions; row = Alone plan }
+abbrev pub alone : Conditions → StateRow → Rule (List ℕ)
+alone conditions what = record { conditions = conditions; row = row.State what }
 
-  abbrev pub at : Conditions → Letter → List ℕ → (Location → Plan A R K) → Rule A R K
-  at conditions letter text row = record { conditions = conditions; row = At letter text row }
+-- at the location of the path that a text names, for users who have a letter there
+abbrev pub at : Conditions → Letter → List ℕ → FileRow → Rule (List ℕ)
+at conditions letter text what = record {
+  conditions = conditions;
+  row = row.At (record { letter = letter; text = text; row = what });
+}
 
-  -- the rule of a command; a moment is in milliseconds since 1970
-  abbrev pub rule : Users → View → ℕ → Line → Rule A R K
-  rule users view moment (command.User name) = alone at_any_time (user_row view name)
-  rule users view moment (command.Pass text) =
-      alone at_any_time (pass_row users view (unwrap_or text []))
-  rule users view moment command.Quit =
-      alone (record at_any_time { meanwhile = QuitsLater }) (quit_row users view)
-  rule users view moment command.Rein = alone at_any_time (rein_row view)
-  rule users view moment command.Noop =
-      alone (record at_any_time { meanwhile = Served }) (notes view notice.Fine)
-  rule users view moment command.Syst = alone at_any_time (notes view notice.System)
-  rule users view moment (command.Help text) = alone at_any_time (notes view notice.Standards)
-  rule users view moment command.Feat = alone at_any_time (feat_row view)
-  rule users view moment (command.Opts wanted) = alone at_any_time (opts_row view wanted)
-  rule users view moment (command.Allo text) = alone after_login (notes view notice.NoAllocation)
-  rule users view moment (command.SetType wanted) = alone after_login (type_row view wanted)
-  rule users view moment command.Mode = alone after_login (notes view notice.ModeIsStream)
-  rule users view moment command.Stru = alone after_login (notes view notice.StructureIsFile)
-  rule users view moment (command.Rest offset) = alone after_login (rest_row view offset)
-  rule users view moment (command.Port to) = alone unless_only_extended (port_row view to)
-  rule users view moment (command.Eprt to) = alone unless_only_extended (eprt_row view to)
-  rule users view moment command.Pasv = alone unless_only_extended (opens view Plain)
-  rule users view moment (command.Epsv wanted) = alone after_login (epsv_row view wanted)
-  rule users view moment command.Pwd = alone after_login (pwd_row view)
-  rule users view moment (command.Stat None) =
-      alone (record after_login { meanwhile = Served }) (status_row view)
-  rule users view moment command.Abor =
-      alone (record after_login { meanwhile = Served }) (abor_row view)
-  rule users view moment (command.Cwd text) =
-      at after_login letter.ChangeDirectory text (cwd_row view)
-  rule users view moment command.Cdup =
-      at after_login letter.ChangeDirectory (codes "..") (cwd_row view)
-  rule users view moment (command.Mkd text) =
-      at after_login letter.MakeDirectory text (mkd_row view)
-  rule users view moment (command.Rmd text) = at after_login letter.Delete text (rmd_row view)
-  rule users view moment (command.Dele text) = at after_login letter.Delete text (dele_row view)
-  rule users view moment (command.Rnfr text) =
-      at (record after_login { keeps_source = true }) letter.Rename text (rnfr_row view)
-  rule users view moment (command.Rnto text) =
-      at (record after_login { needs_source = true }) letter.Rename text (rnto_row view)
-  rule users view moment (command.Size text) = at after_login letter.Listing text (size_row view)
-  rule users view moment (command.Mdtm text) = at after_login letter.Listing text (mdtm_row view)
-  rule users view moment (command.Stat (Some text)) =
-      at after_login letter.Listing text (stat_row users view)
-  rule users view moment (command.Mlst text) =
-      at after_login letter.Listing (unwrap_or text []) (mlst_row users view)
-  rule users view moment (command.List text) =
-      at moving letter.Listing (unwrap_or text []) (list_row users view LongLines)
-  rule users view moment (command.Nlst text) =
-      at moving letter.Listing (unwrap_or text []) (list_row users view Names)
-  rule users view moment (command.Mlsd text) =
-      at moving letter.Listing (unwrap_or text []) (mlsd_row users view)
-  rule users view moment (command.Retr text) = at moving letter.Retrieve text (retr_row view)
-  rule users view moment (command.Stor text) = at moving letter.Store text (stor_row view moment)
-  rule users view moment (command.Appe text) =
-      at (record moving { needs_no_offset = true }) letter.AppendTo text (appe_row view moment)
+-- the rule of a command
+abbrev pub rule : Line → Rule (List ℕ)
+rule (command.User name) = of_login at_any_time (login.User name)
+rule (command.Pass text) = of_login at_any_time (login.Pass (unwrap_or text []))
+rule command.Quit = of_login (record at_any_time { meanwhile = QuitsLater }) login.Quit
+rule command.Rein = of_login at_any_time login.Rein
+rule command.Noop = alone (served_at_once at_any_time) (state.Note notice.Fine)
+rule command.Syst = alone at_any_time (state.Note notice.System)
+rule (command.Help text) = alone at_any_time (state.Note notice.Standards)
+rule command.Feat = alone at_any_time state.Feat
+rule (command.Opts wanted) = alone at_any_time (state.Opts wanted)
+rule (command.Allo text) = alone after_login (state.Note notice.NoAllocation)
+rule (command.SetType wanted) = alone after_login (state.Type wanted)
+rule command.Mode = alone after_login (state.Note notice.ModeIsStream)
+rule command.Stru = alone after_login (state.Note notice.StructureIsFile)
+rule (command.Rest offset) = alone after_login (state.Rest offset)
+rule (command.Port to) = alone unless_only_extended (state.Port to)
+rule (command.Eprt to) = alone unless_only_extended (state.Eprt to)
+rule command.Pasv = alone unless_only_extended state.Pasv
+rule (command.Epsv wanted) = alone after_login (state.Epsv wanted)
+rule command.Pwd = alone after_login state.Pwd
+rule (command.Stat None) = alone (served_at_once after_login) state.Status
+rule command.Abor = alone (served_at_once after_login) state.Abor
+rule (command.Cwd text) = at after_login letter.ChangeDirectory text file.Cwd
+rule command.Cdup = at after_login letter.ChangeDirectory (codes "..") file.Cwd
+rule (command.Mkd text) = at after_login letter.MakeDirectory text file.Mkd
+rule (command.Rmd text) = at after_login letter.Delete text file.Rmd
+rule (command.Dele text) = at after_login letter.Delete text file.Dele
+rule (command.Rnfr text) =
+    at (record after_login { keeps_source = true }) letter.Rename text file.Rnfr
+rule (command.Rnto text) =
+    at (record after_login { needs_source = true }) letter.Rename text file.Rnto
+rule (command.Size text) = at after_login letter.Listing text file.Size
+rule (command.Mdtm text) = at after_login letter.Listing text file.Mdtm
+rule (command.Stat (Some text)) = at after_login letter.Listing text file.Stat
+rule (command.Mlst text) = at after_login letter.Listing (unwrap_or text []) file.Mlst
+rule (command.List text) = at moving letter.Listing (unwrap_or text []) (file.List LongLines)
+rule (command.Nlst text) = at moving letter.Listing (unwrap_or text []) (file.List Names)
+rule (command.Mlsd text) = at moving letter.Listing (unwrap_or text []) file.Mlsd
+rule (command.Retr text) = at moving letter.Retrieve text file.Retr
+rule (command.Stor text) = at moving letter.Store text file.Stor
+rule (command.Appe text) =
+    at (record moving { needs_no_offset = true }) letter.AppendTo text file.Appe

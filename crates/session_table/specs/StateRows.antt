@@ -29,18 +29,18 @@ use Rattle.session_table.specs.declared.refusals.Refusal.{Refusal}
 use Rattle.session_table.specs.declared.refusals.Refusal.TheVariants as refusal
 use Rattle.session_table.specs.declared.stages.Control.TheVariants.{Closing}
 use Rattle.session_table.specs.declared.stages.Passive.{Passive}
-use Rattle.session_table.specs.declared.stages.Passive.TheVariants.{Extended}
+use Rattle.session_table.specs.declared.stages.Passive.TheVariants.{Plain, Extended}
 use Rattle.session_table.specs.declared.stages.Stage.{Stage}
 use Rattle.session_table.specs.declared.stages.Stage.TheVariants as stage
 use Rattle.session_table.specs.Judged.{first_refusal}
 use Rattle.session_table.specs.Plans.{Plan}
 use Rattle.session_table.specs.Plans.Plan.{Then, AskAdmit}
 use Rattle.session_table.specs.Views.{View, aborted, anew, has_transfer, is_inside}
-use Rattle.session_table.specs.Views.Begun.{AwaitsPort}
+use Rattle.session_table.specs.declared.stages.Work.TheVariants.{AwaitsPort}
 
 abbrev pub is_ascii : DataType → Bool
 is_ascii data_type.Ascii = true
-is_ascii data_type.Image = false
+is_ascii _ = false
 
 -- the features in the reply to FEAT (RFC 2389, section 3.2)
 abbrev pub features : Facts → List (List ℕ)
@@ -200,11 +200,11 @@ module _ {A R K : Type 0} where
   -- STAT without an argument
   abbrev pub status_row : View → Plan A R K
   status_row view =
-      notes view (cond (has_transfer view.begun) notice.TransferInProgress notice.NoTransfer)
+      notes view (cond (has_transfer view.work) notice.TransferInProgress notice.NoTransfer)
 
   abbrev pub abor_row : View → Plan A R K
-  abor_row view = cond (has_transfer view.begun)
-      (Then (record view { begun = aborted view.begun })
+  abor_row view = cond (has_transfer view.work)
+      (Then (record view { work = aborted view.work })
       (action.Say (answer.Refusal refusal.TransferAborted) ∷ action.Abort
       ∷ action.Say (answer.Notice notice.AbortDone) ∷ []))
       (notes view notice.NothingToAbort)
@@ -224,7 +224,10 @@ module _ {A R K : Type 0} where
 
   abbrev pub opens : View → Passive → Plan A R K
   opens view passive =
-      Then (record view { prepared = false; begun = AwaitsPort passive }) (action.OpenPassive ∷ [])
+      Then (record view { prepared = false; work = AwaitsPort passive }) (action.OpenPassive ∷ [])
+
+  abbrev pub pasv_row : View → Plan A R K
+  pasv_row view = opens view Plain
 
   abbrev pub epsv_row : View → ExtendedPassive → Plan A R K
   epsv_row view extended.Same = opens view Extended

@@ -1,6 +1,6 @@
 -- A step of a session: the line that is served in it, and the points at which lack of memory may
 -- stop it.
-use Rattle.std.specs.Prelude.{ℕ, ◌≡◌, ◌&&◌, Bool, true, false, not, List, [], ◌∷◌, Option, Some, None, Ok}
+use Rattle.std.specs.Prelude.{ℕ, ◌≡◌, ◌&&◌, Bool, true, false, List, [], ◌∷◌, Option, Some, None, Ok}
 use Rattle.authorizer.specs.Users.{Users}
 use Rattle.ftp_wire.specs.Items.{Item}
 use Rattle.ftp_wire.specs.Reading.{item_of}
@@ -10,11 +10,9 @@ use Rattle.virtual_tree.specs.Calls.{Exchange}
 use Rattle.session_table.specs.declared.actions.Action.{Action}
 use Rattle.session_table.specs.declared.inputs.Input.{Input}
 use Rattle.session_table.specs.declared.inputs.Input.TheVariants as input
-use Rattle.session_table.specs.declared.stages.Control.{Control}
-use Rattle.session_table.specs.declared.stages.Control.TheVariants.{Open, Quitting, Closing}
 use Rattle.session_table.specs.Plans.{Ran, Stops}
 use Rattle.session_table.specs.Table.{Taken, table}
-use Rattle.session_table.specs.Views.{View, is_busy, is_closed}
+use Rattle.session_table.specs.Views.{View, serves_lines}
 
 -- the state of a session, and its held lines
 pub record Standing : Type 0 where
@@ -35,19 +33,6 @@ unfoldable pub SessionStops : {S A R K : Type 0} → (S → Exchange R K → S �
 SessionStops {R = R} Step users view held moment told old new =
     Stops Step (table {R = R} users view held moment told).plan old new
 
-abbrev pub is_open : Control → Bool
-is_open Open = true
-is_open Quitting = false
-is_open Closing = false
-
--- lines count while the control connection is open
-abbrev pub counts_lines : View → Bool
-counts_lines view = not (is_closed view.stage) && is_open view.control
-
--- lines are served in their turn while nothing is begun
-abbrev pub serves_lines : View → Bool
-serves_lines view = counts_lines view && not (is_busy view.begun)
-
 abbrev pub holds_some : List Item → Bool
 holds_some [] = false
 holds_some (first ∷ others) = true
@@ -59,12 +44,8 @@ is_due view held = serves_lines view && holds_some held
 -- the line whose turn it is: the new one if no line waits, otherwise the first of those that wait
 abbrev pub in_its_turn : {A K : Type 0} → Input A K → List Item → Option Item
 in_its_turn (input.Line item) [] = Some (item_of item)
-in_its_turn (input.Line item) (first ∷ others) = None
-in_its_turn input.Held [] = None
 in_its_turn input.Held (first ∷ others) = Some first
-in_its_turn (input.TransferEnded end sink) held = None
-in_its_turn (input.DataReady port) held = None
-in_its_turn input.Closed held = None
+in_its_turn _ held = None
 
 -- PASS
 abbrev pub is_pass : Item → Bool

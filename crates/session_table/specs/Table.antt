@@ -1,11 +1,12 @@
 -- The session table: the plan of each input in each state of a session.
-use Rattle.std.specs.Prelude.{ℕ, ◌≡◌, ◌&&◌, Bool, true, cond, List, [], ◌∷◌, ◌++◌, Option, Some, None, Result, Ok, Err, codes, length, nat_lt}
+use Rattle.std.specs.Prelude.{ℕ, ◌≡◌, ◌&&◌, true, cond, List, [], ◌∷◌, ◌++◌, Bool, Option, Some, None, Result, Ok, Err, codes, length, nat_lt}
 use Rattle.std.specs.Fmt.{decimal}
 use Rattle.authorizer.specs.Users.{Users}
 use Rattle.ftp_reply.specs.Replies.{OneLine}
 use Rattle.ftp_wire.specs.Items.{Item}
 use Rattle.ftp_wire.specs.Reading.{item_of}
 use Rattle.ftp_wire.specs.Written.{port_text}
+use Rattle.virtual_path.specs.Path.{Path}
 use Rattle.virtual_tree.specs.Calls.{Exchange}
 use Rattle.virtual_tree.specs.declared.fault.StoreFault.{StoreFault}
 use Rattle.virtual_tree.specs.declared.fault.StoreFault.TheVariants as fault
@@ -24,22 +25,24 @@ use Rattle.session_table.specs.declared.refusals.Refusal.TheVariants as refusal
 use Rattle.session_table.specs.declared.rules.Conditions.{Conditions}
 use Rattle.session_table.specs.declared.rules.Meanwhile.{Meanwhile}
 use Rattle.session_table.specs.declared.rules.Meanwhile.TheVariants.{Waits, Served, QuitsLater}
+use Rattle.session_table.specs.declared.rules.Rule.{Rule}
 use Rattle.session_table.specs.declared.stages.Control.{Control}
 use Rattle.session_table.specs.declared.stages.Control.TheVariants.{Open, Quitting, Closing}
+use Rattle.session_table.specs.declared.stages.Errand.{Errand}
+use Rattle.session_table.specs.declared.stages.Errand.TheVariants.{Listing, Sending, Taking}
 use Rattle.session_table.specs.declared.stages.Passive.{Passive}
 use Rattle.session_table.specs.declared.stages.Passive.TheVariants.{Plain, Extended}
 use Rattle.session_table.specs.declared.stages.Stage.TheVariants as stage
+use Rattle.session_table.specs.declared.stages.Work.TheVariants.{Idle}
 use Rattle.rate_floors.specs.Promises.{Promises}
 use Rattle.session_table.specs.Calls.Call.{Finish}
-use Rattle.session_table.specs.Judged.{Location, at_once, first_refusal, judged_at, located}
+use Rattle.session_table.specs.Judged.{at_once, first_refusal}
 use Rattle.session_table.specs.Plans.{Plan, Ran}
 use Rattle.session_table.specs.Plans.Plan.{Then, WithLine, WithLines, Ask, AskAdmit}
-use Rattle.session_table.specs.Rules.{Row, Rule, rule}
-use Rattle.session_table.specs.Rules.Row.{Alone, At}
+use Rattle.session_table.specs.Rows.{row_plan}
+use Rattle.session_table.specs.Rules.{rule}
 use Rattle.session_table.specs.StateRows.{leaves, quit_after, refuses}
-use Rattle.session_table.specs.Views.{View, Carried, awaited, is_aborted, is_busy, is_closed, is_inside, running, runs}
-use Rattle.session_table.specs.Views.Begun.{Idle}
-use Rattle.session_table.specs.Views.Carried.{Listing, Sending, Taking}
+use Rattle.session_table.specs.Views.{View, awaited, awaits_ports, counts_lines, is_aborted, is_busy, is_closed, is_inside, running, runs, serves_lines}
 
 -- maximum number of held lines
 abbrev pub most_held : ℕ
@@ -92,38 +95,29 @@ module _ {A R K : Type 0} where
   then_left change (Ask call next) = Ask call (λ answer. then_left change (next answer))
   then_left change (AskAdmit user next) = AskAdmit user (λ fits. then_left change (next fits))
 
-  abbrev pub at_found : View → (Location → Plan A R K) → Result Location Refusal → Plan A R K
-  at_found view row (Err why) = refuses view why
-  at_found view row (Ok location) = row location
-
-  -- 5 to 8: a row, at its location if it has one
-  abbrev pub row_plan : Users → View → Conditions → Row A R K → Plan A R K
-  row_plan users view conditions (Alone plan) = plan
-  row_plan users view conditions (At letter text row) =
-      at_found view row (judged_at users view conditions letter (located users view text))
-
   abbrev pub unless_refuses : View → Option Refusal → Plan A R K → Plan A R K
   unless_refuses view (Some why) plan = refuses view why
   unless_refuses view None plan = plan
 
   -- the first refusal of a command, or its row
-  unfoldable pub ruled : Users → View → Rule A R K → Plan A R K
-  ruled users view rule =
+  unfoldable pub ruled : Users → View → ℕ → Rule (List ℕ) → Plan A R K
+  ruled users view moment rule =
       unless_refuses view (first_refusal (at_once view rule.conditions))
-      (row_plan users view rule.conditions rule.row)
+      (row_plan users view moment rule.conditions rule.row)
 
-  abbrev pub served_by : Users → View → Rule A R K → Plan A R K
-  served_by users view rule = then_left (left rule.conditions) (ruled users view rule)
+  abbrev pub served_by : Users → View → ℕ → Rule (List ℕ) → Plan A R K
+  served_by users view moment rule =
+      then_left (left rule.conditions) (ruled users view moment rule)
 
   -- a served line
   abbrev pub served : Users → View → ℕ → Item → Plan A R K
   served users view moment (Err why) =
       Then (record view { source = None }) (action.Say (answer.Fault why) ∷ [])
-  served users view moment (Ok command) = served_by users view (rule users view moment command)
+  served users view moment (Ok command) = served_by users view moment (rule command)
 
   -- a transfer that runs is aborted
   abbrev pub aborts : View → List (Action A R K)
-  aborts view = cond (runs view.begun) (action.Abort ∷ []) []
+  aborts view = cond (runs view.work) (action.Abort ∷ []) []
 
   -- a line that must wait, after the held lines
   abbrev pub holds : View → List Item → Item → Taken A R K
@@ -142,15 +136,12 @@ module _ {A R K : Type 0} where
   meanwhile_as view held item plan QuitsLater =
       record { plan = Then (record view { control = Quitting }) []; held = held }
 
-  abbrev pub meanwhile_by : Users → View → List Item → Item → Rule A R K → Taken A R K
-  meanwhile_by users view held item rule =
-      meanwhile_as view held item (served_by users view rule) rule.conditions.meanwhile
-
   -- a line while a transfer runs or a passive port is awaited
   abbrev pub meanwhile : Users → View → List Item → ℕ → Item → Taken A R K
   meanwhile users view held moment (Err why) = holds view held (Err why)
   meanwhile users view held moment (Ok command) =
-      meanwhile_by users view held (Ok command) (rule users view moment command)
+      meanwhile_as view held (Ok command) (served users view moment (Ok command))
+      (rule command).conditions.meanwhile
 
   -- a line while nothing is begun: it waits if others wait
   abbrev pub in_turn : Users → View → ℕ → Item → List Item → Taken A R K
@@ -159,7 +150,7 @@ module _ {A R K : Type 0} where
 
   abbrev pub line_row : Users → View → List Item → ℕ → Item → Taken A R K
   line_row users view held moment item =
-      cond (is_busy view.begun) (meanwhile users view held moment item)
+      cond (is_busy view.work) (meanwhile users view held moment item)
       (in_turn users view moment item held)
 
   -- the first of the held lines
@@ -176,10 +167,10 @@ module _ {A R K : Type 0} where
 
   abbrev pub ready_as : Users → View → Passive → Option ℕ → Plan A R K
   ready_as users view passive (Some port) =
-      and_quits users (record view { begun = Idle; prepared = true })
+      and_quits users (record view { work = Idle; prepared = true })
       (action.Say (port_told view passive port) ∷ []) view.control
   ready_as users view passive None =
-      and_quits users (record view { begun = Idle })
+      and_quits users (record view { work = Idle })
       (action.Say (answer.Refusal refusal.NoPassivePort) ∷ []) view.control
 
   -- a port that nothing awaits is not reported
@@ -188,10 +179,10 @@ module _ {A R K : Type 0} where
   ready_by users view port (Some passive) = ready_as users view passive port
 
   abbrev pub ready_row : Users → View → Option ℕ → Plan A R K
-  ready_row users view port = ready_by users view port (awaited view.begun)
+  ready_row users view port = ready_by users view port (awaited view.work)
 
   -- the event for a handler at the end of a transfer of a file
-  abbrev pub end_hook : Carried → End → List (Action A R K)
+  abbrev pub end_hook : Errand Path → End → List (Action A R K)
   end_hook Listing end = []
   end_hook (Sending path) ended.Done = action.Hook (hook.FileSent path) ∷ []
   end_hook (Sending path) _ = action.Hook (hook.IncompleteFileSent path) ∷ []
@@ -205,28 +196,28 @@ module _ {A R K : Type 0} where
   end_reply Quitting aborted reply = cond aborted [] (action.Say reply ∷ [])
 
   -- after Closed there is no client
-  abbrev pub end_row : Users → View → Carried → Bool → End → Result (Unit {0}) StoreFault
+  abbrev pub end_row : Users → View → Errand Path → Bool → End → Result (Unit {0}) StoreFault
       → Plan A R K
   end_row users view errand aborted end finished =
-      cond (is_closed view.stage) (Then (record view { begun = Idle }) [])
-      (and_quits users (record view { begun = Idle })
+      cond (is_closed view.stage) (Then (record view { work = Idle }) [])
+      (and_quits users (record view { work = Idle })
       (end_reply view.control aborted (end_told end finished) ++ end_hook errand end) view.control)
 
   -- a returned sink is finished in every case
-  abbrev pub ended_with : Users → View → ℕ → Carried → Bool → End → Option K → Plan A R K
+  abbrev pub ended_with : Users → View → ℕ → Errand Path → Bool → End → Option K → Plan A R K
   ended_with users view moment errand aborted end (Some sink) =
       Ask (Finish sink moment) (end_row users view errand aborted end)
   ended_with users view moment errand aborted end None =
       end_row users view errand aborted end (Ok tt)
 
   -- an end that nothing awaits is not reported either
-  abbrev pub ended_by : Users → View → ℕ → End → Option K → Option Carried → Plan A R K
+  abbrev pub ended_by : Users → View → ℕ → End → Option K → Option (Errand Path) → Plan A R K
   ended_by users view moment end sink None = idle view
   ended_by users view moment end sink (Some errand) =
-      ended_with users view moment errand (is_aborted view.begun) end sink
+      ended_with users view moment errand (is_aborted view.work) end sink
 
   abbrev pub ended_row : Users → View → ℕ → End → Option K → Plan A R K
-  ended_row users view moment end sink = ended_by users view moment end sink (running view.begun)
+  ended_row users view moment end sink = ended_by users view moment end sink (running view.work)
 
   -- the control connection is gone
   abbrev pub closed_row : View → Plan A R K
@@ -238,48 +229,18 @@ module _ {A R K : Type 0} where
   abbrev pub beside : List Item → Plan A R K → Taken A R K
   beside held plan = record { plan = plan; held = held }
 
-  -- lines, held lines and ports count while the control connection is open; a port counts for a
-  -- QUIT that waits too
-  abbrev pub open_row : Users → View → List Item → ℕ → Input A K → Taken A R K
-  open_row users view held moment (input.Line item) = line_row users view held moment (item_of item)
-  open_row users view held moment input.Held =
-      cond (is_busy view.begun) (beside held (idle view)) (held_row users view moment held)
-  open_row users view held moment (input.TransferEnded end sink) =
-      beside held (ended_row users view moment end sink)
-  open_row users view held moment (input.DataReady port) = beside held (ready_row users view port)
-  open_row users view held moment input.Closed = beside held (closed_row view)
-
-  abbrev pub quitting_row : Users → View → ℕ → Input A K → Plan A R K
-  quitting_row users view moment (input.TransferEnded end sink) =
-      ended_row users view moment end sink
-  quitting_row users view moment (input.DataReady port) = ready_row users view port
-  quitting_row users view moment input.Closed = closed_row view
-  quitting_row users view moment _ = idle view
-
-  -- after CloseControl only the end of a transfer and Closed count
-  abbrev pub closing_row : Users → View → ℕ → Input A K → Plan A R K
-  closing_row users view moment (input.TransferEnded end sink) =
-      ended_row users view moment end sink
-  closing_row users view moment input.Closed = closed_row view
-  closing_row users view moment _ = idle view
-
-  -- after Closed a returned sink is finished, and there are no actions
-  abbrev pub after_closed : Users → View → ℕ → Input A K → Plan A R K
-  after_closed users view moment (input.TransferEnded end sink) =
-      ended_row users view moment end sink
-  after_closed users view moment _ = idle view
-
-  abbrev pub controlled : Users → View → List Item → ℕ → Input A K → Control → Taken A R K
-  controlled users view held moment told Open = open_row users view held moment told
-  controlled users view held moment told Quitting =
-      beside held (quitting_row users view moment told)
-  controlled users view held moment told Closing = beside held (closing_row users view moment told)
-
-  -- the whole table
+  -- the whole table; the end of a transfer counts in every state, so a returned sink is finished
   abbrev pub table : Users → View → List Item → ℕ → Input A K → Taken A R K
-  table users view held moment told =
-      cond (is_closed view.stage) (beside held (after_closed users view moment told))
-      (controlled users view held moment told view.control)
+  table users view held moment (input.Line item) = cond (counts_lines view)
+      (line_row users view held moment (item_of item)) (beside held (idle view))
+  table users view held moment input.Held = cond (serves_lines view)
+      (held_row users view moment held) (beside held (idle view))
+  table users view held moment (input.TransferEnded end sink) =
+      beside held (ended_row users view moment end sink)
+  table users view held moment (input.DataReady port) =
+      beside held (cond (awaits_ports view) (ready_row users view port) (idle view))
+  table users view held moment input.Closed =
+      beside held (cond (is_closed view.stage) (idle view) (closed_row view))
 
 -- The effect of an input on the state of the session, its held lines, the store and the guarantees;
 -- and the actions.

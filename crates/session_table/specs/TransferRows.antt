@@ -5,13 +5,10 @@ use Rattle.std.specs.FinMap as finite
 use Rattle.authorizer.specs.Users.{Users, letters_at}
 use Rattle.ftp_terms.specs.declared.letters.Letters.{Letters}
 use Rattle.ftp_reply.specs.Replies.{SeveralLines}
-use Rattle.ftp_terms.specs.declared.entries.EntryKind.{EntryKind}
-use Rattle.ftp_terms.specs.declared.entries.EntryKind.TheVariants as kind
 use Rattle.ftp_terms.specs.declared.entries.Meta.{Meta}
 use Rattle.virtual_path.specs.Path.{Path, child_of, path_text}
 use Rattle.virtual_path.specs.declared.fault.PathFault.{PathFault}
 use Rattle.virtual_tree.specs.Calls.{Entry}
-use Rattle.virtual_tree.specs.declared.fault.StoreFault.{StoreFault}
 use Rattle.virtual_tree.specs.declared.mode.WriteMode.{WriteMode}
 use Rattle.virtual_tree.specs.declared.mode.WriteMode.TheVariants as mode
 use Rattle.session_table.specs.declared.actions.Action.TheVariants as action
@@ -20,23 +17,20 @@ use Rattle.session_table.specs.declared.actions.Job.TheVariants as job
 use Rattle.session_table.specs.declared.answers.Answer.TheVariants as answer
 use Rattle.session_table.specs.declared.notices.Notice.TheVariants as notice
 use Rattle.session_table.specs.declared.refusals.Refusal.TheVariants as refusal
+use Rattle.session_table.specs.declared.rules.Style.{Style}
+use Rattle.session_table.specs.declared.rules.Style.TheVariants.{LongLines, Names, FactLines}
+use Rattle.session_table.specs.declared.stages.Errand.{Errand}
+use Rattle.session_table.specs.declared.stages.Errand.TheVariants.{Listing, Sending, Taking}
+use Rattle.session_table.specs.declared.stages.Work.TheVariants.{Transfers}
 use Rattle.session_table.specs.Calls.{Call}
-use Rattle.session_table.specs.FileRows.{store_refuses}
+use Rattle.session_table.specs.FileRows.{by_kind, unless_fault}
 use Rattle.session_table.specs.Judged.{Location}
 use Rattle.session_table.specs.Plans.{Plan}
 use Rattle.session_table.specs.Plans.Plan.{Then, WithLine, WithLines, Ask}
 use Rattle.session_table.specs.StateRows.{refuses, tells}
 use Rattle.session_table.specs.Texts.{Told, ended_lines}
 use Rattle.session_table.specs.Texts.Told.{LongLine, NameLine, FactLine}
-use Rattle.session_table.specs.Views.{View, Carried}
-use Rattle.session_table.specs.Views.Carried.{Listing, Sending, Taking}
-use Rattle.session_table.specs.Views.Begun.{Transfers}
-
--- the style of a listing
-pub data Style : Type 0 where
-  LongLines : Style
-  Names : Style
-  FactLines : Style
+use Rattle.session_table.specs.Views.{View}
 
 abbrev pub no_letters : Letters
 no_letters =
@@ -81,30 +75,28 @@ store_mode offset = cond (nat_lt 0 offset) (mode.At offset) mode.New
 
 module _ {A R K : Type 0} where
   -- a transfer uses up the prepared data connection
-  abbrev pub starts : View → Carried → Job A R K → Plan A R K
-  starts view errand what = Then (record view { prepared = false; begun = Transfers errand })
+  abbrev pub starts : View → Errand Path → Job A R K → Plan A R K
+  starts view errand what = Then (record view { prepared = false; work = Transfers errand })
       (action.Say (answer.Notice notice.Opening) ∷ action.Start what ∷ [])
 
-  abbrev pub sends : View → Path → Result R StoreFault → Plan A R K
-  sends view path (Err why) = store_refuses view why
-  sends view path (Ok source) = starts view (Sending path) (job.SendFile source view.data_type)
+  abbrev pub reads : View → ℕ → Location → Plan A R K
+  reads view offset location = Ask (Call.OpenRead location.stored offset)
+      (unless_fault view (λ source.
+      starts view (Sending location.path) (job.SendFile source view.data_type)))
 
   abbrev pub retr_row : View → Location → Plan A R K
-  retr_row view location =
-      Ask (Call.OpenRead location.stored view.offset) (sends view location.path)
+  retr_row view = reads view view.offset
 
-  abbrev pub takes : View → Path → Result K StoreFault → Plan A R K
-  takes view path (Err why) = store_refuses view why
-  takes view path (Ok sink) = starts view (Taking path) (job.TakeFile sink view.data_type)
+  abbrev pub writes : View → WriteMode → ℕ → Location → Plan A R K
+  writes view mode moment location = Ask (Call.OpenWrite location.stored mode moment)
+      (unless_fault view (λ sink.
+      starts view (Taking location.path) (job.TakeFile sink view.data_type)))
 
   abbrev pub stor_row : View → ℕ → Location → Plan A R K
-  stor_row view moment location =
-      Ask (Call.OpenWrite location.stored (store_mode view.offset) moment)
-      (takes view location.path)
+  stor_row view = writes view (store_mode view.offset)
 
   abbrev pub appe_row : View → ℕ → Location → Plan A R K
-  appe_row view moment location =
-      Ask (Call.OpenWrite location.stored mode.Append moment) (takes view location.path)
+  appe_row view = writes view mode.Append
 
   -- the entries of a listing, one line each
   abbrev pub lists : Users → View → Path → Style → (List (List ℕ) → Plan A R K) → List Entry
@@ -112,55 +104,42 @@ module _ {A R K : Type 0} where
   lists users view above style next entries =
       WithLines (map (entry_told users view above style) entries) next
 
-  abbrev pub listed_by : View → (List Entry → Plan A R K) → Result (List Entry) StoreFault
+  -- the entries of a directory
+  abbrev pub lists_directory : Users → View → Style → Location → (List (List ℕ) → Plan A R K)
       → Plan A R K
-  listed_by view next (Err why) = store_refuses view why
-  listed_by view next (Ok entries) = next entries
+  lists_directory users view style location next = Ask (Call.Listing location.stored)
+      (unless_fault view (lists users view location.path style next))
 
-  -- a directory's entries, or the file itself
-  abbrev pub looked_in : View → Location → (List Entry → Plan A R K) → (Meta → Plan A R K) → Meta
-      → EntryKind → Plan A R K
-  looked_in view location next of_file meta kind.Directory =
-      Ask (Call.Listing location.stored) (listed_by view next)
-  looked_in view location next of_file meta kind.File = of_file meta
-
-  abbrev pub looked_by : View → Location → (List Entry → Plan A R K) → (Meta → Plan A R K)
-      → Result Meta StoreFault → Plan A R K
-  looked_by view location next of_file (Err why) = store_refuses view why
-  looked_by view location next of_file (Ok meta) =
-      looked_in view location next of_file meta meta.kind
+  -- the entries of a directory, or a file itself
+  abbrev pub lists_location : Users → View → Style → Location → (List (List ℕ) → Plan A R K)
+      → Plan A R K
+  lists_location users view style location next = Ask (Call.Stat location.stored)
+      (unless_fault view (λ meta. by_kind (lists_directory users view style location next)
+      (lists users view location.path style next (itself location.path meta)) meta.kind))
 
   abbrev pub sends_lines : View → List (List ℕ) → Plan A R K
   sends_lines view lines = starts view Listing (job.Text (ended_lines lines))
 
   -- LIST and NLST
   abbrev pub list_row : Users → View → Style → Location → Plan A R K
-  list_row users view style location = Ask (Call.Stat location.stored) (looked_by view location
-      (lists users view location.path style (sends_lines view))
-      (λ meta. lists users view location.path style (sends_lines view) (itself location.path meta)))
+  list_row users view style location = lists_location users view style location (sends_lines view)
 
   abbrev pub mlsd_row : Users → View → Location → Plan A R K
-  mlsd_row users view location = Ask (Call.Stat location.stored) (looked_by view location
-      (lists users view location.path FactLines (sends_lines view))
-      (λ meta. refuses view refusal.ListsNoFile))
+  mlsd_row users view location = Ask (Call.Stat location.stored) (unless_fault view (λ meta. by_kind
+      (lists_directory users view FactLines location (sends_lines view))
+      (refuses view refusal.ListsNoFile) meta.kind))
 
-  -- STAT with an argument
   abbrev pub status_lines : View → List (List ℕ) → Plan A R K
   status_lines view lines =
       tells view (answer.Made (SeveralLines 213 (codes "Status") lines (codes "End")))
 
+  -- STAT with an argument
   abbrev pub stat_row : Users → View → Location → Plan A R K
-  stat_row users view location = Ask (Call.Stat location.stored) (looked_by view location
-      (lists users view location.path LongLines (status_lines view))
-      (λ meta. lists users view location.path LongLines (status_lines view)
-      (itself location.path meta)))
-
-  abbrev pub mlst_by : Users → View → Path → Result Meta StoreFault → Plan A R K
-  mlst_by users view path (Err why) = store_refuses view why
-  mlst_by users view path (Ok meta) =
-      WithLine (FactLine meta view.facts (letters_held users view.name path) (path_text path))
-      (λ line. tells view (answer.Made
-      (SeveralLines 250 (codes "Listing") ((codes " " ++ line) ∷ []) (codes "End"))))
+  stat_row users view location =
+      lists_location users view LongLines location (status_lines view)
 
   abbrev pub mlst_row : Users → View → Location → Plan A R K
-  mlst_row users view location = Ask (Call.Stat location.stored) (mlst_by users view location.path)
+  mlst_row users view location = Ask (Call.Stat location.stored) (unless_fault view (λ meta.
+      WithLine (FactLine meta view.facts (letters_held users view.name location.path)
+      (path_text location.path)) (λ line. tells view (answer.Made
+      (SeveralLines 250 (codes "Listing") ((codes " " ++ line) ∷ []) (codes "End"))))))

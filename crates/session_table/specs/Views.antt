@@ -1,5 +1,5 @@
 -- The state of a session.
-use Rattle.std.specs.Prelude.{ℕ, Bool, true, false, List, [], Option, Some, None}
+use Rattle.std.specs.Prelude.{ℕ, ◌&&◌, Bool, true, false, not, List, [], Option, Some, None, is_some}
 use Rattle.ftp_terms.specs.declared.data_type.DataType.{DataType}
 use Rattle.ftp_terms.specs.declared.data_type.DataType.TheVariants.{Ascii}
 use Rattle.ftp_terms.specs.declared.facts.Facts.{Facts}
@@ -7,38 +7,13 @@ use Rattle.ftp_terms.specs.LineText.{text_of}
 use Rattle.virtual_path.specs.Path.{Path}
 use Rattle.session_table.specs.declared.settings.Settings.{Settings}
 use Rattle.session_table.specs.declared.stages.Control.{Control}
-use Rattle.session_table.specs.declared.stages.Control.TheVariants.{Open}
+use Rattle.session_table.specs.declared.stages.Control.TheVariants.{Open, Closing}
 use Rattle.session_table.specs.declared.stages.Errand.{Errand}
-use Rattle.session_table.specs.declared.stages.Errand.TheVariants as errand
 use Rattle.session_table.specs.declared.stages.Passive.{Passive}
 use Rattle.session_table.specs.declared.stages.Stage.{Stage}
 use Rattle.session_table.specs.declared.stages.Stage.TheVariants as stage
 use Rattle.session_table.specs.declared.stages.Work.{Work}
-use Rattle.session_table.specs.declared.stages.Work.TheVariants as work
-
--- the content of a transfer; a file by the user's path
-pub data Carried : Type 0 where
-  Listing : Carried
-  Sending : Path → Carried
-  Taking : Path → Carried
-
--- the work in progress
-pub data Begun : Type 0 where
-  Idle : Begun
-  AwaitsPort : Passive → Begun
-  Transfers : Carried → Begun
-  Aborted : Carried → Begun
-
-abbrev pub carried : {A : Type 0} → Errand A → Carried
-carried errand.Listing = Listing
-carried (errand.Sending path) = Sending path
-carried (errand.Taking path) = Taking path
-
-abbrev pub begun : {A : Type 0} → Work A → Begun
-begun work.Idle = Idle
-begun (work.AwaitsPort passive) = AwaitsPort passive
-begun (work.Transfers errand) = Transfers (carried errand)
-begun (work.Aborted errand) = Aborted (carried errand)
+use Rattle.session_table.specs.declared.stages.Work.TheVariants.{Idle, AwaitsPort, Transfers, Aborted}
 
 pub record View : Type 0 where
   -- settings of the server
@@ -66,70 +41,72 @@ pub record View : Type 0 where
   pub prepared : Bool
   -- the store's path that RNFR named
   pub source : Option Path
-  pub begun : Begun
+  pub work : Work Path
 
 abbrev pub all_facts : Facts
 all_facts = record { kind = true; size = true; modify = true; perm = true }
 
 abbrev pub is_inside : Stage → Bool
-is_inside stage.Greeted = false
-is_inside stage.Named = false
 is_inside stage.Inside = true
-is_inside stage.Closed = false
+is_inside _ = false
 
 abbrev pub is_closed : Stage → Bool
-is_closed stage.Greeted = false
-is_closed stage.Named = false
-is_closed stage.Inside = false
 is_closed stage.Closed = true
+is_closed _ = false
 
 -- an aborted transfer counts as none
-abbrev pub has_transfer : Begun → Bool
-has_transfer Idle = false
-has_transfer (AwaitsPort passive) = false
+abbrev pub has_transfer : Work Path → Bool
 has_transfer (Transfers errand) = true
-has_transfer (Aborted errand) = false
+has_transfer _ = false
 
 -- the command that awaits a passive port
-abbrev pub awaited : Begun → Option Passive
-awaited Idle = None
+abbrev pub awaited : Work Path → Option Passive
 awaited (AwaitsPort passive) = Some passive
-awaited (Transfers errand) = None
-awaited (Aborted errand) = None
+awaited _ = None
 
 -- the content of a transfer that has not ended
-abbrev pub running : Begun → Option Carried
-running Idle = None
-running (AwaitsPort passive) = None
+abbrev pub running : Work Path → Option (Errand Path)
 running (Transfers errand) = Some errand
 running (Aborted errand) = Some errand
+running _ = None
 
-abbrev pub is_aborted : Begun → Bool
-is_aborted Idle = false
-is_aborted (AwaitsPort passive) = false
-is_aborted (Transfers errand) = false
+abbrev pub is_aborted : Work Path → Bool
 is_aborted (Aborted errand) = true
+is_aborted _ = false
 
 -- a transfer that runs is aborted
-abbrev pub aborted : Begun → Begun
-aborted Idle = Idle
-aborted (AwaitsPort passive) = AwaitsPort passive
+abbrev pub aborted : Work Path → Work Path
 aborted (Transfers errand) = Aborted errand
-aborted (Aborted errand) = Aborted errand
+aborted work = work
 
 -- a transfer has not ended
-abbrev pub runs : Begun → Bool
-runs Idle = false
-runs (AwaitsPort passive) = false
-runs (Transfers errand) = true
-runs (Aborted errand) = true
+abbrev pub runs : Work Path → Bool
+runs work = is_some (running work)
 
 -- a transfer runs, or a passive port is awaited
-abbrev pub is_busy : Begun → Bool
+abbrev pub is_busy : Work Path → Bool
 is_busy Idle = false
-is_busy (AwaitsPort passive) = true
-is_busy (Transfers errand) = true
-is_busy (Aborted errand) = true
+is_busy _ = true
+
+abbrev pub is_open : Control → Bool
+is_open Open = true
+is_open _ = false
+
+abbrev pub is_closing : Control → Bool
+is_closing Closing = true
+is_closing _ = false
+
+-- lines count while the control connection is open
+abbrev pub counts_lines : View → Bool
+counts_lines view = not (is_closed view.stage) && is_open view.control
+
+-- lines are served in their turn while nothing is begun
+abbrev pub serves_lines : View → Bool
+serves_lines view = counts_lines view && not (is_busy view.work)
+
+-- ports count for a QUIT that waits too
+abbrev pub awaits_ports : View → Bool
+awaits_ports view = not (is_closed view.stage) && not (is_closing view.control)
 
 -- the parameters of a new client: those of RFC 959, section 5.1, except that data are never sent
 -- unprepared
@@ -164,5 +141,5 @@ fresh settings peer = record {
   only_extended = false;
   prepared = false;
   source = None;
-  begun = Idle;
+  work = Idle;
 }

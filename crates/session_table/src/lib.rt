@@ -1,12 +1,12 @@
 //! The session table: the reply to each line of a control connection, the calls of the store, and the actions; and the
 //! laws of every step.
 //!
-//! The table itself is in `specs/`: `Rules` has the rule of each command, which is its conditions and its row; `Judged`
-//! has the refusals of a line, in their order; `StateRows`, `FileRows` and `TransferRows` have the rows as plans, each
-//! of which asks the store or the guaranteed rates, or ends with the state of the session and the actions; `Table` has
-//! each input in each stage. `Laws` has the laws of every step,
-//! whatever a client sends and a store answers: each function of `laws.rt` has one of them as its contract. The rest of
-//! the code is the types of the table.
+//! The table itself is in `specs/`: `Rules` has the rule of each command, which is its conditions and the name of its
+//! row; `Judged` has the refusals of a line, in their order; `StateRows`, `FileRows` and `TransferRows` have the rows as
+//! plans, each of which asks the store or the guaranteed rates, or ends with the state of the session and the actions;
+//! `Rows` has the row of each name; `Table` has each input in each stage. `Laws` has the laws of every step, whatever a
+//! client sends and a store answers: each function of `laws.rt` has one of them as its contract. The rest of the code is
+//! the types of the table.
 //!
 //! ```text
 //! let answer: Answer = Answer::Refusal(Refusal::LogInFirst);
@@ -35,7 +35,9 @@ pub use laws::{
 };
 pub use notices::Notice;
 pub use refusals::Refusal;
-pub use rules::{Conditions, Meanwhile};
+pub use rules::{
+    Conditions, FileRow, LocatedRow, LoginRow, Meanwhile, NamedRow, Rule, StateRow, Style,
+};
 pub use settings::Settings;
 pub use stages::{Control, Errand, Passive, Stage, Work};
 pub use text::{Octets, Text};

@@ -1,8 +1,5 @@
 //! The stage of a session, and its work in progress.
 
-use std::alloc::{Allocator, Global};
-use virtual_path::VPath;
-
 /// The stage of a login.
 #[derive(Clone, Copy, Debug, PartialEq, Eq)]
 pub enum Stage {
@@ -36,22 +33,22 @@ pub enum Passive {
     Extended,
 }
 
-/// The content of a transfer; a file by the user's path.
+/// The content of a transfer; a file by the user's path, a `P`.
 #[derive(Drop)]
-pub enum Errand<A: Allocator = Global> {
+pub enum Errand<P> {
     Listing,
-    Sending(VPath<A>),
-    Taking(VPath<A>),
+    Sending(P),
+    Taking(P),
 }
 
 /// The work in progress of a session.
 #[derive(Drop)]
-pub enum Work<A: Allocator = Global> {
+pub enum Work<P> {
     Idle,
     /// A passive port is awaited.
     AwaitsPort(Passive),
     /// A transfer runs.
-    Transfers(Errand<A>),
+    Transfers(Errand<P>),
     /// A transfer was aborted, and its end is awaited.
-    Aborted(Errand<A>),
+    Aborted(Errand<P>),
 }

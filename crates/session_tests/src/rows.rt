@@ -9,10 +9,10 @@ use handler_hooks::{Hooks, run_hooks};
 use memory_store::MemStore;
 use rate_floors::Floors;
 use session_events::{close, end_transfer, take_port};
-use session_file_rows::{Style, list, make_directory, rename_from, retrieve, store_file};
+use session_file_rows::{list_row, mkd_row, retr_row, rnfr_row, stor_row};
 use session_state::{Location, State};
-use session_state_rows::{check_password, greet, name_user, open_passive, set_offset, set_type};
-use session_table::{End, Notice, Passive};
+use session_state_rows::{greeting, pass_row, pasv_row, rest_row, type_row, user_row};
+use session_table::{End, Notice, Passive, Style};
 use std::alloc::AllocError;
 use std::process::Abort;
 use virtual_path::VPath;
@@ -30,15 +30,15 @@ fn session_login(
     users: &Authorizer,
     floors: &mut Floors,
 ) {
-    says(rt, name_user(state, "ann"), "331 Password required\r\n");
-    let told = check_password(state, users, floors, "secret");
+    says(rt, user_row(state, "ann"), "331 Password required\r\n");
+    let told = pass_row(state, users, floors, "secret");
     says(rt, told, "230 Welcome\r\n"); // else 530
 }
 
 fn session_state_rows(rt: &(impl Abort + AllocGlobal), state: &mut State) {
-    says(rt, set_type(state, DataType::Image), "200 Type is I\r\n");
-    says(rt, set_offset(state, 1000), "350 Restart at 1000\r\n");
-    let told = open_passive(state, Passive::Plain); // a port is asked for: the reply comes with it
+    says(rt, type_row(state, DataType::Image), "200 Type is I\r\n");
+    says(rt, rest_row(state, 1000), "350 Restart at 1000\r\n");
+    let told = pasv_row(state); // a port is asked for: the reply comes with it
     says(rt, told, "");
 }
 
@@ -48,9 +48,9 @@ fn session_file_rows(
     store: &mut MemStore,
     place: Location,
 ) {
-    let told = make_directory(state, store, &place); // or what the store refused
+    let told = mkd_row(state, store, &place); // or what the store refused
     says(rt, told, "257 \"/in\"\r\n");
-    let told = rename_from(state, store, place); // the path is kept for RNTO
+    let told = rnfr_row(state, store, place); // the path is kept for RNTO
     says(rt, told, "350 Send RNTO\r\n");
 }
 
@@ -61,9 +61,9 @@ fn session_transfers(
     missing: Location,
     place: Location,
 ) {
-    let told = retrieve(state, store, missing);
+    let told = retr_row(state, store, missing);
     says(rt, told, "550 No such file or directory\r\n");
-    let told = store_file(state, store, place, 951_827_696_000); // milliseconds since 1970
+    let told = stor_row(state, store, place, 951_827_696_000); // milliseconds since 1970
     says(rt, told, "150 Opening data connection\r\n"); // and a job takes the file
 }
 
@@ -74,7 +74,7 @@ fn session_listings(
     store: &mut MemStore,
     place: &Location,
 ) {
-    let told = list(state, users, store, place, Style::Names);
+    let told = list_row(state, users, store, place, Style::Names);
     says(rt, told, "150 Opening data connection\r\n"); // and a job sends the names
 }
 
@@ -132,7 +132,7 @@ fn handler_hooks(rt: &(impl Abort + AllocGlobal), greeting: &Actions) {
 
 /// The greeting of a new client, and its handler.
 fn greeted(rt: &(impl Abort + AllocGlobal), state: &State) {
-    let greeting = greet(state).expect(rt, "memory");
+    let greeting = greeting(state).expect(rt, "memory");
     handler_hooks(rt, &greeting);
 }
 

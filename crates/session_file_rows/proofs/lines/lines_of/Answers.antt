@@ -1,7 +1,6 @@
 use Rattle.std.proofs.Common.{◌≡◌, ◌∙◌, ◌∷◌, ◌+◌, ◌++◌, [], add-one, ap, drop, drop-cons, get_or, map, refl, subst, sym}
 use Rattle.std.proofs.lemmas.List.{append-nil, drop_all}
 use Rattle.ftp_terms.specs.LineText.{text_of}
-use Rattle.session_file_rows.specs.Listed.{style_of}
 use Rattle.session_table.specs.Texts.{AreTold, IsTold}
 use Rattle.session_table.specs.TransferRows.{entry_told}
 use Rattle.virtual_tree.specs.Calls.{entry_of}
@@ -13,7 +12,7 @@ loop-entry-preserved g c = λ rest told.
     let i = c.loop-entry.entry-index in
     let entries = c.args.entries.now in
     let entry = c.entry-item.result in
-    let f = entry_told c.args.users.now.users c.args.state.now c.args.above.now (style_of c.args.style) in
+    let f = entry_told c.args.users.now.users c.args.state.now c.args.above.now c.args.style in
     let first : drop i entries ≡ entry ∷ drop (i + 1) entries =
     drop-cons entries i entry c.loop-entry-test.true
     ∙ ap (λ j. get_or entries i entry ∷ drop j entries) (sym (add-one i))
@@ -31,7 +30,7 @@ loop-entry-preserved g c = λ rest told.
 pub returns : goal.returns
 returns g c =
     let entries = c.args.entries.now in
-    let f = entry_told c.args.users.now.users c.args.state.now c.args.above.now (style_of c.args.style) in
+    let f = entry_told c.args.users.now.users c.args.state.now c.args.above.now c.args.style in
     let items = c.loop-entry.lines.items in
     record {
       told =

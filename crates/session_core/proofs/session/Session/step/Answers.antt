@@ -1,4 +1,4 @@
-use Rattle.std.proofs.Common.{IfOk, sym, subst}
+use Rattle.std.proofs.Common.{IfOk, refl, sym, subst}
 use Rattle.session_core.proofs.DataRows.{err_through, ok_through}
 use Rattle.std.proofs.lemmas.Result.{IfOk-weaker}
 use Rattle.session_core.specs.Turns.{closed_at, ready_at}
@@ -7,7 +7,6 @@ use Rattle.session_table.specs.declared.inputs.Input.{Input}
 use Rattle.session_table.specs.declared.inputs.Input.TheVariants as input
 use Rattle.session_table.specs.Table.{SessionStep, beside}
 use Rattle.session_core.proofs.Plans.{on_err, on_err_from, ran_then, step_by, step_stops_here}
-use Rattle.session_core.proofs.Tables.{at_closed, at_ready}
 use Rattle.session_core.proofs.session.Session.step.Goals as goal
 
 pub returns-in-TransferEnded-clause-row : goal.returns-in-TransferEnded-clause-row
@@ -31,7 +30,7 @@ returns-in-DataReady-clause-row g c =
     subst (λ (i : Input g.row.A.Denot g.row.S-Sink.Denot). SessionStep {A = g.row.A.Denot} {R = g.row.S-Source.Denot} {K = g.row.S-Sink.Denot} g.S.Store.Step c.args.users.now.users c.args.self.now.view c.args.self.now.held c.args.moment i c.args.store.now c.args.store.now c.args.floors.now c.args.floors.now c.take_port.new.self.view c.take_port.new.self.held actions.items) (sym c.in-DataReady.is)
     (step_by g.S.Store.Step c.args.users.now.users c.args.self.now.view c.args.self.now.held c.args.moment (input.DataReady c.in-DataReady.port)
     (beside c.args.self.now.held (ready_at c.args.users.now.users c.args.self.now.view c.in-DataReady.port)) c.args.store.now c.args.store.now c.args.floors.now c.args.floors.now c.take_port.new.self.view c.take_port.new.self.held actions.items
-    (at_ready c.args.users.now.users c.args.self.now.view c.args.self.now.held c.args.moment c.in-DataReady.port)
+    refl
     (ran_then g.S.Store.Step _ c.take_port.new.self.view actions.items c.args.store.now c.args.floors.now told) c.take_port.ensures.held)) c.take_port.ensures.row
 
 pub returns-in-DataReady-clause-stops : goal.returns-in-DataReady-clause-stops
@@ -44,7 +43,7 @@ returns-in-Closed-clause-row g c =
     subst (λ (i : Input g.row.A.Denot g.row.S-Sink.Denot). SessionStep {A = g.row.A.Denot} {R = g.row.S-Source.Denot} {K = g.row.S-Sink.Denot} g.S.Store.Step c.args.users.now.users c.args.self.now.view c.args.self.now.held c.args.moment i c.args.store.now c.args.store.now c.args.floors.now c.args.floors.now c.close.new.self.view c.close.new.self.held actions.items) (sym c.in-Closed.is)
     (step_by g.S.Store.Step c.args.users.now.users c.args.self.now.view c.args.self.now.held c.args.moment input.Closed
     (beside c.args.self.now.held (closed_at c.args.self.now.view)) c.args.store.now c.args.store.now c.args.floors.now c.args.floors.now c.close.new.self.view c.close.new.self.held actions.items
-    (at_closed c.args.users.now.users c.args.self.now.view c.args.self.now.held c.args.moment)
+    refl
     (ran_then g.S.Store.Step _ c.close.new.self.view actions.items c.args.store.now c.args.floors.now told) c.close.ensures.held)) c.close.ensures.row
 
 pub returns-in-Closed-clause-stops : goal.returns-in-Closed-clause-stops

@@ -4,10 +4,10 @@ use Rattle.std.proofs.lemmas.List.{length-map}
 use Rattle.std.specs.Vec.{vec_len}
 use Rattle.std.proofs.lemmas.Result.{IfOk-weaker}
 use Rattle.ftp_wire.specs.Reading.{item_of, items_of}
-use Rattle.session_table.specs.Steps.{SessionStops, Standing, counts_lines}
+use Rattle.session_table.specs.Steps.{SessionStops, Standing}
 use Rattle.session_table.specs.declared.inputs.Input.TheVariants as input
 use Rattle.session_table.specs.Table.{SessionStep, beside, holds, idle, meanwhile, served}
-use Rattle.session_table.specs.Views.{is_busy}
+use Rattle.session_table.specs.Views.{counts_lines, is_busy}
 use Rattle.session_core.proofs.Plans.{on_err, on_err_from, ran_then, step_by, step_stops_here, stops_by}
 use Rattle.session_core.proofs.Tables.{at_busy_line, at_idle_line, at_shut_line, in_turn_alone, in_turn_behind}
 use Rattle.session_core.proofs.Waiting.{no_items, positive}
@@ -27,7 +27,7 @@ returns-then-not-is_open-clause-stops g c =
 
 pub returns-then-is_busy-clause-row : goal.returns-then-is_busy-clause-row
 returns-then-is_busy-clause-row g c =
-    let busy = sym (ap (λ (s : Standing). is_busy s.view.begun) c.self.view_is) ∙ (sym c.is_busy.ensures.busy ∙ c.if-is_busy.true) in
+    let busy = sym (ap (λ (s : Standing). is_busy s.view.work) c.self.view_is) ∙ (sym c.is_busy.ensures.busy ∙ c.if-is_busy.true) in
     IfOk-weaker c.take_meanwhile.result _ _ (λ actions took.
     step_by g.S.Store.Step c.args.users.now.users c.args.self.now.view c.args.self.now.held c.args.moment (input.Line c.args.item)
     (meanwhile c.args.users.now.users c.args.self.now.view c.args.self.now.held c.args.moment (item_of c.args.item)) c.args.store.now c.take_meanwhile.new.store c.args.floors.now c.take_meanwhile.new.floors c.take_meanwhile.new.self.view c.take_meanwhile.new.self.held actions.items
@@ -36,7 +36,7 @@ returns-then-is_busy-clause-row g c =
 
 pub returns-then-is_busy-clause-stops : goal.returns-then-is_busy-clause-stops
 returns-then-is_busy-clause-stops g c =
-    let busy = sym (ap (λ (s : Standing). is_busy s.view.begun) c.self.view_is) ∙ (sym c.is_busy.ensures.busy ∙ c.if-is_busy.true) in
+    let busy = sym (ap (λ (s : Standing). is_busy s.view.work) c.self.view_is) ∙ (sym c.is_busy.ensures.busy ∙ c.if-is_busy.true) in
     on_err_from c.take_meanwhile.result (λ stops.
     stops_by g.S.Store.Step c.args.users.now.users c.args.self.now.view c.args.self.now.held c.args.moment (input.Line c.args.item)
     (meanwhile c.args.users.now.users c.args.self.now.view c.args.self.now.held c.args.moment (item_of c.args.item)) c.args.store.now c.take_meanwhile.new.store
@@ -45,7 +45,7 @@ returns-then-is_busy-clause-stops g c =
 
 pub returns-then-not-is_empty-clause-row : goal.returns-then-not-is_empty-clause-row
 returns-then-not-is_empty-clause-row g c =
-    let idle = sym (ap (λ (s : Standing). is_busy s.view.begun) c.self.view_is) ∙ (sym c.is_busy.ensures.busy ∙ c.if-is_busy.false) in
+    let idle = sym (ap (λ (s : Standing). is_busy s.view.work) c.self.view_is) ∙ (sym c.is_busy.ensures.busy ∙ c.if-is_busy.false) in
     let waiting : 0 < length (items_of c.self.inside.held.items) = omega (arith, positive (vec_len c.self.inside.held) (sym c.is_empty.ensures ∙ c.if-not-is_empty.true), c.self.inside.held.ok.0, length-map c.self.inside.held.items item_of) in
     let some = subst (λ (s : Standing). 0 < length s.held) c.self.view_is waiting in
     IfOk-weaker c.hold.result _ _ (λ actions taken.

@@ -1,1 +1,4 @@
+pub mod Names
+pub mod Peers
+pub mod Sockets
 pub mod Sources

@@ -1,5 +1,8 @@
 //! A data connection that a lane moves octets on, and that its session may shut down.
 
+ghost use Rattle.std.specs.Prelude.{◌≡◌, IfOk};
+ghost use Rattle.data_sockets.specs.Sockets.{socket_of};
+
 use std::alloc::{AllocError, Global};
 use std::io;
 use std::io::{Read, Write};
@@ -14,13 +17,17 @@ pub struct DataConnection {
 
 impl DataConnection {
     /// The first handle of a socket.
-    pub fn new(alloc: Global, stream: TcpStream) -> Result<DataConnection, AllocError> {
+    pub fn new(alloc: Global, stream: TcpStream) -> Result<DataConnection, AllocError>
+        ensures socket { IfOk result (λ connection. socket_of connection ≡ stream) }
+    {
         let stream = Arc::new(alloc, stream)?;
         Ok(DataConnection { stream })
     }
 
     /// Another handle of the same socket.
-    pub fn another(&self) -> Result<DataConnection, AllocError> {
+    pub fn another(&self) -> Result<DataConnection, AllocError>
+        ensures socket { IfOk result (λ other. socket_of other ≡ socket_of self.now) }
+    {
         let stream = Arc::try_clone(&self.stream)?;
         Ok(DataConnection { stream })
     }

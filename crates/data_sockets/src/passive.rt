@@ -1,6 +1,7 @@
 //! Passive ports: listening, and accepting the peer.
 
-ghost use Rattle.std.specs.Prelude.{◌≡◌};
+ghost use Rattle.std.specs.Prelude.{◌≡◌, ◌↔◌, IsTrue};
+ghost use Rattle.data_sockets.specs.Peers.{IsAddress, IsFrom, IsWanted};
 
 use std::net::{Ipv4Addr, Net, SocketAddr, SocketAddrV4, TcpListener, TcpStream};
 
@@ -8,7 +9,9 @@ use std::net::{Ipv4Addr, Net, SocketAddr, SocketAddrV4, TcpListener, TcpStream};
 const MOST_STRANGERS: usize = 16;
 
 /// The address of a socket.
-pub fn socket_address(address: [u8; 4], port: u16) -> SocketAddr {
+pub fn socket_address(address: [u8; 4], port: u16) -> SocketAddr
+    ensures address { IsAddress result address port }
+{
     let [a, b, c, d] = address;
     SocketAddr::V4(SocketAddrV4::new(Ipv4Addr::new(a, b, c, d), port))
 }
@@ -27,10 +30,22 @@ where
     }
 }
 
-fn is_from(address: SocketAddr, peer: [u8; 4]) -> bool {
-    match address {
+fn is_from(from: SocketAddr, peer: [u8; 4]) -> bool
+    ensures from { IsTrue result ↔ IsFrom from peer }
+{
+    match from {
         SocketAddr::V4(from) => from.ip().octets() == peer,
         SocketAddr::V6(_) => false,
+    }
+}
+
+// Returns whether a connection from this address is to be taken.
+fn is_wanted(from: SocketAddr, peer: Option<[u8; 4]>) -> bool
+    ensures wanted { IsTrue result ↔ IsWanted peer from }
+{
+    match peer {
+        Some(peer) => is_from(from, peer),
+        None => true,
     }
 }
 
@@ -40,11 +55,7 @@ pub fn accept_from(listener: &TcpListener, peer: Option<[u8; 4]>) -> Option<TcpS
     for _ in 0..MOST_STRANGERS {
         match listener.accept() {
             Ok((stream, from)) => {
-                let is_wanted = match peer {
-                    Some(peer) => is_from(from, peer),
-                    None => true,
-                };
-                if is_wanted {
+                if is_wanted(from, peer) {
                     return Some(stream);
                 }
             }

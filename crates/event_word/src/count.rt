@@ -1,6 +1,7 @@
 //! A count that one thread waits on.
 
-use crate::clock::micros;
+use crate::clock::{has_passed, micros};
+use crate::half::low_half;
 use std::sync::Wait;
 use std::sync::atomic::{AtomicU64, Ordering};
 use std::thread;
@@ -55,7 +56,7 @@ impl EventCount {
                 return true;
             }
             thread::yield_now();
-            if micros(rt).saturating_sub(start) > patience {
+            if has_passed(start, micros(rt), patience) {
                 return false;
             }
         }
@@ -72,8 +73,7 @@ impl EventCount {
             return;
         }
         self.parked.store(1, Ordering::SeqCst);
-        self.word
-            .park_timeout(rt, (seen & 0xffff_ffff) as u32, limit);
+        self.word.park_timeout(rt, low_half(seen), limit);
         self.parked.store(0, Ordering::SeqCst);
     }
 }

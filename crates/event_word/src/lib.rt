@@ -18,8 +18,9 @@
 
 mod clock;
 mod count;
+mod half;
 mod shared;
 
-pub use clock::micros;
+pub use clock::{has_passed, micros};
 pub use count::EventCount;
 pub use shared::SharedEventCount;

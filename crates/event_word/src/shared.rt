@@ -1,5 +1,6 @@
 //! A count that many threads wait on.
 
+use crate::half::low_half;
 use std::sync::Wait;
 use std::sync::atomic::{AtomicU64, Ordering};
 use std::time::Duration;
@@ -46,8 +47,7 @@ impl SharedEventCount {
     /// Waits until the count is not `seen`, at most `limit`. May return spuriously.
     pub fn wait<R: Wait>(&self, rt: &R, seen: u64, limit: Duration) {
         self.parked.fetch_add(1, Ordering::SeqCst);
-        self.word
-            .park_timeout(rt, (seen & 0xffff_ffff) as u32, limit);
+        self.word.park_timeout(rt, low_half(seen), limit);
         self.parked.fetch_sub(1, Ordering::SeqCst);
     }
 }

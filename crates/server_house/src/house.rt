@@ -1,5 +1,8 @@
 //! The shared parts of a server.
 
+ghost use Rattle.std.specs.Prelude.{IfOk};
+ghost use Rattle.server_house.specs.Settings.{AreSameSettings};
+
 use crate::ending::ServerShutdown;
 use crate::lane::LaneSign;
 use authorizer::Authorizer;
@@ -62,8 +65,10 @@ impl<S: Store<Global>, H: Hooks, B: PartsName> House<S, H, B> {
     }
 }
 
-/// The settings of one more session.
-pub fn copy_settings(alloc: Global, settings: &Settings) -> Result<Settings, AllocError> {
+/// The settings of one more session. Fails if memory runs out.
+pub fn copy_settings(alloc: Global, settings: &Settings) -> Result<Settings, AllocError>
+    ensures same { IfOk result (AreSameSettings settings.now) }
+{
     let banner = String::from_str(alloc, settings.banner.as_str())?;
     Ok(Settings {
         banner: LineText::made(banner),

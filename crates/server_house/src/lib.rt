@@ -11,7 +11,7 @@ mod house;
 mod lane;
 mod server_hooks;
 
-pub use ending::{ServerShutdown, ShutdownStage};
+pub use ending::{ServerShutdown, ShutdownStage, stages_stay_begun};
 pub use house::{House, copy_settings};
 pub use lane::LaneSign;
 pub use server_hooks::{NotServed, ServerHooks};

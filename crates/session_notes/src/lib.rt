@@ -11,6 +11,8 @@
 //! a password, or the text of a refused line.
 #![tactic(auto)]
 
+mod moment;
 mod notes;
+mod words;
 
 pub use notes::Notes;

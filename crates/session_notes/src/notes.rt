@@ -1,9 +1,9 @@
 //! A handler that writes a note of each event.
 
+use crate::moment::second_of;
+use crate::words::{NoteText, Noted, refusal_words};
 use handler_hooks::Hooks;
-use jiff::Timestamp;
 use log::{Log, info};
-use passive_ports::AdmitFault;
 use server_house::{NotServed, ServerHooks};
 use std::net::Ipv4Addr;
 use std::time::Clock;
@@ -17,21 +17,6 @@ pub struct Notes<L> {
     session: usize,
 }
 
-// The time of day; the beginning of 1970 if the clock cannot be read.
-fn time<R: Clock>(rt: &R) -> Timestamp {
-    let seconds = match rt.since_1970() {
-        Ok(time) => time.as_secs(),
-        Err(_) => 0,
-    };
-    match i64::try_from(seconds) {
-        Ok(seconds) => match Timestamp::from_second(seconds) {
-            Ok(time) => time,
-            Err(_) => Timestamp::UNIX_EPOCH,
-        },
-        Err(_) => Timestamp::UNIX_EPOCH,
-    }
-}
-
 impl<L: Log + Clock> Notes<L> {
     /// Notes written to this log.
     pub fn new(log: L) -> Notes<L> {
@@ -42,18 +27,12 @@ impl<L: Log + Clock> Notes<L> {
         }
     }
 
-    fn note(&self, what: &str) {
-        let time = time(&self.log);
+    fn note(&self, event: Noted, name: Option<&str>) {
+        let time = second_of(self.log.since_1970());
         let peer = Ipv4Addr::from(self.peer);
         let session = self.session;
-        info!(self.log; target: "", "{time} {peer} #{session} {what}");
-    }
-
-    fn note_name(&self, what: &str, name: &str) {
-        let time = time(&self.log);
-        let peer = Ipv4Addr::from(self.peer);
-        let session = self.session;
-        info!(self.log; target: "", "{time} {peer} #{session} {what} {name:?}");
+        let text = NoteText { event, name };
+        info!(self.log; target: "", "{time} {peer} #{session} {text}");
     }
 }
 
@@ -63,50 +42,39 @@ impl<L: Log + Clock + Drop> Hooks for Notes<L> {
     ghost Told = { λ _ _ _. ⊤ };
 
     fn on_connect(&mut self) {
-        self.note("connect");
+        self.note(Noted::Connect, None);
     }
 
     fn on_disconnect(&mut self) {
-        self.note("disconnect");
+        self.note(Noted::Disconnect, None);
     }
 
     fn on_login(&mut self, user: &str) {
-        self.note_name("login", user);
+        self.note(Noted::Login, Some(user));
     }
 
     fn on_login_failed(&mut self, user: &str) {
-        self.note_name("login failed", user);
+        self.note(Noted::LoginFailed, Some(user));
     }
 
     fn on_logout(&mut self, user: &str) {
-        self.note_name("logout", user);
+        self.note(Noted::Logout, Some(user));
     }
 
     fn on_file_sent(&mut self, path: &str) {
-        self.note_name("sent", path);
+        self.note(Noted::Sent, Some(path));
     }
 
     fn on_file_received(&mut self, path: &str) {
-        self.note_name("received", path);
+        self.note(Noted::Received, Some(path));
     }
 
     fn on_incomplete_file_sent(&mut self, path: &str) {
-        self.note_name("not sent whole", path);
+        self.note(Noted::NotSent, Some(path));
     }
 
     fn on_incomplete_file_received(&mut self, path: &str) {
-        self.note_name("not received whole", path);
-    }
-}
-
-fn told(why: NotServed) -> &'static str {
-    match why {
-        NotServed::NotAdmitted(AdmitFault::TooMany) => "too many connections",
-        NotServed::NotAdmitted(AdmitFault::TooManyOfAddress) => {
-            "too many connections from this address"
-        }
-        NotServed::NotAdmitted(AdmitFault::Memory) => "out of memory",
-        NotServed::NoThread => "no thread could be started",
+        self.note(Noted::NotReceived, Some(path));
     }
 }
 
@@ -117,9 +85,9 @@ impl<L: Log + Clock + Drop> ServerHooks for Notes<L> {
     }
 
     fn on_refused(&mut self, peer: [u8; 4], why: NotServed) {
-        let time = time(&self.log);
+        let time = second_of(self.log.since_1970());
         let peer = Ipv4Addr::from(peer);
-        let why = told(why);
+        let why = refusal_words(why);
         info!(self.log; target: "", "{time} {peer} refused: {why}");
     }
 }

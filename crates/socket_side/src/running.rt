@@ -1,5 +1,9 @@
 //! Prepared and running transfers.
 
+ghost use Rattle.std.specs.Prelude.{◌≡◌};
+ghost use Rattle.socket_side.specs.Jobs.{is_upload, lane_job, sink_of};
+ghost use Rattle.socket_side.specs.Running.{over};
+
 use data_sockets::{DataConnection, Listing, Served, TransferEnd};
 use ftp_terms::DataType;
 use ftp_wire::HostPort;
@@ -38,7 +42,9 @@ pub(crate) enum Running<R: Drop, K: Drop> {
 }
 
 /// A transfer that never ran; an upload's sink is returned.
-pub(crate) fn over<R: Drop, K: Drop>(end: End, job: Job<Global, R, K>) -> Running<R, K> {
+pub(crate) fn over<R: Drop, K: Drop>(end: End, job: Job<Global, R, K>) -> Running<R, K>
+    ensures over { result ≡ over end job }
+{
     let sink = match job {
         Job::TakeFile(sink, _) => Some(sink),
         Job::Text(_) | Job::SendFile(_, _) => None,
@@ -47,7 +53,9 @@ pub(crate) fn over<R: Drop, K: Drop>(end: End, job: Job<Global, R, K>) -> Runnin
 }
 
 /// Returns whether octets are received.
-pub(crate) fn is_upload<R, K>(job: &Job<Global, R, K>) -> bool {
+pub(crate) fn is_upload<R, K>(job: &Job<Global, R, K>) -> bool
+    ensures upload { result ≡ is_upload job.now }
+{
     matches!(job, Job::TakeFile(_, _))
 }
 
@@ -57,7 +65,9 @@ pub(crate) fn lane_job<R: Source, K: Sink>(
     connection: DataConnection,
     user: u32,
     session: u32,
-) -> LaneJob<Served<Global, R>, K, DataConnection> {
+) -> LaneJob<Served<Global, R>, K, DataConnection>
+    ensures job { result ≡ lane_job job connection user session }
+{
     match job {
         Job::Text(octets) => LaneJob::Send {
             user,
@@ -84,7 +94,9 @@ pub(crate) fn lane_job<R: Source, K: Sink>(
 }
 
 /// The sink of a job that no lane took.
-pub(crate) fn sink_of<R: Source, K: Sink>(job: LaneJob<R, K, DataConnection>) -> Option<K> {
+pub(crate) fn sink_of<R: Source, K: Sink>(job: LaneJob<R, K, DataConnection>) -> Option<K>
+    ensures sink { result ≡ sink_of job }
+{
     match job {
         LaneJob::Send { .. } => None,
         LaneJob::Take { sink, .. } => Some(sink),

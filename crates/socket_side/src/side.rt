@@ -1,9 +1,14 @@
 //! The data side of a session.
 
+ghost use Rattle.std.specs.Prelude.{◌≡◌, IfNone, IfSome, IsTrue, false};
+ghost use Rattle.session_core.specs.declared.events.DataEvent.TheVariants.{Ready};
+ghost use Rattle.session_table.specs.declared.inputs.End.TheVariants.{Aborted};
+ghost use Rattle.socket_side.specs.Running.{GoesOn, IsAwaited, IsHandedOver, IsNoTarget, Looks, RestsOn, Settles, Starts, TakesEnd, aborted, event_of, is_busy, port_in};
+
 use crate::ports::SharedPorts;
 use crate::running::{Prepared, Running, is_upload, lane_job, over, sink_of};
 use data_sockets::{DataConnection, TransferEnd, accept_from, socket_address};
-use event_word::micros;
+use event_word::{has_passed, micros};
 use ftp_wire::HostPort;
 use handler_hooks::Hooks;
 use lent_parts::PartsName;
@@ -30,6 +35,24 @@ const CONNECTING: u64 = 5_000;
 
 /// The longest wait of one look at the running transfer, in milliseconds.
 const LOOK: u64 = 20;
+
+// The end of a transfer: that which its lane reports, or `Aborted` if it was aborted.
+fn end_of(is_aborted: bool, end: End) -> End
+    ensures aborted { IsTrue is_aborted → result ≡ Aborted }
+    ensures told { is_aborted ≡ false → result ≡ end }
+{
+    if is_aborted { End::Aborted } else { end }
+}
+
+// The report of an end, if there is one.
+fn event_of<K: Drop>(end: Option<TransferEnd<K>>) -> Option<DataEvent<K>>
+    ensures event { result ≡ event_of end }
+{
+    match end {
+        Some(TransferEnd { end, sink }) => Some(DataEvent::Ended { end, sink }),
+        None => None,
+    }
+}
 
 /// The data side of the session of one control connection.
 #[derive(Drop)]
@@ -62,7 +85,11 @@ where
         peer: [u8; 4],
         key: usize,
         session: u32,
-    ) -> Self {
+    ) -> Self
+        ensures prepared { result.prepared ≡ Prepared.Nothing }
+        ensures running { result.running ≡ Running.Nothing }
+        ensures ready { result.ready ≡ None }
+    {
         SocketSide {
             rt,
             house,
@@ -77,7 +104,11 @@ where
     }
 
     /// Drops what was prepared; a port then rests.
-    pub fn drop_data(&mut self) {
+    pub fn drop_data(&mut self)
+        ensures prepared { self.new.prepared ≡ Prepared.Nothing }
+        ensures running { self.new.running ≡ self.old.running }
+        ensures ready { self.new.ready ≡ self.old.ready }
+    {
         let before = mem::replace(&mut self.prepared, Prepared::Nothing);
         match before {
             Prepared::Listening(listener, port) => self.close_port(listener, port),
@@ -101,7 +132,11 @@ where
     }
 
     /// Listens on a passive port, if one is free. The next look reports it.
-    pub fn open_passive(&mut self) {
+    pub fn open_passive(&mut self)
+        ensures ready { self.new.ready ≡ Some (port_in self.new.prepared) }
+        ensures prepared { IsNoTarget self.new.prepared }
+        ensures running { self.new.running ≡ self.old.running }
+    {
         self.drop_data();
         match self.listening() {
             Some((port, listener)) => {
@@ -113,7 +148,11 @@ where
     }
 
     /// Makes the next transfer connect to this port.
-    pub fn connect_to(&mut self, to: HostPort) {
+    pub fn connect_to(&mut self, to: HostPort)
+        ensures prepared { self.new.prepared ≡ Prepared.Target to }
+        ensures running { self.new.running ≡ self.old.running }
+        ensures ready { self.new.ready ≡ self.old.ready }
+    {
         self.drop_data();
         self.prepared = Prepared::Target(to);
     }
@@ -127,7 +166,11 @@ where
     }
 
     // Hands a transfer to the lanes.
-    fn hand_over(&mut self, stream: TcpStream, job: Job<Global, S::Source, S::Sink>, user: u32) {
+    fn hand_over(&mut self, stream: TcpStream, job: Job<Global, S::Source, S::Sink>, user: u32)
+        ensures running { IsHandedOver job self.new.running }
+        ensures prepared { self.new.prepared ≡ self.old.prepared }
+        ensures ready { self.new.ready ≡ self.old.ready }
+    {
         let _ = stream.set_nodelay(true);
         let _ = stream.set_write_timeout(Some(Duration::from_millis(STANDSTILL)));
         if is_upload(&job) {
@@ -149,7 +192,9 @@ where
         theirs: DataConnection,
         job: Job<Global, S::Source, S::Sink>,
         user: u32,
-    ) -> Running<S::Source, S::Sink> {
+    ) -> Running<S::Source, S::Sink>
+        ensures running { IsHandedOver job result }
+    {
         let job = lane_job(job, theirs, user, self.session);
         let mut pass = self.house.pass.lock(self.rt);
         match self.house.board.push(self.rt, &mut *pass, job) {
@@ -168,7 +213,11 @@ where
     }
 
     // The peer whose connections are accepted.
-    fn wanted_peer(&self) -> Option<[u8; 4]> {
+    fn wanted_peer(&self) -> Option<[u8; 4]>
+        ensures any { IsTrue self.now.house.now.settings.permits_foreign_addresses → result ≡ None }
+        ensures peer { self.now.house.now.settings.permits_foreign_addresses ≡ false
+            → result ≡ Some self.now.peer }
+    {
         if self.house.settings.permits_foreign_addresses {
             None
         } else {
@@ -184,14 +233,18 @@ where
         job: Job<Global, S::Source, S::Sink>,
         since: u64,
         user: u32,
-    ) {
+    )
+        ensures running { IsAwaited listener port job since self.new.running }
+        ensures prepared { self.new.prepared ≡ self.old.prepared }
+        ensures ready { self.new.ready ≡ self.old.ready }
+    {
         match accept_from(&listener, self.wanted_peer()) {
             Some(stream) => {
                 self.close_port(listener, port);
                 self.hand_over(stream, job, user);
             }
             None => {
-                if micros(self.rt).saturating_sub(since) > PATIENCE {
+                if has_passed(since, micros(self.rt), PATIENCE) {
                     self.close_port(listener, port);
                     self.running = over(End::NoConnection, job);
                 } else {
@@ -207,7 +260,11 @@ where
     }
 
     /// Begins a transfer of a user over the connection that was prepared.
-    pub fn start(&mut self, job: Job<Global, S::Source, S::Sink>, user: u32) {
+    pub fn start(&mut self, job: Job<Global, S::Source, S::Sink>, user: u32)
+        ensures running { Starts self.old.prepared job self.new.running }
+        ensures prepared { self.new.prepared ≡ Prepared.Nothing }
+        ensures ready { self.new.ready ≡ self.old.ready }
+    {
         let prepared = mem::replace(&mut self.prepared, Prepared::Nothing);
         match prepared {
             Prepared::Nothing => self.running = over(End::NoConnection, job),
@@ -226,7 +283,11 @@ where
     }
 
     /// Aborts the running transfer; a later look reports its end.
-    pub fn abort(&mut self) {
+    pub fn abort(&mut self)
+        ensures running { self.new.running ≡ aborted self.old.running }
+        ensures prepared { self.new.prepared ≡ self.old.prepared }
+        ensures ready { self.new.ready ≡ self.old.ready }
+    {
         let before = mem::replace(&mut self.running, Running::Nothing);
         self.running = match before {
             Running::Awaited {
@@ -263,7 +324,11 @@ where
 
     // Takes the end of the running transfer, if it has ended. If it was aborted, the end is `Aborted` whatever the lane
     // reports. The connection is closed first, so that the client reads the end of the data no later than the reply.
-    fn take_end(&mut self) -> Option<TransferEnd<S::Sink>> {
+    fn take_end(&mut self) -> Option<TransferEnd<S::Sink>>
+        ensures running { TakesEnd self.old.running result self.new.running }
+        ensures prepared { self.new.prepared ≡ self.old.prepared }
+        ensures ready { self.new.ready ≡ self.old.ready }
+    {
         let before = mem::replace(&mut self.running, Running::Nothing);
         match before {
             Running::Nothing => None,
@@ -288,8 +353,10 @@ where
             } => match self.told() {
                 Some(TransferEnd { end, sink }) => {
                     drop(connection);
-                    let end = if is_aborted { End::Aborted } else { end };
-                    Some(TransferEnd { end, sink })
+                    Some(TransferEnd {
+                        end: end_of(is_aborted, end),
+                        sink,
+                    })
                 }
                 None => {
                     self.running = Running::Moving {
@@ -303,7 +370,11 @@ where
     }
 
     // Accepts the client's connection, if it has come.
-    fn go_on(&mut self, user: u32) {
+    fn go_on(&mut self, user: u32)
+        ensures running { GoesOn self.old.running self.new.running }
+        ensures prepared { self.new.prepared ≡ self.old.prepared }
+        ensures ready { self.new.ready ≡ self.old.ready }
+    {
         let before = mem::replace(&mut self.running, Running::Nothing);
         match before {
             Running::Awaited {
@@ -327,24 +398,31 @@ where
     }
 
     /// Reports a port, or the end of this user's transfer; `None` if there is neither yet. Does not wait.
-    pub fn look(&mut self, user: u32) -> Option<DataEvent<S::Sink>> {
+    pub fn look(&mut self, user: u32) -> Option<DataEvent<S::Sink>>
+        ensures port { IfSome self.old.ready (λ port. (result ≡ Some (Ready port))
+            × (self.new.running ≡ self.old.running)) }
+        ensures end { IfNone self.old.ready (Looks self.old.running result self.new.running) }
+        ensures ready { self.new.ready ≡ None }
+        ensures prepared { self.new.prepared ≡ self.old.prepared }
+    {
         if let Some(port) = self.ready.take() {
             return Some(DataEvent::Ready(port));
         }
         self.go_on(user);
-        match self.take_end() {
-            Some(TransferEnd { end, sink }) => Some(DataEvent::Ended { end, sink }),
-            None => None,
-        }
+        event_of(self.take_end())
     }
 
     /// Returns whether the end of something begun is not yet reported.
-    pub fn is_busy(&self) -> bool {
+    pub fn is_busy(&self) -> bool
+        ensures busy { result ≡ is_busy self.now.running }
+    {
         !matches!(&self.running, Running::Nothing)
     }
 
     /// Waits briefly for the end of a moving transfer. Returns whether there is, or may be, something to report.
-    pub fn rest(&self) -> bool {
+    pub fn rest(&self) -> bool
+        ensures over { RestsOn self.now.running result }
+    {
         match &self.running {
             Running::Moving { .. } => match self.house.cells.get(self.key) {
                 Some(cell) => {
@@ -358,15 +436,15 @@ where
         }
     }
 
-    /// Waits for the end of the running transfer and reports it; aborts it if no client has come. Drops what was prepared.
-    pub fn settle(&mut self) -> Option<DataEvent<S::Sink>> {
-        self.drop_data();
-        self.ready = None;
+    // Waits for the end of the running transfer and reports it.
+    fn await_end(&mut self) -> Option<DataEvent<S::Sink>>
+        ensures settled { Settles self.old.running result }
+        ensures running { self.new.running ≡ Running.Nothing }
+        ensures prepared { self.new.prepared ≡ self.old.prepared }
+        ensures ready { self.new.ready ≡ self.old.ready }
+    {
         let rt = self.rt;
         for _ in rt.forever() {
-            if let Running::Awaited { .. } = &self.running {
-                self.abort();
-            }
             match self.take_end() {
                 Some(TransferEnd { end, sink }) => return Some(DataEvent::Ended { end, sink }),
                 None => {
@@ -378,5 +456,20 @@ where
             }
         }
         unreachable!()
+    }
+
+    /// Waits for the end of the running transfer and reports it; aborts it if no client has come. Drops what was prepared.
+    pub fn settle(&mut self) -> Option<DataEvent<S::Sink>>
+        ensures settled { Settles self.old.running result }
+        ensures running { self.new.running ≡ Running.Nothing }
+        ensures prepared { self.new.prepared ≡ Prepared.Nothing }
+        ensures ready { self.new.ready ≡ None }
+    {
+        self.drop_data();
+        self.ready = None;
+        if let Running::Awaited { .. } = &self.running {
+            self.abort();
+        }
+        self.await_end()
     }
 }

@@ -1,0 +1,35 @@
+-- The words of notes.
+use Rattle.std.specs.Prelude.{ℕ, List, codes, Option, Some, None}
+use Rattle.std.specs.Borrow.{Bor}
+use Rattle.std.specs.Fmt.{◌++?◌, debug_str}
+use Rattle.passive_ports.specs.declared.fault.AdmitFault.TheVariants.{TooMany, TooManyOfAddress, Memory}
+use Rattle.server_house.specs.declared.server_hooks.NotServed.{NotServed}
+use Rattle.server_house.specs.declared.server_hooks.NotServed.TheVariants.{NotAdmitted, NoThread}
+use Rattle.session_notes.specs.declared.words.Noted.{Noted}
+use Rattle.session_notes.specs.declared.words.Noted.TheVariants.{Connect, Disconnect, Login, LoginFailed, Logout, Sent, Received, NotSent, NotReceived}
+use Rattle.session_notes.specs.declared.words.NoteText.{NoteText}
+
+abbrev pub event_words : Noted → List ℕ
+event_words Connect = codes "connect"
+event_words Disconnect = codes "disconnect"
+event_words Login = codes "login"
+event_words LoginFailed = codes "login failed"
+event_words Logout = codes "logout"
+event_words Sent = codes "sent"
+event_words Received = codes "received"
+event_words NotSent = codes "not sent whole"
+event_words NotReceived = codes "not received whole"
+
+-- the words, and after a blank the name, if there is one, in quotation marks and escaped
+abbrev pub words_with : List ℕ → Option (Bor (List ℕ)) → Option (List ℕ)
+words_with words None = Some words
+words_with words (Some name) = Some words ++? Some (codes " ") ++? debug_str name.now
+
+abbrev pub note_text : NoteText → Option (List ℕ)
+note_text text = words_with (event_words text.event) text.name
+
+abbrev pub refusal_words : NotServed → List ℕ
+refusal_words (NotAdmitted TooMany) = codes "too many connections"
+refusal_words (NotAdmitted TooManyOfAddress) = codes "too many connections from this address"
+refusal_words (NotAdmitted Memory) = codes "out of memory"
+refusal_words NoThread = codes "no thread could be started"

@@ -7,7 +7,8 @@ use Rattle.std.specs.declared.net.socket_addr.SocketAddr.TheVariants.{V4, V6}
 
 -- the address and port of a socket; one of IPv6 has no such address
 abbrev pub IsAddress : SocketAddr → List ℕ → ℕ → Type 0
-IsAddress (V4 socket) address port = (ipv4_octets (v4_ip socket) ≡ address) × (v4_port socket ≡ port)
+IsAddress (V4 socket) address port =
+    (ipv4_octets (v4_ip socket) ≡ address) × (v4_port socket ≡ port)
 IsAddress (V6 socket) address port = ⊥
 
 -- the socket has this address, at any port

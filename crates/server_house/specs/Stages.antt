@@ -1,4 +1,5 @@
--- The progress of a server to its end: 0 at first, then the number of the last stage that has begun.
+-- The progress of a server to its end: 0 at first, then the number of the last stage that has
+-- begun.
 use Rattle.std.specs.Prelude.{ℕ, ◌≤◌}
 use Rattle.server_house.specs.declared.ending.ShutdownStage.{ShutdownStage}
 use Rattle.server_house.specs.declared.ending.ShutdownStage.TheVariants.{Sessions, Lanes}

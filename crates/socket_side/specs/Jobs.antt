@@ -23,10 +23,13 @@ sink_in (SendFile source data_type) = None
 sink_in (TakeFile sink data_type) = Some sink
 
 -- a listing is sent as it is
-abbrev pub lane_job : {R K : Type 0} → Job Global R K → DataConnection → ℕ → ℕ → LaneJob (Served Global R) K DataConnection
+abbrev pub lane_job : {R K : Type 0} → Job Global R K → DataConnection → ℕ → ℕ
+    → LaneJob (Served Global R) K DataConnection
 lane_job (Text octets) connection user session = Send user session (Listing octets) connection Image
-lane_job (SendFile source data_type) connection user session = Send user session (File source) connection data_type
-lane_job (TakeFile sink data_type) connection user session = Take user session connection sink data_type
+lane_job (SendFile source data_type) connection user session =
+    Send user session (File source) connection data_type
+lane_job (TakeFile sink data_type) connection user session =
+    Take user session connection sink data_type
 
 -- the sink of a job that no lane took
 abbrev pub sink_of : {R K C : Type 0} → LaneJob R K C → Option K

@@ -48,20 +48,25 @@ module _ {R K : Type 0} where
   IsHandedOver job running.Nothing = ⊥
   IsHandedOver job (running.Awaited listener port waiting since) = ⊥
   IsHandedOver job (running.Moving connection is_aborted) = is_aborted ≡ false
-  IsHandedOver job (running.Over told) = ((told.end ≡ NoMemory) ⊎ (told.end ≡ NoConnection)) × (told.sink ≡ sink_in job)
+  IsHandedOver job (running.Over told) =
+      ((told.end ≡ NoMemory) ⊎ (told.end ≡ NoConnection)) × (told.sink ≡ sink_in job)
 
-  -- the same job waits at the same port since the same moment, or it was handed over, or no client came in time
+  -- the same job waits at the same port since the same moment, or it was handed over, or no client
+  -- came in time
   abbrev pub IsAwaited : TcpListener → ℕ → Job Global R K → ℕ → Running R K → Type 0
   IsAwaited listener port job since running.Nothing = ⊥
-  IsAwaited listener port job since (running.Awaited again at waiting moment) = (again ≡ listener) × (at ≡ port) × (waiting ≡ job) × (moment ≡ since)
+  IsAwaited listener port job since (running.Awaited again at waiting moment) =
+      (again ≡ listener) × (at ≡ port) × (waiting ≡ job) × (moment ≡ since)
   IsAwaited listener port job since (running.Moving connection is_aborted) = is_aborted ≡ false
-  IsAwaited listener port job since (running.Over told) = ((told.end ≡ NoMemory) ⊎ (told.end ≡ NoConnection)) × (told.sink ≡ sink_in job)
+  IsAwaited listener port job since (running.Over told) =
+      ((told.end ≡ NoMemory) ⊎ (told.end ≡ NoConnection)) × (told.sink ≡ sink_in job)
 
   -- a transfer over what was prepared; over nothing it ends at once
   abbrev pub Starts : Prepared → Job Global R K → Running R K → Type 0
   Starts prepared.Nothing job new = new ≡ over NoConnection job
   Starts (prepared.Target to) job new = IsHandedOver job new
-  Starts (prepared.Listening listener port) job new = (since : ℕ) × IsAwaited listener port job since new
+  Starts (prepared.Listening listener port) job new =
+      (since : ℕ) × IsAwaited listener port job since new
 
   -- an awaited transfer ends at once, and a moving one is marked
   abbrev pub aborted : Running R K → Running R K
@@ -77,23 +82,33 @@ module _ {R K : Type 0} where
   GoesOn (running.Moving connection is_aborted) new = new ≡ running.Moving connection is_aborted
   GoesOn (running.Over told) new = new ≡ running.Over told
 
-  -- An end is taken once, and then nothing runs. One that a lane reports for an aborted transfer is Aborted.
+  -- An end is taken once, and then nothing runs. One that a lane reports for an aborted transfer is
+  -- Aborted.
   abbrev pub TakesEnd : Running R K → Option (TransferEnd K) → Running R K → Type 0
   TakesEnd running.Nothing end new = (end ≡ None) × (new ≡ running.Nothing)
-  TakesEnd (running.Awaited listener port job since) end new = (end ≡ None) × (new ≡ running.Awaited listener port job since)
-  TakesEnd (running.Moving connection is_aborted) None new = new ≡ running.Moving connection is_aborted
-  TakesEnd (running.Moving connection is_aborted) (Some end) new = (new ≡ running.Nothing) × (IsTrue is_aborted → end.end ≡ Aborted)
+  TakesEnd (running.Awaited listener port job since) end new =
+      (end ≡ None) × (new ≡ running.Awaited listener port job since)
+  TakesEnd (running.Moving connection is_aborted) None new =
+      new ≡ running.Moving connection is_aborted
+  TakesEnd (running.Moving connection is_aborted) (Some end) new =
+      (new ≡ running.Nothing) × (IsTrue is_aborted → end.end ≡ Aborted)
   TakesEnd (running.Over told) end new = (end ≡ Some told) × (new ≡ running.Nothing)
 
   -- a look: the transfer goes on, and its end is taken
   abbrev pub Looks : Running R K → Option (DataEvent K) → Running R K → Type 0
-  Looks old event new = (mid : Running R K) × (end : Option (TransferEnd K)) × GoesOn old mid × TakesEnd mid end new × (event ≡ event_of end)
+  Looks old event new =
+      (mid : Running R K) × (end : Option (TransferEnd K)) × GoesOn old mid × TakesEnd mid end new
+      × (event ≡ event_of end)
 
-  -- The report of a transfer that is waited for, or of nothing if nothing runs. One whose client has not come is aborted.
+  -- The report of a transfer that is waited for, or of nothing if nothing runs. One whose client
+  -- has not come is aborted.
   abbrev pub Settles : Running R K → Option (DataEvent K) → Type 0
   Settles running.Nothing event = event ≡ None
-  Settles (running.Awaited listener port job since) event = event ≡ Some (Ended Aborted (sink_in job))
-  Settles (running.Moving connection is_aborted) event = (end : TransferEnd K) × (event ≡ Some (Ended end.end end.sink)) × (IsTrue is_aborted → end.end ≡ Aborted)
+  Settles (running.Awaited listener port job since) event =
+      event ≡ Some (Ended Aborted (sink_in job))
+  Settles (running.Moving connection is_aborted) event =
+      (end : TransferEnd K) × (event ≡ Some (Ended end.end end.sink)) × (IsTrue is_aborted
+      → end.end ≡ Aborted)
   Settles (running.Over told) event = event ≡ Some (Ended told.end told.sink)
 
   -- whether there is something to report, except for a moving transfer

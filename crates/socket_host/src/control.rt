@@ -1,7 +1,9 @@
 //! The socket of a control connection.
 
-ghost use Rattle.std.specs.Prelude.{◌<◌, ◌≡◌, ◌≤◌, IfOk, length};
+ghost use Rattle.std.specs.Prelude.{◌<◌, ◌≡◌, ◌≤◌, IfOk, length, take};
 ghost use Rattle.control_session.specs.Calls.{reads_within};
+ghost use Rattle.line_mender.specs.Mended.{after_all, after_silence, ending_of, kept};
+ghost use Rattle.socket_host.specs.Texts.{is_pause, octets_in};
 
 use control_session::Piece;
 use line_mender::Mender;
@@ -40,7 +42,9 @@ pub struct ControlSocket {
 }
 
 // Returns whether a read only found nothing.
-fn is_pause(kind: ErrorKind) -> bool {
+fn is_pause(kind: ErrorKind) -> bool
+    ensures pause { result ≡ is_pause kind }
+{
     matches!(
         kind,
         ErrorKind::WouldBlock | ErrorKind::TimedOut | ErrorKind::Interrupted
@@ -76,6 +80,9 @@ impl ControlSocket {
         requires bound { count ≤ length buffer.old }
         ensures bound { reads_within result buffer.new }
         ensures same { length buffer.new ≡ length buffer.old }
+        ensures kept { octets_in result buffer.new
+            ≡ kept self.old.mender (take count buffer.old) }
+        ensures after { self.new.mender ≡ after_all self.old.mender (take count buffer.old) }
     {
         let kept = self.mender.mend(&mut buffer[..count]);
         if kept == 0 {
@@ -89,6 +96,8 @@ impl ControlSocket {
     fn take_silence(&mut self, buffer: &mut [u8]) -> Piece
         requires room { 0 < length buffer.old }
         ensures bound { reads_within result buffer.new }
+        ensures kept { octets_in result buffer.new ≡ ending_of self.old.mender }
+        ensures after { self.new.mender ≡ after_silence self.old.mender }
     {
         if self.mender.silence() {
             buffer[0] = LF;

@@ -1,12 +1,15 @@
 //! The host of a control session.
 
-ghost use Rattle.std.specs.Prelude.{◌≡◌, IfErr, IfOk, IfSome, OnErr, [], true};
+ghost use Rattle.std.specs.Prelude.{◌≡◌, IfErr, IfNone, IfOk, IfSome, OnErr, [], false, option_map, true, unwrap_or};
 ghost use Rattle.std.specs.declared.alloc.Global.{Global};
 ghost use Rattle.control_session.specs.Rows.{IsRow};
 ghost use Rattle.control_session.specs.Turns.{StepTried, Stepped};
 ghost use Rattle.control_session.specs.Sides.{event_in, given_of};
 ghost use Rattle.control_session.specs.Sides.Given.{Came};
+ghost use Rattle.rate_floors.specs.Promises.{HasNoSessions};
+ghost use Rattle.session_table.specs.Steps.{asks_floors};
 ghost use Rattle.session_table.specs.Views.{is_closed};
+ghost use Rattle.std.specs.FinMap as map;
 ghost use Rattle.socket_host.specs.Unsaid.{AnyCall};
 
 use crate::control::ControlSocket;
@@ -32,16 +35,32 @@ use virtual_tree::Store;
 const ENDING: &[u8] = b"421 Server is ending\r\n";
 
 // Floors without rows, which need no memory.
-fn floors_of_nobody(alloc: Global) -> Option<Floors> {
+fn floors_of_nobody(alloc: Global) -> Option<Floors>
+    ensures none { IfSome result HasNoSessions }
+{
     let limits = Limits::of(0, 0, 0, Vec::new(alloc), Vec::new(alloc)).ok()?;
     Floors::of(alloc, &limits).ok()
 }
 
 // Returns whether the step of an input needs the floors.
-fn asks_floors<K>(session: &Session<Global>, input: &Option<Input<Global, K>>) -> bool {
+fn asks_floors<K>(session: &Session<Global>, input: &Option<Input<Global, K>>) -> bool
+    ensures asks { IfSome input.now (λ input. result ≡ asks_floors session.now.held input) }
+    ensures none { IfNone input.now (result ≡ false) }
+{
     match input {
         Some(input) => session.asks_floors(input),
         None => false,
+    }
+}
+
+// The number of a user, by which rounds identify them; 0 for no user.
+fn number_of(users: &Authorizer, name: &str) -> u32
+    ensures number { result
+        ≡ unwrap_or (option_map (λ user. user.number) (map.get users.now.users name.now)) 0 }
+{
+    match users.number(name) {
+        Some(number) => number,
+        None => 0,
     }
 }
 
@@ -239,11 +258,7 @@ where
 
     fn note(&mut self, call: &HookCall<Global>) {
         if let HookCall::Login(name) = call {
-            let number = match self.house.users.number(name.as_str()) {
-                Some(number) => number,
-                None => 0,
-            };
-            self.user = number;
+            self.user = number_of(&self.house.users, name.as_str());
         }
         let mut handler = self.house.handler.lock(self.rt);
         handler.attend(self.peer, self.key);

@@ -1,5 +1,7 @@
 //! A whole control session over sockets.
 
+ghost use Rattle.std.specs.Prelude.{◌≡◌, ◌<◌, ◌≤◌, ◌^◌};
+
 use crate::control::ControlSocket;
 use crate::host::SocketHost;
 use authorizer::Authorizer;
@@ -59,6 +61,17 @@ fn run_hosted<T: SessionHost, U: HasUsers>(alloc: &Global, host: &mut T, house: 
     }
 }
 
+// The number of the session of a connection, by which lanes identify it. No registry has 2^32 connections.
+fn session_number(key: usize) -> u32
+    ensures same { key < 2 ^ 32 → result ≡ key }
+    ensures large { 2 ^ 32 ≤ key → result ≡ 0 }
+{
+    match u32::try_from(key) {
+        Ok(session) => session,
+        Err(_) => 0,
+    }
+}
+
 /// Serves a client from the greeting to the end of the control connection, which was accepted from this peer and has this
 /// key in the registry; the connection then leaves the registry. However the session ends, its transfers have ended and its
 /// floor is released.
@@ -75,11 +88,7 @@ where
     H: ServerHooks,
     B: PartsName,
 {
-    let session = match u32::try_from(key) {
-        Ok(session) => session,
-        Err(_) => 0,
-    };
-    let side = SocketSide::new(rt, house, peer, key, session);
+    let side = SocketSide::new(rt, house, peer, key, session_number(key));
     let host = SocketHost::new(rt, house, ControlSocket::new(stream), side, peer, key);
     if let Some(mut host) = host {
         run_hosted(&rt.alloc(), &mut host, house, peer);

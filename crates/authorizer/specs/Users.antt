@@ -36,7 +36,8 @@ pub record Accounts : Type 0 where
 abbrev pub above : ℕ → Path → Path
 above up path = take (length path - up) path
 
--- an override covers its path and the entries directly in it; a recursive one covers everything beneath its path
+-- an override covers its path and the entries directly in it; a recursive one covers everything
+-- beneath its path
 abbrev pub Covers : Rule → ℕ → Type 0
 Covers rule up = (rule.recursive ≡ true) ⊎ (up ≤ 1)
 
@@ -51,13 +52,18 @@ pub record IsDeepest (overrides : Overrides) (path : Path) (up : ℕ) (rule : Ru
   pub covered : IsCovered overrides path up rule
   pub deepest : (other : ℕ) (next : Rule) → IsCovered overrides path other next → up ≤ other
 
--- the letters that decide for a user at a path: those of the deepest override that covers it, otherwise the user's own
+-- the letters that decide for a user at a path: those of the deepest override that covers it,
+-- otherwise the user's own
 abbrev pub DecidesAt : User → Path → Letters → Type 0
-DecidesAt user path letters = ((up : ℕ) × (rule : Rule) × IsDeepest user.overrides path up rule × (letters ≡ rule.letters))
-    ⊎ (((up : ℕ) (rule : Rule) → IsCovered user.overrides path up rule → ⊥) × (letters ≡ user.letters))
+DecidesAt user path letters =
+    ((up : ℕ) × (rule : Rule) × IsDeepest user.overrides path up rule × (letters ≡ rule.letters))
+    ⊎ (((up : ℕ) (rule : Rule) → IsCovered user.overrides path up rule → ⊥)
+    × (letters ≡ user.letters))
 
 abbrev pub Allowed : Users → List ℕ → Letter → Path → Type 0
-Allowed users name letter path = (user : User) × (letters : Letters) × (map.get users name ≡ Some user) × DecidesAt user path letters × (holds letters letter ≡ true)
+Allowed users name letter path =
+    (user : User) × (letters : Letters) × (map.get users name ≡ Some user)
+    × DecidesAt user path letters × (holds letters letter ≡ true)
 
 -- ---- the same as a function
 
@@ -79,7 +85,8 @@ first_of None others = others
 -- the first covering override found `up` names above a path, or up to `left` names further up
 abbrev pub first_above : Overrides → Path → ℕ → ℕ → Option Letters
 first_above overrides path up zero = letters_above overrides path up
-first_above overrides path up (suc left) = first_of (letters_above overrides path up) (first_above overrides path (up + 1) left)
+first_above overrides path up (suc left) =
+    first_of (letters_above overrides path up) (first_above overrides path (up + 1) left)
 
 -- the letters of a user at a path
 abbrev pub letters_at : User → Path → Letters
@@ -93,4 +100,6 @@ abbrev pub allowed : Users → List ℕ → Letter → Path → Bool
 allowed users name letter path = holds_at (map.get users name) letter path
 
 abbrev pub AllowedByTheDeepest : Type 0
-AllowedByTheDeepest = (users : Users) (name : List ℕ) (letter : Letter) (path : Path) → IsTrue (allowed users name letter path) ↔ Allowed users name letter path
+AllowedByTheDeepest =
+    (users : Users) (name : List ℕ) (letter : Letter) (path : Path)
+    → IsTrue (allowed users name letter path) ↔ Allowed users name letter path

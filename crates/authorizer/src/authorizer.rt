@@ -41,7 +41,8 @@ impl<A: Allocator> Model for Authorizer<A> {
 
     ghost coded = { accounts_code };
 
-    ghost view = { λ inside. record { users = map_of user_of inside.accounts; next = inside.next } };
+    ghost view = { λ inside.
+        record { users = map_of user_of inside.accounts; next = inside.next } };
 
     ghost invariant = { λ inside. inside.next ≤ 2 ^ 32 };
 }

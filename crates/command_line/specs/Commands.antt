@@ -21,7 +21,9 @@ share = with_rule (bare (codes "share")) (file_rule (codes "SHEET"))
 
 -- `check SHEET GRANTS`
 abbrev pub check : App
-check = with_rule (with_rule (bare (codes "check")) (file_rule (codes "SHEET"))) (file_rule (codes "GRANTS"))
+check =
+    with_rule (with_rule (bare (codes "check")) (file_rule (codes "SHEET")))
+    (file_rule (codes "GRANTS"))
 
 -- `check-config CONFIG`
 abbrev pub check_config : App
@@ -37,13 +39,21 @@ script = with_rule (bare (codes "script")) (file_rule (codes "CONFIG"))
 
 -- `serve CONFIG [--stop-file PATH]`
 abbrev pub serve : App
-serve = with_rule (with_rule (bare (codes "serve")) (file_rule (codes "CONFIG"))) (option_rule (codes "PATH") (codes "stop-file"))
+serve =
+    with_rule (with_rule (bare (codes "serve")) (file_rule (codes "CONFIG")))
+    (option_rule (codes "PATH") (codes "stop-file"))
 
 -- the program of that name without commands; its words do not include a program's name
 abbrev pub top : Text → App
 top name =
     let app = bare name in
-    record app { top = record app.top { no_binary_name = true; has_version = true; subcommand_required = true } }
+    record app {
+      top = record app.top {
+        no_binary_name = true;
+        has_version = true;
+        subcommand_required = true;
+      };
+    }
 
 -- the program of that name with the commands on sheets
 abbrev pub with_sheets : Text → App
@@ -55,4 +65,10 @@ sheets = with_sheets (codes "sheets")
 
 -- the program `ftpd`
 abbrev pub ftpd : App
-ftpd = with_subcommand (with_subcommand (with_subcommand (with_subcommand (with_sheets (codes "ftpd")) check_config.top) migrate.top) script.top) serve.top
+ftpd =
+    with_subcommand
+    (with_subcommand
+    (with_subcommand
+    (with_subcommand
+    (with_sheets
+    (codes "ftpd")) check_config.top) migrate.top) script.top) serve.top

@@ -65,7 +65,8 @@ IsServe word path (Sheet words) = ⊥
 IsServe word path (CheckConfig config) = ⊥
 IsServe word path (Migrate config) = ⊥
 IsServe word path (Script config) = ⊥
-IsServe word path (Serve config stop_file) = (config.now ≡ word) × (option_map (λ w. w.now) stop_file ≡ path)
+IsServe word path (Serve config stop_file) =
+    (config.now ≡ word) × (option_map (λ w. w.now) stop_file ≡ path)
 
 -- the name of a command that the parser entered, and its arguments
 abbrev pub entered_rows : Bor Text × Bor ArgMatches → Text × List Row
@@ -74,21 +75,28 @@ entered_rows found = (found.0.now, rows_of (found_of found.1.now))
 -- the parser found the command on a sheet, and the words after it
 abbrev pub IsSheetFound : Option (Text × List Row) → SheetWords → Type 0
 IsSheetFound found (Share sheet) =
-    (rows : List Row) × (found ≡ Some (codes "share", rows)) × (first_of (codes "SHEET") rows ≡ Some sheet.now)
+    (rows : List Row) × (found ≡ Some (codes "share", rows))
+    × (first_of (codes "SHEET") rows ≡ Some sheet.now)
 IsSheetFound found (Check sheet grants) =
-    (rows : List Row) × (found ≡ Some (codes "check", rows)) × (first_of (codes "SHEET") rows ≡ Some sheet.now) × (first_of (codes "GRANTS") rows ≡ Some grants.now)
+    (rows : List Row) × (found ≡ Some (codes "check", rows))
+    × (first_of (codes "SHEET") rows ≡ Some sheet.now)
+    × (first_of (codes "GRANTS") rows ≡ Some grants.now)
 
 -- the parser found the command, and the words after it
 abbrev pub IsFound : Option (Text × List Row) → Words → Type 0
 IsFound found (Sheet words) = IsSheetFound found words
 IsFound found (CheckConfig config) =
-    (rows : List Row) × (found ≡ Some (codes "check-config", rows)) × (first_of (codes "CONFIG") rows ≡ Some config.now)
+    (rows : List Row) × (found ≡ Some (codes "check-config", rows))
+    × (first_of (codes "CONFIG") rows ≡ Some config.now)
 IsFound found (Migrate config) =
-    (rows : List Row) × (found ≡ Some (codes "migrate", rows)) × (first_of (codes "CONFIG") rows ≡ Some config.now)
+    (rows : List Row) × (found ≡ Some (codes "migrate", rows))
+    × (first_of (codes "CONFIG") rows ≡ Some config.now)
 IsFound found (Script config) =
-    (rows : List Row) × (found ≡ Some (codes "script", rows)) × (first_of (codes "CONFIG") rows ≡ Some config.now)
+    (rows : List Row) × (found ≡ Some (codes "script", rows))
+    × (first_of (codes "CONFIG") rows ≡ Some config.now)
 IsFound found (Serve config stop_file) =
-    (rows : List Row) × (found ≡ Some (codes "serve", rows)) × (first_of (codes "CONFIG") rows ≡ Some config.now)
+    (rows : List Row) × (found ≡ Some (codes "serve", rows))
+    × (first_of (codes "CONFIG") rows ≡ Some config.now)
     × (first_of (codes "PATH") rows ≡ option_map (λ w. w.now) stop_file)
 
 -- the words give that command, or memory ran out
@@ -110,5 +118,6 @@ IsRefusedAs kind Memory = Unit {0}
 
 -- memory ran out, or the fault is a refusal of one of those kinds
 abbrev pub IsRefusal : Kinds → WordsFault → Type 0
-IsRefusal kinds (Refused text is_help) = (kind : ErrorKind) × IsAmong kind kinds × (IsTrue is_help ↔ IsHelp kind)
+IsRefusal kinds (Refused text is_help) =
+    (kind : ErrorKind) × IsAmong kind kinds × (IsTrue is_help ↔ IsHelp kind)
 IsRefusal kinds Memory = Unit {0}

@@ -1,4 +1,5 @@
--- A table of keys: a row for each key, with its kind and its default, and how the rows judge a TOML table.
+-- A table of keys: a row for each key, with its kind and its default, and how the rows judge a TOML
+-- table.
 use Rattle.std.specs.Prelude.{◌≡◌, ◌⊎◌, ℕ, Bool, true, false, not, ◌||◌, if◌then◌else◌, List, [], ◌∷◌, codes, bytes_eq, Option, Some, None, Ok, Err}
 use Rattle.std.specs.List.{list_any}
 use Rattle.toml.specs.Data.{Data, string, Members, no_members, member, get_member}
@@ -78,7 +79,8 @@ is_known grouped key = not (bytes_eq key (codes "group")) || grouped
 -- the keys of rows
 abbrev pub keys_of : Bool → List KeyRow → List (List ℕ)
 keys_of grouped [] = []
-keys_of grouped (row ∷ rows) = if is_known grouped row.key then row.key ∷ keys_of grouped rows else keys_of grouped rows
+keys_of grouped (row ∷ rows) =
+    if is_known grouped row.key then row.key ∷ keys_of grouped rows else keys_of grouped rows
 
 -- ---- all keys
 
@@ -90,7 +92,8 @@ AllHeld _ given _ = ⊥
 
 -- the table has these values, and no other keys
 abbrev pub States : Bool → List KeyRow → Members → List Held → Type 0
-States grouped rows given held = (stray (keys_of grouped rows) given ≡ None) × AllHeld rows given held
+States grouped rows given held =
+    (stray (keys_of grouped rows) given ≡ None) × AllHeld rows given held
 
 -- each key has a value
 abbrev pub AllFit : List KeyRow → Members → Type 0
@@ -105,7 +108,8 @@ IsFine grouped rows given = (stray (keys_of grouped rows) given ≡ None) × All
 abbrev pub IsFirstProblem : List KeyRow → Members → List ℕ → Problem → Type 0
 IsFirstProblem [] given key problem = ⊥
 IsFirstProblem (row ∷ rows) given key problem =
-    ((key ≡ row.key) × Judges row given (Err problem)) ⊎ (Fits row given × IsFirstProblem rows given key problem)
+    ((key ≡ row.key) × Judges row given (Err problem))
+    ⊎ (Fits row given × IsFirstProblem rows given key problem)
 
 -- The first problem of a table: its least key that is unknown; or there is none, and it is that of
 -- the first row whose key is refused.

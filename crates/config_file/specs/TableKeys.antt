@@ -86,7 +86,8 @@ server_values server =
 -- ---- [[group]]
 
 abbrev pub group_rows : List KeyRow
-group_rows = needed (codes "name") Line ∷ rate_row (codes "down_rate") ∷ rate_row (codes "up_rate") ∷ []
+group_rows =
+    needed (codes "name") Line ∷ rate_row (codes "down_rate") ∷ rate_row (codes "up_rate") ∷ []
 
 abbrev pub group_values : GroupTable → List Held
 group_values group = text group.name.now ∷ number group.down_rate ∷ number group.up_rate ∷ []
@@ -132,7 +133,8 @@ user_values user =
 -- ---- [[user.override]]
 
 abbrev pub override_rows : List KeyRow
-override_rows = needed (codes "path") Line ∷ needed (codes "perms") Line ∷ flag_row (codes "recursive") ∷ []
+override_rows =
+    needed (codes "path") Line ∷ needed (codes "perms") Line ∷ flag_row (codes "recursive") ∷ []
 
 abbrev pub override_values : OverrideTable → List Held
 override_values rule = text rule.path.now ∷ text rule.perms.now ∷ flag rule.recursive ∷ []
@@ -146,7 +148,9 @@ abbrev pub dir_values : DirTable → List Held
 dir_values dir = text dir.path.now ∷ []
 
 abbrev pub file_rows : List KeyRow
-file_rows = needed (codes "path") Line ∷ needed (codes "text") Text ∷ number_row (codes "modified") 0 LATEST 0 ∷ []
+file_rows =
+    needed (codes "path") Line ∷ needed (codes "text") Text
+    ∷ number_row (codes "modified") 0 LATEST 0 ∷ []
 
 abbrev pub file_values : FileTable → List Held
 file_values file = text file.path.now ∷ text file.text.now ∷ number file.modified ∷ []

@@ -60,7 +60,9 @@ table_rows name.File = file_rows
 -- the overrides of each user
 abbrev pub AreOverrides : List UserTable → List (Vec OverrideTable Global) → Type 0
 AreOverrides [] [] = Unit {0}
-AreOverrides (user ∷ users) (rules ∷ more) = AreRows true override_rows override_values (items_view user.overrides.now) rules.items × AreOverrides users more
+AreOverrides (user ∷ users) (rules ∷ more) =
+    AreRows true override_rows override_values (items_view user.overrides.now) rules.items
+    × AreOverrides users more
 AreOverrides _ _ = ⊥
 
 -- the tables have the values of the document, which has no other key
@@ -70,7 +72,8 @@ pub record IsTables (document : Members) (tables : Tables) : Type 0 where
   pub version : tables.version ≡ top.version
   pub server : States true server_rows (table_view top.server.now) (server_values tables.server)
   pub groups : AreRows true group_rows group_values (items_view top.groups.now) tables.groups.items
-  pub users : AreRows (is_grouped document) user_rows user_values (items_view top.users.now) tables.users.items
+  pub users : AreRows (is_grouped document) user_rows user_values
+      (items_view top.users.now) tables.users.items
   pub overrides : AreOverrides tables.users.items tables.overrides.items
   pub dirs : AreRows true dir_rows dir_values (items_view top.dirs.now) tables.dirs.items
   pub files : AreRows true file_rows file_values (items_view top.files.now) tables.files.items

@@ -35,7 +35,8 @@ abbrev pub Judged : Type 0
 Judged = Result Held Problem
 
 abbrev pub as_number : ℕ → ℕ → Data → Judged
-as_number low high (integer (pos n)) = if nat_lt n low || nat_lt high n then Err (OutOfRange (Number low high)) else Ok (number n)
+as_number low high (integer (pos n)) =
+    if nat_lt n low || nat_lt high n then Err (OutOfRange (Number low high)) else Ok (number n)
 as_number low high (integer (negsuc n)) = Err (OutOfRange (Number low high))
 as_number low high _ = Err (WrongKind (Number low high))
 

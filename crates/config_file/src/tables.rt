@@ -83,8 +83,10 @@ fn read_whole<'a, R: Keyed<'a>>(
     grouped: bool,
 ) -> Result<R, Fault<'a, KeyFault<'a>>>
     requires rows { rows_of rows.now ≡ R.Keys }
-    ensures table { IfOk result (λ read. States grouped R.Keys (table_view table.now) (R.Values read)) }
-    ensures refused { IfErr result (Tells (IsWholeFault grouped R.Keys name (table_view table.now))) }
+    ensures table { IfOk result (λ read.
+        States grouped R.Keys (table_view table.now) (R.Values read)) }
+    ensures refused { IfErr result (Tells
+        (IsWholeFault grouped R.Keys name (table_view table.now))) }
 {
     match judge(table, rows, grouped) {
         Ok(()) => Ok(R::read(table)),

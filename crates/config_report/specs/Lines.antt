@@ -12,8 +12,8 @@ use Rattle.server_config.specs.Settings.{told_address}
 use Rattle.config_report.specs.declared.warning.Warning.{Warning}
 use Rattle.config_report.specs.declared.warning.Warning.TheVariants.{NoAddress, OwnPorts, FewPorts, NoSecondSession, NoHome}
 
--- A text at the left of a column of this width, with blanks after it; and at its right, with blanks before it. A longer
--- text is not cut.
+-- A text at the left of a column of this width, with blanks after it; and at its right, with blanks
+-- before it. A longer text is not cut.
 abbrev pub left : ℕ → List ℕ → List ℕ
 left width text = styled_text (format_spec 32 1 0 width (2 ^ 64 - 1)) text
 
@@ -39,19 +39,24 @@ abbrev pub listens_line : ServerTable → List ℕ
 listens_line server = codes "listens on " ++ address_text server ++ port_text server
 
 abbrev pub ports_text : ServerTable → List ℕ
-ports_text server = codes ", ports " ++ decimal server.passive_first ++ codes " to " ++ decimal server.passive_last ++ 10 ∷ []
+ports_text server =
+    codes ", ports " ++ decimal server.passive_first ++ codes " to " ++ decimal server.passive_last
+    ++ 10 ∷ []
 
 abbrev pub tells_line : ServerTable → List ℕ
 tells_line server = codes "tells clients " ++ told_text server ++ ports_text server
 
 abbrev pub takes_line : ServerTable → List ℕ
-takes_line server = codes "takes " ++ decimal server.max_cons ++ codes " connections, " ++ decimal server.lanes ++ codes " transfers at once" ++ 10 ∷ []
+takes_line server =
+    codes "takes " ++ decimal server.max_cons ++ codes " connections, " ++ decimal server.lanes
+    ++ codes " transfers at once" ++ 10 ∷ []
 
 abbrev pub serves_line : ServerTable → List ℕ
 serves_line server = codes "serves " ++ server.root.now ++ 10 ∷ []
 
 abbrev pub server_lines : ServerTable → List ℕ
-server_lines server = listens_line server ++ tells_line server ++ takes_line server ++ serves_line server
+server_lines server =
+    listens_line server ++ tells_line server ++ takes_line server ++ serves_line server
 
 -- ---- rates and guarantees
 
@@ -64,7 +69,9 @@ abbrev pub rate_columns : ℕ → ℕ → List ℕ
 rate_columns down up = rate_column down ++ rate_column up ++ 10 ∷ []
 
 abbrev pub rates_head : List ℕ
-rates_head = 10 ∷ left 24 (codes "octets a second") ++ right 14 (codes "down") ++ right 14 (codes "up") ++ 10 ∷ []
+rates_head =
+    10 ∷ left 24 (codes "octets a second") ++ right 14 (codes "down") ++ right 14 (codes "up") ++ 10
+    ∷ []
 
 abbrev pub ways_line : ServerTable → List ℕ
 ways_line server = left 24 (codes "server") ++ rate_columns server.down_rate server.up_rate
@@ -76,11 +83,13 @@ abbrev pub server_rates : ServerTable → List ℕ
 server_rates server = rates_head ++ ways_line server ++ both_line server
 
 abbrev pub group_rates : GroupTable → List ℕ
-group_rates group = codes "group " ++ left 18 group.name.now ++ rate_columns group.down_rate group.up_rate
+group_rates group =
+    codes "group " ++ left 18 group.name.now ++ rate_columns group.down_rate group.up_rate
 
 -- a line of two rates of a user's sessions, unless both are 0
 abbrev pub part_line : List ℕ → ℕ → ℕ → List ℕ
-part_line head down up = if nat_eq down 0 && nat_eq up 0 then [] else left 24 head ++ rate_columns down up
+part_line head down up =
+    if nat_eq down 0 && nat_eq up 0 then [] else left 24 head ++ rate_columns down up
 
 abbrev pub user_rates : UserTable → List ℕ
 user_rates user =
@@ -96,22 +105,30 @@ group_text None = codes "-"
 group_text (Some name) = name.now
 
 abbrev pub users_head : List ℕ
-users_head = 10 ∷ left 16 (codes "user") ++ codes " " ++ left 10 (codes "may") ++ codes " " ++ left 16 (codes "group") ++ codes " home" ++ 10 ∷ []
+users_head =
+    10 ∷ left 16 (codes "user") ++ codes " " ++ left 10 (codes "may") ++ codes " "
+    ++ left 16 (codes "group") ++ codes " home" ++ 10 ∷ []
 
 abbrev pub user_line : UserTable → List ℕ
 user_line user =
-    left 16 user.name.now ++ codes " " ++ left 10 user.perms.now ++ codes " " ++ left 16 (group_text user.group) ++ codes " " ++ user.home.now ++ 10 ∷ []
+    left 16 user.name.now ++ codes " " ++ left 10 user.perms.now ++ codes " "
+    ++ left 16 (group_text user.group) ++ codes " " ++ user.home.now ++ 10 ∷ []
 
 -- ---- warnings
 
 abbrev pub warning_text : Warning → List ℕ
-warning_text NoAddress = codes "clients are told 0.0.0.0 for passive connections; state masquerade_address"
+warning_text NoAddress =
+    codes "clients are told 0.0.0.0 for passive connections; state masquerade_address"
 warning_text (OwnPorts first last) =
-    codes "the machine takes ports 32768 to 60999 for its own connections; passive ones are " ++ decimal first ++ codes " to " ++ decimal last
+    codes "the machine takes ports 32768 to 60999 for its own connections; passive ones are "
+    ++ decimal first ++ codes " to " ++ decimal last
 warning_text (FewPorts first last connections) =
-    decimal connections ++ codes " connections have fewer passive ports, " ++ decimal first ++ codes " to " ++ decimal last
-warning_text (NoSecondSession user) = codes "user " ++ user.now ++ codes ": a second session cannot be guaranteed what each is"
-warning_text (NoHome user home) = home.now ++ codes ", the home of user " ++ user.now ++ codes ", is no directory"
+    decimal connections ++ codes " connections have fewer passive ports, " ++ decimal first
+    ++ codes " to " ++ decimal last
+warning_text (NoSecondSession user) =
+    codes "user " ++ user.now ++ codes ": a second session cannot be guaranteed what each is"
+warning_text (NoHome user home) =
+    home.now ++ codes ", the home of user " ++ user.now ++ codes ", is no directory"
 
 abbrev pub warning_line : Warning → List ℕ
 warning_line warning = codes "warning: " ++ warning_text warning ++ 10 ∷ []
@@ -120,5 +137,6 @@ warning_line warning = codes "warning: " ++ warning_text warning ++ 10 ∷ []
 
 abbrev pub report_text : ServerTable → List GroupTable → List UserTable → List Warning → List ℕ
 report_text server groups users warnings =
-    server_lines server ++ server_rates server ++ flat_map group_rates groups ++ flat_map user_rates users
+    server_lines server ++ server_rates server ++ flat_map group_rates groups
+    ++ flat_map user_rates users
     ++ users_head ++ flat_map user_line users ++ flat_map warning_line warnings

@@ -13,13 +13,16 @@ use Rattle.config_report.specs.Warnings.{warnings}
 -- the lines of tables, with the warnings of the tables and of the store that is made of them
 abbrev pub report_of : Tables → ServedStore → List ℕ
 report_of tables store =
-    report_text tables.server tables.groups.items tables.users.items (warnings tables.server tables.groups.items tables.users.items store)
+    report_text tables.server tables.groups.items tables.users.items
+    (warnings tables.server tables.groups.items tables.users.items store)
 
 -- the same for the tables that the text states
 abbrev pub IsReport : List ℕ → ServedStore → List ℕ → Type 0
 IsReport octets store text =
-    (document : Members) × (tables : Tables) × (parse_document octets ≡ Some document) × IsTables document tables × (text ≡ report_of tables store)
+    (document : Members) × (tables : Tables) × (parse_document octets ≡ Some document)
+    × IsTables document tables × (text ≡ report_of tables store)
 
 -- the same for the store that is made of those tables
 abbrev pub IsReportOf : List ℕ → List ℕ → Type 0
-IsReportOf octets text = (config : Config) × IsConfigText octets config × IsReport octets config.store text
+IsReportOf octets text =
+    (config : Config) × IsConfigText octets config × IsReport octets config.store text

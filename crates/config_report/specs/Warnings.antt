@@ -36,14 +36,16 @@ abbrev pub server_warnings : ServerTable → List Warning
 server_warnings server =
     (if is_untold server then NoAddress ∷ [] else [])
     ++ (if is_among_own server then OwnPorts server.passive_first server.passive_last ∷ [] else [])
-    ++ (if has_few_ports server then FewPorts server.passive_first server.passive_last server.max_cons ∷ [] else [])
+    ++ (if has_few_ports server
+    then FewPorts server.passive_first server.passive_last server.max_cons ∷ [] else [])
 
 -- ---- of a user's guarantees
 
 -- the rates down and up of the first group of a name; 0, which is no limit, if there is none
 abbrev pub rates_by : List GroupTable → List ℕ → ℕ × ℕ
 rates_by [] name = (0, 0)
-rates_by (group ∷ groups) name = cond (bytes_eq group.name.now name) (group.down_rate, group.up_rate) (rates_by groups name)
+rates_by (group ∷ groups) name =
+    cond (bytes_eq group.name.now name) (group.down_rate, group.up_rate) (rates_by groups name)
 
 abbrev pub rates_named : List GroupTable → Option (Bor (List ℕ)) → ℕ × ℕ
 rates_named groups None = (0, 0)
@@ -53,25 +55,31 @@ rates_named groups (Some name) = rates_by groups name.now
 abbrev pub fits : ℕ → ℕ → Bool
 fits sum rate = nat_eq rate 0 || nat_le sum rate
 
--- a session's guarantee one way is within the limit of the session, and twice that within the limits of the user, the
--- group and the way
+-- a session's guarantee one way is within the limit of the session, and twice that within the
+-- limits of the user, the group and the way
 abbrev pub fits_twice : ℕ → ℕ → ℕ → ℕ → ℕ → Bool
-fits_twice floor session user group way = fits floor session && (fits (2 * floor) user && (fits (2 * floor) group && fits (2 * floor) way))
+fits_twice floor session user group way =
+    fits floor session
+    && (fits (2 * floor) user && (fits (2 * floor) group && fits (2 * floor) way))
 
 -- the sessions of the user have a guarantee
 abbrev pub has_floor : UserTable → Bool
 has_floor user = not (nat_eq user.session_down_floor 0) || not (nat_eq user.session_up_floor 0)
 
--- two sessions of the user, alone on the server, have their guarantees; both ways count against the server's rate
+-- two sessions of the user, alone on the server, have their guarantees; both ways count against the
+-- server's rate
 abbrev pub fit_two : ServerTable → ℕ × ℕ → UserTable → Bool
 fit_two server group user =
-    fits_twice user.session_down_floor user.session_down_rate user.down_rate group.0 server.down_rate
+    fits_twice user.session_down_floor user.session_down_rate user.down_rate group.0
+    server.down_rate
     && (fits_twice user.session_up_floor user.session_up_rate user.up_rate group.1 server.up_rate
     && fits (2 * user.session_down_floor + 2 * user.session_up_floor) server.rate)
 
--- the sessions of the user have a guarantee, and a second session cannot have it, even alone with the first
+-- the sessions of the user have a guarantee, and a second session cannot have it, even alone with
+-- the first
 abbrev pub is_single : ServerTable → List GroupTable → UserTable → Bool
-is_single server groups user = has_floor user && not (fit_two server (rates_named groups user.group) user)
+is_single server groups user =
+    has_floor user && not (fit_two server (rates_named groups user.group) user)
 
 -- ---- of a user's home
 
@@ -101,4 +109,5 @@ user_warnings server groups store user =
 
 -- those of the server, and then those of the users in their order
 abbrev pub warnings : ServerTable → List GroupTable → List UserTable → ServedStore → List Warning
-warnings server groups users store = server_warnings server ++ flat_map (user_warnings server groups store) users
+warnings server groups users store =
+    server_warnings server ++ flat_map (user_warnings server groups store) users

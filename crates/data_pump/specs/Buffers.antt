@@ -24,7 +24,8 @@ pub record IsBuffer (data_type : DataType) (text octets : List ℕ) (from to : �
 
 -- One read of a source returned octets, and these are their wire octets; it returned none only at
 -- the end.
-pub record Fills (data_type : DataType) (old new : Option (List ℕ)) (count : ℕ) (wire : List ℕ) : Type 0 where
+pub record Fills (data_type : DataType) (old new : Option (List ℕ)) (count : ℕ)
+    (wire : List ℕ) : Type 0 where
   pub read : List ℕ
   pub consumed : Consumes old new read
   pub turned : wire ≡ sent data_type read

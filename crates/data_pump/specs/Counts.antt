@@ -1,5 +1,5 @@
--- Number of calls of an end of a transfer, and number of those that failed, each modulo 2^64; and the part that is at fault
--- for a pump's end.
+-- Number of calls of an end of a transfer, and number of those that failed, each modulo 2^64; and
+-- the part that is at fault for a pump's end.
 use Rattle.std.specs.Prelude.{◌≡◌, ◌⊎◌, ◌+◌, ◌%◌, ◌^◌, ℕ, Bool, true, false, Option, None, Some, Result, MatchResult}
 use Rattle.line_rates.specs.declared.ask.Way.{Way}
 use Rattle.line_rates.specs.declared.ask.Way.TheVariants.{Down, Up}
@@ -67,4 +67,5 @@ next_if false count = count
 
 -- one call of a part failed if the end is its fault; otherwise none did
 abbrev pub FailsAsTold : Way → PumpEnd → FailedPart → CallCounts → CallCounts → Type 0
-FailsAsTold way told part old new = new.failed ≡ next_if (is_part part (failed_part way told)) old.failed
+FailsAsTold way told part old new =
+    new.failed ≡ next_if (is_part part (failed_part way told)) old.failed

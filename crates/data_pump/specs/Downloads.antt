@@ -11,8 +11,8 @@ use Rattle.data_pump.specs.declared.pumped.PumpEnd.{PumpEnd}
 use Rattle.data_pump.specs.declared.pumped.PumpEnd.TheVariants.{Ended, More, ReadFault, WriteFault, Memory}
 use Rattle.data_pump.specs.declared.pumped.Pumped.{Pumped}
 
--- the flow out: the source and the connection, each with the counts of its calls, the waiting wire octets, and whether the
--- source has ended
+-- the flow out: the source and the connection, each with the counts of its calls, the waiting wire
+-- octets, and whether the source has ended
 pub record OutFlow (S K : Type 0) : Type 0 where
   pub source : S
   pub reads : CallCounts
@@ -29,7 +29,8 @@ pub record OutView (S K : Type 0) : Type 0 where
 
 -- the wire octets still to be written, if those of the source are known
 abbrev pub still_to_come : DataType → List ℕ → Option (List ℕ) → Option (List ℕ)
-still_to_come data_type waiting known = option_map (λ octets. waiting ++ sent data_type octets) known
+still_to_come data_type waiting known =
+    option_map (λ octets. waiting ++ sent data_type octets) known
 
 abbrev pub to_come : {S K : Type 0} → (S → Option (List ℕ)) → OutFlow S K → Option (List ℕ)
 to_come remaining flow = still_to_come flow.data_type flow.waiting (remaining flow.source)
@@ -42,24 +43,30 @@ HasEnded flow = IsTrue flow.is_over × (flow.waiting ≡ [])
 abbrev pub IsSourceFault : PumpEnd → Type 0
 IsSourceFault end = (end ≡ ReadFault) ⊎ (end ≡ Memory)
 
--- Between two pumps: while there is more, octets wait, unless the source was empty from the start; and a pump's end is
--- `Ended` only if the transfer has ended.
+-- Between two pumps: while there is more, octets wait, unless the source was empty from the start;
+-- and a pump's end is `Ended` only if the transfer has ended.
 pub record IsReady {S K : Type 0} (flow : OutFlow S K) (last : PumpEnd) : Type 0 where
   pub more : last ≡ More → (0 < length flow.waiting) ⊎ HasEnded flow
   pub ended : last ≡ Ended → HasEnded flow
 
 -- A pump of a download with a grant of `octets` moved `pumped`.
-pub record MovesOut {S K : Type 0} (remaining : S → Option (List ℕ)) (contents : K → Option (List ℕ)) (octets : ℕ) (old new : OutFlow S K) (pumped : Pumped) : Type 0 where
+pub record MovesOut {S K : Type 0} (remaining : S → Option (List ℕ))
+    (contents : K → Option (List ℕ)) (octets : ℕ) (old new : OutFlow S K)
+    (pumped : Pumped) : Type 0 where
   -- at most the grant, and at most what waited; less only if a write failed
   pub most : pumped.moved ≤ min octets (length old.waiting)
   pub fewer : pumped.moved < min octets (length old.waiting) → pumped.end ≡ WriteFault
   pub failed : pumped.end ≡ WriteFault → pumped.moved < min octets (length old.waiting)
   -- they are what the connection's writes took, and the first of what was to come
-  pub written : Appends (contents old.connection) (contents new.connection) (take pumped.moved old.waiting)
-  pub come : Consumes (to_come remaining old) (to_come remaining new) (take pumped.moved old.waiting)
+  pub written : Appends (contents old.connection) (contents new.connection)
+      (take pumped.moved old.waiting)
+  pub come : Consumes (to_come remaining old) (to_come remaining new)
+      (take pumped.moved old.waiting)
   pub no_call : octets ≡ 0 → (new.connection ≡ old.connection) × (new.writes ≡ old.writes)
   -- the source is read once, and only if no octets wait any more
-  pub left : pumped.moved < length old.waiting → (new.waiting ≡ drop pumped.moved old.waiting) × (new.source ≡ old.source) × (new.reads ≡ old.reads)
+  pub left : pumped.moved < length old.waiting
+      → (new.waiting ≡ drop pumped.moved old.waiting) × (new.source ≡ old.source)
+      × (new.reads ≡ old.reads)
   pub once : IsOnceAtMost old.reads new.reads
   -- a call failed exactly if the end says so
   pub reads_failed : FailsAsTold Down pumped.end Source old.reads new.reads
@@ -72,7 +79,8 @@ pub record MovesOut {S K : Type 0} (remaining : S → Option (List ℕ)) (conten
   pub data_type : new.data_type ≡ old.data_type
 
 -- Of a wire text, a part was written after what the connection had before, and the rest is to come.
-pub record IsSending {S K : Type 0} (remaining : S → Option (List ℕ)) (contents : K → Option (List ℕ)) (before text : List ℕ) (flow : OutFlow S K) : Type 0 where
+pub record IsSending {S K : Type 0} (remaining : S → Option (List ℕ))
+    (contents : K → Option (List ℕ)) (before text : List ℕ) (flow : OutFlow S K) : Type 0 where
   pub written : List ℕ
   pub rest : List ℕ
   pub holds : contents flow.connection ≡ Some (before ++ written)

@@ -14,7 +14,8 @@ held_cr holds_cr next = cr_if (holds_cr && not (next == 10))
 
 -- These octets were converted to a text, which was appended to `before`, and a CR is held back or
 -- not.
-pub record PutsRun (holds_cr : Bool) (octets before after : List ℕ) (holds_next : Bool) : Type 0 where
+pub record PutsRun (holds_cr : Bool) (octets before after : List ℕ)
+    (holds_next : Bool) : Type 0 where
   pub text : List ℕ
   pub put : after ≡ before ++ text
   pub meant : ReceivesOctets Ascii (cr_if holds_cr) octets text (cr_if holds_next)

@@ -12,7 +12,8 @@ use Rattle.data_pump.specs.declared.pumped.PumpEnd.TheVariants.{Ended, More, Rea
 use Rattle.data_pump.specs.declared.pumped.Pumped.{Pumped}
 use Rattle.virtual_tree.specs.Calls.{Target}
 
--- the flow in: the connection and the sink, each with the counts of its calls, and the octets held back
+-- the flow in: the connection and the sink, each with the counts of its calls, and the octets held
+-- back
 pub record InFlow (K X : Type 0) : Type 0 where
   pub connection : K
   pub reads : CallCounts
@@ -40,13 +41,15 @@ abbrev pub IsSinkFault : PumpEnd → Type 0
 IsSinkFault end = (end ≡ WriteFault) ⊎ (end ≡ Memory)
 
 -- The sink received the text of a piece of octets, and `rest` is held back.
-pub record Gives (data_type : DataType) (held octets : List ℕ) (old new : Option (List ℕ)) (rest : List ℕ) : Type 0 where
+pub record Gives (data_type : DataType) (held octets : List ℕ) (old new : Option (List ℕ))
+    (rest : List ℕ) : Type 0 where
   pub text : List ℕ
   pub meant : ReceivesOctets data_type held octets text rest
   pub appended : Appends old new text
 
 -- The connection has ended, and the sink has received what was held back.
-pub record IsEnd {K X : Type 0} (remaining : K → Option (List ℕ)) (collected : X → Option (List ℕ)) (old new : InFlow K X) (moved : ℕ) : Type 0 where
+pub record IsEnd {K X : Type 0} (remaining : K → Option (List ℕ)) (collected : X → Option (List ℕ))
+    (old new : InFlow K X) (moved : ℕ) : Type 0 where
   pub none : moved ≡ 0
   pub at_end : IsAtEnd (remaining new.connection)
   pub appended : Appends (collected old.sink) (collected new.sink) old.held
@@ -54,7 +57,9 @@ pub record IsEnd {K X : Type 0} (remaining : K → Option (List ℕ)) (collected
   pub nothing : new.held ≡ []
 
 -- A pump of an upload with a grant of `octets` moved `pumped`, by one read.
-pub record MovesIn {K X : Type 0} (remaining : K → Option (List ℕ)) (collected : X → Option (List ℕ)) (target : X → Option Target) (octets : ℕ) (old new : InFlow K X) (pumped : Pumped) : Type 0 where
+pub record MovesIn {K X : Type 0} (remaining : K → Option (List ℕ))
+    (collected : X → Option (List ℕ)) (target : X → Option Target) (octets : ℕ)
+    (old new : InFlow K X) (pumped : Pumped) : Type 0 where
   pub most : pumped.moved ≤ min octets 65536
   -- they are what the connection's read returned
   pub read : List ℕ
@@ -68,16 +73,19 @@ pub record MovesIn {K X : Type 0} (remaining : K → Option (List ℕ)) (collect
   pub writes_failed : FailsAsTold Up pumped.end Sink old.writes new.writes
   -- the meaning of the end
   pub some : pumped.end ≡ More → 0 < octets → 0 < pumped.moved
-  pub given : pumped.end ≡ More → Gives old.data_type old.held read (collected old.sink) (collected new.sink) new.held
+  pub given : pumped.end ≡ More
+      → Gives old.data_type old.held read (collected old.sink) (collected new.sink) new.held
   pub ended : pumped.end ≡ Ended → IsEnd remaining collected old new pumped.moved
-  pub failed : pumped.end ≡ ReadFault → (pumped.moved ≡ 0) × (new.sink ≡ old.sink) × (new.held ≡ old.held)
+  pub failed : pumped.end ≡ ReadFault
+      → (pumped.moved ≡ 0) × (new.sink ≡ old.sink) × (new.held ≡ old.held)
   pub refused : IsSinkFault pumped.end → collected new.sink ≡ collected old.sink
   pub same_target : target new.sink ≡ target old.sink
   pub same_type : new.data_type ≡ old.data_type
 
--- Some of an upload's octets were received. The sink has, after what it had before, the text of these without what is
--- held back; and the text of all of them once the last pump has ended.
-pub record IsReceiving {K X : Type 0} (remaining : K → Option (List ℕ)) (collected : X → Option (List ℕ)) (before octets : List ℕ) (upload : InView K X) : Type 0 where
+-- Some of an upload's octets were received. The sink has, after what it had before, the text of
+-- these without what is held back; and the text of all of them once the last pump has ended.
+pub record IsReceiving {K X : Type 0} (remaining : K → Option (List ℕ))
+    (collected : X → Option (List ℕ)) (before octets : List ℕ) (upload : InView K X) : Type 0 where
   pub came : List ℕ
   pub rest : List ℕ
   pub held : List ℕ
@@ -85,5 +93,6 @@ pub record IsReceiving {K X : Type 0} (remaining : K → Option (List ℕ)) (col
   pub whole : octets ≡ came ++ rest
   pub holds : collected upload.flow.sink ≡ Some (before ++ text)
   pub meant : upload.last ≢ Ended → ReceivesOctets upload.flow.data_type [] came text held
-  pub more : upload.last ≡ More → (remaining upload.flow.connection ≡ Some rest) × (upload.flow.held ≡ held)
+  pub more : upload.last ≡ More
+      → (remaining upload.flow.connection ≡ Some rest) × (upload.flow.held ≡ held)
   pub ended : upload.last ≡ Ended → text ≡ received upload.flow.data_type octets

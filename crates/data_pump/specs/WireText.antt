@@ -17,7 +17,8 @@ abbrev pub received_text : List ℕ → List ℕ
 received_text [] = []
 received_text (octet ∷ []) = octet ∷ []
 received_text (octet ∷ next ∷ text) =
-    if (octet == 13) && (next == 10) then received_text (next ∷ text) else octet ∷ received_text (next ∷ text)
+    if (octet == 13) && (next == 10) then received_text (next ∷ text)
+    else octet ∷ received_text (next ∷ text)
 
 -- the wire octets of a file's octets
 abbrev pub sent : DataType → List ℕ → List ℕ
@@ -50,10 +51,14 @@ HoldsNothing Image held = held ≡ []
 -- After `held`, these octets become this text and leave `rest` to be held, whatever octets follow.
 abbrev pub ReceivesOctets : DataType → List ℕ → List ℕ → List ℕ → List ℕ → Type 0
 ReceivesOctets data_type held octets text rest =
-    (later : List ℕ) → received data_type (held ++ octets ++ later) ≡ text ++ received data_type (rest ++ later)
+    (later : List ℕ)
+    → received data_type (held ++ octets ++ later) ≡ text ++ received data_type (rest ++ later)
 
 abbrev pub IsSentInPieces : Type 0
-IsSentInPieces = (data_type : DataType) (xs ys : List ℕ) → sent data_type (xs ++ ys) ≡ sent data_type xs ++ sent data_type ys
+IsSentInPieces =
+    (data_type : DataType) (xs ys : List ℕ)
+    → sent data_type (xs ++ ys) ≡ sent data_type xs ++ sent data_type ys
 
 abbrev pub IsReceivedAsSent : Type 0
-IsReceivedAsSent = (data_type : DataType) (xs : List ℕ) → received data_type (sent data_type xs) ≡ xs
+IsReceivedAsSent =
+    (data_type : DataType) (xs : List ℕ) → received data_type (sent data_type xs) ≡ xs

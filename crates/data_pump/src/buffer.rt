@@ -32,7 +32,8 @@ impl<A: Allocator> Model for WireBuffer<A> {
 
     ghost Value = { Waiting };
 
-    ghost view = { λ b. record { data_type = b.data_type; octets = slice_range b.octets.items b.from b.to } };
+    ghost view = { λ b.
+        record { data_type = b.data_type; octets = slice_range b.octets.items b.from b.to } };
 
     ghost invariant = { λ b. IsBuffer b.data_type b.text.items b.octets.items b.from b.to };
 }

@@ -24,7 +24,8 @@ impl<E> Model for CountedEnd<E> {
 
     ghost Value = { Counted E };
 
-    ghost view = { λ c. record { end = c.end; calls = record { made = c.made; failed = c.failed } } };
+    ghost view = { λ c.
+        record { end = c.end; calls = record { made = c.made; failed = c.failed } } };
 }
 
 // One more, modulo 2^64.

@@ -36,7 +36,14 @@ impl<K: Read + Drop, T: Sink, A: Allocator> Model for Inflow<K, T, A> {
 
     ghost Value = { InFlow K T };
 
-    ghost view = { λ f. record { connection = f.connection.end; reads = f.connection.calls; sink = f.sink.end; writes = f.sink.calls; data_type = f.wire.data_type; held = f.wire.held } };
+    ghost view = { λ f. record {
+      connection = f.connection.end;
+      reads = f.connection.calls;
+      sink = f.sink.end;
+      writes = f.sink.calls;
+      data_type = f.wire.data_type;
+      held = f.wire.held;
+    } };
 
     ghost invariant = { λ f. IsRoom f.wire.data_type f.octets.items f.text.items };
 }

@@ -34,7 +34,15 @@ impl<S: Source, K: Write + Drop, A: Allocator> Model for Outflow<S, K, A> {
 
     ghost Value = { OutFlow S K };
 
-    ghost view = { λ f. record { source = f.source.end; reads = f.source.calls; connection = f.connection.end; writes = f.connection.calls; data_type = f.buffer.data_type; waiting = f.buffer.octets; is_over = f.is_over } };
+    ghost view = { λ f. record {
+      source = f.source.end;
+      reads = f.source.calls;
+      connection = f.connection.end;
+      writes = f.connection.calls;
+      data_type = f.buffer.data_type;
+      waiting = f.buffer.octets;
+      is_over = f.is_over;
+    } };
 
     ghost invariant = { λ f. OnTrue f.is_over (IsAtEnd (S.remaining f.source.end)) };
 }

@@ -1,5 +1,5 @@
--- The rule of the desk's table, and the result of each step. Word i is 0 if lane i is free, 1 if a worker has it, 2 if it
--- has asked, 3 if the round has its ask, and 4 if a grant waits.
+-- The rule of the desk's table, and the result of each step. Word i is 0 if lane i is free, 1 if a
+-- worker has it, 2 if it has asked, 3 if the round has its ask, and 4 if a grant waits.
 use Rattle.std.specs.Prelude.{◌≡◌, ℕ, ◌+◌, ◌<◌, ◌≤◌, List, [], ◌∷◌, ◌++◌, length, sum, slice_index, slice_index_or, slice_set, replicate}
 use mathlib.Core.Option.{Option, none, some}
 use lib.ListN.{get_elem?}
@@ -17,7 +17,8 @@ use Rattle.desk_rule.specs.declared.view.DeskView.{DeskView}
 use Rattle.desk_rule.specs.declared.view.DeskView.TheVariants.{Spent, Lane, Round}
 
 abbrev pub lane_view : SeatState → List ℕ → ℕ → List Ask → List ℕ → LaneView
-lane_view st n k asks taken = record { state = st; sittings = n; looks = k; asks = asks; taken = taken }
+lane_view st n k asks taken =
+    record { state = st; sittings = n; looks = k; asks = asks; taken = taken }
 
 abbrev pub fresh : LaneView
 fresh = lane_view Free [] 0 [] []
@@ -36,13 +37,15 @@ posted_in (t ∷ ts) = sum t.posted + posted_in ts
 abbrev pub most : ℕ
 most = 4611686018427387904
 
-module _ (k : ℕ) (lane : ℕ → LaneView) (turn : ℕ → TurnView) (owner : ℕ → ℕ) (desk dealt : ℕ) (j : ℕ) where
+module _ (k : ℕ) (lane : ℕ → LaneView) (turn : ℕ → TurnView) (owner : ℕ → ℕ) (desk dealt : ℕ)
+    (j : ℕ) where
   pub record KnowsRound (sh : RoundView) : Type 0 where
     pub is_desk : desk ≡ j
     pub dealt_is : sh.dealt ≡ dealt
     pub wide : length sh.turns ≡ k
     pub each_turn : (i : ℕ) → i < k → get_elem? sh.turns i ≡ some (turn i)
-    pub each_back : (i : ℕ) (x : LaneView) → get_elem? sh.back i ≡ some x → (owner i ≡ j) × (lane i ≡ x) × (i < dealt)
+    pub each_back : (i : ℕ) (x : LaneView) → get_elem? sh.back i ≡ some x
+        → (owner i ≡ j) × (lane i ≡ x) × (i < dealt)
     pub within : posted_in sh.turns ≤ most
 
   -- the claim that a view makes
@@ -63,7 +66,8 @@ lane_in i (Round sh) = slice_index_or sh.back i fresh
 abbrev pub with_lane : ℕ → LaneView → DeskView → DeskView
 with_lane i x Spent = Spent
 with_lane i x (Lane k y) = Lane k x
-with_lane i x (Round sh) = Round record { dealt = sh.dealt; turns = sh.turns; back = slice_set sh.back i x }
+with_lane i x (Round sh) =
+    Round record { dealt = sh.dealt; turns = sh.turns; back = slice_set sh.back i x }
 
 abbrev pub Owns : ℕ → DeskView → Type 0
 Owns i Spent = ⊥
@@ -78,7 +82,8 @@ turn_in i (Round sh) = slice_index_or sh.turns i unturned
 abbrev pub with_turn : ℕ → TurnView → DeskView → DeskView
 with_turn i t Spent = Spent
 with_turn i t (Lane k y) = Lane k y
-with_turn i t (Round sh) = Round record { dealt = sh.dealt; turns = slice_set sh.turns i t; back = sh.back }
+with_turn i t (Round sh) =
+    Round record { dealt = sh.dealt; turns = slice_set sh.turns i t; back = sh.back }
 
 abbrev pub Leads : ℕ → DeskView → Type 0
 Leads i Spent = ⊥
@@ -132,7 +137,8 @@ dealt_to (Lane k x) = Spent
 dealt_to (Round sh) = Lane sh.dealt fresh
 
 abbrev pub taken_in : DeskView → DeskView → DeskView
-taken_in (Round sh) (Lane k x) = Round record { dealt = sh.dealt; turns = sh.turns; back = sh.back ++ x ∷ [] }
+taken_in (Round sh) (Lane k x) =
+    Round record { dealt = sh.dealt; turns = sh.turns; back = sh.back ++ x ∷ [] }
 taken_in (Round sh) Spent = Round sh
 taken_in (Round sh) (Round th) = Round sh
 taken_in Spent w = Spent
@@ -201,7 +207,8 @@ module _ {N : Type 0} where
   Bears i (granted g) = g.lane ≡ i
 
   -- the lane's word n and slot h agree with the steps of its seat and of the round
-  pub record Agrees (i n : ℕ) (h : Option (Option (LaneSlot N))) (x : LaneView) (t : TurnView) (ph : Phase N) : Type 0 where
+  pub record Agrees (i n : ℕ) (h : Option (Option (LaneSlot N))) (x : LaneView) (t : TurnView)
+      (ph : Phase N) : Type 0 where
     pub word_is : n ≡ code ph
     pub home_is : h ≡ some (home_of ph)
     pub state_is : x.state ≡ state_of ph
@@ -221,31 +228,62 @@ module _ {N : Type 0} where
     pub wide : length s.homes ≤ length s.words
     pub few : dealt ≤ length s.homes
     pub new : (i : ℕ) → dealt ≤ i → lane i ≡ fresh
-    pub each_lane : (i : ℕ) → i < length s.homes → Agrees i (slice_index s.words i) (get_elem? s.homes i) (lane i) (turn i) (phase i)
-    pub each_view : (j : ℕ) (v : DeskView) → get_elem? s.views j ≡ some v → Knows (length s.homes) lane turn owner desk dealt j v
+    pub each_lane : (i : ℕ) → i < length s.homes
+        → Agrees i (slice_index s.words i) (get_elem? s.homes i) (lane i) (turn i) (phase i)
+    pub each_view : (j : ℕ) (v : DeskView) → get_elem? s.views j ≡ some v
+        → Knows (length s.homes) lane turn owner desk dealt j v
 
-  abbrev pub sits : Step (LaneSlot N) → Me (LaneSlot N) DeskView → ℕ → Me (LaneSlot N) DeskView → Type 0
-  sits st m r m' = m' ≡ (with_lane st.word (sat_down (lane_in st.word m.0)) m.0, (st.word, Blank) ∷ m.1)
+  abbrev pub sits : Step (LaneSlot N) → Me (LaneSlot N) DeskView → ℕ → Me (LaneSlot N) DeskView
+      → Type 0
+  sits st m r m' =
+      m' ≡ (with_lane st.word (sat_down (lane_in st.word m.0)) m.0, (st.word, Blank) ∷ m.1)
 
-  abbrev pub asks : Step (LaneSlot N) → Me (LaneSlot N) DeskView → ℕ → Me (LaneSlot N) DeskView → Type 0
-  asks st m r m' = (a : Ask) → m.1 ≡ (st.word, WithAsk a) ∷ rest m.1 → m' ≡ (with_lane st.word (has_asked a (lane_in st.word m.0)) m.0, rest m.1)
+  abbrev pub asks : Step (LaneSlot N) → Me (LaneSlot N) DeskView → ℕ → Me (LaneSlot N) DeskView
+      → Type 0
+  asks st m r m' =
+      (a : Ask) → m.1 ≡ (st.word, WithAsk a) ∷ rest m.1
+      → m' ≡ (with_lane st.word (has_asked a (lane_in st.word m.0)) m.0, rest m.1)
 
-  abbrev pub Collected : Step (LaneSlot N) → Me (LaneSlot N) DeskView → Me (LaneSlot N) DeskView → Type 0
-  Collected st m m' = (a : Ask) × (length (turn_in st.word m.0).collected ≡ length (turn_in st.word m.0).posted) × (m' ≡ (with_turn st.word (has_collected a (turn_in st.word m.0)) m.0, (st.word, WithAsk a) ∷ m.1))
+  abbrev pub Collected : Step (LaneSlot N) → Me (LaneSlot N) DeskView → Me (LaneSlot N) DeskView
+      → Type 0
+  Collected st m m' =
+      (a : Ask) × (length (turn_in st.word m.0).collected ≡ length (turn_in st.word m.0).posted)
+      × (m' ≡ (
+        with_turn st.word (has_collected a (turn_in st.word m.0)) m.0,
+        (st.word, WithAsk a) ∷ m.1,
+      ))
 
-  abbrev pub collects : Step (LaneSlot N) → Me (LaneSlot N) DeskView → ℕ → Me (LaneSlot N) DeskView → Type 0
-  collects st m r m' = (r ≡ 2 → Collected st m m') × (¬ (r ≡ 2) → m' ≡ (with_turn st.word (has_missed (turn_in st.word m.0)) m.0, m.1))
+  abbrev pub collects : Step (LaneSlot N) → Me (LaneSlot N) DeskView → ℕ → Me (LaneSlot N) DeskView
+      → Type 0
+  collects st m r m' =
+      (r ≡ 2 → Collected st m m')
+      × (¬ (r ≡ 2) → m' ≡ (with_turn st.word (has_missed (turn_in st.word m.0)) m.0, m.1))
 
-  abbrev pub posts : Step (LaneSlot N) → Me (LaneSlot N) DeskView → ℕ → Me (LaneSlot N) DeskView → Type 0
-  posts st m r m' = (g : GrantView) → m.1 ≡ (st.word, WithGrant g) ∷ rest m.1 → m' ≡ (with_turn st.word (has_posted g.octets (turn_in st.word m.0)) m.0, rest m.1)
+  abbrev pub posts : Step (LaneSlot N) → Me (LaneSlot N) DeskView → ℕ → Me (LaneSlot N) DeskView
+      → Type 0
+  posts st m r m' =
+      (g : GrantView) → m.1 ≡ (st.word, WithGrant g) ∷ rest m.1
+      → m' ≡ (with_turn st.word (has_posted g.octets (turn_in st.word m.0)) m.0, rest m.1)
 
   abbrev pub Took : Step (LaneSlot N) → Me (LaneSlot N) DeskView → Me (LaneSlot N) DeskView → Type 0
-  Took st m m' = (g : GrantView) × (g.lane ≡ st.word) × (m' ≡ (with_lane st.word (has_taken g.octets (lane_in st.word m.0)) m.0, (st.word, WithGrant g) ∷ m.1)) × (sum ((lane_in st.word m.0).taken ++ g.octets ∷ []) ≤ most) × Fits st.word m.0 (g.octets ∷ [])
+  Took st m m' =
+      (g : GrantView) × (g.lane ≡ st.word)
+      × (m' ≡ (
+        with_lane st.word (has_taken g.octets (lane_in st.word m.0)) m.0,
+        (st.word, WithGrant g) ∷ m.1,
+      ))
+      × (sum ((lane_in st.word m.0).taken ++ g.octets ∷ []) ≤ most) × Fits st.word m.0 (g.octets ∷ [])
 
-  abbrev pub takes_grant : Step (LaneSlot N) → Me (LaneSlot N) DeskView → ℕ → Me (LaneSlot N) DeskView → Type 0
-  takes_grant st m r m' = (r ≡ 4 → Took st m m') × (¬ (r ≡ 4) → (m' ≡ (with_lane st.word (has_looked (lane_in st.word m.0)) m.0, m.1)) × Fits st.word m.0 [])
+  abbrev pub takes_grant : Step (LaneSlot N) → Me (LaneSlot N) DeskView → ℕ
+      → Me (LaneSlot N) DeskView → Type 0
+  takes_grant st m r m' =
+      (r ≡ 4 → Took st m m')
+      × (¬ (r ≡ 4)
+      → (m' ≡ (with_lane st.word (has_looked (lane_in st.word m.0)) m.0, m.1))
+      × Fits st.word m.0 [])
 
-  abbrev pub rises : Step (LaneSlot N) → Me (LaneSlot N) DeskView → ℕ → Me (LaneSlot N) DeskView → Type 0
+  abbrev pub rises : Step (LaneSlot N) → Me (LaneSlot N) DeskView → ℕ → Me (LaneSlot N) DeskView
+      → Type 0
   rises st m r m' = m' ≡ (with_lane st.word (has_risen (lane_in st.word m.0)) m.0, rest m.1)
 
   -- the slot that a lane's seat has in each state
@@ -255,4 +293,5 @@ module _ {N : Type 0} where
   held_in Asked i = []
 
   abbrev pub KnowsLane : Me (LaneSlot N) DeskView → ℕ → SeatState → Type 0
-  KnowsLane m i st = (m.0 ≡ Lane i (lane_in i m.0)) × ((lane_in i m.0).state ≡ st) × (m.1 ≡ held_in st i)
+  KnowsLane m i st =
+      (m.0 ≡ Lane i (lane_in i m.0)) × ((lane_in i m.0).state ≡ st) × (m.1 ≡ held_in st i)

@@ -33,9 +33,12 @@ module _ {N : Type 0} where
   shown_in r i = shown_of (r.phase i) (r.lane i) (r.turn i)
 
   -- the shown part of lane i changes as stated, and that of other lanes does not change
-  abbrev pub Changes : {s s' : State (LaneSlot N) DeskView} → Kept s → Kept s' → ℕ → (Shown → Shown → Type 0) → Type 0
-  Changes r r' i P = P (shown_in r i) (shown_in r' i) × ((j : ℕ) → j ≢ i → shown_in r' j ≡ shown_in r j)
+  abbrev pub Changes : {s s' : State (LaneSlot N) DeskView} → Kept s → Kept s' → ℕ
+      → (Shown → Shown → Type 0) → Type 0
+  Changes r r' i P =
+      P (shown_in r i) (shown_in r' i) × ((j : ℕ) → j ≢ i → shown_in r' j ≡ shown_in r j)
 
   -- the rule is true for state s' too, and only the shown part of lane i changes, as stated
-  abbrev pub StepsTo : {s : State (LaneSlot N) DeskView} → Kept s → State (LaneSlot N) DeskView → ℕ → (Shown → Shown → Type 0) → Type 0
+  abbrev pub StepsTo : {s : State (LaneSlot N) DeskView} → Kept s → State (LaneSlot N) DeskView → ℕ
+      → (Shown → Shown → Type 0) → Type 0
   StepsTo r s' i P = (r' : Kept s') × Changes r r' i P

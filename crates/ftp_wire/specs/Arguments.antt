@@ -66,7 +66,8 @@ type_of text =
     if same_letters text (codes "A") || same_letters text (codes "A N") then Ok Ascii else
     (if same_letters text (codes "I") then Ok Image else
     (if same_letters text (codes "E")
-    || (same_letters text (codes "A T") || same_letters text (codes "A C")) then Err BadParameter else
+    || (same_letters text (codes "A T") || same_letters text (codes "A C"))
+    then Err BadParameter else
     local_type text))
 
 -- MODE and STRU: one letter is served, two others are known (RFC 959, sections 3.4 and 3.1.2)

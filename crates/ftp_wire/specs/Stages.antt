@@ -9,8 +9,12 @@ abbrev pub IsStart : Stage → List ℕ → Type 0
 IsStart stage.Text start = start ≡ []
 IsStart stage.Command start = start ≡ 255 ∷ []
 IsStart stage.Option start = (verb : ℕ) × (250 < verb) × (verb < 255) × (start ≡ 255 ∷ verb ∷ [])
-IsStart stage.Inside start = (parts : List Part) × AllByRecursion IsPart parts × (start ≡ 255 ∷ 250 ∷ flat_map part_octets parts)
-IsStart stage.InsideCommand start = (parts : List Part) × AllByRecursion IsPart parts × (start ≡ 255 ∷ 250 ∷ (flat_map part_octets parts ++ 255 ∷ []))
+IsStart stage.Inside start =
+    (parts : List Part) × AllByRecursion IsPart parts
+    × (start ≡ 255 ∷ 250 ∷ flat_map part_octets parts)
+IsStart stage.InsideCommand start =
+    (parts : List Part) × AllByRecursion IsPart parts
+    × (start ≡ 255 ∷ 250 ∷ (flat_map part_octets parts ++ 255 ∷ []))
 
 -- the octets are tokens and the start of a token of this stage, and the text is what they keep
 pub record StripsTo (octets text : List ℕ) (at : Stage) : Type 0 where

@@ -1,5 +1,6 @@
--- The causes for which a command ends with its fault, and the files that it opens, one after another. `refused` and
--- `fails` are tests of a path: that its file may be refused, and that reading it may fail.
+-- The causes for which a command ends with its fault, and the files that it opens, one after
+-- another. `refused` and `fails` are tests of a path: that its file may be refused, and that
+-- reading it may fail.
 use Rattle.std.specs.Prelude.{◌≡◌, ◌≤◌, ◌+◌, ◌⊎◌, ℕ, List, Option, Some, IfSome, length}
 use Rattle.command_line.specs.declared.words.Words.{Words}
 use Rattle.command_line.specs.declared.words.Words.TheVariants.{Sheet, CheckConfig, Migrate, Script, Serve}
@@ -13,25 +14,32 @@ use Rattle.ftpd_program.specs.Endings.{IsCommon}
 use Rattle.ftpd_program.specs.declared.ending.Ending.{Ending}
 use Rattle.ftpd_program.specs.declared.ending.Ending.TheVariants.{Common, Session}
 
--- the cause of a fault of reading the file of that path: only if it is possible, and the file is named
+-- the cause of a fault of reading the file of that path: only if it is possible, and the file is
+-- named
 abbrev pub IsReadWhy : List ℕ → Type 0 → Ending → Type 0
 IsReadWhy path may (Common (Text fault cause)) =
-    (fault ≡ ReadFault → may × (file_of cause ≡ Some path)) × (fault ≡ TooLong → file_of cause ≡ Some path)
+    (fault ≡ ReadFault → may × (file_of cause ≡ Some path))
+    × (fault ≡ TooLong → file_of cause ≡ Some path)
 IsReadWhy path may _ = Unit {0}
 
--- reading the input of a session may break it off: a read may fail, or the text is long enough for all reads of a session
+-- reading the input of a session may break it off: a read may fail, or the text is long enough for
+-- all reads of a session
 abbrev pub MayBreakInput : Octets → Type 0 → Type 0
-MayBreakInput gives fails = fails ⊎ ((text : Option (List ℕ)) × gives text × IfSome text (λ known. most_reads ≤ length known + 1))
+MayBreakInput gives fails =
+    fails ⊎ ((text : Option (List ℕ)) × gives text
+    × IfSome text (λ known. most_reads ≤ length known + 1))
 
--- the same for `script`, which opens standard input too, and whose session may break off: `breaks` is that the output may
--- refuse a reply
-abbrev pub IsScriptWhy : (List ℕ → Octets) → (List ℕ → Type 0) → (List ℕ → Type 0) → Type 0 → List ℕ → Ending → Type 0
+-- the same for `script`, which opens standard input too, and whose session may break off: `breaks`
+-- is that the output may refuse a reply
+abbrev pub IsScriptWhy : (List ℕ → Octets) → (List ℕ → Type 0) → (List ℕ → Type 0) → Type 0 → List ℕ
+    → Ending → Type 0
 IsScriptWhy gives refused fails breaks config (Common (Text fault cause)) =
     (fault ≡ ReadFault → ((refused config ⊎ fails config) × (file_of cause ≡ Some config))
     ⊎ (refused STANDARD_INPUT.now × (file_of cause ≡ Some STANDARD_INPUT.now)))
     × (fault ≡ TooLong → file_of cause ≡ Some config)
 IsScriptWhy gives refused fails breaks config (Session fault) =
-    IsSessionBreak (MayBreakInput (gives STANDARD_INPUT.now) (fails STANDARD_INPUT.now)) breaks fault
+    IsSessionBreak
+    (MayBreakInput (gives STANDARD_INPUT.now) (fails STANDARD_INPUT.now)) breaks fault
 IsScriptWhy gives refused fails breaks config _ = Unit {0}
 
 -- a command ends without its configuration
@@ -39,26 +47,36 @@ abbrev pub IsWithoutConfig : Ending → Type 0
 IsWithoutConfig (Common (Text fault cause)) = fault ≡ ReadFault
 IsWithoutConfig _ = ⊥
 
--- `script` opens no file if its configuration is standard input; otherwise the configuration, and then standard input,
--- unless the configuration is refused
-abbrev pub AreScriptOpened : {O : Type 0} → (O → List ℕ → O → Type 0) → O → O → (List ℕ → Type 0) → List ℕ → Ending → Type 0
+-- `script` opens no file if its configuration is standard input; otherwise the configuration, and
+-- then standard input, unless the configuration is refused
+abbrev pub AreScriptOpened : {O : Type 0} → (O → List ℕ → O → Type 0) → O → O → (List ℕ → Type 0)
+    → List ℕ → Ending → Type 0
 AreScriptOpened {O} opens old new refused config ending =
     (IsInput config × (new ≡ old))
     ⊎ ((opens old config new × refused config × IsWithoutConfig ending)
     ⊎ ((between : O) × opens old config between × opens between STANDARD_INPUT.now new))
 
 -- the cause of the fault with which that command ends, if it ends with one
-abbrev pub IsCommandWhy : (List ℕ → Octets) → (List ℕ → Type 0) → (List ℕ → Type 0) → (List ℕ → Type 0) → Type 0 → Words → Ending → Type 0
-IsCommandWhy gives refused fails refuses breaks (Sheet words) ending = IsCommon (IsSheetWhy gives refused fails refuses words) ending
-IsCommandWhy gives refused fails refuses breaks (CheckConfig config) ending = IsReadWhy config.now (refused config.now ⊎ fails config.now) ending
-IsCommandWhy gives refused fails refuses breaks (Migrate config) ending = IsReadWhy config.now (refused config.now ⊎ fails config.now) ending
-IsCommandWhy gives refused fails refuses breaks (Script config) ending = IsScriptWhy gives refused fails breaks config.now ending
-IsCommandWhy gives refused fails refuses breaks (Serve config stop_file) ending = IsReadWhy config.now (refused config.now ⊎ fails config.now) ending
+abbrev pub IsCommandWhy : (List ℕ → Octets) → (List ℕ → Type 0) → (List ℕ → Type 0)
+    → (List ℕ → Type 0) → Type 0 → Words → Ending → Type 0
+IsCommandWhy gives refused fails refuses breaks (Sheet words) ending =
+    IsCommon (IsSheetWhy gives refused fails refuses words) ending
+IsCommandWhy gives refused fails refuses breaks (CheckConfig config) ending =
+    IsReadWhy config.now (refused config.now ⊎ fails config.now) ending
+IsCommandWhy gives refused fails refuses breaks (Migrate config) ending =
+    IsReadWhy config.now (refused config.now ⊎ fails config.now) ending
+IsCommandWhy gives refused fails refuses breaks (Script config) ending =
+    IsScriptWhy gives refused fails breaks config.now ending
+IsCommandWhy gives refused fails refuses breaks (Serve config stop_file) ending =
+    IsReadWhy config.now (refused config.now ⊎ fails config.now) ending
 
 -- the files that a command opens, in the order of its words
-abbrev pub AreCommandOpened : {O : Type 0} → (O → List ℕ → O → Type 0) → O → O → (List ℕ → Type 0) → Words → Ending → Type 0
-AreCommandOpened opens old new refused (Sheet words) ending = IsCommon (AreOpened opens old new refused words) ending
+abbrev pub AreCommandOpened : {O : Type 0} → (O → List ℕ → O → Type 0) → O → O → (List ℕ → Type 0)
+    → Words → Ending → Type 0
+AreCommandOpened opens old new refused (Sheet words) ending =
+    IsCommon (AreOpened opens old new refused words) ending
 AreCommandOpened opens old new refused (CheckConfig config) ending = opens old config.now new
 AreCommandOpened opens old new refused (Migrate config) ending = opens old config.now new
-AreCommandOpened opens old new refused (Script config) ending = AreScriptOpened opens old new refused config.now ending
+AreCommandOpened opens old new refused (Script config) ending =
+    AreScriptOpened opens old new refused config.now ending
 AreCommandOpened opens old new refused (Serve config stop_file) ending = opens old config.now new

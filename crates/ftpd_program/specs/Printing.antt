@@ -30,7 +30,8 @@ IsPrintRefusal print text (Config fault) = IsUnprinted print text fault
 -- a text about the configuration of the octets that were read is appended
 abbrev pub AppendsPrint : Print → Option (List ℕ) → Option (List ℕ) → Option (List ℕ) → Type 0
 AppendsPrint print None old new = Unit {0}
-AppendsPrint print (Some text) old new = (printed : List ℕ) × IsPrintOf print text printed × Appends old new printed
+AppendsPrint print (Some text) old new =
+    (printed : List ℕ) × IsPrintOf print text printed × Appends old new printed
 
 -- the text of an end is refused for that fault
 abbrev pub IsUnprintedAt : Print → Option (List ℕ) → ConfigFault → Type 0

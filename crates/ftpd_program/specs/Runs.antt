@@ -1,6 +1,6 @@
--- The endings of the commands. A file is given by a test of the octets that it may contain, as for the commands on
--- sheets. Old and new are the contents of the output before and after, and Refuses is the test of the octets that it
--- may refuse.
+-- The endings of the commands. A file is given by a test of the octets that it may contain, as for
+-- the commands on sheets. Old and new are the contents of the output before and after, and Refuses
+-- is the test of the octets that it may refuse.
 use Rattle.std.specs.Prelude.{ℕ, List, Option, option_map}
 use Rattle.command_line.specs.declared.words.Words.{Words}
 use Rattle.command_line.specs.declared.words.Words.TheVariants.{Sheet, CheckConfig, Migrate, Script, Serve}
@@ -18,30 +18,45 @@ use Rattle.ftpd_program.specs.declared.printing.Print.{Print}
 use Rattle.ftpd_program.specs.declared.printing.Print.TheVariants.{Report, Latest}
 use Rattle.ftpd_program.specs.declared.scripting.ScriptFault.TheVariants.{Session as Unserved}
 
--- the ending of a command that prints a text about a configuration, by the contents that its file may have
-abbrev pub IsPrintEnd : Print → Octets → (List ℕ → Type 0) → Option (List ℕ) → Option (List ℕ) → Ending → Type 0
-IsPrintEnd print gives Refuses old new (Common Done) = (text : Option (List ℕ)) × gives text × AppendsPrint print text old new
-IsPrintEnd print gives Refuses old new (Common (Text fault cause)) = IsPrintingFaultOf gives (IsPrintOf print) Refuses fault
-IsPrintEnd print gives Refuses old new (Config fault) = (text : Option (List ℕ)) × gives text × IsUnprintedAt print text fault
+-- the ending of a command that prints a text about a configuration, by the contents that its file
+-- may have
+abbrev pub IsPrintEnd : Print → Octets → (List ℕ → Type 0) → Option (List ℕ) → Option (List ℕ)
+    → Ending → Type 0
+IsPrintEnd print gives Refuses old new (Common Done) =
+    (text : Option (List ℕ)) × gives text × AppendsPrint print text old new
+IsPrintEnd print gives Refuses old new (Common (Text fault cause)) =
+    IsPrintingFaultOf gives (IsPrintOf print) Refuses fault
+IsPrintEnd print gives Refuses old new (Config fault) =
+    (text : Option (List ℕ)) × gives text × IsUnprintedAt print text fault
 IsPrintEnd print gives Refuses old new _ = ⊥
 
 -- the ending of `script` for the path of a configuration; the control text is that of standard
 -- input
-abbrev pub IsScriptEnd : (List ℕ → Octets) → List ℕ → Option (List ℕ) → Option (List ℕ) → Ending → Type 0
-IsScriptEnd gives config old new (Common Done) = ¬ IsInput config × ((text before after : Option (List ℕ))
+abbrev pub IsScriptEnd : (List ℕ → Octets) → List ℕ → Option (List ℕ) → Option (List ℕ) → Ending
+    → Type 0
+IsScriptEnd gives config old new (Common Done) =
+    ¬ IsInput config × ((text before after : Option (List ℕ))
     × gives config text × gives STANDARD_INPUT.now before × IsScripted text before after old new)
 IsScriptEnd gives config old new (Common (Refused told)) = IsInput config
 IsScriptEnd gives config old new (Common (Text fault cause)) = IsReadingFaultOf (gives config) fault
-IsScriptEnd gives config old new (Config fault) = (text : Option (List ℕ)) × gives config text × IsRefusalOf text fault
-IsScriptEnd gives config old new (Session fault) = ¬ IsInput config × ((text before after : Option (List ℕ))
-    × gives config text × gives STANDARD_INPUT.now before × IsUnscripted text before after old new (Unserved fault))
+IsScriptEnd gives config old new (Config fault) =
+    (text : Option (List ℕ)) × gives config text × IsRefusalOf text fault
+IsScriptEnd gives config old new (Session fault) =
+    ¬ IsInput config × ((text before after : Option (List ℕ))
+    × gives config text × gives STANDARD_INPUT.now before
+    × IsUnscripted text before after old new (Unserved fault))
 IsScriptEnd gives config old new _ = ⊥
 
 -- the ending of that command, by a server
-abbrev pub IsCommandEnd : (List ℕ → Octets) → Service → (List ℕ → Type 0) → Words → Option (List ℕ) → Option (List ℕ) → Ending → Type 0
-IsCommandEnd gives serves Refuses (Sheet words) old new ending = IsCommon (IsSheetEnd gives words old new) ending
-IsCommandEnd gives serves Refuses (CheckConfig config) old new ending = IsPrintEnd Report (gives config.now) Refuses old new ending
-IsCommandEnd gives serves Refuses (Migrate config) old new ending = IsPrintEnd Latest (gives config.now) Refuses old new ending
-IsCommandEnd gives serves Refuses (Script config) old new ending = IsScriptEnd gives config.now old new ending
+abbrev pub IsCommandEnd : (List ℕ → Octets) → Service → (List ℕ → Type 0) → Words → Option (List ℕ)
+    → Option (List ℕ) → Ending → Type 0
+IsCommandEnd gives serves Refuses (Sheet words) old new ending =
+    IsCommon (IsSheetEnd gives words old new) ending
+IsCommandEnd gives serves Refuses (CheckConfig config) old new ending =
+    IsPrintEnd Report (gives config.now) Refuses old new ending
+IsCommandEnd gives serves Refuses (Migrate config) old new ending =
+    IsPrintEnd Latest (gives config.now) Refuses old new ending
+IsCommandEnd gives serves Refuses (Script config) old new ending =
+    IsScriptEnd gives config.now old new ending
 IsCommandEnd gives serves Refuses (Serve config stop_file) old new ending =
     IsServeEnd (gives config.now) serves (option_map (λ w. w.now) stop_file) old new ending

@@ -31,16 +31,20 @@ IsUnconfigured left (Text fault) = fault ≢ WriteFault
 IsUnconfigured left (Refused fault) = IsRefusalOf left fault
 IsUnconfigured left (Session fault) = ⊥
 
--- The text of the first end is that of a configuration, and the session is served by it: old and new are the control
--- text left to read, out and out' the octets written, before and after.
-abbrev pub IsScripted : Option (List ℕ) → Option (List ℕ) → Option (List ℕ) → Option (List ℕ) → Option (List ℕ) → Type 0
-IsScripted left old new out out' = (config : Config) × IsConfigOf left config × IsServed config old new out out'
+-- The text of the first end is that of a configuration, and the session is served by it: old and
+-- new are the control text left to read, out and out' the octets written, before and after.
+abbrev pub IsScripted : Option (List ℕ) → Option (List ℕ) → Option (List ℕ) → Option (List ℕ)
+    → Option (List ℕ) → Type 0
+IsScripted left old new out out' =
+    (config : Config) × IsConfigOf left config × IsServed config old new out out'
 
 -- the configuration is not read, or it is refused, or the session by it is not served whole
-abbrev pub IsUnscripted : Option (List ℕ) → Option (List ℕ) → Option (List ℕ) → Option (List ℕ) → Option (List ℕ) → ScriptFault → Type 0
+abbrev pub IsUnscripted : Option (List ℕ) → Option (List ℕ) → Option (List ℕ) → Option (List ℕ)
+    → Option (List ℕ) → ScriptFault → Type 0
 IsUnscripted left old new out out' (Text fault) = fault ≢ WriteFault
 IsUnscripted left old new out out' (Refused fault) = IsRefusalOf left fault
-IsUnscripted left old new out out' (Session fault) = (config : Config) × IsConfigOf left config × IsUnserved config old new out out' fault
+IsUnscripted left old new out out' (Session fault) =
+    (config : Config) × IsConfigOf left config × IsUnserved config old new out out' fault
 
 -- the session breaks off by a fault of the input or of the output only if these may have one
 abbrev pub IsScriptBreak : Type 0 → Type 0 → ScriptFault → Type 0

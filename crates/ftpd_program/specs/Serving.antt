@@ -12,8 +12,8 @@ use Rattle.ftpd_program.specs.declared.server.ServeFault.{ServeFault}
 abbrev pub Answer : Type 0
 Answer = Result (Unit {0}) ServeFault
 
--- the possible calls of a server: the configuration, the stop file, the contents of the output before and after, and
--- the result
+-- the possible calls of a server: the configuration, the stop file, the contents of the output
+-- before and after, and the result
 abbrev pub Service : Type 1
 Service = Config → Option (List ℕ) → Option (List ℕ) → Option (List ℕ) → Answer → Type 0
 
@@ -22,20 +22,26 @@ abbrev pub IsConfigIn : Octets → Config → Type 0
 IsConfigIn gives config = (text : Option (List ℕ)) × gives text × IsConfigOf text config
 
 -- the server had that result for the configuration of the file
-abbrev pub IsAnswered : Octets → Service → Option (List ℕ) → Option (List ℕ) → Option (List ℕ) → Answer → Type 0
-IsAnswered gives serves stop_file old new answer = (config : Config) × IsConfigIn gives config × serves config stop_file old new answer
+abbrev pub IsAnswered : Octets → Service → Option (List ℕ) → Option (List ℕ) → Option (List ℕ)
+    → Answer → Type 0
+IsAnswered gives serves stop_file old new answer =
+    (config : Config) × IsConfigIn gives config × serves config stop_file old new answer
 
 -- the ending of a command without a configuration of its file
 abbrev pub IsUnconfiguredEnd : Octets → Ending → Type 0
 IsUnconfiguredEnd gives (Common (Text fault cause)) = IsReadingFaultOf gives fault
-IsUnconfiguredEnd gives (Unread fault) = (text : Option (List ℕ)) × gives text × IsRefusalOf text fault
+IsUnconfiguredEnd gives (Unread fault) =
+    (text : Option (List ℕ)) × gives text × IsRefusalOf text fault
 IsUnconfiguredEnd gives _ = ⊥
 
 -- the ending of `serve`, by the contents that the configuration may have, a server, and a stop
 -- file, if any
-abbrev pub IsServeEnd : Octets → Service → Option (List ℕ) → Option (List ℕ) → Option (List ℕ) → Ending → Type 0
-IsServeEnd gives serves stop_file old new (Common Done) = IsAnswered gives serves stop_file old new (Ok tt)
-IsServeEnd gives serves stop_file old new (Server fault) = IsAnswered gives serves stop_file old new (Err fault)
+abbrev pub IsServeEnd : Octets → Service → Option (List ℕ) → Option (List ℕ) → Option (List ℕ)
+    → Ending → Type 0
+IsServeEnd gives serves stop_file old new (Common Done) =
+    IsAnswered gives serves stop_file old new (Ok tt)
+IsServeEnd gives serves stop_file old new (Server fault) =
+    IsAnswered gives serves stop_file old new (Err fault)
 IsServeEnd gives serves stop_file old new ending = IsUnconfiguredEnd gives ending
 
 -- the ending of a command for the result of the server

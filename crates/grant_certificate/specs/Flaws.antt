@@ -12,7 +12,8 @@ HasLengths t g c = (length g ≡ length t.wants) × (length c ≡ length t.wants
 
 -- branch k has a limit, and its leaves have more than that together
 abbrev pub IsOver : LimitTree → List ℕ → ℕ → Type 0
-IsOver t g k = (b : Branch) × (most : ℕ) × IsBranch t k b × (b.limit ≡ Some most) × (most < sum_over b.holds g)
+IsOver t g k =
+    (b : Branch) × (most : ℕ) × IsBranch t k b × (b.limit ≡ Some most) × (most < sum_over b.holds g)
 
 -- the first branch whose leaves have more than its limit, if there is one
 abbrev pub IsFirstOver : LimitTree → List ℕ → Option ℕ → Type 0
@@ -29,11 +30,14 @@ IsBackedAt t g c i = IsUnmet t g i → (k : ℕ) × (b : Branch) × Names t c i 
 
 -- the grant of leaf j exceeds that of leaf i by two or more, and is not its floor
 abbrev pub IsTooGreat : LimitTree → List ℕ → ℕ → ℕ → Type 0
-IsTooGreat t g i j = (slice_index g i + 2 ≤ slice_index g j) × (slice_index g j ≡ slice_index t.floors j → ⊥)
+IsTooGreat t g i j =
+    (slice_index g i + 2 ≤ slice_index g j) × (slice_index g j ≡ slice_index t.floors j → ⊥)
 
 -- the first leaf of the branch whose grant is too great compared with that of leaf i
 abbrev pub IsFirstTooGreat : LimitTree → Branch → List ℕ → ℕ → ℕ → Type 0
-IsFirstTooGreat t b g i j = IsTrue (b.holds j) × IsTooGreat t g i j × ((n : ℕ) → n < j → IsTrue (b.holds n) → IsNotTooGreat t g i n)
+IsFirstTooGreat t b g i j =
+    IsTrue (b.holds j) × IsTooGreat t g i j
+    × ((n : ℕ) → n < j → IsTrue (b.holds n) → IsNotTooGreat t g i n)
 
 -- the first flaw of the entry of an unmet leaf i
 abbrev pub IsLeafFlaw : LimitTree → List ℕ → List (Option ℕ) → ℕ → Flaw → Type 0
@@ -42,27 +46,34 @@ IsLeafFlaw t g c i (OverWant leaf) = ⊥
 IsLeafFlaw t g c i (UnderFloor leaf) = ⊥
 IsLeafFlaw t g c i (OverLimit node) = ⊥
 IsLeafFlaw t g c i (NoNode leaf) = (leaf ≡ i) × ((k : ℕ) (b : Branch) → Names t c i k b → ⊥)
-IsLeafFlaw t g c i (NotAbove leaf node) = (leaf ≡ i) × (b : Branch) × Names t c i node b × IsFalse (b.holds i)
-IsLeafFlaw t g c i (NotFull leaf node) = (leaf ≡ i) × (b : Branch) × Names t c i node b × IsTrue (b.holds i) × (IsFull b g → ⊥)
+IsLeafFlaw t g c i (NotAbove leaf node) =
+    (leaf ≡ i) × (b : Branch) × Names t c i node b × IsFalse (b.holds i)
+IsLeafFlaw t g c i (NotFull leaf node) =
+    (leaf ≡ i) × (b : Branch) × Names t c i node b × IsTrue (b.holds i) × (IsFull b g → ⊥)
 IsLeafFlaw t g c i (TooGreat leaf other) =
-    (leaf ≡ i) × (k : ℕ) × (b : Branch) × Names t c i k b × IsTrue (b.holds i) × IsFull b g × IsFirstTooGreat t b g i other
+    (leaf ≡ i) × (k : ℕ) × (b : Branch) × Names t c i k b × IsTrue (b.holds i) × IsFull b g
+    × IsFirstTooGreat t b g i other
 
 -- the flaw of the first unmet leaf without a bottleneck
 abbrev pub IsFirstUnbacked : LimitTree → List ℕ → List (Option ℕ) → Flaw → Type 0
-IsFirstUnbacked t g c flaw = (i : ℕ) × (i < length g) × IsUnmet t g i × ((j : ℕ) → j < i → IsBackedAt t g c j) × IsLeafFlaw t g c i flaw
+IsFirstUnbacked t g c flaw =
+    (i : ℕ) × (i < length g) × IsUnmet t g i × ((j : ℕ) → j < i → IsBackedAt t g c j)
+    × IsLeafFlaw t g c i flaw
 
--- The first flaw: wrong lengths, then the first leaf above its want, then the first leaf below its floor,
--- then the first branch above its limit, then the first unmet leaf without a bottleneck.
+-- The first flaw: wrong lengths, then the first leaf above its want, then the first leaf below its
+-- floor, then the first branch above its limit, then the first unmet leaf without a bottleneck.
 abbrev pub IsFirstFlaw : LimitTree → List ℕ → List (Option ℕ) → Flaw → Type 0
 IsFirstFlaw t g c WrongLength = HasLengths t g c → ⊥
 IsFirstFlaw t g c (OverWant leaf) =
     HasLengths t g c × (leaf < length g) × (slice_index t.wants leaf < slice_index g leaf) ×
     ((j : ℕ) → j < leaf → slice_index g j ≤ slice_index t.wants j)
 IsFirstFlaw t g c (UnderFloor leaf) =
-    HasLengths t g c × IsWanted t g × (leaf < length g) × (slice_index g leaf < slice_index t.floors leaf) ×
+    HasLengths t g c × IsWanted t g × (leaf < length g)
+    × (slice_index g leaf < slice_index t.floors leaf) ×
     ((j : ℕ) → j < leaf → slice_index t.floors j ≤ slice_index g j)
 IsFirstFlaw t g c (OverLimit node) =
-    HasLengths t g c × IsWanted t g × IsFloored t g × IsOver t g node × ((k : ℕ) → k < node → IsOver t g k → ⊥)
+    HasLengths t g c × IsWanted t g × IsFloored t g × IsOver t g node
+    × ((k : ℕ) → k < node → IsOver t g k → ⊥)
 IsFirstFlaw t g c flaw = HasLengths t g c × IsWithin t g × IsFirstUnbacked t g c flaw
 
 -- yes if the grants are within the limits and backed; otherwise no, with the first flaw

@@ -7,11 +7,14 @@ use Rattle.limit_tree.specs.declared.place.Place.{Place}
 
 -- the node is a branch whose leaves have more than its limit
 abbrev pub IsOverPlace : Place → List ℕ → Type 0
-IsOverPlace p g = (b : Branch) × (most : ℕ) × (branch_of p.kind p.first p.leaves ≡ Some b) × (b.limit ≡ Some most) × (most < sum_over b.holds g)
+IsOverPlace p g =
+    (b : Branch) × (most : ℕ) × (branch_of p.kind p.first p.leaves ≡ Some b) × (b.limit ≡ Some most)
+    × (most < sum_over b.holds g)
 
 -- the grant of leaf j is at most `most`, or is j's floor
 abbrev pub IsAtMostOrFloor : List ℕ → List ℕ → ℕ → ℕ → Type 0
-IsAtMostOrFloor g floors most j = (slice_index g j ≤ most) ⊎ (slice_index g j ≡ slice_index floors j)
+IsAtMostOrFloor g floors most j =
+    (slice_index g j ≤ most) ⊎ (slice_index g j ≡ slice_index floors j)
 
 -- the grant of leaf j does not exceed `grant` by two or more, or is j's floor
 abbrev pub IsNear : List ℕ → List ℕ → ℕ → ℕ → Type 0
@@ -19,11 +22,13 @@ IsNear g floors grant j = (slice_index g j < grant + 2) ⊎ (slice_index g j ≡
 
 -- the grant of leaf j exceeds `grant` by two or more, and is not j's floor
 abbrev pub IsGreater : List ℕ → List ℕ → ℕ → ℕ → Type 0
-IsGreater g floors grant j = (grant + 2 ≤ slice_index g j) × (slice_index g j ≡ slice_index floors j → ⊥)
+IsGreater g floors grant j =
+    (grant + 2 ≤ slice_index g j) × (slice_index g j ≡ slice_index floors j → ⊥)
 
 -- no grant in the range does
 abbrev pub IsNoneGreater : ℕ → ℕ → List ℕ → List ℕ → ℕ → Type 0
-IsNoneGreater first leaves g floors grant = (j : ℕ) → IsTrue (leaf_range first leaves j) → IsNear g floors grant j
+IsNoneGreater first leaves g floors grant =
+    (j : ℕ) → IsTrue (leaf_range first leaves j) → IsNear g floors grant j
 
 -- the first leaf of the range whose grant does
 abbrev pub IsFirstGreater : ℕ → ℕ → List ℕ → List ℕ → ℕ → ℕ → Type 0
@@ -34,7 +39,9 @@ IsFirstGreater first leaves g floors grant leaf =
 -- The greatest grant in a range that is not its leaf's floor; 0 if there is none.
 pub record IsGreatest (first leaves : ℕ) (g floors : List ℕ) (most : ℕ) : Type 0 where
   pub above : (j : ℕ) → IsTrue (leaf_range first leaves j) → IsAtMostOrFloor g floors most j
-  pub one : (most ≡ 0) ⊎ ((j : ℕ) × IsTrue (leaf_range first leaves j) × (slice_index g j ≡ most) × (slice_index g j ≡ slice_index floors j → ⊥))
+  pub one : (most ≡ 0)
+      ⊎ ((j : ℕ) × IsTrue (leaf_range first leaves j) × (slice_index g j ≡ most)
+      × (slice_index g j ≡ slice_index floors j → ⊥))
 
 -- the mark of leaf i is set
 abbrev pub IsMarked : List Bool → ℕ → Type 0
@@ -42,7 +49,8 @@ IsMarked marks i = get_or marks i false ≡ true
 
 -- The entry of leaf i is `number`, and the leaf lies in a range in which no grant is too great
 -- compared with its own.
-pub record IsHeldWithin (number first leaves : ℕ) (g floors : List ℕ) (c : List (Option ℕ)) (i : ℕ) : Type 0 where
+pub record IsHeldWithin (number first leaves : ℕ) (g floors : List ℕ) (c : List (Option ℕ))
+    (i : ℕ) : Type 0 where
   pub named : slice_get c i ≡ Some (Some number)
   pub holds : IsTrue (leaf_range first leaves i)
   pub greatest : (j : ℕ) → IsTrue (leaf_range first leaves j) → IsNear g floors (slice_index g i) j

@@ -25,7 +25,8 @@ impl<A: Allocator, B: Allocator> Model for Sealed<A, B> {
 
     ghost Value = { Sealing };
 
-    ghost view = { λ s. record { tree = s.tree; grants = s.grants.items; certificate = s.certificate } };
+    ghost view = { λ s.
+        record { tree = s.tree; grants = s.grants.items; certificate = s.certificate } };
 
     ghost invariant = { λ s. IsSealed s.tree s.grants.items s.certificate };
 }

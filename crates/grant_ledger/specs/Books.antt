@@ -1,8 +1,8 @@
 -- Books, grants, purses and tallies as contracts see them.
 use Rattle.std.specs.Prelude.{◌≢◌, ◌+◌, ◌<◌, ℕ, List, [], ◌∷◌, replicate, slice_set, min, Option, Some, None}
 
--- the octets issued, the tick of the last entry, for each lane the amount not yet drawn, and the tick of the entry that
--- these amounts are from
+-- the octets issued, the tick of the last entry, for each lane the amount not yet drawn, and the
+-- tick of the entry that these amounts are from
 pub record BookView : Type 0 where
   pub issued : ℕ
   pub last_tick : Option ℕ

@@ -39,9 +39,15 @@ impl<N> Model for Book<N> {
 
     ghost Value = { BookView };
 
-    ghost view = { λ b. record { issued = b.issued; last_tick = b.last_tick; undrawn = b.undrawn; entry_tick = b.entry_tick } };
+    ghost view = { λ b. record {
+      issued = b.issued;
+      last_tick = b.last_tick;
+      undrawn = b.undrawn;
+      entry_tick = b.entry_tick;
+    } };
 
-    ghost invariant = { λ b. (b.issued ≤ 2 ^ 62) × IfNone b.entry_tick (b.undrawn ≡ nothing_undrawn) };
+    ghost invariant = { λ b.
+        (b.issued ≤ 2 ^ 62) × IfNone b.entry_tick (b.undrawn ≡ nothing_undrawn) };
 }
 
 /// Permission to move octets on one lane, from the entry of one tick. It must be spent.

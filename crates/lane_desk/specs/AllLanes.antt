@@ -13,11 +13,18 @@ use Rattle.lane_desk.specs.Close.{Closes}
 module _ {N : Type 0} where
   -- the desk's seats, in the order of their lanes
   abbrev pub AreSeats : TableId → ℕ → List (LaneSeat N) → Type 0
-  AreSeats z n seats = (length seats ≡ n) × ((i : ℕ) (s : (LaneSeat N)) → slice_get seats i ≡ Some s → (s.lane ≡ i) × (s.seat.table_id ≡ z))
+  AreSeats z n seats =
+      (length seats ≡ n)
+      × ((i : ℕ) (s : (LaneSeat N)) → slice_get seats i ≡ Some s
+      → (s.lane ≡ i) × (s.seat.table_id ≡ z))
 
   -- each lane was closed, from what the round and the seat knew of it
   abbrev pub AllClosed : List TurnView → List (LaneSeat N) → List TurnView → List LaneView → Type 0
-  AllClosed ts seats ts' xs' = (length xs' ≡ length seats) × ((i : ℕ) (s : (LaneSeat N)) → slice_get seats i ≡ Some s → (n : ℕ) × Closes (slice_index_or ts i unturned) (seat_view s) (slice_index_or ts' i unturned) (slice_index_or xs' i fresh) n)
+  AllClosed ts seats ts' xs' =
+      (length xs' ≡ length seats)
+      × ((i : ℕ) (s : (LaneSeat N)) → slice_get seats i ≡ Some s
+      → (n : ℕ) × Closes (slice_index_or ts i unturned) (seat_view s)
+      (slice_index_or ts' i unturned) (slice_index_or xs' i fresh) n)
 
 abbrev pub taken_in_all : List LaneView → ℕ
 taken_in_all xs = sum_by (λ x. sum x.taken) xs
@@ -26,7 +33,8 @@ module _ {N : Type 0} where
   abbrev pub taken_by_all : List (LaneSeat N) → ℕ
   taken_by_all seats = sum_by (λ s. sum (seat_view s).taken) seats
 
-  -- the octets taken in the lists beyond those that the seats took were given back: a tally's sum of them, which saturates
-  -- at the greatest u64
+  -- the octets taken in the lists beyond those that the seats took were given back: a tally's sum
+  -- of them, which saturates at the greatest u64
   abbrev pub GivesBack : ℕ → ℕ → List (LaneSeat N) → List LaneView → Type 0
-  GivesBack old new seats xs' = (n : ℕ) × (taken_in_all xs' ≡ taken_by_all seats + n) × (new ≡ capped old n)
+  GivesBack old new seats xs' =
+      (n : ℕ) × (taken_in_all xs' ≡ taken_by_all seats + n) × (new ≡ capped old n)

@@ -11,7 +11,10 @@ use Rattle.lane_desk.specs.declared.fault.DeskFault.TheVariants.{TooMany, Memory
 module _ {N : Type 0} where
   -- a seat for each lane, in order, on which nothing has been done
   abbrev pub AreFresh : TableId → ℕ → List (LaneSeat N) → Type 0
-  AreFresh z n seats = (length seats ≡ n) × ((i : ℕ) (s : LaneSeat N) → slice_get seats i ≡ Some s → (s.lane ≡ i) × (s.seat.table_id ≡ z) × (seat_view s ≡ fresh))
+  AreFresh z n seats =
+      (length seats ≡ n)
+      × ((i : ℕ) (s : LaneSeat N) → slice_get seats i ≡ Some s
+      → (s.lane ≡ i) × (s.seat.table_id ≡ z) × (seat_view s ≡ fresh))
 
 -- why no desk of this many lanes was opened
 abbrev pub IsNotOpened : ℕ → DeskFault → Type 0

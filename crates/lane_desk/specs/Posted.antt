@@ -23,7 +23,8 @@ AreDue (l ∷ ls) ts = (l < length ts) × (is_due (turn_at ts l) ≡ true) × Na
 
 -- each ask collected was answered
 abbrev pub AllAnswered : List TurnView → Type 0
-AllAnswered ts = (i : ℕ) → i < length ts → length (turn_at ts i).collected ≡ length (turn_at ts i).posted
+AllAnswered ts =
+    (i : ℕ) → i < length ts → length (turn_at ts i).collected ≡ length (turn_at ts i).posted
 
 -- the amount 0 for an ask
 abbrev pub nothing_for : Asker → ℕ

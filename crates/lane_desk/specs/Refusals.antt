@@ -23,9 +23,11 @@ pub record PassesMost (rates : Rates) (tick : ℕ) (asks : List Asker) (issued :
 -- this reason applies, and none before it except lack of memory
 abbrev pub IsRefused : (A : Type 0) → Rates → ℕ → List Asker → BookView → RoundRefusal → Type 0
 IsRefused A rates tick asks book (NotYet last) = (book.last_tick ≡ Some last) × (tick ≤ last)
-IsRefused A rates tick asks book (Plan fault) = IsLater tick book.last_tick × HasFault A rates tick asks fault
+IsRefused A rates tick asks book (Plan fault) =
+    IsLater tick book.last_tick × HasFault A rates tick asks fault
 IsRefused A rates tick asks book Memory = IsLater tick book.last_tick
-IsRefused A rates tick asks book BookFull = IsLater tick book.last_tick × PassesMost rates tick asks book.issued
+IsRefused A rates tick asks book BookFull =
+    IsLater tick book.last_tick × PassesMost rates tick asks book.issued
 
 -- why no shares were found
 abbrev pub IsUnshared : (A : Type 0) → Rates → ℕ → List Asker → RoundRefusal → Type 0

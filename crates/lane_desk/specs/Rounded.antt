@@ -22,22 +22,28 @@ abbrev pub IsTurnedAway : Option Ask → TurnView → TurnView → Type 0
 IsTurnedAway None t t' = t' ≡ has_missed t
 IsTurnedAway (Some a) t t' = t' ≡ has_posted 0 (has_collected a t)
 
--- A round at a tick: `found` is what was on each lane. The plan is that of the asks found, and each leaf's grant was posted
--- on the leaf's lane.
-pub record IsRound (rates : Rates) (tick : ℕ) (old new : List TurnView) (answered : ℕ) (tree : LimitTree) (lanes grants : List ℕ) : Type 0 where
+-- A round at a tick: `found` is what was on each lane. The plan is that of the asks found, and each
+-- leaf's grant was posted on the leaf's lane.
+pub record IsRound (rates : Rates) (tick : ℕ) (old new : List TurnView) (answered : ℕ)
+    (tree : LimitTree) (lanes grants : List ℕ) : Type 0 where
   pub found : List (Option Ask)
   pub wide : length found ≡ length old
   pub still : length new ≡ length old
-  pub each : (i : ℕ) → i < length old → IsAnswered (slice_index_or found i None) (turn_at old i) (turn_at new i)
+  pub each : (i : ℕ) → i < length old
+      → IsAnswered (slice_index_or found i None) (turn_at old i) (turn_at new i)
   pub marks : AreMarks found answered
   pub plan : IsPlan rates tick (asks_from 0 found) tree lanes
-  pub posted : (j : ℕ) → j < length lanes → (turn_at new (slice_index lanes j)).posted ≡ (turn_at old (slice_index lanes j)).posted ++ slice_index grants j ∷ []
+  pub posted : (j : ℕ) → j < length lanes
+      → (turn_at new (slice_index lanes j)).posted
+      ≡ (turn_at old (slice_index lanes j)).posted ++ slice_index grants j ∷ []
 
 -- A refused round.
-pub record IsRefusedRound (A : Type 0) (rates : Rates) (tick : ℕ) (book : BookView) (old new : List TurnView) (answered : ℕ) (reason : RoundRefusal) : Type 0 where
+pub record IsRefusedRound (A : Type 0) (rates : Rates) (tick : ℕ) (book : BookView)
+    (old new : List TurnView) (answered : ℕ) (reason : RoundRefusal) : Type 0 where
   pub found : List (Option Ask)
   pub wide : length found ≡ length old
   pub still : length new ≡ length old
-  pub each : (i : ℕ) → i < length old → IsTurnedAway (slice_index_or found i None) (turn_at old i) (turn_at new i)
+  pub each : (i : ℕ) → i < length old
+      → IsTurnedAway (slice_index_or found i None) (turn_at old i) (turn_at new i)
   pub marks : AreMarks found answered
   pub refused : IsRefused A rates tick (asks_from 0 found) book reason

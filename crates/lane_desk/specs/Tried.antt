@@ -37,7 +37,8 @@ abbrev pub AreMarks : List (Option Ask) → ℕ → Type 0
 AreMarks found n = (i : ℕ) → bit_at n i ≡ mark_of (slice_index_or found i None)
 
 -- each lane was tried once, with these results
-pub record AreTried (found : List (Option Ask)) (old new : List TurnView) (asks : List Asker) (answered : ℕ) : Type 0 where
+pub record AreTried (found : List (Option Ask)) (old new : List TurnView) (asks : List Asker)
+    (answered : ℕ) : Type 0 where
   pub wide : length found ≡ length old
   pub turns : new ≡ tried found old
   pub asks_are : asks ≡ asks_from 0 found

@@ -7,7 +7,10 @@ use Rattle.lane_desk.specs.declared.worked.Worked.{Worked}
 module _ {N : Type 0} where
   -- the seats of this table's desk, in the order of its n lanes
   abbrev pub AreWorkers : TableId → ℕ → List (Worked N) → Type 0
-  AreWorkers z n ws = (length ws ≡ n) × ((i : ℕ) (w : (Worked N)) → slice_get ws i ≡ Some w → (w.seat.lane ≡ i) × (w.seat.seat.table_id ≡ z))
+  AreWorkers z n ws =
+      (length ws ≡ n)
+      × ((i : ℕ) (w : (Worked N)) → slice_get ws i ≡ Some w
+      → (w.seat.lane ≡ i) × (w.seat.seat.table_id ≡ z))
 
   -- the octets moved in all of their tallies
   abbrev pub moved_by_all : List (Worked N) → ℕ

@@ -59,7 +59,8 @@ pub(crate) fn decide<L: Allocator, A: Allocator + Clone, N>(
         (λ d. IsPlan limits.now tick asks.now (seen d.sealed.tree) d.lanes.items) }
     ensures each { IfOk result (λ d. length d.lanes.items ≡ length d.sealed.grants) }
     ensures best { IfOk result (λ d. IsBest (seen d.sealed.tree) d.sealed.grants) }
-    ensures purse { IfOk result (λ d. d.purse ≡ record { left = sum d.sealed.grants; tick = tick }) }
+    ensures purse { IfOk result (λ d.
+        d.purse ≡ record { left = sum d.sealed.grants; tick = tick }) }
     ensures issued { IfOk result (λ d. book.new.issued ≡ book.old.issued + sum d.sealed.grants) }
     ensures most { IfOk result (λ d. book.old.issued + sum d.sealed.grants ≤ MAX_ISSUED) }
     ensures later { OnOk result (IsLater tick book.old.last_tick) }

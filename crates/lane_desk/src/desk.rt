@@ -11,7 +11,8 @@ use std::alloc::{Allocator, Global};
 pub struct Desk<N, A: Allocator = Global> {
     table: Table<LaneSlot<N>, DeskView, u64, DeskRule, A>,
     lanes: usize,
-    ghost sized: { (table.shared.table_id.slots ≡ lanes) × (lanes ≤ table.shared.table_id.words) × (0 < table.shared.table_id.words) × (lanes ≤ 64) },
+    ghost sized: { (table.shared.table_id.slots ≡ lanes) × (lanes ≤ table.shared.table_id.words)
+        × (0 < table.shared.table_id.words) × (lanes ≤ 64) },
 }
 
 impl<N, A: Allocator> Desk<N, A> {

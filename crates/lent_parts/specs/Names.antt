@@ -12,7 +12,16 @@ use Rattle.transfer_worker.specs.declared.board.JobBoard.{JobBoard}
 
 -- a placeholder for a table, if no desk has the name
 abbrev pub no_table : TableId
-no_table = record { words = 0; slots = 0; views_name = 0; atom = 0; block = 0; offset = 0; slot_names = [] }
+no_table =
+    record {
+      words = 0;
+      slots = 0;
+      views_name = 0;
+      atom = 0;
+      block = 0;
+      offset = 0;
+      slot_names = [];
+    }
 
 module _ {N : Type 0} where
   abbrev pub IsNamed : {A : Type 0} → TableId → ℕ → Desk N A → Type 0
@@ -24,7 +33,8 @@ module _ {N : Type 0} where
 
   -- the round's seat of that desk, before any seat was returned
   abbrev pub RoundsAt : TableId → ℕ → RoundDesk N → Type 0
-  RoundsAt table lanes round = (round.seat.table_id ≡ table) × (round.lanes ≡ lanes) × (back round ≡ [])
+  RoundsAt table lanes round =
+      (round.seat.table_id ≡ table) × (round.lanes ≡ lanes) × (back round ≡ [])
 
 module _ {J : Type 0} where
   abbrev pub IsBoardOf : {A : Type 0} → TableId → JobBoard J A → Type 0

@@ -13,14 +13,19 @@ nodes_at outline k = unwrap_or (option_map (λ p. p.nodes) (slice_get outline k)
 -- the sum, over `kids` trees side by side from node `first` on, of what each absorbs
 abbrev pub sum_of_trees : (ℕ → ℕ) → List Place → ℕ → ℕ → ℕ
 sum_of_trees taken outline at zero = 0
-sum_of_trees taken outline at (suc trees) = taken at + sum_of_trees taken outline (at + nodes_at outline at) trees
+sum_of_trees taken outline at (suc trees) =
+    taken at + sum_of_trees taken outline (at + nodes_at outline at) trees
 
--- Up to a level a leaf absorbs at most its want and at least its floor, and a branch what its kids absorb, cut to
--- its limit.
+-- Up to a level a leaf absorbs at most its want and at least its floor, and a branch what its kids
+-- absorb, cut to its limit.
 pub record TakesIn (level : ℕ) (outline : List Place) (taken : ℕ → ℕ) : Type 0 where
-  pub leaf : (k want floor : ℕ) (p : Place) → slice_get outline k ≡ Some p → p.kind ≡ Leaf want floor → taken k ≡ min want (max floor level)
-  pub branch : (k : ℕ) (limit : Option ℕ) (p : Place) → slice_get outline k ≡ Some p → p.kind ≡ Branch limit → taken k ≡ cut limit (sum_of_trees taken outline (k + 1) p.kids)
+  pub leaf : (k want floor : ℕ) (p : Place) → slice_get outline k ≡ Some p
+      → p.kind ≡ Leaf want floor → taken k ≡ min want (max floor level)
+  pub branch : (k : ℕ) (limit : Option ℕ) (p : Place) → slice_get outline k ≡ Some p
+      → p.kind ≡ Branch limit → taken k ≡ cut limit (sum_of_trees taken outline (k + 1) p.kids)
 
 -- the octets that the nodes of a tree absorb satisfy `TakesIn`
 abbrev pub AbsorbedIsTakenIn : Type 0
-AbsorbedIsTakenIn = (outline : List Place) (level : ℕ) → IsFlat outline → TakesIn level outline (absorbed level outline)
+AbsorbedIsTakenIn =
+    (outline : List Place) (level : ℕ) → IsFlat outline
+    → TakesIn level outline (absorbed level outline)

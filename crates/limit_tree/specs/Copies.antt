@@ -12,9 +12,12 @@ pub record AreCopied (seen outline : List Place) (wants floors : List ℕ) : Typ
   pub wants_are : wants ≡ (limits seen).wants
   pub floors_are : floors ≡ (limits seen).floors
 
--- a copy after the nodes of a tree at a depth, with the wants and floors of its leaves, were appended to it
-pub record AreCopiedBehind {A B : Type 0} (depth : ℕ) (node : Node B) (was now : Copying A) : Type 0 where
-  pub nodes : now.places.items ≡ was.places.items ++ map (moved depth (length was.wants.items)) (places node)
+-- a copy after the nodes of a tree at a depth, with the wants and floors of its leaves, were
+-- appended to it
+pub record AreCopiedBehind {A B : Type 0} (depth : ℕ) (node : Node B)
+    (was now : Copying A) : Type 0 where
+  pub nodes : now.places.items
+      ≡ was.places.items ++ map (moved depth (length was.wants.items)) (places node)
   pub wants_are : now.wants.items ≡ was.wants.items ++ (limits (places node)).wants
   pub floors_are : now.floors.items ≡ was.floors.items ++ (limits (places node)).floors
 

@@ -29,13 +29,16 @@ kind_fault (Branch (Some limit)) = if nat_lt MAX_LIMIT limit then Some LimitTooL
 abbrev pub node_fault : ℕ → ℕ → ℕ → NodeKind → Option TreeFault
 node_fault depth nodes leaves kind =
     if nat_lt MAX_DEPTH depth then Some TooDeep
-    else if nat_le MAX_NODES nodes || (is_leaf_kind kind && nat_le MAX_LEAVES leaves) then Some TooManyLeaves
+    else if nat_le MAX_NODES nodes || (is_leaf_kind kind && nat_le MAX_LEAVES leaves)
+    then Some TooManyLeaves
     else kind_fault kind
 
 -- the first fault of a list of nodes below `depth`, after `nodes` nodes and `leaves` leaves
 abbrev pub first_fault : ℕ → ℕ → ℕ → List Place → Option TreeFault
 first_fault depth nodes leaves [] = None
-first_fault depth nodes leaves (p ∷ ps) = or_else (node_fault (depth + p.depth) nodes (leaves + p.first) p.kind) (first_fault depth (nodes + 1) leaves ps)
+first_fault depth nodes leaves (p ∷ ps) =
+    or_else (node_fault (depth + p.depth) nodes (leaves + p.first) p.kind)
+    (first_fault depth (nodes + 1) leaves ps)
 
 -- the number of a branch whose leaves' floors add up to more than its limit
 abbrev pub over_limit : ℕ → ℕ → NodeKind → Option ℕ
@@ -46,12 +49,14 @@ over_limit number floors (Branch (Some limit)) = if nat_lt limit floors then Som
 -- the first such branch in a list of nodes, of which the first has `number`
 abbrev pub first_over : ℕ → List Place → Option ℕ
 first_over number [] = None
-first_over number (p ∷ ps) = or_else (over_limit number p.floors p.kind) (first_over (number + 1) ps)
+first_over number (p ∷ ps) =
+    or_else (over_limit number p.floors p.kind) (first_over (number + 1) ps)
 
--- The fault of the first node in preorder that has one; otherwise the first branch whose floors add up to
--- more than its limit.
+-- The fault of the first node in preorder that has one; otherwise the first branch whose floors add
+-- up to more than its limit.
 abbrev pub tree_fault : List Place → Option TreeFault
-tree_fault outline = or_else (first_fault 0 0 0 outline) (option_map FloorsOverLimit (first_over 0 outline))
+tree_fault outline =
+    or_else (first_fault 0 0 0 outline) (option_map FloorsOverLimit (first_over 0 outline))
 
 -- The properties of a tree without a fault, with its numbers of nodes and leaves.
 pub record IsSound (outline : List Place) (nodes leaves : ℕ) : Type 0 where

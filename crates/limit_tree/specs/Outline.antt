@@ -43,16 +43,35 @@ beside (p ∷ ps) = p ++ map (behind (leaf_count p)) (beside ps)
 
 -- a tree of one leaf
 abbrev pub leaf_alone : ℕ → ℕ → Place
-leaf_alone want floor = record { depth = 0; first = 0; leaves = 1; nodes = 1; kids = 0; floors = floor; kind = Leaf want floor }
+leaf_alone want floor =
+    record {
+      depth = 0;
+      first = 0;
+      leaves = 1;
+      nodes = 1;
+      kids = 0;
+      floors = floor;
+      kind = Leaf want floor;
+    }
 
 -- a branch with `kids` kids over the nodes below it
 abbrev pub branch_over : Option ℕ → ℕ → List Place → Place
-branch_over limit kids below = record { depth = 0; first = 0; leaves = leaf_count below; nodes = 1 + length below; kids = kids; floors = floor_sum below; kind = Branch limit }
+branch_over limit kids below =
+    record {
+      depth = 0;
+      first = 0;
+      leaves = leaf_count below;
+      nodes = 1 + length below;
+      kids = kids;
+      floors = floor_sum below;
+      kind = Branch limit;
+    }
 
 -- the nodes of one tree, from those of the trees below its root
 abbrev pub place_step : {A : Type 0} → Node-F A (List Place) → List Place
 place_step (LeafOf want floor) = leaf_alone want floor ∷ []
-place_step (BranchOf limit kids) = branch_over limit (length kids.items) (beside kids.items) ∷ map deeper (beside kids.items)
+place_step (BranchOf limit kids) =
+    branch_over limit (length kids.items) (beside kids.items) ∷ map deeper (beside kids.items)
 
 -- The nodes of a tree in preorder. A node's number is its index in this list.
 abbrev pub places : {A : Type 0} → Node A → List Place
@@ -75,7 +94,16 @@ kind_of {A} n = layer_kind (out-Node A n)
 
 -- the root of a tree, at `depth` and after `first` leaves
 abbrev pub root_place : {A : Type 0} → ℕ → ℕ → Node A → Place
-root_place depth first n = record { depth = depth; first = first; leaves = leaf_count (places n); nodes = length (places n); kids = length (kids_of n); floors = floor_sum (places n); kind = kind_of n }
+root_place depth first n =
+    record {
+      depth = depth;
+      first = first;
+      leaves = leaf_count (places n);
+      nodes = length (places n);
+      kids = length (kids_of n);
+      floors = floor_sum (places n);
+      kind = kind_of n;
+    }
 
 -- a node further down, and after more leaves
 abbrev pub moved : ℕ → ℕ → Place → Place
@@ -94,7 +122,8 @@ abbrev pub leaf_range : ℕ → ℕ → LeafSet
 leaf_range first leaves i = nat_le first i && nat_lt i (first + leaves)
 
 abbrev pub branch_of : NodeKind → ℕ → ℕ → Option SharedBranch
-branch_of (Branch limit) first leaves = Some (record { limit = limit; holds = leaf_range first leaves })
+branch_of (Branch limit) first leaves =
+    Some (record { limit = limit; holds = leaf_range first leaves })
 branch_of (Leaf want floor) first leaves = None
 
 -- the node is a branch, and the branch is full
@@ -103,7 +132,9 @@ IsFullPlace p g = (b : SharedBranch) × (branch_of p.kind p.first p.leaves ≡ S
 
 -- the node is a full branch that holds the leaf
 abbrev pub IsFullOver : Place → List ℕ → ℕ → Type 0
-IsFullOver p g i = (b : SharedBranch) × (branch_of p.kind p.first p.leaves ≡ Some b) × IsTrue (b.holds i) × IsFull b g
+IsFullOver p g i =
+    (b : SharedBranch) × (branch_of p.kind p.first p.leaves ≡ Some b) × IsTrue (b.holds i)
+    × IsFull b g
 
 -- the limit tree that the nodes represent
 abbrev pub limits : List Place → LimitTree
@@ -115,16 +146,17 @@ limits outline = record {
 
 -- the leaves of node `k`; a leaf has itself
 abbrev pub leaves_under : List Place → ℕ → LeafSet
-leaves_under outline k = unwrap_or (option_map (λ p. leaf_range p.first p.leaves) (slice_get outline k)) (λ i. false)
+leaves_under outline k =
+    unwrap_or (option_map (λ p. leaf_range p.first p.leaves) (slice_get outline k)) (λ i. false)
 
 -- cuts a number to a limit, if there is one
 abbrev pub cut : Option ℕ → ℕ → ℕ
 cut None n = n
 cut (Some most) n = min n most
 
--- A preorder list is an expression in Polish notation. Read from its end, the stack has what each tree so
--- far absorbs up to a level: a leaf at most its want and at least its floor, a branch what its kids absorb,
--- cut to its limit.
+-- A preorder list is an expression in Polish notation. Read from its end, the stack has what each
+-- tree so far absorbs up to a level: a leaf at most its want and at least its floor, a branch what
+-- its kids absorb, cut to its limit.
 abbrev pub absorb_step : ℕ → ℕ → NodeKind → List ℕ → List ℕ
 absorb_step level kids (Leaf want floor) stack = min want (max floor level) ∷ stack
 absorb_step level kids (Branch limit) stack = cut limit (sum (take kids stack)) ∷ drop kids stack

@@ -14,7 +14,8 @@ pub record IsPlainWithin (t : LimitTree) (g : List ℕ) : Type 0 where
 -- no grants within the limits, sorted upwards, are greater
 pub record IsPlainBest (t : LimitTree) (g : List ℕ) : Type 0 where
   pub within : IsPlainWithin t g
-  pub greatest : (h sorted_g sorted_h : List ℕ) → IsPlainWithin t h → IsAscending g sorted_g → IsAscending h sorted_h → IsGreater sorted_g sorted_h → ⊥
+  pub greatest : (h sorted_g sorted_h : List ℕ) → IsPlainWithin t h → IsAscending g sorted_g
+      → IsAscending h sorted_h → IsGreater sorted_g sorted_h → ⊥
 
 -- the branch is full and holds leaf i, and no grant in it exceeds that of leaf i by two or more
 pub record IsPlainBottleneck (b : Branch) (g : List ℕ) (i : ℕ) : Type 0 where
@@ -25,7 +26,9 @@ pub record IsPlainBottleneck (b : Branch) (g : List ℕ) (i : ℕ) : Type 0 wher
 -- each unmet leaf has a bottleneck, whose number the certificate names
 pub record IsPlainBackedBy (t : LimitTree) (g : List ℕ) (c : List (Option ℕ)) : Type 0 where
   pub leaves : length c ≡ length t.wants
-  pub backed : (i : ℕ) → i < length g → IsUnmet t g i → (k : ℕ) × (b : Branch) × (slice_get c i ≡ Some (Some k)) × IsBranch t k b × IsPlainBottleneck b g i
+  pub backed : (i : ℕ) → i < length g → IsUnmet t g i
+      → (k : ℕ) × (b : Branch) × (slice_get c i ≡ Some (Some k)) × IsBranch t k b
+      × IsPlainBottleneck b g i
 
 -- Without floors, the definitions are the plain ones.
 pub record IsPlain (t : LimitTree) (g : List ℕ) : Type 0 where

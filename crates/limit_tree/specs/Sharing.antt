@@ -1,5 +1,6 @@
--- Max-min fair sharing of whole octets (Bertsekas and Gallager, Data Networks, second edition, section 6.5),
--- with a guaranteed floor for each leaf. The definitions use sets of leaves and lists of numbers only.
+-- Max-min fair sharing of whole octets (Bertsekas and Gallager, Data Networks, second edition,
+-- section 6.5), with a guaranteed floor for each leaf. The definitions use sets of leaves and lists
+-- of numbers only.
 use Rattle.std.specs.Prelude.{◌≡◌, ℕ, ◌+◌, ◌<◌, ◌≤◌, Bool, if◌then◌else◌, ◌⊎◌, List, length, Option, Some, None, IsTrue, slice_index, slice_get, IsPermutation, zero, suc}
 use Rattle.std.specs.List.Sorted.{IsNonDecreasing}
 
@@ -12,7 +13,8 @@ pub record Branch : Type 0 where
   pub limit : Option ℕ
   pub holds : LeafSet
 
--- the wants and floors of the leaves, which are numbered from 0, and the branch of each branch number
+-- the wants and floors of the leaves, which are numbered from 0, and the branch of each branch
+-- number
 pub record LimitTree : Type 0 where
   pub wants : List ℕ
   pub floors : List ℕ
@@ -51,10 +53,11 @@ IsFloored t g = (i : ℕ) → i < length g → slice_index t.floors i ≤ slice_
 
 -- each branch has at most its limit, if it has one
 abbrev pub IsLimited : LimitTree → List ℕ → Type 0
-IsLimited t g = (k most : ℕ) (b : Branch) → IsBranch t k b → b.limit ≡ Some most → sum_over b.holds g ≤ most
+IsLimited t g =
+    (k most : ℕ) (b : Branch) → IsBranch t k b → b.limit ≡ Some most → sum_over b.holds g ≤ most
 
--- Within the limits: each leaf has at most its want and at least its floor, and each branch at most its
--- limit, if it has one.
+-- Within the limits: each leaf has at most its want and at least its floor, and each branch at most
+-- its limit, if it has one.
 pub record IsWithin (t : LimitTree) (g : List ℕ) : Type 0 where
   pub wanted : IsWanted t g
   pub floors : IsFloored t g
@@ -84,11 +87,12 @@ pub record IsGreater (a b : List ℕ) : Type 0 where
   pub before : (j : ℕ) → j < place → slice_index b j ≡ slice_index a j
   pub larger : slice_index a place < slice_index b place
 
--- Best (leximin): the grants are within the limits, and no other grants within them, sorted upwards, are
--- greater.
+-- Best (leximin): the grants are within the limits, and no other grants within them, sorted
+-- upwards, are greater.
 pub record IsBest (t : LimitTree) (g : List ℕ) : Type 0 where
   pub within : IsWithin t g
-  pub greatest : (h sorted_g sorted_h : List ℕ) → IsWithin t h → IsAscending g sorted_g → IsAscending h sorted_h → IsGreater sorted_g sorted_h → ⊥
+  pub greatest : (h sorted_g sorted_h : List ℕ) → IsWithin t h → IsAscending g sorted_g
+      → IsAscending h sorted_h → IsGreater sorted_g sorted_h → ⊥
 
 -- the branch has a limit, and the grants of its leaves add up to it
 abbrev pub IsFull : Branch → List ℕ → Type 0
@@ -113,10 +117,11 @@ IsDeepestFull t g i (Some k) = IsFullAbove t g i k × ((n : ℕ) → IsFullAbove
 
 -- The grant of leaf j does not exceed that of leaf i by two or more, or it is at most j's floor.
 abbrev pub IsNotTooGreat : LimitTree → List ℕ → ℕ → ℕ → Type 0
-IsNotTooGreat t g i j = (slice_index g j < slice_index g i + 2) ⊎ (slice_index g j ≡ slice_index t.floors j)
+IsNotTooGreat t g i j =
+    (slice_index g j < slice_index g i + 2) ⊎ (slice_index g j ≡ slice_index t.floors j)
 
--- A bottleneck of leaf i: the branch is full and holds the leaf, and no grant in it is too great compared
--- with that of the leaf.
+-- A bottleneck of leaf i: the branch is full and holds the leaf, and no grant in it is too great
+-- compared with that of the leaf.
 pub record IsBottleneck (t : LimitTree) (b : Branch) (g : List ℕ) (i : ℕ) : Type 0 where
   pub full : IsFull b g
   pub holds : IsTrue (b.holds i)
@@ -125,4 +130,6 @@ pub record IsBottleneck (t : LimitTree) (b : Branch) (g : List ℕ) (i : ℕ) : 
 -- Backed by a certificate c: each unmet leaf has a bottleneck, and c has its number.
 pub record IsBackedBy (t : LimitTree) (g : List ℕ) (c : List (Option ℕ)) : Type 0 where
   pub leaves : length c ≡ length t.wants
-  pub backed : (i : ℕ) → i < length g → IsUnmet t g i → (k : ℕ) × (b : Branch) × (slice_get c i ≡ Some (Some k)) × IsBranch t k b × IsBottleneck t b g i
+  pub backed : (i : ℕ) → i < length g → IsUnmet t g i
+      → (k : ℕ) × (b : Branch) × (slice_get c i ≡ Some (Some k)) × IsBranch t k b
+      × IsBottleneck t b g i

@@ -13,8 +13,8 @@ abbrev pub StartsWithLf : List ℕ → Type 0
 StartsWithLf [] = ⊥
 StartsWithLf (octet ∷ octets) = octet ≡ 10
 
--- Text from the start of a line, or from within a line: each line begins with an octet below 128, and CR occurs only
--- before LF.
+-- Text from the start of a line, or from within a line: each line begins with an octet below 128,
+-- and CR occurs only before LF.
 abbrev pub IsText : Bool → List ℕ → Type 0
 IsText begins [] = Unit {0}
 IsText true (octet ∷ octets) =
@@ -34,7 +34,8 @@ abbrev pub EndsAborts : Type 0
 EndsAborts = (known : Open) (abort : List ℕ) → known.line ≡ 0 → IsAbort abort
     → mended known (map Octet abort ++ Silence ∷ []) ≡ abort ++ 10 ∷ []
 
--- If the second IAC of IAC IP IAC DM was urgent, its DM is removed, and the text after it passes unchanged.
+-- If the second IAC of IAC IP IAC DM was urgent, its DM is removed, and the text after it passes
+-- unchanged.
 abbrev pub TakesMarksOut : Type 0
 TakesMarksOut = (known : Open) (all : List Met) → known.line ≡ 0 → IsText true (octets_of all)
     → mended known (Octet 255 ∷ Octet 244 ∷ Octet 242 ∷ all) ≡ 255 ∷ 244 ∷ octets_of all

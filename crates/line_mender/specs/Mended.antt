@@ -9,8 +9,8 @@ pub data Met : Type 0 where
   Octet : ℕ → Met
   Silence : Met
 
--- The state of the open line: how many octets of ABOR CR it has, or 6 if it is another; whether the last octet was IAC
--- (255); and whether the LF of a line that was ended without it may still come.
+-- The state of the open line: how many octets of ABOR CR it has, or 6 if it is another; whether the
+-- last octet was IAC (255); and whether the LF of a line that was ended without it may still come.
 pub record Open : Type 0 where
   pub line : ℕ
   pub behind_iac : Bool
@@ -22,10 +22,11 @@ at_start = record { line = 0; behind_iac = false; is_late = false }
 -- the octets of ABOR CR
 abbrev pub letter_at : ℕ → ℕ
 letter_at place =
-    if nat_eq place 0 then 65 else if nat_eq place 1 then 66 else if nat_eq place 2 then 79 else if nat_eq place 3 then 82 else 13
+    if nat_eq place 0 then 65 else if nat_eq place 1 then 66 else if nat_eq place 2 then 79
+    else if nat_eq place 3 then 82 else 13
 
--- The number of octets of ABOR CR in the open line after one more octet. Octets of 128 and above, such as those of
--- Telnet commands, are not counted.
+-- The number of octets of ABOR CR in the open line after one more octet. Octets of 128 and above,
+-- such as those of Telnet commands, are not counted.
 abbrev pub line_after : ℕ → ℕ → ℕ
 line_after line octet =
     if nat_eq octet 10 then 0
@@ -34,13 +35,15 @@ line_after line octet =
     else 6
 
 abbrev pub after : Open → ℕ → Open
-after known octet = record { line = line_after known.line octet; behind_iac = nat_eq octet 255; is_late = false }
+after known octet =
+    record { line = line_after known.line octet; behind_iac = nat_eq octet 255; is_late = false }
 
--- A DM (242) at the start of a line and not after an IAC: the IAC before it was urgent. Also the late LF of a line that
--- was ended without it.
+-- A DM (242) at the start of a line and not after an IAC: the IAC before it was urgent. Also the
+-- late LF of a line that was ended without it.
 abbrev pub is_stray : Open → ℕ → Bool
 is_stray known octet =
-    (known.is_late && nat_eq octet 10) || (nat_eq octet 242 && nat_eq known.line 0 && not known.behind_iac)
+    (known.is_late && nat_eq octet 10)
+    || (nat_eq octet 242 && nat_eq known.line 0 && not known.behind_iac)
 
 abbrev pub kept_of : Open → ℕ → List ℕ
 kept_of known octet = if is_stray known octet then [] else octet ∷ []
@@ -59,7 +62,9 @@ is_cut known = nat_eq known.line 5
 
 -- a silence ends such a line
 abbrev pub after_silence : Open → Open
-after_silence known = if is_cut known then record { line = 0; behind_iac = known.behind_iac; is_late = true } else known
+after_silence known =
+    if is_cut known then record { line = 0; behind_iac = known.behind_iac; is_late = true }
+    else known
 
 abbrev pub ending_of : Open → List ℕ
 ending_of known = if is_cut known then 10 ∷ [] else []
@@ -73,4 +78,5 @@ mended known (Silence ∷ all) = ending_of known ++ mended (after_silence known)
 -- a code, by which proofs distinguish values
 abbrev pub open_code : Coded Open
 open_code = code_by (ℕ × (Bool × Bool)) (coded× coded_ℕ (coded× coded_bool coded_bool))
-    (λ o. (o.line, (o.behind_iac, o.is_late))) (λ p. record { line = p.0; behind_iac = p.1.0; is_late = p.1.1 }) (λ _. refl)
+    (λ o. (o.line, (o.behind_iac, o.is_late)))
+    (λ p. record { line = p.0; behind_iac = p.1.0; is_late = p.1.1 }) (λ _. refl)

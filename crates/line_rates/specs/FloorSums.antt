@@ -17,8 +17,12 @@ floors_under rates n asks = sum_by (floor_under rates n) asks
 
 -- for each name, what asks are guaranteed under it is within its limit in the tick
 abbrev pub FloorsFit : Rates → ℕ → List Ask → Type 0
-FloorsFit rates tick asks = (n : Name) (most : ℕ) → rate_limit (rate_of rates n) tick ≡ Some most → floors_under rates n asks ≤ most
+FloorsFit rates tick asks =
+    (n : Name) (most : ℕ) → rate_limit (rate_of rates n) tick ≡ Some most
+    → floors_under rates n asks ≤ most
 
 -- The floors of the tree of a tick are within its limits exactly if they fit under each name.
 abbrev pub FloorsAreWithin : Type 0
-FloorsAreWithin = (rates : Rates) (tick : ℕ) (asks : List Ask) (t : LimitTree) → IsTickTree rates tick asks t → IsWithin t t.floors ↔ FloorsFit rates tick asks
+FloorsAreWithin =
+    (rates : Rates) (tick : ℕ) (asks : List Ask) (t : LimitTree) → IsTickTree rates tick asks t
+    → IsWithin t t.floors ↔ FloorsFit rates tick asks

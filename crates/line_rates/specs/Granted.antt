@@ -25,5 +25,8 @@ granted_under rates n grants = sum_by (λ g. if bears rates n g.ask then g.octet
 
 -- Grants within the tree of a tick keep each name's limit at that tick.
 abbrev pub GrantsKeepNames : Type 0
-GrantsKeepNames = (rates : Rates) (tick : ℕ) (t : LimitTree) (grants : List Granted) → IsTickTree rates tick (map granted_ask grants) t → IsWithin t (map granted_octets grants)
-    → (n : Name) (most : ℕ) → rate_limit (rate_of rates n) tick ≡ Some most → granted_under rates n grants ≤ most
+GrantsKeepNames =
+    (rates : Rates) (tick : ℕ) (t : LimitTree) (grants : List Granted)
+    → IsTickTree rates tick (map granted_ask grants) t → IsWithin t (map granted_octets grants)
+    → (n : Name) (most : ℕ) → rate_limit (rate_of rates n) tick ≡ Some most
+    → granted_under rates n grants ≤ most

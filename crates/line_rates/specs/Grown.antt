@@ -69,7 +69,8 @@ abbrev pub is_marked : Name → Mark → Bool
 is_marked n m = is_option n m.name
 
 -- the node is the branch of name n
-pub record IsBranchOf (r : Rates) (tick : ℕ) (named : Name → Bool) (asks : List Ask) (n : Name) (p : Place) : Type 0 where
+pub record IsBranchOf (r : Rates) (tick : ℕ) (named : Name → Bool) (asks : List Ask) (n : Name)
+    (p : Place) : Type 0 where
   pub kind : p.kind ≡ Branch (rate_limit (rate_of r n) tick)
   pub holds : (i : ℕ) → leaf_range p.first p.leaves i ≡ bears_at r n asks i
   pub among : named n ≡ true
@@ -83,7 +84,8 @@ IsMark r tick named asks m = IsMarkBy r tick named asks m.name m.place
 
 -- One leaf for each ask, and one branch for each name in `named`, over the leaves that count under
 -- it.
-pub record IsGrown (r : Rates) (tick : ℕ) (named : Name → Bool) (asks : List Ask) (ps : List Place) : Type 0 where
+pub record IsGrown (r : Rates) (tick : ℕ) (named : Name → Bool) (asks : List Ask)
+    (ps : List Place) : Type 0 where
   pub marks : List Mark
   pub are : ps ≡ map place_in marks
   pub wants : filter_map (λ p. leaf_want p.kind) ps ≡ map want_of asks
@@ -101,7 +103,8 @@ has_key r level n a = is_option n (key r level a)
 
 -- no name at the level is shared by an ask of each list
 abbrev pub IsApart : Rates → ℕ → List Ask → List Ask → Type 0
-IsApart r level xs ys = (n : Name) → list_any (has_key r level n) xs ≡ true → list_any (has_key r level n) ys ≡ false
+IsApart r level xs ys =
+    (n : Name) → list_any (has_key r level n) xs ≡ true → list_any (has_key r level n) ys ≡ false
 
 -- the nodes of a branch over trees
 abbrev pub branch_places : {A : Type 0} → Option ℕ → List (Node A) → List Place
@@ -109,9 +112,12 @@ branch_places limit kids =
     let below = beside (map places kids) in branch_over limit (length kids) below ∷ map deeper below
 
 -- the trees of some rows, whose asks are the leaves in this order
-pub record IsGrownFrom (r : Rates) (tick level : ℕ) (rows order : List Asker) (ps : List Place) : Type 0 where
+pub record IsGrownFrom (r : Rates) (tick level : ℕ) (rows order : List Asker)
+    (ps : List Place) : Type 0 where
   pub all : IsPermutation rows order
   pub grown : IsGrown r tick (named_from r level (map ask_in rows)) (map ask_in order) ps
 
-abbrev pub AreGrown : {A : Type 0} → Rates → ℕ → ℕ → List Asker → List Asker → List (Node A) → Type 0
-AreGrown r tick level rows order kids = IsGrownFrom r tick level rows order (beside (map places kids))
+abbrev pub AreGrown : {A : Type 0} → Rates → ℕ → ℕ → List Asker → List Asker → List (Node A)
+    → Type 0
+AreGrown r tick level rows order kids =
+    IsGrownFrom r tick level rows order (beside (map places kids))

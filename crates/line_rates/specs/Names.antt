@@ -24,12 +24,13 @@ bears rates Server a = true
 bears rates (Direction way) a = same_way a.way way
 bears rates (Group way group) a = same_way a.way way && is_number (group_of rates a.user) group
 bears rates (User way user) a = same_way a.way way && nat_eq a.user user
-bears rates (Session way user session) a = same_way a.way way && (nat_eq a.user user && nat_eq a.session session)
+bears rates (Session way user session) a =
+    same_way a.way way && (nat_eq a.user user && nat_eq a.session session)
 
 abbrev pub want_of : Ask → ℕ
 want_of a = a.want
 
--- the floor of an ask, the same at every tick: a tenth of its session's guarantee in octets per second, rounded
--- down, and at most its want
+-- the floor of an ask, the same at every tick: a tenth of its session's guarantee in octets per
+-- second, rounded down, and at most its want
 abbrev pub floor_of : Rates → Ask → ℕ
 floor_of rates a = min a.want (floor_rate (map.get rates.users a.user) a.way / 10)

@@ -21,7 +21,8 @@ abbrev pub bears_plain : PlainName → Ask → Bool
 bears_plain PlainServer a = true
 bears_plain (PlainWay way) a = same_way a.way way
 bears_plain (PlainUser way user) a = same_way a.way way && nat_eq a.user user
-bears_plain (PlainSession way user session) a = same_way a.way way && (nat_eq a.user user && nat_eq a.session session)
+bears_plain (PlainSession way user session) a =
+    same_way a.way way && (nat_eq a.user user && nat_eq a.session session)
 
 abbrev pub plain_rate : Rates → PlainName → ℕ
 plain_rate rates PlainServer = rates.server
@@ -42,7 +43,8 @@ abbrev pub is_plain_name : List Ask → PlainName → Bool
 is_plain_name asks n = is_plain_server n || list_any (bears_plain n) asks
 
 -- the branch of a name: the limit of its rate in the tick, over the leaves that count under it
-pub record IsPlainNamed (rates : Rates) (tick : ℕ) (asks : List Ask) (n : PlainName) (b : Branch) : Type 0 where
+pub record IsPlainNamed (rates : Rates) (tick : ℕ) (asks : List Ask) (n : PlainName)
+    (b : Branch) : Type 0 where
   pub limit : b.limit ≡ rate_limit (plain_rate rates n) tick
   pub holds : (i : ℕ) → b.holds i ≡ bears_plain_in n (slice_get asks i)
 
@@ -52,9 +54,10 @@ ArePlainNamed rates tick asks (Some n) (Some b) = IsPlainNamed rates tick asks n
 ArePlainNamed rates tick asks None (Some b) = ⊥
 ArePlainNamed rates tick asks (Some n) None = ⊥
 
--- One leaf for each ask, with its want; one branch for the server and for each name that an ask counts under, over the
--- leaves that do; no others.
-pub record IsPlainTickTree (rates : Rates) (tick : ℕ) (asks : List Ask) (t : LimitTree) : Type 0 where
+-- One leaf for each ask, with its want; one branch for the server and for each name that an ask
+-- counts under, over the leaves that do; no others.
+pub record IsPlainTickTree (rates : Rates) (tick : ℕ) (asks : List Ask)
+    (t : LimitTree) : Type 0 where
   pub wants : t.wants ≡ map want_of asks
   pub name : ℕ → Option PlainName
   pub named : (k : ℕ) → ArePlainNamed rates tick asks (name k) (t.branch k)
@@ -72,5 +75,7 @@ pub record IsPlainRates (rates : Rates) : Type 0 where
 
 -- Then the tree of a tick is the plain one, and its floors are 0.
 abbrev pub NoGroupsAndFloorsIsPlain : Type 0
-NoGroupsAndFloorsIsPlain = (rates : Rates) (tick : ℕ) (asks : List Ask) (t : LimitTree) → IsPlainRates rates
-    → IsTickTree rates tick asks t ↔ (IsPlainTickTree rates tick asks t × (t.floors ≡ map zero_of asks))
+NoGroupsAndFloorsIsPlain =
+    (rates : Rates) (tick : ℕ) (asks : List Ask) (t : LimitTree) → IsPlainRates rates
+    → IsTickTree rates tick asks t
+    ↔ (IsPlainTickTree rates tick asks t × (t.floors ≡ map zero_of asks))

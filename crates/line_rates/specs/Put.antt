@@ -9,13 +9,18 @@ use Rattle.line_rates.specs.Stated.{by_number}
 
 -- the row with number q is at index i
 abbrev pub IsAt : {X : Type 0} → (X → ℕ) → List X → ℕ → ℕ → Type 0
-IsAt {X} number rows q i = (i < length rows) × ((d : X) → finite.get (by_number number rows) q ≡ Some (slice_index_or rows i d)) × ((d : X) → number (slice_index_or rows i d) ≡ q)
+IsAt {X} number rows q i =
+    (i < length rows)
+    × ((d : X) → finite.get (by_number number rows) q ≡ Some (slice_index_or rows i d))
+    × ((d : X) → number (slice_index_or rows i d) ≡ q)
 
 -- the index of the row with number q, if there is one
 abbrev pub FindsPlace : {X : Type 0} → (X → ℕ) → List X → ℕ → Option ℕ → Type 0
-FindsPlace number rows q place = MatchOption place (finite.get (by_number number rows) q ≡ None) (IsAt number rows q)
+FindsPlace number rows q place =
+    MatchOption place (finite.get (by_number number rows) q ≡ None) (IsAt number rows q)
 
-abbrev pub put_over : {X : Type 0} → Option X → finite.FinMap nat_cmp X → ℕ → X → finite.FinMap nat_cmp X
+abbrev pub put_over : {X : Type 0} → Option X → finite.FinMap nat_cmp X → ℕ → X
+    → finite.FinMap nat_cmp X
 put_over None rows q row = rows
 put_over (Some old) rows q row = finite.insert rows q row
 
@@ -25,10 +30,25 @@ put rows q row = put_over (finite.get rows q) rows q row
 
 -- replaces the rates of a user, of a group, and of the server and its ways
 abbrev pub with_user : Rates → UserRate → Rates
-with_user rates row = record { server = rates.server; down = rates.down; up = rates.up; groups = rates.groups; users = put rates.users row.user row }
+with_user rates row =
+    record {
+      server = rates.server;
+      down = rates.down;
+      up = rates.up;
+      groups = rates.groups;
+      users = put rates.users row.user row;
+    }
 
 abbrev pub with_group : Rates → GroupRate → Rates
-with_group rates row = record { server = rates.server; down = rates.down; up = rates.up; groups = put rates.groups row.group row; users = rates.users }
+with_group rates row =
+    record {
+      server = rates.server;
+      down = rates.down;
+      up = rates.up;
+      groups = put rates.groups row.group row;
+      users = rates.users;
+    }
 
 abbrev pub with_line : Rates → ℕ → ℕ → ℕ → Rates
-with_line rates server down up = record { server = server; down = down; up = up; groups = rates.groups; users = rates.users }
+with_line rates server down up =
+    record { server = server; down = down; up = up; groups = rates.groups; users = rates.users }

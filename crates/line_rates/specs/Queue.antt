@@ -21,7 +21,8 @@ abbrev pub asks_of : List Queued → List Ask
 asks_of queue = map ask_in (askers queue)
 
 -- the trees of a queue; `new` is the queue in the order of their leaves
-abbrev pub AreGrownOver : {A : Type 0} → Rates → ℕ → ℕ → List Queued → List Queued → List (Node A) → Type 0
+abbrev pub AreGrownOver : {A : Type 0} → Rates → ℕ → ℕ → List Queued → List Queued → List (Node A)
+    → Type 0
 AreGrownOver r tick level old new kids = AreGrown r tick level (askers old) (askers new) kids
 
 -- the plan for a queue
@@ -37,12 +38,14 @@ AreNamedAt r level queue = All (λ x. x.name ≡ key r level x.asker.1) queue
 
 -- adjacent asks with the same name have the same first ask
 abbrev pub AreNumbered : List Queued → Type 0
-AreNumbered queue = AllAdjacentBelow (λ x y. x.name ≡ y.name → x.first ≡ y.first) queue (length queue)
+AreNumbered queue =
+    AllAdjacentBelow (λ x y. x.name ≡ y.name → x.first ≡ y.first) queue (length queue)
 
 -- any ask between two with the same name has that name
 abbrev pub IsContiguous : List Queued → Type 0
 IsContiguous queue = (i j k : ℕ) (d : Queued) → i ≤ j → j ≤ k → k < length queue
-    → (slice_index_or queue i d).name ≡ (slice_index_or queue k d).name → (slice_index_or queue i d).name ≡ (slice_index_or queue j d).name
+    → (slice_index_or queue i d).name ≡ (slice_index_or queue k d).name
+    → (slice_index_or queue i d).name ≡ (slice_index_or queue j d).name
 
 pub record AreTogether (r : Rates) (level : ℕ) (queue : List Queued) : Type 0 where
   pub named : AreNamedAt r level queue
@@ -52,5 +55,7 @@ pub record AreTogether (r : Rates) (level : ℕ) (queue : List Queued) : Type 0 
 pub record IsRun (queue : List Queued) (count : ℕ) : Type 0 where
   pub some : 0 < count
   pub within : count ≤ length queue
-  pub same : (i : ℕ) (d : Queued) → i < count → (slice_index_or queue i d).name ≡ (slice_index_or queue 0 d).name
-  pub next : (d : Queued) → count < length queue → (slice_index_or queue count d).name ≢ (slice_index_or queue 0 d).name
+  pub same : (i : ℕ) (d : Queued) → i < count
+      → (slice_index_or queue i d).name ≡ (slice_index_or queue 0 d).name
+  pub next : (d : Queued) → count < length queue
+      → (slice_index_or queue count d).name ≢ (slice_index_or queue 0 d).name

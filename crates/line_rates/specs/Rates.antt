@@ -65,15 +65,40 @@ rate_of rates (Session way user session) = session_rate (map.get rates.users use
 
 -- codes, by which proofs distinguish values
 abbrev pub group_code : Coded GroupRate
-group_code = code_by (ℕ × (ℕ × ℕ)) (coded× coded_ℕ (coded× coded_ℕ coded_ℕ)) (λ r. (r.group, (r.down, r.up))) (λ p. record { group = p.0; down = p.1.0; up = p.1.1 }) (λ _. refl)
+group_code =
+    code_by (ℕ × (ℕ × ℕ)) (coded× coded_ℕ (coded× coded_ℕ coded_ℕ)) (λ r. (r.group, (r.down, r.up)))
+    (λ p. record { group = p.0; down = p.1.0; up = p.1.1 }) (λ _. refl)
 
 abbrev pub user_code : Coded UserRate
 user_code = code_by (((ℕ × Option ℕ) × (ℕ × ℕ)) × ((ℕ × ℕ) × (ℕ × ℕ)))
-    (coded× (coded× (coded× coded_ℕ (coded_option coded_ℕ)) (coded× coded_ℕ coded_ℕ)) (coded× (coded× coded_ℕ coded_ℕ) (coded× coded_ℕ coded_ℕ)))
-    (λ r. (((r.user, r.group), (r.down, r.up)), ((r.session_down, r.session_up), (r.session_down_floor, r.session_up_floor))))
-    (λ p. record { user = p.0.0.0; group = p.0.0.1; down = p.0.1.0; up = p.0.1.1; session_down = p.1.0.0; session_up = p.1.0.1; session_down_floor = p.1.1.0; session_up_floor = p.1.1.1 })
+    (coded× (coded× (coded× coded_ℕ (coded_option coded_ℕ)) (coded× coded_ℕ coded_ℕ))
+    (coded× (coded× coded_ℕ coded_ℕ) (coded× coded_ℕ coded_ℕ)))
+    (λ r. (
+      ((r.user, r.group), (r.down, r.up)),
+      ((r.session_down, r.session_up), (r.session_down_floor, r.session_up_floor)),
+    ))
+    (λ p. record {
+      user = p.0.0.0;
+      group = p.0.0.1;
+      down = p.0.1.0;
+      up = p.0.1.1;
+      session_down = p.1.0.0;
+      session_up = p.1.0.1;
+      session_down_floor = p.1.1.0;
+      session_up_floor = p.1.1.1;
+    })
     (λ _. refl)
 
 abbrev pub rates_code : Coded Rates
-rates_code = code_by ((ℕ × (ℕ × ℕ)) × (Groups × Users)) (coded× (coded× coded_ℕ (coded× coded_ℕ coded_ℕ)) (coded× (map.code coded_ℕ group_code) (map.code coded_ℕ user_code)))
-    (λ r. ((r.server, (r.down, r.up)), (r.groups, r.users))) (λ p. record { server = p.0.0; down = p.0.1.0; up = p.0.1.1; groups = p.1.0; users = p.1.1 }) (λ _. refl)
+rates_code =
+    code_by ((ℕ × (ℕ × ℕ)) × (Groups × Users))
+    (coded× (coded× coded_ℕ (coded× coded_ℕ coded_ℕ))
+    (coded× (map.code coded_ℕ group_code) (map.code coded_ℕ user_code)))
+    (λ r. ((r.server, (r.down, r.up)), (r.groups, r.users)))
+    (λ p. record {
+      server = p.0.0;
+      down = p.0.1.0;
+      up = p.0.1.1;
+      groups = p.1.0;
+      users = p.1.1;
+    }) (λ _. refl)

@@ -11,7 +11,8 @@ use Rattle.line_rates.specs.Rates.{Rates}
 use Rattle.line_rates.specs.TickTree.{Asker, ask_in, IsTickTree}
 
 -- the tree of the tick over the asks, in some order, has the fault
-pub record HasFault (A : Type 0) (rates : Rates) (tick : ℕ) (asks : List Asker) (fault : TreeFault) : Type 0 where
+pub record HasFault (A : Type 0) (rates : Rates) (tick : ℕ) (asks : List Asker)
+    (fault : TreeFault) : Type 0 where
   pub order : List Asker
   pub root : Node A
   pub all : IsPermutation asks order

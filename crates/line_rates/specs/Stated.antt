@@ -23,7 +23,14 @@ by_number number rows = finite.from_entries (map (λ row. (number row, row)) row
 
 -- the rates that are stated
 abbrev pub stated : ℕ → ℕ → ℕ → List GroupRate → List UserRate → Rates
-stated server down up groups users = record { server = server; down = down; up = up; groups = by_number group_number groups; users = by_number user_number users }
+stated server down up groups users =
+    record {
+      server = server;
+      down = down;
+      up = up;
+      groups = by_number group_number groups;
+      users = by_number user_number users;
+    }
 
 abbrev pub is_too_large : ℕ → Bool
 is_too_large rate = nat_lt MAX_RATE rate
@@ -35,13 +42,18 @@ abbrev pub has_large_group : List GroupRate → Bool
 has_large_group groups = list_any is_large_group groups
 
 abbrev pub is_large_user : UserRate → Bool
-is_large_user row = is_too_large row.down || is_too_large row.up || is_too_large row.session_down || is_too_large row.session_up || is_too_large row.session_down_floor || is_too_large row.session_up_floor
+is_large_user row =
+    is_too_large row.down || is_too_large row.up || is_too_large row.session_down
+    || is_too_large row.session_up || is_too_large row.session_down_floor
+    || is_too_large row.session_up_floor
 
 abbrev pub has_large_user : List UserRate → Bool
 has_large_user users = list_any is_large_user users
 
 abbrev pub has_large_rate : ℕ → ℕ → ℕ → List GroupRate → List UserRate → Bool
-has_large_rate server down up groups users = is_too_large server || is_too_large down || is_too_large up || has_large_group groups || has_large_user users
+has_large_rate server down up groups users =
+    is_too_large server || is_too_large down || is_too_large up || has_large_group groups
+    || has_large_user users
 
 -- some number occurs more than once
 abbrev pub has_twice : List ℕ → Bool
@@ -70,7 +82,9 @@ IsRising number rows = AllAdjacentBelow (λ x y. number x < number y) rows (leng
 
 -- some row's number is not below that of the next
 abbrev pub HasTie : {X : Type 0} → (X → ℕ) → List X → Type 0
-HasTie {X} number rows = (k : ℕ) × (k + 1 < length rows) × ((d : X) → number (slice_index_or rows (k + 1) d) ≤ number (slice_index_or rows k d))
+HasTie {X} number rows =
+    (k : ℕ) × (k + 1 < length rows)
+    × ((d : X) → number (slice_index_or rows (k + 1) d) ≤ number (slice_index_or rows k d))
 
 -- the result says whether each row's number is below that of the next
 abbrev pub TellsRising : {X : Type 0} → (X → ℕ) → List X → Bool → Type 0
@@ -89,7 +103,8 @@ pub record FitsUser (row : UserRate) : Type 0 where
   pub session_up_floor : row.session_up_floor ≤ MAX_RATE
 
 -- how limits store their rates and rows
-pub record IsKept (server down up : ℕ) (groups : List GroupRate) (users : List UserRate) : Type 0 where
+pub record IsKept (server down up : ℕ) (groups : List GroupRate)
+    (users : List UserRate) : Type 0 where
   pub server_fits : server ≤ MAX_RATE
   pub down_fits : down ≤ MAX_RATE
   pub up_fits : up ≤ MAX_RATE

@@ -26,7 +26,8 @@ abbrev pub is_name : Rates → List Ask → Name → Bool
 is_name rates asks n = is_server n || list_any (bears rates n) asks
 
 -- the branch of a name in a tick: the limit of its rate, over the leaves that count under it
-pub record IsNamed (rates : Rates) (tick : ℕ) (asks : List Ask) (n : Name) (b : Branch) : Type 0 where
+pub record IsNamed (rates : Rates) (tick : ℕ) (asks : List Ask) (n : Name)
+    (b : Branch) : Type 0 where
   pub limit : b.limit ≡ rate_limit (rate_of rates n) tick
   pub holds : (i : ℕ) → b.holds i ≡ bears_at rates n asks i
 
@@ -37,8 +38,8 @@ AreNamed rates tick asks (Some n) (Some b) = IsNamed rates tick asks n b
 AreNamed rates tick asks None (Some b) = ⊥
 AreNamed rates tick asks (Some n) None = ⊥
 
--- One leaf for each ask, with its want and floor; one branch for the server and for each name that an ask counts
--- under, over the leaves that do; no others. `name` is the name of a branch number.
+-- One leaf for each ask, with its want and floor; one branch for the server and for each name that
+-- an ask counts under, over the leaves that do; no others. `name` is the name of a branch number.
 pub record IsTickTree (rates : Rates) (tick : ℕ) (asks : List Ask) (t : LimitTree) : Type 0 where
   pub wants : t.wants ≡ map want_of asks
   pub floors : t.floors ≡ map (floor_of rates) asks
@@ -58,8 +59,10 @@ ask_in x = x.1
 abbrev pub lane_in : Asker → ℕ
 lane_in x = x.0
 
--- A plan: the asks in some order are the leaves of its tree, and `lanes` has their lanes in that order.
-pub record IsPlan (rates : Rates) (tick : ℕ) (asks : List Asker) (t : LimitTree) (lanes : List ℕ) : Type 0 where
+-- A plan: the asks in some order are the leaves of its tree, and `lanes` has their lanes in that
+-- order.
+pub record IsPlan (rates : Rates) (tick : ℕ) (asks : List Asker) (t : LimitTree)
+    (lanes : List ℕ) : Type 0 where
   pub order : List Asker
   pub all : IsPermutation asks order
   pub tree : IsTickTree rates tick (map ask_in order) t

@@ -6,7 +6,12 @@ use Rattle.memory_store.specs.Tree.{Spot, Tree}
 use Rattle.memory_store.specs.InMemory.{Memory, Upload}
 
 abbrev pub memory_code : Coded Memory
-memory_code = code_by (Tree × ℕ) (coded× tree_code coded_ℕ) (λ memory. (memory.tree, memory.capacity)) (λ parts. record { tree = parts.0; capacity = parts.1 }) (λ _. refl)
+memory_code =
+    code_by (Tree × ℕ) (coded× tree_code coded_ℕ) (λ memory. (memory.tree, memory.capacity))
+    (λ parts. record { tree = parts.0; capacity = parts.1 }) (λ _. refl)
 
 abbrev pub upload_code : Coded Upload
-upload_code = code_by (Spot × (ℕ × List ℕ)) (coded× spot_code (coded× coded_ℕ (coded_list coded_ℕ))) (λ upload. (upload.spot, (upload.kept, upload.octets))) (λ parts. record { spot = parts.0; kept = parts.1.0; octets = parts.1.1 }) (λ _. refl)
+upload_code =
+    code_by (Spot × (ℕ × List ℕ)) (coded× spot_code (coded× coded_ℕ (coded_list coded_ℕ)))
+    (λ upload. (upload.spot, (upload.kept, upload.octets)))
+    (λ parts. record { spot = parts.0; kept = parts.1.0; octets = parts.1.1 }) (λ _. refl)

@@ -16,8 +16,8 @@ node_of (held.File octets moment) = File (arc_value octets).items moment
 abbrev pub shared : {A B : Type 0} → Arc (Vec ℕ A) B → List ℕ
 shared octets = (arc_value octets).items
 
--- the stored parts of an entry's path: the text of its directory, with `/` before each name, and its
--- own name
+-- the stored parts of an entry's path: the text of its directory, with `/` before each name, and
+-- its own name
 pub record IsSpotText (directory name : List ℕ) : Type 0 where
   pub slashes : slashed (names_in directory) ≡ directory
   pub no_slash : HasNoSlash name

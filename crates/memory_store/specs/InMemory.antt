@@ -31,7 +31,8 @@ abbrev pub target_of : Upload → Target
 target_of upload = record { path = upload.spot; kept = upload.kept }
 
 -- the result for an entry that exists; otherwise `NotFound`
-abbrev pub if_found : {X : Type 0} → (Node → Result X StoreFault) → Option Node → Result X StoreFault
+abbrev pub if_found : {X : Type 0} → (Node → Result X StoreFault) → Option Node
+    → Result X StoreFault
 if_found answer None = Err fault.NotFound
 if_found answer (Some node) = answer node
 
@@ -43,7 +44,8 @@ meta_told node = Ok (meta_of node)
 -- a file's octets from an offset on; None is a directory
 abbrev pub octets_from : ℕ → Option (List ℕ) → Result (List ℕ) StoreFault
 octets_from offset None = Err fault.IsDir
-octets_from offset (Some octets) = cond (nat_lt (length octets) offset) (Err fault.PastEnd) (Ok (drop offset octets))
+octets_from offset (Some octets) =
+    cond (nat_lt (length octets) offset) (Err fault.PastEnd) (Ok (drop offset octets))
 
 -- ---- calls that change the tree: the decision, and then the tree afterwards
 
@@ -116,7 +118,8 @@ move_to tree from to before afterwards node =
 abbrev pub move_of : Tree → Path → Path → Option Spot → Option Spot → Result Move StoreFault
 move_of tree from to None target = Err fault.Inside
 move_of tree from to (Some before) None = Err fault.Inside
-move_of tree from to (Some before) (Some afterwards) = if_found (move_to tree from to before afterwards) (get tree before)
+move_of tree from to (Some before) (Some afterwards) =
+    if_found (move_to tree from to before afterwards) (get tree before)
 
 -- the rename between two paths, or why it is refused
 abbrev pub move_between : Tree → Path → Path → Result Move StoreFault
@@ -138,7 +141,8 @@ pub record Opening : Type 0 where
   pub upload : Upload
 
 abbrev pub opening : Tree → Spot → ℕ → Opening
-opening tree spot kept = record { tree = tree; upload = record { spot = spot; kept = kept; octets = [] } }
+opening tree spot kept =
+    record { tree = tree; upload = record { spot = spot; kept = kept; octets = [] } }
 
 abbrev pub open_new : Tree → ℕ → Result Spot StoreFault → Result Opening StoreFault
 open_new tree moment (Err why) = Err why
@@ -153,14 +157,17 @@ open_absent tree path spot moment Append = open_new tree moment (vacant tree pat
 -- if there is a file with these octets; None is a directory
 abbrev pub open_octets : Tree → Spot → ℕ → WriteMode → Option (List ℕ) → Result Opening StoreFault
 open_octets tree spot moment mode None = Err fault.IsDir
-open_octets tree spot moment New (Some octets) = Ok (opening (insert tree spot (File [] moment)) spot 0)
-open_octets tree spot moment (At offset) (Some octets) = cond (nat_lt (length octets) offset) (Err fault.PastEnd)
+open_octets tree spot moment New (Some octets) =
+    Ok (opening (insert tree spot (File [] moment)) spot 0)
+open_octets tree spot moment (At offset) (Some octets) =
+    cond (nat_lt (length octets) offset) (Err fault.PastEnd)
     (Ok (opening (insert tree spot (File (take offset octets) moment)) spot offset))
 open_octets tree spot moment Append (Some octets) = Ok (opening tree spot (length octets))
 
 abbrev pub open_node : Tree → Path → Spot → ℕ → WriteMode → Option Node → Result Opening StoreFault
 open_node tree path spot moment mode None = open_absent tree path spot moment mode
-open_node tree path spot moment mode (Some node) = open_octets tree spot moment mode (octets_of node)
+open_node tree path spot moment mode (Some node) =
+    open_octets tree spot moment mode (octets_of node)
 
 abbrev pub opened : Tree → Path → WriteMode → ℕ → Option Spot → Result Opening StoreFault
 opened tree path mode moment None = Err fault.IsDir
@@ -169,25 +176,29 @@ opened tree path mode moment (Some spot) = open_node tree path spot moment mode 
 -- the tree after the file at the upload's spot was set to its first octets, followed by those
 -- received
 abbrev pub filled : Tree → Upload → ℕ → List ℕ → Tree
-filled tree upload moment octets = insert tree upload.spot (File (take upload.kept octets ++ upload.octets) moment)
+filled tree upload moment octets =
+    insert tree upload.spot (File (take upload.kept octets ++ upload.octets) moment)
 
 -- given the octets of the file at the spot; None is a directory
 abbrev pub finish_octets : Memory → Upload → ℕ → Option (List ℕ) → Result Tree StoreFault
 finish_octets memory upload moment None = Err fault.IsDir
 finish_octets memory upload moment (Some octets) =
     cond (nat_lt memory.capacity (total (filled memory.tree upload moment octets))) (Err fault.Full)
-    (cond (nat_lt (length octets) upload.kept) (Err fault.PastEnd) (Ok (filled memory.tree upload moment octets)))
+    (cond (nat_lt (length octets) upload.kept) (Err fault.PastEnd)
+    (Ok (filled memory.tree upload moment octets)))
 
 abbrev pub finish_node : Memory → Upload → ℕ → Node → Result Tree StoreFault
 finish_node memory upload moment node = finish_octets memory upload moment (octets_of node)
 
 abbrev pub finished : Memory → Upload → ℕ → Result Tree StoreFault
-finished memory upload moment = if_found (finish_node memory upload moment) (get memory.tree upload.spot)
+finished memory upload moment =
+    if_found (finish_node memory upload moment) (get memory.tree upload.spot)
 
 -- ---- the relation
 
 -- this result or lack of memory, and the store is unchanged
-abbrev pub Tells : {X : Type 0} → Memory → Result X StoreFault → Memory → Result X StoreFault → Type 0
+abbrev pub Tells : {X : Type 0} → Memory → Result X StoreFault → Memory → Result X StoreFault
+    → Type 0
 Tells old answer new wanted = (answer ≢ Err fault.Memory → answer ≡ wanted) × (new ≡ old)
 
 -- the store after a decision; a refusal leaves it unchanged
@@ -196,32 +207,44 @@ left_by old tree (Ok decided) = record { tree = tree decided; capacity = old.cap
 left_by old tree (Err why) = old
 
 -- this result and the store after it; or lack of memory, and the store is unchanged
-abbrev pub Changes : {P X : Type 0} → Memory → Result X StoreFault → Memory → Result P StoreFault → (P → X) → (P → Tree) → Type 0
+abbrev pub Changes : {P X : Type 0} → Memory → Result X StoreFault → Memory → Result P StoreFault
+    → (P → X) → (P → Tree) → Type 0
 Changes old answer new decided told tree =
-    (answer ≢ Err fault.Memory → (answer ≡ in_answer told decided) × (new ≡ left_by old tree decided))
+    (answer ≢ Err fault.Memory
+    → (answer ≡ in_answer told decided) × (new ≡ left_by old tree decided))
     × (answer ≡ Err fault.Memory → new ≡ old)
 
 abbrev pub unit_of : {P : Type 0} → P → Unit {0}
 unit_of _ = tt
 
 abbrev pub Opens : Memory → Result Upload StoreFault → Memory → Result Opening StoreFault → Type 0
-Opens old answer new decided = Changes old answer new decided (λ opening. opening.upload) (λ opening. opening.tree)
+Opens old answer new decided =
+    Changes old answer new decided (λ opening. opening.upload) (λ opening. opening.tree)
 
 abbrev pub InMemory : Memory → Exchange (List ℕ) Upload → Memory → Type 0
-InMemory old (Stat path answer) new = Tells old answer new (if_found meta_told (node_at old.tree path))
-InMemory old (Listing path answer) new = Tells old answer new (listing_told old.tree path (kind_at old.tree path))
-InMemory old (OpenRead path offset answer) new = Tells old answer new (if_found (λ node. octets_from offset (octets_of node)) (node_at old.tree path))
+InMemory old (Stat path answer) new =
+    Tells old answer new (if_found meta_told (node_at old.tree path))
+InMemory old (Listing path answer) new =
+    Tells old answer new (listing_told old.tree path (kind_at old.tree path))
+InMemory old (OpenRead path offset answer) new =
+    Tells old answer new
+    (if_found (λ node. octets_from offset (octets_of node)) (node_at old.tree path))
 InMemory old (OpenWrite path mode moment answer) new =
     Opens old answer new (opened old.tree path mode moment (spot_of path))
-InMemory old (Finish upload moment answer) new = Changes old answer new (finished old upload moment) unit_of (λ tree. tree)
+InMemory old (Finish upload moment answer) new =
+    Changes old answer new (finished old upload moment) unit_of (λ tree. tree)
 InMemory old (MakeDir path answer) new =
-    Changes old answer new (spot_to_make old.tree path (spot_of path)) unit_of (λ spot. insert old.tree spot Directory)
+    Changes old answer new (spot_to_make old.tree path (spot_of path)) unit_of
+    (λ spot. insert old.tree spot Directory)
 InMemory old (RemoveDir path answer) new =
-    Changes old answer new (spot_of_bare old.tree path (spot_of path)) unit_of (λ spot. remove old.tree spot)
+    Changes old answer new (spot_of_bare old.tree path (spot_of path)) unit_of
+    (λ spot. remove old.tree spot)
 InMemory old (RemoveFile path answer) new =
-    Changes old answer new (spot_of_file old.tree (spot_of path)) unit_of (λ spot. remove old.tree spot)
+    Changes old answer new (spot_of_file old.tree (spot_of path)) unit_of
+    (λ spot. remove old.tree spot)
 InMemory old (Rename from to answer) new =
-    Changes old answer new (move_of old.tree from to (spot_of from) (spot_of to)) unit_of (moved_tree old.tree)
+    Changes old answer new (move_of old.tree from to (spot_of from) (spot_of to)) unit_of
+    (moved_tree old.tree)
 
 -- the octets at a spot; none if there is no file
 abbrev pub octets_at : Tree → Spot → List ℕ
@@ -229,4 +252,5 @@ octets_at tree spot = unwrap_or (option_and_then octets_of (get tree spot)) []
 
 -- number of octets in the files once an upload is finished
 abbrev pub would_hold : Memory → Upload → ℕ → ℕ
-would_hold memory upload moment = total (filled memory.tree upload moment (octets_at memory.tree upload.spot))
+would_hold memory upload moment =
+    total (filled memory.tree upload moment (octets_at memory.tree upload.spot))

@@ -1,5 +1,6 @@
--- Proofs, not definitions to be believed: each step of a store in memory keeps the laws of the trait `Store`. They are
--- here since the toolchain wants the proof of a trait's law among the definitions.
+-- Proofs, not definitions to be believed: each step of a store in memory keeps the laws of the
+-- trait `Store`. They are here since the toolchain wants the proof of a trait's law among the
+-- definitions.
 use Rattle.std.proofs.Common.{◌≡◌, ◌≢◌, ℕ, eqb, eq-eqb, ◌<◌, Bool, true, false, cond, not, T, List, [], Option, Some, None, Result, Ok, Err, length, nat_lt, unwrap_or, lit<, ◌^◌, option_and_then, refl, sym, ap, ◌∙◌, subst}
 use borrow.Author.Tests.{ltb-true}
 use Rattle.std.specs.Result.{result_err}
@@ -46,15 +47,18 @@ abbrev Plain : {X : Type 0} → Result X StoreFault → Type 0
 Plain (Ok x) = Unit {0}
 Plain (Err why) = T (is_plain why)
 
-plain-cond : {X : Type 0} (b : Bool) (x y : Result X StoreFault) → Plain x → Plain y → Plain (cond b x y)
+plain-cond : {X : Type 0} (b : Bool) (x y : Result X StoreFault) → Plain x → Plain y
+    → Plain (cond b x y)
 plain-cond true x y p q = p
 plain-cond false x y p q = q
 
-plain-if_found : {X : Type 0} (answer : Node → Result X StoreFault) → ((node : Node) → Plain (answer node)) → (found : Option Node) → Plain (if_found answer found)
+plain-if_found : {X : Type 0} (answer : Node → Result X StoreFault)
+    → ((node : Node) → Plain (answer node)) → (found : Option Node) → Plain (if_found answer found)
 plain-if_found answer h None = tt
 plain-if_found answer h (Some node) = h node
 
-plain-listing : (tree : Tree) (path : Path) (found : Option EntryKind) → Plain (listing_told tree path found)
+plain-listing : (tree : Tree) (path : Path) (found : Option EntryKind)
+    → Plain (listing_told tree path found)
 plain-listing tree path None = tt
 plain-listing tree path (Some kind.File) = tt
 plain-listing tree path (Some kind.Directory) = tt
@@ -72,16 +76,19 @@ plain-vacancy spot (Some kind.Directory) None = tt
 plain-vacant : (tree : Tree) (path : Path) (spot : Spot) → Plain (vacant tree path spot)
 plain-vacant tree path spot = plain-vacancy spot _ _
 
-plain-spot_to_make : (tree : Tree) (path : Path) (spot : Option Spot) → Plain (spot_to_make tree path spot)
+plain-spot_to_make : (tree : Tree) (path : Path) (spot : Option Spot)
+    → Plain (spot_to_make tree path spot)
 plain-spot_to_make tree path None = tt
 plain-spot_to_make tree path (Some spot) = plain-vacant tree path spot
 
-plain-bare_only : (bare : Bool) (spot : Spot) (found : Option EntryKind) → Plain (bare_only bare spot found)
+plain-bare_only : (bare : Bool) (spot : Spot) (found : Option EntryKind)
+    → Plain (bare_only bare spot found)
 plain-bare_only bare spot None = tt
 plain-bare_only bare spot (Some kind.File) = tt
 plain-bare_only bare spot (Some kind.Directory) = plain-cond bare _ _ tt tt
 
-plain-spot_of_bare : (tree : Tree) (path : Path) (spot : Option Spot) → Plain (spot_of_bare tree path spot)
+plain-spot_of_bare : (tree : Tree) (path : Path) (spot : Option Spot)
+    → Plain (spot_of_bare tree path spot)
 plain-spot_of_bare tree path None = tt
 plain-spot_of_bare tree path (Some spot) = plain-bare_only (is_bare tree path) spot _
 
@@ -94,38 +101,52 @@ plain-spot_of_file : (tree : Tree) (spot : Option Spot) → Plain (spot_of_file 
 plain-spot_of_file tree None = tt
 plain-spot_of_file tree (Some spot) = plain-file_only spot _
 
-plain-outside : (from to : Path) (move : Move) (found : Result Spot StoreFault) → Plain found → Plain (outside_itself from to move found)
+plain-outside : (from to : Path) (move : Move) (found : Result Spot StoreFault) → Plain found
+    → Plain (outside_itself from to move found)
 plain-outside from to move (Err why) p = p
-plain-outside from to move (Ok spot) p = plain-cond (begins_with from to) (Err fault.Inside) (Ok move) tt tt
+plain-outside from to move (Ok spot) p =
+    plain-cond (begins_with from to) (Err fault.Inside) (Ok move) tt tt
 
-plain-move_of : (tree : Tree) (from to : Path) (before afterwards : Option Spot) → Plain (move_of tree from to before afterwards)
+plain-move_of : (tree : Tree) (from to : Path) (before afterwards : Option Spot)
+    → Plain (move_of tree from to before afterwards)
 plain-move_of tree from to None afterwards = tt
 plain-move_of tree from to (Some before) None = tt
 plain-move_of tree from to (Some before) (Some afterwards) =
-    plain-if_found (move_to tree from to before afterwards) (λ node. plain-outside from to _ _ (plain-vacant tree to afterwards)) (get tree before)
+    plain-if_found (move_to tree from to before afterwards)
+    (λ node. plain-outside from to _ _ (plain-vacant tree to afterwards)) (get tree before)
 
-plain-open_new : (tree : Tree) (moment : ℕ) (found : Result Spot StoreFault) → Plain found → Plain (open_new tree moment found)
+plain-open_new : (tree : Tree) (moment : ℕ) (found : Result Spot StoreFault) → Plain found
+    → Plain (open_new tree moment found)
 plain-open_new tree moment (Err why) p = p
 plain-open_new tree moment (Ok spot) p = tt
 
-plain-open_absent : (tree : Tree) (path : Path) (spot : Spot) (moment : ℕ) (mode : WriteMode) → Plain (open_absent tree path spot moment mode)
-plain-open_absent tree path spot moment New = plain-open_new tree moment _ (plain-vacant tree path spot)
+plain-open_absent : (tree : Tree) (path : Path) (spot : Spot) (moment : ℕ) (mode : WriteMode)
+    → Plain (open_absent tree path spot moment mode)
+plain-open_absent tree path spot moment New =
+    plain-open_new tree moment _ (plain-vacant tree path spot)
 plain-open_absent tree path spot moment (At offset) = tt
-plain-open_absent tree path spot moment Append = plain-open_new tree moment _ (plain-vacant tree path spot)
+plain-open_absent tree path spot moment Append =
+    plain-open_new tree moment _ (plain-vacant tree path spot)
 
-plain-open_octets : (tree : Tree) (spot : Spot) (moment : ℕ) (mode : WriteMode) (octets : Option (List ℕ)) → Plain (open_octets tree spot moment mode octets)
+plain-open_octets : (tree : Tree) (spot : Spot) (moment : ℕ) (mode : WriteMode)
+    (octets : Option (List ℕ)) → Plain (open_octets tree spot moment mode octets)
 plain-open_octets tree spot moment mode None = tt
 plain-open_octets tree spot moment New (Some octets) = tt
-plain-open_octets tree spot moment (At offset) (Some octets) = plain-cond (nat_lt (length octets) offset) _ _ tt tt
+plain-open_octets tree spot moment (At offset) (Some octets) =
+    plain-cond (nat_lt (length octets) offset) _ _ tt tt
 plain-open_octets tree spot moment Append (Some octets) = tt
 
-plain-open_node : (tree : Tree) (path : Path) (spot : Spot) (moment : ℕ) (mode : WriteMode) (found : Option Node) → Plain (open_node tree path spot moment mode found)
+plain-open_node : (tree : Tree) (path : Path) (spot : Spot) (moment : ℕ) (mode : WriteMode)
+    (found : Option Node) → Plain (open_node tree path spot moment mode found)
 plain-open_node tree path spot moment mode None = plain-open_absent tree path spot moment mode
-plain-open_node tree path spot moment mode (Some node) = plain-open_octets tree spot moment mode (octets_of node)
+plain-open_node tree path spot moment mode (Some node) =
+    plain-open_octets tree spot moment mode (octets_of node)
 
-plain-opened : (tree : Tree) (path : Path) (mode : WriteMode) (moment : ℕ) (spot : Option Spot) → Plain (opened tree path mode moment spot)
+plain-opened : (tree : Tree) (path : Path) (mode : WriteMode) (moment : ℕ) (spot : Option Spot)
+    → Plain (opened tree path mode moment spot)
 plain-opened tree path mode moment None = tt
-plain-opened tree path mode moment (Some spot) = plain-open_node tree path spot moment mode (get tree spot)
+plain-opened tree path mode moment (Some spot) =
+    plain-open_node tree path spot moment mode (get tree spot)
 
 -- ---- a result's fault is plain if the decision's is
 
@@ -144,11 +165,14 @@ some_same a b e = cc
 nothing_some : (b : StoreFault) → None ≡ Some b → ⊥
 nothing_some b e = cc
 
-not_plain : (X : Type 0) (why : StoreFault) (wanted : Result X StoreFault) → T (not (is_plain why)) → Plain wanted → refused X why ≡ wanted → ⊥
+not_plain : (X : Type 0) (why : StoreFault) (wanted : Result X StoreFault) → T (not (is_plain why))
+    → Plain wanted → refused X why ≡ wanted → ⊥
 not_plain X why (Ok x) h p e = never_ok X why x e
-not_plain X why (Err other) h p e = both_ways (is_plain why) h (subst T (sym (ap is_plain (err_same X why other e))) p)
+not_plain X why (Err other) h p e =
+    both_ways (is_plain why) h (subst T (sym (ap is_plain (err_same X why other e))) p)
 
-plain-in_answer : {X P : Type 0} (told : P → X) (decided : Result P StoreFault) → Plain decided → Plain (in_answer told decided)
+plain-in_answer : {X P : Type 0} (told : P → X) (decided : Result P StoreFault) → Plain decided
+    → Plain (in_answer told decided)
 plain-in_answer told (Ok x) p = tt
 plain-in_answer told (Err why) p = p
 
@@ -158,36 +182,59 @@ pub record IsGrave (why : StoreFault) : Type 0 where
   pub not_memory : why ≢ fault.Memory
 
 -- the decision, if the result is such a fault
-wanted_by : (X : Type 0) (answer wanted : Result X StoreFault) (why : StoreFault) → why ≢ fault.Memory → (answer ≢ Err fault.Memory → answer ≡ wanted) → result_err answer ≡ Some why → refused X why ≡ wanted
+wanted_by : (X : Type 0) (answer wanted : Result X StoreFault) (why : StoreFault)
+    → why ≢ fault.Memory → (answer ≢ Err fault.Memory → answer ≡ wanted)
+    → result_err answer ≡ Some why → refused X why ≡ wanted
 wanted_by X (Ok x) wanted why other told is = absurd (nothing_some why is)
 wanted_by X (Err found) wanted why other told is =
     let same : found ≡ why = some_same found why is in
-    ap (refused X) (sym same) ∙ told (λ memory. other (sym same ∙ err_same X found fault.Memory memory))
+    ap (refused X) (sym same) ∙ told
+    (λ memory. other (sym same ∙ err_same X found fault.Memory memory))
 
-refused_by : {X : Type 0} (answer wanted : Result X StoreFault) (why : StoreFault) → IsGrave why → Plain wanted → (answer ≢ Err fault.Memory → answer ≡ wanted) → result_err answer ≡ Some why → ⊥
-refused_by {X} answer wanted why grave p told is = not_plain X why wanted grave.not_plain p (wanted_by X answer wanted why grave.not_memory told is)
+refused_by : {X : Type 0} (answer wanted : Result X StoreFault) (why : StoreFault) → IsGrave why
+    → Plain wanted → (answer ≢ Err fault.Memory → answer ≡ wanted) → result_err answer ≡ Some why
+    → ⊥
+refused_by {X} answer wanted why grave p told is =
+    not_plain X why wanted grave.not_plain p
+    (wanted_by X answer wanted why grave.not_memory told is)
 
 abbrev OnlyFinish : Exchange (List ℕ) Upload → Type 0
 OnlyFinish (Finish upload moment answer) = Unit {0}
 OnlyFinish _ = ⊥
 
 -- any refusal except one of Finish is plain
-plain_step : (old new : Memory) (exchange : Exchange (List ℕ) Upload) (why : StoreFault) → IsGrave why → InMemory old exchange new → refusal exchange ≡ Some why → OnlyFinish exchange
-plain_step old new (Stat path answer) why grave step is = (refused_by answer _ why grave (plain-if_found meta_told (λ node. tt) (node_at old.tree path)) step.0 is)
-plain_step old new (Listing path answer) why grave step is = (refused_by answer _ why grave (plain-listing old.tree path _) step.0 is)
+plain_step : (old new : Memory) (exchange : Exchange (List ℕ) Upload) (why : StoreFault)
+    → IsGrave why → InMemory old exchange new → refusal exchange ≡ Some why → OnlyFinish exchange
+plain_step old new (Stat path answer) why grave step is =
+    (refused_by answer _ why grave
+    (plain-if_found meta_told (λ node. tt) (node_at old.tree path)) step.0 is)
+plain_step old new (Listing path answer) why grave step is =
+    (refused_by answer _ why grave (plain-listing old.tree path _) step.0 is)
 plain_step old new (OpenRead path offset answer) why grave step is =
-    (refused_by answer _ why grave (plain-if_found (λ node. octets_from offset (octets_of node)) (λ node. plain-octets_from offset (octets_of node)) (node_at old.tree path)) step.0 is)
+    (refused_by answer _ why grave
+    (plain-if_found (λ node. octets_from offset (octets_of node))
+    (λ node. plain-octets_from offset (octets_of node)) (node_at old.tree path)) step.0 is)
 plain_step old new (OpenWrite path mode moment answer) why grave step is =
-    (refused_by answer _ why grave (plain-in_answer _ _ (plain-opened old.tree path mode moment (spot_of path))) (λ other. (step.0 other).0) is)
+    (refused_by answer _ why grave
+    (plain-in_answer _ _ (plain-opened old.tree path mode moment (spot_of path)))
+    (λ other. (step.0 other).0) is)
 plain_step old new (Finish upload moment answer) why grave step is = tt
 plain_step old new (MakeDir path answer) why grave step is =
-    (refused_by answer _ why grave (plain-in_answer _ _ (plain-spot_to_make old.tree path (spot_of path))) (λ other. (step.0 other).0) is)
+    (refused_by answer _ why grave
+    (plain-in_answer _ _ (plain-spot_to_make old.tree path (spot_of path)))
+    (λ other. (step.0 other).0) is)
 plain_step old new (RemoveDir path answer) why grave step is =
-    (refused_by answer _ why grave (plain-in_answer _ _ (plain-spot_of_bare old.tree path (spot_of path))) (λ other. (step.0 other).0) is)
+    (refused_by answer _ why grave
+    (plain-in_answer _ _ (plain-spot_of_bare old.tree path (spot_of path)))
+    (λ other. (step.0 other).0) is)
 plain_step old new (RemoveFile path answer) why grave step is =
-    (refused_by answer _ why grave (plain-in_answer _ _ (plain-spot_of_file old.tree (spot_of path))) (λ other. (step.0 other).0) is)
+    (refused_by answer _ why grave
+    (plain-in_answer _ _ (plain-spot_of_file old.tree (spot_of path)))
+    (λ other. (step.0 other).0) is)
 plain_step old new (Rename from to answer) why grave step is =
-    (refused_by answer _ why grave (plain-in_answer _ _ (plain-move_of old.tree from to (spot_of from) (spot_of to))) (λ other. (step.0 other).0) is)
+    (refused_by answer _ why grave
+    (plain-in_answer _ _ (plain-move_of old.tree from to (spot_of from) (spot_of to)))
+    (λ other. (step.0 other).0) is)
 
 -- ---- Finish
 
@@ -199,7 +246,8 @@ record IsFinish (memory : Memory) (after : ℕ) (decided : Result Tree StoreFaul
 apart : (a b : StoreFault) → fault_number a ≢ fault_number b → refused Tree a ≡ refused Tree b → ⊥
 apart a b other e = other (ap fault_number (err_same Tree a b e))
 
-finish-past : (memory : Memory) (after : ℕ) (tree : Tree) (b : Bool) → IsFinish memory after (cond b (Err fault.PastEnd) (Ok tree))
+finish-past : (memory : Memory) (after : ℕ) (tree : Tree) (b : Bool)
+    → IsFinish memory after (cond b (Err fault.PastEnd) (Ok tree))
 finish-past memory after tree true = record {
   not_device = apart fault.PastEnd fault.Device (λ e. differ 9 7 tt e);
   full = λ e. absurd (apart fault.PastEnd fault.Full (λ e. differ 9 6 tt e) e);
@@ -209,32 +257,44 @@ finish-past memory after tree false = record {
   full = λ e. absurd (never_ok Tree fault.Full tree (sym e));
 }
 
-finish-full : (memory : Memory) (after : ℕ) (tree : Tree) (past passed : Bool) → nat_lt memory.capacity after ≡ passed → IsFinish memory after (cond passed (Err fault.Full) (cond past (Err fault.PastEnd) (Ok tree)))
+finish-full : (memory : Memory) (after : ℕ) (tree : Tree) (past passed : Bool)
+    → nat_lt memory.capacity after ≡ passed
+    → IsFinish memory after (cond passed (Err fault.Full) (cond past (Err fault.PastEnd) (Ok tree)))
 finish-full memory after tree past true is = record {
   not_device = apart fault.Full fault.Device (λ e. differ 6 7 tt e);
   full = λ e. ltb-true memory.capacity after is;
 }
 finish-full memory after tree past false is = finish-past memory after tree past
 
-finish-octets : (memory : Memory) (upload : Upload) (moment : ℕ) (octets : Option (List ℕ)) → IsFinish memory (total (filled memory.tree upload moment (unwrap_or octets []))) (finish_octets memory upload moment octets)
+finish-octets : (memory : Memory) (upload : Upload) (moment : ℕ) (octets : Option (List ℕ))
+    → IsFinish memory (total (filled memory.tree upload moment (unwrap_or octets [])))
+    (finish_octets memory upload moment octets)
 finish-octets memory upload moment None = record {
   not_device = apart fault.IsDir fault.Device (λ e. differ 3 7 tt e);
   full = λ e. absurd (apart fault.IsDir fault.Full (λ e. differ 3 6 tt e) e);
 }
 finish-octets memory upload moment (Some octets) =
-    finish-full memory (total (filled memory.tree upload moment octets)) (filled memory.tree upload moment octets) (nat_lt (length octets) upload.kept) (nat_lt memory.capacity (total (filled memory.tree upload moment octets))) refl
+    finish-full memory (total (filled memory.tree upload moment octets))
+    (filled memory.tree upload moment octets) (nat_lt (length octets) upload.kept)
+    (nat_lt memory.capacity (total (filled memory.tree upload moment octets))) refl
 
-finish-node : (memory : Memory) (upload : Upload) (moment : ℕ) (found : Option Node) → IsFinish memory (total (filled memory.tree upload moment (unwrap_or (option_and_then octets_of found) []))) (if_found (finish_node memory upload moment) found)
+finish-node : (memory : Memory) (upload : Upload) (moment : ℕ) (found : Option Node)
+    → IsFinish memory
+    (total (filled memory.tree upload moment (unwrap_or (option_and_then octets_of found) [])))
+    (if_found (finish_node memory upload moment) found)
 finish-node memory upload moment None = record {
   not_device = apart fault.NotFound fault.Device (λ e. differ 1 7 tt e);
   full = λ e. absurd (apart fault.NotFound fault.Full (λ e. differ 1 6 tt e) e);
 }
 finish-node memory upload moment (Some node) = finish-octets memory upload moment (octets_of node)
 
-finish-step : (memory : Memory) (upload : Upload) (moment : ℕ) → IsFinish memory (total (filled memory.tree upload moment (octets_at memory.tree upload.spot))) (finished memory upload moment)
+finish-step : (memory : Memory) (upload : Upload) (moment : ℕ)
+    → IsFinish memory (total (filled memory.tree upload moment (octets_at memory.tree upload.spot)))
+    (finished memory upload moment)
 finish-step memory upload moment = finish-node memory upload moment (get memory.tree upload.spot)
 
-err_from : {P X : Type 0} (told : P → X) (decided : Result P StoreFault) (why : StoreFault) → refused X why ≡ in_answer told decided → decided ≡ Err why
+err_from : {P X : Type 0} (told : P → X) (decided : Result P StoreFault) (why : StoreFault)
+    → refused X why ≡ in_answer told decided → decided ≡ Err why
 err_from {P} {X} told (Ok x) why e = absurd (never_ok X why (told x) e)
 err_from {P} {X} told (Err other) why e = ap (refused P) (sym (err_same X why other e))
 
@@ -245,20 +305,31 @@ full_is_grave : IsGrave fault.Full
 full_is_grave = record { not_plain = tt; not_memory = λ e. differ 6 8 tt (ap fault_number e) }
 
 -- the decision, if the result is a fault other than lack of memory
-decided_by : (old new : Memory) (upload : Upload) (moment : ℕ) (answer : Result (Unit {0}) StoreFault) (why : StoreFault) → why ≢ fault.Memory
-    → InMemory old (Finish upload moment answer) new → result_err answer ≡ Some why → finished old upload moment ≡ Err why
+decided_by : (old new : Memory) (upload : Upload) (moment : ℕ)
+    (answer : Result (Unit {0}) StoreFault) (why : StoreFault) → why ≢ fault.Memory
+    → InMemory old (Finish upload moment answer) new → result_err answer ≡ Some why
+    → finished old upload moment ≡ Err why
 decided_by old new upload moment answer why other step is =
-    err_from unit_of (finished old upload moment) why (wanted_by (Unit {0}) answer (in_answer unit_of (finished old upload moment)) why other (λ told. (step.0 told).0) is)
+    err_from unit_of (finished old upload moment) why
+    (wanted_by (Unit {0}) answer (in_answer unit_of (finished old upload moment)) why other
+    (λ told. (step.0 told).0) is)
 
-pub never_device : (old new : Memory) (exchange : Exchange (List ℕ) Upload) → InMemory old exchange new → refusal exchange ≡ Some fault.Device → ◌≢◌ {A = ℕ} 0 0
+pub never_device : (old new : Memory) (exchange : Exchange (List ℕ) Upload)
+    → InMemory old exchange new → refusal exchange ≡ Some fault.Device → ◌≢◌ {A = ℕ} 0 0
 never_device old new (Finish upload moment answer) step is =
-    absurd ((finish-step old upload moment).not_device (decided_by old new upload moment answer fault.Device device_is_grave.not_memory step is))
-never_device old new exchange step is = absurd (plain_step old new exchange fault.Device device_is_grave step is)
+    absurd ((finish-step old upload moment).not_device
+    (decided_by old new upload moment answer fault.Device device_is_grave.not_memory step is))
+never_device old new exchange step is =
+    absurd (plain_step old new exchange fault.Device device_is_grave step is)
 
-pub full_only_past : (old new : Memory) (exchange : Exchange (List ℕ) Upload) → InMemory old exchange new → refusal exchange ≡ Some fault.Full → PassesCapacity (Some old.capacity) (would_hold old) exchange
+pub full_only_past : (old new : Memory) (exchange : Exchange (List ℕ) Upload)
+    → InMemory old exchange new → refusal exchange ≡ Some fault.Full
+    → PassesCapacity (Some old.capacity) (would_hold old) exchange
 full_only_past old new (Finish upload moment answer) step is =
-    (finish-step old upload moment).full (decided_by old new upload moment answer fault.Full full_is_grave.not_memory step is)
-full_only_past old new exchange step is = absurd (plain_step old new exchange fault.Full full_is_grave step is)
+    (finish-step old upload moment).full
+    (decided_by old new upload moment answer fault.Full full_is_grave.not_memory step is)
+full_only_past old new exchange step is =
+    absurd (plain_step old new exchange fault.Full full_is_grave step is)
 
 pub count_is_small : (store : Memory) → 0 < 2 ^ 64
 count_is_small store = lit< tt

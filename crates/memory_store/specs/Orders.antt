@@ -1,5 +1,5 @@
--- Proofs, not definitions to be believed: the order of paths is total. They are here since the toolchain wants the proof
--- of a trait's law among the definitions.
+-- Proofs, not definitions to be believed: the order of paths is total. They are here since the
+-- toolchain wants the proof of a trait's law among the definitions.
 use Rattle.std.specs.Cmp.{IsTotalOrder, on_total, then_total}
 use Rattle.std.specs.Cmp.Lexicographic.{lists_total, nat_list_cmp_total}
 use Rattle.virtual_path.specs.Path.{parent_of}

@@ -19,7 +19,8 @@ pub data Node : Type 0 where
 abbrev pub names_cmp : Path → Path → Ordering
 names_cmp = slice_cmp (slice_cmp nat_cmp)
 
--- compares the directories first, so that a directory's entries are adjacent, in the order of their names
+-- compares the directories first, so that a directory's entries are adjacent, in the order of their
+-- names
 abbrev pub path_cmp : Path → Path → Ordering
 path_cmp = then_cmp (on parent_of names_cmp) names_cmp
 
@@ -103,8 +104,8 @@ listing tree directory = map told_of (filter is_named (children_in tree director
 abbrev pub begins_with : Path → Path → Bool
 begins_with front path = is_same (take (length front) path) front
 
--- the path of an entry after a rename: the renamed entry is at its new path, and what was beneath it is beneath
--- that
+-- the path of an entry after a rename: the renamed entry is at its new path, and what was beneath
+-- it is beneath that
 abbrev pub moved : Path → Path → Spot → Spot
 moved from to path = cond (begins_with from path) (to ++ drop (length from) path) path
 

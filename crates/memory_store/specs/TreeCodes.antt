@@ -18,7 +18,9 @@ parts_back Directory = refl
 parts_back (File octets moment) = refl
 
 abbrev pub node_code : Coded Node
-node_code = code_by (Option (List ℕ × ℕ)) (coded_option (coded× (coded_list coded_ℕ) coded_ℕ)) parts_of from_parts parts_back
+node_code =
+    code_by (Option (List ℕ × ℕ))
+    (coded_option (coded× (coded_list coded_ℕ) coded_ℕ)) parts_of from_parts parts_back
 
 abbrev pub spot_code : Coded Spot
 spot_code = coded_list (coded_list coded_ℕ)

@@ -21,15 +21,17 @@ kept_by New octets = 0
 kept_by (At offset) octets = offset
 kept_by Append octets = length octets
 
--- A file was opened in a store with contents `first`; these pieces were written through the sink that was returned, and
--- perhaps others were refused; and the sink's `finish` succeeded, in a store that had the contents `before` by then.
--- Then the file is the first octets that it had directly before, as many as the mode kept when it was opened, followed
--- by the pieces.
+-- A file was opened in a store with contents `first`; these pieces were written through the sink
+-- that was returned, and perhaps others were refused; and the sink's `finish` succeeded, in a store
+-- that had the contents `before` by then. Then the file is the first octets that it had directly
+-- before, as many as the mode kept when it was opened, followed by the pieces.
 abbrev pub FinishPutsWhatCame : Type 0
-FinishPutsWhatCame = (first opened before after : Memory) (path : Path) (mode : WriteMode) (moment later : ℕ)
+FinishPutsWhatCame =
+    (first opened before after : Memory) (path : Path) (mode : WriteMode) (moment later : ℕ)
     (given brought : Upload) (pieces : List (List ℕ))
     → InMemory first (OpenWrite path mode moment (Ok given)) opened
     → Writes (λ upload. Some (target_of upload)) (λ upload. Some upload.octets) given pieces brought
     → InMemory before (Finish brought later (Ok tt)) after
-    → node_at after.tree path ≡ Some (File (take (kept_by mode (octets_in (node_at first.tree path)))
+    → node_at after.tree path
+    ≡ Some (File (take (kept_by mode (octets_in (node_at first.tree path)))
     (octets_in (node_at before.tree path)) ++ concat pieces) later)

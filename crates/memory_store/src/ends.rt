@@ -42,7 +42,8 @@ impl<A: Allocator> Model for MemSink<A> {
 
     ghost coded = { upload_code };
 
-    ghost view = { λ sink. record { spot = sink.spot; kept = sink.kept; octets = sink.octets.items } };
+    ghost view = { λ sink.
+        record { spot = sink.spot; kept = sink.kept; octets = sink.octets.items } };
 }
 
 /// Copies as many octets as there is room for, and returns their number.

@@ -37,7 +37,8 @@ impl<A: Allocator> Model for Files<A> {
 
     ghost view = { λ files. from_entries {R = path_cmp} files.nodes.entries };
 
-    ghost invariant = { λ files. files.stored ≡ total (from_entries {R = path_cmp} files.nodes.entries) };
+    ghost invariant = { λ files.
+        files.stored ≡ total (from_entries {R = path_cmp} files.nodes.entries) };
 }
 
 impl<A: Allocator + Clone> Files<A> {

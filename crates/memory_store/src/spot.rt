@@ -87,7 +87,8 @@ impl<A: Allocator> PartialOrd for Spot<A> {
 
     ghost partial_cmp = { as_partial_cmp path_cmp };
 
-    ghost laws = { partial_order_from_own_ties (Prim.search (comparing, rules, paths_total)) (Prim.search (comparing, rules, paths_total)) };
+    ghost laws = { partial_order_from_own_ties (Prim.search (comparing, rules, paths_total))
+        (Prim.search (comparing, rules, paths_total)) };
 
     fn partial_cmp(&self, other: &Spot<A>) -> Option<Ordering> {
         Some(self.cmp(other))

@@ -17,9 +17,11 @@ module _ {L H : Type 0} (Asks : H → PortCall L → H → Type 0) where
   Opens old found new = (port : ℕ) × (listener : L) × (mid : H) × Asks old (Leases (Some port)) mid
       × Asks mid (Binds port (Some listener)) new × (found ≡ Some (port, listener))
 
-  -- A port that cannot be listened on stays leased while something else is done, and is then taken back.
+  -- A port that cannot be listened on stays leased while something else is done, and is then taken
+  -- back.
   abbrev pub Passes : (H → Option (ℕ × L) → H → Type 0) → H → Option (ℕ × L) → H → Type 0
-  Passes Next old found new = (port : ℕ) × (leased : H) × (tried : H) × (last : H) × Asks old (Leases (Some port)) leased
+  Passes Next old found new =
+      (port : ℕ) × (leased : H) × (tried : H) × (last : H) × Asks old (Leases (Some port)) leased
       × Asks leased (Binds port None) tried × Next tried found last × Asks last (Rests port) new
 
   abbrev pub GivesUp : H → Option (ℕ × L) → H → Type 0
@@ -27,6 +29,7 @@ module _ {L H : Type 0} (Asks : H → PortCall L → H → Type 0) where
 
   -- The calls that open a port, with at most `tries` more tries.
   abbrev pub Tries : ℕ → H → Option (ℕ × L) → H → Type 0
-  Tries zero old found new = FindsNone old found new ⊎ (Opens old found new ⊎ Passes GivesUp old found new)
+  Tries zero old found new =
+      FindsNone old found new ⊎ (Opens old found new ⊎ Passes GivesUp old found new)
   Tries (suc tries) old found new =
       FindsNone old found new ⊎ (Opens old found new ⊎ Passes (Tries tries) old found new)

@@ -49,10 +49,12 @@ without_lease ports port = record ports { leased = set.remove ports.leased port 
 -- the ports whose bits are set among the first ones, if bit 0 is that of port `first`
 abbrev pub marked : ℕ → List ℕ → ℕ → set.FinSet nat_cmp
 marked first words zero = set.empty
-marked first words (suc k) = cond (has_bit words k) (set.insert (marked first words k) (first + k)) (marked first words k)
+marked first words (suc k) =
+    cond (has_bit words k) (set.insert (marked first words k) (first + k)) (marked first words k)
 
 abbrev pub kept_ports : ℕ → ℕ → List ℕ → Ports
-kept_ports first last words = record { first = first; last = last; leased = marked first words (last - first + 1) }
+kept_ports first last words =
+    record { first = first; last = last; leased = marked first words (last - first + 1) }
 
 pub record IsPool (first last : ℕ) (words : List ℕ) : Type 0 where
   pub ordered : first ≤ last
@@ -60,5 +62,7 @@ pub record IsPool (first last : ℕ) (words : List ℕ) : Type 0 where
 
 -- a code, by which proofs distinguish values
 abbrev pub ports_code : Coded Ports
-ports_code = code_by (ℕ × (ℕ × set.FinSet nat_cmp)) (coded× coded_ℕ (coded× coded_ℕ (set.code coded_ℕ)))
-    (λ p. (p.first, (p.last, p.leased))) (λ p. record { first = p.0; last = p.1.0; leased = p.1.1 }) (λ _. refl)
+ports_code =
+    code_by (ℕ × (ℕ × set.FinSet nat_cmp)) (coded× coded_ℕ (coded× coded_ℕ (set.code coded_ℕ)))
+    (λ p. (p.first, (p.last, p.leased)))
+    (λ p. record { first = p.0; last = p.1.0; leased = p.1.1 }) (λ _. refl)

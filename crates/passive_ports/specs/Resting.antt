@@ -16,7 +16,14 @@ pub record Resting : Type 0 where
 
 -- initially none is in use
 abbrev pub opened : ℕ → ℕ → Resting
-opened first last = record { first = first; last = last; in_use = set.empty; at_rest = []; most = (last - first + 1) / 2 }
+opened first last =
+    record {
+      first = first;
+      last = last;
+      in_use = set.empty;
+      at_rest = [];
+      most = (last - first + 1) / 2;
+    }
 
 -- a port of the range that is not in use
 pub record IsIdle (ports : Resting) (port : ℕ) : Type 0 where
@@ -86,7 +93,8 @@ kept_ports pool at_rest most = record {
 -- each port at rest is leased, and occurs once
 abbrev pub AllRest : set.FinSet nat_cmp → List ℕ → Type 0
 AllRest leased [] = Unit {0}
-AllRest leased (port ∷ ports) = (set.contains leased port ≡ true) × AllRest (set.remove leased port) ports
+AllRest leased (port ∷ ports) =
+    (set.contains leased port ≡ true) × AllRest (set.remove leased port) ports
 
 pub record IsKept (leased : set.FinSet nat_cmp) (at_rest : List ℕ) (most room : ℕ) : Type 0 where
   pub all_rest : AllRest leased at_rest
@@ -96,6 +104,8 @@ pub record IsKept (leased : set.FinSet nat_cmp) (at_rest : List ℕ) (most room 
 -- a code, by which proofs distinguish values
 abbrev pub resting_code : Coded Resting
 resting_code = code_by ((ℕ × ℕ) × (set.FinSet nat_cmp × (List ℕ × ℕ)))
-    (coded× (coded× coded_ℕ coded_ℕ) (coded× (set.code coded_ℕ) (coded× (coded_list coded_ℕ) coded_ℕ)))
+    (coded× (coded× coded_ℕ coded_ℕ)
+    (coded× (set.code coded_ℕ) (coded× (coded_list coded_ℕ) coded_ℕ)))
     (λ p. ((p.first, p.last), (p.in_use, (p.at_rest, p.most))))
-    (λ p. record { first = p.0.0; last = p.0.1; in_use = p.1.0; at_rest = p.1.1.0; most = p.1.1.1 }) (λ _. refl)
+    (λ p. record { first = p.0.0; last = p.0.1; in_use = p.1.0; at_rest = p.1.1.0; most = p.1.1.1 })
+    (λ _. refl)

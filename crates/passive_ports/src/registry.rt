@@ -31,7 +31,8 @@ impl<A: Allocator> Model for Registry<A> {
 
     ghost view = { λ inside. kept_admitted inside.max inside.max_of_address inside.addresses };
 
-    ghost invariant = { λ inside. IsRegistry inside.max inside.max_of_address inside.addresses inside.counts };
+    ghost invariant = { λ inside.
+        IsRegistry inside.max inside.max_of_address inside.addresses inside.counts };
 }
 
 impl<A: Allocator + Clone> Registry<A> {

@@ -14,7 +14,8 @@ use Rattle.rate_floors.specs.Promises.{Promises, PromisesFit, user_key}
 
 -- at most one ask for each session and way
 abbrev pub HasOneAskEach : Rates → List Ask → Type 0
-HasOneAskEach rates asks = (way : Way) (user session : ℕ) → count_by (bears rates (Session way user session)) asks ≤ 1
+HasOneAskEach rates asks =
+    (way : Way) (user session : ℕ) → count_by (bears rates (Session way user session)) asks ≤ 1
 
 -- the asks of a user come from at most as many sessions as are counted
 pub record IsOfCounted (asks : List Ask) (entry : UserSessions) : Type 0 where
@@ -22,8 +23,8 @@ pub record IsOfCounted (asks : List Ask) (entry : UserSessions) : Type 0 where
   pub few : length sessions ≤ entry.sessions
   pub each : (a : Ask) → Contains asks a → a.user ≡ user_key entry → Contains sessions a.session
 
--- Asks of counted sessions: at most one for each session and way, and for each user with a row from at most as many
--- sessions as are counted.
+-- Asks of counted sessions: at most one for each session and way, and for each user with a row from
+-- at most as many sessions as are counted.
 pub record AreOfCounted (p : Promises) (asks : List Ask) : Type 0 where
   pub once : HasOneAskEach p.rates asks
   pub few : All (IsOfCounted asks) p.users
@@ -31,7 +32,8 @@ pub record AreOfCounted (p : Promises) (asks : List Ask) : Type 0 where
 -- In every tick, what these asks are guaranteed under each name is within its limit,
 abbrev pub PromisesAreKept : Type 0
 PromisesAreKept =
-    (p : Promises) (asks : List Ask) → PromisesFit p → AreOfCounted p asks → (tick : ℕ) → FloorsFit p.rates tick asks
+    (p : Promises) (asks : List Ask) → PromisesFit p → AreOfCounted p asks → (tick : ℕ)
+    → FloorsFit p.rates tick asks
 
 -- and the floors of the tick's tree are within its limits.
 abbrev pub FloorsStayWithin : Type 0

@@ -5,11 +5,13 @@ use Rattle.rate_floors.specs.declared.find.UserSessions.{UserSessions}
 use Rattle.rate_floors.specs.declared.fits.TheConstants.{MAX_PROMISED}
 use Rattle.rate_floors.specs.Promises.{Promises, admits, counted, user_of, is_small, session_fits, user_fits, line_fits}
 
--- the guarantees of all counted sessions are within the rates of each session, of the user and of the line
+-- the guarantees of all counted sessions are within the rates of each session, of the user and of
+-- the line
 abbrev pub fits_plainly : Promises → Option UserSessions → Bool
 fits_plainly after None = true
 fits_plainly after (Some entry) =
-    is_small after entry.sessions && (session_fits entry.row && user_fits entry.row (entry.sessions + 1) && line_fits after)
+    is_small after entry.sessions
+    && (session_fits entry.row && user_fits entry.row (entry.sessions + 1) && line_fits after)
 
 abbrev pub admits_plainly : Promises → ℕ → Bool
 admits_plainly p user = fits_plainly (counted p user) (user_of p user)

@@ -20,10 +20,14 @@ pub record Promises : Type 0 where
   pub users : List UserSessions
 
 abbrev pub entry_code : Coded UserSessions
-entry_code = code_by (UserRate × ℕ) (coded× user_code coded_ℕ) (λ e. (e.row, e.sessions)) (λ p. record { row = p.0; sessions = p.1 }) (λ _. refl)
+entry_code =
+    code_by (UserRate × ℕ) (coded× user_code coded_ℕ) (λ e. (e.row, e.sessions))
+    (λ p. record { row = p.0; sessions = p.1 }) (λ _. refl)
 
 abbrev pub promises_code : Coded Promises
-promises_code = code_by (Rates × List UserSessions) (coded× rates_code (coded_list entry_code)) (λ p. (p.rates, p.users)) (λ p. record { rates = p.0; users = p.1 }) (λ _. refl)
+promises_code =
+    code_by (Rates × List UserSessions) (coded× rates_code (coded_list entry_code))
+    (λ p. (p.rates, p.users)) (λ p. record { rates = p.0; users = p.1 }) (λ _. refl)
 
 abbrev pub user_key : UserSessions → ℕ
 user_key entry = entry.row.user
@@ -51,7 +55,8 @@ promised users way = sum_by (promised_user way) users
 
 -- sum of the guarantees of counted sessions of users in a group
 abbrev pub promised_group : List UserSessions → Way → ℕ → ℕ
-promised_group users way group = sum_by (λ entry. if is_number entry.row.group group then promised_user way entry else 0) users
+promised_group users way group =
+    sum_by (λ entry. if is_number entry.row.group group then promised_user way entry else 0) users
 
 -- sum of the guarantees of a user's counted sessions and one more
 abbrev pub promised_with_more : Way → UserSessions → ℕ
@@ -60,7 +65,8 @@ promised_with_more way entry = (entry.sessions + 1) * floor_in entry.row way
 -- sets the number of counted sessions of a user
 abbrev pub with_sessions : (ℕ → ℕ) → ℕ → UserSessions → UserSessions
 with_sessions change user entry =
-    if nat_eq (user_key entry) user then record { row = entry.row; sessions = change entry.sessions } else entry
+    if nat_eq (user_key entry) user
+    then record { row = entry.row; sessions = change entry.sessions } else entry
 
 abbrev pub changed : (ℕ → ℕ) → Promises → ℕ → Promises
 changed change p user = record { rates = p.rates; users = map (with_sessions change user) p.users }
@@ -87,28 +93,39 @@ abbrev pub keeps : ℕ → ℕ → Bool
 keeps sum rate = nat_eq rate 0 || nat_le sum rate
 
 abbrev pub session_fits : UserRate → Bool
-session_fits row = keeps row.session_down_floor row.session_down && keeps row.session_up_floor row.session_up
+session_fits row =
+    keeps row.session_down_floor row.session_down && keeps row.session_up_floor row.session_up
 
 abbrev pub user_fits : UserRate → ℕ → Bool
-user_fits row sessions = keeps (sessions * row.session_down_floor) row.down && keeps (sessions * row.session_up_floor) row.up
+user_fits row sessions =
+    keeps (sessions * row.session_down_floor) row.down
+    && keeps (sessions * row.session_up_floor) row.up
 
 abbrev pub group_fits : Promises → Option ℕ → Bool
 group_fits p None = true
 group_fits p (Some group) =
-    keeps (promised_group p.users Down group) (group_rate (finite.get p.rates.groups group) Down) && keeps (promised_group p.users Up group) (group_rate (finite.get p.rates.groups group) Up)
+    keeps (promised_group p.users Down group) (group_rate (finite.get p.rates.groups group) Down)
+    && keeps (promised_group p.users Up group) (group_rate (finite.get p.rates.groups group) Up)
 
 abbrev pub line_fits : Promises → Bool
-line_fits p = keeps (promised p.users Down) p.rates.down && keeps (promised p.users Up) p.rates.up && keeps (promised p.users Down + promised p.users Up) p.rates.server
+line_fits p =
+    keeps (promised p.users Down) p.rates.down && keeps (promised p.users Up) p.rates.up
+    && keeps (promised p.users Down + promised p.users Up) p.rates.server
 
 -- the sums are at most `MAX_PROMISED`, and the number of sessions is below it
 abbrev pub is_small : Promises → ℕ → Bool
-is_small p sessions = nat_le (promised p.users Down + promised p.users Up) MAX_PROMISED && nat_lt sessions MAX_PROMISED
+is_small p sessions =
+    nat_le (promised p.users Down + promised p.users Up) MAX_PROMISED
+    && nat_lt sessions MAX_PROMISED
 
--- The guarantees fit with one more session of a user: within the rates of each session, of the user, of their group,
--- of each way, and of the server, which limits the sum of both ways.
+-- The guarantees fit with one more session of a user: within the rates of each session, of the
+-- user, of their group, of each way, and of the server, which limits the sum of both ways.
 abbrev pub fits : Promises → Option UserSessions → Bool
 fits after None = true
-fits after (Some entry) = is_small after entry.sessions && (session_fits entry.row && user_fits entry.row (entry.sessions + 1) && group_fits after entry.row.group && line_fits after)
+fits after (Some entry) =
+    is_small after entry.sessions
+    && (session_fits entry.row && user_fits entry.row (entry.sessions + 1)
+    && group_fits after entry.row.group && line_fits after)
 
 -- one more session of a user fits; for a user without a row it always does
 abbrev pub admits : Promises → ℕ → Bool
@@ -116,7 +133,8 @@ admits p user = fits (counted p user) (user_of p user)
 
 -- the guarantees of a user's counted sessions are within the rates of each session and of the user
 abbrev pub entry_fits : UserSessions → Bool
-entry_fits entry = nat_eq entry.sessions 0 || (session_fits entry.row && user_fits entry.row entry.sessions)
+entry_fits entry =
+    nat_eq entry.sessions 0 || (session_fits entry.row && user_fits entry.row entry.sessions)
 
 -- The guarantees of counted sessions are within all rates, and each user with a row occurs once.
 pub record PromisesFit (p : Promises) : Type 0 where
@@ -142,21 +160,31 @@ no_promise row = record { row = row; down = 0; up = 0 }
 
 -- the row with number q is at index i
 abbrev pub IsAt : {X : Type 0} → (X → ℕ) → List X → ℕ → ℕ → Type 0
-IsAt {X} number rows q i = (i < length rows) × ((d : X) → finite.get (by_number number rows) q ≡ Some (slice_index_or rows i d)) × ((d : X) → number (slice_index_or rows i d) ≡ q)
+IsAt {X} number rows q i =
+    (i < length rows)
+    × ((d : X) → finite.get (by_number number rows) q ≡ Some (slice_index_or rows i d))
+    × ((d : X) → number (slice_index_or rows i d) ≡ q)
 
 -- the index of the row with number q, if there is one
 abbrev pub FindsPlace : {X : Type 0} → (X → ℕ) → List X → ℕ → Option ℕ → Type 0
-FindsPlace number rows q place = MatchOption place (finite.get (by_number number rows) q ≡ None) (IsAt number rows q)
+FindsPlace number rows q place =
+    MatchOption place (finite.get (by_number number rows) q ≡ None) (IsAt number rows q)
 
 -- the guarantees in a group, with one more session of a user, are within the group's rates
 abbrev pub keeps_one_more : GroupPromise → UserRate → Bool
 keeps_one_more entry row =
-    keeps (entry.down + row.session_down_floor) entry.row.down && keeps (entry.up + row.session_up_floor) entry.row.up
+    keeps (entry.down + row.session_down_floor) entry.row.down
+    && keeps (entry.up + row.session_up_floor) entry.row.up
 
 -- adds the guarantees of one session to the sums of the user's group, or subtracts them
 abbrev pub with_floors : (ℕ → ℕ → ℕ) → UserRate → GroupPromise → GroupPromise
 with_floors change row entry =
-    if is_number row.group (group_key entry) then record { row = entry.row; down = change entry.down row.session_down_floor; up = change entry.up row.session_up_floor } else entry
+    if is_number row.group (group_key entry)
+    then record {
+      row = entry.row;
+      down = change entry.down row.session_down_floor;
+      up = change entry.up row.session_up_floor;
+    } else entry
 
 abbrev pub added : ℕ → ℕ → ℕ
 added sum floor = sum + floor
@@ -174,13 +202,19 @@ IsInGroup groups (Some group) i = IsAt group_key groups group i
 
 -- the sums of a user's group plus the guarantees of one session fit into 64 bits
 abbrev pub HasRoom : List GroupPromise → UserRate → Type 0
-HasRoom groups row = (i : ℕ) (d : GroupPromise) → i < length groups → is_number row.group (group_key (slice_index_or groups i d)) ≡ true
-    → ((slice_index_or groups i d).down + row.session_down_floor < 2 ^ 64) × ((slice_index_or groups i d).up + row.session_up_floor < 2 ^ 64)
+HasRoom groups row =
+    (i : ℕ) (d : GroupPromise) → i < length groups
+    → is_number row.group (group_key (slice_index_or groups i d)) ≡ true
+    → ((slice_index_or groups i d).down + row.session_down_floor < 2 ^ 64)
+    × ((slice_index_or groups i d).up + row.session_up_floor < 2 ^ 64)
 
 -- the sums of a user's group are at least the guarantees of one session
 abbrev pub HasFloors : List GroupPromise → UserRate → Type 0
-HasFloors groups row = (i : ℕ) (d : GroupPromise) → i < length groups → is_number row.group (group_key (slice_index_or groups i d)) ≡ true
-    → (row.session_down_floor ≤ (slice_index_or groups i d).down) × (row.session_up_floor ≤ (slice_index_or groups i d).up)
+HasFloors groups row =
+    (i : ℕ) (d : GroupPromise) → i < length groups
+    → is_number row.group (group_key (slice_index_or groups i d)) ≡ true
+    → (row.session_down_floor ≤ (slice_index_or groups i d).down)
+    × (row.session_up_floor ≤ (slice_index_or groups i d).up)
 
 pub record IsPromised (users : List UserSessions) (entry : GroupPromise) : Type 0 where
   pub down : entry.down ≡ promised_group users Down entry.row.group
@@ -189,10 +223,14 @@ pub record IsPromised (users : List UserSessions) (entry : GroupPromise) : Type 
 -- the promises that rates and rows represent
 abbrev pub seen : ℕ → ℕ → ℕ → List GroupPromise → List UserSessions → Promises
 seen server down up groups users =
-    record { rates = stated server down up (map group_row groups) (map user_row users); users = users }
+    record {
+      rates = stated server down up (map group_row groups) (map user_row users);
+      users = users;
+    }
 
 -- the stored sums are those of the definitions
-pub record IsTold (down up : ℕ) (groups : List GroupPromise) (users : List UserSessions) : Type 0 where
+pub record IsTold (down up : ℕ) (groups : List GroupPromise)
+    (users : List UserSessions) : Type 0 where
   pub down_told : down ≡ promised users Down
   pub up_told : up ≡ promised users Up
   pub small : down + up ≤ MAX_PROMISED
@@ -203,7 +241,8 @@ pub record IsTold (down up : ℕ) (groups : List GroupPromise) (users : List Use
   pub groups_told : All (IsPromised users) groups
 
 -- how promises are stored: in sums, which fit
-pub record IsKept (server down up promised_down promised_up : ℕ) (groups : List GroupPromise) (users : List UserSessions) : Type 0 where
+pub record IsKept (server down up promised_down promised_up : ℕ) (groups : List GroupPromise)
+    (users : List UserSessions) : Type 0 where
   pub told : IsTold promised_down promised_up groups users
   pub fit : PromisesFit (seen server down up groups users)
 
@@ -211,8 +250,8 @@ pub record IsKept (server down up promised_down promised_up : ℕ) (groups : Lis
 abbrev pub HasNoSessions : Promises → Type 0
 HasNoSessions p = All (λ (entry : UserSessions). entry.sessions ≡ 0) p.users
 
--- the promises after `admit`, which counts a session if it fits, and after `release`, which takes back one if any is
--- counted
+-- the promises after `admit`, which counts a session if it fits, and after `release`, which takes
+-- back one if any is counted
 abbrev pub after_admit : Promises → ℕ → Promises
 after_admit p user = if admits p user then counted p user else p
 

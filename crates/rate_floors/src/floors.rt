@@ -32,7 +32,8 @@ impl<A: Allocator> Model for Floors<A> {
 
     ghost view = { λ f. seen f.server f.down f.up f.groups.items f.users.items };
 
-    ghost invariant = { λ f. IsKept f.server f.down f.up f.promised_down f.promised_up f.groups.items f.users.items };
+    ghost invariant = { λ f.
+        IsKept f.server f.down f.up f.promised_down f.promised_up f.groups.items f.users.items };
 }
 
 fn no_sessions<A: Allocator>(

@@ -9,9 +9,11 @@ IsLastFull t g n i (Some k) = IsFullAbove t g i k × ((m : ℕ) → m < n → Is
 
 -- the mark of leaf i is that branch
 abbrev pub HasMark : LimitTree → List ℕ → ℕ → ℕ → List (Option ℕ) → Type 0
-HasMark t g n i marks = (mark : Option ℕ) × (slice_get marks i ≡ Some mark) × IsLastFull t g n i mark
+HasMark t g n i marks =
+    (mark : Option ℕ) × (slice_get marks i ≡ Some mark) × IsLastFull t g n i mark
 
 -- each leaf is marked with the last full branch above it
 pub record AreDeepest (t : LimitTree) (g : List ℕ) (marks : List (Option ℕ)) : Type 0 where
   pub size : length marks ≡ length g
-  pub deepest : (i : ℕ) → i < length g → (mark : Option ℕ) × (slice_get marks i ≡ Some mark) × IsDeepestFull t g i mark
+  pub deepest : (i : ℕ) → i < length g
+      → (mark : Option ℕ) × (slice_get marks i ≡ Some mark) × IsDeepestFull t g i mark

@@ -8,7 +8,8 @@ IsExhausted t g = (i : ℕ) → HasRoom t g i → ⊥
 
 -- each unmet leaf has a bottleneck
 abbrev pub HasBottlenecks : LimitTree → List ℕ → Type 0
-HasBottlenecks t g = (i : ℕ) → IsUnmet t g i → (k : ℕ) × (b : Branch) × IsBranch t k b × IsBottleneck t b g i
+HasBottlenecks t g =
+    (i : ℕ) → IsUnmet t g i → (k : ℕ) × (b : Branch) × IsBranch t k b × IsBottleneck t b g i
 
 -- the entry of an unmet leaf is its last full branch; that of any other leaf is none
 pub record IsEntry (t : LimitTree) (g : List ℕ) (i : ℕ) (entry : Option ℕ) : Type 0 where
@@ -18,4 +19,5 @@ pub record IsEntry (t : LimitTree) (g : List ℕ) (i : ℕ) (entry : Option ℕ)
 -- an entry for each leaf
 pub record IsNamed (t : LimitTree) (g : List ℕ) (c : List (Option ℕ)) : Type 0 where
   pub leaves : length c ≡ length g
-  pub entries : (i : ℕ) → i < length g → (entry : Option ℕ) × (slice_get c i ≡ Some entry) × IsEntry t g i entry
+  pub entries : (i : ℕ) → i < length g
+      → (entry : Option ℕ) × (slice_get c i ≡ Some entry) × IsEntry t g i entry

@@ -11,13 +11,16 @@ ticks_due begun tick = min (tick % 500 + 1 - begun_in begun tick) 50
 abbrev pub floor_in : ℕ → ℕ → ℕ → ℕ
 floor_in begun tick floor = share floor (ticks_due begun tick)
 
--- Guarantees of sessions that are within a rate are within what the first round of a tick is offered under it.
+-- Guarantees of sessions that are within a rate are within what the first round of a tick is
+-- offered under it.
 abbrev pub FloorsFitOffers : Type 0
-FloorsFitOffers = (rate left begun tick : ℕ) (floors : List ℕ) → rate ≤ MAX_RATE → begun ≤ tick → sum floors ≤ rate
+FloorsFitOffers =
+    (rate left begun tick : ℕ) (floors : List ℕ) → rate ≤ MAX_RATE → begun ≤ tick
+    → sum floors ≤ rate
     → sum (map (floor_in begun tick) floors) ≤ refilled rate left begun tick
 
--- The same for one session and its session rate, of which a round is offered what was earned since the ticks begun
--- before.
+-- The same for one session and its session rate, of which a round is offered what was earned since
+-- the ticks begun before.
 abbrev pub FloorFitsSession : Type 0
 FloorFitsSession = (rate begun tick floor : ℕ) → rate ≤ MAX_RATE → begun ≤ tick → floor ≤ rate
     → floor_in begun tick floor ≤ session_left rate begun tick

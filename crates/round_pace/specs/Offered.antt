@@ -88,8 +88,8 @@ with_offered rates p = record {
   offered = rates;
 }
 
--- The pace after a round was offered in a tick: the rows are refilled if it is the first of the tick, the moment is a
--- second later, and the rates are those of the rows.
+-- The pace after a round was offered in a tick: the rows are refilled if it is the first of the
+-- tick, the moment is a second later, and the rates are those of the rows.
 abbrev pub offer_round : ℕ → Paced → Paced
 offer_round tick p = with_offered (offer_all p.begun tick (refill_all tick p)) (refill_all tick p)
 
@@ -100,14 +100,16 @@ left_rates begun tick p = stated (credit_rate p.server) (credit_rate p.down) (cr
 
 -- The rates handed in are those of the rows, and there is no other row.
 abbrev pub HandsRowsIn : Type 0
-HandsRowsIn = (begun tick : ℕ) (p : Paced) → IsRising group_key p.groups → IsRising pace_number p.users
+HandsRowsIn =
+    (begun tick : ℕ) (p : Paced) → IsRising group_key p.groups → IsRising pace_number p.users
     → AreTheGroups p.offered p.groups → AreTheUsers p.offered p.users
     → offer_all begun tick p ≡ left_rates begun tick p
 
--- The earliest moment of the next round: now, if the tick has not begun or something can be granted; otherwise the
--- start of the next tick.
+-- The earliest moment of the next round: now, if the tick has not begun or something can be
+-- granted; otherwise the start of the next tick.
 abbrev pub due_in : Paced → ℕ → Due
 due_in p now =
     if nat_le p.begun (tick_of now) then Now
-    else if is_dry p.server || (is_dry p.down && is_dry p.up) then At (min (p.begun * 2000) (2 ^ 64 - 1))
+    else if is_dry p.server || (is_dry p.down && is_dry p.up)
+    then At (min (p.begun * 2000) (2 ^ 64 - 1))
     else Now

@@ -13,7 +13,8 @@ use Rattle.round_pace.specs.declared.paced.GroupPace.{GroupPace}
 use Rattle.round_pace.specs.declared.paced.UserPace.{UserPace}
 use Rattle.round_pace.specs.Credits.{IsCredit}
 
--- the number of real ticks begun, the moment of the last round, the rows, and the rates handed in last
+-- the number of real ticks begun, the moment of the last round, the rows, and the rates handed in
+-- last
 pub record Paced : Type 0 where
   pub begun : ℕ
   pub moment : ℕ
@@ -51,7 +52,8 @@ AreTheUsers rates users = (q : ℕ) → is_some (finite.get rates.users q)
     ≡ is_some (finite.get (by_number pace_number users) q)
 
 -- the rows: those of the rates handed in, sorted by number
-pub record IsPaced (server down up : Credit) (groups : List GroupPace) (users : List UserPace) (offered : Rates) : Type 0 where
+pub record IsPaced (server down up : Credit) (groups : List GroupPace) (users : List UserPace)
+    (offered : Rates) : Type 0 where
   pub server_fits : IsCredit server
   pub down_fits : IsCredit down
   pub up_fits : IsCredit up
@@ -98,14 +100,18 @@ credit_code = code_by (ℕ × ℕ) (coded× coded_ℕ coded_ℕ) (λ c. (c.rate,
 
 abbrev pub group_pace_code : Coded GroupPace
 group_pace_code = code_by (ℕ × (Credit × Credit)) (coded× coded_ℕ (coded× credit_code credit_code))
-    (λ g. (g.group, (g.down, g.up))) (λ p. record { group = p.0; down = p.1.0; up = p.1.1 }) (λ _. refl)
+    (λ g. (g.group, (g.down, g.up))) (λ p. record { group = p.0; down = p.1.0; up = p.1.1 })
+    (λ _. refl)
 
 abbrev pub user_pace_code : Coded UserPace
-user_pace_code = code_by (UserRate × (Credit × Credit)) (coded× user_code (coded× credit_code credit_code))
-    (λ u. (u.row, (u.down, u.up))) (λ p. record { row = p.0; down = p.1.0; up = p.1.1 }) (λ _. refl)
+user_pace_code =
+    code_by (UserRate × (Credit × Credit)) (coded× user_code (coded× credit_code credit_code))
+    (λ u. (u.row, (u.down, u.up))) (λ p. record { row = p.0; down = p.1.0; up = p.1.1 })
+    (λ _. refl)
 
 abbrev pub paced_code : Coded Paced
-paced_code = code_by ((ℕ × ℕ) × ((Credit × (Credit × Credit)) × ((List GroupPace × List UserPace) × Rates)))
+paced_code =
+    code_by ((ℕ × ℕ) × ((Credit × (Credit × Credit)) × ((List GroupPace × List UserPace) × Rates)))
     (coded× (coded× coded_ℕ coded_ℕ)
     (coded× (coded× credit_code (coded× credit_code credit_code))
     (coded× (coded× (coded_list group_pace_code) (coded_list user_pace_code)) rates_code)))

@@ -12,7 +12,8 @@ use Rattle.rate_floors.specs.Promises.{Promises, PromisesFit, user_row}
 use Rattle.round_pace.specs.Earned.{share, as_rate, refilled, session_left}
 use Rattle.round_pace.specs.FloorsFit.{ticks_due}
 
--- the octets left under the rates of the server, the ways, the groups, the users, and each session of a user
+-- the octets left under the rates of the server, the ways, the groups, the users, and each session
+-- of a user
 pub record Lefts : Type 0 where
   pub server : ℕ
   pub way : Way → ℕ
@@ -24,9 +25,11 @@ pub record Lefts : Type 0 where
 pub record HasEarned (ticks : ℕ) (p : Promises) (left : Lefts) : Type 0 where
   pub server : share p.rates.server ticks ≤ left.server
   pub way : (w : Way) → share (way_of p.rates.down p.rates.up w) ticks ≤ left.way w
-  pub group : (w : Way) (g : ℕ) → share (group_rate (finite.get p.rates.groups g) w) ticks ≤ left.group w g
+  pub group : (w : Way) (g : ℕ)
+      → share (group_rate (finite.get p.rates.groups g) w) ticks ≤ left.group w g
   pub user : (row : UserRate) (w : Way) → share (way_of row.down row.up w) ticks ≤ left.user row w
-  pub session : (row : UserRate) (w : Way) → share (way_of row.session_down row.session_up w) ticks ≤ left.session row w
+  pub session : (row : UserRate) (w : Way)
+      → share (way_of row.session_down row.session_up w) ticks ≤ left.session row w
 
 -- a user's row as it is handed in
 abbrev pub offered_row : ℕ → Lefts → UserRate → UserRate
@@ -42,7 +45,8 @@ offered_row ticks left row = record {
 }
 
 abbrev pub offered_entry : ℕ → Lefts → UserSessions → UserSessions
-offered_entry ticks left entry = record { row = offered_row ticks left entry.row; sessions = entry.sessions }
+offered_entry ticks left entry =
+    record { row = offered_row ticks left entry.row; sessions = entry.sessions }
 
 -- the rates handed in, with the same counted sessions
 pub record IsOffered (ticks : ℕ) (p : Promises) (left : Lefts) (q : Promises) : Type 0 where
@@ -54,10 +58,11 @@ pub record IsOffered (ticks : ℕ) (p : Promises) (left : Lefts) (q : Promises) 
   pub users : q.users ≡ map (offered_entry ticks left) p.users
   pub rows : q.rates.users ≡ by_number user_number (map user_row q.users)
 
--- Guarantees that fit the stated rates fit those handed in: with the ticks that are due in the first round of a tick,
--- and with none in later rounds.
+-- Guarantees that fit the stated rates fit those handed in: with the ticks that are due in the
+-- first round of a tick, and with none in later rounds.
 abbrev pub PromisesStayFit : Type 0
-PromisesStayFit = (ticks : ℕ) (p q : Promises) (left : Lefts) → PromisesFit p → HasEarned ticks p left
+PromisesStayFit =
+    (ticks : ℕ) (p q : Promises) (left : Lefts) → PromisesFit p → HasEarned ticks p left
     → IsOffered ticks p left q → PromisesFit q
 
 -- As a tick begins, a row has earned the ticks that are due, and so has a session.

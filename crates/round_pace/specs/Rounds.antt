@@ -16,8 +16,8 @@ left_after rate left begun r = offered rate left begun (tick_of r.now) - r.grant
 abbrev pub begun_after : Round → ℕ
 begun_after r = tick_of r.now + 1
 
--- Rounds from a state with `left` octets and `begun` ticks: no round is in an earlier tick than the one before it, and
--- each grants at most what it is offered.
+-- Rounds from a state with `left` octets and `begun` ticks: no round is in an earlier tick than the
+-- one before it, and each grants at most what it is offered.
 abbrev pub AreRounds : ℕ → ℕ → ℕ → List Round → Type 0
 AreRounds rate left begun [] = Unit {0}
 AreRounds rate left begun (r ∷ rs) = (begun ≤ begun_after r)
@@ -61,7 +61,8 @@ AreUncut rate left begun (r ∷ rs) =
 -- octets left after all rounds, and the number of ticks begun
 abbrev pub left_last : ℕ → ℕ → ℕ → List Round → ℕ
 left_last rate left begun [] = left
-left_last rate left begun (r ∷ rs) = left_last rate (left_after rate left begun r) (begun_after r) rs
+left_last rate left begun (r ∷ rs) =
+    left_last rate (left_after rate left begun r) (begun_after r) rs
 
 abbrev pub begun_last : ℕ → List Round → ℕ
 begun_last begun [] = begun
@@ -88,10 +89,13 @@ abbrev pub ArePrompt : ℕ → List Round → Type 0
 ArePrompt begun [] = Unit {0}
 ArePrompt begun (r ∷ rs) = (tick_of r.now < begun + 49) × ArePrompt (begun_after r) rs
 
--- Rounds of one second that come in time from its beginning to its last tick, and leave nothing of a tick to the next,
--- grant exactly the rate. A tick may have several rounds, some of which grant less than they are offered.
+-- Rounds of one second that come in time from its beginning to its last tick, and leave nothing of
+-- a tick to the next, grant exactly the rate. A tick may have several rounds, some of which grant
+-- less than they are offered.
 abbrev pub ReachesRates : Type 0
-ReachesRates = (rate left begun second : ℕ) (r : Round) (rs : List Round) → rate ≤ MAX_RATE → begun ≤ 500 * second
+ReachesRates =
+    (rate left begun second : ℕ) (r : Round) (rs : List Round) → rate ≤ MAX_RATE
+    → begun ≤ 500 * second
     → AreRounds rate left begun (r ∷ rs) → AreIn second (r ∷ rs)
     → AreDrained rate (left_after rate left begun r) (begun_after r) rs
     → ArePrompt (500 * second) (r ∷ rs) → begun_last begun (r ∷ rs) ≡ 500 * second + 500

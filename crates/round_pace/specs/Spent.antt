@@ -41,12 +41,15 @@ is_group_row_spent way (Some g) = is_dry (credit_of way g.down g.up)
 
 abbrev pub is_group_spent : Way → List GroupPace → Option ℕ → Bool
 is_group_spent way groups None = false
-is_group_spent way groups (Some group) = is_group_row_spent way (finite.get (by_number group_key groups) group)
+is_group_spent way groups (Some group) =
+    is_group_row_spent way (finite.get (by_number group_key groups) group)
 
--- The earliest moment of the next round for a user's transfer: now, if the tick has not begun or something can be granted
--- to it; otherwise the start of the next tick.
+-- The earliest moment of the next round for a user's transfer: now, if the tick has not begun or
+-- something can be granted to it; otherwise the start of the next tick.
 abbrev pub due_for_in : Way → ℕ → Paced → ℕ → Due
 due_for_in way user p now =
     if nat_le p.begun (tick_of now) then Now
-    else if is_dry p.server || is_dry (credit_of way p.down p.up) || is_user_spent way p.users user || is_group_spent way p.groups (group_of p.users user) then At (min (p.begun * 2000) (2 ^ 64 - 1))
+    else if is_dry p.server || is_dry (credit_of way p.down p.up) || is_user_spent way p.users user
+    || is_group_spent way p.groups (group_of p.users user)
+    then At (min (p.begun * 2000) (2 ^ 64 - 1))
     else Now

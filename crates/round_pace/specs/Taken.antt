@@ -20,7 +20,11 @@ take_if_up Up octets c = take_row octets c
 
 abbrev pub take_group : Way → ℕ → GroupPace → GroupPace
 take_group way octets g =
-    record { group = g.group; down = take_if_down way octets g.down; up = take_if_up way octets g.up }
+    record {
+      group = g.group;
+      down = take_if_down way octets g.down;
+      up = take_if_up way octets g.up;
+    }
 
 abbrev pub take_user : Way → ℕ → UserPace → UserPace
 take_user way octets u =

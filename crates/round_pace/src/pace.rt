@@ -40,7 +40,16 @@ impl<A: Allocator> Model for Pace<A> {
 
     ghost coded = { paced_code };
 
-    ghost view = { λ p. record { begun = p.begun; moment = p.moment; server = p.server; down = p.down; up = p.up; groups = p.groups.items; users = p.users.items; offered = p.offered } };
+    ghost view = { λ p. record {
+      begun = p.begun;
+      moment = p.moment;
+      server = p.server;
+      down = p.down;
+      up = p.up;
+      groups = p.groups.items;
+      users = p.users.items;
+      offered = p.offered;
+    } };
 
     ghost invariant = { λ p. IsPaced p.server p.down p.up p.groups.items p.users.items p.offered };
 }

@@ -1,4 +1,5 @@
--- A configuration: the tables that its text states, key by key, and the values that are made of them.
+-- A configuration: the tables that its text states, key by key, and the values that are made of
+-- them.
 use Rattle.std.specs.Prelude.{◌≡◌, ◌≤◌, ℕ, List, Some}
 use Rattle.std.specs.List.{AllByRecursion}
 use Rattle.toml.specs.Data.{Members}
@@ -19,8 +20,10 @@ pub record IsMadeOf (tables : Tables) (config : Config) : Type 0 where
   pub numbers : AreNumbers tables.server config.numbers
   pub ports : tables.server.passive_first ≤ tables.server.passive_last
   pub groups_apart : AreApart tables.groups.items
-  pub users_grouped : AllByRecursion (λ user. HasGroup tables.groups.items user.group) tables.users.items
-  pub users : AddsUsers tables.groups.items tables.users.items tables.overrides.items no_users config.users
+  pub users_grouped : AllByRecursion
+      (λ user. HasGroup tables.groups.items user.group) tables.users.items
+  pub users : AddsUsers tables.groups.items tables.users.items tables.overrides.items no_users
+      config.users
   pub store : IsStoreOf tables.server tables.dirs.items tables.files.items config.store
   pub limits : config.limits ≡ rates_of tables.server tables.groups.items tables.users.items
 
@@ -30,4 +33,5 @@ IsConfig document config = (tables : Tables) × IsTables document tables × IsMa
 
 -- the same of the document that a text is
 abbrev pub IsConfigText : List ℕ → Config → Type 0
-IsConfigText octets config = (document : Members) × (parse_document octets ≡ Some document) × IsConfig document config
+IsConfigText octets config =
+    (document : Members) × (parse_document octets ≡ Some document) × IsConfig document config

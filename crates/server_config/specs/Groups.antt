@@ -18,11 +18,15 @@ use Rattle.config_file.specs.Lists.{FaultIs, Place, place_of, row_at}
 -- the number of the first group of a name
 abbrev pub number_named : List GroupTable → List ℕ → Option ℕ
 number_named [] name = None
-number_named (group ∷ groups) name = cond (bytes_eq group.name.now name) (Some 0) (option_map (λ k. k + 1) (number_named groups name))
+number_named (group ∷ groups) name =
+    cond (bytes_eq group.name.now name) (Some 0)
+    (option_map (λ k. k + 1) (number_named groups name))
 
 -- each group is the first of its name, so no two have one
 abbrev pub AreApart : List GroupTable → Type 0
-AreApart groups = (k : ℕ) (other : GroupTable) → k < length groups → number_named groups (get_or groups k other).name.now ≡ Some k
+AreApart groups =
+    (k : ℕ) (other : GroupTable) → k < length groups
+    → number_named groups (get_or groups k other).name.now ≡ Some k
 
 -- the number of a user's group
 abbrev pub group_in : List GroupTable → Option (Bor (List ℕ)) → Option ℕ
@@ -47,7 +51,8 @@ abbrev pub AreGrouped : List GroupTable → List UserTable → Type 0
 AreGrouped groups users = AllByRecursion (λ user. HasGroup groups user.group) users
 
 -- the row at an index is at fault, or memory ran out
-pub record IsRowFault (table : TableName) (index : ℕ) (name : List ℕ) (problem : GroupProblem) (fault : Fault GroupProblem) : Type 0 where
+pub record IsRowFault (table : TableName) (index : ℕ) (name : List ℕ) (problem : GroupProblem)
+    (fault : Fault GroupProblem) : Type 0 where
   pub header : Header
   pub is : fault ≡ At header problem
   pub place : place_of header ≡ row_at table index (Some name)
@@ -72,38 +77,47 @@ pub record IsStray (groups : List GroupTable) (users : List UserTable) (at : Pla
   pub place : at ≡ row_at TableName.User index (Some user.name.now)
 
 -- the place is that of a row which has no number
-pub record IsNumberless {R : Type 0} (table : TableName) (name : R → List ℕ) (rows : List R) (at : Place) : Type 0 where
+pub record IsNumberless {R : Type 0} (table : TableName) (name : R → List ℕ) (rows : List R)
+    (at : Place) : Type 0 where
   pub index : ℕ
   pub row : R
   pub is : slice_get rows index ≡ Some row
   pub many : 2 ^ 32 ≤ index
   pub place : at ≡ row_at table index (Some (name row))
 
--- the place and the problem: two groups have one name, a user's group is none of them, or there are more than numbers
+-- the place and the problem: two groups have one name, a user's group is none of them, or there are
+-- more than numbers
 abbrev pub IsProblem : List GroupTable → List UserTable → Place → GroupProblem → Type 0
 IsProblem groups users place Twice = IsTwice groups place
 IsProblem groups users place NoSuchGroup = IsStray groups users place
 IsProblem groups users place NoNumber =
-    IsNumberless TableName.Group (λ group. group.name.now) groups place ⊎ IsNumberless TableName.User (λ user. user.name.now) users place
+    IsNumberless TableName.Group (λ group. group.name.now) groups place
+    ⊎ IsNumberless TableName.User (λ user. user.name.now) users place
 
 abbrev pub IsFault : List GroupTable → List UserTable → Fault GroupProblem → Type 0
 IsFault groups users fault = FaultIs (IsProblem groups users) fault
 
 -- the same of the group at an index, by the numbers of those before it
 abbrev pub IsFaultOfNext : BTreeMap (String Global) ℕ → ℕ → List ℕ → Fault GroupProblem → Type 0
-IsFaultOfNext numbers index name (At header Twice) = (number_by numbers name ≢ None) × (place_of header ≡ row_at TableName.Group index (Some name))
-IsFaultOfNext numbers index name (At header NoNumber) = (2 ^ 32 ≤ index) × (place_of header ≡ row_at TableName.Group index (Some name))
+IsFaultOfNext numbers index name (At header Twice) =
+    (number_by numbers name ≢ None) × (place_of header ≡ row_at TableName.Group index (Some name))
+IsFaultOfNext numbers index name (At header NoNumber) =
+    (2 ^ 32 ≤ index) × (place_of header ≡ row_at TableName.Group index (Some name))
 IsFaultOfNext numbers index name (At header NoSuchGroup) = ⊥
 IsFaultOfNext numbers index name Memory = Unit {0}
 
 -- the same of the user at an index
 abbrev pub IsFaultOfUser : List GroupTable → ℕ → UserTable → Fault GroupProblem → Type 0
-IsFaultOfUser groups index user (At header NoSuchGroup) = (HasGroup groups user.group → ⊥) × (place_of header ≡ row_at TableName.User index (Some user.name.now))
-IsFaultOfUser groups index user (At header NoNumber) = (2 ^ 32 ≤ index) × (place_of header ≡ row_at TableName.User index (Some user.name.now))
+IsFaultOfUser groups index user (At header NoSuchGroup) =
+    (HasGroup groups user.group → ⊥)
+    × (place_of header ≡ row_at TableName.User index (Some user.name.now))
+IsFaultOfUser groups index user (At header NoNumber) =
+    (2 ^ 32 ≤ index) × (place_of header ≡ row_at TableName.User index (Some user.name.now))
 IsFaultOfUser groups index user (At header Twice) = ⊥
 IsFaultOfUser groups index user Memory = Unit {0}
 
 -- no number is left at an index
 abbrev pub IsNoNumber : TableName → ℕ → List ℕ → Fault GroupProblem → Type 0
-IsNoNumber table index name (At header NoNumber) = (2 ^ 32 ≤ index) × (place_of header ≡ row_at table index (Some name))
+IsNoNumber table index name (At header NoNumber) =
+    (2 ^ 32 ≤ index) × (place_of header ≡ row_at table index (Some name))
 IsNoNumber table index name _ = ⊥

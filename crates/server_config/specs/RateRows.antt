@@ -38,8 +38,10 @@ user_rows groups users = numbered (user_row groups) 0 users
 
 -- the rates of the line, of its groups and of its users
 abbrev pub rates_of : ServerTable → List GroupTable → List UserTable → Rates
-rates_of server groups users = stated server.rate server.down_rate server.up_rate (group_rows groups) (user_rows groups users)
+rates_of server groups users =
+    stated server.rate server.down_rate server.up_rate (group_rows groups) (user_rows groups users)
 
-pub record AreRowsOf (groups : List GroupTable) (users : List UserTable) (rows : RateRows) : Type 0 where
+pub record AreRowsOf (groups : List GroupTable) (users : List UserTable)
+    (rows : RateRows) : Type 0 where
   pub groups_are : rows.groups.items ≡ group_rows groups
   pub users_are : rows.users.items ≡ user_rows groups users

@@ -1,4 +1,5 @@
--- Why a configuration is refused: seen from its tables, from its document, and from its text; and how it is told.
+-- Why a configuration is refused: seen from its tables, from its document, and from its text; and
+-- how it is told.
 use Rattle.std.specs.Prelude.{◌≡◌, ◌⊎◌, ℕ, List, Some, None, option_map, string_bytes, IsUtf8}
 use Rattle.toml.specs.Data.{Members}
 use Rattle.toml.specs.Errors.{IsMemory}
@@ -27,43 +28,57 @@ use Rattle.server_config.specs.declared.fault.ConfigFault.TheVariants.{NotToml, 
 
 -- the place of a table
 abbrev pub owned_place : OwnedHeader → Place
-owned_place header = record { table = header.table; row = header.row; name = option_map string_bytes header.name }
+owned_place header =
+    record { table = header.table; row = header.row; name = option_map string_bytes header.name }
 
--- the groups are refused; or they are not, and a user is; or nobody is, and what is served is refused
+-- the groups are refused; or they are not, and a user is; or nobody is, and what is served is
+-- refused
 abbrev pub IsFaultOfTables : Tables → ConfigFault → Type 0
-IsFaultOfTables tables (BadGroup header problem) = IsProblem tables.groups.items tables.users.items (owned_place header) problem
-IsFaultOfTables tables (BadUser header problem) = AreApart tables.groups.items × AreGrouped tables.groups.items tables.users.items
-    × IsFirstRefusal tables.groups.items tables.users.items tables.overrides.items (owned_place header) problem
-IsFaultOfTables tables (BadStore header problem) = AreApart tables.groups.items × AreGrouped tables.groups.items tables.users.items
-    × ((users : Accounts) × AddsUsers tables.groups.items tables.users.items tables.overrides.items no_users users)
+IsFaultOfTables tables (BadGroup header problem) =
+    IsProblem tables.groups.items tables.users.items (owned_place header) problem
+IsFaultOfTables tables (BadUser header problem) =
+    AreApart tables.groups.items × AreGrouped tables.groups.items tables.users.items
+    × IsFirstRefusal tables.groups.items tables.users.items tables.overrides.items
+    (owned_place header) problem
+IsFaultOfTables tables (BadStore header problem) =
+    AreApart tables.groups.items × AreGrouped tables.groups.items tables.users.items
+    × ((users : Accounts)
+    × AddsUsers tables.groups.items tables.users.items tables.overrides.items no_users users)
     × IsStoreProblem tables.server tables.dirs.items tables.files.items (owned_place header) problem
 IsFaultOfTables tables Memory = Unit {0}
 IsFaultOfTables tables _ = ⊥
 
--- the fault of a key is the first of the document; or the document states tables, and nothing can be made of them
+-- the fault of a key is the first of the document; or the document states tables, and nothing can
+-- be made of them
 abbrev pub IsFaultOf : Members → ConfigFault → Type 0
-IsFaultOf document (Key header key problem) = IsFirstFault document (owned_place header) (string_bytes key.name) problem
+IsFaultOf document (Key header key problem) =
+    IsFirstFault document (owned_place header) (string_bytes key.name) problem
 IsFaultOf document (NotToml line error) = ⊥
 IsFaultOf document BadDate = ⊥
 IsFaultOf document TooDeep = ⊥
 IsFaultOf document TooLong = ⊥
-IsFaultOf document fault = (fault ≡ Memory) ⊎ ((tables : Tables) × IsTables document tables × IsFaultOfTables tables fault)
+IsFaultOf document fault =
+    (fault ≡ Memory) ⊎ ((tables : Tables) × IsTables document tables × IsFaultOfTables tables fault)
 
 -- the text is no document; or it is one, and the document is refused
 abbrev pub IsFaultOfText : List ℕ → ConfigFault → Type 0
 IsFaultOfText octets (NotToml line error) = IsUtf8 octets → parse_document octets ≡ None
-IsFaultOfText octets fault = (fault ≡ Memory) ⊎ ((document : Members) × (parse_document octets ≡ Some document) × IsFaultOf document fault)
+IsFaultOfText octets fault =
+    (fault ≡ Memory)
+    ⊎ ((document : Members) × (parse_document octets ≡ Some document) × IsFaultOf document fault)
 
 -- ---- how refusals are told
 
 -- the fault of this key
 abbrev pub IsKeyFault : Place → List ℕ → Problem → ConfigFault → Type 0
-IsKeyFault place name told (Key header key problem) = (owned_place header ≡ place) × (string_bytes key.name ≡ name) × (problem ≡ told)
+IsKeyFault place name told (Key header key problem) =
+    (owned_place header ≡ place) × (string_bytes key.name ≡ name) × (problem ≡ told)
 IsKeyFault place name told _ = ⊥
 
 abbrev pub TellsKey : Fault KeyFault → ConfigFault → Type 0
 TellsKey fault (Key header key problem) =
-    (place : Header) × (told : KeyFault) × (fault ≡ At place told) × IsKeyFault (place_of place) told.key.now told.problem (Key header key problem)
+    (place : Header) × (told : KeyFault) × (fault ≡ At place told)
+    × IsKeyFault (place_of place) told.key.now told.problem (Key header key problem)
 TellsKey fault Memory = Unit {0}
 TellsKey fault _ = ⊥
 

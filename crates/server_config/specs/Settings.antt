@@ -18,7 +18,8 @@ pub record AreSettings (server : ServerTable) (settings : Settings Global) : Typ
   pub attempts : settings.login_attempts ≡ server.max_login_attempts
   pub foreign : settings.permits_foreign_addresses ≡ server.permit_foreign_addresses
   pub privileged : settings.permits_privileged_ports ≡ server.permit_privileged_ports
-  pub address : settings.address ≡ ipv4_octets (told_address server.masquerade_address server.address)
+  pub address : settings.address
+      ≡ ipv4_octets (told_address server.masquerade_address server.address)
 
 pub record AreNumbers (server : ServerTable) (numbers : ServerNumbers) : Type 0 where
   pub address : numbers.address ≡ ipv4_octets server.address

@@ -1,5 +1,5 @@
--- The served store: a folder, or the store in memory after the calls that make the directories and files of the tables,
--- one after another.
+-- The served store: a folder, or the store in memory after the calls that make the directories and
+-- files of the tables, one after another.
 use Rattle.std.specs.Prelude.{◌≡◌, ◌≢◌, ◌<◌, ◌≤◌, ◌⊎◌, ℕ, ◌*◌, List, [], ◌∷◌, take, slice_get, Some, None, Ok, Err, codes}
 use Rattle.std.specs.FinMap as map
 use Rattle.std.specs.String.{string_bytes}
@@ -24,7 +24,8 @@ use Rattle.server_config.specs.declared.store.ServedStore.TheVariants as served
 
 -- the directory is made at the path that its text names
 abbrev pub MakesDir : DirTable → Memory → Memory → Type 0
-MakesDir dir old new = (path : Path) × (resolved [] dir.path.now ≡ Ok path) × InMemory old (MakeDir path (Ok tt)) new
+MakesDir dir old new =
+    (path : Path) × (resolved [] dir.path.now ≡ Ok path) × InMemory old (MakeDir path (Ok tt)) new
 
 -- a file is opened anew, the text is written, and the upload is finished, at one moment
 pub record IsFilled (path : Path) (text : List ℕ) (moment : ℕ) (old new : Memory) : Type 0 where
@@ -32,17 +33,22 @@ pub record IsFilled (path : Path) (text : List ℕ) (moment : ℕ) (old new : Me
   pub given : Upload
   pub brought : Upload
   pub opens : InMemory old (OpenWrite path New moment (Ok given)) opened
-  pub writes : Writes (λ upload. Some (target_of upload)) (λ upload. Some upload.octets) given (text ∷ []) brought
+  pub writes : Writes (λ upload. Some (target_of upload)) (λ upload. Some upload.octets) given
+      (text ∷ []) brought
   pub finishes : InMemory opened (Finish brought moment (Ok tt)) new
 
 -- the file is made at the path that its text names, with its octets and its time
 abbrev pub MakesFile : FileTable → Memory → Memory → Type 0
-MakesFile file old new = (path : Path) × (resolved [] file.path.now ≡ Ok path) × IsFilled path file.text.now (file.modified * 1000) old new
+MakesFile file old new =
+    (path : Path) × (resolved [] file.path.now ≡ Ok path)
+    × IsFilled path file.text.now (file.modified * 1000) old new
 
 -- one after another
-abbrev pub MakesAll : {R : Type 0} → (R → Memory → Memory → Type 0) → List R → Memory → Memory → Type 0
+abbrev pub MakesAll : {R : Type 0} → (R → Memory → Memory → Type 0) → List R → Memory → Memory
+    → Type 0
 MakesAll Makes [] old new = new ≡ old
-MakesAll Makes (row ∷ rows) old new = (next : Memory) × Makes row old next × MakesAll Makes rows next new
+MakesAll Makes (row ∷ rows) old new =
+    (next : Memory) × Makes row old next × MakesAll Makes rows next new
 
 -- an empty store, whose files may hold this many octets
 abbrev pub empty_store : ℕ → Memory
@@ -50,14 +56,17 @@ empty_store capacity = record { tree = map.empty; capacity = capacity }
 
 abbrev pub IsStoreOf : ServerTable → List DirTable → List FileTable → ServedStore → Type 0
 IsStoreOf server dirs files (served.Memory store) = (server.root.now ≡ codes "memory")
-    × ((made : Memory) × MakesAll MakesDir dirs (empty_store server.capacity) made × MakesAll MakesFile files made store)
-IsStoreOf server dirs files (served.Folder text) = (server.root.now ≢ codes "memory") × (string_bytes text ≡ server.root.now)
+    × ((made : Memory) × MakesAll MakesDir dirs (empty_store server.capacity) made
+    × MakesAll MakesFile files made store)
+IsStoreOf server dirs files (served.Folder text) =
+    (server.root.now ≢ codes "memory") × (string_bytes text ≡ server.root.now)
 
 -- ---- refusals
 
 -- the text names no path
 abbrev pub IsPathProblem : List ℕ → StoreProblem → Type 0
-IsPathProblem text (problem.Path fault) = Unless PathFault.Memory (λ why. resolved [] text ≡ Err why) fault
+IsPathProblem text (problem.Path fault) =
+    Unless PathFault.Memory (λ why. resolved [] text ≡ Err why) fault
 IsPathProblem text _ = ⊥
 
 -- the text names no path, or the store refuses to make the directory
@@ -65,14 +74,17 @@ abbrev pub IsDirProblem : DirTable → Memory → StoreProblem → Type 0
 IsDirProblem dir old problem.EmptyRange = ⊥
 IsDirProblem dir old (problem.Path fault) = IsPathProblem dir.path.now (problem.Path fault)
 IsDirProblem dir old (problem.Store fault) = Unless StoreFault.Memory (λ why.
-    (path : Path) × (after : Memory) × (resolved [] dir.path.now ≡ Ok path) × InMemory old (MakeDir path (Err why)) after) fault
+    (path : Path) × (after : Memory) × (resolved [] dir.path.now ≡ Ok path)
+    × InMemory old (MakeDir path (Err why)) after) fault
 
 -- the file is not opened; or it is, and it is not finished
 abbrev pub IsNotFilled : Path → List ℕ → ℕ → Memory → StoreFault → Type 0
 IsNotFilled path text moment old fault =
     ((after : Memory) × InMemory old (OpenWrite path New moment (Err fault)) after)
-    ⊎ ((opened after : Memory) × (given brought : Upload) × InMemory old (OpenWrite path New moment (Ok given)) opened
-    × Writes (λ upload. Some (target_of upload)) (λ upload. Some upload.octets) given (text ∷ []) brought
+    ⊎ ((opened after : Memory) × (given brought : Upload)
+    × InMemory old (OpenWrite path New moment (Ok given)) opened
+    × Writes (λ upload. Some (target_of upload)) (λ upload. Some upload.octets) given
+    (text ∷ []) brought
     × InMemory opened (Finish brought moment (Err fault)) after)
 
 -- the text names no path, or the store refuses to make the file
@@ -80,11 +92,14 @@ abbrev pub IsFileProblem : FileTable → Memory → StoreProblem → Type 0
 IsFileProblem file old problem.EmptyRange = ⊥
 IsFileProblem file old (problem.Path fault) = IsPathProblem file.path.now (problem.Path fault)
 IsFileProblem file old (problem.Store fault) = Unless StoreFault.Memory (λ why.
-    (path : Path) × (resolved [] file.path.now ≡ Ok path) × IsNotFilled path file.text.now (file.modified * 1000) old why) fault
+    (path : Path) × (resolved [] file.path.now ≡ Ok path)
+    × IsNotFilled path file.text.now (file.modified * 1000) old why) fault
 
 -- The rows before one are made, and that one is refused. It is named by its path.
-pub record IsRefusedRow {R : Type 0} (table : TableName) (path : R → List ℕ) (Makes : R → Memory → Memory → Type 0)
-    (Refuses : R → Memory → StoreProblem → Type 0) (rows : List R) (old : Memory) (at : Place) (problem : StoreProblem) : Type 0 where
+pub record IsRefusedRow {R : Type 0} (table : TableName) (path : R → List ℕ)
+    (Makes : R → Memory → Memory → Type 0)
+    (Refuses : R → Memory → StoreProblem → Type 0) (rows : List R) (old : Memory) (at : Place)
+    (problem : StoreProblem) : Type 0 where
   pub index : ℕ
   pub row : R
   pub mid : Memory
@@ -105,10 +120,14 @@ IsRefusedFile files old place told =
 abbrev pub IsNotMade : ServerTable → List DirTable → List FileTable → Place → StoreProblem → Type 0
 IsNotMade server dirs files place told =
     IsRefusedDir dirs (empty_store server.capacity) place told
-    ⊎ ((made : Memory) × MakesAll MakesDir dirs (empty_store server.capacity) made × IsRefusedFile files made place told)
+    ⊎ ((made : Memory) × MakesAll MakesDir dirs (empty_store server.capacity) made
+    × IsRefusedFile files made place told)
 
 -- the range of ports is empty; or otherwise a store in memory is not made
-abbrev pub IsStoreProblem : ServerTable → List DirTable → List FileTable → Place → StoreProblem → Type 0
+abbrev pub IsStoreProblem : ServerTable → List DirTable → List FileTable → Place → StoreProblem
+    → Type 0
 IsStoreProblem server dirs files place told =
-    ((place ≡ whole TableName.Server) × (told ≡ problem.EmptyRange) × (server.passive_last < server.passive_first))
-    ⊎ ((server.passive_first ≤ server.passive_last) × (server.root.now ≡ codes "memory") × IsNotMade server dirs files place told)
+    ((place ≡ whole TableName.Server) × (told ≡ problem.EmptyRange)
+    × (server.passive_last < server.passive_first))
+    ⊎ ((server.passive_first ≤ server.passive_last) × (server.root.now ≡ codes "memory")
+    × IsNotMade server dirs files place told)

@@ -16,5 +16,6 @@ pub record IsStrayLetter (text : List ℕ) (character : ℕ) : Type 0 where
 
 -- of letters the stray one is told, and otherwise the fault itself
 abbrev pub IsToldAs : List ℕ → AuthorizerFault → UserProblem → Type 0
-IsToldAs letters fault (BadLetter character) = (fault ≡ AuthorizerFault.BadLetter) × IsStrayLetter letters character
+IsToldAs letters fault (BadLetter character) =
+    (fault ≡ AuthorizerFault.BadLetter) × IsStrayLetter letters character
 IsToldAs letters fault (Refused told) = (told ≡ fault) × (fault ≢ AuthorizerFault.BadLetter)

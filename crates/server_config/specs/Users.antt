@@ -16,36 +16,43 @@ use Rattle.server_config.specs.declared.user_problem.UserProblem.{UserProblem}
 
 -- an override of a user
 abbrev pub AddsRule : List ℕ → OverrideTable → Accounts → Accounts → Type 0
-AddsRule name rule old new = overridden old name rule.path.now rule.perms.now rule.recursive ≡ Ok new
+AddsRule name rule old new =
+    overridden old name rule.path.now rule.perms.now rule.recursive ≡ Ok new
 
 -- overrides of a user, one after another
 abbrev pub AddsRules : List ℕ → List OverrideTable → Accounts → Accounts → Type 0
 AddsRules name [] old new = new ≡ old
-AddsRules name (rule ∷ rules) old new = (next : Accounts) × AddsRule name rule old next × AddsRules name rules next new
+AddsRules name (rule ∷ rules) old new =
+    (next : Accounts) × AddsRule name rule old next × AddsRules name rules next new
 
 -- a user, with name, password, home and letters, then the messages, and then the group
 pub record AddsAccount (group : Option ℕ) (user : UserTable) (old new : Accounts) : Type 0 where
   pub named : Accounts
   pub greeted : Accounts
   pub is_named : added old user.name.now user.password.now user.home.now user.perms.now ≡ Ok named
-  pub is_greeted : with_messages named user.name.now user.msg_login.now user.msg_quit.now ≡ Ok greeted
+  pub is_greeted : with_messages named user.name.now user.msg_login.now user.msg_quit.now
+      ≡ Ok greeted
   pub is_grouped : with_group greeted user.name.now group ≡ Ok new
 
 -- and then the overrides
 abbrev pub AddsUser : Option ℕ → UserTable → List OverrideTable → Accounts → Accounts → Type 0
-AddsUser group user rules old new = (next : Accounts) × AddsAccount group user old next × AddsRules user.name.now rules next new
+AddsUser group user rules old new =
+    (next : Accounts) × AddsAccount group user old next × AddsRules user.name.now rules next new
 
 -- users with their overrides, one after another
-abbrev pub AddsUsers : List GroupTable → List UserTable → List (Vec OverrideTable Global) → Accounts → Accounts → Type 0
+abbrev pub AddsUsers : List GroupTable → List UserTable → List (Vec OverrideTable Global) → Accounts
+    → Accounts → Type 0
 AddsUsers groups [] [] old new = new ≡ old
 AddsUsers groups (user ∷ users) (rules ∷ more) old new =
-    (next : Accounts) × AddsUser (group_in groups user.group) user rules.items old next × AddsUsers groups users more next new
+    (next : Accounts) × AddsUser (group_in groups user.group) user rules.items old next
+    × AddsUsers groups users more next new
 AddsUsers groups _ _ old new = ⊥
 
 -- ---- refusals
 
 -- the overrides before one are made, and that one is refused
-pub record IsRefusedRule (name : List ℕ) (rules : List OverrideTable) (old : Accounts) (at : Place) (problem : UserProblem) : Type 0 where
+pub record IsRefusedRule (name : List ℕ) (rules : List OverrideTable) (old : Accounts) (at : Place)
+    (problem : UserProblem) : Type 0 where
   pub index : ℕ
   pub rule : OverrideTable
   pub mid : Accounts
@@ -60,20 +67,27 @@ pub record IsRefusedRule (name : List ℕ) (rules : List OverrideTable) (old : A
 abbrev pub IsRefusedAccount : Option ℕ → UserTable → Accounts → AuthorizerFault → Type 0
 IsRefusedAccount group user old fault =
     (added old user.name.now user.password.now user.home.now user.perms.now ≡ Err fault)
-    ⊎ ((named : Accounts) × (added old user.name.now user.password.now user.home.now user.perms.now ≡ Ok named)
+    ⊎ ((named : Accounts)
+    × (added old user.name.now user.password.now user.home.now user.perms.now ≡ Ok named)
     × ((with_messages named user.name.now user.msg_login.now user.msg_quit.now ≡ Err fault)
-    ⊎ ((greeted : Accounts) × (with_messages named user.name.now user.msg_login.now user.msg_quit.now ≡ Ok greeted)
+    ⊎ ((greeted : Accounts)
+    × (with_messages named user.name.now user.msg_login.now user.msg_quit.now ≡ Ok greeted)
     × (with_group greeted user.name.now group ≡ Err fault))))
 
 -- the user at an index is refused, or otherwise one of their overrides
-abbrev pub IsRefusedUser : ℕ → Option ℕ → UserTable → List OverrideTable → Accounts → Place → UserProblem → Type 0
+abbrev pub IsRefusedUser : ℕ → Option ℕ → UserTable → List OverrideTable → Accounts → Place
+    → UserProblem → Type 0
 IsRefusedUser index group user rules old place problem =
     ((place ≡ row_at TableName.User index (Some user.name.now))
-    × ((fault : AuthorizerFault) × IsRefusedAccount group user old fault × IsToldAs user.perms.now fault problem))
-    ⊎ ((next : Accounts) × AddsAccount group user old next × IsRefusedRule user.name.now rules next place problem)
+    × ((fault : AuthorizerFault) × IsRefusedAccount group user old fault
+    × IsToldAs user.perms.now fault problem))
+    ⊎ ((next : Accounts) × AddsAccount group user old next
+    × IsRefusedRule user.name.now rules next place problem)
 
 -- the users before one are added, and that one is refused
-pub record IsFirstRefusal (groups : List GroupTable) (users : List UserTable) (overrides : List (Vec OverrideTable Global)) (at : Place) (problem : UserProblem) : Type 0 where
+pub record IsFirstRefusal (groups : List GroupTable) (users : List UserTable)
+    (overrides : List (Vec OverrideTable Global)) (at : Place)
+    (problem : UserProblem) : Type 0 where
   pub index : ℕ
   pub user : UserTable
   pub rules : Vec OverrideTable Global

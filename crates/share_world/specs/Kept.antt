@@ -17,8 +17,8 @@ IsUnasked state.Free = ⊤
 IsUnasked state.Worker = ⊤
 IsUnasked s = ⊥
 
--- Taken is a prefix of posted; each amount taken was moved, given back or is in hand; a lane without an ask has
--- nothing in hand.
+-- Taken is a prefix of posted; each amount taken was moved, given back or is in hand; a lane
+-- without an ask has nothing in hand.
 pub record IsSound (l : Lane) : Type 0 where
   pub waiting : List ℕ
   pub posted_is : l.shown.posted ≡ l.shown.taken ++ waiting

@@ -21,50 +21,67 @@ use Rattle.world_terms.specs.Sums.{shares_in}
 
 -- P holds for each lane after every run from a new world
 abbrev pub OfEachLane : (Lane → Type 0) → Type 0
-OfEachLane P = (rates : Rates) (k : ℕ) (past : List Occasion) (end : World) (i : ℕ) (l : Lane) → Runs rates (new_world k) past end → slice_get end.lanes i ≡ Some l → P l
+OfEachLane P =
+    (rates : Rates) (k : ℕ) (past : List Occasion) (end : World) (i : ℕ) (l : Lane)
+    → Runs rates (new_world k) past end → slice_get end.lanes i ≡ Some l → P l
 
 -- for each lane, the amounts taken are those moved, given back and in hand
 abbrev pub TakenIsAccountedFor : Type 0
-TakenIsAccountedFor = OfEachLane (λ l. l.hidden.moved + l.hidden.back + amount l.hidden.hand ≡ sum l.shown.taken)
+TakenIsAccountedFor =
+    OfEachLane (λ l. l.hidden.moved + l.hidden.back + amount l.hidden.hand ≡ sum l.shown.taken)
 
 -- for each lane, the amounts taken are a prefix of those posted
 abbrev pub TakenBeginsPosted : Type 0
 TakenBeginsPosted = OfEachLane (λ l. (rest : List ℕ) × (l.shown.posted ≡ l.shown.taken ++ rest))
 
--- the exchange before a grant is taken: the grant was posted for the last ask, which was collected, with no other
--- exchange on the word between, so in one sitting
+-- the exchange before a grant is taken: the grant was posted for the last ask, which was collected,
+-- with no other exchange on the word between, so in one sitting
 pub record AnswersLastAsk (past : List Occasion) (i n : ℕ) : Type 0 where
   pub ask : Ask
   pub older : List (Event × EventAnswer)
-  pub exchanged : exchanges i past ≡ (event.Post i, answer.Posted n) ∷ (event.Collect i, answer.Got) ∷ (event.Asked i ask, answer.Done) ∷ older
+  pub exchanged : exchanges i past
+      ≡ (event.Post i, answer.Posted n) ∷ (event.Collect i, answer.Got)
+      ∷ (event.Asked i ask, answer.Done) ∷ older
   pub last : last_ask i past ≡ Some ask
 
 -- the last event of this run takes a grant
 abbrev pub Takes : Rates → ℕ → List Occasion → World → ℕ → ℕ → World → Type 0
-Takes rates k past w i n end = Runs rates (new_world k) (record { before = w; event = event.Taken i; reply = Ok (answer.Taken n) } ∷ past) end
+Takes rates k past w i n end =
+    Runs rates (new_world k)
+    (record { before = w; event = event.Taken i; reply = Ok (answer.Taken n) } ∷ past) end
 
 -- a grant that is taken answers the last ask of the same sitting
 abbrev pub TakenAnswersLastAsk : Type 0
-TakenAnswersLastAsk = (rates : Rates) (k : ℕ) (past : List Occasion) (w : World) (i n : ℕ) (end : World) → Takes rates k past w i n end → AnswersLastAsk past i n
+TakenAnswersLastAsk =
+    (rates : Rates) (k : ℕ) (past : List Occasion) (w : World) (i n : ℕ) (end : World)
+    → Takes rates k past w i n end → AnswersLastAsk past i n
 
 -- the octets issued are the sum of the shares
 abbrev pub IssuedIsShares : Type 0
-IssuedIsShares = (rates : Rates) (k : ℕ) (past : List Occasion) (end : World) → Runs rates (new_world k) past end → end.issued ≡ shares_in end
+IssuedIsShares =
+    (rates : Rates) (k : ℕ) (past : List Occasion) (end : World) → Runs rates (new_world k) past end
+    → end.issued ≡ shares_in end
 
--- the octets moved under a name with a limit are at most the sum of its limits over the decisions whose trees have its
--- branch
+-- the octets moved under a name with a limit are at most the sum of its limits over the decisions
+-- whose trees have its branch
 abbrev pub MovedIsWithinLimits : Type 0
-MovedIsWithinLimits = (rates : Rates) (k : ℕ) (past : List Occasion) (end : World) (n : Name) → Runs rates (new_world k) past end
+MovedIsWithinLimits =
+    (rates : Rates) (k : ℕ) (past : List Occasion) (end : World) (n : Name)
+    → Runs rates (new_world k) past end
     → rate_of rates n ≢ 0 → moved_under rates n past ≤ limits_under rates n past
 
 -- if the server has a limit, all octets moved are at most the sum of its limits over the decisions
 abbrev pub MovedInAllIsWithinLimits : Type 0
-MovedInAllIsWithinLimits = (rates : Rates) (k : ℕ) (past : List Occasion) (end : World) → Runs rates (new_world k) past end
+MovedInAllIsWithinLimits =
+    (rates : Rates) (k : ℕ) (past : List Occasion) (end : World) → Runs rates (new_world k) past end
     → rates.server ≢ 0 → moved_in_all past ≤ limits_under rates Server past
 
 -- P holds for each decision that is not refused, with its tick and total, in any world
 abbrev pub OfEachDecision : (Rates → World → ℕ → ℕ → World → Type 0) → Type 0
-OfEachDecision P = (rates : Rates) (w : World) (moment tick total : ℕ) (w' : World) → Step rates w (event.Decide moment) (Ok (answer.Decided tick total)) w' → P rates w tick total w'
+OfEachDecision P =
+    (rates : Rates) (w : World) (moment tick total : ℕ) (w' : World)
+    → Step rates w (event.Decide moment) (Ok (answer.Decided tick total)) w'
+    → P rates w tick total w'
 
 -- best grants for a tree of the tick over exactly the asks of the lanes in Round, with this total
 pub record AreBestInRound (rates : Rates) (w : World) (tick total : ℕ) : Type 0 where
@@ -85,9 +102,16 @@ decided_under rates n l = if bears_in rates n l.shown.ask then decided_of l else
 
 -- each decision keeps the limit of each name in its tick
 abbrev pub DecisionsKeepLimits : Type 0
-DecisionsKeepLimits = OfEachDecision (λ rates w tick total w'. (n : Name) (most : ℕ) → rate_limit (rate_of rates n) tick ≡ Some most → sum_by (decided_under rates n) w'.lanes ≤ most)
+DecisionsKeepLimits =
+    OfEachDecision
+    (λ rates w tick total w'. (n : Name) (most : ℕ)
+    → rate_limit (rate_of rates n) tick ≡ Some most
+    → sum_by (decided_under rates n) w'.lanes ≤ most)
 
 -- each lane in Round gets at least the floor of its ask
 abbrev pub DecisionsKeepFloors : Type 0
-DecisionsKeepFloors = OfEachDecision (λ rates w tick total w'. (i : ℕ) (l m : Lane) (a : Ask) → slice_get w.lanes i ≡ Some l → slice_get w'.lanes i ≡ Some m
+DecisionsKeepFloors =
+    OfEachDecision
+    (λ rates w tick total w'. (i : ℕ) (l m : Lane) (a : Ask) → slice_get w.lanes i ≡ Some l
+    → slice_get w'.lanes i ≡ Some m
     → l.shown.state ≡ state.Round → l.shown.ask ≡ Some a → floor_of rates a ≤ decided_of m)

@@ -18,7 +18,8 @@ use Rattle.world_terms.specs.Steps.{HasOtherFault}
 abbrev pub dealt : List ℕ → List ℕ → List Lane → List Lane
 dealt [] amounts ls = ls
 dealt (i ∷ numbers) [] ls = ls
-dealt (i ∷ numbers) (n ∷ amounts) ls = dealt numbers amounts (slice_set ls i (with_amount n (slice_index_or ls i new_lane)))
+dealt (i ∷ numbers) (n ∷ amounts) ls =
+    dealt numbers amounts (slice_set ls i (with_amount n (slice_index_or ls i new_lane)))
 
 -- lane i is in Round, and nothing is decided for it
 pub record IsOpen (i : ℕ) (ls : List Lane) : Type 0 where

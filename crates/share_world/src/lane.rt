@@ -34,9 +34,15 @@ impl<A: Allocator> Model for Lane<A> {
 
     ghost Value = { LaneValue };
 
-    ghost view = { λ l. record { shown = shown l.state l.ask l.posted.items l.taken.items; hidden = hidden l.moved l.back l.hand l.decided } };
+    ghost view = { λ l. record {
+      shown = shown l.state l.ask l.posted.items l.taken.items;
+      hidden = hidden l.moved l.back l.hand l.decided;
+    } };
 
-    ghost invariant = { λ l. IsSound (record { shown = shown l.state l.ask l.posted.items l.taken.items; hidden = hidden l.moved l.back l.hand l.decided }) };
+    ghost invariant = { λ l. IsSound (record {
+      shown = shown l.state l.ask l.posted.items l.taken.items;
+      hidden = hidden l.moved l.back l.hand l.decided;
+    }) };
 }
 
 impl<A: Allocator + Clone> Lane<A> {
@@ -61,7 +67,8 @@ impl<A: Allocator> Lane<A> {
     /// Performs an event of the lane. A refused one changes nothing.
     pub fn turn(&mut self, event: Event) -> Result<EventAnswer, StepFault>
         requires lanes { is_decide event ≡ false }
-        requires fits { self.old.hidden.moved + self.old.hidden.back + amount self.old.hidden.hand < 2 ^ 64 }
+        requires fits { self.old.hidden.moved + self.old.hidden.back + amount self.old.hidden.hand
+            < 2 ^ 64 }
         ensures turn { LaneReply event result self.old self.new }
         ensures sound { IsSound self.old }
     {
@@ -146,7 +153,8 @@ impl<A: Allocator> Lane<A> {
 
     // Moves `octets` of the amount in hand, and gives the rest back.
     fn spend(&mut self, octets: u64) -> Result<EventAnswer, StepFault>
-        requires fits { self.old.hidden.moved + self.old.hidden.back + amount self.old.hidden.hand < 2 ^ 64 }
+        requires fits { self.old.hidden.moved + self.old.hidden.back + amount self.old.hidden.hand
+            < 2 ^ 64 }
         ensures turn { (i : ℕ) → LaneReply (event.Moved i octets) result self.old self.new }
         ensures sound { IsSound self.old }
     {

@@ -47,7 +47,10 @@ impl<A: Allocator> Model for World<A> {
 
     ghost coded = { limited_code };
 
-    ghost view = { λ w. record { rates = w.limits; world = record { lanes = w.lanes.items; last_tick = w.last_tick; issued = w.issued } } };
+    ghost view = { λ w. record {
+      rates = w.limits;
+      world = record { lanes = w.lanes.items; last_tick = w.last_tick; issued = w.issued };
+    } };
 
     ghost invariant = { λ w. IsKept w.lanes.items w.issued };
 }

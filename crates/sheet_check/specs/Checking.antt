@@ -28,17 +28,24 @@ number_word n = codes " " ++ decimal n
 abbrev pub flaw_words : SheetValue → List ℕ → Flaw → List ℕ
 flaw_words sheet g WrongLength = codes "1 WrongLength"
 flaw_words sheet g (OverWant leaf) =
-    codes "2 OverWant" ++ leaf_word sheet leaf ++ number_word (slice_index g leaf) ++ number_word (slice_index (limits sheet.outline).wants leaf)
+    codes "2 OverWant" ++ leaf_word sheet leaf ++ number_word (slice_index g leaf)
+    ++ number_word (slice_index (limits sheet.outline).wants leaf)
 flaw_words sheet g (OverLimit node) =
-    codes "3 OverLimit" ++ node_word sheet node ++ number_word (sum_over (leaves_under sheet.outline node) g)
-    ++ number_word (unwrap_or (option_and_then (λ b. b.limit) ((limits sheet.outline).branch node)) 0)
+    codes "3 OverLimit" ++ node_word sheet node
+    ++ number_word (sum_over (leaves_under sheet.outline node) g)
+    ++ number_word
+    (unwrap_or (option_and_then (λ b. b.limit) ((limits sheet.outline).branch node)) 0)
 flaw_words sheet g (NoNode leaf) = codes "4 NoNode" ++ leaf_word sheet leaf
-flaw_words sheet g (NotAbove leaf node) = codes "5 NotAbove" ++ leaf_word sheet leaf ++ node_word sheet node
-flaw_words sheet g (NotFull leaf node) = codes "6 NotFull" ++ leaf_word sheet leaf ++ node_word sheet node
+flaw_words sheet g (NotAbove leaf node) =
+    codes "5 NotAbove" ++ leaf_word sheet leaf ++ node_word sheet node
+flaw_words sheet g (NotFull leaf node) =
+    codes "6 NotFull" ++ leaf_word sheet leaf ++ node_word sheet node
 flaw_words sheet g (TooGreat leaf other) =
-    codes "7 TooGreat" ++ leaf_word sheet leaf ++ number_word (slice_index g leaf) ++ leaf_word sheet other ++ number_word (slice_index g other)
+    codes "7 TooGreat" ++ leaf_word sheet leaf ++ number_word (slice_index g leaf)
+    ++ leaf_word sheet other ++ number_word (slice_index g other)
 flaw_words sheet g (UnderFloor leaf) =
-    codes "8 UnderFloor" ++ leaf_word sheet leaf ++ number_word (slice_index g leaf) ++ number_word (slice_index (limits sheet.outline).floors leaf)
+    codes "8 UnderFloor" ++ leaf_word sheet leaf ++ number_word (slice_index g leaf)
+    ++ number_word (slice_index (limits sheet.outline).floors leaf)
 
 -- `yes`, or `no` with the flaw
 abbrev pub verdict_text : SheetValue → List ℕ → Verdict → List ℕ
@@ -61,11 +68,13 @@ IsThere sheet g (TooGreat leaf other) = IsGranted sheet g leaf × IsGranted shee
 IsThere sheet g (UnderFloor leaf) = IsGranted sheet g leaf
 
 -- The verdict on the grants of one text within the sheet of another, and its line.
-pub record IsCheckOf (sheet_text grants_text : List ℕ) (verdict : Verdict) (printed : List ℕ) : Type 0 where
+pub record IsCheckOf (sheet_text grants_text : List ℕ) (verdict : Verdict)
+    (printed : List ℕ) : Type 0 where
   pub sheet : SheetValue
   pub is_sheet : IsSheetOf sheet_text sheet
   pub sound : grants_fault sheet grants_text ≡ None
-  pub judged : IsVerdict (limits sheet.outline) (grants_in sheet grants_text) (entries_in sheet grants_text) verdict
+  pub judged : IsVerdict (limits sheet.outline) (grants_in sheet grants_text)
+      (entries_in sheet grants_text) verdict
   pub prints : printed ≡ verdict_text sheet (grants_in sheet grants_text) verdict
 
 -- the fault is that of the grants of one text for the sheet of another, and not lack of memory

@@ -14,7 +14,8 @@ use Rattle.sheet_text.specs.Views.{SheetValue}
 
 -- the path of a want, by its place in the order of the sheet's lines
 abbrev pub want_path : SheetValue → ℕ → Option Path
-want_path sheet place = option_map (λ leaf. slice_index_or sheet.leaves leaf []) (slice_get sheet.wants place)
+want_path sheet place =
+    option_map (λ leaf. slice_index_or sheet.leaves leaf []) (slice_get sheet.wants place)
 
 abbrev pub is_path : Option Path → Path → Bool
 is_path None path = false
@@ -41,7 +42,8 @@ read_grant_fault sheet place number text None = Some (BadLine number (hint_of te
 read_grant_fault sheet place number text (Some line) = grant_fault sheet place number line
 
 abbrev pub grants_line_fault : SheetValue → ℕ → ℕ → Octets → Option GrantsFault
-grants_line_fault sheet place number line = if is_skipped line then None else read_grant_fault sheet place number line (grant_of line)
+grants_line_fault sheet place number line =
+    if is_skipped line then None else read_grant_fault sheet place number line (grant_of line)
 
 abbrev pub line_grants : Octets → List GrantLine
 line_grants line = if is_skipped line then [] else option_to_list (grant_of line)
@@ -50,25 +52,31 @@ line_grants line = if is_skipped line then [] else option_to_list (grant_of line
 abbrev pub grant_lines : List Octets → List GrantLine
 grant_lines texts = flat_map line_grants texts
 
--- the fault of the first faulty line of those numbered from a number on, for the wants from a place on
+-- the fault of the first faulty line of those numbered from a number on, for the wants from a place
+-- on
 abbrev pub first_grants_fault : SheetValue → ℕ → ℕ → List Octets → Option GrantsFault
 first_grants_fault sheet place number [] = None
 first_grants_fault sheet place number (line ∷ lines) =
-    or_else (grants_line_fault sheet place number line) (first_grants_fault sheet (place + length (line_grants line)) (number + 1) lines)
+    or_else (grants_line_fault sheet place number line)
+    (first_grants_fault sheet (place + length (line_grants line)) (number + 1) lines)
 
 abbrev pub grants_fault : SheetValue → Octets → Option GrantsFault
 grants_fault sheet text = first_grants_fault sheet 0 1 (lines text)
 
 -- the line for a leaf: the lines are in the order of the wants
 abbrev pub line_of_leaf : SheetValue → List GrantLine → ℕ → Option GrantLine
-line_of_leaf sheet given leaf = option_and_then (slice_get given) (position_from (nat_eq leaf) 0 sheet.wants)
+line_of_leaf sheet given leaf =
+    option_and_then (slice_get given) (position_from (nat_eq leaf) 0 sheet.wants)
 
--- the lines in the order of the leaves; a leaf without a line is left out, so fewer lines make a short list
+-- the lines in the order of the leaves; a leaf without a line is left out, so fewer lines make a
+-- short list
 abbrev pub lines_by_leaf : SheetValue → List GrantLine → List GrantLine
-lines_by_leaf sheet given = filter_map (line_of_leaf sheet given) (range_with_len 0 (length sheet.leaves))
+lines_by_leaf sheet given =
+    filter_map (line_of_leaf sheet given) (range_with_len 0 (length sheet.leaves))
 
 abbrev pub grants_in : SheetValue → Octets → List ℕ
 grants_in sheet text = map (λ line. line.octets) (lines_by_leaf sheet (grant_lines (lines text)))
 
 abbrev pub entries_in : SheetValue → Octets → List (Option ℕ)
-entries_in sheet text = map (λ line. named_node sheet line.node) (lines_by_leaf sheet (grant_lines (lines text)))
+entries_in sheet text =
+    map (λ line. named_node sheet line.node) (lines_by_leaf sheet (grant_lines (lines text)))

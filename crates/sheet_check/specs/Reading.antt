@@ -12,14 +12,16 @@ use Rattle.sheet_check.specs.declared.grants_fault.GrantsFault.TheVariants.{Memo
 use Rattle.text_io.specs.Texts.{IsTextOf}
 
 -- the verdict on the grants of an end, for each text of the sheet
-pub record IsCheckWithin (sheet : SheetValue) (known : Option (List ℕ)) (verdict : Verdict) (printed : List ℕ) : Type 0 where
+pub record IsCheckWithin (sheet : SheetValue) (known : Option (List ℕ)) (verdict : Verdict)
+    (printed : List ℕ) : Type 0 where
   pub text : List ℕ
   pub read : IsTextOf text known
   pub few : length text ≤ MAX_TEXT
   pub check : (source : List ℕ) → IsSheetOf source sheet → IsCheckOf source text verdict printed
 
 -- the verdict on the grants of an end, for a sheet's text
-pub record IsCheckBeside (sheet_text : List ℕ) (known : Option (List ℕ)) (verdict : Verdict) (printed : List ℕ) : Type 0 where
+pub record IsCheckBeside (sheet_text : List ℕ) (known : Option (List ℕ)) (verdict : Verdict)
+    (printed : List ℕ) : Type 0 where
   pub text : List ℕ
   pub read : IsTextOf text known
   pub few : length text ≤ MAX_TEXT
@@ -29,12 +31,14 @@ pub record IsCheckBeside (sheet_text : List ℕ) (known : Option (List ℕ)) (ve
 abbrev pub IsFaultWithin : SheetValue → Option (List ℕ) → Bool → CheckFault → Type 0
 IsFaultWithin sheet known may_fail (SheetText why) = ⊥
 IsFaultWithin sheet known may_fail (Sheet fault) = ⊥
-IsFaultWithin sheet known may_fail (GrantsText TooLong) = IfSome known (λ text. MAX_TEXT < length text)
+IsFaultWithin sheet known may_fail (GrantsText TooLong) =
+    IfSome known (λ text. MAX_TEXT < length text)
 IsFaultWithin sheet known may_fail (GrantsText ReadFault) = may_fail ≡ true
 IsFaultWithin sheet known may_fail (GrantsText WriteFault) = ⊥
 IsFaultWithin sheet known may_fail (GrantsText Memory) = Unit {0}
 IsFaultWithin sheet known may_fail (Grants fault) = (fault ≢ NoGrantsMemory) × IfSome known (λ text.
-    (length text ≤ MAX_TEXT) × ((source : List ℕ) → IsSheetOf source sheet → IsGrantsFaultOf source text fault))
+    (length text ≤ MAX_TEXT)
+    × ((source : List ℕ) → IsSheetOf source sheet → IsGrantsFaultOf source text fault))
 IsFaultWithin sheet known may_fail (Text why) = why ≡ Memory
 
 -- the same for a sheet's text, which is checked first
@@ -46,6 +50,7 @@ IsFaultBeside sheet_text known may_fail (GrantsText TooLong) =
 IsFaultBeside sheet_text known may_fail (GrantsText ReadFault) = may_fail ≡ true
 IsFaultBeside sheet_text known may_fail (GrantsText WriteFault) = ⊥
 IsFaultBeside sheet_text known may_fail (GrantsText Memory) = Unit {0}
-IsFaultBeside sheet_text known may_fail (Grants fault) = (fault ≢ NoGrantsMemory) × IfSome known (λ text.
+IsFaultBeside sheet_text known may_fail (Grants fault) =
+    (fault ≢ NoGrantsMemory) × IfSome known (λ text.
     (length text ≤ MAX_TEXT) × IsGrantsFaultOf sheet_text text fault)
 IsFaultBeside sheet_text known may_fail (Text why) = why ≡ Memory

@@ -11,7 +11,10 @@ use Rattle.sheet_text.specs.Text.{GrantLine}
 abbrev pub given_by : SheetValue → GrantLine → Given
 given_by sheet line = record { octets = line.octets; node = named_node sheet line.node }
 
-pub record Filled {A : Type 0} (sheet : SheetValue) (slots : Slots A) (lines : List GrantLine) : Type 0 where
+pub record Filled {A : Type 0} (sheet : SheetValue) (slots : Slots A)
+    (lines : List GrantLine) : Type 0 where
   pub lines_are : slots.lines ≡ length lines
   pub slots_length : length slots.slots.items ≡ length sheet.leaves
-  pub slots_are : (leaf : ℕ) (d : Option Given) → leaf < length sheet.leaves → slice_index_or slots.slots.items leaf d ≡ option_map (given_by sheet) (line_of_leaf sheet lines leaf)
+  pub slots_are : (leaf : ℕ) (d : Option Given) → leaf < length sheet.leaves
+      → slice_index_or slots.slots.items leaf d
+      ≡ option_map (given_by sheet) (line_of_leaf sheet lines leaf)

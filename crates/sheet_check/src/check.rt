@@ -51,7 +51,8 @@ fn check_within<A: Allocator + Clone, Q: TextReader>(
     grants: &mut Q,
 ) -> Result<Checked<A>, CheckFault>
     ensures checked { IfOk result (λ checked.
-        IsCheckWithin sheet.now (Q.remaining grants.old) checked.verdict (string_bytes checked.line)) }
+        IsCheckWithin sheet.now (Q.remaining grants.old)
+        checked.verdict (string_bytes checked.line)) }
     ensures faults { IfErr result
         (IsFaultWithin sheet.now (Q.remaining grants.old) (Q.may_fail grants.old)) }
 {

@@ -12,7 +12,9 @@ holding (Some node) = codes " full " ++ node.now
 
 -- `PATH G of W`, and after it `full NODE` if a branch limits the want
 abbrev pub share_line : Share → List ℕ
-share_line s = s.path.now ++ codes " " ++ decimal s.grant ++ codes " of " ++ decimal s.want ++ holding s.full ++ 10 ∷ []
+share_line s =
+    s.path.now ++ codes " " ++ decimal s.grant ++ codes " of " ++ decimal s.want ++ holding s.full
+    ++ 10 ∷ []
 
 abbrev pub total_line : ℕ → List ℕ
 total_line octets = codes "total " ++ decimal octets ++ 10 ∷ []

@@ -17,16 +17,19 @@ held_back sheet (Some node) = codes " full " ++ written (slice_index_or sheet.pa
 -- `PATH G of W`, and after it `full NODE` if the leaf's entry names a node
 abbrev pub leaf_line : SheetValue → List ℕ → List (Option ℕ) → ℕ → List ℕ
 leaf_line sheet grants entries leaf =
-    text_of (slice_index_or sheet.leaves leaf []) ++ codes " " ++ decimal (slice_index grants leaf) ++ codes " of " ++ decimal (slice_index (limits sheet.outline).wants leaf)
+    text_of (slice_index_or sheet.leaves leaf []) ++ codes " " ++ decimal (slice_index grants leaf)
+    ++ codes " of " ++ decimal (slice_index (limits sheet.outline).wants leaf)
     ++ held_back sheet (slice_index_or entries leaf None) ++ 10 ∷ []
 
 -- a line for each want in the order of the sheet, and last the total of their grants
 abbrev pub sharing_text : SheetValue → List ℕ → List (Option ℕ) → List ℕ
 sharing_text sheet grants entries =
-    flat_map (leaf_line sheet grants entries) sheet.wants ++ total_line (sum_by (λ leaf. slice_index grants leaf) sheet.wants)
+    flat_map (leaf_line sheet grants entries) sheet.wants
+    ++ total_line (sum_by (λ leaf. slice_index grants leaf) sheet.wants)
 
--- The lines of a text's sheet, for grants that are within its limits and best. The entry of each leaf that has
--- less than it wants is the deepest full branch above it, which backs it; the others name none.
+-- The lines of a text's sheet, for grants that are within its limits and best. The entry of each
+-- leaf that has less than it wants is the deepest full branch above it, which backs it; the others
+-- name none.
 pub record IsSharingOf (text printed : List ℕ) : Type 0 where
   pub sheet : SheetValue
   pub grants : List ℕ

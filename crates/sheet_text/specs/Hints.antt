@@ -32,8 +32,8 @@ is_amount_with_unit (octet ∷ rest) = is_ascii_digit octet && not (list_all is_
 abbrev pub has_word : (Octets → Bool) → Octets → Bool
 has_word is_such line = list_any is_such (parts 32 line)
 
--- the first slip of a byte order mark, a tab, a remark after a statement, two blanks (a word between them is empty),
--- and a number with a unit, if the line has one
+-- the first slip of a byte order mark, a tab, a remark after a statement, two blanks (a word
+-- between them is empty), and a number with a unit, if the line has one
 abbrev pub hint_of : Octets → Option Hint
 hint_of line =
     if begins_with_mark line then Some ByteOrderMark

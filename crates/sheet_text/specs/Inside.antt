@@ -31,25 +31,32 @@ pub record AreNames (paths : List Path) : Type 0 where
   pub some : 0 < length paths
   pub rooted : slice_index_or paths 0 ([] ∷ []) ≡ []
   pub once : NoneTwice paths
-  pub closed : (front path : Path) → is_within front path ≡ true → is_among paths path ≡ true → is_among paths front ≡ true
+  pub closed : (front path : Path) → is_within front path ≡ true → is_among paths path ≡ true
+      → is_among paths front ≡ true
 
 -- a node without a line is no want
 pub record IsTable (table : Table) : Type 0 where
   pub names : AreNames (paths_in table)
-  pub branches : (place : ℕ) → place < length table → (mention_at table place).line ≡ None → is_leaf_kind (mention_at table place).kind ≡ false
+  pub branches : (place : ℕ) → place < length table → (mention_at table place).line ≡ None
+      → is_leaf_kind (mention_at table place).kind ≡ false
 
 -- a place is found by its name among the kids of its parent
 pub record Finds {A : Type 0} (paths : List Path) (kids : List (Row A)) : Type 0 where
   pub enough : length paths ≤ length kids
-  pub there : (parent : ℕ) (names : Row A) (name : Octets) → parent < length paths → slice_get kids parent ≡ Some names → named names name ≡ place_of paths (kid_of paths parent name)
-  pub nowhere : (parent : ℕ) (names : Row A) (name : Octets) → length paths ≤ parent → slice_get kids parent ≡ Some names → named names name ≡ None
+  pub there : (parent : ℕ) (names : Row A) (name : Octets) → parent < length paths
+      → slice_get kids parent ≡ Some names
+      → named names name ≡ place_of paths (kid_of paths parent name)
+  pub nowhere : (parent : ℕ) (names : Row A) (name : Octets) → length paths ≤ parent
+      → slice_get kids parent ≡ Some names → named names name ≡ None
 
 -- each path but the root's is one name below that of its parent
 abbrev pub AreBeneath : List Path → List ℕ → Type 0
 AreBeneath paths parents = (place : ℕ) → 0 < place → place < length paths
-    → (slice_index_or parents place 0 < length paths) × (name : Octets) × (slice_index_or paths place [] ≡ kid_of paths (slice_index_or parents place 0) name)
+    → (slice_index_or parents place 0 < length paths) × (name : Octets)
+    × (slice_index_or paths place [] ≡ kid_of paths (slice_index_or parents place 0) name)
 
-pub record AreNodes {A : Type 0} (nodes : List Node) (kids : List (Row A)) (wants : ℕ) : Type 0 where
+pub record AreNodes {A : Type 0} (nodes : List Node) (kids : List (Row A))
+    (wants : ℕ) : Type 0 where
   pub table : IsTable (table_of nodes)
   pub texts : map text_of (paths_of nodes) ≡ texts_of nodes
   pub finds : Finds (paths_of nodes) kids

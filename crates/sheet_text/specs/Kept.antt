@@ -17,9 +17,10 @@ use Rattle.sheet_text.specs.Views.{IsSheet, IsSheetOf, SheetValue}
 abbrev pub wanted : NodeKind → ℕ → List ℕ
 wanted kind place = if is_leaf_kind kind then place ∷ [] else []
 
--- The lines of a text left a table, whose tree has no fault: the places of its nodes in preorder, and those of the
--- wants in the order of their lines.
-pub record IsRead (text : Octets) (table : Table) (outline : List Place) (order places : List ℕ) : Type 0 where
+-- The lines of a text left a table, whose tree has no fault: the places of its nodes in preorder,
+-- and those of the wants in the order of their lines.
+pub record IsRead (text : Octets) (table : Table) (outline : List Place)
+    (order places : List ℕ) : Type 0 where
   pub taken_is : text_taken text ≡ Ok table
   pub sound : whole_fault table ≡ None
   pub outline_is : outline ≡ outline_of table
@@ -37,14 +38,22 @@ pub record IsKept (table : Table) (order leaves : List ℕ) (numbers : List (Opt
   pub order_below : AreBelow (length table) order
   pub leaves_below : AreBelow (length table) leaves
   pub numbers_length : length numbers ≡ length table
-  pub numbers_are : (place : ℕ) → place < length table → slice_index_or numbers place None ≡ position_from (nat_eq place) 0 order
+  pub numbers_are : (place : ℕ) → place < length table
+      → slice_index_or numbers place None ≡ position_from (nat_eq place) 0 order
 
 -- the parts of a text's sheet that are kept, by the order of its nodes' places
 abbrev pub kept_sheet : Table → List Place → List ℕ → List ℕ → List ℕ → SheetValue
-kept_sheet table outline order leaves wants = record { outline = outline; paths = paths_to table order; leaves = paths_to table leaves; wants = wants }
+kept_sheet table outline order leaves wants =
+    record {
+      outline = outline;
+      paths = paths_to table order;
+      leaves = paths_to table leaves;
+      wants = wants;
+    }
 
 -- the leaves and the numbers of the nodes and of the wants are those of the text's sheet
-pub record IsNumbered (text : Octets) (table : Table) (outline : List Place) (order leaves : List ℕ) (numbers : List (Option ℕ)) (wants : List ℕ) : Type 0 where
+pub record IsNumbered (text : Octets) (table : Table) (outline : List Place) (order leaves : List ℕ)
+    (numbers : List (Option ℕ)) (wants : List ℕ) : Type 0 where
   pub sheet_of : IsSheetOf text (kept_sheet table outline order leaves wants)
   pub whole : IsSheet (kept_sheet table outline order leaves wants)
   pub kept : IsKept table order leaves numbers

@@ -15,7 +15,8 @@ abbrev pub name_view : Option (Bor Octets) → Option Path
 name_view name = option_map (λ text. names_of text.now) name
 
 abbrev pub grant_view : Grant → GrantLine
-grant_view line = record { path = names_of line.path.now; octets = line.octets; node = name_view line.node }
+grant_view line =
+    record { path = names_of line.path.now; octets = line.octets; node = name_view line.node }
 
 -- the texts of the line's paths are empty, or begin with a slash
 abbrev pub ArePathTexts : Grant → Type 0

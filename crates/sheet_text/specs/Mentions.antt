@@ -24,8 +24,11 @@ mentions stated = fold mention_all ([] ∷ []) stated
 -- exactly the root, the stated paths and the paths above these, each once
 pub record AreStatedOrAbove (stated seen : List Path) : Type 0 where
   pub once : NoneTwice seen
-  pub all : (path : Path) → is_among seen path ≡ (is_within path [] || list_any (is_within path) stated)
+  pub all : (path : Path)
+      → is_among seen path ≡ (is_within path [] || list_any (is_within path) stated)
 
 -- no want is above a path
 abbrev pub IsBelowBranches : (Path → NodeKind) → Path → Type 0
-IsBelowBranches kind path = (front : Path) → is_within front path ≡ true → length front < length path → is_leaf_kind (kind front) ≡ false
+IsBelowBranches kind path =
+    (front : Path) → is_within front path ≡ true → length front < length path
+    → is_leaf_kind (kind front) ≡ false

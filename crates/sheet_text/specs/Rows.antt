@@ -14,8 +14,10 @@ joined parent kid place = if parent == place then kid ∷ [] else []
 -- a row for each place: the places of the kids among the first `n` paths, in order of first mention
 pub record AreRowsTo {A : Type 0} (table : Table) (n : ℕ) (rows : Vec (Vec ℕ A) A) : Type 0 where
   pub rows_length : length rows.items ≡ length table
-  pub within : (place : ℕ) (row : Vec ℕ A) → slice_get rows.items place ≡ Some row → AreBelow (length table) row.items
-  pub rows_are : (place : ℕ) (row : Vec ℕ A) → slice_get rows.items place ≡ Some row → map (path_at table) row.items ≡ kids_in (take n (paths_in table)) (path_at table place)
+  pub within : (place : ℕ) (row : Vec ℕ A) → slice_get rows.items place ≡ Some row
+      → AreBelow (length table) row.items
+  pub rows_are : (place : ℕ) (row : Vec ℕ A) → slice_get rows.items place ≡ Some row
+      → map (path_at table) row.items ≡ kids_in (take n (paths_in table)) (path_at table place)
 
 abbrev pub AreKidRows : {A : Type 0} → Table → Vec (Vec ℕ A) A → Type 0
 AreKidRows {A} table rows = AreRowsTo table (length table) rows

@@ -24,16 +24,19 @@ entry_taken table number line (Some entry) = taken table number entry
 
 -- the table after the numbered line, or the line's fault
 abbrev pub line_taken : Table → ℕ → Octets → Result Table SheetFault
-line_taken table number line = if is_skipped line then Ok table else entry_taken table number line (entry_of line)
+line_taken table number line =
+    if is_skipped line then Ok table else entry_taken table number line (entry_of line)
 
-abbrev pub and_then : Result Table SheetFault → (Table → Result Table SheetFault) → Result Table SheetFault
+abbrev pub and_then : Result Table SheetFault → (Table → Result Table SheetFault)
+    → Result Table SheetFault
 and_then (Ok table) next = next table
 and_then (Err fault) next = Err fault
 
 -- the table after lines numbered from this number on, or the fault of the first faulty one
 abbrev pub lines_taken : Table → ℕ → List Octets → Result Table SheetFault
 lines_taken table number [] = Ok table
-lines_taken table number (line ∷ lines) = and_then (line_taken table number line) (λ next. lines_taken next (number + 1) lines)
+lines_taken table number (line ∷ lines) =
+    and_then (line_taken table number line) (λ next. lines_taken next (number + 1) lines)
 
 -- the same for the lines of a text
 abbrev pub text_taken : Octets → Result Table SheetFault
@@ -49,7 +52,8 @@ line_states number line = if is_skipped line then [] else stated number (entry_o
 -- the statements of lines numbered from this number on
 abbrev pub statements_from : ℕ → List Octets → List Stated
 statements_from number [] = []
-statements_from number (line ∷ lines) = line_states number line ++ statements_from (number + 1) lines
+statements_from number (line ∷ lines) =
+    line_states number line ++ statements_from (number + 1) lines
 
 -- the statements of the lines of a text
 abbrev pub statements : Octets → List Stated

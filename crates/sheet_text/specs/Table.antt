@@ -65,27 +65,32 @@ mention_all table path = fold mention table (way_to path)
 
 -- the statement of a numbered line about a mentioned path
 abbrev pub noted_at : ℕ → Entry → Mention → Mention
-noted_at line entry m = if is_at entry.path m then record { path = m.path; kind = entry.kind; line = Some line } else m
+noted_at line entry m =
+    if is_at entry.path m then record { path = m.path; kind = entry.kind; line = Some line } else m
 
 abbrev pub noted : ℕ → Entry → Table → Table
 noted line entry table = map (noted_at line entry) table
 
 -- the fault of a tree of this size: the nodes with a new one of this kind, and the wants without it
 abbrev pub size_fault : ℕ → ℕ → NodeKind → Option TreeFault
-size_fault nodes wants kind = if nat_lt MAX_NODES nodes || (is_leaf_kind kind && nat_le MAX_LEAVES wants) then Some TooManyLeaves else kind_fault kind
+size_fault nodes wants kind =
+    if nat_lt MAX_NODES nodes || (is_leaf_kind kind && nat_le MAX_LEAVES wants)
+    then Some TooManyLeaves else kind_fault kind
 
 -- the fault of an entry that the paths before it determine
 abbrev pub place_fault : Table → ℕ → Entry → Option SheetFault
 place_fault table line entry =
     if has_line table entry.path then Some (Twice line)
-    else if list_any (is_want table) (above entry.path) || (is_leaf_kind entry.kind && is_mentioned table entry.path) then Some (LeafHasKids line)
+    else if list_any (is_want table) (above entry.path)
+    || (is_leaf_kind entry.kind && is_mentioned table entry.path) then Some (LeafHasKids line)
     else if nat_lt MAX_DEPTH (length entry.path) then Some (Tree line TooDeep)
     else None
 
 abbrev pub entry_fault : Table → ℕ → Entry → Option SheetFault
 entry_fault table line entry =
     or_else (place_fault table line entry)
-    (option_map (Tree line) (size_fault (length (mention_all table entry.path)) (want_count table) entry.kind))
+    (option_map (Tree line)
+    (size_fault (length (mention_all table entry.path)) (want_count table) entry.kind))
 
 abbrev pub taken_unless : Option SheetFault → Table → Result Table SheetFault
 taken_unless None table = Ok table
@@ -93,4 +98,5 @@ taken_unless (Some fault) table = Err fault
 
 -- the table after a line, or the line's fault
 abbrev pub taken : Table → ℕ → Entry → Result Table SheetFault
-taken table line entry = taken_unless (entry_fault table line entry) (noted line entry (mention_all table entry.path))
+taken table line entry =
+    taken_unless (entry_fault table line entry) (noted line entry (mention_all table entry.path))

@@ -34,31 +34,44 @@ stated_paths lines = map (λ s. s.entry.path) lines
 -- each statement of a line is in the table, with the number of the line
 abbrev pub AreNoted : Table → List Stated → Type 0
 AreNoted table [] = Unit {0}
-AreNoted table (s ∷ lines) = (find (is_at s.entry.path) table ≡ Some (record { path = s.entry.path; kind = s.entry.kind; line = Some s.line })) × AreNoted table lines
+AreNoted table (s ∷ lines) =
+    (find (is_at s.entry.path) table
+    ≡ Some (record { path = s.entry.path; kind = s.entry.kind; line = Some s.line }))
+    × AreNoted table lines
 
--- The table of lines without a fault: the root, the stated paths and the paths above these, each once; their kinds as
--- stated, and otherwise branches without a limit. Nothing is above a bound, and no want is above a path.
+-- The table of lines without a fault: the root, the stated paths and the paths above these, each
+-- once; their kinds as stated, and otherwise branches without a limit. Nothing is above a bound,
+-- and no want is above a path.
 pub record IsTaken (table : Table) (lines : List Stated) : Type 0 where
   pub paths : paths_in table ≡ mentions (stated_paths lines)
   pub noted : AreNoted table lines
-  pub unstated : (path : Path) → list_any (same_path path) (stated_paths lines) ≡ false → kind_in table path ≡ Branch None
+  pub unstated : (path : Path) → list_any (same_path path) (stated_paths lines) ≡ false
+      → kind_in table path ≡ Branch None
   pub mentions_are : AreMentions (kind_in table) (paths_in table) MAX_DEPTH
   pub sound : (path : Path) → kind_fault (kind_in table path) ≡ None
   pub few_nodes : length table ≤ MAX_NODES
   pub few_wants : want_count table ≤ MAX_LEAVES
 
--- the floors beneath a branch are above its limit, and the fault has the number of the line that states that limit
+-- the floors beneath a branch are above its limit, and the fault has the number of the line that
+-- states that limit
 abbrev pub IsAboveLimit : Table → SheetFault → Type 0
-IsAboveLimit table fault = (node line : ℕ) × (fault ≡ Tree line (FloorsOverLimit node)) × (first_over 0 (outline_of table) ≡ Some node) × (line_in table (slice_index_or (node_paths table) node []) ≡ Some line)
+IsAboveLimit table fault =
+    (node line : ℕ) × (fault ≡ Tree line (FloorsOverLimit node))
+    × (first_over 0 (outline_of table) ≡ Some node)
+    × (line_in table (slice_index_or (node_paths table) node []) ≡ Some line)
 
--- The tree of lines without a fault is that of their statements. The only fault that it may have is that of a branch
--- whose floors do not fit its limit, which a line states.
+-- The tree of lines without a fault is that of their statements. The only fault that it may have is
+-- that of a branch whose floors do not fit its limit, which a line states.
 pub record IsTreeOfLines (table : Table) (lines : List Stated) : Type 0 where
   pub taken_is : IsTaken table lines
-  pub tree : IsTreeOf (kind_in table) (mentions (stated_paths lines)) (outline_of table) (node_paths table)
-  pub only_floors : tree_fault (outline_of table) ≡ option_map FloorsOverLimit (first_over 0 (outline_of table))
-  pub over_stated : (node : ℕ) → first_over 0 (outline_of table) ≡ Some node → (line : ℕ) × (line_in table (slice_index_or (node_paths table) node []) ≡ Some line)
+  pub tree : IsTreeOf (kind_in table) (mentions (stated_paths lines)) (outline_of table)
+      (node_paths table)
+  pub only_floors : tree_fault (outline_of table)
+      ≡ option_map FloorsOverLimit (first_over 0 (outline_of table))
+  pub over_stated : (node : ℕ) → first_over 0 (outline_of table) ≡ Some node
+      → (line : ℕ) × (line_in table (slice_index_or (node_paths table) node []) ≡ Some line)
   pub whole : IfSome (whole_fault table) (IsAboveLimit table)
 
 abbrev pub TreeIsOfLines : Type 0
-TreeIsOfLines = (lines : List Stated) (table : Table) → taken_all lines ≡ Ok table → IsTreeOfLines table lines
+TreeIsOfLines =
+    (lines : List Stated) (table : Table) → taken_all lines ≡ Ok table → IsTreeOfLines table lines

@@ -47,4 +47,5 @@ paths_to table places = map (path_at table) places
 
 -- the kids of a path in a tree with this number of levels beneath it
 abbrev pub kids_to : Table → ℕ → Path → List Path
-kids_to table levels path = if nat_eq levels 0 then [] else kids_by (kind_in table path) (kids_in (paths_in table) path)
+kids_to table levels path =
+    if nat_eq levels 0 then [] else kids_by (kind_in table path) (kids_in (paths_in table) path)

@@ -10,8 +10,8 @@ use Rattle.sheet_text.specs.Tree.{node_paths, outline_of}
 use Rattle.sheet_text.specs.Whole.{whole_fault}
 use Rattle.sheet_text.specs.Sheet.{leaf_paths, statements, text_taken, want_paths}
 
--- the nodes of the tree in preorder, their paths, the paths of the leaves, and the leaf numbers of the wants in
--- the order of their lines
+-- the nodes of the tree in preorder, their paths, the paths of the leaves, and the leaf numbers of
+-- the wants in the order of their lines
 pub record SheetValue : Type 0 where
   pub outline : List Place
   pub paths : List Path

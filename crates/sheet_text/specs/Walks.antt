@@ -16,15 +16,18 @@ pub record Walked : Type 0 where
 abbrev pub walked : Table → Path → Bool → Path → Walked
 walked table front under [] = record { front = front; left = []; under = under }
 walked table front under (name ∷ names) =
-    if is_mentioned table (front ++ name ∷ []) then walked table (front ++ name ∷ []) (under || is_want table front) names
+    if is_mentioned table (front ++ name ∷ [])
+    then walked table (front ++ name ∷ []) (under || is_want table front) names
     else record { front = front; left = name ∷ names; under = under || is_want table front }
 
 -- one path more for each name after a path
 abbrev pub grown : Table → Path → Path → Table
 grown table front [] = table
-grown table front (name ∷ names) = grown (table ++ unstated (front ++ name ∷ []) ∷ []) (front ++ name ∷ []) names
+grown table front (name ∷ names) =
+    grown (table ++ unstated (front ++ name ∷ []) ∷ []) (front ++ name ∷ []) names
 
--- the first names of a path's text, up to an octet, lead to the place, and after them the text ends or has a slash
+-- the first names of a path's text, up to an octet, lead to the place, and after them the text ends
+-- or has a slash
 pub record IsStand (table : Table) (text : Octets) (place at : ℕ) : Type 0 where
   pub place_in : place < length table
   pub at_in : at ≤ length text
@@ -39,9 +42,15 @@ IsFresh table front (name ∷ names) = is_mentioned table (front ++ name ∷ [])
 -- the walk along the names of a text reaches the place
 pub record IsWalk (table : Table) (text : Octets) (walk : Walk) : Type 0 where
   pub stand : IsStand table text walk.place walk.at
-  pub walked_is : walked table [] false (names_of text) ≡ record { front = path_at table walk.place; left = names_of (drop walk.at text); under = walk.under }
+  pub walked_is : walked table [] false (names_of text)
+      ≡ record {
+        front = path_at table walk.place;
+        left = names_of (drop walk.at text);
+        under = walk.under;
+      }
 
--- the first fault of a path that is there or not, has a line or not, is beneath a want, is to be one, and is too deep
+-- the first fault of a path that is there or not, has a line or not, is beneath a want, is to be
+-- one, and is too deep
 abbrev pub fault_shown : ℕ → Bool → Bool → Bool → Bool → Bool → Option SheetFault
 fault_shown number there has_line under leaf deep =
     if there && has_line then Some (Twice number)

@@ -11,9 +11,11 @@ use Rattle.sheet_text.specs.Tree.{line_in, node_paths, outline_of}
 
 -- the line with the limit of the branch in a fault
 abbrev pub fault_line : Table → TreeFault → ℕ
-fault_line table (FloorsOverLimit node) = unwrap_or (line_in table (slice_index_or (node_paths table) node [])) 0
+fault_line table (FloorsOverLimit node) =
+    unwrap_or (line_in table (slice_index_or (node_paths table) node [])) 0
 fault_line table fault = 0
 
 -- the fault of the whole tree, at that line
 abbrev pub whole_fault : Table → Option SheetFault
-whole_fault table = option_map (λ fault. Tree (fault_line table fault) fault) (tree_fault (outline_of table))
+whole_fault table =
+    option_map (λ fault. Tree (fault_line table fault) fault) (tree_fault (outline_of table))

@@ -43,9 +43,20 @@ impl<'t, A: Allocator> Model for Sheet<'t, A> {
 
     ghost Value = { SheetValue };
 
-    ghost view = { λ s. record { outline = s.tree; paths = paths_to s.nodes s.order.items; leaves = paths_to s.nodes s.leaves.items; wants = s.wants.items } };
+    ghost view = { λ s. record {
+      outline = s.tree;
+      paths = paths_to s.nodes s.order.items;
+      leaves = paths_to s.nodes s.leaves.items;
+      wants = s.wants.items;
+    } };
 
-    ghost invariant = { λ s. IsSheet (record { outline = s.tree; paths = paths_to s.nodes s.order.items; leaves = paths_to s.nodes s.leaves.items; wants = s.wants.items }) × IsKept s.nodes s.order.items s.leaves.items s.numbers.items };
+    ghost invariant = { λ s. IsSheet (record {
+      outline = s.tree;
+      paths = paths_to s.nodes s.order.items;
+      leaves = paths_to s.nodes s.leaves.items;
+      wants = s.wants.items;
+    })
+        × IsKept s.nodes s.order.items s.leaves.items s.numbers.items };
 }
 
 impl<'t, A: Allocator> Sheet<'t, A> {

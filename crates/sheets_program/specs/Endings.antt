@@ -17,7 +17,8 @@ status_of (Check fault cause) = 1
 status_of (Refused text) = 2
 status_of Flawed = 3
 
--- nothing was written: the command line is refused, or there is a fault other than that of the output
+-- nothing was written: the command line is refused, or there is a fault other than that of the
+-- output
 abbrev pub IsUnwritten : Ending → Type 0
 IsUnwritten Done = ⊥
 IsUnwritten Flawed = ⊥
@@ -49,9 +50,11 @@ IsNoLine ending = IsOutOfMemory ending
 -- output, and a refusal is the ending
 abbrev pub IsToldEnd : WordsFault → Option (List ℕ) → Option (List ℕ) → Ending → Type 0
 IsToldEnd NoMemory old new ending = IsOutOfMemory ending
-IsToldEnd (NoCommand text is_help) old new Done = IsTrue is_help × Appends old new (string_bytes text)
+IsToldEnd (NoCommand text is_help) old new Done =
+    IsTrue is_help × Appends old new (string_bytes text)
 IsToldEnd (NoCommand text is_help) old new Flawed = ⊥
 IsToldEnd (NoCommand text is_help) old new (Refused told) = IsFalse is_help × (told ≡ text)
-IsToldEnd (NoCommand text is_help) old new (Text fault cause) = IsTrue is_help × (fault ≡ WriteFault)
+IsToldEnd (NoCommand text is_help) old new (Text fault cause) =
+    IsTrue is_help × (fault ≡ WriteFault)
 IsToldEnd (NoCommand text is_help) old new (Share fault cause) = ⊥
 IsToldEnd (NoCommand text is_help) old new (Check fault cause) = ⊥

@@ -1,5 +1,6 @@
--- The endings of the commands on sheets. A file is given by a test of the octets that it may contain; None is for
--- unknown octets, about which nothing is said. Old and new are the contents of the output before and after.
+-- The endings of the commands on sheets. A file is given by a test of the octets that it may
+-- contain; None is for unknown octets, about which nothing is said. Old and new are the contents of
+-- the output before and after.
 use Rattle.std.specs.Prelude.{◌≡◌, ◌<◌, ◌⊎◌, ℕ, List, Option, Some, None, IfSome, codes, length, option_map}
 use Rattle.std.specs.Io.KnownBytes.{Appends}
 use Rattle.command_line.specs.declared.words.SheetWords.{SheetWords}
@@ -59,13 +60,17 @@ checked_file sheet grants (check.Text why) = None
 -- the lines of the sharing of the text's sheet are appended
 abbrev pub AppendsSharing : Option (List ℕ) → Option (List ℕ) → Option (List ℕ) → Type 0
 AppendsSharing None old new = Unit {0}
-AppendsSharing (Some text) old new = (printed : List ℕ) × IsSharingOf text printed × Appends old new printed
+AppendsSharing (Some text) old new =
+    (printed : List ℕ) × IsSharingOf text printed × Appends old new printed
 
--- the line of that verdict on the grants of the second text within the sheet of the first is appended
-abbrev pub AppendsVerdict : Option (List ℕ) → Option (List ℕ) → Verdict → Option (List ℕ) → Option (List ℕ) → Type 0
+-- the line of that verdict on the grants of the second text within the sheet of the first is
+-- appended
+abbrev pub AppendsVerdict : Option (List ℕ) → Option (List ℕ) → Verdict → Option (List ℕ)
+    → Option (List ℕ) → Type 0
 AppendsVerdict None grants verdict old new = Unit {0}
 AppendsVerdict (Some sheet) None verdict old new = Unit {0}
-AppendsVerdict (Some sheet) (Some grants) verdict old new = (printed : List ℕ) × IsCheckOf sheet grants verdict printed × Appends old new printed
+AppendsVerdict (Some sheet) (Some grants) verdict old new =
+    (printed : List ℕ) × IsCheckOf sheet grants verdict printed × Appends old new printed
 
 -- the fault is that of the grants of the second text beside the sheet of the first
 abbrev pub IsGrantsFaultIn : Option (List ℕ) → Option (List ℕ) → GrantsFault → Type 0
@@ -74,11 +79,13 @@ IsGrantsFaultIn _ _ _ = Unit {0}
 
 -- the text that a file may contain is too long
 abbrev pub IsTooLong : Octets → Type 0
-IsTooLong gives = (text : Option (List ℕ)) × gives text × IfSome text (λ known. MAX_TEXT < length known)
+IsTooLong gives =
+    (text : Option (List ℕ)) × gives text × IfSome text (λ known. MAX_TEXT < length known)
 
 -- the fault is that of the sheet that a file may contain
 abbrev pub IsSheetFaultIn : Octets → SheetFault → Type 0
-IsSheetFaultIn gives fault = (text : Option (List ℕ)) × gives text × IfSome text (λ known. IsSheetFaultOf known fault)
+IsSheetFaultIn gives fault =
+    (text : Option (List ℕ)) × gives text × IfSome text (λ known. IsSheetFaultOf known fault)
 
 -- the fault of `share`, by the contents that the sheet may have
 abbrev pub IsShareFault : Octets → ShareFault → Type 0
@@ -87,12 +94,15 @@ IsShareFault gives (share.Text TooLong) = IsTooLong gives
 IsShareFault gives (share.Text _) = Unit {0}
 
 -- the ending of `share` for the path of a sheet
-abbrev pub IsShareEnd : (List ℕ → Octets) → List ℕ → Option (List ℕ) → Option (List ℕ) → Ending → Type 0
-IsShareEnd gives sheet old new Done = (text : Option (List ℕ)) × gives sheet text × AppendsSharing text old new
+abbrev pub IsShareEnd : (List ℕ → Octets) → List ℕ → Option (List ℕ) → Option (List ℕ) → Ending
+    → Type 0
+IsShareEnd gives sheet old new Done =
+    (text : Option (List ℕ)) × gives sheet text × AppendsSharing text old new
 IsShareEnd gives sheet old new Flawed = ⊥
 IsShareEnd gives sheet old new (Refused told) = ⊥
 IsShareEnd gives sheet old new (Text fault cause) = fault ≡ Memory
-IsShareEnd gives sheet old new (Share fault cause) = IsShareFault (gives sheet) fault × (file_of cause ≡ shared_file sheet fault)
+IsShareEnd gives sheet old new (Share fault cause) =
+    IsShareFault (gives sheet) fault × (file_of cause ≡ shared_file sheet fault)
 IsShareEnd gives sheet old new (Check fault cause) = ⊥
 
 -- standard input is named as both the sheet and the grants
@@ -112,16 +122,23 @@ IsCheckFault sheet grants (check.Grants fault) = (sheet_text grants_text : Optio
 IsCheckFault sheet grants _ = Unit {0}
 
 -- the ending of `check` for the paths of a sheet and of grants: a yes is done, and a no is a flaw
-abbrev pub IsCheckEnd : (List ℕ → Octets) → List ℕ → List ℕ → Option (List ℕ) → Option (List ℕ) → Ending → Type 0
-IsCheckEnd gives sheet grants old new Done = ¬ IsNamedTwice sheet grants × IsJudged (gives sheet) (gives grants) Yes old new
-IsCheckEnd gives sheet grants old new Flawed = ¬ IsNamedTwice sheet grants × ((flaw : Flaw) × IsJudged (gives sheet) (gives grants) (No flaw) old new)
+abbrev pub IsCheckEnd : (List ℕ → Octets) → List ℕ → List ℕ → Option (List ℕ) → Option (List ℕ)
+    → Ending → Type 0
+IsCheckEnd gives sheet grants old new Done =
+    ¬ IsNamedTwice sheet grants × IsJudged (gives sheet) (gives grants) Yes old new
+IsCheckEnd gives sheet grants old new Flawed =
+    ¬ IsNamedTwice sheet grants
+    × ((flaw : Flaw) × IsJudged (gives sheet) (gives grants) (No flaw) old new)
 IsCheckEnd gives sheet grants old new (Refused told) = IsNamedTwice sheet grants
 IsCheckEnd gives sheet grants old new (Text fault cause) = fault ≡ Memory
 IsCheckEnd gives sheet grants old new (Share fault cause) = ⊥
 IsCheckEnd gives sheet grants old new (Check fault cause) = ¬ IsNamedTwice sheet grants
-    × IsCheckFault (gives sheet) (gives grants) fault × (file_of cause ≡ checked_file sheet grants fault)
+    × IsCheckFault (gives sheet) (gives grants) fault
+    × (file_of cause ≡ checked_file sheet grants fault)
 
 -- the ending of that command
-abbrev pub IsSheetEnd : (List ℕ → Octets) → SheetWords → Option (List ℕ) → Option (List ℕ) → Ending → Type 0
+abbrev pub IsSheetEnd : (List ℕ → Octets) → SheetWords → Option (List ℕ) → Option (List ℕ) → Ending
+    → Type 0
 IsSheetEnd gives (ShareWords sheet) old new ending = IsShareEnd gives sheet.now old new ending
-IsSheetEnd gives (CheckWords sheet grants) old new ending = IsCheckEnd gives sheet.now grants.now old new ending
+IsSheetEnd gives (CheckWords sheet grants) old new ending =
+    IsCheckEnd gives sheet.now grants.now old new ending

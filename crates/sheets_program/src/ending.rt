@@ -41,7 +41,8 @@ impl<'w> Ending<'w> {
 
     /// Memory ran out.
     pub fn out_of_memory() -> Ending<'w>
-        ensures memory { result ≡ Ending.Text TextFault.Memory (record { file = None; reason = None }) }
+        ensures memory { result ≡ Ending.Text TextFault.Memory
+            (record { file = None; reason = None }) }
     {
         let cause = Cause {
             file: None,

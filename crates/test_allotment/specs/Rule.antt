@@ -1,12 +1,12 @@
--- The rule of sharing octet by octet: from the floors on, the next octet goes to the leaf with the smallest grant
--- among those with room, the lowest leaf number first, until no leaf has room.
+-- The rule of sharing octet by octet: from the floors on, the next octet goes to the leaf with the
+-- smallest grant among those with room, the lowest leaf number first, until no leaf has room.
 use Rattle.std.specs.Prelude.{◌≡◌, ℕ, zero, suc, ◌+◌, ◌<◌, ◌≤◌, List, length, slice_index}
 use Rattle.std.proofs.Math.ListN.{set}
 use Rattle.limit_tree.specs.Sharing.{LimitTree, HasRoom}
 use Rattle.round_allocator.specs.Rounds.{IsExhausted}
 
--- leaf k has room, its grant is the smallest among leaves with room, and it has the lowest number among those with
--- that grant
+-- leaf k has room, its grant is the smallest among leaves with room, and it has the lowest number
+-- among those with that grant
 pub record IsNext (t : LimitTree) (g : List ℕ) (k : ℕ) : Type 0 where
   pub inside : k < length g
   pub room : HasRoom t g k

@@ -4,7 +4,9 @@ use Rattle.limit_tree.specs.Sharing.{LimitTree, HasRoom}
 
 -- of two leaves, the one with the lower grant, or the first if the grants are equal
 abbrev pub IsBetter : List ℕ → ℕ → ℕ → ℕ → Type 0
-IsBetter g k i best = ((slice_index g i < slice_index g k) × (best ≡ i)) ⊎ ((slice_index g k ≤ slice_index g i) × (best ≡ k))
+IsBetter g k i best =
+    ((slice_index g i < slice_index g k) × (best ≡ i))
+    ⊎ ((slice_index g k ≤ slice_index g i) × (best ≡ k))
 
 -- leaf k has room, its grant is the smallest among leaves with room below n, and it has the lowest
 -- number among those with that grant

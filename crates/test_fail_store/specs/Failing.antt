@@ -9,11 +9,13 @@ abbrev pub Passes : Option ℕ → Option ℕ → Type 0
 Passes None after = after ≡ None
 Passes (Some left) after = (0 < left) × (after ≡ Some (left - 1))
 
--- the call passes, and is a step of the store beneath; or it is the one that fails, and the store beneath is
--- not called
-abbrev pub FailStep : {S R K : Type 0} → (S → Exchange R K → S → Type 0) → FailStore S → Exchange R K → FailStore S → Type 0
+-- the call passes, and is a step of the store beneath; or it is the one that fails, and the store
+-- beneath is not called
+abbrev pub FailStep : {S R K : Type 0} → (S → Exchange R K → S → Type 0) → FailStore S
+    → Exchange R K → FailStore S → Type 0
 FailStep Step old exchange new = (Passes old.left new.left × Step old.store exchange new.store)
-    ⊎ ((old.left ≡ Some 0) × (new.left ≡ None) × (new.store ≡ old.store) × (refusal exchange ≡ Some Device))
+    ⊎ ((old.left ≡ Some 0) × (new.left ≡ None) × (new.store ≡ old.store)
+    × (refusal exchange ≡ Some Device))
 
 -- the faults of the store beneath, plus its own once it has failed
 abbrev pub fail_count : ℕ → Option ℕ → ℕ

@@ -7,9 +7,10 @@ use Rattle.virtual_tree.specs.declared.fault.StoreFault.{StoreFault}
 use Rattle.test_store_script.specs.declared.calls.Call.{Call}
 use Rattle.test_store_script.specs.declared.calls.Call.TheVariants as call
 
--- the one call that changes the store, with its result; none if the line asks for several calls, or for none
--- that changes it
-abbrev pub change_of : {R K : Type 0} → Call → Path → Path → Result (Unit {0}) StoreFault → Option (Exchange R K)
+-- the one call that changes the store, with its result; none if the line asks for several calls, or
+-- for none that changes it
+abbrev pub change_of : {R K : Type 0} → Call → Path → Path → Result (Unit {0}) StoreFault
+    → Option (Exchange R K)
 change_of call.MakeDirectory path to answer = Some (MakeDir path answer)
 change_of call.RemoveDirectory path to answer = Some (RemoveDir path answer)
 change_of call.RemoveFile path to answer = Some (RemoveFile path answer)

@@ -19,7 +19,8 @@ module _ {J : Type 0} where
   -- this many passes of one board, which have done nothing
   abbrev pub AreNewPasses : TableId → ℕ → List (BoardPass J) → Type 0
   AreNewPasses z count passes = (length passes ≡ count)
-      × ((i : ℕ) (p : BoardPass J) → slice_get passes i ≡ Some p → (p.pass.table_id ≡ z) × (done_by p ≡ hand [] []))
+      × ((i : ℕ) (p : BoardPass J) → slice_get passes i ≡ Some p
+      → (p.pass.table_id ≡ z) × (done_by p ≡ hand [] []))
 
 module _ {J A : Type 0} where
   abbrev pub board_id : JobBoard J A → TableId

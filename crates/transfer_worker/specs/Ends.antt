@@ -23,8 +23,8 @@ abbrev pub fault_of : OpenFault → JobEnd
 fault_of opening.ReadFault = ReadFault
 fault_of opening.Memory = Memory
 
--- the end reported for a transfer with this last pump is that of the pump; or `Stopped`, if the pump left more and the gate
--- said Stop
+-- the end reported for a transfer with this last pump is that of the pump; or `Stopped`, if the
+-- pump left more and the gate said Stop
 abbrev pub EndsAs : Go → PumpEnd → JobEnd → Type 0
 EndsAs go last end = (end_of last ≡ Some end) ⊎ ((end ≡ Stopped) × (last ≡ pump.More) × (go ≡ Stop))
 
@@ -35,4 +35,5 @@ MayTell go end Unopened = (end ≡ ReadFault) ⊎ (end ≡ Memory)
 
 -- a gate that records what it is told has recorded this too, once
 abbrev pub Tells : Option (List (ℕ × JobEnd)) → Option (List (ℕ × JobEnd)) → ℕ → JobEnd → Type 0
-Tells old new session end = (before : List (ℕ × JobEnd)) → old ≡ Some before → new ≡ Some (before ++ (session, end) ∷ [])
+Tells old new session end =
+    (before : List (ℕ × JobEnd)) → old ≡ Some before → new ≡ Some (before ++ (session, end) ∷ [])

@@ -1,5 +1,5 @@
--- The rule of a board: one list of all pushes, and one of all pops; each entry is a job with the number of the pass that
--- made it.
+-- The rule of a board: one list of all pushes, and one of all pops; each entry is a job with the
+-- number of the pass that made it.
 use Rattle.std.specs.Prelude.{◌≡◌, ℕ, ◌≤◌, ◌==◌, List, [], ◌∷◌, ◌++◌, length, map, if◌then◌else◌}
 use mathlib.Core.Option.{some}
 use lib.ListN.{get_elem?}
@@ -19,8 +19,8 @@ module _ {J : Type 0} where
   by pass [] = []
   by pass (e ∷ entries) = if e.0 == pass then e.1 ∷ by pass entries else by pass entries
 
-  -- The jobs pushed are those popped followed by those waiting, in order. Each pass pushed and popped exactly its own
-  -- jobs, in order, and nobody else pushed or popped any.
+  -- The jobs pushed are those popped followed by those waiting, in order. Each pass pushed and
+  -- popped exactly its own jobs, in order, and nobody else pushed or popped any.
   pub record Kept (items : List J) (views : List (Hand J)) : Type 0 where
     pub made : List (ℕ × J)
     pub given : List (ℕ × J)
@@ -31,7 +31,8 @@ module _ {J : Type 0} where
 
   -- at some moment these jobs wait on the board, and one of its passes has done this
   abbrev pub Shows : Hand J → List J → Type 0
-  Shows v items = (views : List (Hand J)) × (pass : ℕ) × (get_elem? views pass ≡ some v) × Kept items views
+  Shows v items =
+      (views : List (Hand J)) × (pass : ℕ) × (get_elem? views pass ≡ some v) × Kept items views
 
   -- the pass pushes the job after those that wait
   abbrev pub Pushed : Hand J → J → Hand J → Type 0

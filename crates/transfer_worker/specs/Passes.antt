@@ -19,7 +19,8 @@ Passes old new calls = (before : List PassCall) → old ≡ Some before → new 
 
 -- the calls up to this answer, after `later` answers Later
 abbrev pub calls_until : ℕ → ℕ → Go → ℕ → List PassCall
-calls_until session moved go laters = replicate laters (pass_call session moved Later) ++ pass_call session moved go ∷ []
+calls_until session moved go laters =
+    replicate laters (pass_call session moved Later) ++ pass_call session moved go ∷ []
 
 -- the calls of a worker that was let on repeatedly, each time after that many answers Later
 abbrev pub leaves : ℕ → ℕ → List ℕ → List PassCall

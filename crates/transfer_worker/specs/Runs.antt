@@ -21,20 +21,24 @@ pub record WorkerView : Type 0 where
   pub heard : Option (List (ℕ × JobEnd))
   pub passed : Option (List PassCall)
 
-abbrev pub worker : LaneView → TallyView → Option (List (ℕ × JobEnd)) → Option (List PassCall) → WorkerView
-worker lane tally heard passed = record { lane = lane; tally = tally; heard = heard; passed = passed }
+abbrev pub worker : LaneView → TallyView → Option (List (ℕ × JobEnd)) → Option (List PassCall)
+    → WorkerView
+worker lane tally heard passed =
+    record { lane = lane; tally = tally; heard = heard; passed = passed }
 
 -- a count after these amounts; it saturates at 2^64 - 1
 abbrev pub counted : ℕ → List ℕ → ℕ
 counted count [] = count
 counted count (n ∷ amounts) = counted (capped count n) amounts
 
--- One turn: permission to ask, the ask, a permission for each take that found nothing, and the grant, which was pumped.
+-- One turn: permission to ask, the ask, a permission for each take that found nothing, and the
+-- grant, which was pumped.
 pub record Turn : Type 0 where
   -- number of answers Later before the gate let the worker ask
   pub before : ℕ
   pub ask : Ask
-  -- for each take that found nothing, the number of answers Later before the gate let the worker look again
+  -- for each take that found nothing, the number of answers Later before the gate let the worker
+  -- look again
   pub between : List ℕ
   -- the octets taken
   pub octets : ℕ
@@ -45,7 +49,8 @@ pub record Turn : Type 0 where
 pub data Halt : Type 0 where
   -- before the ask, after that many answers Later
   BeforeAsk : ℕ → Halt
-  -- after the ask: the answers Later before it, the ask, those before each further look, and those before Stop
+  -- after the ask: the answers Later before it, the ask, those before each further look, and those
+  -- before Stop
   AfterAsk : ℕ → Ask → List ℕ → ℕ → Halt
 
 abbrev pub asks_at : Option Halt → List Ask
@@ -61,15 +66,19 @@ looks_at (Some (AfterAsk before ask between laters)) = length between + 1
 abbrev pub calls_at : ℕ → ℕ → Option Halt → List PassCall
 calls_at session moved None = []
 calls_at session moved (Some (BeforeAsk laters)) = calls_until session moved Stop laters
-calls_at session moved (Some (AfterAsk before ask between laters)) = calls_until session moved On before ++ leaves session moved between ++ calls_until session moved Stop laters
+calls_at session moved (Some (AfterAsk before ask between laters)) =
+    calls_until session moved On before ++ leaves session moved between
+    ++ calls_until session moved Stop laters
 
--- the calls of the gate in a turn, and in all turns: each with the session and the octets moved so far
+-- the calls of the gate in a turn, and in all turns: each with the session and the octets moved so
+-- far
 abbrev pub calls_in : ℕ → ℕ → Turn → List PassCall
 calls_in session moved t = calls_until session moved On t.before ++ leaves session moved t.between
 
 abbrev pub calls_of : ℕ → ℕ → List Turn → List PassCall
 calls_of session moved [] = []
-calls_of session moved (t ∷ turns) = calls_in session moved t ++ calls_of session (capped moved t.pumped.moved) turns
+calls_of session moved (t ∷ turns) =
+    calls_in session moved t ++ calls_of session (capped moved t.pumped.moved) turns
 
 abbrev pub moves_of : List Turn → List ℕ
 moves_of turns = map (λ t. t.pumped.moved) turns
@@ -77,9 +86,11 @@ moves_of turns = map (λ t. t.pumped.moved) turns
 abbrev pub looks_of : List Turn → ℕ
 looks_of turns = sum_by (λ t. length t.between) turns
 
--- The further operations of a worker: it made these asks, took these amounts, found nothing that often, moved these octets,
--- and called its gate in this way. When it sat down and rose is defined elsewhere.
-pub record Adds (asks : List Ask) (taken : List ℕ) (looks : ℕ) (moves : List ℕ) (calls : List PassCall) (v w : WorkerView) : Type 0 where
+-- The further operations of a worker: it made these asks, took these amounts, found nothing that
+-- often, moved these octets, and called its gate in this way. When it sat down and rose is defined
+-- elsewhere.
+pub record Adds (asks : List Ask) (taken : List ℕ) (looks : ℕ) (moves : List ℕ)
+    (calls : List PassCall) (v w : WorkerView) : Type 0 where
   pub asks_are : w.lane.asks ≡ v.lane.asks ++ asks
   pub taken_are : w.lane.taken ≡ v.lane.taken ++ taken
   pub looks_are : w.lane.looks ≡ v.lane.looks + looks
@@ -97,7 +108,8 @@ WantsAt (AfterAsk before ask between laters) waiting = ask.want ≡ waiting
 
 module _ {R K C : Type 0} where
   -- In a turn, the worker asks for the octets that wait, and those taken are pumped.
-  pub record IsTurn (k : Known R K C) (flow : Flow R K C) (t : Turn) (next : Flow R K C) : Type 0 where
+  pub record IsTurn (k : Known R K C) (flow : Flow R K C) (t : Turn)
+      (next : Flow R K C) : Type 0 where
     pub more : last_in flow ≡ More
     pub want : t.ask.want ≡ waiting_in flow
     pub pumps : Pumps k t.octets flow next t.pumped
@@ -105,9 +117,11 @@ module _ {R K C : Type 0} where
   -- the turns lead from one state of the transfer to the other
   abbrev pub AreTurns : Known R K C → Flow R K C → List Turn → Flow R K C → Type 0
   AreTurns k flow [] end = end ≡ flow
-  AreTurns k flow (t ∷ turns) end = (next : Flow R K C) × IsTurn k flow t next × AreTurns k next turns end
+  AreTurns k flow (t ∷ turns) end =
+      (next : Flow R K C) × IsTurn k flow t next × AreTurns k next turns end
 
   -- a transfer ends with its last pump, or is stopped between two pumps
   abbrev pub EndsAt : Flow R K C → Option Halt → JobEnd → Type 0
   EndsAt flow None end = end_of (last_in flow) ≡ Some end
-  EndsAt flow (Some halt) end = (end ≡ Stopped) × (last_in flow ≡ More) × WantsAt halt (waiting_in flow)
+  EndsAt flow (Some halt) end =
+      (end ≡ Stopped) × (last_in flow ≡ More) × WantsAt halt (waiting_in flow)

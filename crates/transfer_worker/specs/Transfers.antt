@@ -29,8 +29,16 @@ pub record Known (R K C : Type 0) : Type 0 where
   pub contents : C → Option (List ℕ)
 
 module _ {R K C : Type 0} where
-  abbrev pub known : (R → Option (List ℕ)) → (K → Option (List ℕ)) → (K → Option Target) → (C → Option (List ℕ)) → (C → Option (List ℕ)) → Known R K C
-  known remaining collected target incoming contents = record { remaining = remaining; collected = collected; target = target; incoming = incoming; contents = contents }
+  abbrev pub known : (R → Option (List ℕ)) → (K → Option (List ℕ)) → (K → Option Target)
+      → (C → Option (List ℕ)) → (C → Option (List ℕ)) → Known R K C
+  known remaining collected target incoming contents =
+      record {
+        remaining = remaining;
+        collected = collected;
+        target = target;
+        incoming = incoming;
+        contents = contents;
+      }
 
   abbrev pub flow_of : {A : Type 0} → Running R K C A → Flow R K C
   flow_of (Out out) = Sending out
@@ -45,7 +53,8 @@ module _ {R K C : Type 0} where
   last_in (Sending out) = out.last
   last_in (Receiving upload) = upload.last
 
-  -- the octets that wait: those of a download to be written; for an upload, the most that one read can return
+  -- the octets that wait: those of a download to be written; for an upload, the most that one read
+  -- can return
   abbrev pub waiting_in : Flow R K C → ℕ
   waiting_in (Sending out) = length out.flow.waiting
   waiting_in (Receiving upload) = 65536
@@ -63,15 +72,18 @@ module _ {R K C : Type 0} where
   way_of (Take user session connection sink data_type) = Up
 
   -- a download just opened
-  pub record OpensOut (k : Known R K C) (source : R) (connection : C) (data_type : DataType) (out : OutView R C) : Type 0 where
+  pub record OpensOut (k : Known R K C) (source : R) (connection : C) (data_type : DataType)
+      (out : OutView R C) : Type 0 where
     pub connection_is : out.flow.connection ≡ connection
     pub type_is : out.flow.data_type ≡ data_type
     pub more : out.last ≡ More
     pub filled : (0 < length out.flow.waiting) ⊎ HasEnded out.flow
-    pub sending : (before octets : List ℕ) → k.contents connection ≡ Some before → k.remaining source ≡ Some octets
+    pub sending : (before octets : List ℕ) → k.contents connection ≡ Some before
+        → k.remaining source ≡ Some octets
         → IsSending k.remaining k.contents before (sent data_type octets) out.flow
 
-  pub record OpensIn (k : Known R K C) (connection : C) (sink : K) (data_type : DataType) (upload : InView C K) : Type 0 where
+  pub record OpensIn (k : Known R K C) (connection : C) (sink : K) (data_type : DataType)
+      (upload : InView C K) : Type 0 where
     pub connection_is : upload.flow.connection ≡ connection
     pub sink_is : upload.flow.sink ≡ sink
     pub type_is : upload.flow.data_type ≡ data_type
@@ -80,14 +92,19 @@ module _ {R K C : Type 0} where
 
   -- the transfer is that of the job, just opened
   abbrev pub Opens : Known R K C → LaneJob R K C → Flow R K C → Type 0
-  Opens k (Send user session source connection data_type) (Sending out) = OpensOut k source connection data_type out
+  Opens k (Send user session source connection data_type) (Sending out) =
+      OpensOut k source connection data_type out
   Opens k (Send user session source connection data_type) (Receiving upload) = ⊥
   Opens k (Take user session connection sink data_type) (Sending out) = ⊥
-  Opens k (Take user session connection sink data_type) (Receiving upload) = OpensIn k connection sink data_type upload
+  Opens k (Take user session connection sink data_type) (Receiving upload) =
+      OpensIn k connection sink data_type upload
 
   -- a grant of `octets` was pumped with result `pumped`
   abbrev pub Pumps : Known R K C → ℕ → Flow R K C → Flow R K C → Pumped → Type 0
-  Pumps k octets (Sending old) (Sending new) pumped = MovesOut k.remaining k.contents octets old.flow new.flow pumped × (new.last ≡ pumped.end)
+  Pumps k octets (Sending old) (Sending new) pumped =
+      MovesOut k.remaining k.contents octets old.flow new.flow pumped × (new.last ≡ pumped.end)
   Pumps k octets (Sending old) (Receiving new) pumped = ⊥
   Pumps k octets (Receiving old) (Sending new) pumped = ⊥
-  Pumps k octets (Receiving old) (Receiving new) pumped = MovesIn k.incoming k.collected k.target octets old.flow new.flow pumped × (new.last ≡ pumped.end)
+  Pumps k octets (Receiving old) (Receiving new) pumped =
+      MovesIn k.incoming k.collected k.target octets old.flow new.flow pumped
+      × (new.last ≡ pumped.end)

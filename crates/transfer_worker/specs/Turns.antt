@@ -19,7 +19,9 @@ abbrev pub IsTold : TallyView → LaneView → Type 0
 IsTold tally x = tally.moved + tally.back ≡ sum x.taken
 
 -- the seat took one grant, which was pumped and spent, and nothing else
-pub record TurnsOut {S K : Type 0} (remaining : S → Option (List ℕ)) (contents : K → Option (List ℕ)) (x x' : LaneView) (old new : OutView S K) (t t' : TallyView) (pumped : Pumped) : Type 0 where
+pub record TurnsOut {S K : Type 0} (remaining : S → Option (List ℕ))
+    (contents : K → Option (List ℕ)) (x x' : LaneView) (old new : OutView S K) (t t' : TallyView)
+    (pumped : Pumped) : Type 0 where
   pub octets : ℕ
   pub took : x' ≡ has_taken octets x
   pub within : sum x'.taken ≤ most
@@ -27,7 +29,9 @@ pub record TurnsOut {S K : Type 0} (remaining : S → Option (List ℕ)) (conten
   pub last_is : new.last ≡ pumped.end
   pub spent : IsSpent octets pumped.moved t t'
 
-pub record TurnsIn {K X : Type 0} (remaining : K → Option (List ℕ)) (collected : X → Option (List ℕ)) (target : X → Option Target) (x x' : LaneView) (old new : InView K X) (t t' : TallyView) (pumped : Pumped) : Type 0 where
+pub record TurnsIn {K X : Type 0} (remaining : K → Option (List ℕ))
+    (collected : X → Option (List ℕ)) (target : X → Option Target) (x x' : LaneView)
+    (old new : InView K X) (t t' : TallyView) (pumped : Pumped) : Type 0 where
   pub octets : ℕ
   pub took : x' ≡ has_taken octets x
   pub within : sum x'.taken ≤ most

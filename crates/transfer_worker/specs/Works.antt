@@ -22,15 +22,18 @@ pub record WaitsInVain (session moved : ℕ) (v w : WorkerView) : Type 0 where
   pub laters : ℕ
   pub state_is : w.lane.state ≡ v.lane.state
   pub sittings_are : w.lane.sittings ≡ v.lane.sittings
-  pub adds : Adds [] [] (length between + 1) [] (leaves session moved between ++ calls_until session moved Stop laters) v w
+  pub adds : Adds [] [] (length between + 1) []
+      (leaves session moved between ++ calls_until session moved Stop laters) v w
 
 -- The worker waited for a grant, took it and pumped it.
-pub record Takes {R K C : Type 0} (k : Known R K C) (session moved : ℕ) (flow next : Flow R K C) (pumped : Pumped) (v w : WorkerView) : Type 0 where
+pub record Takes {R K C : Type 0} (k : Known R K C) (session moved : ℕ) (flow next : Flow R K C)
+    (pumped : Pumped) (v w : WorkerView) : Type 0 where
   pub between : List ℕ
   pub octets : ℕ
   pub state_is : w.lane.state ≡ Worker
   pub sittings_are : w.lane.sittings ≡ v.lane.sittings
-  pub adds : Adds [] (octets ∷ []) (length between) (pumped.moved ∷ []) (leaves session moved between) v w
+  pub adds : Adds [] (octets ∷ []) (length between) (pumped.moved ∷ [])
+      (leaves session moved between) v w
   pub pumps : Pumps k octets flow next pumped
 
 -- the result says whether the end is Stopped
@@ -39,7 +42,8 @@ IsStop true end = end ≡ Stopped
 IsStop false end = end ≢ Stopped
 
 -- A transfer was run in one sitting, and its end was reported once.
-pub record RunsTransfer {R K C : Type 0} (k : Known R K C) (user session : ℕ) (flow : Flow R K C) (stop : Bool) (v w : WorkerView) : Type 0 where
+pub record RunsTransfer {R K C : Type 0} (k : Known R K C) (user session : ℕ) (flow : Flow R K C)
+    (stop : Bool) (v w : WorkerView) : Type 0 where
   pub end : JobEnd
   pub turns : List Turn
   pub halt : Option Halt
@@ -49,11 +53,13 @@ pub record RunsTransfer {R K C : Type 0} (k : Known R K C) (user session : ℕ) 
   pub ends : EndsAt final halt end
   pub bear : All (Bears user session (way_in flow)) (map (λ t. t.ask) turns ++ asks_at halt)
   pub sittings_are : w.lane.sittings ≡ v.lane.sittings ++ length v.lane.asks ∷ []
-  pub adds : Adds (map (λ t. t.ask) turns ++ asks_at halt) (map (λ t. t.octets) turns) (looks_of turns + looks_at halt) (moves_of turns) (calls_of session 0 turns ++ calls_at session (counted 0 (moves_of turns)) halt) v w
+  pub adds : Adds (map (λ t. t.ask) turns ++ asks_at halt) (map (λ t. t.octets) turns)
+      (looks_of turns + looks_at halt) (moves_of turns)
+      (calls_of session 0 turns ++ calls_at session (counted 0 (moves_of turns)) halt) v w
   pub tells : Tells v.heard w.heard session end
 
--- A job popped by a worker: the transfer as it was opened, if it was; its turns; the point at which it was stopped, if it
--- was; and its end.
+-- A job popped by a worker: the transfer as it was opened, if it was; its turns; the point at which
+-- it was stopped, if it was; and its end.
 pub record Work (R K C : Type 0) : Type 0 where
   pub job : LaneJob R K C
   pub opening : Option (Flow R K C)
@@ -77,20 +83,25 @@ module _ {R K C : Type 0} where
 
   -- the calls of its gate: each with its session and the octets that it had moved so far
   abbrev pub passes_in : Work R K C → List PassCall
-  passes_in w = calls_of (session_of w.job) 0 w.turns ++ calls_at (session_of w.job) (counted 0 (moves_of w.turns)) w.halt
+  passes_in w =
+      calls_of (session_of w.job) 0 w.turns
+      ++ calls_at (session_of w.job) (counted 0 (moves_of w.turns)) w.halt
 
-  -- A job that was not opened has no turns, and its end is that of the opening. Any other runs from its opening through its
-  -- turns to its end.
+  -- A job that was not opened has no turns, and its end is that of the opening. Any other runs from
+  -- its opening through its turns to its end.
   abbrev pub Runs : Known R K C → Option (Flow R K C) → Work R K C → Type 0
   Runs k None w = (w.turns ≡ []) × (w.halt ≡ None) × ((w.end ≡ ReadFault) ⊎ (w.end ≡ Memory))
-  Runs k (Some flow) w = Opens k w.job flow × ((final : Flow R K C) × AreTurns k flow w.turns final × EndsAt final w.halt w.end)
+  Runs k (Some flow) w =
+      Opens k w.job flow
+      × ((final : Flow R K C) × AreTurns k flow w.turns final × EndsAt final w.halt w.end)
 
   -- its asks have the user, session and way of the job
   pub record IsWork (k : Known R K C) (w : Work R K C) : Type 0 where
     pub bear : All (Bears (user_of w.job) (session_of w.job) (way_of w.job)) (asks_in w)
     pub runs : Runs k w.opening w
 
-  -- the sittings of a job: one if it was opened, with the number of asks that the seat had made before
+  -- the sittings of a job: one if it was opened, with the number of asks that the seat had made
+  -- before
   abbrev pub sitting_of : ℕ → Option (Flow R K C) → List ℕ
   sitting_of n None = []
   sitting_of n (Some flow) = n ∷ []
@@ -106,13 +117,15 @@ module _ {R K C : Type 0} where
 
   pub record Does (k : Known R K C) (job : Work R K C) (v w : WorkerView) : Type 0 where
     pub is_work : IsWork k job
-    pub sittings_are : w.lane.sittings ≡ v.lane.sittings ++ sitting_of (length v.lane.asks) job.opening
+    pub sittings_are : w.lane.sittings
+        ≡ v.lane.sittings ++ sitting_of (length v.lane.asks) job.opening
     pub adds : Adds (asks_in job) (taken_in job) (looks_in job) (moves_in job) (passes_in job) v w
     pub tells : Tells v.heard w.heard (session_of job.job) job.end
 
   -- a job was run
   abbrev pub RunsJob : Known R K C → LaneJob R K C → Bool → WorkerView → WorkerView → Type 0
-  RunsJob k job stop v w = (done : Work R K C) × (done.job ≡ job) × IsStop stop done.end × Does k done v w
+  RunsJob k job stop v w =
+      (done : Work R K C) × (done.job ≡ job) × IsStop stop done.end × Does k done v w
 
   abbrev pub NotStopped : Work R K C → Type 0
   NotStopped w = w.end ≢ Stopped
@@ -120,18 +133,24 @@ module _ {R K C : Type 0} where
   -- only the last job was stopped, and only if the worker was
   abbrev pub EndsSo : LoopEnd → List (Work R K C) → Type 0
   EndsSo work.Idle works = All NotStopped works
-  EndsSo work.Stopped works = (before : List (Work R K C)) × (last : Work R K C) × (works ≡ before ++ last ∷ []) × All NotStopped before × (last.end ≡ Stopped)
+  EndsSo work.Stopped works =
+      (before : List (Work R K C)) × (last : Work R K C) × (works ≡ before ++ last ∷ [])
+      × All NotStopped before × (last.end ≡ Stopped)
 
-  -- The operations of a worker, job by job: it popped these, in this order; its sittings are those of the jobs that were
-  -- opened, each with the asks of its job; it took and moved these amounts; and its gate was called in this way, and told
-  -- of each job once, in order.
-  pub record Did (k : Known R K C) (works : List (Work R K C)) (h h' : Hand (LaneJob R K C)) (v w : WorkerView) : Type 0 where
+  -- The operations of a worker, job by job: it popped these, in this order; its sittings are those
+  -- of the jobs that were opened, each with the asks of its job; it took and moved these amounts;
+  -- and its gate was called in this way, and told of each job once, in order.
+  pub record Did (k : Known R K C) (works : List (Work R K C)) (h h' : Hand (LaneJob R K C))
+      (v w : WorkerView) : Type 0 where
     pub each : All (IsWork k) works
     pub popped : h'.popped ≡ h.popped ++ map (λ job. job.job) works
     pub pushed : h'.pushed ≡ h.pushed
     pub sittings_are : w.lane.sittings ≡ v.lane.sittings ++ starts (length v.lane.asks) works
-    pub adds : Adds (flat_map asks_in works) (flat_map taken_in works) (sum_by looks_in works) (flat_map moves_in works) (flat_map passes_in works) v w
-    pub tells : (before : List (ℕ × JobEnd)) → v.heard ≡ Some before → w.heard ≡ Some (before ++ map told_of works)
+    pub adds : Adds (flat_map asks_in works) (flat_map taken_in works) (sum_by looks_in works)
+        (flat_map moves_in works) (flat_map passes_in works) v w
+    pub tells : (before : List (ℕ × JobEnd)) → v.heard ≡ Some before
+        → w.heard ≡ Some (before ++ map told_of works)
 
-  abbrev pub Works : Known R K C → LoopEnd → Hand (LaneJob R K C) → Hand (LaneJob R K C) → WorkerView → WorkerView → Type 0
+  abbrev pub Works : Known R K C → LoopEnd → Hand (LaneJob R K C) → Hand (LaneJob R K C)
+      → WorkerView → WorkerView → Type 0
   Works k end h h' v w = (works : List (Work R K C)) × EndsSo end works × Did k works h h' v w

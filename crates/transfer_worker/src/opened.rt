@@ -37,7 +37,8 @@ pub fn open_board<J, A: Allocator + Clone>(
     passes: usize,
 ) -> Result<(JobBoard<J, A>, Vec<BoardPass<J>, A>), BoardFault>
     ensures board { IfOk result (λ opened. places opened.0 ≡ capacity) }
-    ensures passes { IfOk result (λ opened. AreNewPasses (board_id opened.0) passes opened.1.items) }
+    ensures passes { IfOk result (λ opened.
+        AreNewPasses (board_id opened.0) passes opened.1.items) }
     ensures fault { IfErr result (λ fault. (fault ≡ BadSize) ↔ (capacity ≡ 0)) }
 {
     if capacity == 0 {

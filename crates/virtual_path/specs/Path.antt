@@ -53,11 +53,14 @@ text_refusal text = cond (list_any is_control text) (Err BadName)
 -- path's length
 abbrev pub resolved : Path → List ℕ → Result Path PathFault
 resolved from text = cond (list_any is_control text) (Err BadName)
-    (cond (list_any is_long_name (names_of text) || is_long (named from text)) (Err TooLong) (Ok (named from text)))
+    (cond (list_any is_long_name (names_of text) || is_long (named from text)) (Err TooLong)
+    (Ok (named from text)))
 
 -- the text is one name that leads down: not empty, `.` or `..`, and without `/` and control octets
 abbrev pub is_one_name : List ℕ → Bool
-is_one_name name = not (bytes_eq name [] || bytes_eq name (codes ".") || bytes_eq name (codes "..") || list_any is_slash name || list_any is_control name)
+is_one_name name =
+    not (bytes_eq name [] || bytes_eq name (codes ".") || bytes_eq name (codes "..")
+    || list_any is_slash name || list_any is_control name)
 
 -- whether a path may contain the name
 abbrev pub is_name : List ℕ → Bool

@@ -52,7 +52,8 @@ refusal (Rename from to answer) = result_err answer
 
 -- the call ends an upload after which the files would have more octets than this capacity
 abbrev pub PassesCapacity : {R K : Type 0} → Option ℕ → (K → ℕ → ℕ) → Exchange R K → Type 0
-PassesCapacity capacity after (Finish sink moment answer) = IsSomeAnd capacity (λ most. most < after sink moment)
+PassesCapacity capacity after (Finish sink moment answer) =
+    IsSomeAnd capacity (λ most. most < after sink moment)
 PassesCapacity capacity after _ = ⊥
 
 -- the names of a listing
@@ -61,7 +62,8 @@ names_of listed = map (λ entry. string_bytes entry.name) listed.items
 
 -- ---- the two ends of a file
 
--- the file that a sink writes to: its path, and how many of its first octets are kept before the new ones
+-- the file that a sink writes to: its path, and how many of its first octets are kept before the
+-- new ones
 pub record Target : Type 0 where
   pub path : Path
   pub kept : ℕ
@@ -71,7 +73,8 @@ abbrev pub IsEndFault : Option (List ℕ) → StoreFault → Type 0
 IsEndFault known fault = (fault ≡ Memory) ⊎ ((fault ≡ Device) × (known ≡ None))
 
 -- writing these pieces, one after another, turns one sink into the other
-abbrev pub Writes : {K : Type 0} → (K → Option Target) → (K → Option (List ℕ)) → K → List (List ℕ) → K → Type 0
+abbrev pub Writes : {K : Type 0} → (K → Option Target) → (K → Option (List ℕ)) → K → List (List ℕ)
+    → K → Type 0
 Writes target collected first [] last = last ≡ first
 Writes {K} target collected first (piece ∷ pieces) last =
     (next : K) × (target next ≡ target first) × Appends (collected first) (collected next) piece

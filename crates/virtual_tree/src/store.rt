@@ -123,7 +123,8 @@ pub trait Store<A: Allocator> {
 
     /// A call refused for the device has increased the count of faults.
     ghost honest: { (old new : Self) (exchange : Exchange Self.Source Self.Sink)
-        → Step old exchange new → refusal exchange ≡ Some Device → fault_count new ≢ fault_count old };
+        → Step old exchange new → refusal exchange ≡ Some Device
+        → fault_count new ≢ fault_count old };
 
     /// A call is refused as full only if it is a `finish` that would exceed the capacity.
     ghost fits: { (old new : Self) (exchange : Exchange Self.Source Self.Sink)

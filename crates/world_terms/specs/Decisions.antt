@@ -33,7 +33,8 @@ AllPosted ls = All IsPosted ls
 
 -- the lane with an amount decided for it
 abbrev pub with_amount : ℕ → Lane → Lane
-with_amount n l = record { shown = l.shown; hidden = hidden l.hidden.moved l.hidden.back l.hidden.hand (Some n) }
+with_amount n l =
+    record { shown = l.shown; hidden = hidden l.hidden.moved l.hidden.back l.hidden.hand (Some n) }
 
 -- an ask of the lane was collected and is not answered yet
 abbrev pub IsDue : Lane → Type 0
@@ -41,7 +42,8 @@ IsDue l = (l.shown.state ≡ state.Round) × ((a : Ask) × (l.shown.ask ≡ Some
 
 -- a lane in Round gets a decided amount; any other lane is unchanged
 abbrev pub IsGiven : Lane → Lane → Type 0
-IsGiven l m = (IsDue l × ((n : ℕ) × (m ≡ with_amount n l))) ⊎ ((l.shown.state ≢ state.Round) × (m ≡ l))
+IsGiven l m =
+    (IsDue l × ((n : ℕ) × (m ≡ with_amount n l))) ⊎ ((l.shown.state ≢ state.Round) × (m ≡ l))
 
 -- each lane in Round gets a decided amount, and no other lane does
 abbrev pub AreGiven : List Lane → List Lane → Type 0
@@ -60,8 +62,8 @@ abbrev pub decided_grants : List Lane → List Granted
 decided_grants [] = []
 decided_grants (l ∷ ls) = grant_of l.shown.ask l.hidden.decided ++ decided_grants ls
 
--- The decided grants are best for the tree of the tick over their asks, which are those of the lanes in Round; in some
--- order they are the grants of its leaves.
+-- The decided grants are best for the tree of the tick over their asks, which are those of the
+-- lanes in Round; in some order they are the grants of its leaves.
 pub record IsShared (rates : Rates) (tick : ℕ) (before after : List Lane) : Type 0 where
   pub given : AreGiven before after
   pub leaves : List Granted
@@ -96,7 +98,8 @@ pub record IsReady (w : World) (moment : ℕ) : Type 0 where
   pub wants : has_large_want w.lanes ≡ false
 
 -- a decision at a moment in milliseconds; its tick is a tenth of a second
-pub record IsDecision (rates : Rates) (w : World) (moment tick total : ℕ) (w' : World) : Type 0 where
+pub record IsDecision (rates : Rates) (w : World) (moment tick total : ℕ)
+    (w' : World) : Type 0 where
   pub ready : IsReady w moment
   pub tick_is : tick ≡ moment / 100
   pub shared : IsShared rates tick w.lanes w'.lanes

@@ -4,8 +4,8 @@ use Rattle.line_rates.specs.declared.ask.Ask.{Ask}
 use Rattle.world_terms.specs.declared.event.LaneState.{LaneState}
 use Rattle.world_terms.specs.declared.event.LaneState.TheVariants as state
 
--- the part of a lane that words and views show: its state, its last ask, if it has one, and the amounts posted and taken,
--- in order
+-- the part of a lane that words and views show: its state, its last ask, if it has one, and the
+-- amounts posted and taken, in order
 pub record Shown : Type 0 where
   pub state : LaneState
   pub ask : Option Ask
@@ -15,8 +15,8 @@ pub record Shown : Type 0 where
 abbrev pub shown : LaneState → Option Ask → List ℕ → List ℕ → Shown
 shown s a ps ts = record { state = s; ask = a; posted = ps; taken = ts }
 
--- the part that they do not show: the octets moved and given back, the amount in hand, and the amount decided and not
--- posted
+-- the part that they do not show: the octets moved and given back, the amount in hand, and the
+-- amount decided and not posted
 pub record Hidden : Type 0 where
   pub moved : ℕ
   pub back : ℕ

@@ -23,7 +23,8 @@ pub record Occasion : Type 0 where
 -- these events, the newest first, lead from world `start` to world `end`
 abbrev pub Runs : Rates → World → List Occasion → World → Type 0
 Runs rates start [] end = end ≡ start
-Runs rates start (x ∷ past) end = Runs rates start past x.before × Step rates x.before x.event x.reply end
+Runs rates start (x ∷ past) end =
+    Runs rates start past x.before × Step rates x.before x.event x.reply end
 
 abbrev pub event_of : Occasion → Event
 event_of x = x.event
@@ -32,14 +33,16 @@ abbrev pub reply_of : Occasion → Result EventAnswer StepFault
 reply_of x = x.reply
 
 -- a run of these events, the oldest first, with these replies
-pub record IsRun (rates : Rates) (start : World) (events : List Event) (replies : List (Result EventAnswer StepFault)) (end : World) : Type 0 where
+pub record IsRun (rates : Rates) (start : World) (events : List Event)
+    (replies : List (Result EventAnswer StepFault)) (end : World) : Type 0 where
   pub past : List Occasion
   pub runs : Runs rates start past end
   pub events_are : reverse (map event_of past) ≡ events
   pub replies_are : reverse (map reply_of past) ≡ replies
 
 -- a run of some first part of these events
-pub record IsRunOfSome (rates : Rates) (start : World) (events : List Event) (end : World) : Type 0 where
+pub record IsRunOfSome (rates : Rates) (start : World) (events : List Event)
+    (end : World) : Type 0 where
   pub done : ℕ
   pub replies : List (Result EventAnswer StepFault)
   pub run : IsRun rates start (take done events) replies end
@@ -84,12 +87,14 @@ exchanges i (x ∷ past) = if_ok x.reply [] (on_lane i x.event) ++ exchanges i p
 
 -- the octets that an event moves of a grant whose ask, the last of its lane, counts under the name
 abbrev pub moved_by : Rates → Name → Event → List Occasion → ℕ
-moved_by rates n (event.Moved i octets) past = if bears_in rates n (last_ask i past) then octets else 0
+moved_by rates n (event.Moved i octets) past =
+    if bears_in rates n (last_ask i past) then octets else 0
 moved_by rates n e past = 0
 
 abbrev pub moved_under : Rates → Name → List Occasion → ℕ
 moved_under rates n [] = 0
-moved_under rates n (x ∷ past) = if_ok x.reply 0 (λ a. moved_by rates n x.event past) + moved_under rates n past
+moved_under rates n (x ∷ past) =
+    if_ok x.reply 0 (λ a. moved_by rates n x.event past) + moved_under rates n past
 
 -- the octets that an event moves
 abbrev pub octets_by : Event → ℕ
@@ -107,10 +112,12 @@ has_branch rates n w = is_name rates (map ask_in (in_round w.lanes)) n
 
 -- the name's limit, if the event is a decision whose tree has its branch
 abbrev pub limit_by : Rates → Name → World → Event → EventAnswer → ℕ
-limit_by rates n w (event.Decide m) (answer.Decided tick total) = if has_branch rates n w then share_of (rate_of rates n) tick else 0
+limit_by rates n w (event.Decide m) (answer.Decided tick total) =
+    if has_branch rates n w then share_of (rate_of rates n) tick else 0
 limit_by rates n w e a = 0
 
 -- the sum of a name's limits over the decisions whose trees have its branch
 abbrev pub limits_under : Rates → Name → List Occasion → ℕ
 limits_under rates n [] = 0
-limits_under rates n (x ∷ past) = if_ok x.reply 0 (limit_by rates n x.before x.event) + limits_under rates n past
+limits_under rates n (x ∷ past) =
+    if_ok x.reply 0 (limit_by rates n x.before x.event) + limits_under rates n past

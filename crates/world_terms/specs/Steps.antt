@@ -26,9 +26,12 @@ abbrev pub HiddenStep : Event → EventAnswer → Hidden → Hidden → Type 0
 HiddenStep (event.Sit i) a x y = y ≡ x
 HiddenStep (event.Asked i b) a x y = (x.hand ≡ None) × (y ≡ x)
 HiddenStep (event.Collect i) a x y = y ≡ x
-HiddenStep (event.Post i) (answer.Posted n) x y = (n ≡ amount x.decided) × (y ≡ hidden x.moved x.back x.hand None)
+HiddenStep (event.Post i) (answer.Posted n) x y =
+    (n ≡ amount x.decided) × (y ≡ hidden x.moved x.back x.hand None)
 HiddenStep (event.Taken i) (answer.Taken n) x y = y ≡ hidden x.moved x.back (Some n) x.decided
-HiddenStep (event.Moved i n) a x y = (h : ℕ) × (x.hand ≡ Some h) × (n ≤ h) × (y ≡ hidden (x.moved + n) (x.back + (h - n)) None x.decided)
+HiddenStep (event.Moved i n) a x y =
+    (h : ℕ) × (x.hand ≡ Some h) × (n ≤ h)
+    × (y ≡ hidden (x.moved + n) (x.back + (h - n)) None x.decided)
 HiddenStep (event.Rise i) a x y = (x.hand ≡ None) × (y ≡ x)
 HiddenStep e a x y = ⊥
 
@@ -41,7 +44,8 @@ pub record IsChange (w : World) (i : ℕ) (e : Event) (a : EventAnswer) (w' : Wo
   pub after : Lane
   pub there : slice_get w.lanes i ≡ Some before
   pub step : LaneStep e a before after
-  pub rest : w' ≡ record { lanes = slice_set w.lanes i after; last_tick = w.last_tick; issued = w.issued }
+  pub rest : w'
+      ≡ record { lanes = slice_set w.lanes i after; last_tick = w.last_tick; issued = w.issued }
 
 -- an event that is not refused
 abbrev pub Accepts : Rates → World → Event → EventAnswer → World → Type 0
@@ -58,14 +62,16 @@ Accepts rates w e a w' = ⊥
 -- the refusals of a lane's own event
 abbrev pub RefusesLane : Event → StepFault → Lane → Type 0
 RefusesLane (event.Sit i) fault.WrongState l = l.shown.state ≢ state.Free
-RefusesLane (event.Asked i a) fault.WrongState l = (l.shown.state ≢ state.Worker) ⊎ (l.hidden.hand ≢ None)
+RefusesLane (event.Asked i a) fault.WrongState l =
+    (l.shown.state ≢ state.Worker) ⊎ (l.hidden.hand ≢ None)
 RefusesLane (event.Post i) fault.WrongState l = l.shown.state ≢ state.Round
 RefusesLane (event.Post i) fault.Memory l = l.shown.state ≡ state.Round
 RefusesLane (event.Taken i) fault.WrongState l = l.shown.state ≢ state.Granted
 RefusesLane (event.Taken i) fault.Memory l = l.shown.state ≡ state.Granted
 RefusesLane (event.Moved i n) fault.WrongState l = l.hidden.hand ≡ None
 RefusesLane (event.Moved i n) fault.TooMuch l = (h : ℕ) × (l.hidden.hand ≡ Some h) × (h < n)
-RefusesLane (event.Rise i) fault.WrongState l = (l.shown.state ≢ state.Worker) ⊎ (l.hidden.hand ≢ None)
+RefusesLane (event.Rise i) fault.WrongState l =
+    (l.shown.state ≢ state.Worker) ⊎ (l.hidden.hand ≢ None)
 RefusesLane e f l = ⊥
 
 -- the lane of an event; 0 for a decision, which has none
@@ -91,8 +97,9 @@ pub record PassesMost (rates : Rates) (w : World) (moment : ℕ) : Type 0 where
   pub shared : IsShared rates (moment / 100) w.lanes lanes
   pub above : MAX_ISSUED < w.issued + decided_sum lanes
 
--- A tree of the tick over the asks has a fault other than floors above a limit. If no want is too large, there is no such
--- fault, since the tree has few nodes and little depth, and its limits are small; this is argued, not proved.
+-- A tree of the tick over the asks has a fault other than floors above a limit. If no want is too
+-- large, there is no such fault, since the tree has few nodes and little depth, and its limits are
+-- small; this is argued, not proved.
 pub record HasOtherFault (rates : Rates) (tick : ℕ) (asks : List Asker) : Type 0 where
   pub order : List Asker
   pub outline : List Place
@@ -105,9 +112,13 @@ pub record HasOtherFault (rates : Rates) (tick : ℕ) (asks : List Asker) : Type
 -- the refusals of a decision
 abbrev pub RefusesDecide : Rates → World → ℕ → StepFault → Type 0
 RefusesDecide rates w m fault.WrongState = AllPosted w.lanes → ⊥
-RefusesDecide rates w m (fault.NotYet last) = AllPosted w.lanes × (w.last_tick ≡ Some last) × (m / 100 ≤ last)
-RefusesDecide rates w m fault.TooMuch = AllPosted w.lanes × IsLater (m / 100) w.last_tick × ((has_large_want w.lanes ≡ true) ⊎ HasOtherFault rates (m / 100) (in_round w.lanes))
-RefusesDecide rates w m fault.FloorsOver = IsReady w m × (FloorsFit rates (m / 100) (map ask_in (in_round w.lanes)) → ⊥)
+RefusesDecide rates w m (fault.NotYet last) =
+    AllPosted w.lanes × (w.last_tick ≡ Some last) × (m / 100 ≤ last)
+RefusesDecide rates w m fault.TooMuch =
+    AllPosted w.lanes × IsLater (m / 100) w.last_tick
+    × ((has_large_want w.lanes ≡ true) ⊎ HasOtherFault rates (m / 100) (in_round w.lanes))
+RefusesDecide rates w m fault.FloorsOver =
+    IsReady w m × (FloorsFit rates (m / 100) (map ask_in (in_round w.lanes)) → ⊥)
 RefusesDecide rates w m fault.Memory = IsReady w m
 RefusesDecide rates w m fault.BookFull = IsReady w m × PassesMost rates w m
 RefusesDecide rates w m fault.NoLane = ⊥
@@ -124,4 +135,5 @@ Refuses rates w e f = RefusesEvent w e f
 
 -- an event leads from `w` to `w'`, with this reply; a refused one changes nothing
 abbrev pub Step : Rates → World → Event → Result EventAnswer StepFault → World → Type 0
-Step rates w e reply w' = MatchResult reply (λ a. Accepts rates w e a w') (λ f. (w' ≡ w) × Refuses rates w e f)
+Step rates w e reply w' =
+    MatchResult reply (λ a. Accepts rates w e a w') (λ f. (w' ≡ w) × Refuses rates w e f)

@@ -1,6 +1,6 @@
 -- The effect of each call on the users, if memory does not run out. The first refusal that applies
 -- is the result.
-use Rattle.std.specs.Prelude.{◌≡◌, ℕ, ◌+◌, ◌^◌, Bool, false, cond, ◌||◌, List, [], Option, Some, None, Result, Ok, Err, nat_lt, nat_eq, bytes_eq, codes}
+use Rattle.std.specs.Prelude.{ℕ, ◌+◌, ◌^◌, Bool, false, cond, ◌||◌, List, [], Option, Some, None, Result, Ok, Err, nat_lt, bytes_eq, codes}
 use Rattle.std.specs.FinMap as map
 use Rattle.virtual_path.specs.Path.{Path, path_text, resolved}
 use Rattle.virtual_path.specs.declared.fault.PathFault.{PathFault}

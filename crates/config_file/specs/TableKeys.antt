@@ -1,8 +1,8 @@
 -- The keys of each table, a row each, and the values of a table: one for each row.
-use Rattle.std.specs.Prelude.{ℕ, true, false, List, [], ◌∷◌, codes, Option, option_map}
+use Rattle.std.specs.Prelude.{ℕ, false, List, [], ◌∷◌, codes, Option, option_map}
 use Rattle.std.specs.Borrow.{Bor}
 use Rattle.std.specs.Net.Addr.{ipv4_octets}
-use Rattle.toml.specs.Data.{Members, no_items}
+use Rattle.toml.specs.Data.{no_items}
 use Rattle.toml.specs.View.{items_view}
 use Rattle.ftp_terms.specs.declared.entries.TheConstants.{LATEST}
 use Rattle.config_file.specs.declared.kind.Kind.TheVariants.{Text, Line, Password, Flag, Number, Address, Rows}
@@ -13,7 +13,7 @@ use Rattle.config_file.specs.declared.stated.UserTable.{UserTable}
 use Rattle.config_file.specs.declared.stated.OverrideTable.{OverrideTable}
 use Rattle.config_file.specs.declared.stated.DirTable.{DirTable}
 use Rattle.config_file.specs.declared.stated.FileTable.{FileTable}
-use Rattle.config_file.specs.Keys.{KeyRow, needed, optional, States}
+use Rattle.config_file.specs.Keys.{KeyRow, needed, optional}
 use Rattle.config_file.specs.Values.{Held, nothing, number, text, flag, address, items, text_if, address_if}
 
 -- the text at a key that may be left out

@@ -1,9 +1,8 @@
 -- A session that has the floors for itself leaves them as they were, however it ends.
-use Rattle.std.proofs.Common.{ℕ, ◌≡◌, ◌⊎◌, inl, inr, List, [], ◌∷◌, ◌++◌, Option, Some, None, Result, refl, sym, ap, subst, append_assoc, ◌∙◌}
+use Rattle.std.proofs.Common.{ℕ, ◌≡◌, inl, inr, List, [], ◌∷◌, ◌++◌, Option, Some, None, Result, refl, sym, ap, subst, append_assoc, ◌∙◌}
 use Rattle.control_session.specs.Sides.{Given}
-use Rattle.control_session.specs.Sides.SideCall.{Looks, Settles}
+use Rattle.control_session.specs.Sides.SideCall.{Settles}
 use Rattle.rate_floors.specs.Promises.{Promises, after_release, counted}
-use Rattle.session_core.specs.declared.events.DataEvent.{DataEvent}
 use Rattle.session_table.specs.Laws.{logged_in, releases}
 use Rattle.session_table.specs.Steps.{Standing}
 use Rattle.session_table.specs.declared.actions.Action.{Action}

@@ -1,22 +1,21 @@
 -- The floors that a step counts and asks to release.
-use Rattle.std.proofs.Common.{ℕ, ◌≡◌, ◌+◌, ◌-◌, ◌⊎◌, inl, inr, List, [], ◌∷◌, ◌++◌, map, Bool, true, false, cond, Option, Some, None, Ok, Err, refl, sym, ap, subst, ◌∙◌, arith}
+use Rattle.std.proofs.Common.{ℕ, ◌≡◌, ◌+◌, ◌-◌, inl, inr, List, [], ◌∷◌, ◌++◌, map, Bool, true, false, cond, Option, Some, None, refl, sym, ap, subst, ◌∙◌, arith}
 use Rattle.std.proofs.lemmas.Bool.{false≢true}
 use Rattle.std.proofs.lemmas.Bool.Decides.{nat_tests}
 use Rattle.std.proofs.lemmas.List.{append-nil}
-use Rattle.std.specs.FinMap as finite
-use Rattle.std.specs.Prelude.{nat_eq, nat_lt, unwrap_or}
+use Rattle.std.specs.Prelude.{nat_eq, nat_lt}
 use Rattle.authorizer.specs.Users.{Users}
 use Rattle.control_session.specs.Sides.{Given}
 use Rattle.line_rates.proofs.RowLemmas.{first_row, get-by_number}
-use Rattle.rate_floors.specs.Promises.{Promises, admits, after_release, changed, counted, has_counted, has_session, one_less, one_more, released, user_key, user_of, with_sessions}
+use Rattle.rate_floors.specs.Promises.{Promises, admits, after_release, counted, has_session, one_less, one_more, released, user_key, with_sessions}
 use Rattle.rate_floors.specs.declared.find.UserSessions.{UserSessions}
 use Rattle.session_table.proofs.InputLaws.{floors_are_released_once}
 use Rattle.session_table.specs.Always.{Always}
 use Rattle.session_table.specs.Laws.{FloorsAreReleasedOnce, Releases, logged_in, releases}
-use Rattle.session_table.specs.Steps.{Standing}
+use Rattle.session_table.specs.Steps.{SessionStep, Standing}
 use Rattle.session_table.specs.Plans.{Plan, Ran}
 use Rattle.session_table.specs.Plans.Plan.{Then, WithLine, WithLines, Ask, AskAdmit}
-use Rattle.session_table.specs.Table.{SessionStep, table}
+use Rattle.session_table.specs.Table.{table}
 use Rattle.session_table.specs.Views.{View, is_closed, is_inside}
 use Rattle.session_table.specs.declared.actions.Action.{Action}
 use Rattle.session_table.specs.declared.inputs.Input.{Input}

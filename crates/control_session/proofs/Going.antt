@@ -1,7 +1,7 @@
 -- How what was done one after another fits together.
 use Rattle.std.specs.Result.{IfOk, IsErr, OnErr, OnOk}
 use Rattle.std.proofs.lemmas.Bool.{false≢true}
-use Rattle.std.proofs.Common.{Result, Ok, Err, true, false, ◌||◌, ◌⊎◌, inl, inr, ℕ, ◌≡◌, ◌+◌, ◌<◌, length, drop, List, [], ◌∷◌, ◌++◌, Bool, map, Option, refl, sym, ap, subst, append_assoc, ◌∙◌}
+use Rattle.std.proofs.Common.{Result, Ok, Err, true, false, ◌||◌, ◌⊎◌, inl, inr, ℕ, ◌≡◌, ◌+◌, ◌<◌, length, drop, List, [], ◌∷◌, ◌++◌, Bool, Option, refl, sym, ap, subst, append_assoc, ◌∙◌}
 use Rattle.std.proofs.lemmas.List.{append-nil, drop_more}
 use lib.ListN.{get_or}
 use Rattle.control_session.specs.Sides.{Given}

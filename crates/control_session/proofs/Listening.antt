@@ -1,17 +1,16 @@
 -- What was heard, with what was heard more, and why a session breaks off.
-use Rattle.std.proofs.Common.{ℕ, ◌≡◌, ◌+◌, List, [], ◌++◌, false, Option, Result, Ok, Err, ap, sym, subst}
-use Rattle.std.specs.Prelude.{IfErr, IsErrAnd, IsErrOf, OnErr}
+use Rattle.std.proofs.Common.{ℕ, ◌≡◌, ◌+◌, List, [], ◌++◌, false, Result, Ok, Err, ap, sym, subst}
+use Rattle.std.specs.Prelude.{IsErrAnd, IsErrOf, OnErr}
 use Rattle.std.proofs.lemmas.List.{append-nil}
 use Rattle.ftp_wire.specs.Items.{Item}
 use Rattle.ftp_wire.specs.Reading.{HasRead}
 use Rattle.ftp_wire.specs.declared.reader.LineReader.{LineReader}
-use Rattle.control_session.specs.Standing.{IsLost}
 use Rattle.control_session.specs.Turns.{Heard}
 use Rattle.control_session.specs.declared.turn_fault.TurnFault.{TurnFault}
 use Rattle.control_session.specs.declared.turn_fault.TurnFault.TheVariants as turn
-use Rattle.control_session.specs.Sessions.{IsLostTo, fault_of}
+use Rattle.control_session.specs.Sessions.{fault_of}
 use Rattle.control_session.specs.declared.fault.ControlFault.{ControlFault}
-use Rattle.control_session.specs.declared.fault.ControlFault.TheVariants.{ReadFault, WriteFault, Memory}
+use Rattle.control_session.specs.declared.fault.ControlFault.TheVariants.{ReadFault, Memory}
 
 abbrev pub more : Heard → List ℕ → List Item → Heard
 more heard octets items = record { octets = heard.octets ++ octets; items = heard.items ++ items; reads = heard.reads + 1; ended = heard.ended; failed = heard.failed; asked = false }

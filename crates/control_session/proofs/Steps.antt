@@ -4,11 +4,11 @@ use Rattle.std.proofs.lemmas.Bool.{false≢true}
 use Rattle.authorizer.specs.Users.{Users}
 use Rattle.ftp_wire.specs.Items.{Item}
 use Rattle.virtual_tree.specs.Calls.{Exchange}
-use Rattle.session_table.specs.Steps.{Standing, holds_some, is_due}
+use Rattle.session_table.specs.Steps.{SessionStep, Standing, holds_some, is_due}
 use Rattle.session_table.specs.declared.actions.Action.{Action}
 use Rattle.session_table.specs.declared.inputs.Input.{Input}
 use Rattle.session_table.specs.declared.inputs.Input.TheVariants as input
-use Rattle.session_table.specs.Table.{SessionStep, beside, held_row, idle, table}
+use Rattle.session_table.specs.Table.{beside, held_row, idle, table}
 use Rattle.session_table.specs.Views.{View, serves_lines}
 use Rattle.control_session.specs.Sides.{Given, given_of}
 use Rattle.rate_floors.specs.Promises.{Promises}

@@ -1,16 +1,15 @@
 -- What one thing that a session does is, as moves.
-use Rattle.std.proofs.Common.{ℕ, ◌≡◌, ◌≢◌, ◌⊎◌, ◌+◌, inl, inr, List, [], ◌∷◌, ◌++◌, Bool, true, false, ◌||◌, Option, Some, None, OnOk, Result, refl, sym, ap, subst, append_assoc, ◌∙◌}
-use Rattle.std.proofs.lemmas.List.{append-nil}
+use Rattle.std.proofs.Common.{ℕ, ◌≡◌, ◌≢◌, ◌⊎◌, ◌+◌, inl, inr, List, [], ◌∷◌, ◌++◌, Bool, true, false, ◌||◌, Option, Some, None, refl, sym, ap, subst, append_assoc, ◌∙◌}
 use Rattle.control_session.specs.Sides.{Given, event_in, given_of}
 use Rattle.control_session.specs.Sides.Given.{Line, Held, Came, Closed}
 use Rattle.control_session.specs.Sides.SideCall.{Looks, Settles}
 use Rattle.control_session.specs.Told.{closes}
 use Rattle.ftp_wire.specs.Items.{Item}
 use Rattle.rate_floors.specs.Promises.{Promises}
-use Rattle.session_core.specs.Events.{input_of, leaving_by}
+use Rattle.session_core.specs.Events.{input_of}
 use Rattle.session_core.specs.declared.events.DataEvent.{DataEvent}
 use Rattle.session_core.specs.declared.events.DataEvent.TheVariants.{Ready, Ended}
-use Rattle.session_events.specs.Leaving.{leaving_actions}
+use Rattle.session_events.specs.Leaving.{leaving_actions, leaving_by}
 use Rattle.session_events.specs.declared.closing.Leaving.{Leaving}
 use Rattle.session_events.specs.declared.closing.LoggedOut.{LoggedOut}
 use Rattle.session_table.specs.Laws.{releases}
@@ -22,13 +21,12 @@ use Rattle.session_table.specs.declared.inputs.Input.TheVariants as input
 use Rattle.control_session.specs.declared.turn_fault.TurnFault.{TurnFault}
 use Rattle.control_session.specs.declared.turn_fault.TurnFault.TheVariants.{Memory}
 use Rattle.control_session.specs.Calls.{Chain, HostCall}
-use Rattle.control_session.specs.Calls.HostCall.{Lent, Tried, Read, ReadEnd, ReadFailed, Asked, Released}
+use Rattle.control_session.specs.Calls.HostCall.{Tried, Read, ReadEnd, ReadFailed, Asked, Released}
 use Rattle.control_session.specs.Rows.{Outcome}
-use Rattle.control_session.specs.Rows.Outcome.{Stopped}
 use Rattle.control_session.specs.Standing.{owed, owed_in}
-use Rattle.control_session.specs.Turns.{Carried, Carries, Heard, IsIdle, Move, Next, Runs, Situation, StepTried, Stepped, Went, asked_as, at, behind, due, release_calls}
+use Rattle.control_session.specs.Turns.{Carries, Heard, IsIdle, Next, Situation, StepTried, Stepped, Went, asked_as, at, behind, release_calls}
 use Rattle.control_session.specs.Turns.Move.{Takes, Tries, Asks, Reads, Ends, Fails, Pays}
-use Rattle.control_session.proofs.Going.{chain_more, chain_one, or_false, went_more, went_none, went_one}
+use Rattle.control_session.proofs.Going.{chain_one, or_false, went_more, went_none, went_one}
 
 -- actions, and then others
 pub carries_both : {A S R K : Type 0} (xs ys : List (Action A R K)) (before mid after : Option TurnFault) (first rest : List (HostCall A S R K))

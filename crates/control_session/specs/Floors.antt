@@ -1,5 +1,5 @@
 -- The effect of a session on a host that has its floors to itself.
-use Rattle.std.specs.Prelude.{ℕ, ◌≡◌}
+use Rattle.std.specs.Prelude.{◌≡◌}
 use Rattle.rate_floors.specs.Promises.{Promises, after_release}
 use Rattle.control_session.specs.Calls.{HostCall}
 use Rattle.control_session.specs.Calls.HostCall.{Lent, Released}

@@ -3,10 +3,9 @@ use Rattle.std.specs.Prelude.{ℕ, ◌≡◌, List}
 use Rattle.authorizer.specs.Users.{Users}
 use Rattle.control_session.specs.Sides.{Given, given_of}
 use Rattle.rate_floors.specs.Promises.{Promises}
-use Rattle.session_table.specs.Steps.{SessionStops, Standing}
+use Rattle.session_table.specs.Steps.{SessionStep, SessionStops, Standing}
 use Rattle.session_table.specs.declared.actions.Action.{Action}
 use Rattle.session_table.specs.declared.inputs.Input.{Input}
-use Rattle.session_table.specs.Table.{SessionStep}
 use Rattle.virtual_tree.specs.Calls.{Exchange}
 
 -- the result of a step: the floors, the session and its actions; or memory ran out for it

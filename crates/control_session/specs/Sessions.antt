@@ -1,5 +1,5 @@
 -- A whole control session, from its greeting to its close, however it ends.
-use Rattle.std.specs.Prelude.{ℕ, ◌≡◌, ◌⊎◌, ◌≤◌, List, [], ◌++◌, Bool, false, true, Option, Some, None, Result, Err, IfErr, OnOk, OnErr, IsErrOf}
+use Rattle.std.specs.Prelude.{ℕ, ◌≡◌, ◌⊎◌, ◌≤◌, List, [], ◌++◌, false, true, Option, Some, None, Result, IfErr, OnOk, OnErr, IsErrOf}
 use Rattle.control_session.specs.Sides.{Given}
 use Rattle.ftp_wire.specs.Reading.{OnlyReadsAs}
 use Rattle.rate_floors.specs.Promises.{Promises}

@@ -1,5 +1,5 @@
 -- The situation of a control session, from the values that it owns.
-use Rattle.std.specs.Prelude.{ℕ, ◌≡◌, ◌⊎◌, List, [], ◌∷◌, Bool, true, Option, Some, None}
+use Rattle.std.specs.Prelude.{ℕ, ◌≡◌, List, [], ◌∷◌, true, Option, Some, None}
 use Rattle.control_session.specs.Sides.{Given}
 use Rattle.control_session.specs.Sides.SideCall.{Settles}
 use Rattle.ftp_wire.specs.Items.{Item}
@@ -8,7 +8,6 @@ use Rattle.session_core.specs.declared.events.DataEvent.{DataEvent}
 use Rattle.session_events.specs.declared.closing.Leaving.{Leaving}
 use Rattle.session_events.specs.declared.closing.LoggedOut.{LoggedOut}
 use Rattle.session_table.specs.Steps.{Standing}
-use Rattle.session_table.specs.declared.actions.Action.{Action}
 use Rattle.session_table.specs.Views.{is_closed}
 use Rattle.control_session.specs.Calls.{HostCall}
 use Rattle.control_session.specs.Calls.HostCall.{Asked}

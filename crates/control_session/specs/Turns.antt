@@ -1,6 +1,6 @@
 -- The moves of a control session, one after another, with the calls of the host for each.
 use Rattle.std.specs.Prelude.{ℕ, ◌≡◌, ◌⊎◌, ◌+◌, ◌<◌, ◌≤◌, ◌||◌, List, [], ◌∷◌, ◌++◌, Bool, false, true, length, map, Option, Some, None}
-use Rattle.control_session.specs.Sides.{Given, SideCall}
+use Rattle.control_session.specs.Sides.{Given}
 use Rattle.control_session.specs.Sides.Given.{Line, Held, Came, Closed}
 use Rattle.control_session.specs.Sides.SideCall.{Opens, Connects, Drops, Starts, Aborts, Looks, Settles}
 use Rattle.control_session.specs.Told.{closes}

@@ -7,8 +7,7 @@ ghost use Rattle.control_session.specs.Standing.{Closing, owed, owed_by, owed_in
 ghost use Rattle.control_session.specs.Turns.{Carries, Heard, Went, asked_as, at, release_calls};
 ghost use Rattle.control_session.specs.declared.turn_fault.TurnFault.{TurnFault};
 ghost use Rattle.ftp_wire.specs.Items.{Item};
-ghost use Rattle.session_core.specs.Events.{leaving_by};
-ghost use Rattle.session_events.specs.Leaving.{abort_actions, logout_actions};
+ghost use Rattle.session_events.specs.Leaving.{abort_actions, leaving_by, logout_actions};
 ghost use Rattle.session_table.specs.Views.{is_closed};
 
 use crate::host::Host;

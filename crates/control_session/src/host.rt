@@ -9,7 +9,7 @@ ghost use Rattle.control_session.specs.Sides.{event_in, given_of};
 ghost use Rattle.control_session.specs.Sides.Given.{Came, Closed};
 ghost use Rattle.control_session.specs.Sides.SideCall.{Aborts, Connects, Drops, Looks, Opens, Settles, Starts};
 ghost use Rattle.handler_hooks.specs.Events.{event_of};
-ghost use Rattle.session_core.specs.Events.{leaving_by};
+ghost use Rattle.session_events.specs.Leaving.{leaving_by};
 ghost use Rattle.session_table.specs.Views.{is_closed};
 
 use authorizer::Authorizer;

@@ -4,7 +4,7 @@ ghost use Rattle.std.specs.Prelude.{◌≡◌, IfErr, IfOk, IfSome, OnErr, Some,
 ghost use Rattle.control_session.specs.Rows.{IsMade, IsStopped};
 ghost use Rattle.control_session.specs.Sides.{event_in, given_of};
 ghost use Rattle.control_session.specs.Sides.Given.{Came, Closed};
-ghost use Rattle.session_core.specs.Events.{leaving_by};
+ghost use Rattle.session_events.specs.Leaving.{leaving_by};
 ghost use Rattle.session_table.specs.Views.{is_closed};
 
 use authorizer::Authorizer;

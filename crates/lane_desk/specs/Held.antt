@@ -1,9 +1,8 @@
 -- The slots that the round's seat has: those of the marked lanes, the greatest lane first.
-use Rattle.std.specs.Prelude.{◌≡◌, ℕ, zero, suc, ◌+◌, ◌<◌, ◌≤◌, List, [], ◌∷◌, ◌++◌, length, slice_index_or, cond, Bool, true, false, nat_eq}
+use Rattle.std.specs.Prelude.{◌≡◌, ℕ, zero, suc, ◌+◌, ◌<◌, ◌≤◌, List, [], ◌∷◌, ◌++◌, length, slice_index_or, cond, Bool, false, nat_eq}
 use Rattle.atomic_table.specs.Table.{Me}
 use Rattle.desk_rule.specs.declared.view.LaneSlot.{LaneSlot}
 use Rattle.desk_rule.specs.declared.view.LaneSlot.TheVariants.{Blank}
-use Rattle.desk_rule.specs.declared.view.LaneView.{LaneView}
 use Rattle.desk_rule.specs.declared.view.TurnView.{TurnView}
 use Rattle.desk_rule.specs.declared.view.RoundView.{RoundView}
 use Rattle.desk_rule.specs.declared.view.DeskView.{DeskView}

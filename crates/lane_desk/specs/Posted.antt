@@ -1,5 +1,5 @@
 -- Posting amounts on lanes.
-use Rattle.std.specs.Prelude.{◌≡◌, ◌≢◌, ℕ, ◌<◌, List, [], ◌∷◌, length, map, slice_index_or, slice_set, true, ⊤}
+use Rattle.std.specs.Prelude.{◌≡◌, ℕ, ◌<◌, List, [], ◌∷◌, length, slice_index_or, slice_set, true, ⊤}
 use Rattle.line_rates.specs.TickTree.{Asker}
 use Rattle.grant_ledger.specs.Books.{NamesNot}
 use Rattle.desk_rule.specs.declared.view.TurnView.{TurnView}

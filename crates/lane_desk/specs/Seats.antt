@@ -1,5 +1,5 @@
 -- Names for callers of what the seats know.
-use Rattle.std.specs.Prelude.{◌≡◌, ℕ, ◌<◌, ◌≤◌, List, [], ◌∷◌}
+use Rattle.std.specs.Prelude.{◌≡◌, ◌<◌}
 use Rattle.atomic_table.specs.Seated.{TableId}
 use Rattle.desk_rule.specs.declared.view.LaneView.{LaneView}
 use Rattle.desk_rule.specs.Lanes.{lane_in}

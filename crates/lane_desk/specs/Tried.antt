@@ -1,5 +1,5 @@
 -- Trying each lane once.
-use Rattle.std.specs.Prelude.{◌≡◌, ℕ, ◌+◌, List, [], ◌∷◌, length, cond, is_some, slice_index_or, Option, Some, None}
+use Rattle.std.specs.Prelude.{◌≡◌, ℕ, ◌+◌, List, [], ◌∷◌, length, slice_index_or, Option, Some, None}
 use Rattle.std.specs.Int.{bit_at}
 use Rattle.line_rates.specs.declared.ask.Ask.{Ask}
 use Rattle.line_rates.specs.TickTree.{Asker}

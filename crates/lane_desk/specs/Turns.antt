@@ -1,5 +1,5 @@
 -- Names for callers of what the round's seat knows.
-use Rattle.std.specs.Prelude.{◌≡◌, ℕ, ◌<◌, List}
+use Rattle.std.specs.Prelude.{◌≡◌, List}
 use Rattle.desk_rule.specs.declared.view.LaneView.{LaneView}
 use Rattle.desk_rule.specs.declared.view.TurnView.{TurnView}
 use Rattle.lane_desk.specs.declared.desk.Desk.{Desk}

@@ -1,5 +1,5 @@
 -- The end that a lane reports to a session for a job.
-use Rattle.std.specs.Prelude.{◌≡◌, Option, Some, None}
+use Rattle.std.specs.Prelude.{Option, Some, None}
 use Rattle.session_table.specs.declared.inputs.End.{End}
 use Rattle.session_table.specs.declared.inputs.End.TheVariants.{Done, Lost, Local, NoMemory, Aborted}
 use Rattle.transfer_worker.specs.declared.end.JobEnd.{JobEnd}

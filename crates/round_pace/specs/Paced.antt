@@ -7,7 +7,7 @@ use Rattle.std.specs.Option.{is_some}
 use Rattle.line_rates.specs.declared.row.GroupRate.{GroupRate}
 use Rattle.line_rates.specs.declared.row.UserRate.{UserRate}
 use Rattle.line_rates.specs.Rates.{Rates, rates_code, user_code}
-use Rattle.line_rates.specs.Stated.{by_number, group_number, user_number, stated, IsRising, FitsUser}
+use Rattle.line_rates.specs.Stated.{by_number, group_number, user_number, IsRising, FitsUser}
 use Rattle.round_pace.specs.declared.credit.Credit.{Credit}
 use Rattle.round_pace.specs.declared.paced.GroupPace.{GroupPace}
 use Rattle.round_pace.specs.declared.paced.UserPace.{UserPace}

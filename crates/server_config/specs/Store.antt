@@ -1,6 +1,6 @@
 -- The served store: a folder, or the store in memory after the calls that make the directories and
 -- files of the tables, one after another.
-use Rattle.std.specs.Prelude.{◌≡◌, ◌≢◌, ◌<◌, ◌≤◌, ◌⊎◌, ℕ, ◌*◌, List, [], ◌∷◌, take, slice_get, Some, None, Ok, Err, codes}
+use Rattle.std.specs.Prelude.{◌≡◌, ◌≢◌, ◌<◌, ◌≤◌, ◌⊎◌, ℕ, ◌*◌, List, [], ◌∷◌, take, slice_get, Some, Ok, Err, codes}
 use Rattle.std.specs.FinMap as map
 use Rattle.std.specs.String.{string_bytes}
 use Rattle.memory_terms.specs.Lack.{Unless}

@@ -16,9 +16,9 @@ use Rattle.session_table.specs.declared.inputs.Input.TheVariants as input
 use Rattle.session_table.specs.declared.stages.Stage.TheVariants as stage
 use Rattle.session_table.specs.Plans.{RanByStore}
 use Rattle.session_table.specs.Plans.Plan.{Then}
-use Rattle.session_table.specs.Table.{SessionStep, aborts, beside, closed_row, ended_row, idle, ready_row}
+use Rattle.session_table.specs.Steps.{SessionStep}
+use Rattle.session_table.specs.Table.{aborts, beside, closed_at, closed_row, ended_row, idle, ready_at, ready_row}
 use Rattle.session_table.specs.Views.{View, is_closed, is_closing, is_inside, runs}
-use Rattle.session_core.specs.Turns.{closed_at, ready_at}
 use Rattle.session_core.proofs.Plans.{ran_then, step_by}
 
 module _ {S A R K : Type 0} (Step : S → Exchange R K → S → Type 0) (users : Users) (promises : Promises) (view after : View) (held : List Item) (moment : ℕ) where

@@ -1,5 +1,5 @@
 -- Plans: what is known of one that is run, or stopped, and of one with a change behind it.
-use Rattle.std.proofs.Common.{◌≡◌, ◌∙◌, ℕ, Bool, List, OnErr, OnOk, Result, Ok, Err, refl, sym, ap, subst, inl, inr}
+use Rattle.std.proofs.Common.{◌≡◌, ◌∙◌, ℕ, List, OnErr, Result, Ok, Err, refl, sym, ap, subst, inl, inr}
 use Rattle.virtual_tree.specs.Calls.{Exchange}
 use Rattle.session_table.specs.declared.actions.Action.{Action}
 use Rattle.session_table.specs.Plans.{Plan, Ran, RanByFloors, Stops}
@@ -8,8 +8,8 @@ use Rattle.authorizer.specs.Users.{Users}
 use Rattle.rate_floors.specs.Promises.{Promises, admits, after_admit}
 use Rattle.ftp_wire.specs.Items.{Item}
 use Rattle.session_table.specs.declared.inputs.Input.{Input}
-use Rattle.session_table.specs.Steps.{SessionStops, Standing, Took}
-use Rattle.session_table.specs.Table.{SessionStep, Taken, table, then_left}
+use Rattle.session_table.specs.Steps.{SessionStep, SessionStops, Standing, Took}
+use Rattle.session_table.specs.Table.{Taken, table, then_left}
 use Rattle.session_table.specs.Views.{View}
 
 -- a plan that asks for nothing was run, whatever the store is and whatever is promised

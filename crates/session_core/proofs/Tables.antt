@@ -1,17 +1,15 @@
 -- The table at each input.
-use Rattle.std.proofs.Common.{◌≡◌, ℕ, ◌<◌, Bool, true, false, cond, ◌&&◌, List, [], ◌∷◌, ◌++◌, length, Ok, Err, refl, ap, ◌∙◌, arith, nat_lt}
+use Rattle.std.proofs.Common.{◌≡◌, ℕ, ◌<◌, Bool, true, false, cond, ◌&&◌, List, [], ◌∷◌, ◌++◌, length, refl, ap, ◌∙◌, arith, nat_lt}
 use Rattle.std.proofs.lemmas.Bool.{false≢true, lt-ltb, true≢false}
 use Rattle.authorizer.specs.Users.{Users}
 use Rattle.ftp_wire.specs.Items.{Item}
 use Rattle.ftp_wire.specs.Reading.{item_of}
 use Rattle.ftp_wire.specs.declared.items.LineItem.{LineItem}
-use Rattle.session_core.specs.Rows.{meanwhile_of}
-use Rattle.session_core.specs.Turns.{gives_up}
 use Rattle.session_table.specs.declared.rules.Meanwhile.{Meanwhile}
-use Rattle.session_table.specs.declared.inputs.Input.{Input}
 use Rattle.session_table.specs.declared.inputs.Input.TheVariants as input
+use Rattle.session_table.specs.Rules.{meanwhile_of}
 use Rattle.session_table.specs.Steps.{holds_some, is_due}
-use Rattle.session_table.specs.Table.{Taken, beside, held_row, holds, idle, in_turn, line_row, meanwhile, meanwhile_as, most_held, served, table}
+use Rattle.session_table.specs.Table.{Taken, beside, gives_up, held_row, holds, idle, in_turn, line_row, meanwhile, meanwhile_as, most_held, served, table}
 use Rattle.session_table.specs.Views.{View, counts_lines, is_busy, serves_lines}
 
 module _ {A R K : Type 0} (users : Users) (view : View) (held : List Item) (moment : ℕ) where
@@ -20,12 +18,8 @@ module _ {A R K : Type 0} (users : Users) (view : View) (held : List Item) (mome
   at_shut_line item shut = ap (λ (b : Bool). cond b (line_row users view held moment (item_of item)) (beside held (idle view))) shut
 
   -- a line while something has begun, by what becomes of it
-  pub meanwhile_is : (item : Item) → meanwhile {A = A} {R = R} {K = K} users view held moment item ≡ meanwhile_as view held item (served users view moment item) (meanwhile_of item)
-  meanwhile_is (Err why) = refl
-  meanwhile_is (Ok line) = refl
-
   pub meanwhile_at : (item : Item) (m : Meanwhile) → meanwhile_of item ≡ m → meanwhile {A = A} {R = R} {K = K} users view held moment item ≡ meanwhile_as view held item (served users view moment item) m
-  meanwhile_at item m is = meanwhile_is item ∙ ap (meanwhile_as view held item (served users view moment item)) is
+  meanwhile_at item m is = ap (meanwhile_as view held item (served users view moment item)) is
 
   -- a line, while something has begun and while nothing has
   counted : (item : LineItem A) → counts_lines view ≡ true → table {R = R} {K = K} users view held moment (input.Line item) ≡ line_row users view held moment (item_of item)

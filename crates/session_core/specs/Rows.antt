@@ -1,14 +1,9 @@
--- Rules whose texts are borrowed, and the fate of a line.
-use Rattle.std.specs.Prelude.{Ok, Err}
-use Rattle.ftp_wire.specs.Items.{Item}
+-- Rules whose texts are borrowed.
 use Rattle.session_table.specs.declared.rules.LoginRow.{LoginRow}
 use Rattle.session_table.specs.declared.rules.LoginRow.TheVariants as login
-use Rattle.session_table.specs.declared.rules.Meanwhile.{Meanwhile}
-use Rattle.session_table.specs.declared.rules.Meanwhile.TheVariants.{Waits}
 use Rattle.session_table.specs.declared.rules.NamedRow.{NamedRow}
 use Rattle.session_table.specs.declared.rules.NamedRow.TheVariants as row
 use Rattle.session_table.specs.declared.rules.Rule.{Rule}
-use Rattle.session_table.specs.Rules.{rule}
 
 -- a row, and a rule, with each text by a function
 module _ {X Y : Type 0} (f : X → Y) where
@@ -26,8 +21,3 @@ module _ {X Y : Type 0} (f : X → Y) where
 
   abbrev pub rule_by : Rule X → Rule Y
   rule_by given = record { conditions = given.conditions; row = row_by given.row }
-
--- the fate of a line while a transfer runs or a passive port is awaited
-abbrev pub meanwhile_of : Item → Meanwhile
-meanwhile_of (Err why) = Waits
-meanwhile_of (Ok line) = (rule line).conditions.meanwhile

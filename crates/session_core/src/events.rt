@@ -3,7 +3,8 @@
 ghost use Rattle.std.specs.Prelude.{◌≡◌, ℕ, [], IfErr, IfOk, IsErr, Ok, OnErr, true};
 ghost use Rattle.authorizer.specs.Users.{Users};
 ghost use Rattle.rate_floors.specs.Promises.{Promises};
-ghost use Rattle.session_core.specs.Events.{input_of, leaving_by};
+ghost use Rattle.session_core.specs.Events.{input_of};
+ghost use Rattle.session_events.specs.Leaving.{leaving_by};
 ghost use Rattle.session_table.specs.declared.inputs.Input.TheVariants.{Closed};
 
 use crate::session::Session;
@@ -50,7 +51,7 @@ pub(crate) fn lacking<T, K: Drop>(answer: Result<T, DataEvent<K>>) -> Result<T, 
 }
 
 impl<A: Allocator + Clone> Session<A> {
-    ghost use Rattle.session_table.specs.Table.{SessionStep};
+    ghost use Rattle.session_table.specs.Steps.{SessionStep};
     ghost use Rattle.session_table.specs.Views.{is_closed};
 
     /// The end of a transfer.

@@ -5,7 +5,7 @@ ghost use Rattle.session_core.specs.Rows.{login_by, row_by};
 ghost use Rattle.session_table.specs.Judged.{judged_at, located};
 ghost use Rattle.session_table.specs.Plans.{Ran, RanByFloors, RanByStore, Stops};
 ghost use Rattle.session_table.specs.Plans.Plan.{Then};
-ghost use Rattle.session_table.specs.Rows.{at_found, file_row, login_row, row_plan, state_row};
+ghost use Rattle.session_table.specs.Rules.{at_found, file_row, login_row, row_plan, state_row};
 
 use crate::order::judge;
 use authorizer::Authorizer;

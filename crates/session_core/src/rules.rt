@@ -4,8 +4,8 @@ ghost use Rattle.std.specs.Prelude.{◌≡◌, [], option_map, unwrap_or};
 ghost use Rattle.std.specs.String.{string_bytes};
 ghost use Rattle.ftp_wire.specs.Commands.{with_texts};
 ghost use Rattle.ftp_wire.specs.Reading.{item_of};
-ghost use Rattle.session_core.specs.Rows.{meanwhile_of, rule_by};
-ghost use Rattle.session_table.specs.Rules.{rule};
+ghost use Rattle.session_core.specs.Rows.{rule_by};
+ghost use Rattle.session_table.specs.Rules.{meanwhile_of, rule};
 ghost use Rattle.session_table.specs.Steps.{is_pass};
 
 use ftp_terms::Letter;

@@ -1,7 +1,6 @@
 //! A session, and its held lines.
 
 ghost use Rattle.std.specs.Prelude.{◌≡◌, [], ◌∷◌, ◌++◌, IfOk, OnErr};
-ghost use Rattle.session_core.specs.Turns.{IsTaken, closed_at, gives_up, ready_at};
 ghost use Rattle.session_table.specs.declared.inputs.Input.TheVariants.{Held, Line};
 
 use crate::events::lacking;
@@ -42,8 +41,8 @@ impl<A: Allocator + Clone> Session<A> {
     ghost use Rattle.session_table.specs.Plans.{Stops};
     ghost use Rattle.session_table.specs.Plans.Plan.{Then};
     ghost use Rattle.session_table.specs.StateRows.{greeting};
-    ghost use Rattle.session_table.specs.Steps.{SessionStops, Took, asks_floors, is_due};
-    ghost use Rattle.session_table.specs.Table.{SessionStep, holds, idle, meanwhile};
+    ghost use Rattle.session_table.specs.Steps.{IsTaken, SessionStep, SessionStops, Took, asks_floors, is_due};
+    ghost use Rattle.session_table.specs.Table.{closed_at, gives_up, holds, idle, meanwhile, ready_at};
     ghost use Rattle.session_table.specs.Views.{counts_lines, fresh, is_closed};
 
     /// A new session of a client at this address.

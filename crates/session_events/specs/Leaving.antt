@@ -1,5 +1,5 @@
 -- The actions that are left at the end of the control connection.
-use Rattle.std.specs.Prelude.{ℕ, Bool, cond, List, [], ◌∷◌, ◌++◌, Option, Some, None}
+use Rattle.std.specs.Prelude.{Bool, cond, List, [], ◌∷◌, ◌++◌, Option, Some, None}
 use Rattle.session_events.specs.declared.closing.Leaving.{Leaving}
 use Rattle.session_events.specs.declared.closing.LoggedOut.{LoggedOut}
 use Rattle.session_table.specs.declared.actions.Action.{Action}
@@ -25,3 +25,8 @@ module _ {A R K : Type 0} where
   abbrev pub leaving_actions : Leaving A → List (Action A R K)
   leaving_actions leaving =
       abort_actions leaving.aborts ++ logout_actions leaving.left ++ (Hook Disconnect ∷ [])
+
+  -- none if it had ended before
+  abbrev pub leaving_by : Option (Leaving A) → List (Action A R K)
+  leaving_by None = []
+  leaving_by (Some leaving) = leaving_actions leaving

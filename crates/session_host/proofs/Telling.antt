@@ -32,7 +32,7 @@ use Rattle.control_session.proofs.Going.{concat_more}
 use Rattle.control_session.specs.declared.turn_fault.TurnFault.{TurnFault}
 use Rattle.control_session.specs.declared.turn_fault.TurnFault.TheVariants.{Write, Memory}
 use Rattle.session_host.specs.Alone.{AloneDoes, Parts}
-use Rattle.session_host.specs.Told.{Act, Acts, Follows, IsEndToEnd, IsTold, IsTurned, Scene, Serves, released, still_asked}
+use Rattle.session_host.specs.Told.{Act, Acts, IsEndToEnd, IsTold, IsTurned, Scene, Serves, released, situated}
 use Rattle.session_host.specs.Told.Act.{Turns, Hears, Listens, Frees, Lacks}
 
 -- ---- octets that are known
@@ -106,11 +106,18 @@ stopped_cut None = ([], refl)
 stopped_cut (Some fault) = refl
 
 -- a line changes nothing else in what was heard
-behind_as : {K : Type 0} (given : Given K) (heard : Heard) → behind given heard ≡ asked_as (still_asked given heard.asked) heard
+behind_as : {K : Type 0} (given : Given K) (heard : Heard) → behind given heard ≡ asked_as (behind given heard).asked heard
 behind_as (Line item) heard = refl
 behind_as Held heard = refl
 behind_as (Came event) heard = refl
 behind_as Closed heard = refl
+
+-- whether the data side was asked, of two that were heard alike in this
+behind_asked : {K : Type 0} (given : Given K) (heard other : Heard) → heard.asked ≡ other.asked → (behind given heard).asked ≡ (behind given other).asked
+behind_asked (Line item) heard other is = refl
+behind_asked Held heard other is = refl
+behind_asked (Came event) heard other is = is
+behind_asked Closed heard other is = is
 
 module _ {A D H Q K : Type 0} (Asks' : D → SideCall A Q K → D → Type 0) (Told : H → Event → H → Type 0) where
   -- what one action makes of the data side and of the handler
@@ -312,7 +319,7 @@ module _ {A S C D R W H Q K : Type 0} (Gives : C → ℕ → C → Type 0) (Asks
     Doing = Act Row Gives Asks' Told
 
     follows_next : (items later : List Item) (now : Situation K) (host : Parts S C D R W H) (given : Given K) (came : Option (DataEvent K)) (taken : List Item)
-        → items ≡ now.heard.items ++ later → Next now given came taken → Follows items (scene_of now host) given came taken
+        → items ≡ now.heard.items ++ later → Next now given came taken → Next (situated items (scene_of now host)) given came taken
     follows_next items later now host (Came event) came taken is next = next
     follows_next items later now host Held came taken is next = next
     follows_next items later now host (Line item) came taken is (idle, live, (rest, heard), gone, more) =
@@ -361,7 +368,7 @@ module _ {A S C D R W H Q K : Type 0} (Gives : C → ℕ → C → Type 0) (Asks
           paid = turn.paid;
           next = follows_next items later before old turn.given after.came after.taken is turn.next;
           gives = subst (λ (c : C). Gives old.clock turn.moment c) (sym clocks) did.gives;
-          asked = ap (λ (x : Heard). x.asked) (turn.heard ∙ behind_as turn.given before.heard);
+          asked = ap (λ (x : Heard). x.asked) turn.heard ∙ behind_asked turn.given before.heard (situated items (scene_of before old)).heard refl;
           row = subst (λ (s : S). Row before.session turn.given turn.moment old.store s old.promises (Made turn.promises' after.session turn.actions)) (sym stores)
               (subst (λ (s : S). Row before.session turn.given turn.moment s turn.store' old.promises (Made turn.promises' after.session turn.actions)) did.store_lent
               (subst (λ (p : Promises). Row before.session turn.given turn.moment turn.store turn.store' p (Made turn.promises' after.session turn.actions)) did.promises_lent turn.row));

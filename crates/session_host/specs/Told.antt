@@ -1,6 +1,6 @@
 -- A control session end to end: the octets written are the greeting and the replies of the session
 -- table, turn by turn, to the lines that were read.
-use Rattle.std.specs.Prelude.{ℕ, ◌≡◌, ◌⊎◌, ◌||◌, List, [], ◌∷◌, ◌++◌, Bool, false, true, Option, Some, None, Result, OnOk, OnErr, IsErrOf}
+use Rattle.std.specs.Prelude.{ℕ, ◌≡◌, ◌⊎◌, ◌||◌, List, [], ◌∷◌, ◌++◌, Bool, false, true, Option, None, Result, OnOk, OnErr, IsErrOf}
 use Rattle.std.specs.Io.KnownBytes.{Appends, Consumes, IsAtEnd}
 use Rattle.ftp_wire.specs.Items.{Item}
 use Rattle.ftp_wire.specs.Reading.{OnlyReadsAs}
@@ -15,12 +15,12 @@ use Rattle.session_table.specs.Views.{is_closed}
 use Rattle.session_table.specs.declared.actions.Action.{Action}
 use Rattle.session_table.specs.declared.actions.Action.TheVariants.{Say, Hook, OpenPassive, ConnectTo, DropData, Start, Abort, CloseControl, ReleaseFloor}
 use Rattle.control_session.specs.Sides.{Given, SideCall}
-use Rattle.control_session.specs.Sides.Given.{Line, Held, Came, Closed}
 use Rattle.control_session.specs.Sides.SideCall.{Opens, Connects, Drops, Starts, Aborts, Looks, Settles}
 use Rattle.control_session.specs.Told.{closes, texts}
 use Rattle.control_session.specs.Rows.{Outcome}
 use Rattle.control_session.specs.Rows.Outcome.{Made, Stopped}
-use Rattle.control_session.specs.Turns.{concat, due}
+use Rattle.control_session.specs.Sessions.{nothing}
+use Rattle.control_session.specs.Turns.{IsIdle, Next, Situation, at, behind, concat}
 use Rattle.control_session.specs.declared.fault.ControlFault.{ControlFault}
 use Rattle.control_session.specs.declared.fault.ControlFault.TheVariants.{Memory}
 use Rattle.session_host.specs.Alone.{Parts}
@@ -49,31 +49,11 @@ abbrev pub released : List ℕ → Promises → Promises
 released [] promises = promises
 released (user ∷ users) promises = released users (after_release promises user)
 
--- nothing is left to do: the data side was asked, its event was taken, and no held line is due
-abbrev pub Rests : {S C D H K : Type 0} → Scene S C D H K → Type 0
-Rests now = (now.came ≡ None) × (now.asked ≡ true) × (due now.session ≡ false)
-
--- a line may call the data side, which is then to be asked for an event
-abbrev pub still_asked : {K : Type 0} → Given K → Bool → Bool
-still_asked (Line item) asked = false
-still_asked Held asked = false
-still_asked (Came event) asked = asked
-still_asked Closed asked = asked
-
--- The inputs that may come next among these lines, each with the event that is then left and the
--- lines taken by then: the event of the data side; a held line that is due, if the data side was
--- asked and had no event; the next line, if nothing is left to do; Closed at any time.
-abbrev pub Follows : {S C D H K : Type 0} → List Item → Scene S C D H K → Given K
-    → Option (DataEvent K) → List Item → Type 0
-Follows items now (Came event) came taken =
-    (now.came ≡ Some event) × (came ≡ None) × (taken ≡ now.taken)
-Follows items now Held came taken =
-    (now.came ≡ None) × (now.asked ≡ true) × (due now.session ≡ true) × (came ≡ None)
-    × (taken ≡ now.taken)
-Follows items now (Line item) came taken = Rests now × (now.closed ≡ false)
-    × ((rest : List Item) × (items ≡ now.taken ++ item ∷ rest)) × (came ≡ None)
-    × (taken ≡ now.taken ++ item ∷ [])
-Follows items now Closed came taken = (came ≡ now.came) × (taken ≡ now.taken)
+-- the situation of the control session in a scene, if these lines were heard
+abbrev pub situated : {S C D H K : Type 0} → List Item → Scene S C D H K → Situation K
+situated items now =
+    at now.session now.came now.taken (record nothing { items = items; asked = now.asked })
+    now.owed now.closed None
 
 -- Asks is the effect of a call on the data side, and Told that of a call on the handler.
 module _ {A D H Q K : Type 0} (Asks : D → SideCall A Q K → D → Type 0)
@@ -112,9 +92,9 @@ module _ {A S C D H Q K : Type 0}
     pub promises : Promises
     pub actions : List (Action A Q K)
     pub paid : List ℕ
-    pub next : Follows items before given after.came after.taken
+    pub next : Next (situated items before) given after.came after.taken
     pub gives : Gives before.clock moment after.clock
-    pub asked : after.asked ≡ still_asked given before.asked
+    pub asked : after.asked ≡ (behind given (situated items before).heard).asked
     pub row : Row before.session given moment before.store after.store before.promises
         (Made promises after.session actions)
     pub owes : releases actions ++ before.owed ≡ paid ++ after.owed
@@ -136,8 +116,8 @@ module _ {A S C D H Q K : Type 0}
         ⊎ ((is_closed before.session.view.stage ≡ true)
         × Asks before.side (Settles event) after.side) → says ≡ [] → Act items before says after
     -- something is read, or nothing has arrived yet: only if nothing is left to do
-    Listens : Rests before → before.closed ≡ false → after ≡ record before { asked = false }
-        → says ≡ [] → Act items before says after
+    Listens : IsIdle (situated items before) → before.closed ≡ false
+        → after ≡ record before { asked = false } → says ≡ [] → Act items before says after
     -- a floor that was owed is released
     Frees : (user : ℕ) (owed : List ℕ) → before.owed ≡ user ∷ owed
         → after ≡ record before { owed = owed; promises = after_release before.promises user }
@@ -145,7 +125,7 @@ module _ {A S C D H Q K : Type 0}
     -- there was no memory for the step of the next input: the floors are unchanged, and the store
     -- is as that row's looks, if any, left it
     Lacks : (given : Given K) (moment : ℕ) (came : Option (DataEvent K)) (taken : List Item)
-        → Follows items before given came taken → Gives before.clock moment after.clock
+        → Next (situated items before) given came taken → Gives before.clock moment after.clock
         → Row before.session given moment before.store after.store before.promises Stopped
         → after ≡ record before { lost = true; clock = after.clock; store = after.store }
         → says ≡ [] → Act items before says after

@@ -9,7 +9,7 @@ use Rattle.ftp_wire.specs.declared.commands.Command.TheVariants as command
 use Rattle.ftp_wire.specs.declared.items.LineItem.{LineItem}
 use Rattle.virtual_tree.specs.declared.fault.StoreFault.{StoreFault}
 use Rattle.session_table.specs.Always.{Always}
-use Rattle.session_table.specs.Laws.{AdmissionsAreRightful, CallsAreRightful, FewLinesAreHeld, FloorsAreReleasedOnce, NoCallsOutside, NoTransferUnprepared, OneThingIsAsked, OthersAskNoFloors, IsAllowedCall, IsAllowedFor, IsReturned, IsRightful, IsRightfulAdmission, Releases, asking, logged_in, most_asked, releases, starting}
+use Rattle.session_table.specs.Laws.{AdmissionsAreRightful, CallsAreRightful, FewLinesAreHeld, FloorsAreReleasedOnce, NoCallsOutside, NoTransferUnprepared, OneThingIsAsked, OthersAskNoFloors, IsAllowedAt, IsAllowedCall, IsAllowedFor, IsReturned, IsRightful, IsRightfulAdmission, Releases, asking, logged_in, most_asked, releases, starting}
 use Rattle.session_table.proofs.Keeping.{always_cond, always_taken, always_to}
 use Rattle.session_table.proofs.Rows.{CallFor, Fine, Quiet, UserFor, parting, quiet_then, served_fine, stays}
 use Rattle.session_table.specs.declared.actions.Action.{Action}
@@ -239,7 +239,7 @@ module _ (A R K : Type 0) where
 
 -- ---- calls while nobody is logged in
 
-allowed_inside : {K : Type 0} (users : Users) (view : View) (letter : Letter) (text : List ℕ) (call : Call K) → IsAllowedCall users view letter text call → is_inside view.stage ≡ true
+allowed_inside : {K : Type 0} (users : Users) (view : View) (letter : Letter) (text : List ℕ) (call : Call K) → IsAllowedCall (IsAllowedAt users view letter text) view.source call → is_inside view.stage ≡ true
 allowed_inside users view letter text (Call.Stat path) is = is.inside
 allowed_inside users view letter text (Call.Listing path) is = is.inside
 allowed_inside users view letter text (Call.OpenRead path offset) is = is.inside

@@ -5,7 +5,6 @@ use Rattle.authorizer.specs.Users.{Users, allowed}
 use Rattle.authorizer.specs.Changes.{is_password}
 use Rattle.ftp_terms.specs.declared.entries.EntryKind.{EntryKind}
 use Rattle.ftp_terms.specs.declared.entries.EntryKind.TheVariants as kind
-use Rattle.ftp_terms.specs.declared.entries.Meta.{Meta}
 use Rattle.ftp_terms.specs.declared.letters.Letter.{Letter}
 use Rattle.ftp_wire.specs.Items.{Item}
 use Rattle.ftp_wire.specs.declared.commands.Command.TheVariants as command
@@ -18,7 +17,6 @@ use Rattle.ftp_wire.specs.declared.commands.FeatureOption.TheVariants as option
 use Rattle.ftp_wire.specs.declared.commands.HostPort.{HostPort}
 use Rattle.virtual_path.specs.Path.{Path, joined, resolved}
 use Rattle.virtual_path.specs.declared.fault.PathFault.{PathFault}
-use Rattle.virtual_tree.specs.Calls.{Entry}
 use Rattle.virtual_tree.specs.declared.fault.StoreFault.{StoreFault}
 use Rattle.session_table.specs.Always.{Always}
 use Rattle.session_table.specs.Laws.{IsAllowedAt, IsAllowedCall, IsAllowedFor, Releases, asking, logged_in, release_by, releases, starting}
@@ -48,9 +46,9 @@ use Rattle.session_table.specs.Calls.Call.{Stat}
 use Rattle.session_table.specs.FileRows.{by_kind, cwd_row, dele_row, is_root, mdtm_row, mkd_row, rmd_row, rnfr_row, rnto_from, size_row, unless_fault}
 use Rattle.session_table.specs.Judged.{Location, at_location, at_once, first_refusal, from_home, home_of, judged_at, located, stored_at, unless_refused}
 use Rattle.session_table.specs.Plans.{Plan}
-use Rattle.session_table.specs.Plans.Plan.{Ask, AskAdmit}
+use Rattle.session_table.specs.Plans.Plan.{AskAdmit}
 use Rattle.session_table.specs.StateRows.{abor_row, enters, eprt_row, epsv_row, farewell, is_ascii, is_last_attempt, leaves, needs_image, number_of, opens, opts_row, pass_by, port_by, port_refusal, quit_row, refuses, rest_row, turned_away}
-use Rattle.session_table.specs.Rows.{at_found, file_row, login_row, row_plan, state_row}
+use Rattle.session_table.specs.Rules.{at_found, file_row, login_row, row_plan, state_row}
 use Rattle.session_table.specs.Rules.{Line, rule}
 use Rattle.session_table.specs.Table.{left, ruled, served, unless_refuses}
 use Rattle.session_table.specs.TransferRows.{appe_row, list_row, lists_directory, mlsd_row, mlst_row, retr_row, sends_lines, starts, stat_row, status_lines, stor_row}
@@ -101,7 +99,7 @@ module _ (A R K : Type 0) (users : Users) (view : View) (moment : ℕ) (U : ℕ 
   RowHas conditions (row.State what) = Always {R = R} {K = K} (λ call. ⊥) U E [] (state_row view what)
   RowHas conditions (row.At place) = (conditions.needs_login ≡ true)
       × ((location : Location) → IsAllowedAt users view place.letter place.text location.stored → (conditions.moves_data ≡ true → view.prepared ≡ true)
-      → Always (IsAllowedCall users view place.letter place.text) U E [] (file_row users view moment place.row location))
+      → Always (IsAllowedCall (IsAllowedAt users view place.letter place.text) view.source) U E [] (file_row users view moment place.row location))
 
   module _ (refusing : (why : Refusal) → E [] (record view { source = None }) (action.Say (answer.Refusal why) ∷ [])) where
     row_has : (conditions : Conditions) (row : NamedRow (List ℕ)) → (conditions.needs_login && not (is_inside view.stage)) ≡ false → RowHas conditions row
@@ -112,7 +110,7 @@ module _ (A R K : Type 0) (users : Users) (view : View) (moment : ℕ) (U : ℕ 
       where
         here : (location : Location) → located users view place.text ≡ Ok location → (why : Option Refusal)
             → first_refusal (at_location users view conditions place.letter location.path) ≡ why
-            → Always (IsAllowedCall users view place.letter place.text) U E [] (at_found view (file_row users view moment place.row) (unless_refused why (Ok location)))
+            → Always (IsAllowedCall (IsAllowedAt users view place.letter place.text) view.source) U E [] (at_found view (file_row users view moment place.row) (unless_refused why (Ok location)))
         here location is (Some why) refused = refusing why
         here location is None refused =
             let permitted = none_holds (not (allowed users view.name place.letter location.path)) refusal.NotPermitted _ refused in
@@ -127,7 +125,7 @@ module _ (A R K : Type 0) (users : Users) (view : View) (moment : ℕ) (U : ℕ 
             }) (from_and conditions.moves_data view.prepared ready.0)
 
         found : (known : Result Location PathFault) → located users view place.text ≡ known
-            → Always (IsAllowedCall users view place.letter place.text) U E [] (at_found view (file_row users view moment place.row) (judged_at users view conditions place.letter known))
+            → Always (IsAllowedCall (IsAllowedAt users view place.letter place.text) view.source) U E [] (at_found view (file_row users view moment place.row) (judged_at users view conditions place.letter known))
         found (Err fault) is = refusing (refusal.Path fault)
         found (Ok location) is = here location is (first_refusal (at_location users view conditions place.letter location.path)) refl
 
@@ -321,7 +319,7 @@ module _ (A R K : Type 0) where
 
   module _ (U : ℕ → Type 0) (users : Users) (view : View) (letter : Letter) (text : List ℕ) (location : Location) (allowed : IsAllowedAt users view letter text location.stored) where
     abbrev Calls : Call K → Type 0
-    Calls = IsAllowedCall users view letter text
+    Calls = IsAllowedCall (IsAllowedAt users view letter text) view.source
 
     abbrev Ends : List ℕ → View → List (Action A R K) → Type 0
     Ends = Fine view 1

@@ -69,10 +69,10 @@ module _ (A R K : Type 0) (users : Users) (view : View) where
 
     -- RNFR, where it is not refused
     rnfr_has : (text : List ℕ) → RowHas A R K users view moment U (EndOf text) (rule (command.Rnfr text)).conditions (rule (command.Rnfr text)).row
-    rnfr_has text = (refl, λ location allowed prepared. always_cond (IsAllowedCall users view Rename text) U (EndOf text) (is_root location.path) _ _ tt (allowed, by location allowed))
+    rnfr_has text = (refl, λ location allowed prepared. always_cond (IsAllowedCall (IsAllowedAt users view Rename text) view.source) U (EndOf text) (is_root location.path) _ _ tt (allowed, by location allowed))
       where
         by : (location : Location) → IsAllowedAt users view Rename text location.stored → (answer : Result Meta StoreFault)
-            → Always {A = A} {R = R} {K = K} (IsAllowedCall users view Rename text) U (EndOf text) [] (unless_fault view (λ meta. notes (record view { source = Some location.stored }) notice.SendRnto) answer)
+            → Always {A = A} {R = R} {K = K} (IsAllowedCall (IsAllowedAt users view Rename text) view.source) U (EndOf text) [] (unless_fault view (λ meta. notes (record view { source = Some location.stored }) notice.SendRnto) answer)
         by location allowed (Err why) = tt
         by location allowed (Ok meta) = allowed
 

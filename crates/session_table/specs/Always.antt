@@ -1,6 +1,6 @@
 -- Facts of each call that a plan makes, of each user for whom it asks admission, and of each of its
 -- ends.
-use Rattle.std.specs.Prelude.{ℕ, Bool, true, false, List, [], ◌∷◌}
+use Rattle.std.specs.Prelude.{ℕ, true, false, List, [], ◌∷◌}
 use Rattle.session_table.specs.declared.actions.Action.{Action}
 use Rattle.session_table.specs.Calls.{AnswerOf, Call}
 use Rattle.session_table.specs.Plans.{Plan}

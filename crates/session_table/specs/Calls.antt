@@ -24,11 +24,7 @@ AnswerOf R (Stat path) = Result Meta StoreFault
 AnswerOf R (Listing path) = Result (List Entry) StoreFault
 AnswerOf R (OpenRead path offset) = Result R StoreFault
 AnswerOf R {K} (OpenWrite path mode moment) = Result K StoreFault
-AnswerOf R (Finish sink moment) = Result (Unit {0}) StoreFault
-AnswerOf R (MakeDir path) = Result (Unit {0}) StoreFault
-AnswerOf R (RemoveDir path) = Result (Unit {0}) StoreFault
-AnswerOf R (RemoveFile path) = Result (Unit {0}) StoreFault
-AnswerOf R (Rename from to) = Result (Unit {0}) StoreFault
+AnswerOf R _ = Result (Unit {0}) StoreFault
 
 -- the call with its answer
 abbrev pub answered : {R K : Type 0} (call : Call K) → AnswerOf R call → Exchange R K

@@ -1,5 +1,5 @@
 -- Rows of the table on paths and on changes of the store.
-use Rattle.std.specs.Prelude.{ℕ, Bool, true, false, cond, [], ◌∷◌, Option, Some, None, Result, Ok, Err}
+use Rattle.std.specs.Prelude.{Bool, true, false, cond, [], Option, Some, None, Result, Ok, Err}
 use Rattle.std.specs.Fmt.{decimal}
 use Rattle.ftp_reply.specs.Quoting.{quoted}
 use Rattle.ftp_reply.specs.Replies.{OneLine}

@@ -43,25 +43,22 @@ pub record IsAllowedAt (users : Users) (view : View) (letter : Letter) (text : L
   pub stands : joined (home_of users view.name) path ≡ Ok stored
   pub holds : allowed users view.name letter path ≡ true
 
--- the call is on such paths; the entry to rename is the one that RNFR named
-abbrev pub IsAllowedCall : {K : Type 0} → Users → View → Letter → List ℕ → Call K → Type 0
-IsAllowedCall users view letter text (Call.Stat path) = IsAllowedAt users view letter text path
-IsAllowedCall users view letter text (Call.Listing path) = IsAllowedAt users view letter text path
-IsAllowedCall users view letter text (Call.OpenRead path offset) =
-    IsAllowedAt users view letter text path
-IsAllowedCall users view letter text (Call.OpenWrite path mode moment) =
-    IsAllowedAt users view letter text path
-IsAllowedCall users view letter text (Call.Finish sink moment) = ⊥
-IsAllowedCall users view letter text (Call.MakeDir path) = IsAllowedAt users view letter text path
-IsAllowedCall users view letter text (Call.RemoveDir path) = IsAllowedAt users view letter text path
-IsAllowedCall users view letter text (Call.RemoveFile path) =
-    IsAllowedAt users view letter text path
-IsAllowedCall users view letter text (Call.Rename from to) =
-    (view.source ≡ Some from) × IsAllowedAt users view letter text to
+-- the call is on paths that are allowed; the entry to rename is the one that RNFR named
+abbrev pub IsAllowedCall : {K : Type 0} → (Path → Type 0) → Option Path → Call K → Type 0
+IsAllowedCall Allowed source (Call.Stat path) = Allowed path
+IsAllowedCall Allowed source (Call.Listing path) = Allowed path
+IsAllowedCall Allowed source (Call.OpenRead path offset) = Allowed path
+IsAllowedCall Allowed source (Call.OpenWrite path mode moment) = Allowed path
+IsAllowedCall Allowed source (Call.Finish sink moment) = ⊥
+IsAllowedCall Allowed source (Call.MakeDir path) = Allowed path
+IsAllowedCall Allowed source (Call.RemoveDir path) = Allowed path
+IsAllowedCall Allowed source (Call.RemoveFile path) = Allowed path
+IsAllowedCall Allowed source (Call.Rename from to) = (source ≡ Some from) × Allowed to
 
 -- the call is for a row at a location, by its letter and its text; a row without a path makes none
 abbrev pub IsAllowedFor : {K : Type 0} → Users → View → NamedRow (List ℕ) → Call K → Type 0
-IsAllowedFor users view (At place) call = IsAllowedCall users view place.letter place.text call
+IsAllowedFor users view (At place) call =
+    IsAllowedCall (IsAllowedAt users view place.letter place.text) view.source call
 IsAllowedFor users view _ call = ⊥
 
 -- a line that may be served at this input: the line that comes, or the first of those that wait
@@ -70,15 +67,11 @@ MayServe (input.Line item) held line = item_of item ≡ Ok line
 MayServe input.Held (first ∷ others) line = first ≡ Ok line
 MayServe _ held line = ⊥
 
--- the call is the `finish` of this sink
-abbrev pub IsFinishOf : {K : Type 0} → K → ℕ → Call K → Type 0
-IsFinishOf sink moment (Call.Finish other later) = (other ≡ sink) × (later ≡ moment)
-IsFinishOf sink moment _ = ⊥
-
 -- the call is the `finish` of the sink that came back
 abbrev pub IsReturned : {A K : Type 0} → Input A K → ℕ → Call K → Type 0
-IsReturned (input.TransferEnded end (Some sink)) moment call = IsFinishOf sink moment call
-IsReturned _ moment call = ⊥
+IsReturned (input.TransferEnded end (Some sink)) moment (Call.Finish other later) =
+    (other ≡ sink) × (later ≡ moment)
+IsReturned _ moment _ = ⊥
 
 abbrev pub IsRightful : {A K : Type 0} → Users → View → List Item → ℕ → Input A K → Call K → Type 0
 IsRightful users view held moment told call = IsReturned told moment call

@@ -1,14 +1,11 @@
 pub mod Always
 pub mod Laws
 pub mod Steps
-pub mod Answers
 pub mod Calls
 pub mod FileRows
 pub mod Judged
-pub mod Notices
 pub mod Plans
-pub mod Refusals
-pub mod Rows
+pub mod Answers
 pub mod Rules
 pub mod StateRows
 pub mod Table

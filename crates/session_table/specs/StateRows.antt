@@ -136,11 +136,8 @@ module _ {A R K : Type 0} where
       Then (record view { stage = stage.Greeted; name = []; control = Closing })
       (before ++ (action.Say reply ∷ []) ++ leaves view ++ (action.CloseControl ∷ []))
 
-  abbrev pub quit_after : Users → View → List (Action A R K) → Plan A R K
-  quit_after users view before = parts view (farewell users view) before
-
   abbrev pub quit_row : Users → View → Plan A R K
-  quit_row users view = quit_after users view []
+  quit_row users view = parts view (farewell users view) []
 
   -- a right password: the session is admitted and counted, unless its guaranteed rate no longer
   -- fits

@@ -11,6 +11,7 @@ use Rattle.session_table.specs.declared.actions.Action.{Action}
 use Rattle.session_table.specs.declared.inputs.Input.{Input}
 use Rattle.session_table.specs.declared.inputs.Input.TheVariants as input
 use Rattle.session_table.specs.Plans.{Ran, Stops}
+use Rattle.session_table.specs.Plans.Plan.{Then}
 use Rattle.session_table.specs.Table.{Taken, table}
 use Rattle.session_table.specs.Views.{View, serves_lines}
 
@@ -26,10 +27,25 @@ Took Step taken old new promises promises' standing actions =
     Ran Step taken.plan old new promises promises' standing.view actions
     × (standing.held ≡ taken.held)
 
+-- the plan asks for nothing and ends with this result
+abbrev pub IsTaken : {A R K : Type 0} → Taken A R K → Standing → List (Action A R K) → Type 0
+IsTaken taken standing actions =
+    (Then standing.view actions ≡ taken.plan) × (standing.held ≡ taken.held)
+
+-- The effect of an input on the state of the session, its held lines, the store and the guarantees;
+-- and the actions.
+unfoldable pub SessionStep : {S A R K : Type 0} → (S → Exchange R K → S → Type 0) → Users → View
+    → List Item → ℕ → Input A K → S → S → Promises → Promises → View → List Item
+    → List (Action A R K) → Type 0
+SessionStep {R = R} Step users view held moment told old new promises promises' view' held'
+    actions =
+    Ran Step (table {R = R} users view held moment told).plan old new promises promises' view'
+    actions
+    × (held' ≡ (table {R = R} users view held moment told).held)
+
 -- lack of memory may stop a step here: before its first call, or after looks at the store alone
 unfoldable pub SessionStops : {S A R K : Type 0} → (S → Exchange R K → S → Type 0) → Users → View
-    → List Item → ℕ
-    → Input A K → S → S → Type 0
+    → List Item → ℕ → Input A K → S → S → Type 0
 SessionStops {R = R} Step users view held moment told old new =
     Stops Step (table {R = R} users view held moment told).plan old new
 

@@ -1,5 +1,5 @@
 -- The session table: the plan of each input in each state of a session.
-use Rattle.std.specs.Prelude.{ℕ, ◌≡◌, ◌&&◌, true, cond, List, [], ◌∷◌, ◌++◌, Bool, Option, Some, None, Result, Ok, Err, codes, length, nat_lt}
+use Rattle.std.specs.Prelude.{ℕ, ◌&&◌, true, cond, List, [], ◌∷◌, ◌++◌, Bool, Option, Some, None, Result, Ok, Err, codes, length, nat_lt}
 use Rattle.std.specs.Fmt.{decimal}
 use Rattle.authorizer.specs.Users.{Users}
 use Rattle.ftp_reply.specs.Replies.{OneLine}
@@ -7,7 +7,6 @@ use Rattle.ftp_wire.specs.Items.{Item}
 use Rattle.ftp_wire.specs.Reading.{item_of}
 use Rattle.ftp_wire.specs.Written.{port_text}
 use Rattle.virtual_path.specs.Path.{Path}
-use Rattle.virtual_tree.specs.Calls.{Exchange}
 use Rattle.virtual_tree.specs.declared.fault.StoreFault.{StoreFault}
 use Rattle.virtual_tree.specs.declared.fault.StoreFault.TheVariants as fault
 use Rattle.session_table.specs.declared.actions.Action.{Action}
@@ -34,14 +33,12 @@ use Rattle.session_table.specs.declared.stages.Passive.{Passive}
 use Rattle.session_table.specs.declared.stages.Passive.TheVariants.{Plain, Extended}
 use Rattle.session_table.specs.declared.stages.Stage.TheVariants as stage
 use Rattle.session_table.specs.declared.stages.Work.TheVariants.{Idle}
-use Rattle.rate_floors.specs.Promises.{Promises}
 use Rattle.session_table.specs.Calls.Call.{Finish}
 use Rattle.session_table.specs.Judged.{at_once, first_refusal}
-use Rattle.session_table.specs.Plans.{Plan, Ran}
+use Rattle.session_table.specs.Plans.{Plan}
 use Rattle.session_table.specs.Plans.Plan.{Then, WithLine, WithLines, Ask, AskAdmit}
-use Rattle.session_table.specs.Rows.{row_plan}
-use Rattle.session_table.specs.Rules.{rule}
-use Rattle.session_table.specs.StateRows.{leaves, quit_after, refuses}
+use Rattle.session_table.specs.Rules.{meanwhile_of, row_plan, rule}
+use Rattle.session_table.specs.StateRows.{farewell, leaves, parts, refuses}
 use Rattle.session_table.specs.Views.{View, awaited, awaits_ports, counts_lines, is_aborted, is_busy, is_closed, is_inside, running, runs, serves_lines}
 
 -- maximum number of held lines
@@ -119,16 +116,17 @@ module _ {A R K : Type 0} where
   abbrev pub aborts : View → List (Action A R K)
   aborts view = cond (runs view.work) (action.Abort ∷ []) []
 
+  -- a line too many
+  abbrev pub gives_up : View → Plan A R K
+  gives_up view = Then (record view { control = Closing })
+      ((action.Say (answer.Refusal refusal.TooManyHeldLines) ∷ []) ++ aborts view
+      ++ (action.CloseControl ∷ []))
+
   -- a line that must wait, after the held lines
   abbrev pub holds : View → List Item → Item → Taken A R K
   holds view held item = cond (nat_lt (length held) most_held)
       (record { plan = idle view; held = held ++ item ∷ [] })
-      (record {
-        plan = Then (record view { control = Closing })
-            ((action.Say (answer.Refusal refusal.TooManyHeldLines) ∷ []) ++ aborts view
-            ++ (action.CloseControl ∷ []));
-        held = held;
-      })
+      (record { plan = gives_up view; held = held })
 
   abbrev pub meanwhile_as : View → List Item → Item → Plan A R K → Meanwhile → Taken A R K
   meanwhile_as view held item plan Waits = holds view held item
@@ -138,10 +136,8 @@ module _ {A R K : Type 0} where
 
   -- a line while a transfer runs or a passive port is awaited
   abbrev pub meanwhile : Users → View → List Item → ℕ → Item → Taken A R K
-  meanwhile users view held moment (Err why) = holds view held (Err why)
-  meanwhile users view held moment (Ok command) =
-      meanwhile_as view held (Ok command) (served users view moment (Ok command))
-      (rule command).conditions.meanwhile
+  meanwhile users view held moment item =
+      meanwhile_as view held item (served users view moment item) (meanwhile_of item)
 
   -- a line while nothing is begun: it waits if others wait
   abbrev pub in_turn : Users → View → ℕ → Item → List Item → Taken A R K
@@ -162,7 +158,7 @@ module _ {A R K : Type 0} where
   -- a QUIT that waited is served after these actions
   abbrev pub and_quits : Users → View → List (Action A R K) → Control → Plan A R K
   and_quits users view actions Open = Then view actions
-  and_quits users view actions Quitting = quit_after users view actions
+  and_quits users view actions Quitting = parts view (farewell users view) actions
   and_quits users view actions Closing = Then view actions
 
   abbrev pub ready_as : Users → View → Passive → Option ℕ → Plan A R K
@@ -180,6 +176,9 @@ module _ {A R K : Type 0} where
 
   abbrev pub ready_row : Users → View → Option ℕ → Plan A R K
   ready_row users view port = ready_by users view port (awaited view.work)
+
+  abbrev pub ready_at : Users → View → Option ℕ → Plan A R K
+  ready_at users view port = cond (awaits_ports view) (ready_row users view port) (idle view)
 
   -- the event for a handler at the end of a transfer of a file
   abbrev pub end_hook : Errand Path → End → List (Action A R K)
@@ -225,6 +224,9 @@ module _ {A R K : Type 0} where
       Then (record view { stage = stage.Closed; name = [] })
       (aborts view ++ leaves view ++ (action.Hook hook.Disconnect ∷ []))
 
+  abbrev pub closed_at : View → Plan A R K
+  closed_at view = cond (is_closed view.stage) (idle view) (closed_row view)
+
   -- a plan that leaves the held lines unchanged
   abbrev pub beside : List Item → Plan A R K → Taken A R K
   beside held plan = record { plan = plan; held = held }
@@ -237,18 +239,5 @@ module _ {A R K : Type 0} where
       (held_row users view moment held) (beside held (idle view))
   table users view held moment (input.TransferEnded end sink) =
       beside held (ended_row users view moment end sink)
-  table users view held moment (input.DataReady port) =
-      beside held (cond (awaits_ports view) (ready_row users view port) (idle view))
-  table users view held moment input.Closed =
-      beside held (cond (is_closed view.stage) (idle view) (closed_row view))
-
--- The effect of an input on the state of the session, its held lines, the store and the guarantees;
--- and the actions.
-unfoldable pub SessionStep : {S A R K : Type 0} → (S → Exchange R K → S → Type 0) → Users → View
-    → List Item → ℕ
-    → Input A K → S → S → Promises → Promises → View → List Item → List (Action A R K) → Type 0
-SessionStep {R = R} Step users view held moment told old new promises promises' view' held'
-    actions =
-    Ran Step (table {R = R} users view held moment told).plan old new promises promises' view'
-    actions
-    × (held' ≡ (table {R = R} users view held moment told).held)
+  table users view held moment (input.DataReady port) = beside held (ready_at users view port)
+  table users view held moment input.Closed = beside held (closed_at view)

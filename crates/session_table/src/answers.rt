@@ -2,9 +2,7 @@
 
 ghost use Rattle.std.specs.Prelude.{◌≡◌};
 ghost use Rattle.ftp_reply.specs.Replies.{OneLine};
-ghost use Rattle.session_table.specs.Answers.{answer_form};
-ghost use Rattle.session_table.specs.Notices.{notice_code, notice_text};
-ghost use Rattle.session_table.specs.Refusals.{refusal_code, refusal_text};
+ghost use Rattle.session_table.specs.Answers.{answer_form, notice_row, refusal_row};
 
 use crate::notices::Notice;
 use crate::refusals::Refusal;
@@ -26,17 +24,19 @@ pub enum Answer<A: Allocator = Global> {
 
 impl Notice {
     fn reply<A: Allocator>(self) -> Reply<A>
-        ensures form { result ≡ OneLine (notice_code self) (notice_text self) }
+        ensures form { result ≡ OneLine (notice_row self).0 (notice_row self).1 }
     {
-        Reply::one_line(ReplyCode::new(self.code()), LineText::fixed(self.text()))
+        let (code, text) = self.row();
+        Reply::one_line(ReplyCode::new(code), LineText::fixed(text))
     }
 }
 
 impl Refusal {
     fn reply<A: Allocator>(self) -> Reply<A>
-        ensures form { result ≡ OneLine (refusal_code self) (refusal_text self) }
+        ensures form { result ≡ OneLine (refusal_row self).0 (refusal_row self).1 }
     {
-        Reply::one_line(ReplyCode::new(self.code()), LineText::fixed(self.text()))
+        let (code, text) = self.row();
+        Reply::one_line(ReplyCode::new(code), LineText::fixed(text))
     }
 }
 

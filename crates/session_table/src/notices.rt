@@ -1,7 +1,7 @@
 //! Replies with a fixed text that report success or a next step.
 
 ghost use Rattle.std.specs.Prelude.{◌≡◌};
-ghost use Rattle.session_table.specs.Notices.{notice_code, notice_text};
+ghost use Rattle.session_table.specs.Answers.{notice_row};
 
 use ftp_terms::DataType;
 
@@ -35,55 +35,36 @@ pub enum Notice {
 }
 
 impl Notice {
-    pub(crate) fn code(self) -> u16
-        ensures code { result ≡ notice_code self }
+    /// Its code and its text.
+    pub(crate) fn row(self) -> (u16, &'static str)
+        ensures code { result.0 ≡ (notice_row self).0 }
+        ensures text { result.1.now ≡ (notice_row self).1 }
     {
         match self {
-            Notice::Opening => 150,
-            Notice::NoAllocation => 202,
-            Notice::TransferInProgress | Notice::NoTransfer => 211,
-            Notice::Standards => 214,
-            Notice::System => 215,
-            Notice::Goodbye => 221,
-            Notice::NothingToAbort => 225,
-            Notice::TransferComplete | Notice::AbortDone => 226,
-            Notice::DirectoryChanged
-            | Notice::DirectoryRemoved
-            | Notice::FileRemoved
-            | Notice::Renamed => 250,
-            Notice::PasswordRequired => 331,
-            Notice::SendRnto => 350,
-            _ => 200,
-        }
-    }
-
-    pub(crate) fn text(self) -> &'static str
-        ensures text { result.now ≡ notice_text self }
-    {
-        match self {
-            Notice::Opening => "Opening data connection",
-            Notice::Fine => "OK",
-            Notice::Utf8IsOn => "UTF8 is on",
-            Notice::NoFactsInForce => "MLST OPTS",
-            Notice::TypeIs(DataType::Ascii) => "Type is A",
-            Notice::TypeIs(DataType::Image) => "Type is I",
-            Notice::ModeIsStream => "Mode is S",
-            Notice::StructureIsFile => "Structure is F",
-            Notice::OnlyExtended => "EPSV ALL is in force",
-            Notice::NoAllocation => "No storage allocation needed",
-            Notice::TransferInProgress => "Transfer in progress",
-            Notice::NoTransfer | Notice::NothingToAbort => "No transfer",
-            Notice::Standards => "See RFC 959, RFC 2428 and RFC 3659",
-            Notice::System => "UNIX Type: L8",
-            Notice::Goodbye => "Goodbye",
-            Notice::TransferComplete => "Transfer complete",
-            Notice::AbortDone => "Abort done",
-            Notice::DirectoryChanged => "Directory changed",
-            Notice::DirectoryRemoved => "Directory removed",
-            Notice::FileRemoved => "File removed",
-            Notice::Renamed => "Renamed",
-            Notice::PasswordRequired => "Password required",
-            Notice::SendRnto => "Send RNTO",
+            Notice::Opening => (150, "Opening data connection"),
+            Notice::Fine => (200, "OK"),
+            Notice::Utf8IsOn => (200, "UTF8 is on"),
+            Notice::NoFactsInForce => (200, "MLST OPTS"),
+            Notice::TypeIs(DataType::Ascii) => (200, "Type is A"),
+            Notice::TypeIs(DataType::Image) => (200, "Type is I"),
+            Notice::ModeIsStream => (200, "Mode is S"),
+            Notice::StructureIsFile => (200, "Structure is F"),
+            Notice::OnlyExtended => (200, "EPSV ALL is in force"),
+            Notice::NoAllocation => (202, "No storage allocation needed"),
+            Notice::TransferInProgress => (211, "Transfer in progress"),
+            Notice::NoTransfer => (211, "No transfer"),
+            Notice::Standards => (214, "See RFC 959, RFC 2428 and RFC 3659"),
+            Notice::System => (215, "UNIX Type: L8"),
+            Notice::Goodbye => (221, "Goodbye"),
+            Notice::NothingToAbort => (225, "No transfer"),
+            Notice::TransferComplete => (226, "Transfer complete"),
+            Notice::AbortDone => (226, "Abort done"),
+            Notice::DirectoryChanged => (250, "Directory changed"),
+            Notice::DirectoryRemoved => (250, "Directory removed"),
+            Notice::FileRemoved => (250, "File removed"),
+            Notice::Renamed => (250, "Renamed"),
+            Notice::PasswordRequired => (331, "Password required"),
+            Notice::SendRnto => (350, "Send RNTO"),
         }
     }
 }

@@ -1,7 +1,7 @@
 //! Replies with a fixed text that report a failure of a line or of a transfer.
 
 ghost use Rattle.std.specs.Prelude.{◌≡◌};
-ghost use Rattle.session_table.specs.Refusals.{path_text_of, refusal_code, refusal_text, store_code, store_text};
+ghost use Rattle.session_table.specs.Answers.{path_row, refusal_row, store_row};
 
 use virtual_path::PathFault;
 use virtual_tree::StoreFault;
@@ -37,93 +37,66 @@ pub enum Refusal {
     SizeNeedsImage,
 }
 
-fn store_code(fault: StoreFault) -> u16
-    ensures code { result ≡ store_code fault }
+fn store_row(fault: StoreFault) -> (u16, &'static str)
+    ensures code { result.0 ≡ (store_row fault).0 }
+    ensures text { result.1.now ≡ (store_row fault).1 }
 {
     match fault {
-        StoreFault::Full => 552,
-        StoreFault::Device | StoreFault::Memory => 451,
-        _ => 550,
+        StoreFault::NotFound => (550, "No such file or directory"),
+        StoreFault::NotDir => (550, "Not a directory"),
+        StoreFault::IsDir => (550, "Is a directory"),
+        StoreFault::Exists => (550, "Already exists"),
+        StoreFault::NotEmpty => (550, "Directory not empty"),
+        StoreFault::Full => (552, "Storage is full"),
+        StoreFault::Device => (451, "Local fault"),
+        StoreFault::Memory => (451, "Out of memory"),
+        StoreFault::PastEnd => (550, "Offset past the end"),
+        StoreFault::Inside => (550, "Not possible inside itself"),
     }
 }
 
-fn store_text(fault: StoreFault) -> &'static str
-    ensures text { result.now ≡ store_text fault }
+fn path_row(fault: PathFault) -> (u16, &'static str)
+    ensures code { result.0 ≡ (path_row fault).0 }
+    ensures text { result.1.now ≡ (path_row fault).1 }
 {
     match fault {
-        StoreFault::NotFound => "No such file or directory",
-        StoreFault::NotDir => "Not a directory",
-        StoreFault::IsDir => "Is a directory",
-        StoreFault::Exists => "Already exists",
-        StoreFault::NotEmpty => "Directory not empty",
-        StoreFault::Full => "Storage is full",
-        StoreFault::Device => "Local fault",
-        StoreFault::Memory => "Out of memory",
-        StoreFault::PastEnd => "Offset past the end",
-        StoreFault::Inside => "Not possible inside itself",
-    }
-}
-
-fn path_fault_text(fault: PathFault) -> &'static str
-    ensures text { result.now ≡ path_text_of fault }
-{
-    match fault {
-        PathFault::BadName => "Bad name",
-        PathFault::TooLong => "Name too long",
-        PathFault::Memory => "Out of memory",
+        PathFault::BadName => (553, "Bad name"),
+        PathFault::TooLong => (553, "Name too long"),
+        PathFault::Memory => (451, "Out of memory"),
     }
 }
 
 impl Refusal {
-    pub(crate) fn code(self) -> u16
-        ensures code { result ≡ refusal_code self }
+    /// Its code and its text.
+    pub(crate) fn row(self) -> (u16, &'static str)
+        ensures code { result.0 ≡ (refusal_row self).0 }
+        ensures text { result.1.now ≡ (refusal_row self).1 }
     {
         match self {
-            Refusal::Store(fault) => store_code(fault),
-            Refusal::Path(PathFault::Memory) => 451,
-            Refusal::Path(_) => 553,
-            Refusal::TooManyLogins | Refusal::TooManyHeldLines | Refusal::NoGuarantee => 421,
-            Refusal::NoDataConnection | Refusal::NoPassivePort | Refusal::NothingPrepared => 425,
-            Refusal::ConnectionLost | Refusal::TransferAborted => 426,
-            Refusal::NoSource
-            | Refusal::OffsetBeforeAppend
-            | Refusal::NoName
-            | Refusal::AlreadyInside => 503,
-            Refusal::OtherProtocol => 522,
-            Refusal::LogInFirst | Refusal::LoginIncorrect => 530,
-            Refusal::NotPermitted | Refusal::SizeNeedsImage => 550,
-            _ => 501,
-        }
-    }
-
-    pub(crate) fn text(self) -> &'static str
-        ensures text { result.now ≡ refusal_text self }
-    {
-        match self {
-            Refusal::Store(fault) => store_text(fault),
-            Refusal::Path(fault) => path_fault_text(fault),
-            Refusal::TooManyLogins => "Too many login attempts",
-            Refusal::TooManyHeldLines => "Too many held lines",
-            Refusal::NoGuarantee => "Guaranteed rate not available",
-            Refusal::NoDataConnection => "No data connection",
-            Refusal::NoPassivePort => "No passive port is free",
-            Refusal::NothingPrepared => "Use PASV, EPSV, PORT or EPRT first",
-            Refusal::ConnectionLost => "Connection lost",
-            Refusal::TransferAborted => "Transfer aborted",
-            Refusal::OnlyExtended => "EPSV ALL is in force",
-            Refusal::ForeignAddress => "Foreign address",
-            Refusal::PrivilegedPort => "Privileged port",
-            Refusal::OffsetNeedsImage => "Offset needs TYPE I",
-            Refusal::ListsNoFile => "Not a directory",
-            Refusal::NoSource => "Send RNFR first",
-            Refusal::OffsetBeforeAppend => "REST before APPE",
-            Refusal::NoName => "Send USER first",
-            Refusal::AlreadyInside => "Already logged in",
-            Refusal::OtherProtocol => "Network protocol not supported, use (1)",
-            Refusal::LogInFirst => "Log in first",
-            Refusal::LoginIncorrect => "Login incorrect",
-            Refusal::NotPermitted => "Not permitted",
-            Refusal::SizeNeedsImage => "SIZE needs TYPE I",
+            Refusal::Store(fault) => store_row(fault),
+            Refusal::Path(fault) => path_row(fault),
+            Refusal::TooManyLogins => (421, "Too many login attempts"),
+            Refusal::TooManyHeldLines => (421, "Too many held lines"),
+            Refusal::NoGuarantee => (421, "Guaranteed rate not available"),
+            Refusal::NoDataConnection => (425, "No data connection"),
+            Refusal::NoPassivePort => (425, "No passive port is free"),
+            Refusal::NothingPrepared => (425, "Use PASV, EPSV, PORT or EPRT first"),
+            Refusal::ConnectionLost => (426, "Connection lost"),
+            Refusal::TransferAborted => (426, "Transfer aborted"),
+            Refusal::OnlyExtended => (501, "EPSV ALL is in force"),
+            Refusal::ForeignAddress => (501, "Foreign address"),
+            Refusal::PrivilegedPort => (501, "Privileged port"),
+            Refusal::OffsetNeedsImage => (501, "Offset needs TYPE I"),
+            Refusal::ListsNoFile => (501, "Not a directory"),
+            Refusal::NoSource => (503, "Send RNFR first"),
+            Refusal::OffsetBeforeAppend => (503, "REST before APPE"),
+            Refusal::NoName => (503, "Send USER first"),
+            Refusal::AlreadyInside => (503, "Already logged in"),
+            Refusal::OtherProtocol => (522, "Network protocol not supported, use (1)"),
+            Refusal::LogInFirst => (530, "Log in first"),
+            Refusal::LoginIncorrect => (530, "Login incorrect"),
+            Refusal::NotPermitted => (550, "Not permitted"),
+            Refusal::SizeNeedsImage => (550, "SIZE needs TYPE I"),
         }
     }
 }

@@ -1,7 +1,7 @@
 -- The endings of the commands on sheets. A file is given by a test of the octets that it may
 -- contain; None is for unknown octets, about which nothing is said. Old and new are the contents of
 -- the output before and after.
-use Rattle.std.specs.Prelude.{◌≡◌, ◌<◌, ◌⊎◌, ℕ, List, Option, Some, None, IfSome, codes, length, option_map}
+use Rattle.std.specs.Prelude.{◌≡◌, ◌<◌, ◌⊎◌, ℕ, List, Option, Some, None, IfSome, length, option_map}
 use Rattle.std.specs.Io.KnownBytes.{Appends}
 use Rattle.command_line.specs.declared.words.SheetWords.{SheetWords}
 use Rattle.command_line.specs.declared.words.SheetWords.TheVariants.{Share as ShareWords, Check as CheckWords}

@@ -1,7 +1,7 @@
 -- Proofs, not definitions to be believed: a store that fails once keeps the laws of the trait
 -- `Store`. They are here since the toolchain wants the proof of a trait's law among the
 -- definitions.
-use Rattle.std.proofs.Common.{ℕ, ◌≡◌, ◌≢◌, ◌<◌, ◌+◌, ◌-◌, ◌%◌, ◌^◌, Option, Some, None, inl, inr, refl, sym, ap, subst, ◌∙◌, arith}
+use Rattle.std.proofs.Common.{ℕ, ◌≡◌, ◌≢◌, ◌<◌, ◌+◌, ◌-◌, ◌%◌, ◌^◌, Option, Some, None, inl, inr, sym, ap, subst, ◌∙◌, arith}
 use Rattle.virtual_tree.specs.declared.fault.StoreFault.{StoreFault}
 use Rattle.virtual_tree.specs.declared.fault.StoreFault.TheVariants.{Device, Full}
 use Rattle.virtual_tree.specs.Calls.{Exchange, refusal, PassesCapacity}

@@ -1,6 +1,6 @@
 use Rattle.std.proofs.Common.{ℕ, ◌≡◌, List, [], ◌∷◌, ◌++◌, Option, refl, sym, subst}
 use Rattle.handler_hooks.specs.Events.Event.{Disconnected}
-use Rattle.session_core.specs.Events.{leaving_by}
+use Rattle.session_events.specs.Leaving.{leaving_by}
 use Rattle.session_events.specs.declared.closing.Leaving.{Leaving}
 use Rattle.control_session.specs.Calls.HostCall.{Noted}
 use Rattle.control_session.specs.Turns.{Carries}

@@ -2,7 +2,7 @@ use Rattle.std.proofs.Common.{sym, subst}
 use Rattle.std.proofs.lemmas.Result.{IfOk-weaker}
 use Rattle.session_core.specs.Rows.{login_by, row_by}
 use Rattle.session_table.specs.Plans.{Ran}
-use Rattle.session_table.specs.Rows.{login_row, row_plan, state_row}
+use Rattle.session_table.specs.Rules.{login_row, row_plan, state_row}
 use Rattle.session_core.proofs.Plans.{ran_floors, ran_then}
 use Rattle.session_core.proofs.rows.carry_out.Goals as goal
 

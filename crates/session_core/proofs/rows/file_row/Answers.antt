@@ -1,5 +1,5 @@
 use Rattle.std.proofs.Common.{IfOk, sym, subst}
-use Rattle.session_table.specs.Rows.{file_row}
+use Rattle.session_table.specs.Rules.{file_row}
 use Rattle.session_table.specs.Plans.{RanByStore}
 use Rattle.session_core.proofs.rows.file_row.Goals as goal
 

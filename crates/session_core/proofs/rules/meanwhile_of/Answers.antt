@@ -1,6 +1,6 @@
 use Rattle.std.proofs.Common.{◌∙◌, List, ap, sym, ℕ}
 use Rattle.ftp_wire.specs.Reading.{item_of}
-use Rattle.session_core.specs.Rows.{meanwhile_of}
+use Rattle.session_table.specs.Rules.{meanwhile_of}
 use Rattle.session_table.specs.declared.rules.Rule.{Rule}
 use Rattle.session_core.proofs.rules.meanwhile_of.Goals as goal
 

@@ -2,8 +2,7 @@ use Rattle.std.proofs.Common.{◌<◌, length, ap, subst, sym, arith}
 use Rattle.std.proofs.lemmas.List.{length-map}
 use Rattle.std.proofs.lemmas.Result.{IfOk-weaker}
 use Rattle.ftp_wire.specs.Reading.{item_of}
-use Rattle.session_core.specs.Turns.{IsTaken}
-use Rattle.session_table.specs.Steps.{Standing}
+use Rattle.session_table.specs.Steps.{IsTaken, Standing}
 use Rattle.session_table.specs.Table.{Taken, most_held}
 use Rattle.session_core.proofs.Tables.{holds_few}
 use Rattle.session_core.proofs.session.Session.hold.Goals as goal

@@ -1,9 +1,8 @@
 use Rattle.std.proofs.Common.{◌∙◌, ap, sym, subst}
 use Rattle.ftp_wire.specs.Reading.{items_of}
 use Rattle.session_events.specs.Leaving.{leaving_actions}
-use Rattle.session_table.specs.Steps.{Standing}
+use Rattle.session_table.specs.Steps.{SessionStep, Standing}
 use Rattle.session_table.specs.declared.inputs.Input.TheVariants.{Closed}
-use Rattle.session_table.specs.Table.{SessionStep}
 use Rattle.session_table.specs.Views.{is_closed}
 use Rattle.session_core.proofs.DataRows.{closed_step, gone_before, leaves_now}
 use Rattle.session_core.proofs.session.Session.leave.Goals as goal

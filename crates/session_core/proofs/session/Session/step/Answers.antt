@@ -1,11 +1,10 @@
 use Rattle.std.proofs.Common.{IfOk, refl, sym, subst}
 use Rattle.session_core.proofs.DataRows.{err_through, ok_through}
 use Rattle.std.proofs.lemmas.Result.{IfOk-weaker}
-use Rattle.session_core.specs.Turns.{closed_at, ready_at}
-use Rattle.session_table.specs.Steps.{SessionStops}
+use Rattle.session_table.specs.Steps.{SessionStep, SessionStops}
 use Rattle.session_table.specs.declared.inputs.Input.{Input}
 use Rattle.session_table.specs.declared.inputs.Input.TheVariants as input
-use Rattle.session_table.specs.Table.{SessionStep, beside}
+use Rattle.session_table.specs.Table.{beside, closed_at, ready_at}
 use Rattle.session_core.proofs.Plans.{on_err, on_err_from, ran_then, step_by, step_stops_here}
 use Rattle.session_core.proofs.session.Session.step.Goals as goal
 

@@ -1,8 +1,7 @@
 use Rattle.std.proofs.Common.{subst}
 use Rattle.ftp_wire.specs.Reading.{items_of}
-use Rattle.session_table.specs.Steps.{Standing}
+use Rattle.session_table.specs.Steps.{SessionStep, Standing}
 use Rattle.session_table.specs.declared.inputs.Input.TheVariants.{TransferEnded}
-use Rattle.session_table.specs.Table.{SessionStep}
 use Rattle.session_core.proofs.DataRows.{end_step, ok_through}
 use Rattle.session_core.proofs.session.Session.take_end.Goals as goal
 use Rattle.std.proofs.lemmas.Result.{IfOk-weaker}

@@ -1,7 +1,7 @@
 use Rattle.std.proofs.Common.{IfOk, sym, subst}
 use Rattle.session_core.specs.Events.{input_of}
 use Rattle.session_core.specs.declared.events.DataEvent.{DataEvent}
-use Rattle.session_table.specs.Table.{SessionStep}
+use Rattle.session_table.specs.Steps.{SessionStep}
 use Rattle.session_core.proofs.session.Session.take_event.Goals as goal
 
 pub returns-in-Ended-clause-row : goal.returns-in-Ended-clause-row

@@ -2,9 +2,8 @@ use Rattle.std.proofs.Common.{[], refl, sym, subst}
 use Rattle.ftp_wire.specs.Reading.{items_of}
 use Rattle.session_core.specs.Events.{input_of}
 use Rattle.session_core.specs.declared.events.DataEvent.{DataEvent}
-use Rattle.session_table.specs.Steps.{Standing}
+use Rattle.session_table.specs.Steps.{SessionStep, Standing}
 use Rattle.session_table.specs.declared.inputs.Input.TheVariants.{TransferEnded}
-use Rattle.session_table.specs.Table.{SessionStep}
 use Rattle.session_core.proofs.DataRows.{end_step, ready_before, ready_step}
 use Rattle.session_core.proofs.session.Session.take_event_silently.Goals as goal
 

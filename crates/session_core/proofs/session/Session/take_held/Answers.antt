@@ -3,9 +3,9 @@ use Rattle.std.proofs.lemmas.List.{length-map}
 use Rattle.std.proofs.lemmas.Result.{IfOk-weaker}
 use Rattle.std.specs.List.{remove}
 use Rattle.ftp_wire.specs.Reading.{item_of, items_of}
-use Rattle.session_table.specs.Steps.{SessionStops, Standing, is_due}
+use Rattle.session_table.specs.Steps.{SessionStep, SessionStops, Standing, is_due}
 use Rattle.session_table.specs.declared.inputs.Input.TheVariants as input
-use Rattle.session_table.specs.Table.{SessionStep, beside, held_row, idle, served}
+use Rattle.session_table.specs.Table.{beside, held_row, idle, served}
 use Rattle.session_core.proofs.Plans.{on_err, step_by, step_stops_here, stops_by}
 use Rattle.session_core.proofs.Tables.{at_due, at_not_due}
 use Rattle.session_core.proofs.Waiting.{due_waits, front}

@@ -4,9 +4,9 @@ use Rattle.std.proofs.lemmas.List.{length-map}
 use Rattle.std.specs.Vec.{vec_len}
 use Rattle.std.proofs.lemmas.Result.{IfOk-weaker}
 use Rattle.ftp_wire.specs.Reading.{item_of, items_of}
-use Rattle.session_table.specs.Steps.{SessionStops, Standing}
+use Rattle.session_table.specs.Steps.{SessionStep, SessionStops, Standing}
 use Rattle.session_table.specs.declared.inputs.Input.TheVariants as input
-use Rattle.session_table.specs.Table.{SessionStep, beside, holds, idle, meanwhile, served}
+use Rattle.session_table.specs.Table.{beside, holds, idle, meanwhile, served}
 use Rattle.session_table.specs.Views.{counts_lines, is_busy}
 use Rattle.session_core.proofs.Plans.{on_err, on_err_from, ran_then, step_by, step_stops_here, stops_by}
 use Rattle.session_core.proofs.Tables.{at_busy_line, at_idle_line, at_shut_line, in_turn_alone, in_turn_behind}

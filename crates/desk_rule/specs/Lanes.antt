@@ -272,7 +272,8 @@ module _ {N : Type 0} where
         with_lane st.word (has_taken g.octets (lane_in st.word m.0)) m.0,
         (st.word, WithGrant g) ∷ m.1,
       ))
-      × (sum ((lane_in st.word m.0).taken ++ g.octets ∷ []) ≤ most) × Fits st.word m.0 (g.octets ∷ [])
+      × (sum ((lane_in st.word m.0).taken ++ g.octets ∷ []) ≤ most)
+      × Fits st.word m.0 (g.octets ∷ [])
 
   abbrev pub takes_grant : Step (LaneSlot N) → Me (LaneSlot N) DeskView → ℕ
       → Me (LaneSlot N) DeskView → Type 0

@@ -17,7 +17,8 @@ use virtual_tree::StoreFault;
 pub(crate) fn fault_of(error: &io::Error) -> MachineFault
     ensures none { error_kind error.now ≡ ErrorKind.NotFound → result ≡ MachineFault.NotFound }
     ensures file { error_kind error.now ≡ ErrorKind.NotADirectory → result ≡ MachineFault.NotDir }
-    ensures directory { error_kind error.now ≡ ErrorKind.IsADirectory → result ≡ MachineFault.IsDir }
+    ensures directory { error_kind error.now ≡ ErrorKind.IsADirectory
+        → result ≡ MachineFault.IsDir }
     ensures stands { error_kind error.now ≡ ErrorKind.AlreadyExists → result ≡ MachineFault.Exists }
     ensures bare { error_kind error.now ≡ ErrorKind.DirectoryNotEmpty
         → result ≡ MachineFault.NotEmpty }

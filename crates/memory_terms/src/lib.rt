@@ -5,6 +5,7 @@
 //!
 //! ```text
 //! ensures path { AsDefined PathFault.Memory result (resolved self.now text.now) }
-//! ensures refused { IfErr result (Unless AuthorizerFault.Memory (λ fault. fault ≡ AuthorizerFault.BadPath)) }
+//! ensures refused { IfErr result
+//!     (Unless AuthorizerFault.Memory (λ fault. fault ≡ AuthorizerFault.BadPath)) }
 //! ```
 #![tactic(auto)]

@@ -129,7 +129,8 @@ impl<A: Allocator + Clone> World<A> {
 
     // Decides at a moment in milliseconds.
     fn decide(&mut self, moment: u64) -> Result<EventAnswer, StepFault>
-        ensures step { Step self.old.rates self.old.world (event.Decide moment) result self.new.world }
+        ensures step { Step self.old.rates self.old.world
+            (event.Decide moment) result self.new.world }
         ensures rates { self.new.rates ≡ self.old.rates }
     {
         self.check_ready(moment)?;

@@ -7,7 +7,7 @@ use Rattle.ftp_terms.specs.declared.letters.Letter.{Letter}
 use Rattle.ftp_terms.specs.declared.letters.Letters.{Letters}
 use Rattle.authorizer.specs.declared.account.Rule.{Rule}
 use Rattle.ftp_terms.specs.Letters.{holds}
-use Rattle.authorizer.specs.Users.{Overrides, User, Users, Covers, IsCovered, IsDeepest, DecidesAt, Allowed, above, covers, if_covers, letters_above, first_of, first_above, letters_at, holds_at, allowed, AllowedByTheDeepest}
+use Rattle.authorizer.specs.Users.{Overrides, User, Users, Covers, IsCovered, IsDeepest, DecidesAt, Allowed, above, covers, if_covers, letters_above, first_of, first_above, letters_at, holds_at, AllowedByTheDeepest}
 
 -- no override that lies less than so many names above a path covers it
 abbrev pub NoneBelow : Overrides → Path → ℕ → Type 0

@@ -172,8 +172,8 @@ impl<A: Allocator + Clone> Authorizer<A> {
         table::find(&self.accounts, name).is_some()
     }
 
-    /// Returns whether a user may log in with a password. `false` if there is no such user; the user `anonymous` may log in
-    /// with any password.
+    /// Returns whether a user may log in with a password. `false` if there is no such user; the user `anonymous` may
+    /// log in with any password.
     pub fn check_password(&self, name: &str, password: &str) -> bool
         ensures password { result ≡ is_password self.now.users name.now password.now }
     {

@@ -3,7 +3,7 @@
 use std::alloc::AllocError;
 use thiserror::Error;
 
-/// Why a call is refused. They are checked in this order, each where it applies.
+/// The reason for which a call is refused. Reasons are checked in this order, each if it applies.
 #[derive(Clone, Copy, Debug, PartialEq, Eq, Error)]
 pub enum AuthorizerFault {
     #[error("there is a user of that name")]

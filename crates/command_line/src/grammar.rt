@@ -1,4 +1,5 @@
 //! The grammar of the command lines of `ftpd` and of `sheets`.
+
 ghost use Rattle.std.specs.Prelude.{◌≡◌, IfOk, codes, false};
 ghost use Rattle.clap.specs.Words.{app_of, rule_of, with_rule};
 ghost use Rattle.command_line.specs.Commands.{bare, check, check_config, file_rule, ftpd, migrate, option_rule, script, serve, share, sheets, top, with_sheets};

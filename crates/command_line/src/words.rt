@@ -1,4 +1,5 @@
 //! The words of a command line.
+
 ghost use Rattle.std.specs.Prelude.{◌≡◌, ◌↔◌, ◌∷◌, [], ℕ, List, None, Some, IfOk, IfErr, IfSome, IsTrue, map, codes, option_map, true};
 ghost use Rattle.clap.specs.Words.{app_of, fault_of, first_of, found_of, is_simple, is_simple_and_free, kind_of, rows_of, subcommand_of, subcommand_rows_of, takes};
 ghost use Rattle.command_line.specs.Commands.{ftpd, sheets};

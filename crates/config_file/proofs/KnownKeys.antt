@@ -8,7 +8,7 @@ use Rattle.toml.specs.View.{members_view}
 use Rattle.toml.specs.declared.value.Value.{Value}
 use Rattle.ftp_terms.specs.Lines.{is_control, HasNoControl, IsLine}
 use Rattle.ftp_terms.proofs.LineLemmas.{line_printed}
-use Rattle.config_file.specs.Keys.{KeyRow, is_among, is_known, keys_in, keys_of, first_stray}
+use Rattle.config_file.specs.Keys.{is_among, keys_in, first_stray}
 
 -- the keys of a table are those of its map
 pub keys_in-view : (es : List (String Global × Value)) → keys_in (members_view es) ≡ map string_bytes (map_keys es)

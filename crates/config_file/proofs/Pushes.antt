@@ -1,5 +1,5 @@
 -- Rows that are read one after another.
-use Rattle.std.proofs.Common.{◌≡◌, ℕ, suc, ◌+◌, ◌<◌, Bool, true, Option, Some, slice_get, List, [], ◌∷◌, ◌++◌, length, take, drop, get_or, subst, sym, ap, Vec, Global, arith, refl, ◌∙◌}
+use Rattle.std.proofs.Common.{◌≡◌, ℕ, suc, ◌+◌, ◌<◌, Bool, true, Some, slice_get, List, [], ◌∷◌, ◌++◌, length, take, drop, get_or, subst, sym, ap, Vec, Global, arith, refl, ◌∙◌}
 use Rattle.std.proofs.lemmas.List.{take_more, drop_more}
 use Rattle.std.proofs.lemmas.Option.{slice_get-get_or}
 use Rattle.std.specs.Prelude.{codes}
@@ -12,7 +12,6 @@ use Rattle.config_file.specs.Keys.{KeyRow}
 use Rattle.config_file.specs.declared.fault.Fault.{Fault}
 use Rattle.config_file.specs.declared.fault.KeyFault.{KeyFault}
 use Rattle.config_file.specs.declared.fault.Fault.TheVariants as fault
-use Rattle.config_file.specs.declared.fault.TableName.{TableName}
 use Rattle.config_file.specs.declared.fault.TableName.TheVariants.{Override}
 use Rattle.config_file.specs.Lists.{IsRow, AreRows, RowIsFine, RowIsRefused, IsFirstRefused, IsListFault}
 use Rattle.config_file.specs.Refused.{IsOverrideFault, Tells}

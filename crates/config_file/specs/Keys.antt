@@ -111,8 +111,8 @@ IsFirstProblem (row ∷ rows) given key problem =
     ((key ≡ row.key) × Judges row given (Err problem))
     ⊎ (Fits row given × IsFirstProblem rows given key problem)
 
--- The first problem of a table: its least key that is unknown; or there is none, and it is that of
--- the first row whose key is refused.
+-- The first problem of a table: its least key that is unknown; or, if there is none, that of the
+-- first row whose key is refused.
 abbrev pub IsRefused : Bool → List KeyRow → Members → List ℕ → Problem → Type 0
 IsRefused grouped rows given key problem =
     ((stray (keys_of grouped rows) given ≡ Some key) × (problem ≡ Unknown))

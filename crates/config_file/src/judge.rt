@@ -1,6 +1,6 @@
 //! The rows of a table of keys, and the first problem of a table.
 
-ghost use Rattle.std.specs.Prelude.{◌≡◌, IfErr, IfOk, MatchResult, OnOk, Some, None, map, bytes_eq};
+ghost use Rattle.std.specs.Prelude.{◌≡◌, IfErr, MatchResult, OnOk, Some, None};
 ghost use Rattle.toml.specs.View.{table_view};
 ghost use Rattle.config_file.specs.declared.fault.Problem.TheVariants.{Unknown};
 ghost use Rattle.config_file.specs.Keys.{AllFit, Fits, IsFine, IsFirstProblem, IsRefused, Judges, is_among, is_known, keys_of, stray};

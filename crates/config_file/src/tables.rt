@@ -2,8 +2,8 @@
 
 ghost use Rattle.std.specs.Prelude.{◌≡◌, IfOk, IfErr, Some, length};
 ghost use Rattle.toml.specs.View.{table_view, view};
-ghost use Rattle.config_file.specs.Keys.{IsRefused, States};
-ghost use Rattle.config_file.specs.Refused.{IsFirstFault, IsOverrideFault, IsServerFault, IsGroupFault, IsUserFault, IsFaultOfOverrides, IsWholeFault, Tells};
+ghost use Rattle.config_file.specs.Keys.{States};
+ghost use Rattle.config_file.specs.Refused.{IsFirstFault, IsOverrideFault, IsWholeFault, Tells};
 ghost use Rattle.config_file.specs.Seen.{rows_of};
 ghost use Rattle.config_file.specs.Tables.{AreOverrides, IsTables, is_first, is_grouped, top_rows, top_values};
 

@@ -1,6 +1,6 @@
 //! The values of a table without problems.
 
-ghost use Rattle.std.specs.Prelude.{◌≡◌, ◌≤◌, Ok, option_map};
+ghost use Rattle.std.specs.Prelude.{◌≤◌, Ok, option_map};
 ghost use Rattle.toml.specs.View.{table_view, items_view};
 ghost use Rattle.ftp_terms.specs.Lines.{HasNoControl, IsLine};
 ghost use Rattle.std.specs.Net.Addr.{ipv4_octets};

@@ -1,6 +1,6 @@
 //! The check that the homes of users exist.
 
-ghost use Rattle.std.specs.Prelude.{◌≡◌, ◌≢◌, [], IfOk, Ok, Err};
+ghost use Rattle.std.specs.Prelude.{◌≡◌, [], IfOk, Ok, Err};
 ghost use Rattle.virtual_path.specs.Path.{resolved};
 ghost use Rattle.virtual_tree.specs.declared.fault.StoreFault.TheVariants as StoreFault;
 ghost use Rattle.config_report.specs.Warnings.{has_home, is_directory, is_home};

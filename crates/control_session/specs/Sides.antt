@@ -21,7 +21,7 @@ pub data SideCall (A R K : Type 0) : Type 0 where
   -- the end of the transfer that still ran, if any
   Settles : Option (DataEvent K) → SideCall A R K
 
--- an input; of a line, the item as which it reads
+-- an input; for a line, the item that it reads as
 pub data Given (K : Type 0) : Type 0 where
   Line : Item → Given K
   Held : Given K

@@ -98,7 +98,7 @@ module _ {A S R K : Type 0} where
   Said text calls (Some Write) = calls ≡ Broke text ∷ []
   Said text calls (Some Memory) = calls ≡ []
 
-  -- the calls that carry out an action; none once a reply could not be written
+  -- the calls that carry out an action; for a reply none once there was a fault
   abbrev pub Carried : Action A R K → Option TurnFault → List (HostCall A S R K) → Option TurnFault
       → Type 0
   Carried (Say reply) None calls lost = Said (reply_text (answer_form reply)) calls lost
@@ -240,7 +240,7 @@ pub record Went {H A S R K : Type 0}
   pub runs : Runs Row moves before after
 
 -- the number of held lines after an input: a held line that is due decreases it, and an event of
--- the data side leaves it as it was
+-- the data side does not increase it
 abbrev pub HoldsFewer : {K : Type 0} → Given K → Standing → Standing → Type 0
 HoldsFewer (Line item) before after = Unit {0}
 HoldsFewer Held before after = due before ≡ true → length after.held < length before.held

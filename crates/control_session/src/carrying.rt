@@ -51,7 +51,7 @@ fn say<A: Allocator + Clone, H: Host<A>>(
     }
 }
 
-/// Writes a reply, unless one before could not be written.
+/// Writes a reply, unless there was a fault before. Returns the first fault, if any.
 fn say_unless<A: Allocator + Clone, H: Host<A>>(
     alloc: &A,
     host: &mut H,

@@ -1,6 +1,6 @@
 //! The host of a control session: everything outside of it.
 
-ghost use Rattle.std.specs.Prelude.{◌≡◌, ◌<◌, ℕ, IfErr, IfOk, IfSome, OnErr, Some, [], length, true};
+ghost use Rattle.std.specs.Prelude.{◌≡◌, ◌<◌, IfErr, IfOk, IfSome, OnErr, Some, [], length, true};
 ghost use Rattle.control_session.specs.Calls.{HostCall, read_call, reads_within, write_call};
 ghost use Rattle.control_session.specs.Calls.HostCall.{Asked, Noted, Released};
 ghost use Rattle.control_session.specs.Rows.{IsRow};

@@ -24,7 +24,7 @@ use std::alloc::{AllocError, Allocator};
 /// Maximum number of octets that one read returns.
 const PIECE: usize = 4096;
 
-/// The memory of a session beside itself, allocated before the greeting.
+/// The memory that a session needs in addition to its `Session`, allocated before the greeting.
 #[derive(Drop)]
 struct Room<A: Allocator> {
     lines: LineReader<A>,

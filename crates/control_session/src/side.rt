@@ -20,8 +20,8 @@ pub trait Moments {
 }
 
 /// The side that opens data connections and runs transfers, with a store's sources `R` and its sinks `K`. It begins a
-/// connection or a transfer at once, and reports the result later: a session looks after each of its turns, before it
-/// takes a held line, and before each read.
+/// connection or a transfer at once, and reports the result later: a session looks after each line that it takes,
+/// before it takes a held line, and before each read.
 ///
 /// `Asks` is the effect of one call with its answer. Each side defines its own, so the proofs about the calls apply to
 /// every side. A side should report the end of each transfer once, aborted or not.

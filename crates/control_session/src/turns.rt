@@ -1,11 +1,11 @@
 //! The turns of a control session.
 
-ghost use Rattle.std.specs.Prelude.{◌≡◌, ◌≤◌, ◌⊎◌, ◌++◌, ◌||◌, [], ◌∷◌, Bool, IfErr, List, MatchOption, None, OnErr, OnOk, Option, Some, false, length, true};
+ghost use Rattle.std.specs.Prelude.{◌≡◌, ◌≤◌, ◌⊎◌, ◌++◌, ◌||◌, [], ◌∷◌, Bool, IfErr, List, MatchOption, None, OnOk, Option, Some, false, length, true};
 ghost use Rattle.std.specs.Vec.Iter.{into_iter_items};
 ghost use Rattle.control_session.specs.Rows.{IsRow};
 ghost use Rattle.control_session.specs.Standing.{AllTaken, IsLost, stand};
 ghost use Rattle.control_session.specs.Turns.{Heard, HoldsFewer, Next, Went, asked_as, at, behind, due};
-ghost use Rattle.control_session.specs.Sides.{Given, given_of};
+ghost use Rattle.control_session.specs.Sides.{given_of};
 ghost use Rattle.ftp_wire.specs.Items.{Item};
 ghost use Rattle.ftp_wire.specs.Reading.{item_of, items_of};
 ghost use Rattle.session_core.specs.Events.{input_of};

@@ -1,14 +1,10 @@
-use Rattle.std.specs.Bool.{OnTrue}
-use Rattle.std.proofs.Common.{◌≡◌, ◌++◌, ℕ, Bool, true, false, List, [], take, drop, Option, Some, None, refl, sym, ap, ◌∙◌, subst, append_assoc, append-nil, take-append-drop}
-use Rattle.std.specs.Io.KnownBytes.{Consumes, IsAtEnd, Keeps}
+use Rattle.std.proofs.Common.{◌≡◌, ◌++◌, ℕ, List, [], take, drop, Option, Some, None, sym, ap, ◌∙◌, subst, append_assoc, append-nil, take-append-drop}
+use Rattle.std.specs.Io.KnownBytes.{Consumes, IsAtEnd}
 use Rattle.ftp_terms.specs.declared.data_type.DataType.{DataType}
-use Rattle.ftp_terms.specs.declared.data_type.DataType.TheVariants.{Ascii, Image}
 use Rattle.data_pump.specs.declared.pumped.Pumped.{Pumped}
 use Rattle.data_pump.specs.WireText.{sent}
-use Rattle.data_pump.specs.Buffers.{Fills}
 use Rattle.data_pump.specs.Downloads.{OutFlow, MovesOut, IsSending, still_to_come, to_come}
 use Rattle.data_pump.proofs.KnownLemmas.{known-appended, known-consumed, known-at_end}
-use Rattle.data_pump.proofs.WireLemmas.{sent-append}
 
 -- the first octets that wait were the first to come
 pub to_come-let_go : (data_type : DataType) (n : ℕ) (waiting : List ℕ) (known : Option (List ℕ))

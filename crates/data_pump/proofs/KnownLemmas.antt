@@ -1,6 +1,6 @@
 -- Octets that are known, before and after.
 use Rattle.std.proofs.Common.{◌≡◌, ◌++◌, ℕ, List, [], ◌∷◌, length, take, Option, Some, None, refl, ap, ◌∙◌, subst, append-nil}
-use Rattle.std.specs.Io.KnownBytes.{Appends, Consumes, IsAtEnd, Keeps}
+use Rattle.std.specs.Io.KnownBytes.{Appends, Consumes, IsAtEnd}
 
 pub known-appended : (a b : Option (List ℕ)) (xs more : List ℕ) → a ≡ Some xs → Appends a b more → b ≡ Some (xs ++ more)
 known-appended a None xs more e h = absurd (subst (λ o. Appends o None more) e h)

@@ -78,7 +78,7 @@ pub record MovesOut {S K : Type 0} (remaining : S → Option (List ℕ))
   pub fault : IsSourceFault pumped.end → new.waiting ≡ []
   pub data_type : new.data_type ≡ old.data_type
 
--- Of a wire text, a part was written after what the connection had before, and the rest is to come.
+-- A part of a wire text was written after what the connection had before; the rest is to come.
 pub record IsSending {S K : Type 0} (remaining : S → Option (List ℕ))
     (contents : K → Option (List ℕ)) (before text : List ℕ) (flow : OutFlow S K) : Type 0 where
   pub written : List ℕ

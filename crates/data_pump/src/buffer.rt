@@ -70,7 +70,7 @@ impl<A: Allocator> WireBuffer<A> {
         self.to - self.from
     }
 
-    /// The first `count` of them.
+    /// The first `count` octets that wait.
     pub fn front(&self, count: usize) -> &[u8]
         requires some { count ≤ length self.now.octets }
         ensures front { result.now ≡ take count self.now.octets }
@@ -78,7 +78,7 @@ impl<A: Allocator> WireBuffer<A> {
         &self.octets[self.from..self.from + count]
     }
 
-    /// Removes the first `count` of them.
+    /// Removes the first `count` octets that wait.
     pub fn let_go(&mut self, count: usize)
         requires some { count ≤ length self.old.octets }
         ensures data_type { self.new.data_type ≡ self.old.data_type }
@@ -87,7 +87,8 @@ impl<A: Allocator> WireBuffer<A> {
         self.from += count;
     }
 
-    /// Replaces them by the wire octets of one read of the source, and returns their number. After a fault none wait.
+    /// Replaces the octets that wait by those of one read of the source, and returns their number. After a fault none
+    /// wait.
     pub fn fill<S: Source>(&mut self, source: &mut CountedEnd<S>) -> Result<usize, StoreFault>
         ensures data_type { self.new.data_type ≡ self.old.data_type }
         ensures count { IfOk result (λ count. count ≡ length self.new.octets) }

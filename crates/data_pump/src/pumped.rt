@@ -55,7 +55,7 @@ pub struct Pumped {
     pub end: PumpEnd,
 }
 
-/// Why a transfer cannot begin.
+/// The reason for which a transfer cannot begin.
 #[derive(Clone, Copy, Debug, PartialEq, Eq, Error)]
 pub enum OpenFault {
     /// The first read of the source failed.

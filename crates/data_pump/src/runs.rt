@@ -29,8 +29,8 @@ pub(crate) fn send_text(piece: &[u8], wire: &mut [u8]) -> usize
     count
 }
 
-// Appends the octets up to and including the next LF to the first `count` octets of the wire text. Returns the number of
-// octets sent, and the length of the wire text.
+// Appends the octets up to and including the next LF to the first `count` octets of the wire text. Returns the number
+// of octets sent, and the length of the wire text.
 fn send_line(piece: &[u8], wire: &mut [u8], count: usize) -> (usize, usize)
     requires some { 0 < length piece.now }
     requires room { count + 2 * length piece.now ≤ length wire.old }

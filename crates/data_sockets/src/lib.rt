@@ -1,8 +1,9 @@
 //! Data connections over sockets, and what a session and a lane exchange for a transfer.
 //!
-//! A session listens on a port or connects, and hands the [`DataConnection`] to a lane, which moves octets on it. Both have
-//! the socket, so the session can shut it down while the lane waits on it. The lane reports the end in a [`TransferCell`],
-//! which the session waits on. A listing and a file are read through one type, [`Served`], so that one board takes both.
+//! A session listens on a port or connects, and hands the [`DataConnection`] to a lane, which moves octets on it. Both
+//! have the socket, so the session can shut it down while the lane waits on it. The lane reports the end in a
+//! [`TransferCell`], which the session waits on. A listing and a file are read through one type, [`Served`], so that
+//! one board takes both.
 //!
 //! ```text
 //! let cell = TransferCell::<u32>::new();

@@ -14,7 +14,7 @@ pub struct TransferName {
     word: AtomicU64,
 }
 
-// Both in one word.
+// The user and direction in one word.
 fn name_word(way: Way, user: u32) -> u64
     ensures word { result ≡ name_word way user }
 {

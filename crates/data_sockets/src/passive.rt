@@ -1,6 +1,6 @@
 //! Passive ports: listening, and accepting the peer.
 
-ghost use Rattle.std.specs.Prelude.{◌≡◌, ◌↔◌, IsTrue};
+ghost use Rattle.std.specs.Prelude.{◌↔◌, IsTrue};
 ghost use Rattle.data_sockets.specs.Peers.{IsAddress, IsFrom, IsWanted};
 
 use std::net::{Ipv4Addr, Net, SocketAddr, SocketAddrV4, TcpListener, TcpStream};
@@ -49,8 +49,8 @@ fn is_wanted(from: SocketAddr, peer: Option<[u8; 4]>) -> bool
     }
 }
 
-/// Accepts a connection from this peer, or from anybody if no peer is given, and closes those of others. `None` if no other
-/// has come yet.
+/// Accepts a connection from this peer, or from anybody if no peer is given, and closes those of others. `None` if no
+/// other has come yet.
 pub fn accept_from(listener: &TcpListener, peer: Option<[u8; 4]>) -> Option<TcpStream> {
     for _ in 0..MOST_STRANGERS {
         match listener.accept() {

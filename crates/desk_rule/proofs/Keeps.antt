@@ -19,7 +19,7 @@ use Rattle.desk_rule.specs.declared.view.TurnView.{TurnView}
 use Rattle.desk_rule.specs.declared.view.RoundView.{RoundView}
 use Rattle.desk_rule.specs.declared.view.DeskView.{DeskView}
 use Rattle.desk_rule.specs.declared.view.DeskView.TheVariants.{Spent, Lane, Round}
-use Rattle.desk_rule.specs.Lanes.{Phase, free, worker, asked, round, granted, code, home_of, state_of, open_ask, open_grant, ahead, Bears, Agrees, fresh, unturned, posted_in, most, KnowsRound, Knows, Kept, first_round, lane_in, with_lane, Owns, turn_in, with_turn, Leads, posted_by, sat_down, has_asked, has_taken, has_looked, has_risen, has_missed, has_collected, has_posted, Collected, Took}
+use Rattle.desk_rule.specs.Lanes.{Phase, free, worker, asked, round, granted, code, state_of, open_grant, ahead, Agrees, fresh, unturned, posted_in, most, KnowsRound, Knows, Kept, first_round, lane_in, with_lane, Owns, turn_in, with_turn, Leads, posted_by, sat_down, has_asked, has_taken, has_looked, has_risen, has_missed, has_collected, has_posted}
 use Rattle.world_terms.specs.Lanes.{Shown}
 use Rattle.desk_rule.specs.Shown.{shown_of, StepsTo}
 use Rattle.desk_rule.specs.Lanes as spec

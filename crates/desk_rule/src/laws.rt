@@ -15,8 +15,8 @@ pub fn exchanges_are_events<N>()
     ensures rise { RiseIsEvent N }
 {}
 
-/// Between any two steps, the views of the lane's seat and of the round's seat agree with the lane's word: amount k posted
-/// answers ask k, and is amount k taken.
+/// Between any two steps, the views of the lane's seat and of the round's seat agree with the lane's word: amount k
+/// posted answers ask k, and is amount k taken.
 pub fn accounts_fit<N>()
     ensures accounts { AccountsFit N }
 {}

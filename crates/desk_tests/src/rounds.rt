@@ -8,7 +8,7 @@ use line_rates::{Ask, Limits};
 use std::process::Abort;
 use test_checked_desk::CheckedDesk;
 
-/// A desk of `lanes` lanes, with a book that has issued `carried` octets.
+/// A desk of `lanes` lanes, with a book that has issued `MAX_ISSUED` octets if `full`, and otherwise none.
 fn desk_of(rt: &(impl Abort + AllocGlobal), lanes: usize, full: bool) -> CheckedDesk<OfTest> {
     let carried = if full { MAX_ISSUED } else { 0 };
     CheckedDesk::open(rt.alloc(), lanes, carried).expect(rt, "a desk")

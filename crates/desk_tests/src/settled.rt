@@ -1,12 +1,8 @@
 //! Two lanes under a rate, from the first ask to the settlement.
 
-ghost use Rattle.std.specs.Prelude.{◌≡◌};
-
 use super::expect::{OfTest, down, holds, limits};
-use grant_ledger::{Book, Settled};
-use lane_desk::{Desk, RoundRefusal, Rounds, open_desk};
-use line_rates::Limits;
-use std::process::Abort;
+use grant_ledger::Book;
+use lane_desk::{RoundRefusal, Rounds, open_desk};
 use test_checked_desk::{OwnSeat, settle_two, two_seats};
 
 /// The amounts that a lane took, in order.

@@ -97,15 +97,16 @@ fn is_refused(
     !first
 }
 
-/// Returns whether a desk is closed at once, or after one more round at the same tick, of whose grants the first is taken.
+/// The step after a refused round: the desk is closed at once, or after one more round at the same tick, of whose
+/// grants the first is taken.
 #[derive(Clone, Copy, PartialEq)]
 enum Then {
     Close,
     Again,
 }
 
-/// The same with a new desk, which is settled then: a refused round leaves the book unchanged, so that the next one at the
-/// same tick is accepted, and the sums add up in each case.
+/// As `is_refused`, with a new desk, which is then settled: a refused round leaves the book unchanged, so the next one
+/// at the same tick is accepted, and the sums add up in each case.
 fn settles(
     rt: &(impl Abort + AllocGlobal),
     heap: &LocalHeap,

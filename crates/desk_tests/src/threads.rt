@@ -1,6 +1,6 @@
 //! A worker and rounds in two threads, many times.
 
-ghost use Rattle.std.specs.Prelude.{◌≡◌, ◌<◌};
+ghost use Rattle.std.specs.Prelude.{◌<◌};
 ghost use Rattle.lane_desk.specs.Seats.{IsSeatOf, IsSameSeat};
 ghost use Rattle.lane_desk.specs.Turns.{IsRoundOf, IsSameRound};
 

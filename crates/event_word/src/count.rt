@@ -13,7 +13,7 @@ pub struct EventCount {
     word: AtomicU64,
     // 1 while the waiter sleeps or is about to
     parked: AtomicU64,
-    // keeps two of them in different lines of the processor's cache
+    // keeps two counts in different lines of the processor's cache
     room: [u64; 14],
 }
 
@@ -39,8 +39,8 @@ impl EventCount {
 
     /// Increases the count and wakes the waiter.
     ///
-    /// The waiter announces that it sleeps and then compares the count; this increases the count and then checks whether
-    /// the waiter sleeps. So one of the two sees the other.
+    /// The waiter announces that it sleeps and then compares the count; this increases the count and then checks
+    /// whether the waiter sleeps. So one of the two sees the other.
     pub fn signal(&self) {
         self.raise();
         if self.parked.load(Ordering::SeqCst) != 0 && self.parked.swap(0, Ordering::SeqCst) != 0 {
@@ -63,8 +63,8 @@ impl EventCount {
         unreachable!()
     }
 
-    /// Waits until the count is not `seen`, at most `limit`: yields to other threads for `patience` microseconds, and then
-    /// sleeps. May return spuriously.
+    /// Waits until the count is not `seen`, at most `limit`: yields to other threads for `patience` microseconds, and
+    /// then sleeps. May return spuriously.
     pub fn wait<R: Wait + Clock>(&self, rt: &R, seen: u64, patience: u64, limit: Duration) {
         if self.seen() != seen {
             return;

@@ -11,7 +11,7 @@ pub struct SharedEventCount {
     word: AtomicU64,
     // number of waiters that sleep or are about to
     parked: AtomicU64,
-    // keeps two of them in different lines of the processor's cache
+    // keeps two counts in different lines of the processor's cache
     room: [u64; 14],
 }
 

@@ -6,8 +6,8 @@ ghost use Rattle.folder_store.specs.Refusals.{store_fault};
 use std::alloc::AllocError;
 use virtual_tree::StoreFault;
 
-/// Why a call on files of the machine is refused. There is no fault for capacity: a full disk is a fault of
-/// the device.
+/// The reason for which a call on files of the machine is refused. There is no fault for capacity: a full disk is a
+/// fault of the device.
 #[derive(Clone, Copy, Debug, PartialEq, Eq)]
 pub enum MachineFault {
     /// There is no such entry, or a directory above it is missing.

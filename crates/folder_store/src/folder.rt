@@ -21,7 +21,7 @@ pub(crate) struct Folder<R: Files + Alloc + Clone + Drop> {
     pub path: String<R::A>,
 }
 
-/// The metadata of an entry, or why there is none.
+/// The metadata of an entry, or the fault for the machine's refusal.
 fn told(answer: io::Result<Metadata>) -> Result<Metadata, MachineFault> {
     answer.map_err(|error| fault_of(&error))
 }

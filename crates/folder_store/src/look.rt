@@ -13,7 +13,7 @@ use std::io::ErrorKind;
 use std::os::unix::fs::MetadataExt;
 use virtual_tree::StoreFault;
 
-/// Why a call was refused, from the machine's error kind. A full disk is a fault of the device.
+/// The reason for which a call was refused, from the machine's error kind. A full disk is a fault of the device.
 pub(crate) fn fault_of(error: &io::Error) -> MachineFault
     ensures none { error_kind error.now ≡ ErrorKind.NotFound → result ≡ MachineFault.NotFound }
     ensures file { error_kind error.now ≡ ErrorKind.NotADirectory → result ≡ MachineFault.NotDir }
@@ -38,7 +38,7 @@ pub(crate) fn fault_of(error: &io::Error) -> MachineFault
     }
 }
 
-/// Why an open file could not be read or written.
+/// The reason for which an open file could not be read or written.
 pub(crate) fn end_fault(error: &io::Error) -> StoreFault
     ensures either { (result ≡ StoreFault.Device) ⊎ (result ≡ StoreFault.Memory) }
     ensures memory { error_kind error.now ≡ ErrorKind.OutOfMemory → result ≡ StoreFault.Memory }

@@ -116,7 +116,7 @@ pub fn write_new<F: Write + Drop>(file: F) -> DirSink<F> {
     DirSink { file }
 }
 
-/// A file to write after its first octets, this many; the others are cut off.
+/// A file to write after its first `offset` octets; the others are cut off.
 pub(crate) fn write_behind<F: Write + Seek + OpenFile + Drop>(
     file: F,
     looked: &Metadata,

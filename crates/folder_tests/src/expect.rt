@@ -1,5 +1,5 @@
-//! Expectations of the tests. A call costs the prover less than an `assert!` in its place, and an expected value costs less
-//! than a `?`, which drops everything alive there.
+//! Expectations of the tests. A call costs the prover less than an `assert!` in its place, and an expected value costs
+//! less than a `?`, which drops everything alive there.
 
 use folder_store::DirStore;
 use std::alloc::Global;

@@ -13,14 +13,14 @@ use std::{fs, io};
 use virtual_path::VPath;
 use virtual_tree::{Sink, Source, Store, StoreFault};
 
-/// Returns whether two more octets are read, or why not.
+/// Reads up to two more octets, and returns their number.
 fn reads<S: Source>(source: &mut S) -> Result<usize, StoreFault> {
     let mut buffer = [0; 2];
     source.read(&mut buffer)
 }
 
-/// A file of six octets that is cut after two were read returns a fault each time, and no end. A read without room is not
-/// an end either. What is written after its former length is read too.
+/// A file of six octets that is cut after two were read returns a fault each time, and no end. A read without room is
+/// not an end either. Octets written after its former length are read too.
 fn check_changed<S: Store<Global>>(
     rt: &(impl Abort + Files + AllocGlobal),
     store: &mut S,

@@ -1,5 +1,5 @@
-//! Tests of stores over folders of the machine, each in a fresh one, and on a machine where another process acts between
-//! the store's calls, by public calls alone.
+//! Tests of stores over folders of the machine by public calls alone: each in a fresh folder, and on a machine where
+//! another process acts between the store's calls.
 #![tactic(auto)]
 
 #[cfg(test)]

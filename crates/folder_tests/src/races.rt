@@ -1,5 +1,5 @@
-//! Results of a store if links lead out of its folder, also if another process puts them there between its calls. Entries
-//! outside are unchanged.
+//! Results of a store if links lead out of its folder, also if another process puts them there between its calls.
+//! Entries outside are unchanged.
 
 use crate::expect::{comes_out_in, fresh_folder, holds, place_in, take_away};
 use crate::racing_machine::{Act, Racing, acting};

@@ -26,7 +26,7 @@ static PATHS: [&str; 12] = [
     "/", "/a", "/b", "/c", "/a/a", "/a/b", "/b/a", "/a/a/a", "/a/a/b", "/a!", "/a/b/c", "/b/b",
 ];
 
-/// One of some words, chosen by the next pseudo-random number (G. Marsaglia, *Xorshift RNGs*, 2003).
+/// One of these words, chosen by the next pseudo-random number (G. Marsaglia, *Xorshift RNGs*, 2003).
 fn one_of(number: &mut u64, words: &[&'static str]) -> &'static str {
     *number ^= number.wrapping_shl(13);
     *number ^= number.wrapping_shr(7);

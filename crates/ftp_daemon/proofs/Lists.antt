@@ -1,6 +1,6 @@
 -- What stands next in a list that is gone through.
-use Rattle.std.proofs.Common.{◌≡◌, ℕ, zero, suc, ◌∙◌, List, [], ◌∷◌, ◌++◌, length, refl, sym, ap}
-use Rattle.std.specs.Prelude.{Option, Some, slice_get}
+use Rattle.std.proofs.Common.{◌≡◌, ◌∙◌, List, [], ◌∷◌, ◌++◌, length, refl, sym, ap}
+use Rattle.std.specs.Prelude.{Some, slice_get}
 
 get_middle : {A : Type 0} (ys : List A) (x : A) (r : List A) → slice_get (ys ++ x ∷ r) (length ys) ≡ Some x
 get_middle [] x r = refl

@@ -174,8 +174,8 @@ where
     house.registry.lock(rt).leave(key);
 }
 
-/// Accepts control connections until there were as many as there are to be, or the sessions are to end; then nobody listens
-/// any more. Returns once all sessions have ended.
+/// Accepts control connections until the wanted number of sessions has begun, or the sessions are to end; then stops
+/// listening. Returns once all sessions have ended.
 pub(crate) fn accept_all<R, S, H, B>(rt: &R, house: &House<S, H, B>, listener: TcpListener)
 where
     R: Threads

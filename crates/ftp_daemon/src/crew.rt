@@ -12,8 +12,8 @@ use std::sync::Wait;
 use std::time::Clock;
 use virtual_tree::Store;
 
-/// The work of the threads of one server. A scope of threads is lent one type for it, with one parameter: with the types of
-/// all parts of a server, the prover cannot state what the scope takes.
+/// The work of the threads of one server. A scope of threads is lent one type for it, with one parameter: with the
+/// types of all parts of a server, the prover cannot state what the scope takes.
 pub(crate) trait Crew {
     /// Number of lanes.
     fn lanes(&self) -> usize;

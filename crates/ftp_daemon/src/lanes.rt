@@ -1,6 +1,6 @@
 //! The threads of lanes and rounds.
 
-ghost use Rattle.std.specs.Thread.{IsSend, IsSync};
+ghost use Rattle.std.specs.Thread.{IsSync};
 
 use crate::accepting::accept_all;
 use crate::crew::Crew;

@@ -1,12 +1,13 @@
-//! The running server: control connections, lanes and rounds, each in threads of their own, and the settlement at the end.
+//! The running server: control connections, lanes and rounds, each in threads of their own, and the settlement at the
+//! end.
 //!
-//! [`serve`] listens, writes `ready`, and serves until it has had its sessions or its stop file appears. Then it waits for
-//! the sessions in progress, gathers all shares, and writes `settled issued I moved M back B`: by the types of what the
-//! threads were lent, the octets issued are those moved and those given back, whatever happened.
+//! [`serve`] listens, writes `ready`, and serves until it has had its sessions or its stop sign is up. Then it waits
+//! for the sessions in progress, gathers all parts that it lent, and writes `settled issued I moved M back B`: by the
+//! types of what the threads were lent, the octets issued are those moved and those given back, whatever happened.
 //!
-//! The crate is the programs as a library too: the commands that need no server, with what they take and return, are
-//! re-exported. [`run_share`] and [`run_check`] are those on sheets, [`run_script`] serves a session without sockets, and
-//! [`migrate`] returns a configuration in version 2.
+//! The crate is also the library of the programs: it re-exports the commands that need no server, with the types that
+//! they take and return. [`run_share`] and [`run_check`] work on sheets, [`run_script`] serves a session without
+//! sockets, and [`migrate`] returns a configuration in version 2.
 #![tactic(auto)]
 
 mod accepting;

@@ -1,6 +1,6 @@
 //! The parts that a server needs before it serves.
 
-ghost use Rattle.std.specs.Prelude.{◌≡◌, ◌+◌, ◌≤◌, [], IfOk, length, vec_capacity};
+ghost use Rattle.std.specs.Prelude.{◌≡◌, ◌+◌, ◌≤◌, [], length, vec_capacity};
 ghost use Rattle.lane_desk.specs.Open.{AreFresh};
 ghost use Rattle.desk_rule.specs.Lanes.{posted_in};
 ghost use Rattle.lane_desk.specs.Seats.{desk_id};
@@ -35,8 +35,8 @@ pub struct Service<S: Drop, H: Hooks, P: Drop> {
     pub users: Authorizer,
     pub limits: Limits,
     pub store: S,
-    /// More stores over the same files, one for each connection, if they can be had: then no session waits for a call of
-    /// another's.
+    /// More stores over the same files, one for each connection, if they can be had: then no session waits for a call
+    /// of another's.
     pub own_stores: Vec<S>,
     /// The owner's callbacks.
     pub handler: H,

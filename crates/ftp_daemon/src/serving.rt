@@ -208,7 +208,7 @@ where
     }
 }
 
-// Writes the outcome of all octets.
+// Writes the numbers of octets issued, moved and given back.
 fn tell_settled<W: TextWriter>(
     alloc: Global,
     settled: &Settled,

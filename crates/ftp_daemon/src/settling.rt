@@ -1,4 +1,4 @@
-//! Settling the line that a server shared out.
+//! Settlement of a server's desk, whether it was lent or not.
 
 ghost use Rattle.std.specs.Prelude.{◌≡◌, ◌+◌, ◌≤◌, [], length, vec_capacity};
 ghost use Rattle.lane_desk.specs.Open.{AreFresh};

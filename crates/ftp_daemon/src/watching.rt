@@ -32,8 +32,8 @@ pub(crate) fn is_up<P: StopSign>(stop: &Option<P>) -> bool {
     }
 }
 
-/// Checks the sign until the sessions are to end. If it is up, ends them, and wakes the thread that accepts by a connection
-/// to its own port.
+/// Checks the sign until the sessions are to end. If it is up, ends them, and wakes the thread that accepts by a
+/// connection to its own port.
 pub(crate) fn watch<R, S, H, B, P>(rt: &R, house: &House<S, H, B>, sign: &P)
 where
     R: Wait + Clock + Net<Listener = TcpListener, Stream = TcpStream>,

@@ -1,5 +1,5 @@
 -- Listings and quoted paths stand on one line where the name or path does.
-use Rattle.std.proofs.Common.{◌≡◌, ◌≢◌, ℕ, ◌-◌, ◌/◌, ◌%◌, zero, suc, Bool, true, ◌&&◌, if◌then◌else◌, List, [], ◌∷◌, ◌++◌, length, refl, arith, codes, unsigned_abs, slice_index_or, ◌==◌}
+use Rattle.std.proofs.Common.{◌≡◌, ◌≢◌, ℕ, ◌-◌, ◌/◌, ◌%◌, zero, suc, Bool, true, ◌&&◌, if◌then◌else◌, List, [], ◌∷◌, length, refl, arith, codes, unsigned_abs, slice_index_or, ◌==◌}
 use Rattle.std.proofs.Math.ListN.{replicate}
 use Rattle.std.proofs.lemmas.Bool.{and_from, and_parts}
 use Rattle.std.specs.Fmt.{decimal}
@@ -13,7 +13,7 @@ use Rattle.ftp_terms.specs.declared.letters.Letters.{Letters}
 use Rattle.ftp_terms.specs.Lines.{IsLine, is_line}
 use Rattle.ftp_terms.proofs.LineLemmas.{IsPlain, both, either, one, plain, plain_decimal}
 use Rattle.ftp_reply.specs.Dates.{IsTimeVal, time_val}
-use Rattle.ftp_reply.specs.Listings.{IsListLine, IsMlstEntry, directory_perms, entry_facts, fact, file_perms, has_size, list_text, listed_size, mode_text, month_name, month_names, perms, type_name}
+use Rattle.ftp_reply.specs.Listings.{IsListLine, IsMlstEntry, entry_facts, fact, has_size, list_text, listed_size, mode_text, month_name, month_names, perms, type_name}
 use Rattle.ftp_reply.specs.Numbers.{right_in, spaced, zeroed}
 use Rattle.ftp_reply.specs.Quoting.{doubled, quoted}
 

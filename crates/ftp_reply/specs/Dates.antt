@@ -8,7 +8,7 @@ use Rattle.ftp_reply.specs.Numbers.{zeroed}
 abbrev pub FallsOn : ℕ → Date → Type 0
 FallsOn seconds date = epoch_day date ≡ pos (seconds / 86400)
 
--- YYYYMMDDHHMMSS (RFC 3659 section 2.3)
+-- YYYYMMDDHHMMSS (RFC 3659, section 2.3)
 abbrev pub time_val : ℕ → Date → List ℕ
 time_val seconds date =
     zeroed 4 (unsigned_abs date.year) ++ zeroed 2 date.month ++ zeroed 2 date.day

@@ -47,7 +47,7 @@ pub record IsListLine (entry : Meta) (name text : List ℕ) : Type 0 where
   pub falls_on : FallsOn entry.modified date
   pub text_is : text ≡ list_text entry name date
 
--- ---- MLST and MLSD: the facts of an entry (RFC 3659 section 7)
+-- ---- MLST and MLSD: the facts of an entry (RFC 3659, section 7)
 
 -- the operations permitted on a directory, and on a file (section 7.5.5)
 abbrev pub directory_perms : Letters → List ℕ

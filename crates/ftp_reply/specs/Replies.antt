@@ -1,4 +1,4 @@
--- The text of a reply (RFC 959 section 4.2).
+-- The text of a reply (RFC 959, section 4.2).
 use Rattle.std.specs.Prelude.{ℕ, ◌≤◌, Bool, false, if◌then◌else◌, List, [], ◌∷◌, ◌++◌, codes}
 use Rattle.std.specs.List.{AllByRecursion, flat_map}
 use Rattle.std.specs.Char.{is_ascii_digit}

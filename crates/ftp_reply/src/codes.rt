@@ -1,6 +1,6 @@
 //! The codes of replies.
 
-ghost use Rattle.std.specs.Prelude.{◌≡◌, ◌+◌, ◌/◌, ◌%◌, ◌≤◌, ◌∷◌, []};
+ghost use Rattle.std.specs.Prelude.{◌≡◌, ◌+◌, ◌/◌, ◌%◌, ◌≤◌};
 ghost use Rattle.std.specs.Fmt.{decimal};
 ghost use Rattle.ftp_reply.specs.declared.codes.TheConstants.{HIGHEST_CODE, LOWEST_CODE};
 
@@ -10,7 +10,7 @@ pub const LOWEST_CODE: u16 = 100;
 /// The highest code of three digits whose first digit is 5.
 pub const HIGHEST_CODE: u16 = 599;
 
-/// The code of a reply: a number of three digits, the first of them 1 to 5 (RFC 959 section 4.2).
+/// The code of a reply: a number of three digits, the first of them 1 to 5 (RFC 959, section 4.2).
 #[derive(Clone, Copy, Debug, PartialEq, Eq)]
 pub struct ReplyCode {
     pub number: u16,

@@ -1,4 +1,5 @@
 //! Moments in the civil calendar.
+
 ghost use Rattle.std.specs.Prelude.{IfOk, ◌≡◌, ◌≤◌, ◌+◌, ◌/◌, ◌%◌, ◌∷◌, [], unsigned_abs};
 ghost use Rattle.std.specs.Str.{IsAscii};
 ghost use Rattle.ftp_terms.specs.LineText.{text_of};
@@ -48,7 +49,7 @@ fn four_digits(n: u32) -> [u8; 4]
 }
 
 /// The moment, in seconds since 1970 and up to [`LATEST`], as `YYYYMMDDHHMMSS` in UTC (RFC 3659
-/// section 2.3). No memory.
+/// section 2.3). Takes no memory.
 pub fn mdtm_text(seconds: u64) -> [u8; 14]
     requires in_calendar { seconds ≤ LATEST }
     ensures text { IsTimeVal seconds result }

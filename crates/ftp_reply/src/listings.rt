@@ -43,7 +43,8 @@ fn list_text<A: Allocator>(alloc: A, entry: &Meta, name: &str) -> Result<String<
     Ok(text)
 }
 
-/// A law: a moment, an entry and a name have one text, since each day has one date.
+/// A law: a moment has one text, an entry under a name has one line, and an entry with its facts, letters
+/// and path has one text, since each day has one date.
 pub fn listings_have_one_text()
     ensures moments { MomentsHaveOneText }
     ensures lines { LinesHaveOneText }
@@ -89,7 +90,7 @@ fn month_name(month: u8) -> &'static str
     }
 }
 
-/// An entry of MLST and MLSD, without the end of the line (RFC 3659 section 7.2): each enabled fact
+/// An entry of MLST and MLSD, without the end of the line (RFC 3659, section 7.2): each enabled fact
 /// as `name=value;` in the order type, size, modify, perm, then a space and the path. Returns `Err`
 /// if memory runs out.
 pub fn mlst_entry<A: Allocator>(

@@ -11,7 +11,7 @@ use ftp_terms::LineText;
 use std::alloc::{AllocError, Allocator, Global};
 use std::marker::Model;
 
-/// A reply to a command (RFC 959 section 4.2): a code with one line of text, or with several.
+/// A reply to a command (RFC 959, section 4.2): a code with one line of text, or with several.
 #[derive(Drop)]
 pub struct Reply<A: Allocator = Global> {
     code: ReplyCode,

@@ -1,7 +1,7 @@
 //! Permissions of users.
 
 ghost use Rattle.std.specs.Prelude.{◌≡◌, ◌==◌};
-ghost use Rattle.std.specs.List.{list_any, list_all};
+ghost use Rattle.std.specs.List.{list_all};
 ghost use Rattle.ftp_terms.specs.Letters.{has_letter, holds, is_letter, letters_of};
 
 /// A permission, named by a letter as in the fact `perm` of RFC 3659, section 7.5.5.

@@ -1,7 +1,6 @@
 -- What a reader has read, octet by octet.
-use Rattle.std.proofs.Common.{sym, ap, subst, ◌∙◌, ◌≡◌, ◌≢◌, ◌++◌, ◌∷◌, [], ℕ, List, map, append-nil}
+use Rattle.std.proofs.Common.{sym, ap, subst, ◌∙◌, ◌≡◌, ◌≢◌, ◌++◌, ◌∷◌, [], ℕ, List, map}
 use Rattle.std.proofs.lemmas.List.{map-append}
-use Rattle.ftp_wire.specs.declared.lines.OpenLine.{OpenLine}
 use Rattle.ftp_wire.specs.declared.reader.LineReader.{LineReader}
 use Rattle.ftp_wire.specs.Items.{Item, line_item}
 use Rattle.ftp_wire.specs.Reading.{HasRead, Holds, OnlyReadsAs, ReadsAs}

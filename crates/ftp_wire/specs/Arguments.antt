@@ -174,8 +174,8 @@ option_of text =
     (if same_letters text (codes "MLST") then Ok (Mlst no_facts) else
     or_bad (listed_facts (after_word (codes "MLST ") text)))
 
--- drops a first word that begins with a hyphen, as `-la` in LIST, NLST and STAT, with the space
--- after it
+-- drops a first word that begins with a hyphen, such as `-la` in LIST, NLST and STAT, with the
+-- space after it
 unfoldable pub without_switches : List ℕ → Option (List ℕ)
 without_switches text =
     if slice_index_or text 0 0 == hyphen

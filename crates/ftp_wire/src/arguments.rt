@@ -41,7 +41,7 @@ fn value_of(digits: &[u8]) -> u64
     number
 }
 
-/// The number that decimal digits represent, at most 2^64 - 1.
+/// The number of a text that is decimal digits, at most 2^64 - 1; otherwise `None`.
 #[tactic(auto, unfolding(crate::specs::Arguments::number_cut_at, crate::specs::Arguments::number_of))]
 pub(crate) fn number_or_most(text: &[u8]) -> Option<u64>
     ensures number { result ≡ number_cut_at (2 ^ 64 - 1) text.now }

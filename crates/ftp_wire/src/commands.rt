@@ -44,7 +44,7 @@ pub enum Command<T> {
     Appe(T),
     /// REST: an offset in octets, below 10^19.
     Rest(u64),
-    /// RNFR: what to rename.
+    /// RNFR: the file or directory to rename.
     Rnfr(T),
     /// RNTO: its new name.
     Rnto(T),

@@ -8,7 +8,7 @@ use ftp_reply::{HIGHEST_CODE, LOWEST_CODE, Reply, ReplyCode};
 use ftp_terms::LineText;
 use std::alloc::Allocator;
 
-/// Why a line is not a command. If several apply, the first in this order is reported.
+/// The reason for which a line is not a command. If several apply, the first in this order is reported.
 #[derive(Clone, Copy, Debug, PartialEq, Eq)]
 pub enum LineFault {
     /// More than 4,096 octets before the end of the line.
@@ -30,7 +30,7 @@ pub enum LineFault {
 impl LineFault {
     ghost use Rattle.ftp_wire.specs.Faults.{fault_reply};
 
-    /// The reply to such a line (RFC 959, section 4.2.1). No memory.
+    /// The reply to such a line (RFC 959, section 4.2.1). Takes no memory.
     pub fn reply<A: Allocator>(self) -> Reply<A>
         ensures reply { result ≡ fault_reply self }
     {

@@ -176,8 +176,8 @@ macro_rules! table {
     };
 }
 
-/// The known codes (RFC 959, section 5.3; the X codes by RFC 1123, section 4.1.3.1; RFC 2228, 2389, 2428, 2640, 3659 and
-/// 7151). A code with an X means the command without it; XCUP means CDUP.
+/// The known codes (RFC 959, section 5.3; the X codes by RFC 1123, section 4.1.3.1; RFC 2228, 2389, 2428, 2640, 3659
+/// and 7151). A code with an X means the command without it; XCUP means CDUP.
 static TABLE: &[Row] = with_served!(table);
 
 fn rows() -> &'static [Row]

@@ -7,7 +7,7 @@ ghost use Rattle.ftp_wire.specs.Given.{CanBeReadBack};
 ghost use Rattle.ftp_wire.specs.Reading.{OnlyReadsAs};
 ghost use Rattle.ftp_wire.specs.Written.{argument_part, extended_passive_text, extended_port_text, form_argument, has_facts, option_text, type_text, written};
 
-use crate::commands::{Command, ExtendedPassive, ExtendedPort, FeatureOption, HostPort};
+use crate::commands::{Command, ExtendedPassive, ExtendedPort, FeatureOption};
 use crate::texts::{push_facts, push_port};
 use crate::verbs::{argument_of, code_of};
 use ftp_terms::{DataType, Facts};

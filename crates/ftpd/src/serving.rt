@@ -1,7 +1,7 @@
 //! The server of the machine that the program runs on.
 //!
-//! `program` checks the words and the configuration, and is given an [`Asked`], which keeps the configuration; the
-//! server runs after that. A trait's method cannot hand its runtime on to threads: the prover knows its bounds in this
+//! `ftpd_program` checks the words and the configuration, and is given an [`Asked`], which keeps the configuration; the
+//! server runs after that. A trait's method cannot pass its runtime to threads: the prover knows its bounds in this
 //! thread alone. So functions on files and the console name the runtime itself, and functions that start threads have a
 //! type parameter for their permission.
 

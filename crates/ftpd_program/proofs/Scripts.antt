@@ -1,5 +1,5 @@
 -- A configuration that was read whole.
-use Rattle.std.proofs.Common.{◌≡◌, ◌∙◌, ℕ, List, Option, Some, None, Result, Ok, Err, IfErr, IfOk, sym, subst}
+use Rattle.std.proofs.Common.{◌≡◌, ◌∙◌, ℕ, List, Option, Some, None, Result, Ok, Err, IfErr, IfOk, sym}
 use Rattle.std.specs.Io.KnownBytes.{Consumes, IsAtEnd}
 use Rattle.server_config.specs.Configs.{IsConfigText}
 use Rattle.server_config.specs.declared.config.Config.{Config}

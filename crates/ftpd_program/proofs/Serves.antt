@@ -2,10 +2,7 @@
 use Rattle.std.proofs.Common.{ℕ, List, Option, Ok, Err}
 use Rattle.server_config.specs.declared.config.Config.{Config}
 use Rattle.sheets_program.specs.Runs.{Octets}
-use Rattle.sheets_program.specs.declared.ending.Ending.TheVariants.{Done, Flawed, Refused, Text, Share, Check}
-use Rattle.ftpd_program.specs.Serving.{Answer, IsConfigIn, IsServeEnd, IsUnconfiguredEnd, Service, end_of}
-use Rattle.ftpd_program.specs.declared.ending.Ending.{Ending}
-use Rattle.ftpd_program.specs.declared.ending.Ending.TheVariants.{Common, Config as Unread, Session, Server}
+use Rattle.ftpd_program.specs.Serving.{Answer, IsConfigIn, IsServeEnd, Service, end_of}
 
 -- what the server answered
 pub answered : (gives : Octets) (serves : Service) (path old new : Option (List ℕ)) (config : Config) (answer : Answer) → IsConfigIn gives config

@@ -14,8 +14,8 @@ use Rattle.ftpd_program.specs.Endings.{IsCommon}
 use Rattle.ftpd_program.specs.declared.ending.Ending.{Ending}
 use Rattle.ftpd_program.specs.declared.ending.Ending.TheVariants.{Common, Session}
 
--- the cause of a fault of reading the file of that path: only if it is possible, and the file is
--- named
+-- the cause of a fault of reading the file of that path: a read fault is possible, and a read fault
+-- or a text that is too long names the file
 abbrev pub IsReadWhy : List ℕ → Type 0 → Ending → Type 0
 IsReadWhy path may (Common (Text fault cause)) =
     (fault ≡ ReadFault → may × (file_of cause ≡ Some path))

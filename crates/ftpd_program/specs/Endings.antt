@@ -13,8 +13,8 @@ status_of (Session fault) = 1
 status_of (Server fault) = 1
 
 -- nothing was written: the command line or the configuration is refused, or there is a fault other
--- than that of the output; of a session that broke off, some replies may have been, and of a
--- server, its messages
+-- than that of the output; but a session that broke off may have written some replies, and a server
+-- its messages
 abbrev pub IsUnwritten : Ending → Type 0
 IsUnwritten (Common ending) = common.IsUnwritten ending
 IsUnwritten (Config fault) = Unit {0}

@@ -47,7 +47,7 @@ IsScriptEnd gives config old new (Session fault) =
     × IsUnscripted text before after old new (Unserved fault))
 IsScriptEnd gives config old new _ = ⊥
 
--- the ending of that command, by a server
+-- the ending of that command, given the possible calls of a server
 abbrev pub IsCommandEnd : (List ℕ → Octets) → Service → (List ℕ → Type 0) → Words → Option (List ℕ)
     → Option (List ℕ) → Ending → Type 0
 IsCommandEnd gives serves Refuses (Sheet words) old new ending =

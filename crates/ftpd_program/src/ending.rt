@@ -1,4 +1,5 @@
 //! The endings of the program.
+
 ghost use Rattle.std.specs.Prelude.{◌≡◌};
 ghost use Rattle.ftpd_program.specs.Endings.{status_of};
 
@@ -21,7 +22,7 @@ pub enum Ending<'w> {
     Config(ConfigFault),
     /// A folder is configured, but the store has to be in memory; or the control session broke off.
     Session(SessionFault),
-    /// The server ended otherwise than its configuration says.
+    /// The server did not start, or did not end as its configuration says.
     Server(ServeFault),
 }
 

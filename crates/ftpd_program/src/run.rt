@@ -1,4 +1,5 @@
 //! Running the command of a line's words.
+
 ghost use Rattle.std.specs.Prelude.{◌≡◌, ◌≢◌, ◌⊎◌, ◌∷◌, [], ℕ, List, None, Some, codes, map};
 ghost use Rattle.clap.specs.Words.{fault_of, subcommand_of};
 ghost use Rattle.command_line.specs.Commands.{ftpd};
@@ -131,8 +132,8 @@ fn run_command<'w, O: Openings, W: TextWriter, V: Server<W>>(
 }
 
 /// Runs the command of the words, which do not include the program's name. Nothing is written to the output if the
-/// words are refused, nor before a fault other than that of the output; of a session that broke off, some replies may
-/// have been, and of a server that ended early, its messages.
+/// words are refused, nor before a fault other than that of the output; but a session that broke off may have written
+/// some replies, and a server that ended early its messages.
 pub fn run_words<'w, O: Openings, W: TextWriter, V: Server<W>>(
     alloc: Global,
     words: &'w [&'w str],

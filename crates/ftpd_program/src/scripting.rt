@@ -53,7 +53,7 @@ pub(crate) fn read_config<C: TextReader>(
 
 /// Reads a configuration whole, and then serves the control session of the input, as `serve_config` does: its replies
 /// are written. The configuration is checked before anything of the input is read; if it is refused, or has a folder,
-/// nothing is written. Of a session that breaks off, some replies may have been.
+/// nothing is written. A session that breaks off may have written some replies.
 ///
 /// `TooLong`: the configuration has more than `MAX_TEXT` octets. `Text(ReadFault)`: a read of it failed.
 /// `Session(Control(ReadFault))`: a read of the input failed, or the session made all its reads.

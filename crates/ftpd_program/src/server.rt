@@ -8,7 +8,7 @@ use std::alloc::{AllocError, Global};
 use text_io::TextWriter;
 use thiserror::Error;
 
-/// The reason for which a server ended otherwise than its configuration says. It prints as its name.
+/// The reason for which a server did not start, or did not end as its configuration says. It prints as its name.
 #[derive(Clone, Copy, Debug, PartialEq, Eq, Error)]
 pub enum ServeFault {
     /// The server cannot listen on the control port.

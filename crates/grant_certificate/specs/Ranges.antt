@@ -25,12 +25,12 @@ abbrev pub IsGreater : List ℕ → List ℕ → ℕ → ℕ → Type 0
 IsGreater g floors grant j =
     (grant + 2 ≤ slice_index g j) × (slice_index g j ≡ slice_index floors j → ⊥)
 
--- no grant in the range does
+-- no grant in the range exceeds `grant` by two or more, unless it is its leaf's floor
 abbrev pub IsNoneGreater : ℕ → ℕ → List ℕ → List ℕ → ℕ → Type 0
 IsNoneGreater first leaves g floors grant =
     (j : ℕ) → IsTrue (leaf_range first leaves j) → IsNear g floors grant j
 
--- the first leaf of the range whose grant does
+-- the first leaf of the range whose grant exceeds `grant` by two or more, and is not its floor
 abbrev pub IsFirstGreater : ℕ → ℕ → List ℕ → List ℕ → ℕ → ℕ → Type 0
 IsFirstGreater first leaves g floors grant leaf =
     IsTrue (leaf_range first leaves leaf) × IsGreater g floors grant leaf ×

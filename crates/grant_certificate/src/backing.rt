@@ -1,4 +1,5 @@
 //! Leaves whose entry is the number of a bottleneck.
+
 ghost use Rattle.limit_tree.specs.declared.bounds.TheConstants.{MAX_LEAVES};
 ghost use Rattle.std.specs.Prelude.{◌≡◌, ◌+◌, ◌<◌, ◌≤◌, ◌^◌, ◌⊎◌, ◌↔◌, ℕ, Some, IsTrue, length, sum};
 ghost use Rattle.grant_certificate.specs.Ranges.{IsMarked, IsHeldWithin};

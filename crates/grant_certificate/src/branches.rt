@@ -1,4 +1,5 @@
 //! Searches of branches in one walk.
+
 ghost use Rattle.limit_tree.specs.declared.bounds.TheConstants.{MAX_LEAVES};
 ghost use Rattle.std.specs.Prelude.{◌≡◌, ◌<◌, ◌≤◌, ◌^◌, length, sum};
 ghost use Rattle.limit_tree.specs.Outline.{limits};

@@ -1,4 +1,5 @@
 //! Certificates.
+
 ghost use Rattle.std.specs.Prelude.{◌≡◌};
 
 use std::alloc::{Allocator, Global};

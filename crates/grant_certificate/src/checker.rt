@@ -1,4 +1,5 @@
 //! The checker.
+
 ghost use Rattle.limit_tree.specs.declared.bounds.TheConstants.{MAX_LEAVES};
 ghost use Rattle.grant_certificate.specs.declared.checker.TheConstants.{FEW_LEAVES};
 ghost use Rattle.std.specs.Prelude.{◌≡◌, ◌<◌, ◌≤◌, ◌^◌, ◌↔◌, ℕ, MatchOption, length, sum};

@@ -1,4 +1,6 @@
-/// Why grants or their certificate are refused. Leaves and nodes are given by number.
+//! Flaws of grants and of their certificates.
+
+/// The reason for which grants or their certificate are refused. Leaves and nodes are given by number.
 #[derive(Clone, Copy, Debug, PartialEq, Eq)]
 pub enum Flaw {
     /// The number of grants or of entries is not the number of leaves.
@@ -9,7 +11,7 @@ pub enum Flaw {
     OverLimit { node: usize },
     /// The entry of the leaf is not the number of a branch.
     NoNode { leaf: usize },
-    /// The branch in the entry does not hold the leaf.
+    /// The branch in the entry does not contain the leaf.
     NotAbove { leaf: usize, node: usize },
     /// The branch in the entry is not full.
     NotFull { leaf: usize, node: usize },

@@ -1,4 +1,5 @@
 //! The wants and floors of all leaves of a tree.
+
 ghost use Rattle.limit_tree.specs.declared.bounds.TheConstants.{MAX_LEAVES};
 ghost use Rattle.std.specs.Prelude.{◌≤◌};
 

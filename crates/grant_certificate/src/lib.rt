@@ -11,7 +11,7 @@
 //! let grants = vec![in alloc; 20, 10]?;
 //! // the root holds back the first leaf
 //! let certificate = Certificate::new(vec![in alloc; Some(0), None]?);
-//! // a `No` tells which leaf or branch is at fault
+//! // a `No` has the flaw, and in it the leaf or branch at fault
 //! let verdict = check(&tree, &grants, &certificate);
 //! assert!(rt; verdict == Verdict::Yes);
 //! match seal(tree, grants, certificate) {

@@ -1,4 +1,5 @@
 //! Grants above their bounds.
+
 ghost use Rattle.std.specs.Prelude.{◌≡◌, ◌<◌, ◌≤◌, ◌^◌, ℕ, MatchOption, length, slice_index, sum};
 
 use super::range::{Load, load_of};

@@ -1,4 +1,5 @@
 //! Properties of a range of leaves, computed from the grants of all leaves.
+
 ghost use Rattle.std.specs.Prelude.{◌≡◌, ◌+◌, ◌<◌, ◌≤◌, ◌^◌, ◌↔◌, IsTrue, MatchOption, length, sum};
 ghost use Rattle.limit_tree.specs.Outline.{IsFullPlace};
 ghost use Rattle.grant_certificate.specs.Ranges.{IsGreatest, IsFirstGreater, IsNoneGreater, IsOverPlace};

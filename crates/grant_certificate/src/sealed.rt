@@ -1,4 +1,5 @@
 //! Grants that passed the check.
+
 ghost use Rattle.std.specs.Prelude.{◌≡◌, ◌<◌, ◌^◌, ◌↔◌, IfOk, IfErr, IsOk, sum};
 ghost use Rattle.limit_tree.specs.Outline.{limits};
 ghost use Rattle.limit_tree.specs.Sharing.{IsWithin, IsBackedBy, IsBest};

@@ -1,5 +1,5 @@
-//! The book, and the values that must be spent. Only this module can access their fields, so each octet of a grant comes
-//! from an entry of a book.
+//! The book, and the values that must be spent. Only this module can access their fields, so each octet of a grant
+//! comes from an entry of a book.
 
 ghost use Rattle.std.specs.Prelude.{◌≡◌, ◌+◌, ◌-◌, ◌<◌, ◌≤◌, sum, length, slice_index_or, slice_set, IsSome, OnOk, OnErr, IfOk, MatchResult};
 ghost use Rattle.limit_tree.specs.Outline.{limits};
@@ -22,9 +22,9 @@ pub const MAX_ISSUED: u64 = 4_611_686_018_427_387_904;
 #[derive(Clone, Copy)]
 pub struct Plain;
 
-/// The octets issued, the tick of the last entry, and for each lane the amount not yet drawn, with the tick of the entry
-/// that it is from. A book must be settled. The type `N` is the name of the book, which its grants, purses and tallies
-/// share.
+/// The octets issued, the tick of the last entry, and for each lane the amount not yet drawn, with the tick of the
+/// entry that it is from. A book must be settled. The type `N` is the name of the book, which its grants, purses and
+/// tallies share.
 pub struct Book<N = Plain> {
     name: PhantomData<N>,
     issued: u64,
@@ -157,8 +157,8 @@ impl<N> Book<N> {
 
     /// Issues the grants of a decision: grant i is to be drawn at lane i of `lanes`.
     ///
-    /// Returns `NotYet` if the tick is not above that of the last entry, and otherwise `BookFull` if more than `MAX_ISSUED`
-    /// octets would be issued. The book is unchanged then.
+    /// Returns `NotYet` if the tick is not above that of the last entry, and otherwise `BookFull` if more than
+    /// `MAX_ISSUED` octets would be issued. The book is unchanged then.
     pub fn enter<A: Allocator, B: Allocator>(
         &mut self,
         sealed: &Sealed<A, B>,
@@ -184,8 +184,8 @@ impl<N> Book<N> {
         Ok(())
     }
 
-    /// Issues the grants of a decision into a purse, with the refusals of `enter`. Amounts of an earlier entry that are not
-    /// yet drawn remain, with the tick of that entry.
+    /// Issues the grants of a decision into a purse, with the refusals of `enter`. Amounts of an earlier entry that are
+    /// not yet drawn remain, with the tick of that entry.
     pub fn enter_out<A: Allocator, B: Allocator>(
         &mut self,
         sealed: &Sealed<A, B>,
@@ -235,8 +235,8 @@ impl<N> Book<N> {
         Ok(())
     }
 
-    /// Hands out the amount of a lane in the last entry of `enter`, which must not be drawn yet (`undrawn` returns it). The
-    /// grant has the tick of that entry.
+    /// Hands out the amount of a lane in the last entry of `enter`, which must not be drawn yet (`undrawn` returns it).
+    /// The grant has the tick of that entry.
     pub fn draw(&mut self, lane: u8) -> Grant<N>
         requires lane { lane < MAX_LANES }
         requires undrawn { IsSome (slice_index_or self.old.undrawn lane None) }
@@ -321,8 +321,8 @@ impl<N> Grant<N> {
         }
     }
 
-    /// Spends the grant: `moved` octets were moved, and the rest is given back. The tally's sums saturate at the greatest
-    /// u64.
+    /// Spends the grant: `moved` octets were moved, and the rest is given back. The tally's sums saturate at the
+    /// greatest u64.
     pub fn spend(self, moved: u64, tally: &mut Tally<N>)
         requires within { moved ≤ self.octets }
         ensures moved { tally.new.moved ≡ capped tally.old.moved moved }

@@ -4,12 +4,12 @@
 //! [`Grant`] is permission to move octets, a [`Purse`] has the octets of an entry that are in no grant yet, and a
 //! [`Tally`] counts the outcome of spent grants: octets moved, and octets given back.
 //!
-//! All four have the name of their book, a type `N` without cost at run time: a `Book<OfDesk>` issues a `Grant<OfDesk>`,
-//! which only a `Tally<OfDesk>` accepts. A program that spends a grant into a tally of another name does not compile.
-//! `Book` alone means the book with the name `Plain`.
+//! All four have the name of their book, a type `N` without cost at run time: a `Book<OfDesk>` issues a
+//! `Grant<OfDesk>`, which only a `Tally<OfDesk>` accepts. A program that spends a grant into a tally of another name
+//! does not compile. `Book` alone means the book with the name `Plain`.
 //!
-//! None of the four can be copied or dropped: a program that drops one does not compile. The only way to consume a grant
-//! is `spend`; a purse, `close`; a tally, `join` or `settle`; a book, `settle`. No call allocates.
+//! None of the four can be copied or dropped: a program that drops one does not compile. The only way to consume a
+//! grant is `spend`; a purse, `close`; a tally, `join` or `settle`; a book, `settle`. No call allocates.
 //!
 //! ```text
 //! let sealed = sealed(rt.alloc(), &[100])?;

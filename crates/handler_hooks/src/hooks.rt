@@ -40,11 +40,11 @@ pub trait Hooks: Drop {
     fn on_file_received(&mut self, path: &str)
         ensures { Told self.old (FileReceived path.now) self.new };
 
-    /// The sending of a file ended before its end.
+    /// A transfer by RETR ended before the file was sent whole.
     fn on_incomplete_file_sent(&mut self, path: &str)
         ensures { Told self.old (FileNotSent path.now) self.new };
 
-    /// The receiving of a file ended before its end.
+    /// A transfer by STOR or APPE ended before the file was received whole.
     fn on_incomplete_file_received(&mut self, path: &str)
         ensures { Told self.old (FileNotReceived path.now) self.new };
 }

@@ -1,7 +1,6 @@
 -- All lanes of a desk, closed one after the other.
 use Rattle.std.proofs.Common.{◌≡◌, ◌≢◌, ℕ, zero, suc, ◌+◌, ◌<◌, ◌≤◌, ◌⊎◌, inl, inr, ⊎_elim, List, [], ◌∷◌, ◌++◌, length, get_or, set, sum, sym, refl, ap, ◌∙◌, subst, arith, length-append, get_or-set_other}
 use Rattle.std.specs.Prelude.{Option, Some, None, slice_get}
-use Rattle.std.specs.List.{sum_by}
 use Rattle.std.proofs.lemmas.List.Sums.{sum_by-append}
 use Rattle.grant_ledger.specs.Books.{capped}
 use Rattle.atomic_table.specs.Seated.{TableId}
@@ -10,14 +9,14 @@ use Rattle.desk_rule.specs.declared.view.TurnView.{TurnView}
 use Rattle.lane_desk.specs.declared.seat.LaneSeat.{LaneSeat}
 use Rattle.desk_rule.specs.Lanes.{fresh, unturned, posted_in}
 use Rattle.lane_desk.specs.Seats.{seat_view}
-use Rattle.lane_desk.specs.Close.{Settled, Closes, AllSettled}
+use Rattle.lane_desk.specs.Close.{Closes, AllSettled}
 use Rattle.lane_desk.specs.AllLanes.{AreSeats, AllClosed, taken_in_all, taken_by_all}
 
-value_or : {A : Type 0} → A → Option A → A
+pub value_or : {A : Type 0} → A → Option A → A
 value_or d None = d
 value_or d (Some y) = y
 
-some_is : {A : Type 0} (x y : A) → Some x ≡ Some y → x ≡ y
+pub some_is : {A : Type 0} (x y : A) → Some x ≡ Some y → x ≡ y
 unfolding value_or
 some_is x y e = ap (λ o. value_or x o) e
 

@@ -1,21 +1,15 @@
 -- How a round begins.
-use Rattle.std.proofs.Common.{◌≡◌, ℕ, zero, suc, ◌+◌, ◌<◌, ◌≤◌, ◌⊎◌, inl, inr, ⊎_elim, List, [], ◌∷◌, ◌++◌, length, get_or, replicate, Bool, true, false, cond, sym, refl, ap, ◌∙◌, subst, arith, length-append}
-use Rattle.std.specs.Prelude.{Option, Some, None, slice_get}
+use Rattle.std.proofs.Common.{◌≡◌, ℕ, zero, suc, ◌+◌, ◌≤◌, [], ◌∷◌, ◌++◌, get_or, replicate, false, cond, sym, refl, ◌∙◌, subst, arith}
 use lib.ListN.{length-replicate}
-use Rattle.atomic_table.specs.Table.{Me, Splits, opening}
-use Rattle.atomic_table.specs.Seated.{TableId}
+use Rattle.atomic_table.specs.Table.{Me}
 use Rattle.desk_rule.specs.declared.view.LaneSlot.{LaneSlot}
 use Rattle.desk_rule.specs.declared.view.LaneSlot.TheVariants.{Blank}
-use Rattle.desk_rule.specs.declared.view.RoundView.{RoundView}
 use Rattle.desk_rule.specs.declared.view.DeskView.{DeskView}
-use Rattle.desk_rule.specs.declared.view.DeskView.TheVariants.{Lane, Round}
-use Rattle.lane_desk.specs.declared.seat.LaneSeat.{LaneSeat}
-use Rattle.desk_rule.specs.Lanes.{Kept, fresh, unturned, first_round, posted_in, most}
-use Rattle.desk_rule.specs.Lanes as spec
-use Rattle.lane_desk.specs.Seats.{seat_view}
-use Rattle.lane_desk.specs.Held.{below, above, stack, KnowsDesk, is_due}
+use Rattle.desk_rule.specs.declared.view.DeskView.TheVariants.{Round}
+use Rattle.desk_rule.specs.Lanes.{unturned}
+use Rattle.lane_desk.specs.Held.{above, KnowsDesk, is_due}
 use Rattle.lane_desk.specs.Begun.{dealt_round}
-use Rattle.desk_rule.proofs.Keeps.{deals, opens, at_replicate, posted_none}
+use Rattle.desk_rule.proofs.Keeps.{posted_none}
 
 module _ {N : Type 0} where
   none_above : (i n : ℕ) → above {N = N} (replicate 64 false) i n ≡ []

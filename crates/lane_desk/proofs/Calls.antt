@@ -1,17 +1,16 @@
 -- The steps at a seat whose view is known.
-use Rattle.std.proofs.Common.{◌≡◌, ℕ, ◌+◌, ◌<◌, eqb, List, [], ◌∷◌, ◌++◌, sym, refl, ap, ◌∙◌, subst}
+use Rattle.std.proofs.Common.{◌≡◌, ℕ, [], ◌∷◌, sym, refl, ◌∙◌, subst}
 use mathlib.Core.Option.{none}
 use Rattle.atomic_table.specs.Table.{Me, step, rest, Allows}
 use Rattle.line_rates.specs.declared.ask.Ask.{Ask}
-use Rattle.grant_ledger.specs.Books.{GrantView}
 use Rattle.desk_rule.specs.declared.view.LaneSlot.{LaneSlot}
-use Rattle.desk_rule.specs.declared.view.LaneSlot.TheVariants.{Blank, WithAsk, WithGrant}
+use Rattle.desk_rule.specs.declared.view.LaneSlot.TheVariants.{WithAsk}
 use Rattle.desk_rule.specs.declared.view.SeatState.{SeatState}
-use Rattle.desk_rule.specs.declared.view.SeatState.TheVariants.{Free, Worker, Asked}
+use Rattle.desk_rule.specs.declared.view.SeatState.TheVariants.{Worker}
 use Rattle.desk_rule.specs.declared.view.LaneView.{LaneView}
 use Rattle.desk_rule.specs.declared.view.DeskView.{DeskView}
-use Rattle.desk_rule.specs.declared.view.DeskView.TheVariants.{Lane, Round}
-use Rattle.desk_rule.specs.Lanes.{Kept, Owns, Leads, lane_in, turn_in, has_asked, held_in, KnowsLane}
+use Rattle.desk_rule.specs.declared.view.DeskView.TheVariants.{Lane}
+use Rattle.desk_rule.specs.Lanes.{Kept, Owns, lane_in, has_asked, held_in, KnowsLane}
 use Rattle.desk_rule.specs.Lanes as spec
 use Rattle.desk_rule.proofs.Keeps.{asks}
 

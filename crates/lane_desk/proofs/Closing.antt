@@ -1,34 +1,28 @@
 -- How lanes are closed.
-use Rattle.std.proofs.Common.{◌≡◌, ◌≢◌, ℕ, zero, suc, ◌+◌, ◌<◌, ◌≤◌, eqb, eq-eqb, List, [], ◌∷◌, ◌++◌, length, get_or, set, sum, Bool, true, false, cond, sym, refl, ap, ◌∙◌, subst, arith, length-append, length-set, append-nil, get_or-set_same}
-use mathlib.Core.Option.{Option, none, some, some-injective}
+use Rattle.std.proofs.Common.{◌≡◌, ◌≢◌, ℕ, ◌+◌, ◌<◌, eq-eqb, List, [], ◌∷◌, ◌++◌, length, get_or, set, Bool, true, false, cond, sym, refl, ap, ◌∙◌, subst, arith, length-append, append-nil, get_or-set_same}
+use mathlib.Core.Option.{Option, some, some-injective}
 use lib.ListN.{get_elem?}
-use prog.Atomic.{either}
-use Rattle.atomic_table.specs.Table.{Me, step, rest, Allows, Joins, Final, Seen}
+use Rattle.atomic_table.specs.Table.{Me, Final, Seen}
 use Rattle.grant_ledger.specs.Books.{GrantView}
 use Rattle.desk_rule.specs.declared.view.LaneSlot.{LaneSlot}
 use Rattle.desk_rule.specs.declared.view.LaneSlot.TheVariants.{Blank, WithAsk, WithGrant}
-use Rattle.desk_rule.specs.declared.view.SeatState.{SeatState}
-use Rattle.desk_rule.specs.declared.view.SeatState.TheVariants.{Free, Worker, Asked}
+use Rattle.desk_rule.specs.declared.view.SeatState.TheVariants.{Free, Worker}
 use Rattle.desk_rule.specs.declared.view.LaneView.{LaneView}
 use Rattle.desk_rule.specs.declared.view.TurnView.{TurnView}
 use Rattle.desk_rule.specs.declared.view.RoundView.{RoundView}
 use Rattle.desk_rule.specs.declared.view.DeskView.{DeskView}
-use Rattle.desk_rule.specs.declared.view.DeskView.TheVariants.{Spent, Lane, Round}
-use Rattle.desk_rule.specs.Lanes.{Kept, Owns, Leads, Fits, lane_in, turn_in, with_lane, fresh, unturned, held_in, KnowsLane, has_taken, has_looked, has_risen}
-use Rattle.desk_rule.specs.Lanes as spec
-use Rattle.lane_desk.specs.Held.{stack, is_due, round_in, KnowsDesk}
-use Rattle.desk_rule.proofs.Keeps.{joins, rises, takes_grant, index_at}
+use Rattle.desk_rule.specs.declared.view.DeskView.TheVariants.{Round}
+use Rattle.desk_rule.specs.Lanes.{Kept, fresh, unturned, has_taken, has_looked, has_risen}
+use Rattle.lane_desk.specs.Held.{is_due, round_in, KnowsDesk}
+use Rattle.desk_rule.proofs.Keeps.{index_at}
 use Rattle.desk_rule.specs.Lanes.{has_posted, Phase, free, worker, asked, round, granted, Agrees}
 use Rattle.lane_desk.specs.Close.{Settled, Closes, answered, AllSettled}
-use Rattle.lane_desk.proofs.RoundCalls.{IsRound, turn_is, posted_not_due}
+use Rattle.lane_desk.proofs.RoundCalls.{posted_not_due}
+use Rattle.lane_desk.proofs.AllLanes.{get_last}
 
 answered_by : (t : TurnView) (b : Bool) → is_due t ≡ b → ((answered t).posted ≡ t.posted ++ cond (is_due t) (0 ∷ []) []) × (is_due (answered t) ≡ false)
 answered_by t true e = (ap (λ (b : Bool). (cond b (has_posted 0 t) t).posted) e ∙ ap (λ (b : Bool). t.posted ++ cond b (0 ∷ []) []) (sym e), ap (λ (b : Bool). is_due (cond b (has_posted 0 t) t)) e ∙ posted_not_due 0 t e)
 answered_by t false e = (ap (λ (b : Bool). (cond b (has_posted 0 t) t).posted) e ∙ sym (append-nil t.posted) ∙ ap (λ (b : Bool). t.posted ++ cond b (0 ∷ []) []) (sym e), ap (λ (b : Bool). is_due (cond b (has_posted 0 t) t)) e ∙ e)
-
-get_last : {A : Type 0} (l : List A) (x d : A) → get_or (l ++ x ∷ []) (length l) d ≡ x
-get_last [] x d = refl
-get_last (y ∷ l) x d = get_last l x d
 
 set_last : {A : Type 0} (l : List A) (x y : A) → set (l ++ x ∷ []) (length l) y ≡ l ++ y ∷ []
 set_last [] x y = refl

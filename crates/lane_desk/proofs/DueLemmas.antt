@@ -1,5 +1,5 @@
 -- The lanes of a plan are those of the asks, each once.
-use Rattle.std.proofs.Common.{◌≡◌, ◌≢◌, ℕ, zero, suc, ◌+◌, ◌<◌, ◌≤◌, cond, nat_eq, eqb, eq-eqb, ne_eqb, eqb-true, Bool, true, false, List, [], ◌∷◌, ◌++◌, map, length, get_or, set, sum_by, sym, refl, ap, ◌∙◌, subst, arith, Option, Some, None, IsPermutation}
+use Rattle.std.proofs.Common.{◌≡◌, ◌≢◌, ℕ, zero, suc, ◌+◌, ◌<◌, ◌≤◌, cond, nat_eq, eq-eqb, ne_eqb, Bool, true, List, [], ◌∷◌, map, length, get_or, sum_by, sym, refl, ap, ◌∙◌, arith, Option, Some, None, IsPermutation}
 use mathlib.Core.Logic.{dite}
 use native.Mathlib.Decide.{ℕ_discrete}
 use Rattle.std.proofs.lemmas.List.Sums.{sum_by-cons}
@@ -8,7 +8,6 @@ use Rattle.line_rates.specs.declared.ask.Ask.{Ask}
 use Rattle.line_rates.specs.TickTree.{Asker, lane_in}
 use Rattle.grant_ledger.specs.Books.{NamesNot}
 use Rattle.desk_rule.specs.declared.view.TurnView.{TurnView}
-use Rattle.desk_rule.specs.Lanes.{unturned, has_collected}
 use Rattle.lane_desk.specs.Held.{is_due}
 use Rattle.lane_desk.proofs.RoundCalls.{collected_due}
 use Rattle.lane_desk.specs.Tried.{tried_by, tried, asks_from, mark_of}

@@ -1,26 +1,24 @@
 -- How a desk begins.
-use Rattle.std.proofs.Common.{◌≡◌, ℕ, zero, suc, ◌+◌, ◌<◌, ◌≤◌, ◌⊎◌, inl, inr, ⊎_elim, List, [], ◌∷◌, ◌++◌, length, get_or, replicate, Bool, true, false, cond, sym, refl, ap, ◌∙◌, subst, arith, length-append}
+use Rattle.std.proofs.Common.{◌≡◌, ℕ, zero, suc, ◌+◌, ◌<◌, ◌≤◌, ◌⊎◌, inl, inr, ⊎_elim, List, [], ◌∷◌, ◌++◌, length, get_or, replicate, sym, refl, ap, ◌∙◌, subst, arith, length-append}
 use Rattle.std.specs.Prelude.{Option, Some, None, slice_get}
 use lib.ListN.{length-replicate}
 use Rattle.atomic_table.specs.Table.{Me, Splits, opening}
 use Rattle.atomic_table.specs.Seated.{TableId}
 use Rattle.desk_rule.specs.declared.view.LaneSlot.{LaneSlot}
 use Rattle.desk_rule.specs.declared.view.LaneSlot.TheVariants.{Blank}
-use Rattle.desk_rule.specs.declared.view.RoundView.{RoundView}
 use Rattle.desk_rule.specs.declared.view.DeskView.{DeskView}
-use Rattle.desk_rule.specs.declared.view.DeskView.TheVariants.{Lane, Round}
+use Rattle.desk_rule.specs.declared.view.DeskView.TheVariants.{Round}
 use Rattle.lane_desk.specs.declared.seat.LaneSeat.{LaneSeat}
-use Rattle.desk_rule.specs.Lanes.{Kept, fresh, unturned, first_round, posted_in, most}
+use Rattle.desk_rule.specs.Lanes.{Kept, fresh, unturned, first_round, posted_in}
 use Rattle.desk_rule.specs.Lanes as spec
 use Rattle.lane_desk.specs.Seats.{seat_view}
-use Rattle.lane_desk.specs.Held.{below, above, stack, KnowsDesk, is_due}
 use Rattle.lane_desk.specs.Begun.{dealt_round}
 use Rattle.desk_rule.specs.declared.view.TurnView.{TurnView}
 use Rattle.lane_desk.specs.Posted.{AllAnswered}
 use Rattle.lane_desk.specs.Open.{AreFresh}
 use Rattle.desk_rule.proofs.Keeps.{deals, opens, at_replicate, posted_none}
 
-get_end : {A : Type 0} (l : List A) (a b : A) (j : ℕ) → slice_get (l ++ a ∷ []) j ≡ Some b → (slice_get l j ≡ Some b) ⊎ ((j ≡ length l) × (a ≡ b))
+pub get_end : {A : Type 0} (l : List A) (a b : A) (j : ℕ) → slice_get (l ++ a ∷ []) j ≡ Some b → (slice_get l j ≡ Some b) ⊎ ((j ≡ length l) × (a ≡ b))
 get_end [] a b zero e = inr (refl, some_is a b e)
   where
     some_is : {A : Type 0} (x y : A) → Some x ≡ Some y → x ≡ y

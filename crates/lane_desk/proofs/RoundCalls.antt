@@ -7,15 +7,15 @@ use Rattle.atomic_table.specs.Table.{Me, step, rest, Allows}
 use Rattle.line_rates.specs.declared.ask.Ask.{Ask}
 use Rattle.grant_ledger.specs.Books.{GrantView}
 use Rattle.desk_rule.specs.declared.view.LaneSlot.{LaneSlot}
-use Rattle.desk_rule.specs.declared.view.LaneSlot.TheVariants.{Blank, WithAsk, WithGrant}
+use Rattle.desk_rule.specs.declared.view.LaneSlot.TheVariants.{Blank, WithGrant}
 use Rattle.desk_rule.specs.declared.view.TurnView.{TurnView}
 use Rattle.desk_rule.specs.declared.view.RoundView.{RoundView}
 use Rattle.desk_rule.specs.declared.view.DeskView.{DeskView}
-use Rattle.desk_rule.specs.declared.view.DeskView.TheVariants.{Lane, Round}
+use Rattle.desk_rule.specs.declared.view.DeskView.TheVariants.{Round}
 use Rattle.desk_rule.specs.Lanes.{Kept, Leads, turn_in, with_turn, unturned, posted_in, posted_by, most, has_posted, has_collected, has_missed}
 use Rattle.desk_rule.specs.Lanes as spec
 use Rattle.lane_desk.specs.Held.{below, above, stack, is_due, round_in, KnowsDesk}
-use Rattle.desk_rule.proofs.Keeps.{posts, collects, posted_set, sum_more}
+use Rattle.desk_rule.proofs.Keeps.{posts, collects, posted_set}
 use prog.Atomic.{either}
 use lib.Seq.{set-get_or}
 use Rattle.lane_desk.proofs.Held.{whole, joins_front, in_front, leaves_front}

@@ -1,5 +1,5 @@
 -- What trying, deciding and posting leave.
-use Rattle.std.proofs.Common.{◌≡◌, ◌≢◌, ℕ, zero, suc, ◌+◌, ◌<◌, ◌≤◌, List, [], ◌∷◌, ◌++◌, map, length, get_or, set, sum, sym, refl, ap, ◌∙◌, subst, arith, Option, Some, None, IsPermutation, length-append}
+use Rattle.std.proofs.Common.{◌≡◌, ℕ, zero, suc, ◌+◌, ◌<◌, List, [], ◌∷◌, ◌++◌, map, length, get_or, sum, sym, refl, ap, ◌∙◌, subst, arith, Option, Some, None, IsPermutation, length-append}
 use Rattle.std.proofs.lemmas.List.Sorted.{IsPermutation-refl}
 use Rattle.limit_tree.specs.Sharing.{LimitTree}
 use Rattle.line_rates.specs.declared.ask.Ask.{Ask}
@@ -7,10 +7,10 @@ use Rattle.line_rates.specs.Rates.{Rates}
 use Rattle.line_rates.specs.TickTree.{Asker, lane_in, IsPlan}
 use Rattle.grant_ledger.specs.Books.{BookView}
 use Rattle.desk_rule.specs.declared.view.TurnView.{TurnView}
-use Rattle.desk_rule.specs.Lanes.{unturned, has_missed, has_collected, has_posted, posted_in}
+use Rattle.desk_rule.specs.Lanes.{has_missed, has_collected, has_posted, posted_in}
 use Rattle.lane_desk.specs.declared.refusal.RoundRefusal.{RoundRefusal}
 use Rattle.lane_desk.specs.Refusals.{IsRefused}
-use Rattle.lane_desk.specs.Tried.{tried_by, tried, asks_from, mark_of, AreMarks, AreTried}
+use Rattle.lane_desk.specs.Tried.{tried_by, tried, asks_from, mark_of, AreTried}
 use Rattle.lane_desk.specs.Posted.{turn_at, posted_all, AreDue, AllAnswered, nothing_for}
 use Rattle.lane_desk.specs.Rounded.{IsAnswered, IsTurnedAway, IsRound, IsRefusedRound}
 use Rattle.lane_desk.proofs.TriedLemmas.{tried_at, length-tried, posted_same, posted_in-tried}

@@ -1,9 +1,8 @@
 -- The accounts of all lanes.
-use Rattle.std.proofs.Common.{◌≡◌, ◌≢◌, ℕ, zero, suc, ◌+◌, ◌<◌, ◌≤◌, List, [], ◌∷◌, ◌++◌, cond, Bool, true, false, length, get_or, set, sum, sym, refl, ap, ◌∙◌, subst, arith, length-append, get_or-set_other, reverse}
+use Rattle.std.proofs.Common.{◌≡◌, ℕ, suc, ◌+◌, ◌<◌, List, [], ◌∷◌, ◌++◌, cond, Bool, true, false, length, get_or, set, sum, sym, refl, ap, ◌∙◌, subst, arith, length-append, get_or-set_other, reverse}
 use mathlib.Core.Logic.{dite}
 use native.Mathlib.Decide.{ℕ_discrete}
-use Rattle.std.specs.Prelude.{Some, slice_get}
-use Rattle.std.specs.List.{sum_by}
+use Rattle.std.specs.Prelude.{slice_get}
 use Rattle.std.proofs.lemmas.List.{reverse-append}
 use Rattle.std.proofs.lemmas.List.Sums.{sum_by-append}
 use Rattle.atomic_table.specs.Seated.{TableId}
@@ -12,7 +11,6 @@ use Rattle.desk_rule.specs.declared.view.TurnView.{TurnView}
 use Rattle.lane_desk.specs.declared.worked.Worked.{Worked}
 use Rattle.desk_rule.specs.Lanes.{fresh, unturned, posted_in}
 use Rattle.lane_desk.specs.Held.{is_due}
-use Rattle.lane_desk.specs.Seats.{seat_view}
 use Rattle.lane_desk.specs.Close.{Settled, Closes, AllSettled}
 use Rattle.lane_desk.specs.AllLanes.{taken_in_all}
 use Rattle.lane_desk.specs.Workers.{AreWorkers, moved_by_all}

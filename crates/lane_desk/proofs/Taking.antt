@@ -1,9 +1,7 @@
 -- A lane whose seat came back.
-use Rattle.std.proofs.Common.{◌≡◌, ◌≢◌, ℕ, zero, suc, ◌+◌, ◌<◌, ◌≤◌, eqb, eq-eqb, List, [], ◌∷◌, ◌++◌, length, get_or, set, sum, Bool, true, false, cond, sym, refl, ap, ◌∙◌, subst, arith, length-append, length-set, append-nil, get_or-set_same}
-use mathlib.Core.Option.{Option, none, some, some-injective}
-use lib.ListN.{get_elem?}
-use prog.Atomic.{either}
-use Rattle.atomic_table.specs.Table.{Me, step, rest, Allows, Joins, Final, Seen}
+use Rattle.std.proofs.Common.{◌≡◌, ◌≢◌, ℕ, zero, suc, ◌+◌, ◌<◌, List, [], ◌∷◌, ◌++◌, length, get_or, set, Bool, sym, refl, ap, ◌∙◌, subst, length-set, get_or-set_same}
+use mathlib.Core.Option.{none}
+use Rattle.atomic_table.specs.Table.{Me, step, rest, Allows, Joins}
 use Rattle.grant_ledger.specs.Books.{GrantView}
 use Rattle.desk_rule.specs.declared.view.LaneSlot.{LaneSlot}
 use Rattle.desk_rule.specs.declared.view.LaneSlot.TheVariants.{Blank, WithAsk, WithGrant}
@@ -11,15 +9,13 @@ use Rattle.desk_rule.specs.declared.view.SeatState.{SeatState}
 use Rattle.desk_rule.specs.declared.view.SeatState.TheVariants.{Free, Worker, Asked}
 use Rattle.desk_rule.specs.declared.view.LaneView.{LaneView}
 use Rattle.desk_rule.specs.declared.view.TurnView.{TurnView}
-use Rattle.desk_rule.specs.declared.view.RoundView.{RoundView}
 use Rattle.desk_rule.specs.declared.view.DeskView.{DeskView}
 use Rattle.desk_rule.specs.declared.view.DeskView.TheVariants.{Spent, Lane, Round}
-use Rattle.desk_rule.specs.Lanes.{Kept, Owns, Leads, Fits, lane_in, turn_in, with_lane, fresh, unturned, held_in, KnowsLane, has_taken, has_looked, has_risen}
+use Rattle.desk_rule.specs.Lanes.{Kept, Owns, Leads, Fits, lane_in, with_lane, fresh, unturned, held_in, KnowsLane, has_taken, has_risen}
 use Rattle.desk_rule.specs.Lanes as spec
-use Rattle.lane_desk.specs.Held.{stack, is_due, round_in, KnowsDesk}
-use Rattle.desk_rule.proofs.Keeps.{joins, rises, takes_grant, index_at}
-use Rattle.desk_rule.specs.Lanes.{has_posted, Phase, free, worker, asked, round, granted, Agrees}
-use Rattle.lane_desk.proofs.RoundCalls.{IsRound, turn_is, posted_not_due}
+use Rattle.lane_desk.specs.Held.{round_in, KnowsDesk}
+use Rattle.desk_rule.proofs.Keeps.{joins, rises}
+use Rattle.lane_desk.proofs.RoundCalls.{IsRound, turn_is}
 
 module _ {N : Type 0} where
   pub held_none : (l : List (ℕ × (LaneSlot N))) (i : ℕ) (st : SeatState) → st ≢ Worker → l ≡ held_in st i → l ≡ []

@@ -1,4 +1,4 @@
--- Names for callers of what the seats know.
+-- The view of a lane's seat and its relation to a desk, under names for callers.
 use Rattle.std.specs.Prelude.{◌≡◌, ◌<◌}
 use Rattle.atomic_table.specs.Seated.{TableId}
 use Rattle.desk_rule.specs.declared.view.LaneView.{LaneView}

@@ -1,4 +1,4 @@
--- Names for callers of what the round's seat knows.
+-- The views of the round's seat and its relation to a desk, under names for callers.
 use Rattle.std.specs.Prelude.{◌≡◌, List}
 use Rattle.desk_rule.specs.declared.view.LaneView.{LaneView}
 use Rattle.desk_rule.specs.declared.view.TurnView.{TurnView}

@@ -1,6 +1,6 @@
 //! Closing a whole desk.
 
-ghost use Rattle.std.specs.Prelude.{◌≡◌, ◌+◌, ◌<◌, ◌≤◌, [], length};
+ghost use Rattle.std.specs.Prelude.{◌≡◌, ◌+◌, ◌<◌, [], length};
 ghost use Rattle.lane_desk.specs.Seats.{desk_id};
 ghost use Rattle.lane_desk.specs.Turns.{turns, back, IsRoundOf};
 ghost use Rattle.lane_desk.specs.Close.{AllSettled};
@@ -39,9 +39,9 @@ pub(crate) fn free<N, A: Allocator>(desk: Desk<N, A>, round: RoundDesk<N>)
     closed.free();
 }
 
-/// Closes each lane of a desk, given its own seats in the order of their lanes, each in any state. A lane that is collected
-/// and unanswered is posted 0 octets, a worker that sits rises, and a grant that waits is taken and given back to the
-/// tally.
+/// Closes each lane of a desk, given its own seats in the order of their lanes, each in any state. A lane whose ask was
+/// collected and not answered is posted 0 octets, a worker that sits rises, and a grant that waits is taken and given
+/// back to the tally.
 pub fn close_desk<N, A: Allocator, B: Allocator>(
     desk: Desk<N, A>,
     mut round: RoundDesk<N>,

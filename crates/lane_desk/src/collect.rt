@@ -1,6 +1,6 @@
 //! Collecting.
 
-ghost use Rattle.std.specs.Prelude.{◌≡◌, ◌<◌, ◌≤◌, List, Option};
+ghost use Rattle.std.specs.Prelude.{◌<◌, List, Option};
 ghost use Rattle.line_rates.specs.declared.ask.Ask.{Ask};
 ghost use Rattle.lane_desk.specs.Turns.{turns, IsRoundOf, IsSameRound};
 ghost use Rattle.lane_desk.specs.Tried.{AreTried};

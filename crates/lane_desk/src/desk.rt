@@ -6,8 +6,8 @@ use atomic_table::{Shared, Table};
 use desk_rule::{DeskRule, DeskView, LaneSlot};
 use std::alloc::{Allocator, Global};
 
-/// The words and slots of the lanes, which workers and the round share. Its type has the name of its book, `N`. Grants are
-/// in its slots, so it cannot be dropped: it must be closed.
+/// The words and slots of the lanes, which workers and the round share. Its type has the name of its book, `N`. Grants
+/// are in its slots, so it cannot be dropped: it must be closed.
 pub struct Desk<N, A: Allocator = Global> {
     table: Table<LaneSlot<N>, DeskView, u64, DeskRule, A>,
     lanes: usize,

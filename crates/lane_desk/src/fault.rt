@@ -3,7 +3,7 @@
 use std::alloc::AllocError;
 use thiserror::Error;
 
-/// Why a desk cannot be opened.
+/// The reason for which a desk cannot be opened.
 #[derive(Clone, Copy, Debug, PartialEq, Eq, Error)]
 pub enum DeskFault {
     /// It would have more than 64 lanes.

@@ -1,10 +1,10 @@
 //! Opening a desk.
 
-ghost use Rattle.std.specs.Prelude.{◌≡◌, ℕ, ◌+◌, ◌<◌, ◌≤◌, [], ◌∷◌, length, false, replicate, IfOk, IfErr, Some, slice_get, vec_capacity};
+ghost use Rattle.std.specs.Prelude.{◌≡◌, ◌+◌, ◌<◌, ◌≤◌, [], length, replicate, IfOk, IfErr, Some, vec_capacity};
 ghost use Rattle.desk_rule.specs.declared.view.LaneSlot.TheVariants.{Blank};
-ghost use Rattle.desk_rule.specs.declared.view.DeskView.TheVariants.{Lane, Round};
-ghost use Rattle.desk_rule.specs.Lanes.{fresh, unturned, first_round, posted_in};
-ghost use Rattle.lane_desk.specs.Seats.{desk_id, seat_view, IsSeatOf};
+ghost use Rattle.desk_rule.specs.declared.view.DeskView.TheVariants.{Round};
+ghost use Rattle.desk_rule.specs.Lanes.{unturned, first_round, posted_in};
+ghost use Rattle.lane_desk.specs.Seats.{desk_id};
 ghost use Rattle.lane_desk.specs.Turns.{turns, back, IsRoundOf};
 ghost use Rattle.lane_desk.specs.Begun.{dealt_round};
 ghost use Rattle.lane_desk.specs.Posted.{AllAnswered};

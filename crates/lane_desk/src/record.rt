@@ -32,7 +32,8 @@ pub struct RoundRecord<A: Allocator = Global> {
     pub sealed: Sealed<A>,
 }
 
-/// Why a round was refused, and the lanes whose asks it answered with 0 octets: bit i is set if lane i was collected.
+/// The reason for which a round was refused, and the lanes whose asks it answered with 0 octets: bit i is set if lane i
+/// was collected.
 #[derive(Clone, Copy, Debug, PartialEq, Eq)]
 pub struct RoundFault {
     pub reason: RoundRefusal,
@@ -40,11 +41,12 @@ pub struct RoundFault {
 }
 
 impl<N> RoundDesk<N> {
-    /// Tries each lane once in rising order, decides for the asks found at a moment in milliseconds, enters the decision
-    /// into the book, and answers each ask. A refused round answers each with 0 octets, and leaves the book unchanged.
+    /// Tries each lane once in rising order, decides for the asks found at a moment in milliseconds, enters the
+    /// decision into the book, and answers each ask. A refused round answers each with 0 octets, and leaves the book
+    /// unchanged.
     ///
-    /// Returns `NotYet` if the tick is not above that of the book's last entry; otherwise `Plan` if the limit tree of the
-    /// tick has a fault, `Memory`, or `BookFull` if the book would issue too much.
+    /// Returns `NotYet` if the tick is not above that of the book's last entry; otherwise `Plan` if the limit tree of
+    /// the tick has a fault, `Memory`, or `BookFull` if the book would issue too much.
     pub fn round<L: Allocator, A: Allocator + Clone, D: Allocator>(
         &mut self,
         alloc: A,

@@ -4,10 +4,11 @@ use limit_tree::TreeFault;
 use std::alloc::AllocError;
 use thiserror::Error;
 
-/// Why a round is refused: the first of these that applies, in the order `NotYet`, `Plan`, `Memory`, `BookFull`.
+/// The reason for which a round is refused: the first of these that applies, in the order `NotYet`, `Plan`, `Memory`,
+/// `BookFull`.
 #[derive(Clone, Copy, Debug, PartialEq, Eq, Error)]
 pub enum RoundRefusal {
-    /// The tick is not above that of the book's last entry, which is included.
+    /// The tick is not above that of the book's last entry, which the variant contains.
     #[error("NotYet")]
     NotYet(u64),
     /// The book would have issued more than `MAX_ISSUED` octets.

@@ -1,7 +1,7 @@
 //! The round's seat: collect and post.
 
-ghost use Rattle.std.specs.Prelude.{◌≡◌, ◌+◌, ◌-◌, ◌<◌, ◌≤◌, [], ◌∷◌, ◌++◌, true, length, slice_set, slice_index_or, IfSome, IfNone};
-ghost use Rattle.desk_rule.specs.Lanes.{unturned, has_missed, has_collected, has_posted, posted_in, most, turn_in};
+ghost use Rattle.std.specs.Prelude.{◌≡◌, ◌+◌, ◌-◌, ◌<◌, ◌≤◌, [], true, length, slice_set, slice_index_or, IfSome, IfNone};
+ghost use Rattle.desk_rule.specs.Lanes.{unturned, has_missed, has_collected, has_posted, posted_in, most};
 ghost use Rattle.lane_desk.specs.Held.{stack, KnowsDesk, is_due};
 
 use crate::desk::Desk;
@@ -11,8 +11,8 @@ use grant_ledger::{Grant, MAX_LANES};
 use line_rates::Ask;
 use std::alloc::Allocator;
 
-/// The right to collect the asks of a desk's lanes and to post the grants that answer them. Contracts see what it knows of
-/// each lane as `turns`: its tries, the asks collected, and the amounts posted.
+/// The right to collect the asks of a desk's lanes and to post the grants that answer them. Contracts see what it knows
+/// of each lane as `turns`: its tries, the asks collected, and the amounts posted.
 pub struct RoundDesk<N> {
     pub(crate) seat: Seat<LaneSlot<N>, DeskView>,
     lanes: usize,

@@ -1,6 +1,6 @@
 //! The round's seat with its book.
 
-ghost use Rattle.std.specs.Prelude.{◌≡◌, ◌+◌, ◌/◌, ◌≤◌, Some, sum, IfOk, IfErr, OnOk, OnErr};
+ghost use Rattle.std.specs.Prelude.{◌≡◌, ◌+◌, ◌/◌, Some, sum, IfOk, IfErr, OnOk, OnErr};
 ghost use Rattle.limit_tree.specs.Outline.{limits as seen};
 ghost use Rattle.limit_tree.specs.Sharing.{IsBest};
 ghost use Rattle.desk_rule.specs.Lanes.{posted_in};
@@ -26,8 +26,8 @@ pub struct Rounds<N> {
 }
 
 impl<N> Rounds<N> {
-    /// The rounds of a desk, with a book that has issued the octets in the tally and those posted. A desk just opened has
-    /// posted nothing, and a book just opened has issued the octets in its tally.
+    /// The rounds of a desk, with a book that has issued the octets in the tally and those posted. A desk just opened
+    /// has posted nothing, and a book just opened has issued the octets in its tally.
     pub fn new(desk: RoundDesk<N>, book: Book<N>, tally: Tally<N>) -> Rounds<N>
         requires told { book.issued ≡ tally.moved + tally.back + posted_in (turns desk) }
         requires answered { AllAnswered (turns desk) }
@@ -50,7 +50,7 @@ impl<N> Rounds<N> {
         self.book.last_tick()
     }
 
-    /// A round of the desk, with its refusals: tries each lane once, decides for the asks found at a moment in
+    /// A round of the desk, which may be refused: tries each lane once, decides for the asks found at a moment in
     /// milliseconds, and answers each.
     pub fn round<L: Allocator, A: Allocator + Clone, D: Allocator>(
         &mut self,

@@ -13,8 +13,8 @@ use crate::worked::Worked;
 use grant_ledger::{Settled, settle};
 use std::alloc::Allocator;
 
-/// Closes each lane of a desk, given its own seats in the order of their lanes, gathers the tallies, and settles the book:
-/// the octets issued are those moved and those given back in the tallies.
+/// Closes each lane of a desk, given its own seats in the order of their lanes, gathers the tallies, and settles the
+/// book: the octets issued are those moved and those given back in the tallies.
 pub fn settle_all<N, A: Allocator, B: Allocator>(
     desk: Desk<N, A>,
     rounds: Rounds<N>,

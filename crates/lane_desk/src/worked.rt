@@ -1,6 +1,6 @@
 //! A lane's seat with its tally.
 
-ghost use Rattle.std.specs.Prelude.{◌≡◌, ◌+◌, [], sum};
+ghost use Rattle.std.specs.Prelude.{◌≡◌, ◌+◌, sum};
 ghost use Rattle.lane_desk.specs.Seats.{seat_view};
 
 use crate::seat::LaneSeat;

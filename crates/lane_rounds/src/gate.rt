@@ -1,7 +1,5 @@
 //! The gate of a lane.
 
-ghost use Rattle.std.specs.Prelude.{◌≡◌};
-
 use crate::ends::told_of;
 use crate::rounds::help;
 use crate::turns::Turns;
@@ -76,8 +74,8 @@ where
         }
     }
 
-    // Records that an answer has come since the last call: an ask is next. If it granted nothing, the rates have nothing
-    // left, and this waits a moment.
+    // Records that an answer has come since the last call: an ask is next. If it granted nothing, the rates have
+    // nothing left, and this waits a moment.
     fn take_answer(&mut self, seen: u64, moved: u64) {
         self.seen = seen;
         self.calls = 1;
@@ -85,8 +83,8 @@ where
         self.moved = moved;
     }
 
-    // Waits for an answer to the ask, if one was made. Of two calls since the last answer, the first may have been before
-    // the ask.
+    // Waits for an answer to the ask, if one was made. Of two calls since the last answer, the first may have been
+    // before the ask.
     fn await_answer(&self, sign: &LaneSign) {
         let now = micros(self.rt);
         let due = help(

@@ -1,10 +1,10 @@
 //! The lanes of a server, and the rounds that they hold for each other.
 //!
-//! A lane takes transfers from the board and runs each to its end ([`work_lane`]). If its ask is not answered yet, it tries
-//! the lock of the [`Turns`] and holds a round itself, for all lanes that have asked; nobody waits for that lock. If
-//! another thread has the lock, that thread checks the bell after it has released the lock, so no ask is missed.
-//! [`keep_rounds`] is the fallback: it holds a round when no lane does. The pace says when a round may be held and what it
-//! may grant.
+//! A lane takes transfers from the board and runs each to its end ([`work_lane`]). If its ask is not answered yet, it
+//! tries the lock of the [`Turns`] and holds a round itself, for all lanes that have asked; nobody waits for that lock.
+//! If another thread has the lock, that thread checks the bell after it has released the lock, so no ask is missed.
+//! [`keep_rounds`] is the fallback: it holds a round when no lane does. The pace says when a round may be held and what
+//! it may grant.
 #![tactic(auto)]
 
 mod ends;

@@ -100,8 +100,8 @@ pub(crate) fn try_one<S: Store<Global>, H: Hooks, B: PartsName, N>(
     }
 }
 
-/// Makes sure that a round is held after an ask: here, or by a thread that holds one now. If none may be held yet, returns
-/// the earliest moment.
+/// Makes sure that a round is held after an ask: here, or by a thread that holds one now. If none may be held yet,
+/// returns the earliest moment.
 ///
 /// The bell is rung before the try. So if another thread has the lock, it sees the bell after it has released the lock.
 pub(crate) fn help<S: Store<Global>, H: Hooks, B: PartsName, N>(

@@ -1,6 +1,5 @@
 -- How workers are gathered, one behind another.
-use Rattle.std.proofs.Common.{◌≡◌, ℕ, zero, suc, ◌+◌, ◌⊎◌, inl, inr, ⊎_elim, List, [], ◌∷◌, ◌++◌, length, sym, refl, ap, ◌∙◌, subst, arith}
-use Rattle.std.specs.Prelude.{Option, Some, None, slice_get}
+use Rattle.std.proofs.Common.{◌≡◌, ℕ, ◌+◌, ◌⊎◌, ⊎_elim, List, [], ◌∷◌, ◌++◌, length, sym, refl, ap, ◌∙◌, subst, arith}
 use Rattle.atomic_table.specs.Seated.{TableId}
 use Rattle.std.proofs.lemmas.List.Sums.{sum_by_push}
 use Rattle.lane_desk.specs.Workers.{AreWorkers, moved_by_all}
@@ -8,19 +7,7 @@ use Rattle.lane_desk.specs.declared.worked.Worked.{Worked}
 use Rattle.lent_parts.specs.declared.name.PartsName.{Ghosts}
 use Rattle.lent_parts.specs.declared.worker.LentWorker.{LentWorker}
 use Rattle.lent_parts.specs.Told.{moved_by_lent}
-
-get_end : {A : Type 0} (l : List A) (a b : A) (j : ℕ) → slice_get (l ++ a ∷ []) j ≡ Some b → (slice_get l j ≡ Some b) ⊎ ((j ≡ length l) × (a ≡ b))
-get_end [] a b zero e = inr (refl, some_is a b e)
-  where
-    some_is : {A : Type 0} (x y : A) → Some x ≡ Some y → x ≡ y
-    some_is x y e = ap (λ o. value_or x o) e
-      where
-        value_or : {A : Type 0} → A → Option A → A
-        value_or d None = d
-        value_or d (Some y) = y
-get_end [] a b (suc j) e = absurd (cc)
-get_end (x ∷ xs) a b zero e = inl e
-get_end (x ∷ xs) a b (suc j) e = ⊎_elim inl (λ (t : (j ≡ length xs) × (a ≡ b)). inr (ap suc t.0, t.1)) (get_end xs a b j e)
+use Rattle.lane_desk.proofs.Opening.{get_end}
 
 module _ {N : Type 0} where
   pub worker_more : (z : TableId) (ws : List (Worked N)) (w : (Worked N)) → AreWorkers z (length ws) ws → w.seat.lane ≡ length ws → w.seat.seat.table_id ≡ z → AreWorkers z (length (ws ++ w ∷ [])) (ws ++ w ∷ [])

@@ -6,8 +6,8 @@ ghost use Rattle.lent_parts.specs.Names.{no_table};
 
 use std::marker::Brand;
 
-/// Names the parts of one server in the types of what its threads are lent: the table of its desk with the number of its
-/// lanes, and the table of its board.
+/// Names the parts of one server in the types of what its threads are lent: the table of its desk with the number of
+/// its lanes, and the table of its board.
 pub trait PartsName {
     ghost desk: { TableId };
 

@@ -13,8 +13,8 @@ use lane_desk::{Worked, settle_all};
 use std::alloc::Allocator;
 use std::sync::Wait;
 
-// Gathers workers in the order of their lanes. The type of a worker does not contain its lane: this waits for ever if one
-// is not in its lane's place.
+// Gathers workers in the order of their lanes. The type of a worker does not contain its lane: this waits for ever if
+// one is not in its lane's place.
 fn gather<R: Wait, B: PartsName, N, A: Allocator>(
     rt: &R,
     mut workers: Vec<LentWorker<B, N>, A>,
@@ -37,11 +37,11 @@ fn gather<R: Wait, B: PartsName, N, A: Allocator>(
     workers.destroy_empty();
 }
 
-/// Gathers everything lent of a desk, closes it, and settles the book: the octets issued are those moved and those given
-/// back in the tallies. The workers are in the order of their lanes, and there is room for as many.
+/// Gathers everything lent of a desk, closes it, and settles the book: the octets issued are those moved and those
+/// given back in the tallies. The workers are in the order of their lanes, and there is room for as many.
 ///
-/// Their types say that they are of this desk. That each lane's worker is there, and in its place, is checked: otherwise
-/// this would wait for ever.
+/// Their types say that they are of this desk. That each lane's worker is there, and in its place, is checked:
+/// otherwise this would wait for ever.
 pub fn settle_lent<R: Wait, B: PartsName, N, A: Allocator, D: Allocator>(
     rt: &R,
     desk: LentDesk<B, N, D>,

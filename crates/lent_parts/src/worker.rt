@@ -50,8 +50,8 @@ impl<B: PartsName, N> LentWorker<B, N> {
         self.seat.lane()
     }
 
-    /// Returns whether no worker sits there, so that a job may be run. It is true until a gate has said `Stop` to a worker
-    /// that had asked.
+    /// Returns whether no worker sits there, so that a job may be run. It is true until a gate has said `Stop` to a
+    /// worker that had asked.
     pub fn is_free(&self) -> bool
         ensures free { (result ≡ true) ↔ ((seat_view self.now.seat).state ≡ Free) }
     {

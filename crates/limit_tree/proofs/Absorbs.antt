@@ -216,11 +216,11 @@ sum_wants-cons x ps = go x.kind
     go (Branch limit) = omega arith
     go (Leaf want floor) = omega (arith, sum_by-cons (λ x. x) want (wants_in ps))
 
-wants_in-behind : (n : ℕ) (p : List Place) → wants_in (map (behind n) p) ≡ wants_in p
+pub wants_in-behind : (n : ℕ) (p : List Place) → wants_in (map (behind n) p) ≡ wants_in p
 wants_in-behind n [] = refl
 wants_in-behind n (x ∷ p) = ap (cons_option (leaf_want x.kind)) (wants_in-behind n p)
 
-wants_in-deeper : (p : List Place) → wants_in (map deeper p) ≡ wants_in p
+pub wants_in-deeper : (p : List Place) → wants_in (map deeper p) ≡ wants_in p
 wants_in-deeper [] = refl
 wants_in-deeper (x ∷ p) = ap (cons_option (leaf_want x.kind)) (wants_in-deeper p)
 

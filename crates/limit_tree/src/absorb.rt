@@ -1,4 +1,5 @@
 //! Octets that a tree, or one of its nodes, absorbs up to a level.
+
 ghost use Rattle.std.specs.Prelude.{◌≡◌, ◌<◌, ◌≤◌, ◌^◌, length, sum, IfErr, IfOk};
 ghost use Rattle.limit_tree.specs.Outline.{places, limits, absorb_stack, absorbed, cut, first_or_zero};
 

@@ -1,6 +1,7 @@
 //! A copy of the nodes of a tree, in preorder.
-ghost use Rattle.std.specs.Prelude.{◌≡◌, ◌+◌, ◌<◌, ◌^◌, ◌++◌, [], length, map, slice_set, IfOk};
-ghost use Rattle.limit_tree.specs.Outline.{places, limits, leaf_count, floor_sum, moved, root_place};
+
+ghost use Rattle.std.specs.Prelude.{◌≡◌, ◌+◌, ◌<◌, ◌^◌, length, slice_set, IfOk};
+ghost use Rattle.limit_tree.specs.Outline.{places, leaf_count, floor_sum, root_place};
 ghost use Rattle.limit_tree.specs.Copies.{AreCopiedBehind};
 
 use super::node::Node;

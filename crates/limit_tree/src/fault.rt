@@ -1,6 +1,6 @@
 //! Faults of trees.
+
 ghost use Rattle.std.specs.Prelude.{◌≡◌, ◌+◌, ◌<◌, ◌≤◌, ◌^◌, length, MatchResult, IfOk, None, Some};
-ghost use Rattle.std.specs.Option.{option_map};
 ghost use Rattle.limit_tree.specs.Outline.{places, leaf_count, floor_sum, kind_of};
 ghost use Rattle.limit_tree.specs.Faults.{first_fault, node_fault, first_over, over_limit, or_else};
 ghost use Rattle.limit_tree.specs.declared.place.NodeKind.TheVariants.{Branch};
@@ -11,8 +11,8 @@ use super::walk::Passed;
 use std::alloc::Allocator;
 use thiserror::Error;
 
-/// Why a tree is refused. The first node in preorder with a fault decides; for one node, the order is that
-/// below. `FloorsOverLimit` is reported only if there is no other fault.
+/// The reason for which a tree is refused. The first node in preorder with a fault decides; for one node, the order is
+/// that below. `FloorsOverLimit` is reported only if there is no other fault.
 #[derive(Clone, Copy, Debug, PartialEq, Eq, Error)]
 pub enum TreeFault {
     /// A node is deeper than `MAX_DEPTH`.

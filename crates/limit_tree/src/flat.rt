@@ -1,5 +1,6 @@
 //! A tree as an array of nodes in preorder, without pointers.
-ghost use Rattle.std.specs.Prelude.{◌≡◌, ◌+◌, ◌*◌, ◌<◌, ◌≤◌, ◌^◌, ◌↔◌, length, slice_get, slice_index, sum, IsTrue, Some, IfOk};
+
+ghost use Rattle.std.specs.Prelude.{◌≡◌, ◌+◌, ◌*◌, ◌<◌, ◌≤◌, ◌↔◌, length, slice_get, slice_index, sum, IsTrue, Some, IfOk};
 ghost use Rattle.std.specs.Option.{option_and_then};
 ghost use Rattle.limit_tree.specs.Sharing.{IsWanted, IsLimitTree, Branch, IsBranch, IsFull};
 ghost use Rattle.limit_tree.specs.Outline.{limits, leaves_under, absorbed};

@@ -8,8 +8,8 @@ pub fn no_floors_is_plain()
     ensures plain { NoFloorsIsPlain }
 {}
 
-/// Nodes absorb up to a level: a leaf the level, at least its floor and at most its want; a branch the sum of what its kids
-/// absorb, cut to its limit.
+/// Nodes absorb up to a level: a leaf the level, at least its floor and at most its want; a branch the sum of what its
+/// kids absorb, cut to its limit.
 pub fn absorbed_is_taken_in()
     ensures taken { AbsorbedIsTakenIn }
 {}

@@ -1,8 +1,8 @@
 //! Limit trees: nested limits over transfers, each of which wants a number of octets and may have a guaranteed minimum.
 //!
-//! A [`Node`] is a leaf, or a branch over kids with or without a limit. [`Tree::new`] accepts trees whose numbers are in
-//! range and whose floors fit the limits; each [`Tree`] is a limit tree in the sense of `specs/Sharing.antt`. [`Flat`] has
-//! the nodes of a tree in arrays, in preorder, for callers that walk it often.
+//! A [`Node`] is a leaf, or a branch over kids with or without a limit. [`Tree::new`] accepts trees whose numbers are
+//! in range and whose floors fit the limits; each [`Tree`] is a limit tree in the sense of `specs/Sharing.antt`.
+//! [`Flat`] has the nodes of a tree in arrays, in preorder, for callers that walk it often.
 //!
 //! ```text
 //! let alloc = rt.alloc();
@@ -12,7 +12,7 @@
 //! let limit = Some(30);
 //! let tree = Tree::new(Node::Branch { limit, kids })?;
 //! assert!(rt; tree.leaves() == 2 && tree.nodes() == 3);
-//! // what the root takes in where each leaf has up to 12 octets
+//! // the root absorbs 12 octets of one leaf and 10 of the other
 //! assert!(rt; tree.absorb(0, 12) == 22);
 //! ```
 #![tactic(auto)]

@@ -1,4 +1,5 @@
 //! Visitors that search for one node.
+
 ghost use Rattle.std.specs.Prelude.{◌≡◌, ◌+◌, ◌<◌, ◌≤◌, ◌^◌, ◌↔◌, IsTrue, length, sum};
 ghost use Rattle.limit_tree.specs.Outline.{IsFullOver};
 

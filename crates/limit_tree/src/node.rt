@@ -1,3 +1,5 @@
+//! Nodes of a tree.
+
 use std::alloc::{Allocator, Global};
 
 /// A tree of limits under construction: branches, each with or without a limit in octets, and leaves, each

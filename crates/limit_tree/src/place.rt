@@ -1,4 +1,5 @@
 //! A node's kind and its position in the tree.
+
 ghost use Rattle.std.specs.Prelude.{◌≡◌, ◌+◌, ◌<◌, ◌≤◌, ◌^◌, ◌↔◌, IsTrue, length, sum};
 ghost use Rattle.limit_tree.specs.Sharing.{sum_over};
 ghost use Rattle.limit_tree.specs.Outline.{leaf_range, IsFullPlace};

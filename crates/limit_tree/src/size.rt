@@ -1,4 +1,5 @@
 //! Sizes of trees.
+
 ghost use Rattle.std.specs.Prelude.{◌≡◌, ◌<◌, ◌^◌, length, IfSome};
 ghost use Rattle.limit_tree.specs.Outline.{places, leaf_count, floor_sum, root_place};
 ghost use Rattle.limit_tree.specs.Sizes.{IsSizeOf};

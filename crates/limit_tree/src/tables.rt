@@ -1,4 +1,5 @@
 //! The wants and floors of a tree's leaves, in tables.
+
 ghost use Rattle.std.specs.Prelude.{◌≡◌, ◌+◌, ◌≤◌, ◌++◌, length, take};
 ghost use Rattle.limit_tree.specs.Outline.{places, limits, leaf_count};
 

@@ -1,5 +1,6 @@
 //! A tree with checked numbers.
-ghost use Rattle.std.specs.Prelude.{◌≡◌, ◌+◌, ◌*◌, ◌<◌, ◌≤◌, ◌^◌, ◌↔◌, [], length, slice_get, slice_index, sum, take, IsTrue, IsSome, Some, None, MatchResult, IfOk, IfSome, ℕ};
+
+ghost use Rattle.std.specs.Prelude.{◌≡◌, ◌+◌, ◌*◌, ◌<◌, ◌≤◌, ◌↔◌, [], length, slice_get, slice_index, sum, take, IsTrue, IsSome, Some, None, MatchResult, IfOk};
 ghost use Rattle.std.specs.Option.{option_and_then};
 ghost use Rattle.limit_tree.specs.Sharing.{sum_over, IsWanted, IsLimitTree, Branch, IsBranch, IsFull, IsDeepestFull};
 ghost use Rattle.limit_tree.specs.Outline.{places, limits, leaves_under, absorbed};
@@ -95,8 +96,8 @@ impl<A: Allocator> Tree<A> {
         recall!(self.leaves);
     }
 
-    /// Shows a visitor each node in preorder. O(nodes * depth) time: each node is counted once for each branch above it,
-    /// except in last kids.
+    /// Shows a visitor each node in preorder. O(nodes * depth) time: each node is counted once for each branch above
+    /// it, except in last kids.
     pub fn walk<V: Visitor>(&self, visitor: &mut V)
         requires leaves { V.leaves visitor.old ≡ length (limits self.now).wants }
         ensures same { V.leaves visitor.new ≡ V.leaves visitor.old }

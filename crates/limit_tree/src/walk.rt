@@ -1,4 +1,5 @@
 //! Walks over a tree in preorder.
+
 ghost use Rattle.std.specs.Prelude.{◌≡◌, ◌+◌, ◌<◌, ◌≤◌, ◌^◌, ◌++◌, List, length, map};
 ghost use Rattle.limit_tree.specs.declared.place.Place.{Place};
 ghost use Rattle.limit_tree.specs.Outline.{places, leaf_count, floor_sum, moved};

@@ -1,6 +1,6 @@
 //! The state of the open line.
 
-ghost use Rattle.std.specs.Prelude.{◌≡◌, ◌≤◌, [], ◌∷◌, length, take};
+ghost use Rattle.std.specs.Prelude.{◌≡◌, ◌≤◌, length, take};
 ghost use Rattle.line_mender.specs.Mended.{at_start, letter_at, line_after, after, is_stray, after_all, kept, is_cut, after_silence};
 
 use std::marker::Model;
@@ -13,7 +13,7 @@ const DATA_MARK: u8 = 242;
 
 const IAC: u8 = 255;
 
-/// The state of a text that does not end with a part of ABOR CR.
+/// The count for an open line that is not the start of ABOR CR.
 const OTHER: u8 = 6;
 
 /// Takes a control text as it is read, and passes it on with the octets restored that were lost as urgent data.
@@ -119,8 +119,8 @@ impl Mender {
         self.line == 5
     }
 
-    /// Reports that nothing has come for a while. Returns whether an LF is to be passed on, which is if the open line is
-    /// exactly ABOR and CR. If the LF itself comes next, it is removed.
+    /// Reports that nothing has come for a while. Returns whether an LF is to be passed on, which is if the open line
+    /// is exactly ABOR and CR. If the LF itself comes next, it is removed.
     pub fn silence(&mut self) -> bool
         ensures cut { result ≡ is_cut self.old }
         ensures after { self.new ≡ after_silence self.old }

@@ -1,16 +1,16 @@
 mod GrantLemmas
 mod KidLemmas
 mod LimitsLemmas
-mod MarkLemmas
+pub mod MarkLemmas
 mod NameLemmas
 mod PartLemmas
 pub mod RowLemmas
 mod SameName
 mod QueueLemmas
 mod QueueSteps
-mod TickLemmas
+pub mod TickLemmas
 mod TwiceLemmas
 mod WholeLemmas
 pub mod FloorLemmas
 pub mod PlainLemmas
-mod PutLemmas
+pub mod PutLemmas

@@ -6,7 +6,7 @@ use Rattle.std.specs.List.{list_any, All}
 use Rattle.std.specs.List.Sorted.{IsNonDecreasingBy}
 use Rattle.std.proofs.lemmas.Bool.{or_parts, ltb-false}
 use Rattle.std.proofs.lemmas.List.Sorted.{list_any-IsPermutation, IsPermutation-map, All-permutation}
-use Rattle.line_rates.specs.declared.fault.LimitsFault.TheVariants.{RateTooLarge, Twice, NoSuchGroup}
+use Rattle.line_rates.specs.declared.fault.LimitsFault.TheVariants.{Twice, NoSuchGroup}
 use Rattle.line_rates.specs.declared.rate.TheConstants.{MAX_RATE}
 use Rattle.line_rates.specs.declared.row.GroupRate.{GroupRate}
 use Rattle.line_rates.specs.declared.row.UserRate.{UserRate}

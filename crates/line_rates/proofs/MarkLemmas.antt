@@ -1,7 +1,7 @@
 -- Grown trees side by side, and under a branch.
 use Rattle.std.proofs.Common.{◌≡◌, ℕ, zero, suc, ◌+◌, ◌<◌, Bool, true, false, ◌||◌, cond, List, [], ◌∷◌, ◌++◌, length, map, sym, refl, ap, ◌∙◌, arith, Option, Some, None}
 use Rattle.std.specs.Prelude.{nat_le, nat_lt, count_by}
-use Rattle.std.specs.List.{cons_option, AllByRecursion, list_any}
+use Rattle.std.specs.List.{AllByRecursion, list_any}
 use Rattle.std.proofs.lemmas.Bool.{and_parts, and_from, or_parts, leb-true, ltb-true, le-leb, lt-ltb}
 use Rattle.std.proofs.lemmas.List.{map-append, length-map}
 use Rattle.std.proofs.lemmas.List.Sums.{sum_by-cons, sum_by-append}
@@ -16,6 +16,7 @@ use Rattle.line_rates.specs.Rates.{Rates, rate_of}
 use Rattle.line_rates.specs.Ticks.{rate_limit}
 use Rattle.line_rates.specs.TickTree.{bears_at}
 use Rattle.line_rates.specs.Grown.{same_name, Mark, place_in, is_marked, IsMarkBy, IsMark, IsGrown}
+use Rattle.limit_tree.proofs.Absorbs.{wants_in-behind, wants_in-deeper}
 
 pub bool_same : (x y : Bool) → (x ≡ true → y ≡ true) → (y ≡ true → x ≡ true) → x ≡ y
 bool_same true true f g = refl
@@ -34,14 +35,6 @@ all_map P Q f (x ∷ xs) g h = (g x h.0, all_map P Q f xs g h.1)
 all_weaker : {X : Type 0} (P Q : X → Type 0) (xs : List X) → ((x : X) → P x → Q x) → AllByRecursion P xs → AllByRecursion Q xs
 all_weaker P Q [] g h = tt
 all_weaker P Q (x ∷ xs) g h = (g x h.0, all_weaker P Q xs g h.1)
-
-wants_in-behind : (n : ℕ) (p : List Place) → wants_in (map (behind n) p) ≡ wants_in p
-wants_in-behind n [] = refl
-wants_in-behind n (x ∷ p) = ap (cons_option (leaf_want x.kind)) (wants_in-behind n p)
-
-wants_in-deeper : (p : List Place) → wants_in (map deeper p) ≡ wants_in p
-wants_in-deeper [] = refl
-wants_in-deeper (x ∷ p) = ap (cons_option (leaf_want x.kind)) (wants_in-deeper p)
 
 -- ranges of leaves
 range_shift : (n f k i : ℕ) → leaf_range (n + f) k (n + i) ≡ leaf_range f k i

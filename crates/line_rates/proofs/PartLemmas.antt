@@ -1,7 +1,7 @@
 -- What stands where when a part of a list is written.
 use Rattle.std.proofs.Common.{◌≡◌, ℕ, List, ◌++◌, length, take, drop, refl, ap, ◌∙◌}
 use Rattle.std.proofs.Math.Seq.{take-append_seam, drop-append_seam}
-use borrow.Rule.Slice.PartMut.{put_mid, mid_of}
+use borrow.Rule.Slice.PartMut.{put_mid}
 
 module _ {X : Type 0} where
   pub take_at : (xs ys zs : List X) (n : ℕ) → zs ≡ xs ++ ys → n ≡ length xs → take n zs ≡ xs

@@ -15,6 +15,7 @@ use Rattle.line_rates.specs.Plain.{PlainName, bears_plain, bears_plain_in, is_pl
 use Rattle.line_rates.specs.Plain.PlainName.{PlainServer, PlainWay, PlainUser, PlainSession}
 use Rattle.line_rates.specs.Rates.{Rates, floor_rate}
 use Rattle.line_rates.specs.TickTree.{bears_in, is_server, is_name, AreNamed, IsTickTree}
+use Rattle.line_rates.proofs.WholeLemmas.{any_same}
 
 abbrev full : PlainName → Name
 full PlainServer = Server
@@ -56,10 +57,6 @@ plain_in (Some n) = plain_full n
 same_map : (f g : Ask → ℕ) → ((a : Ask) → f a ≡ g a) → (asks : List Ask) → map f asks ≡ map g asks
 same_map f g h [] = refl
 same_map f g h (a ∷ asks) = ap (λ (x : ℕ). x ∷ map f asks) (h a) ∙ ap (λ xs. g a ∷ xs) (same_map f g h asks)
-
-any_same : (p q : Ask → Bool) → ((a : Ask) → p a ≡ q a) → (asks : List Ask) → list_any p asks ≡ list_any q asks
-any_same p q h [] = refl
-any_same p q h (a ∷ asks) = ap (λ (b : Bool). b || list_any p asks) (h a) ∙ ap (λ (b : Bool). q a || b) (any_same p q h asks)
 
 module _ (r : Rates) (tick : ℕ) (asks : List Ask) (plain : IsPlainRates r) where
   same_ask : (n : PlainName) (a : Ask) → bears r (full n) a ≡ bears_plain n a

@@ -20,7 +20,7 @@ abbrev pub first_row : {X : Type 0} → (X → ℕ) → ℕ → List X → Optio
 first_row number q [] = None
 first_row number q (x ∷ xs) = cond (nat_eq (number x) q) (Some x) (first_row number q xs)
 
-other_number : (n q : ℕ) → n ≢ q → nat_eq n q ≡ false
+pub other_number : (n q : ℕ) → n ≢ q → nat_eq n q ≡ false
 other_number n q h = bool_same (nat_eq n q) false (λ e. absurd (h (eqb-true n q e))) (λ e. absurd (cc))
 
 pub same_test : (q n : ℕ) (r : Ordering) → r ≡ nat_cmp q n → is_eq r ≡ nat_eq n q

@@ -4,7 +4,7 @@ use Rattle.std.proofs.lemmas.Bool.{cases_lt}
 use Rattle.line_rates.specs.Ticks.{share_of}
 use Rattle.limit_tree.specs.Sharing.{sum_below}
 
-times_more : (r l : ℕ) → (r + 1) * l ≡ r * l + l
+pub times_more : (r l : ℕ) → (r + 1) * l ≡ r * l + l
 times_more r l = omega arith
 
 -- what all ticks before this one let through

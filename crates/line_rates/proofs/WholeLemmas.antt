@@ -118,7 +118,7 @@ and_it : (b : Bool) → (b && true) ≡ b
 and_it true = refl
 and_it false = refl
 
-any_same : (p q : Ask → Bool) → ((a : Ask) → p a ≡ q a) → (asks : List Ask) → list_any p asks ≡ list_any q asks
+pub any_same : (p q : Ask → Bool) → ((a : Ask) → p a ≡ q a) → (asks : List Ask) → list_any p asks ≡ list_any q asks
 any_same p q h [] = refl
 any_same p q h (a ∷ asks) = ap (λ (b : Bool). b || list_any p asks) (h a) ∙ ap (λ (b : Bool). q a || b) (any_same p q h asks)
 

@@ -102,7 +102,7 @@ pub record FitsUser (row : UserRate) : Type 0 where
   pub session_down_floor : row.session_down_floor ≤ MAX_RATE
   pub session_up_floor : row.session_up_floor ≤ MAX_RATE
 
--- how limits store their rates and rows
+-- rates and rows as limits store them
 pub record IsKept (server down up : ℕ) (groups : List GroupRate)
     (users : List UserRate) : Type 0 where
   pub server_fits : server ≤ MAX_RATE

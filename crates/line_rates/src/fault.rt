@@ -4,7 +4,7 @@ use limit_tree::TreeFault;
 use std::alloc::AllocError;
 use thiserror::Error;
 
-/// Why rates are refused: the first of these that applies.
+/// The reason for which rates are refused: the first of these that applies.
 #[derive(Clone, Copy, Debug, PartialEq, Eq, Error)]
 pub enum LimitsFault {
     /// A rate is above `MAX_RATE`.
@@ -18,7 +18,7 @@ pub enum LimitsFault {
     NoSuchGroup,
 }
 
-/// Why the tree of a tick is refused.
+/// The reason for which the tree of a tick is refused.
 #[derive(Clone, Copy, Debug, PartialEq, Eq, Error)]
 pub enum PlanFault {
     /// The tree of the tick has a fault: a want above the largest, too many asks, or floors above a limit.

@@ -15,8 +15,8 @@ pub fn grants_keep_names()
     ensures kept { GrantsKeepNames }
 {}
 
-/// The floors of the tree of a tick are within its limits exactly if, for each name, what asks are guaranteed under it is
-/// within its limit.
+/// The floors of the tree of a tick are within its limits exactly if, for each name, what asks are guaranteed under it
+/// is within its limit.
 pub fn floors_fit_their_names()
     ensures within { FloorsAreWithin }
 {}

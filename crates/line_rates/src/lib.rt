@@ -1,7 +1,7 @@
 //! The rates that an administrator states, and the limits that follow in each tick of 100 ms.
 //!
-//! `Limits::of` takes the rates of the line, its two ways, groups and users. In each tick, `tree_of` makes the limit tree
-//! of the transfers' asks, which a round shares out; `rate_limit` returns what a rate allows in a tick.
+//! `Limits::of` takes the rates of the line, its two ways, groups and users. In each tick, `tree_of` makes the limit
+//! tree of the transfers' asks, which a round shares out; `rate_limit` returns what a rate allows in a tick.
 //!
 //! ```text
 //! let alloc = rt.alloc();

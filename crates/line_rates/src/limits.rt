@@ -55,8 +55,8 @@ fn has_large_rate(server: u64, down: u64, up: u64, groups: &[GroupRate], users: 
 }
 
 impl<A: Allocator> Limits<A> {
-    /// The limits set by the rates of the server, its two ways, groups and users. The rows may come in any order; a user or
-    /// group without a row has no limit of its own. No memory, O(n log n) time.
+    /// The limits set by the rates of the server, its two ways, groups and users. The rows may come in any order; a
+    /// user or group without a row has no limit of its own. No memory, O(n log n) time.
     pub fn of(
         server: u64,
         down: u64,
@@ -159,8 +159,8 @@ impl<A: Allocator> Limits<A> {
         }
     }
 
-    /// The floor of an ask in any tick, in octets: a tenth of its session's guarantee per second, rounded down, and at most
-    /// its want.
+    /// The floor of an ask in any tick, in octets: a tenth of its session's guarantee per second, rounded down, and at
+    /// most its want.
     pub fn floor(&self, ask: Ask) -> u64
         ensures floor { result ≡ floor_of self.now ask }
     {
@@ -192,8 +192,8 @@ impl<A: Allocator> Limits<A> {
         replace_group(&mut self.groups, row);
     }
 
-    /// Replaces the rates of a user, if they have a row. No memory, one binary search. The row's group is not checked: a
-    /// group without a row limits nobody.
+    /// Replaces the rates of a user, if they have a row. No memory, one binary search. The row's group is not checked:
+    /// a group without a row limits nobody.
     pub fn put_user(&mut self, row: UserRate)
         requires fits { FitsUser row }
         ensures put { self.new ≡ with_user self.old row }

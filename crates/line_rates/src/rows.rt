@@ -5,7 +5,6 @@ ghost use Rattle.std.specs.FinMap as finite;
 ghost use Rattle.std.specs.List.{All, Contains};
 ghost use Rattle.std.specs.List.Sorted.{IsNonDecreasingBy};
 ghost use Rattle.line_rates.specs.Put.{put, FindsPlace};
-ghost use Rattle.std.specs.Option.{is_some};
 ghost use Rattle.line_rates.specs.Stated.{FitsGroup, FitsUser, group_number, user_number, by_number, is_large_group, is_large_user, has_large_group, has_large_user, has_no_row, has_stray_user, IsRising, TellsRising};
 
 use crate::rate::MAX_RATE;

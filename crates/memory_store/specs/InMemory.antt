@@ -19,8 +19,8 @@ pub record Memory : Type 0 where
   pub tree : Tree
   pub capacity : ℕ
 
--- an upload: the spot of its file, how many of the file's octets are kept before the new ones, and
--- those received
+-- an upload: the spot of its file, the number of the file's octets that are kept before the new
+-- ones, and those received
 pub record Upload : Type 0 where
   pub spot : Spot
   pub kept : ℕ
@@ -61,7 +61,8 @@ listing_told tree path None = Err fault.NotFound
 listing_told tree path (Some kind.File) = Err fault.NotDir
 listing_told tree path (Some kind.Directory) = Ok (listing tree path)
 
--- whether an entry may be created, given the kinds of its directory and of an entry at its spot
+-- the spot, if an entry may be created there, given the kinds of its directory and of an entry at
+-- the spot
 abbrev pub vacancy : Spot → Option EntryKind → Option EntryKind → Result Spot StoreFault
 vacancy spot None here = Err fault.NotFound
 vacancy spot (Some kind.File) here = Err fault.NotDir
@@ -81,7 +82,7 @@ bare_only is_bare spot None = Err fault.NotFound
 bare_only is_bare spot (Some kind.File) = Err fault.NotDir
 bare_only is_bare spot (Some kind.Directory) = cond is_bare (Ok spot) (Err fault.NotEmpty)
 
--- whether a directory has no entries
+-- a directory has no entries
 abbrev pub is_bare : Tree → Path → Bool
 is_bare tree path = nat_eq (length (children_in tree path)) 0
 
@@ -121,7 +122,7 @@ move_of tree from to (Some before) None = Err fault.Inside
 move_of tree from to (Some before) (Some afterwards) =
     if_found (move_to tree from to before afterwards) (get tree before)
 
--- the rename between two paths, or why it is refused
+-- the rename between two paths, or its refusal
 abbrev pub move_between : Tree → Path → Path → Result Move StoreFault
 move_between tree from to = move_of tree from to (spot_of from) (spot_of to)
 

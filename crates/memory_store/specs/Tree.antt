@@ -75,7 +75,7 @@ total tree = sum_by size_of (values tree)
 abbrev pub is_same : Path → Path → Bool
 is_same = eq_by_cmp names_cmp
 
--- whether the path is that of an entry of this directory
+-- the path is that of an entry of this directory
 abbrev pub is_in : Path → Path → Bool
 is_in directory [] = false
 is_in directory (name ∷ names) = is_same directory (parent_of (name ∷ names))
@@ -100,7 +100,7 @@ is_named entry = is_name (last_of entry.0)
 abbrev pub listing : Tree → Path → List (List ℕ × Meta)
 listing tree directory = map told_of (filter is_named (children_in tree directory))
 
--- whether a path is this one or beneath it
+-- a path is this one or beneath it
 abbrev pub begins_with : Path → Path → Bool
 begins_with front path = is_same (take (length front) path) front
 

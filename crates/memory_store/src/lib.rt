@@ -1,10 +1,10 @@
 //! A store of files and directories in memory.
 //!
-//! [`MemStore`] is a `Store`, and what each of its calls answers and leaves is a function of its contents: a finite map from
+//! [`MemStore`] is a `Store`. The result and the effect of each call are a function of its contents: a finite map from
 //! paths to directories and files, with a limit to the octets of all files together.
 //!
 //! ```text
-//! let mut store = MemStore::new(rt.alloc(), 1_000_000)?; // of so many octets at most
+//! let mut store = MemStore::new(rt.alloc(), 1_000_000)?; // of at most 1,000,000 octets
 //! store.make_dir(path)?; // the path is `/in`
 //! holds(rt, store.make_dir(path) == Err(StoreFault::Exists));
 //! holds(rt, store.list(path)?.is_empty());

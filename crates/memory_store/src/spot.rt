@@ -153,8 +153,8 @@ impl<A: Allocator + Clone> Spot<A> {
         })
     }
 
-    /// A spot after all entries of a directory: no directory is between it and the one of an empty name in
-    /// the directory.
+    /// A spot after all entries of a directory: its own directory, one with an empty name in the given one, is the next
+    /// in the order of directories.
     pub(crate) fn past<B: Allocator>(alloc: &A, path: &VPath<B>) -> Result<Spot<A>, AllocError>
         ensures { IfOk result (λ spot. spot ≡ (path.now ++ [] ∷ []) ++ [] ∷ []) }
     {

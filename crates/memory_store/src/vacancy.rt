@@ -1,4 +1,4 @@
-//! The entry at a path of a store in memory, and whether one may be created or removed there.
+//! Checks that an entry of a store in memory may be created or removed at a path.
 
 ghost use Rattle.std.specs.Prelude.{◌≡◌, ◌≢◌, IfOk, Ok, Err, Some, None};
 ghost use Rattle.virtual_path.specs.Path.{parent_of};

@@ -12,7 +12,7 @@ use Rattle.std.proofs.lemmas.List.{length-map}
 use Rattle.std.proofs.lemmas.List.Sums.{count_by-le-length, sum_by-cons}
 use Rattle.slab.specs.Slab.{Slab, Updates, get, slab_len, entries_from}
 use Rattle.passive_ports.proofs.CountLemmas.{unwrap_or-kept_count, same_address}
-use Rattle.passive_ports.specs.Connections.{reaches, kept_admitted, none_admitted, Admits, without, Connections, Counts, count_of, count_at, count_in, kept_count, SetsCount, connections_of, IsRegistry}
+use Rattle.passive_ports.specs.Connections.{reaches, kept_admitted, Admits, without, Connections, Counts, count_of, count_at, count_in, kept_count, SetsCount, connections_of, IsRegistry}
 
 pub below_limit : (count limit : ℕ) → false ≡ reaches count limit → limit ≢ 0 → count < limit
 below_limit count limit short some =

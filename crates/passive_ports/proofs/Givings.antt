@@ -5,13 +5,10 @@ use Rattle.std.specs.FinSet as set
 use Rattle.std.specs.FinSet.{FinSet}
 use Rattle.std.specs.Ordering.{nat_cmp}
 use Rattle.std.proofs.lemmas.List.{length-append}
-use Rattle.passive_ports.specs.Ports.{Ports, without_lease}
-use Rattle.passive_ports.specs.Resting.{Resting, unleased, kept_ports, rests, rested, keep_last, AllRest, IsKept}
+use Rattle.passive_ports.specs.Ports.{Ports}
+use Rattle.passive_ports.specs.Resting.{unleased, kept_ports, rests, rested, keep_last, AllRest, IsKept}
 use Rattle.passive_ports.proofs.Unleased.{unleased_has, unleased_more, all_with, same_range}
-
-none_and : (c r : Bool) → c ≡ false → (c && r) ≡ false
-none_and true r e = absurd (let f : true ≡ false = e in cc)
-none_and false r e = refl
+use Rattle.passive_ports.proofs.Leasing.{resting, none_and}
 
 none_not : (c r : Bool) → r ≡ true → (c && not r) ≡ false
 none_not true true e = refl
@@ -31,9 +28,6 @@ is_resting pool ks port e = unleased_has pool ks port ∙ none_not (set.contains
 
 pub is_used : (pool : Ports) (ks : List ℕ) (port : ℕ) → set.contains pool.leased port ≡ true → rests ks port ≡ false → set.contains (unleased pool ks).leased port ≡ true
 is_used pool ks port c r = unleased_has pool ks port ∙ both (set.contains pool.leased port) (rests ks port) c r
-
-abbrev resting : ℕ → ℕ → FinSet nat_cmp → List ℕ → ℕ → Resting
-resting first last used ks most = record { first = first; last = last; in_use = used; at_rest = ks; most = most }
 
 -- the first and what stands behind it
 pub split_first : (xs : List ℕ) (x : ℕ) → 0 < length xs → x ≡ slice_index_or xs 0 x → xs ≡ x ∷ drop 1 xs

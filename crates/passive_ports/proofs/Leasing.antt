@@ -22,7 +22,7 @@ one_more pool ks port wakes = same_set nat_cmp_total nat_cmp-IsAntisymmetric (un
     ∙ (with_one (nat_eq q port) (set.contains pool.leased q) (rests ks q) (λ e. ap (rests ks) (eqb-true q port e) ∙ wakes)
     ∙ sym (inserted (unleased pool ks).leased port q ∙ ap (λ (b : Bool). nat_eq q port || b) (unleased_has pool ks q)))))
 
-none_and : (c r : Bool) → c ≡ false → (c && r) ≡ false
+pub none_and : (c r : Bool) → c ≡ false → (c && r) ≡ false
 none_and true r e = absurd (let f : true ≡ false = e in cc)
 none_and false r e = refl
 
@@ -48,7 +48,7 @@ ready_free pool ks most port ready = record {
   not_leased = left_of (set.contains pool.leased port) (rests ks port) (sym (unleased_has pool ks port) ∙ ready.idle.not_used) ready.awake;
 }
 
-abbrev resting : ℕ → ℕ → FinSet nat_cmp → List ℕ → ℕ → Resting
+abbrev pub resting : ℕ → ℕ → FinSet nat_cmp → List ℕ → ℕ → Resting
 resting first last used ks most = record { first = first; last = last; in_use = used; at_rest = ks; most = most }
 
 pub leases_ready : (old new : Ports) (ks : List ℕ) (most port : ℕ) → AllRest old.leased ks → IsLowestFree old port → new ≡ with_lease old port

@@ -2,7 +2,7 @@
 use Rattle.std.specs.Prelude.{◌≡◌, ◌≢◌, ℕ, ◌*◌, ◌/◌, ◌%◌, ◌<◌, Bool, true, false, List, length, slice_index, nat_eq}
 use Rattle.std.specs.Int.{bit_at}
 
--- whether a bit is set
+-- true if bit k is set
 abbrev pub has_bit : List ℕ → ℕ → Bool
 has_bit words k = nat_eq (bit_at (slice_index words (k / 64)) (k % 64)) 1
 

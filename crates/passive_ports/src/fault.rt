@@ -3,7 +3,7 @@
 use std::alloc::AllocError;
 use thiserror::Error;
 
-/// Why a pool of ports cannot be made. They are checked in this order.
+/// The reason for which a pool of ports cannot be made. The reasons are checked in this order.
 #[derive(Clone, Copy, Debug, PartialEq, Eq, Error)]
 pub enum PoolFault {
     /// The first port is above the last, or 0.
@@ -24,7 +24,7 @@ impl From<AllocError> for PoolFault {
     }
 }
 
-/// Why a connection is not admitted. They are checked in this order.
+/// The reason for which a connection is not admitted. The reasons are checked in this order.
 #[derive(Clone, Copy, Debug, PartialEq, Eq, Error)]
 pub enum AdmitFault {
     #[error("too many connections")]

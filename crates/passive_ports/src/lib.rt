@@ -1,10 +1,10 @@
 //! Ports for passive data connections, and the connections that a server has admitted.
 //!
-//! A [`PortPool`] leases the ports of a range, always the lowest that is free. While the system still holds a port's last
-//! connections, listening on it again is slow. So [`RestingPorts`] lets each port that is given back rest: it is leased again
-//! once as many others were given back after it as half the range has, or if no other port is free. [`open_passive`] tries one
-//! port after another until one can be listened on. A [`Registry`] counts connections, in all and by the address that they
-//! come from, and admits no more than its two limits.
+//! A [`PortPool`] leases the ports of a range, always the lowest that is free. While the system still holds a port's
+//! last connections, listening on it again is slow. So [`RestingPorts`] lets each port that is given back rest: it is
+//! leased again once others, half as many as the range has, were given back after it, or if no other port is free.
+//! [`open_passive`] tries one port after another until one can be listened on. A [`Registry`] counts connections, in
+//! all and by the address that they come from, and admits no more than its two limits.
 //!
 //! ```text
 //! let mut pool = PortPool::new(rt.alloc(), 40000, 40001)?;

@@ -1,10 +1,10 @@
 //! Opening a passive port.
 
-ghost use Rattle.std.specs.Prelude.{ℕ, None};
+ghost use Rattle.std.specs.Prelude.{None};
 ghost use Rattle.passive_ports.specs.Opening.{PortCall, Tries};
 ghost use Rattle.passive_ports.specs.Opening.PortCall.{Leases, Binds, Rests};
 
-/// Most ports that one call tries.
+/// Most ports that one call tries after the first.
 pub const MOST_TRIES: u8 = 64;
 
 /// Leases ports, and listens on them with listeners `L`: a server with its sockets and its
@@ -27,8 +27,8 @@ pub trait PortHost<L> {
 }
 
 /// Leases a port and listens on it. A port that cannot be listened on stays leased while the next is tried, and is then
-/// taken back. Returns `None` if no port is free or `tries` more could not be listened on; the reply is then 425 (RFC 959,
-/// section 4.2).
+/// taken back. Returns `None` if no port is free, or if the first port and `tries` more could not be listened on; the
+/// reply is then 425 (RFC 959, section 4.2).
 pub fn open_passive<L, H: PortHost<L>>(host: &mut H, tries: u8) -> Option<(u16, L)>
     ensures tries { Tries H.Asks tries host.old result host.new }
 {

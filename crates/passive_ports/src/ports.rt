@@ -56,7 +56,7 @@ fn wake<A: Allocator>(pool: &mut PortPool<A>, resting: &[u16])
     }
 }
 
-// Gives back the port that has rested longest, if as many rest as may.
+// Gives back the port that has rested longest, if `most` ports rest.
 fn make_room<A: Allocator>(pool: &mut PortPool<A>, resting: &mut Vec<u16, A>, most: usize)
     requires some { 0 < most }
     requires few { length resting.old.items ≤ most }
@@ -94,8 +94,8 @@ impl<A: Allocator + Clone> RestingPorts<A> {
 }
 
 impl<A: Allocator> RestingPorts<A> {
-    /// Leases the lowest ready port, which is then in use. If none is ready, all ports at rest become ready. `None` if all
-    /// are in use.
+    /// Leases the lowest ready port, which is then in use. If none is ready, all ports at rest become ready. `None` if
+    /// all are in use.
     pub fn lease(&mut self) -> Option<u16>
         ensures leased { IfSome result (Leases self.old self.new) }
         ensures all { IfNone result (AllAreUsed self.old) }
@@ -111,8 +111,8 @@ impl<A: Allocator> RestingPorts<A> {
         }
     }
 
-    /// Takes back a port that was in use. Returns whether it was. It rests, after those at rest already; if these are half
-    /// the range, the one that has rested longest becomes ready.
+    /// Takes back a port that was in use. Returns whether it was. It rests, after those at rest already; if these are
+    /// half the range, the one that has rested longest becomes ready.
     pub fn give_back(&mut self, port: u16) -> bool
         ensures was_used { result ≡ set.contains self.old.in_use port }
         ensures rested { result ≡ true → self.new ≡ rested self.old port }

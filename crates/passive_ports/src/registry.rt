@@ -71,7 +71,7 @@ impl<A: Allocator + Clone> Registry<A> {
 }
 
 impl<A: Allocator> Registry<A> {
-    /// Removes a connection. Returns whether it was there. No memory.
+    /// Removes a connection. Returns whether it was there. Allocates nothing.
     pub fn leave(&mut self, key: usize) -> bool
         ensures was_there { result ≡ map.contains_key self.old.connections key }
         ensures removed { self.new ≡ without self.old key }

@@ -1,4 +1,4 @@
-//! Public calls of the programs' crates on their normal path. The examples have the others.
+//! Public calls of the programs' crates on their normal path, except for those in the examples.
 
 use crate::ends::{Files, Given};
 use crate::expect::{holds, same, tells};

@@ -1,4 +1,4 @@
-//! Examples with the names of their crates: words of programs.
+//! The examples in the heads of the programs' crates. `tools/examples` compares their lines.
 
 use crate::expect::holds;
 use crate::servers::Noting;

@@ -46,7 +46,8 @@ fn line_outcome(rt: &impl Abort, heap: &LocalHeap, room: usize, command: &Comman
     first
 }
 
-/// Returns whether a reply is appended to a buffer, which is unchanged after a refusal. With more memory it is appended.
+/// Returns whether a reply is appended to a buffer, which is unchanged after a refusal. With more memory it is
+/// appended.
 fn reply_outcome(rt: &impl Abort, heap: &LocalHeap, room: usize, reply: &Reply) -> bool {
     let mut buffer = Vec::from_slice(heap, b"before").expect(rt, "memory");
     let rest = all_but(rt, heap, room);
@@ -59,8 +60,8 @@ fn reply_outcome(rt: &impl Abort, heap: &LocalHeap, room: usize, reply: &Reply) 
     first
 }
 
-/// Returns whether a reader reads its first piece with this little memory. With more, the rest of the lines is read, and
-/// all of them if the first piece was refused.
+/// Returns whether a reader reads its first piece with this little memory. With more, the rest of the lines is read,
+/// and all of them if the first piece was refused.
 fn feed_outcome(rt: &impl Abort, heap: &LocalHeap, room: usize) -> bool {
     let mut reader = LineReader::new(heap);
     let rest = all_but(rt, heap, room);

@@ -209,7 +209,7 @@ fn moments(rt: HostRuntime) {
     same_octets(&rt, &mdtm_text(LEAP_DAY), b"20000229123456");
     same_octets(&rt, &mdtm_text(0), b"19700101000000");
     same_octets(&rt, &mdtm_text(LATEST), b"99991231235959");
-    let late = Meta::new(EntryKind::File, 3, LATEST + 1); // told as the latest
+    let late = Meta::new(EntryKind::File, 3, LATEST + 1); // stored as the latest
     same(&rt, &late.modified, &LATEST);
     holds(&rt, late == Meta::new(EntryKind::File, 3, u64::MAX));
     holds(&rt, late != Meta::new(EntryKind::Directory, 3, LATEST));

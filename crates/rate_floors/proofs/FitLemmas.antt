@@ -15,7 +15,8 @@ use Rattle.line_rates.specs.Stated.{by_number, user_number, IsRising}
 use Rattle.line_rates.proofs.RowLemmas.{get-by_number, first_contains}
 use Rattle.rate_floors.specs.declared.find.GroupPromise.{GroupPromise}
 use Rattle.rate_floors.specs.declared.find.UserSessions.{UserSessions}
-use Rattle.rate_floors.specs.Promises.{Promises, PromisesFit, entry_fits, seen, counted, released, admits, fits, user_of, user_key, user_row, floor_in, promised_user, promised, promised_group, with_sessions, one_more, one_less, keeps, session_fits, user_fits, group_fits, line_fits, no_session, IsAt}
+use Rattle.line_rates.specs.Put.{IsAt}
+use Rattle.rate_floors.specs.Promises.{Promises, PromisesFit, entry_fits, seen, counted, released, admits, fits, user_of, user_key, user_row, floor_in, promised_user, promised, promised_group, with_sessions, one_more, one_less, keeps, session_fits, user_fits, group_fits, line_fits, no_session}
 use Rattle.rate_floors.proofs.AskSums.{sum_of_mapped}
 use Rattle.rate_floors.proofs.FloorLemmas.{unchanged, none_promised, group_within}
 use Rattle.rate_floors.proofs.PlaceLemmas.{all_mapped, rising_mapped, kept_mapped}

@@ -17,7 +17,8 @@ use Rattle.line_rates.proofs.RowLemmas.{first_row, get-by_number}
 use Rattle.rate_floors.specs.declared.find.GroupPromise.{GroupPromise}
 use Rattle.rate_floors.specs.declared.find.UserSessions.{UserSessions}
 use Rattle.rate_floors.specs.declared.fits.TheConstants.{MAX_PROMISED}
-use Rattle.rate_floors.specs.Promises.{Promises, changed, admits, fits, HasRoom, HasFloors, added, taken, user_key, group_key, user_row, group_row, floor_in, promised_user, promised, promised_group, with_sessions, with_floors, one_more, one_less, counted, user_of, keeps, is_small, group_fits, no_session, no_promise, IsAt, IsInGroup, HasNone, IsPromised, IsTold, seen}
+use Rattle.line_rates.specs.Put.{IsAt}
+use Rattle.rate_floors.specs.Promises.{Promises, changed, admits, fits, HasRoom, HasFloors, added, taken, user_key, group_key, user_row, group_row, floor_in, promised_user, promised, promised_group, with_sessions, with_floors, one_more, one_less, counted, user_of, keeps, group_fits, no_session, no_promise, IsInGroup, HasNone, IsPromised, IsTold, seen}
 use Rattle.rate_floors.proofs.PlaceLemmas.{all_mapped, rising_mapped, map_none, nowhere}
 use Rattle.rate_floors.proofs.SumLemmas.{line_after, group_after, user_within, of_user, entry_with, users-set, promised-less, group-less, told-more, told-less, same_rates}
 

@@ -2,6 +2,6 @@ mod AskSums
 mod FitLemmas
 mod FloorLemmas
 mod KeptLemmas
-mod PlaceLemmas
+pub mod PlaceLemmas
 mod PlainLemmas
 mod SumLemmas

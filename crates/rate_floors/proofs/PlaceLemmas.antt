@@ -1,23 +1,13 @@
 -- Where a number stands, and one entry changed among rising numbers.
-use Rattle.std.proofs.Common.{◌≡◌, ◌≢◌, ℕ, zero, suc, ◌+◌, ◌<◌, Bool, true, false, cond, List, [], ◌∷◌, length, map, get_or, set, sym, refl, ap, ◌∙◌, arith, Some, None, Result, Ok, Err, inl, inr}
+use Rattle.std.proofs.Common.{◌≡◌, ◌≢◌, ℕ, zero, suc, ◌+◌, ◌<◌, Bool, true, false, cond, List, [], ◌∷◌, length, map, get_or, set, sym, refl, ap, ◌∙◌, arith, Some, None, inl, inr}
 use Rattle.std.specs.List.{All}
 use Rattle.std.specs.FinMap as finite
-use Rattle.std.specs.List.Sorted.{IsSearchInRange, IsBinarySearchResult}
-use Rattle.std.specs.Ordering.{nat_cmp}
 use Rattle.std.specs.Prelude.{nat_eq}
-use Rattle.std.proofs.lemmas.Bool.{eqb-true, eq-eqb, cases_lt}
+use Rattle.std.proofs.lemmas.Bool.{eq-eqb, cases_lt}
 use Rattle.std.proofs.lemmas.List.{length-map}
 use Rattle.line_rates.specs.Stated.{by_number, IsRising}
-use Rattle.line_rates.proofs.RowLemmas.{get-by_number, found, not_found, at_any, rising_below, first_contains, first_missing}
-use Rattle.rate_floors.specs.Promises.{IsAt}
-
-pub at_place : {X : Type 0} (number : X → ℕ) (xs : List X) (q i : ℕ) (r : Result ℕ ℕ) → r ≡ Ok i → IsRising number xs → IsSearchInRange r (length xs) → IsBinarySearchResult (λ x. nat_cmp (number x) q) xs r → IsAt number xs q i
-at_place number xs q i r e up range by =
-    let f = found number xs q i r e up range by in
-    (f.0, (λ d. get-by_number number q xs ∙ f.1 d), (λ d. (first_contains number q xs (get_or xs i d) (f.1 d)).1))
-
-pub at_none : {X : Type 0} (number : X → ℕ) (xs : List X) (q i : ℕ) (r : Result ℕ ℕ) → r ≡ Err i → IsRising number xs → IsSearchInRange r (length xs) → IsBinarySearchResult (λ x. nat_cmp (number x) q) xs r → finite.get (by_number number xs) q ≡ None
-at_none number xs q i r e up range by = get-by_number number q xs ∙ not_found number xs q i r e up range by
+use Rattle.line_rates.proofs.RowLemmas.{get-by_number, at_any, rising_below, first_contains, first_missing, other_number}
+use Rattle.line_rates.specs.Put.{IsAt}
 
 -- no entry passes a test
 pub map_none : {X : Type 0} (p : X → Bool) (h : X → X) (xs : List X) → ((j : ℕ) (e : X) → j < length xs → p (get_or xs j e) ≡ false) → map (λ x. cond (p x) (h x) x) xs ≡ xs
@@ -36,15 +26,6 @@ map_one p h (x ∷ xs) zero d lt at rest =
 map_one p h (x ∷ xs) (suc i) d lt at rest =
     ap (λ (b : Bool). cond b (h x) x ∷ map (λ y. cond (p y) (h y) y) xs) (rest 0 x (omega arith) (λ same. omega arith))
     ∙ ap (λ ys. x ∷ ys) (map_one p h xs i d (omega arith) at (λ j e less apart. rest (suc j) e (omega arith) (λ same. apart (omega arith))))
-
-bool_same : (x y : Bool) → (x ≡ true → y ≡ true) → (y ≡ true → x ≡ true) → x ≡ y
-bool_same true true f g = refl
-bool_same false false f g = refl
-bool_same true false f g = sym (f refl)
-bool_same false true f g = g refl
-
-pub other_number : (n q : ℕ) → n ≢ q → nat_eq n q ≡ false
-other_number n q h = bool_same (nat_eq n q) false (λ e. absurd (h (eqb-true n q e))) (λ e. absurd (cc))
 
 pub here : {X : Type 0} (number : X → ℕ) (xs : List X) (q i : ℕ) (d : X) → IsAt number xs q i → nat_eq (number (get_or xs i d)) q ≡ true
 here number xs q i d at = eq-eqb (number (get_or xs i d)) q (at.2 d)
@@ -69,7 +50,7 @@ all_mapped P Q f [] h all k d lt = absurd (omega arith)
 all_mapped P Q f (x ∷ xs) h all zero d lt = h x (all 0 x (omega arith))
 all_mapped P Q f (x ∷ xs) h all (suc k) d lt = all_mapped P Q f xs h (λ j e less. all (suc j) e (omega arith)) k d (omega arith)
 
-get_mapped : {X Y : Type 0} (f : X → Y) (xs : List X) (k : ℕ) (d : Y) (e : X) → k < length xs → get_or (map f xs) k d ≡ f (get_or xs k e)
+pub get_mapped : {X Y : Type 0} (f : X → Y) (xs : List X) (k : ℕ) (d : Y) (e : X) → k < length xs → get_or (map f xs) k d ≡ f (get_or xs k e)
 get_mapped f [] k d e lt = absurd (omega arith)
 get_mapped f (x ∷ xs) zero d e lt = refl
 get_mapped f (x ∷ xs) (suc k) d e lt = get_mapped f xs k d e (omega arith)

@@ -15,11 +15,11 @@ use Rattle.line_rates.specs.Stated.{by_number, stated, IsRising, FitsUser}
 use Rattle.rate_floors.specs.declared.find.GroupPromise.{GroupPromise}
 use Rattle.rate_floors.specs.declared.find.UserSessions.{UserSessions}
 use Rattle.rate_floors.specs.declared.fits.TheConstants.{MAX_PROMISED}
-use Rattle.rate_floors.specs.Promises.{user_key, group_key, user_row, group_row, floor_in, promised_user, promised, promised_group, with_sessions, with_floors, one_more, one_less, added, taken, IsAt, IsInGroup, HasNone, IsPromised, IsTold}
-use Rattle.rate_floors.proofs.PlaceLemmas.{map_none, map_one, other_number, here, elsewhere, nowhere, stands_at, all_mapped, rising_mapped, kept_mapped}
-
-times_more : (r l : ℕ) → (r + 1) * l ≡ r * l + l
-times_more r l = omega arith
+use Rattle.line_rates.specs.Put.{IsAt}
+use Rattle.rate_floors.specs.Promises.{user_key, group_key, user_row, group_row, floor_in, promised_user, promised, promised_group, with_sessions, with_floors, one_more, one_less, added, taken, IsInGroup, HasNone, IsPromised, IsTold}
+use Rattle.rate_floors.proofs.PlaceLemmas.{map_none, map_one, here, elsewhere, nowhere, stands_at, all_mapped, rising_mapped, kept_mapped}
+use Rattle.line_rates.proofs.RowLemmas.{other_number}
+use Rattle.line_rates.proofs.TickLemmas.{times_more}
 
 times_less : (r l : ℕ) → 0 < r → (r - 1) * l + l ≡ r * l
 times_less r l some = let e : r - 1 + 1 ≡ r = omega arith in sym (times_more (r - 1) l) ∙ ap (λ (k : ℕ). k * l) e

@@ -1,5 +1,5 @@
 -- The guarantees of counted sessions in octets per second, and when those of one more still fit.
-use Rattle.std.specs.Prelude.{◌≡◌, ℕ, ◌+◌, ◌-◌, ◌*◌, ◌^◌, ◌<◌, ◌≤◌, Bool, true, false, ◌&&◌, ◌||◌, nat_eq, nat_le, nat_lt, if◌then◌else◌, List, map, sum_by, length, slice_index_or, Option, Some, None, MatchOption, refl}
+use Rattle.std.specs.Prelude.{◌≡◌, ℕ, ◌+◌, ◌-◌, ◌*◌, ◌^◌, ◌<◌, ◌≤◌, Bool, true, false, ◌&&◌, ◌||◌, nat_eq, nat_le, nat_lt, if◌then◌else◌, List, map, sum_by, length, slice_index_or, Option, Some, None, refl}
 use Rattle.std.specs.Coded.{Coded, code_by, coded×, coded_ℕ, coded_list}
 use Rattle.std.specs.FinMap as finite
 use Rattle.std.specs.List.{All}
@@ -158,18 +158,6 @@ no_session row = record { row = row; sessions = 0 }
 abbrev pub no_promise : GroupRate → GroupPromise
 no_promise row = record { row = row; down = 0; up = 0 }
 
--- the row with number q is at index i
-abbrev pub IsAt : {X : Type 0} → (X → ℕ) → List X → ℕ → ℕ → Type 0
-IsAt {X} number rows q i =
-    (i < length rows)
-    × ((d : X) → finite.get (by_number number rows) q ≡ Some (slice_index_or rows i d))
-    × ((d : X) → number (slice_index_or rows i d) ≡ q)
-
--- the index of the row with number q, if there is one
-abbrev pub FindsPlace : {X : Type 0} → (X → ℕ) → List X → ℕ → Option ℕ → Type 0
-FindsPlace number rows q place =
-    MatchOption place (finite.get (by_number number rows) q ≡ None) (IsAt number rows q)
-
 -- the guarantees in a group, with one more session of a user, are within the group's rates
 abbrev pub keeps_one_more : GroupPromise → UserRate → Bool
 keeps_one_more entry row =
@@ -240,7 +228,7 @@ pub record IsTold (down up : ℕ) (groups : List GroupPromise)
   pub groups_rise : IsRising group_key groups
   pub groups_told : All (IsPromised users) groups
 
--- how promises are stored: in sums, which fit
+-- promises as they are stored: in sums, which fit
 pub record IsKept (server down up promised_down promised_up : ℕ) (groups : List GroupPromise)
     (users : List UserSessions) : Type 0 where
   pub told : IsTold promised_down promised_up groups users

@@ -2,7 +2,8 @@
 
 ghost use Rattle.std.specs.Prelude.{◌≡◌, MatchOption, map};
 ghost use Rattle.line_rates.specs.Stated.{IsRising};
-ghost use Rattle.rate_floors.specs.Promises.{group_key, user_key, FindsPlace, IsInGroup, HasNone, with_floors, added, taken, HasRoom, HasFloors};
+ghost use Rattle.line_rates.specs.Put.{FindsPlace};
+ghost use Rattle.rate_floors.specs.Promises.{group_key, user_key, IsInGroup, HasNone, with_floors, added, taken, HasRoom, HasFloors};
 
 use line_rates::{GroupRate, UserRate};
 use std::alloc::Allocator;

@@ -3,9 +3,9 @@
 ghost use Rattle.rate_floors.specs.Kept.{PromisesAreKept, FloorsStayWithin};
 ghost use Rattle.rate_floors.specs.Plain.{NoGroupsIsPlain, NoFloorsAdmitsAll};
 
-/// Guarantees of counted sessions that fit are within the limits of every tick. For asks of counted sessions, at most one
-/// for each session and way, the floors fit under each name, so they are within the tree of the tick, and `tree_of` does
-/// not refuse it for its floors.
+/// Guarantees of counted sessions that fit are within the limits of every tick. For asks of counted sessions, at most
+/// one for each session and way, the floors fit under each name, so they are within the tree of the tick, and `tree_of`
+/// does not refuse it for its floors.
 pub fn promises_are_kept()
     ensures kept { PromisesAreKept }
     ensures within { FloorsStayWithin }

@@ -2,7 +2,7 @@
 //!
 //! `Floors::of` starts from the limits that an administrator states, with no session counted. `admit` counts one more
 //! session of a user if all guarantees then fit the rates above it, and otherwise refuses it; `release` takes one back.
-//! Neither allocates; each does two binary searches and a few sums.
+//! Neither allocates; each does at most three binary searches and a few sums.
 //!
 //! ```text
 //! let alloc = rt.alloc();

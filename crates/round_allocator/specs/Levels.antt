@@ -61,7 +61,7 @@ pub record IsCut (outline : List Place) (node : ℕ) (limit : Option ℕ) (share
   pub above : most < taken_below share.level outline node
   pub kept : plan.kept ≡ share.spare
 
--- how a branch divides the spare octets above a level among its kids
+-- the division of a branch's spare octets above a level among its kids
 abbrev pub IsPlan : List Place → ℕ → Option ℕ → LevelShare → Split → Type 0
 IsPlan outline node limit share plan =
     IsOpen limit share plan

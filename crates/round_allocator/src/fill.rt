@@ -1,4 +1,5 @@
 //! Grants by levels, in one pass over the nodes in preorder.
+
 ghost use Rattle.std.specs.Prelude.{◌≡◌, ◌+◌, ◌*◌, ◌<◌, ◌≤◌, ◌^◌, ℕ, length, take, sum, IfOk};
 ghost use Rattle.limit_tree.specs.Sharing.{IsWithin};
 ghost use Rattle.limit_tree.specs.Outline.{limits};

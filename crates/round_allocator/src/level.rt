@@ -1,4 +1,5 @@
 //! The level up to which a branch can fill its kids.
+
 ghost use Rattle.std.specs.Prelude.{◌≡◌, ◌+◌, ◌<◌, ◌≤◌, ◌^◌, length, Some};
 ghost use Rattle.limit_tree.specs.Flat.{taken_below};
 ghost use Rattle.round_allocator.specs.Levels.{IsBranchAt, IsLevel, IsNarrower, IsPlan, IsLeafGrant};
@@ -7,8 +8,8 @@ ghost use Rattle.round_allocator.specs.declared.level.TheConstants.{MAX_PROBES};
 use super::probe::{ProbedTree, Probes};
 use std::alloc::Allocator;
 
-/// Most probes of one branch: one at the level that it is handed, and, if its kids absorb too much there, 32 of a binary
-/// search, since levels go up to `MAX_WANT`, which is below 2^32.
+/// Most probes of one branch: one at the level that it is handed, and, if its kids absorb too much there, 32 of a
+/// binary search, since levels go up to `MAX_WANT`, which is below 2^32.
 pub const MAX_PROBES: u64 = 33;
 
 /// A level, and the octets that may be granted above it, one for each leaf.

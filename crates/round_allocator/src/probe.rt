@@ -1,4 +1,5 @@
 //! Counted probes of what the kids of a branch absorb.
+
 ghost use Rattle.std.specs.Prelude.{◌≡◌, ℕ, ◌+◌, ◌*◌, ◌<◌, ◌≤◌, ◌^◌, length, slice_get, sum, Option, Some};
 ghost use Rattle.limit_tree.specs.Sharing.{IsLimitTree};
 ghost use Rattle.limit_tree.specs.Outline.{limits};
@@ -87,8 +88,8 @@ impl<'t, A: Allocator> ProbedTree<'t, A> {
         self.flat.absorb_below(node, level)
     }
 
-    /// Sum of the floors of the leaves of a node, in octets: what the kids of a branch absorb up to level 0. Not a probe.
-    /// O(leaves below) time.
+    /// Sum of the floors of the leaves of a node, in octets: what the kids of a branch absorb up to level 0. Not a
+    /// probe. O(leaves below) time.
     pub fn floors(&self, node: usize) -> u64
         requires node { node < length self.now }
         ensures taken { (limit : Option ℕ) → IsBranchAt self.now node limit

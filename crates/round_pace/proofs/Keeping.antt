@@ -15,7 +15,7 @@ use Rattle.round_pace.specs.Offered.{credit_rate, refill_group, refill_user, off
 use Rattle.round_pace.specs.Paced.{Paced, AreTheGroups, AreTheUsers, group_key, pace_number, new_group, new_user}
 use Rattle.round_pace.specs.Taken.{take_group, take_user, take_groups, take_users}
 use Rattle.round_pace.proofs.Keys.{keys_mapped}
-use Rattle.round_pace.proofs.Mapped.{rising_mapped}
+use Rattle.rate_floors.proofs.PlaceLemmas.{rising_mapped}
 
 -- after a refill
 pub groups_refilled : (begun tick : ℕ) (r : Rates) (gs new : List GroupPace) → new ≡ map (refill_group begun tick) gs → IsRising group_key gs → AreTheGroups r gs → IsRising group_key new × AreTheGroups r new

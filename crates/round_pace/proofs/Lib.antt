@@ -4,7 +4,6 @@ mod Kept
 mod Lost
 mod Floors
 mod Sessions
-mod Mapped
 mod Promised
 mod Keys
 mod Places

@@ -61,7 +61,8 @@ pub(crate) fn refilled(credit: Credit, begun: u64, tick: u64) -> u64
     carried.saturating_add(earned).min(most_kept(credit.rate))
 }
 
-/// The rate that allows exactly what is left in a tick that is a multiple of ten; 0, which is no limit, for a rate of 0.
+/// The rate that allows exactly what is left in a tick that is a multiple of ten; 0, which is no limit, for a rate of
+/// 0.
 pub(crate) fn as_rate(credit: Credit) -> u64
     requires left { credit.left ≤ MOST_OFFERED }
     ensures rate { result ≡ as_rate credit.rate credit.left }

@@ -1,8 +1,8 @@
 //! The pace of rounds: the moment and the limits that each round is handed.
 //!
 //! Rounds may be held at any time. A [`Pace`] counts real ticks, 500 in a second. As a tick begins, each rate earns its
-//! share; a round is offered what its rates have earned and no round has granted, and its grants are subtracted from that.
-//! So the rounds of any second of the clock grant at most the rate, however many and however late they are.
+//! share; a round is offered what its rates have earned and no round has granted, and its grants are subtracted from
+//! that. So the rounds of any second of the clock grant at most the rate, however many and however late they are.
 //!
 //! ```text
 //! let alloc = rt.alloc();

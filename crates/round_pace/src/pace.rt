@@ -1,11 +1,9 @@
 //! The pace of rounds under the rates of a line.
 
 ghost use Rattle.std.specs.Prelude.{◌≡◌, ◌<◌, ◌^◌, IfOk, map};
-ghost use Rattle.std.specs.List.{All};
-ghost use Rattle.line_rates.specs.Stated.{FitsGroup, FitsUser};
 ghost use Rattle.round_pace.specs.Earned.{tick_of};
 ghost use Rattle.round_pace.specs.Offered.{refill_all, offer_all, with_offered, offer_round, left_rates, due_in};
-ghost use Rattle.round_pace.specs.Paced.{Paced, IsGroupPace, IsUserPace, new_group, new_user, IsPacedFrom};
+ghost use Rattle.round_pace.specs.Paced.{Paced, new_group, new_user, IsPacedFrom};
 ghost use Rattle.round_pace.specs.Spent.{due_for_in};
 ghost use Rattle.round_pace.specs.Taken.{take_octets};
 
@@ -156,7 +154,8 @@ impl<A: Allocator> Pace<A> {
         self.moment = self.moment.saturating_add(1_000);
     }
 
-    /// The moment of a round that is held now, in milliseconds of its own count; `limits` returns its limits. No memory.
+    /// The moment of a round that is held now, in milliseconds of its own count; `limits` returns its limits. No
+    /// memory.
     pub fn offer(&mut self, now: u64) -> u64
         ensures round { self.new ≡ offer_round (tick_of now) self.old }
         ensures handed { self.new.offered ≡ left_rates self.old.begun (tick_of now) self.new }
@@ -189,8 +188,8 @@ impl<A: Allocator> Pace<A> {
         take_users(&mut self.users, user, way, octets);
     }
 
-    /// The earliest moment of the next round: at once if it is the first of its tick or something can be granted; otherwise
-    /// the start of the next tick.
+    /// The earliest moment of the next round: at once if it is the first of its tick or something can be granted;
+    /// otherwise the start of the next tick.
     pub fn due(&self, now: u64) -> Due
         ensures due { result ≡ due_in self.now now }
     {
@@ -203,8 +202,8 @@ impl<A: Allocator> Pace<A> {
         Due::Now
     }
 
-    /// The earliest moment of the next round for a transfer of a user: at once if it is the first of its tick or something
-    /// can be granted to that transfer; otherwise the start of the next tick.
+    /// The earliest moment of the next round for a transfer of a user: at once if it is the first of its tick or
+    /// something can be granted to that transfer; otherwise the start of the next tick.
     pub fn due_for(&self, way: Way, user: u32, now: u64) -> Due
         ensures due { result ≡ due_for_in way user self.now now }
     {

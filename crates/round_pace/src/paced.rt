@@ -329,8 +329,8 @@ fn is_spent(user: UserPace, way: Way) -> bool
     session_of(user.row, way) != 0 || is_dry(credit_of(user.down, user.up, way))
 }
 
-/// Returns whether nothing is left for a user's transfers of one way, under the rates of the user and of each session, in a
-/// tick that has begun.
+/// Returns whether nothing is left for a user's transfers of one way, under the rates of the user and of each session,
+/// in a tick that has begun.
 pub(crate) fn is_user_spent(users: &[UserPace], user: u32, way: Way) -> bool
     requires rising { IsRising pace_number users.now }
     ensures spent { result ≡ is_user_spent way users.now user }

@@ -13,7 +13,6 @@ use Rattle.session_host.specs.Sides.{Given, SideCall}
 use Rattle.session_host.specs.Silent.{StaysSilent}
 use Rattle.session_host.specs.Told.{IsTold}
 use Rattle.session_table.specs.Steps.{Standing}
-use Rattle.session_table.specs.declared.actions.Action.{Action}
 use Rattle.session_table.specs.declared.settings.Settings.{Settings}
 use Rattle.script_session.specs.Scripts.{AnswersScript, IsScript, StandsStill, as_known, home_address, script_parts, unasked}
 use Rattle.script_session.specs.declared.side.ScriptSide.{ScriptSide}

@@ -1,5 +1,5 @@
 -- How the depth of a list is that of its parts.
-use Rattle.std.proofs.Common.{◌≡◌, ℕ, true, false, max, arith}
+use Rattle.std.proofs.Common.{◌≡◌, ℕ, true, max, arith}
 use Rattle.std.specs.Prelude.{nat_le}
 use Rattle.std.proofs.lemmas.Grind.{common_steps}
 

@@ -85,8 +85,8 @@ pub record IsNumberless {R : Type 0} (table : TableName) (name : R → List ℕ)
   pub many : 2 ^ 32 ≤ index
   pub place : at ≡ row_at table index (Some (name row))
 
--- the place and the problem: two groups have one name, a user's group is none of them, or there are
--- more than numbers
+-- the place and the problem: two groups have one name, a user's group is none of them, or a group
+-- or a user has no number
 abbrev pub IsProblem : List GroupTable → List UserTable → Place → GroupProblem → Type 0
 IsProblem groups users place Twice = IsTwice groups place
 IsProblem groups users place NoSuchGroup = IsStray groups users place

@@ -1,5 +1,5 @@
--- Why a configuration is refused: seen from its tables, from its document, and from its text; and
--- how it is told.
+-- The refusals of a configuration, seen from its tables, from its document, and from its text; and
+-- the faults that report them.
 use Rattle.std.specs.Prelude.{◌≡◌, ◌⊎◌, ℕ, List, Some, None, option_map, string_bytes, IsUtf8}
 use Rattle.toml.specs.Data.{Members}
 use Rattle.toml.specs.Errors.{IsMemory}
@@ -67,7 +67,7 @@ IsFaultOfText octets fault =
     (fault ≡ Memory)
     ⊎ ((document : Members) × (parse_document octets ≡ Some document) × IsFaultOf document fault)
 
--- ---- how refusals are told
+-- ---- the faults that report refusals
 
 -- the fault of this key
 abbrev pub IsKeyFault : Place → List ℕ → Problem → ConfigFault → Type 0

@@ -8,7 +8,7 @@ use Rattle.config_file.specs.declared.stated.ServerTable.{ServerTable}
 use Rattle.session_table.specs.declared.settings.Settings.{Settings}
 use Rattle.server_config.specs.declared.settings.ServerNumbers.{ServerNumbers}
 
--- the address for clients, or otherwise that of the server
+-- the address announced to clients: the stated one, or otherwise that of the server
 abbrev pub told_address : Option Ipv4Addr → Ipv4Addr → Ipv4Addr
 told_address None own = own
 told_address (Some stated) own = stated

@@ -1,4 +1,4 @@
--- The problem that is told of an authorizer's refusal.
+-- The problem that reports an authorizer's refusal.
 use Rattle.std.specs.Prelude.{◌≡◌, ◌≢◌, ℕ, List, ◌++◌, None, encode_utf8}
 use Rattle.authorizer.specs.declared.fault.AuthorizerFault.{AuthorizerFault}
 use Rattle.authorizer.specs.declared.fault.AuthorizerFault.TheVariants as AuthorizerFault
@@ -14,7 +14,7 @@ pub record IsStrayLetter (text : List ℕ) (character : ℕ) : Type 0 where
   pub letters : letters_of before ≢ None
   pub stray : letters_of (encode_utf8 character) ≡ None
 
--- of letters the stray one is told, and otherwise the fault itself
+-- the problem is the stray letter if the letters are at fault, and otherwise the fault itself
 abbrev pub IsToldAs : List ℕ → AuthorizerFault → UserProblem → Type 0
 IsToldAs letters fault (BadLetter character) =
     (fault ≡ AuthorizerFault.BadLetter) × IsStrayLetter letters character

@@ -24,17 +24,17 @@ use toml::Table;
 pub struct Config {
     /// The settings of all of its sessions.
     pub settings: Settings,
-    /// Its numbers.
+    /// Its address, its ports, and its maximum counts.
     pub numbers: ServerNumbers,
-    /// Its users.
+    /// Its users, with their passwords and permissions.
     pub users: Authorizer,
-    /// The store.
+    /// Its store, in memory or over a folder of the machine.
     pub store: ServedStore,
-    /// The rates of the line, of its groups and of its users, who have the authorizer's numbers.
+    /// The limits of the line, of its groups and of its users, who have the same numbers as in `users`.
     pub limits: Limits,
 }
 
-/// The table that a text is.
+/// Parses a text as a TOML document.
 pub(crate) fn read_document(alloc: Global, octets: &[u8]) -> Result<Table, ConfigFault>
     ensures document { IfOk result (λ table. parse_document octets.now ≡ Some (table_view table)) }
     ensures refused { IfErr result (IsFaultOfText octets.now) }

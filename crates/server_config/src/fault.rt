@@ -59,7 +59,7 @@ pub enum ConfigFault {
         key: OwnedKey,
         problem: Problem,
     },
-    /// Two groups have one name, or a user's group is not there.
+    /// Two groups have one name, a user's group is not there, or no number is left.
     #[error("{header}: {problem}")]
     BadGroup {
         header: OwnedHeader,
@@ -80,7 +80,7 @@ pub enum ConfigFault {
     /// The file has a date that no TOML text can write, so its table cannot be printed.
     #[error("a date cannot be written")]
     BadDate,
-    /// The file nests deeper than is read, so what is printed of it could not be read back.
+    /// The file nests deeper than the reader goes, so its text in version 2 could not be read back.
     #[error("a value that is not read nests too deep to be written")]
     TooDeep,
     /// The text that would be printed is longer than a text that is read.

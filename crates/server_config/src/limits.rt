@@ -10,8 +10,8 @@ use crate::rate_rows::RateRows;
 use config_file::ServerTable;
 use line_rates::Limits;
 
-/// The limits that a server's rates and rows that were read set. These cannot be refused: each rate is in its range, each
-/// number occurs once, and each user's group has a row.
+/// The limits that the rates of a server and the rows of rates set. They cannot be refused: each rate is in its range,
+/// each number occurs once, and each user's group has a row.
 pub(crate) fn limits_of(server: &ServerTable, rows: RateRows) -> Limits
     requires rows { (groups : List GroupTable) × (users : List UserTable)
         × AreRowsOf groups users rows }

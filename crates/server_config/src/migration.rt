@@ -52,8 +52,9 @@ fn print(alloc: Global, document: &Table) -> Result<String, ConfigFault>
     }
 }
 
-/// The text of a configuration in version 2, as `toml` prints its table: it is one of the same configuration. A file that
-/// [`Config::read`](crate::Config::read) refuses is refused alike, and so is one whose text could not be read back.
+/// The text of a configuration in version 2, as `toml` prints its table: a text of the same configuration. A file that
+/// [`Config::read`](crate::Config::read) refuses is refused alike. A file whose text could not be read back is refused
+/// too.
 pub fn migrate(alloc: Global, octets: &[u8]) -> Result<String, ConfigFault>
     ensures migrated { IfOk result (λ text. IsMigrated octets.now (string_bytes text)) }
     ensures refused { IfErr result (IsUnmigrated octets.now) }

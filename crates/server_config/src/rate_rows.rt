@@ -125,7 +125,7 @@ fn read_users<'a>(
 }
 
 /// Numbers groups and users, and reads the rates of each. `Err` is the first group with the name of one before it, or
-/// otherwise the first user whose group is not there, each with its row; or lack of memory.
+/// otherwise the first user whose group is not there, each with its row; or a row without a number; or lack of memory.
 pub(crate) fn read_rows<'a>(
     alloc: Global,
     groups: &[GroupTable<'a>],

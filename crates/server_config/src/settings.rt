@@ -8,7 +8,7 @@ use ftp_terms::LineText;
 use session_table::Settings;
 use std::alloc::{AllocError, Global};
 
-/// The numbers of a server.
+/// The address, the ports and the maximum counts of a server.
 #[derive(Clone, Copy, Debug, PartialEq, Eq)]
 pub struct ServerNumbers {
     /// The address that it listens on.
@@ -29,7 +29,8 @@ pub struct ServerNumbers {
     pub sessions: u64,
 }
 
-/// The settings of sessions that a table states. The address in replies to PASV is the stated one, or otherwise the server's.
+/// The settings of sessions that a table states. The address in replies to PASV is the stated one, or otherwise the
+/// server's.
 pub(crate) fn settings_of(alloc: Global, server: &ServerTable) -> Result<Settings, AllocError>
     ensures settings { IfOk result (AreSettings server.now) }
 {

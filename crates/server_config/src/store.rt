@@ -125,9 +125,9 @@ fn make_files<'a>(
     Ok(())
 }
 
-/// The store of a file's tables: if its root is `memory` one in memory, with the directories in their order and then the
-/// files, and otherwise the folder of that name. `Err` is an empty range of ports, or otherwise the first row that is refused;
-/// or lack of memory.
+/// The store of a file's tables: if its root is `memory`, one in memory, with the directories in their order and then
+/// the files; otherwise the folder of that name. `Err` is an empty range of ports, or otherwise the first row that is
+/// refused; or lack of memory.
 pub(crate) fn make_store<'a>(
     alloc: Global,
     server: &ServerTable,

@@ -83,7 +83,7 @@ fn add_rules<'a>(
     Ok(())
 }
 
-/// Adds the user at an index of the file, with all that is theirs.
+/// Adds the user at an index of the file, with their messages, group and overrides.
 fn add_user<'a>(
     users: &mut Authorizer,
     index: usize,
@@ -102,8 +102,9 @@ fn add_user<'a>(
     }
 }
 
-/// An authorizer with these users, who are added in the order of the file, each with their overrides; their groups are those
-/// of their rows of rates. `Err` is the first refusal, with the row of the user or of the override, or lack of memory.
+/// An authorizer with these users, who are added in the order of the file, each with their overrides; their groups are
+/// those of their rows of rates. `Err` is the first refusal, with the row of the user or of the override, or lack of
+/// memory.
 pub(crate) fn make_users<'a>(
     alloc: Global,
     users: &[UserTable<'a>],

@@ -39,8 +39,8 @@ fn reaches(progress: u64, stage: ShutdownStage) -> bool
     progress >= number(stage)
 }
 
-/// No stage has begun at first. A stage has begun once the progress is at least its number, and none is taken back by the
-/// beginning of another. Once the lanes are to end, the sessions are too.
+/// No stage has begun at first. A stage has begun once the progress is at least its number, and none is taken back by
+/// the beginning of another. Once the lanes are to end, the sessions are too.
 pub fn stages_stay_begun()
     ensures none { (stage : ShutdownStage) → ¬ HasBegun 0 stage }
     ensures begun { (progress : ℕ) (stage : ShutdownStage) →

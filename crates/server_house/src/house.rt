@@ -21,8 +21,8 @@ use std::sync::Mutex;
 use transfer_worker::LaneJob;
 use virtual_tree::Store;
 
-/// The parts that the threads of a server share, with its store `S`, the handler `H` of its owner, and the name `B` of its
-/// board.
+/// The parts that the threads of a server share, with its store `S`, the handler `H` of its owner, and the name `B` of
+/// its board.
 #[derive(Drop)]
 pub struct House<S: Store<Global>, H: Hooks, B: PartsName> {
     pub users: Authorizer,
@@ -30,8 +30,8 @@ pub struct House<S: Store<Global>, H: Hooks, B: PartsName> {
     pub numbers: ServerNumbers,
     /// The store of all sessions without one of their own.
     pub store: Mutex<S>,
-    /// A store for each connection, by its number, over the same files as the shared one; empty if there can be only one.
-    /// With its own, a session waits for no call of another's.
+    /// A store for each connection, by its number, over the same files as the shared one; empty if there can be only
+    /// one. With its own, a session waits for no call of another's.
     pub own_stores: Vec<Mutex<S>>,
     /// The connection of each admitted client, by its number, until its thread takes it.
     pub arrivals: Vec<Mutex<Option<TcpStream>>>,

@@ -1,9 +1,9 @@
 //! The parts that the threads of a server share.
 //!
 //! A [`House`] is lent to all of them. Each changing part has a lock of its own, which nobody holds during a call to a
-//! socket. A thread that needs two of them takes the floors first and then the store; the handler is called with no other
-//! lock held. A step that needs no floors takes only the lock of its session's store, so a slow call of a store, such as
-//! the listing of a large folder, delays nobody else if each session has a store of its own.
+//! socket. A thread that needs two of them takes the floors first and then the store; the handler is called with no
+//! other lock held. A step that needs no floors takes only the lock of its session's store, so a slow call of a store,
+//! such as the listing of a large folder, delays nobody else if each session has a store of its own.
 #![tactic(auto)]
 
 mod ending;

@@ -3,7 +3,7 @@
 use handler_hooks::Hooks;
 use passive_ports::AdmitFault;
 
-/// Why a client is not served.
+/// The reason for which a client is not served.
 #[derive(Clone, Copy, Debug, PartialEq, Eq)]
 pub enum NotServed {
     /// The registry did not admit the connection.

@@ -1,5 +1,5 @@
-//! Tests of the parts of the server that need no desk and no session: counts that threads wait on, the mender of control
-//! text, the pace of rounds, and ports that rest. They call only public functions.
+//! Tests of the parts of the server that need no desk and no session: counts that threads wait on, the mender of
+//! control text, the pace of rounds, and ports that rest. They call only public functions.
 #![tactic(auto)]
 
 #[cfg(test)]

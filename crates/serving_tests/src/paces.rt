@@ -46,7 +46,7 @@ fn pace_of_a_user(rt: &(impl Abort + AllocGlobal)) -> Pace {
     Pace::of(rt.alloc(), limits, 4_000_000).expect(rt, "memory")
 }
 
-// The rates handed in: of the user down and of the group up, of a session, and its guarantee.
+// The rates for a round: of the user down and of the group up, of a session, and its guarantee.
 fn rates(pace: &Pace) -> (u64, u64, u64, u64) {
     let limits = pace.limits();
     match limits.user_row(3) {
@@ -60,7 +60,7 @@ fn rates(pace: &Pace) -> (u64, u64, u64, u64) {
     }
 }
 
-/// Rounds: their moments, the rates handed in, and their grants to the user down and up.
+/// Rounds: their moments, the rates for them, and their grants to the user down and up.
 static ROUNDS: [(u64, (u64, u64, u64, u64), u64, u64); 6] = [
     // the first tick: a five-hundredth of each rate, ten times, and one more; the guarantee ten times
     (4_000_000, (101, 201, 11, 10), 4, 20),

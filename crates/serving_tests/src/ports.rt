@@ -30,7 +30,7 @@ static CALLS: [Call; 17] = [
     Call::Lease(Some(6)),
     Call::Lease(Some(7)),
     Call::Back(6, true),
-    // as many rest as may: the one that has rested longest becomes ready
+    // no more may rest: the one that has rested longest becomes ready
     Call::Back(7, true),
     Call::Lease(Some(5)),
     Call::Lease(Some(8)),

@@ -1,18 +1,17 @@
-//! Control text with the octets restored that were lost as urgent data. The function with the crate's name is the example
-//! in its head.
+//! Control text with the octets restored that were lost as urgent data. The function with the crate's name is the
+//! example in its head.
 
 use super::expect::holds;
 use line_mender::Mender;
 use std::process::Abort;
-use std::test::Fail;
 
 #[test]
 fn line_mender(rt: HostRuntime) {
     let mut mender = Mender::new();
     let mut read = *b"ABOR\r"; // the LF was urgent
     assert!(rt; mender.mend(&mut read) == 5);
-    assert!(rt; mender.silence()); // an LF is to be handed on
-    let mut late = *b"\nNOOP\r\n"; // should it come yet, it is taken out
+    assert!(rt; mender.silence()); // an LF is to be passed on
+    let mut late = *b"\nNOOP\r\n"; // the LF is taken out if it comes after all
     assert!(rt; mender.mend(&mut late) == 6);
     assert!(rt; &late[..6] == b"NOOP\r\n".as_slice());
 }

@@ -166,8 +166,8 @@ fn end_errand<A: Allocator + Clone, S: Store<A>>(
     }
 }
 
-/// The end of a transfer. A returned sink is finished in every case; if memory runs out, it remains with the caller and
-/// nothing is done. The moment is in milliseconds since 1970.
+/// The end of a transfer. A returned sink is finished, whatever the end, or dropped if no transfer runs. If memory runs
+/// out, it remains with the caller and nothing is done. The moment is in milliseconds since 1970.
 pub fn end_transfer<A: Allocator + Clone, S: Store<A>>(
     state: &mut State<A>,
     users: &Authorizer<A>,

@@ -1,5 +1,5 @@
-//! The rows of the session table that call the store: paths, changes, transfers and listings. Each has the name of its row
-//! there.
+//! The rows of the session table that call the store: paths, changes, transfers and listings. Each has the name of its
+//! row there.
 //!
 //! ```text
 //! let told = mkd_row(state, store, &place); // or what the store refused

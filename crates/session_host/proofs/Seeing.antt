@@ -11,7 +11,6 @@ use Rattle.control_session.specs.Turns.{Situation, Went, concat}
 use Rattle.control_session.specs.declared.fault.ControlFault.{ControlFault}
 use Rattle.rate_floors.specs.Promises.{Promises}
 use Rattle.session_table.specs.Steps.{Standing}
-use Rattle.session_table.specs.declared.actions.Action.{Action}
 
 module _ {G H A S R K : Type 0} (Does : G → HostCall A S R K → G → Type 0) (Sees : H → HostCall A S R K → H → Type 0) (see : G → H)
     (seen : (old new : G) (call : HostCall A S R K) → Does old call new → Sees (see old) call (see new))

@@ -1,4 +1,4 @@
--- The causes for which a session on a host of its own breaks off.
+-- Causes that make a session on a host of its own break off.
 use Rattle.std.specs.Prelude.{◌≡◌, ◌≤◌, ◌+◌, ◌⊎◌, ℕ, Bool, true, List, Option, IfSome, length}
 use Rattle.std.specs.Io.KnownBytes.{Appends}
 use Rattle.control_session.specs.declared.fault.ControlFault.{ControlFault}

@@ -104,7 +104,7 @@ module _ {A S C D H Q K : Type 0}
     pub lost : before.lost ≡ true → after.lost ≡ true
     pub says_is : says ≡ texts actions
 
-  -- one act of a session, beside writing, and the text for it
+  -- one act of a session, apart from writing, and the text for it
   pub data Act (items : List Item) (before : Scene S C D H K) (says : List ℕ)
       (after : Scene S C D H K) : Type 0 where
     Turns : IsTurned items before says after → Act items before says after

@@ -1,7 +1,6 @@
 //! The moment of a note.
 
-ghost use Rattle.std.specs.Prelude.{◌≡◌, ◌*ℤ◌, ◌/◌, IfOk, OnErr, pos};
-ghost use Rattle.std.specs.Duration.{as_nanos};
+ghost use Rattle.std.specs.Prelude.{◌≡◌, IfOk, OnErr, pos};
 ghost use Rattle.jiff.specs.Words.{IsTimestampNanos};
 ghost use Rattle.session_notes.specs.Moments.{nanos_of_second};
 

@@ -37,8 +37,8 @@ fn event_words(event: Noted) -> &'static str
     }
 }
 
-/// An event with the name or path that it is about, if it has one. It prints as its words and the name in quotation marks,
-/// with all but plain characters escaped.
+/// An event with the name or path that it is about, if it has one. It prints as its words and the name in quotation
+/// marks, with all but plain characters escaped.
 #[derive(Clone, Copy)]
 pub(crate) struct NoteText<'a> {
     pub event: Noted,
@@ -59,7 +59,7 @@ impl fmt::Display for NoteText<'_> {
     }
 }
 
-/// Why a client was not served, in words.
+/// The reason for which a client was not served, in words.
 pub(crate) fn refusal_words(why: NotServed) -> &'static str
     ensures words { result.now ≡ refusal_words why }
 {

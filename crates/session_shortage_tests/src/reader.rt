@@ -13,7 +13,7 @@ pub(crate) struct ScarceReader<'h, R: AllocGlobal> {
     pub heap: &'h LocalHeap,
     /// The greeting, which has no line, and the lines.
     pub rows: &'h [Reply<'h>],
-    /// Number of the last row.
+    /// Number of the row that was read last.
     pub last: usize,
     /// Number of the row at which memory is short.
     pub scarce: usize,

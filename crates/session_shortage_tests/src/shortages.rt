@@ -36,7 +36,7 @@ fn count_refused(rt: &(impl Abort + AllocGlobal), script: Script<'_>, index: usi
     panic!(rt; "never enough memory")
 }
 
-/// Number of the first rows of a script that are refused at least once.
+/// Number of rows, among the first `rows` of a script, that are refused at least once.
 fn count_rows(rt: &(impl Abort + AllocGlobal), script: Script<'_>, rows: usize) -> usize {
     let mut refused = 0usize;
     for index in 0..rows {

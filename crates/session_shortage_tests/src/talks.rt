@@ -1,5 +1,5 @@
 //! A control session that is short of memory at its beginning or at one of its lines: its output is the front of the
-//! replies, or reports that memory ran out, and a session after it passes.
+//! replies, or reports that memory ran out, and a later session passes.
 
 use crate::expect::holds;
 use crate::host::HeapHost;
@@ -16,8 +16,8 @@ use std::process::Abort;
 use test_scarce_memory::{HEAP, leave_hole};
 use text_io::{Outside, TextReader};
 
-/// The greeting and the lines of a session, its output on a store that one before has changed, and the number of the
-/// first row that changes it.
+/// The greeting and the lines of a session, its output on a store that an earlier session has changed, and the number
+/// of the first row that changes the store.
 #[derive(Clone, Copy)]
 pub(crate) struct Talk<'a> {
     pub rows: &'a [Reply<'a>],
@@ -33,7 +33,7 @@ struct Told<'h> {
     server: Server<'h>,
 }
 
-/// The parts of a session. A call that names users and settings by their types cannot take a host of a heap's.
+/// The users and settings of a session. A call that names their types cannot take a `HeapHost`.
 trait Given<A: Allocator> {
     fn users(&self) -> &Authorizer<A>;
 
@@ -180,7 +180,7 @@ fn was_refused(rt: &impl Abort, told: &Told<'_>, rows: &[Reply<'_>], index: usiz
     false
 }
 
-/// Serves a session with memory, and checks its output on a store that another has left.
+/// Serves a session with memory, and checks its output on the store that an earlier session has left.
 fn serve_later<'h>(
     rt: &'h (impl Abort + AllocGlobal),
     heap: &'h LocalHeap,

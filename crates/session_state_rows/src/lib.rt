@@ -1,5 +1,5 @@
-//! The rows of the session table that make no call of the store: logins, parameters, data connections. Each has the name
-//! of its row there.
+//! The rows of the session table that make no call of the store: logins, parameters, data connections. Each has the
+//! name of its row there.
 //!
 //! ```text
 //! says(rt, type_row(state, DataType::Image), "200 Type is I\r\n");

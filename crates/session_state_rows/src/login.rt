@@ -71,7 +71,7 @@ fn number_of<A: Allocator + Clone>(state: &State<A>, users: &Authorizer<A>) -> u
     users.number(state.name()).unwrap_or(0)
 }
 
-/// Picks the actions and the state by whether the session was admitted.
+/// Picks the actions and the state, depending on whether the session was admitted.
 fn settle<A: Allocator + Clone, R: Drop, K: Drop>(
     state: &mut State<A>,
     users: &Authorizer<A>,

@@ -1,4 +1,5 @@
--- The refusals of a line, in their order: the first whose condition holds is the reply.
+-- The refusals of a line, in their order, with their numbers in docs/session.md: the first whose
+-- condition holds is the reply.
 use Rattle.std.specs.Prelude.{ℕ, Bool, not, ◌&&◌, cond, List, [], ◌∷◌, Option, Some, None, Result, Ok, Err, is_none, nat_lt, option_map, unwrap_or}
 use Rattle.std.specs.FinMap as map
 use Rattle.ftp_terms.specs.declared.letters.Letter.{Letter}

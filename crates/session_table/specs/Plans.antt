@@ -12,9 +12,9 @@ use Rattle.session_table.specs.Views.{View}
 -- store's sources, K of its sinks, A of allocators.
 pub data Plan (A R K : Type 0) : Type 0 where
   Then : View → List (Action A R K) → Plan A R K
-  -- a line with this content, as the time of a file
+  -- a line with this content, such as the time of a file
   WithLine : Told → (List ℕ → Plan A R K) → Plan A R K
-  -- lines with these contents, as those of a listing
+  -- lines with these contents, such as those of a listing
   WithLines : List Told → (List (List ℕ) → Plan A R K) → Plan A R K
   -- a call of the store
   Ask : (call : Call K) → (AnswerOf R call → Plan A R K) → Plan A R K

@@ -45,8 +45,8 @@ use Rattle.session_table.specs.Views.{View, awaited, awaits_ports, counts_lines,
 abbrev pub most_held : ℕ
 most_held = 16
 
--- The state after a command: the path that RNFR named is forgotten at any next line, and after a
--- command that moves data, even if it is refused, the offset is 0 if a user is logged in.
+-- The state after a command: the path that RNFR named is forgotten unless the command keeps it, and
+-- after a command that moves data, even if it is refused, the offset is 0 if a user is logged in.
 abbrev pub left : Conditions → View → View
 left conditions view = record view {
   source = cond conditions.keeps_source view.source None;

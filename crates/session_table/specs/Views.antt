@@ -28,7 +28,7 @@ pub record View : Type 0 where
   -- the user, and the number that the user had at the login
   pub name : List ℕ
   pub number : ℕ
-  -- number of wrong passwords that close the control connection
+  -- number of further wrong passwords that close the control connection
   pub attempts_left : ℕ
   pub cwd : Path
   pub data_type : DataType

@@ -39,7 +39,7 @@ pub fn admissions_are_rightful<A: Allocator, R, K>()
 {}
 
 /// A step that does not serve PASS asks for no admission. So a host needs the floors that its sessions share for PASS
-/// alone, and may lock them no longer.
+/// alone, and need not lock them for any other step.
 pub fn others_ask_no_floors<A: Allocator, R, K>()
     ensures others { OthersAskNoFloors A R K }
 {}

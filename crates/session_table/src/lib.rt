@@ -2,11 +2,11 @@
 //! laws of every step.
 //!
 //! The table itself is in `specs/`: `Rules` has the rule of each command, which is its conditions and the name of its
-//! row; `Judged` has the refusals of a line, in their order; `StateRows`, `FileRows` and `TransferRows` have the rows as
-//! plans, each of which asks the store or the guaranteed rates, or ends with the state of the session and the actions;
-//! `Rows` has the row of each name; `Table` has each input in each stage. `Laws` has the laws of every step, whatever a
-//! client sends and a store answers: each function of `laws.rt` has one of them as its contract. The rest of the code is
-//! the types of the table.
+//! row, and the row of each name; `Judged` has the refusals of a line, in their order; `StateRows`, `FileRows` and
+//! `TransferRows` have the rows as plans, each of which asks the store or the guaranteed rates, or ends with the state
+//! of the session and the actions; `Table` has each input in each stage. `Laws` has the laws of every step, whatever a
+//! client sends and a store answers: each function of `laws.rt` has one of them as its contract. The rest of the code
+//! is the types of the table.
 //!
 //! ```text
 //! let answer: Answer = Answer::Refusal(Refusal::LogInFirst);

@@ -15,7 +15,7 @@ pub enum Meanwhile {
     QuitsLater,
 }
 
-/// The conditions of a command: each one that is not met is a refusal.
+/// The conditions of a command: each one up to `moves_data` that is not met is a refusal.
 #[derive(Clone, Copy, Debug)]
 pub struct Conditions {
     /// A user is logged in.

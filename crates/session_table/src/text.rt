@@ -6,7 +6,7 @@ ghost use Rattle.std.specs.String.{string_bytes};
 use std::alloc::{AllocError, Allocator, Global};
 use std::marker::Model;
 
-/// A text, as a user's name.
+/// A text, such as a user's name.
 #[derive(Drop)]
 pub struct Text<A: Allocator = Global> {
     text: String<A>,
@@ -43,7 +43,7 @@ impl<A: Allocator> Text<A> {
     }
 }
 
-/// Octets, as those of a listing.
+/// Octets, such as those of a listing.
 #[derive(Drop)]
 pub struct Octets<A: Allocator = Global> {
     octets: Vec<u8, A>,

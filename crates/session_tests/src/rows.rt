@@ -4,7 +4,6 @@ use crate::expect::holds;
 use crate::room::{Actions, Room, location, make_room, says};
 use authorizer::Authorizer;
 use ftp_terms::DataType;
-use ftp_wire::Command;
 use handler_hooks::{Hooks, run_hooks};
 use memory_store::MemStore;
 use rate_floors::Floors;
@@ -13,7 +12,6 @@ use session_file_rows::{list_row, mkd_row, retr_row, rnfr_row, stor_row};
 use session_state::{Location, State};
 use session_state_rows::{greeting, pass_row, pasv_row, rest_row, type_row, user_row};
 use session_table::{End, Notice, Passive, Style};
-use std::alloc::AllocError;
 use std::process::Abort;
 use virtual_path::VPath;
 
@@ -32,7 +30,7 @@ fn session_login(
 ) {
     says(rt, user_row(state, "ann"), "331 Password required\r\n");
     let told = pass_row(state, users, floors, "secret");
-    says(rt, told, "230 Welcome\r\n"); // else 530
+    says(rt, told, "230 Welcome\r\n"); // otherwise 530
 }
 
 fn session_state_rows(rt: &(impl Abort + AllocGlobal), state: &mut State) {

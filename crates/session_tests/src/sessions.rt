@@ -45,7 +45,7 @@ fn session_core(
     let line = Input::Line(LineItem::Command(Command::Pwd));
     let told = session.step(users, floors, store, line, 0); // at the moment 0
     says(rt, told, "530 Log in first\r\n");
-    holds(rt, !session.held_due()); // else the next input is Input::Held
+    holds(rt, !session.held_due()); // otherwise the next input is Input::Held
     Ok(())
 }
 

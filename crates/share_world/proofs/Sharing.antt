@@ -209,7 +209,7 @@ dealt_at (x ∷ xs) (n ∷ ns) ls j l m each h e f = elim (eqb_tells j x.0) [
       dealt_other j x xs l m ne (dealt_at xs ns (given_first ls x n) j l m (omega arith) (others_ask ls x n xs h) (get_other ls x.0 j (with_amount n (slice_index_or ls x.0 new_lane)) ne ∙ e) f)
 ]
 
-set_length : (ls : List Lane) (i : ℕ) (m : Lane) → length (set ls i m) ≡ length ls
+pub set_length : (ls : List Lane) (i : ℕ) (m : Lane) → length (set ls i m) ≡ length ls
 set_length [] i m = refl
 set_length (x ∷ ls) zero m = omega arith
 set_length (x ∷ ls) (suc i) m = omega (arith, set_length ls i m)

@@ -2,7 +2,6 @@
 use Rattle.std.proofs.Common.{◌≡◌, ℕ, zero, suc, ◌<◌, ◌≤◌, true, false, List, [], ◌∷◌, length, sum_by, sym, refl, ap, ◌∙◌, subst, arith, Option, Some, set, get_or}
 use Rattle.std.specs.Prelude.{slice_get, Result, Ok, Err}
 use Rattle.std.proofs.lemmas.Option.{slice_get-get_or}
-use Rattle.std.proofs.lemmas.List.Sums.{sum_by-cons}
 use Rattle.line_rates.specs.Rates.{Rates}
 use Rattle.world_terms.specs.declared.event.Event.{Event}
 use Rattle.world_terms.specs.declared.event.Event.TheVariants as event
@@ -89,11 +88,6 @@ turn_books e res ls i issued l m s there t b = record {
   shares_are = let before : issued ≡ sum_by shares ls = b.shares_are in omega (arith, sum_set shares ls i l m there, turn_shares e res l m s t);
   most = b.most;
 }
-
-pub set_length : (ls : List Lane) (i : ℕ) (m : Lane) → length (set ls i m) ≡ length ls
-set_length [] i m = refl
-set_length (x ∷ ls) zero m = omega arith
-set_length (x ∷ ls) (suc i) m = omega (arith, set_length ls i m)
 
 here : (ls : List Lane) (i : ℕ) (l : Lane) → i < length ls → l ≡ get_or ls i l → slice_get ls i ≡ Some l
 here ls i l less e = slice_get-get_or ls i l less ∙ ap (λ (x : Lane). Some x) (sym e)

@@ -28,7 +28,7 @@ pub record IsOpen (i : ℕ) (ls : List Lane) : Type 0 where
   pub round : lane.shown.state ≡ state.Round
   pub posted : IsPosted lane
 
--- all these lanes are, and each occurs once
+-- all these lanes are in Round with nothing decided for them, and each occurs once
 abbrev pub AreOpen : List ℕ → List Lane → Type 0
 AreOpen [] ls = ⊤
 AreOpen (i ∷ numbers) ls = IsOpen i ls × NamesNot i numbers × AreOpen numbers ls

@@ -1,8 +1,9 @@
-//! The core of sharing, which runs: a world of lanes and rounds that takes one event at a time, and its laws.
+//! The core of sharing as a program: a world of lanes and rounds that takes one event at a time, and its laws.
 //!
-//! [`World`] takes the events of `world_terms`, answers each, and keeps its books. What holds of every list of events,
-//! whatever rounds and workers do, is stated in `specs/Laws.antt`; each function of `laws.rt` has one of these laws as its
-//! contract. The server runs none of it: the exchanges of its desk are proved to be these events, and tests compare the two.
+//! [`World`] takes the events of `world_terms`, answers each, and keeps its books. `specs/Laws.antt` states the
+//! properties of every list of events, whatever rounds and workers do; each function of `laws.rt` has one of these laws
+//! as its contract. The server runs none of it: the exchanges of its desk are proved to be these events, and tests
+//! compare the two.
 //!
 //! ```text
 //! let alloc = rt.alloc();

@@ -26,8 +26,8 @@ use std::alloc::{AllocError, Allocator, Global};
 use std::marker::Model;
 use world_terms::{Event, EventAnswer, StepFault};
 
-/// The lanes of a server, its limits, and the octets issued. Contracts see the lanes as `world_terms` defines them, with
-/// the rates of the limits.
+/// The lanes of a server, its limits, and the octets issued. Contracts see the lanes as `world_terms` defines them,
+/// with the rates of the limits.
 #[derive(Drop)]
 pub struct World<A: Allocator = Global> {
     lanes: Vec<Lane<A>, A>,

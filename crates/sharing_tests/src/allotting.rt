@@ -1,4 +1,5 @@
 //! The worked allotments, and those of random trees compared with the plain rule.
+
 use super::random_trees::{Numbers, Sizes, any_tree};
 use super::trees::Shape::{Branch, Leaf};
 use super::trees::{Shape, tree};
@@ -9,7 +10,8 @@ use round_allocator::{allot, allot_counted};
 use std::process::Abort;
 use test_allotment::allot_plainly;
 
-// The other call of the allocator returns the same, and the checker accepts it; the number of probes.
+// Checks that the other call of the allocator returns the same, and that the checker accepts it. Returns the number of
+// probes.
 fn expect_best(
     rt: &(impl Abort + AllocGlobal),
     tree: &Tree,
@@ -37,7 +39,7 @@ pub(crate) fn granted(
     (grants, certificate, probes)
 }
 
-/// The tree gets these grants; the number of probes.
+/// Checks that the tree gets these grants. Returns the number of probes.
 pub(crate) fn expect_grants(rt: &(impl Abort + AllocGlobal), tree: &Tree, wanted: &[u64]) -> u64 {
     let (grants, _certificate, probes) = granted(rt, tree);
     holds(rt, grants.as_slice() == wanted);
@@ -85,8 +87,8 @@ const LARGE: Sizes = Sizes {
     levels: 4,
 };
 
-// Compares the grants of a random tree with those of the plain rule; whether the tree has several nodes and its floors
-// are within its limits.
+// Compares the grants of a random tree with those of the plain rule. Returns whether the tree has several nodes and its
+// floors are within its limits.
 fn expect_plain(rt: &(impl Abort + AllocGlobal), numbers: &mut Numbers) -> bool {
     let (root, _made) = any_tree(rt, numbers, &LARGE);
     match Tree::new(root) {

@@ -1,4 +1,5 @@
 //! Trees with the most leaves, levels and nodes allowed, and one more.
+
 use super::allotting::granted;
 use super::checking::total;
 use super::limits::expect_fault;
@@ -64,7 +65,7 @@ fn one_more_is_refused(rt: HostRuntime) {
     expect_fault(&rt, nodes, Some(TreeFault::TooManyLeaves));
 }
 
-// Each call that allocates succeeds, and the allotment is best.
+// Checks that each call that allocates succeeds, and that the allotment is best. Returns the allotment.
 fn expect_all(rt: &(impl Abort + AllocGlobal), tree: &Tree) -> (Vec<u64>, Certificate, u64) {
     let flat = Flat::of(rt.alloc(), tree).expect(rt, "memory");
     holds(
@@ -90,7 +91,7 @@ fn as_many_nodes_as_there_may_be(rt: HostRuntime) {
     expect_all(&rt, &tree);
 }
 
-// Each gets one octet, and is limited by the one branch.
+// Checks that each leaf has one octet, and is limited by the one branch.
 fn expect_ones(rt: &impl Abort, grants: &[u64], entries: &[Option<u32>]) {
     holds(rt, grants.len() == MAX_LEAVES);
     for grant in grants {

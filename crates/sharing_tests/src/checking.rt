@@ -1,4 +1,5 @@
 //! The result of sealing grants. Worked verdicts are in `runs/verdicts.toml`.
+
 use super::trees::{USERS, tree};
 use crate::expect::holds;
 use grant_certificate::{Certificate, Flaw, Refused, Sealed, seal};

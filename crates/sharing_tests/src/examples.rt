@@ -28,7 +28,7 @@ fn limit_tree(rt: HostRuntime) -> Result<(), Fail> {
     let limit = Some(30);
     let tree = Tree::new(Node::Branch { limit, kids })?;
     assert!(rt; tree.leaves() == 2 && tree.nodes() == 3);
-    // what the root takes in where each leaf has up to 12 octets
+    // the root absorbs 12 octets of one leaf and 10 of the other
     assert!(rt; tree.absorb(0, 12) == 22);
     Ok(())
 }
@@ -40,7 +40,7 @@ fn grant_certificate(rt: HostRuntime) -> Result<(), Fail> {
     let grants = vec![in alloc; 20, 10]?;
     // the root holds back the first leaf
     let certificate = Certificate::new(vec![in alloc; Some(0), None]?);
-    // a `No` tells which leaf or branch is at fault
+    // a `No` has the flaw, and in it the leaf or branch at fault
     let verdict = check(&tree, &grants, &certificate);
     assert!(rt; verdict == Verdict::Yes);
     match seal(tree, grants, certificate) {

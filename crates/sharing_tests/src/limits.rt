@@ -1,4 +1,5 @@
 //! One happy path of each call, and each refusal of a tree.
+
 ghost use Rattle.std.specs.Prelude.{◌≡◌};
 ghost use Rattle.limit_tree.specs.Sharing.{IsWanted};
 ghost use Rattle.limit_tree.specs.Outline.{limits};
@@ -165,7 +166,7 @@ fn look_at_node(rt: &impl Abort, tree: &Tree, node: usize, row: &Row) {
     holds(rt, tree.absorb(node, 20) == twenty);
 }
 
-// The flat copy returns the same.
+// Checks that the flat copy returns the same.
 fn look_at_copy(rt: &impl Abort, flat: &Flat, node: usize, row: &Row) {
     holds(rt, node < flat.nodes() && flat.place(node) == row.place);
     holds(rt, flat.limit(node) == limit_of(row.place.kind));
@@ -201,7 +202,7 @@ fn look_at_leaves(rt: &impl Abort, tree: &Tree, flat: &Flat, leaves: &Leaves) {
     }
 }
 
-// Numbers after those of the leaves are unchanged.
+// Checks that numbers after those of the leaves are unchanged.
 fn look_at_tables(rt: &impl Abort, tree: &Tree) {
     let mut wants = [7; 5];
     let mut floors = [7; 5];
@@ -211,7 +212,7 @@ fn look_at_tables(rt: &impl Abort, tree: &Tree) {
     holds(rt, floors.as_slice() == [0, 0, 0, 6, 7].as_slice());
 }
 
-// For the tree and its flat copy.
+// Checks the grants in the tree and in its flat copy.
 fn look_at_grants(rt: &impl Abort, tree: &Tree, flat: &Flat, grants: &[u64])
     requires same { flat.now ≡ tree.now }
     requires wanted { IsWanted (limits tree.now) grants.now }
@@ -316,7 +317,7 @@ fn a_place_holds_its_leaves(rt: HostRuntime) {
     holds(&rt, !ann.is_full(&[7, 20, 9, 6]));
 }
 
-/// Nodes are refused as a tree for this fault, or accepted.
+/// Checks that nodes are refused as a tree for this fault, or accepted if there is none.
 pub(crate) fn expect_fault(rt: &impl Abort, root: Node, fault: Option<TreeFault>) {
     holds(rt, Tree::new(root).err() == fault);
 }

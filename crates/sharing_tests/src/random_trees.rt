@@ -1,4 +1,5 @@
 //! Random trees, with a record of their parts.
+
 ghost use Rattle.std.specs.Prelude.{◌<◌};
 
 use limit_tree::Node;

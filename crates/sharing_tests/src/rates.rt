@@ -118,7 +118,7 @@ static FAULTS: [(Rates, Option<LimitsFault>); 5] = [
         },
         Some(LimitsFault::RateTooLarge),
     ),
-    // A user has one row, and a group.
+    // A user has at most one row, and so has a group.
     (
         Rates {
             users: &[
@@ -157,7 +157,7 @@ static FAULTS: [(Rates, Option<LimitsFault>); 5] = [
         },
         Some(LimitsFault::Twice),
     ),
-    // The group of a user has one.
+    // The group of a user has a row.
     (
         Rates {
             groups: &[GroupRate {

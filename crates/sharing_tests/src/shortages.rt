@@ -74,7 +74,7 @@ fn has_floors(rt: &impl Abort, heap: &LocalHeap, limits: &Limits) -> bool {
     }
 }
 
-// Which of the calls that allocate have memory.
+// Returns which of the calls that allocate have memory.
 fn answers(
     rt: &impl Abort,
     heap: &LocalHeap,
@@ -92,7 +92,7 @@ fn answers(
     ]
 }
 
-// Which of them have memory beside one hole of some octets. Once there is memory again, all have.
+// Returns which of them have memory in one hole of `room` octets. Once there is memory again, all have.
 fn answers_in(
     rt: &(impl Abort + AllocGlobal),
     room: usize,
@@ -109,7 +109,7 @@ fn answers_in(
     first
 }
 
-// Room rises by less than the smallest growth, so each growth is refused first once.
+// Room rises by less than the smallest growth, so each growth in turn is the first to be refused.
 fn expect_refusals(rt: &(impl Abort + AllocGlobal), tree: &Tree, wanted: &[u64], limits: &Limits) {
     for step in 0..256usize {
         let answers = answers_in(rt, 16 * step, tree, wanted, limits);

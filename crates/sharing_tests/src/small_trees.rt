@@ -1,4 +1,5 @@
 //! Small random trees, whose grants are compared with all possible grants.
+
 use super::allotting::granted;
 use super::random_trees::{Held, Made, Numbers, Sizes, any_tree};
 use crate::expect::holds;
@@ -15,7 +16,7 @@ const SMALL: Sizes = Sizes {
 /// Grants of the leaves, followed by zeros.
 type List = [u64; 5];
 
-// All lists of five grants below five.
+// Number of lists of five grants below five.
 const LISTS: u32 = 3_125;
 
 fn sum_of(list: &[u64], held: &Held) -> u64 {
@@ -47,7 +48,7 @@ fn is_within(made: &Made, list: &[u64]) -> bool {
     is_at_least(list, &made.floors) && is_at_least(&made.wants, list)
 }
 
-// Advances a list to the next one up to the wants; false after the last.
+// Advances a list to the next one up to the wants. Returns false after the last.
 fn count_on(list: &mut [u64], wants: &[u64]) -> bool {
     for (leaf, want) in wants.iter().enumerate() {
         if leaf < list.len() {
@@ -68,7 +69,7 @@ fn sorted(list: List) -> List {
 }
 
 // Returns whether some list within the limits is, sorted upwards, greater than a sorted one: larger at the first index
-// where they differ. If there is no sorted one, whether any list is within. The lists are counted from zeros.
+// where they differ. Without a sorted one, returns whether any list is within. The lists are counted from zeros.
 fn is_surpassed(rt: &impl Abort, made: &Made, known: Option<List>) -> bool {
     let mut list = [0; 5];
     let leaves = made.wants.len().min(5);
@@ -97,7 +98,7 @@ fn list_of(grants: &[u64]) -> List {
     list
 }
 
-// Compares the grants of a tree with all lists; whether the floors of the tree allow any list.
+// Compares the grants of a tree with all lists. Returns whether the floors of the tree allow any list.
 fn expect_greatest(rt: &(impl Abort + AllocGlobal), numbers: &mut Numbers) -> bool {
     let (root, made) = any_tree(rt, numbers, &SMALL);
     match Tree::new(root) {

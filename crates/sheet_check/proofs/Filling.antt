@@ -1,9 +1,9 @@
 -- Slots of the leaves that lines fill, in the order of the wants.
-use Rattle.std.proofs.Common.{◌≡◌, ◌∙◌, ◌≢◌, ℕ, zero, suc, ◌<◌, ◌≤◌, ◌+◌, Bool, true, false, cond, List, [], ◌∷◌, ◌++◌, length, map, filter_map, get_or, set, slice_get, refl, sym, ap, subst, arith, true≢false, not, length-append, length-set, Option, Some, None, option_map, option_and_then, inl, inr, nat_eq, eqb-true, eq-eqb, take, drop}
+use Rattle.std.proofs.Common.{◌≡◌, ◌∙◌, ◌≢◌, ℕ, zero, suc, ◌<◌, ◌+◌, Bool, true, false, cond, List, [], ◌∷◌, ◌++◌, length, map, filter_map, get_or, set, slice_get, refl, sym, ap, subst, arith, true≢false, not, length-append, length-set, Option, Some, None, option_map, option_and_then, inl, inr, nat_eq, eqb-true, eq-eqb, take}
 use Rattle.std.specs.List.{position_from, list_any, range_with_len, cons_option, AllByRecursion, IsDistinct}
 use Rattle.std.specs.Option.{is_some, option_to_list}
 use Rattle.std.proofs.lemmas.Bool.{cases_eq, cases_order}
-use Rattle.std.proofs.lemmas.List.{get_or-set_same, get_or-set_other, map-append, take_more, drop_more, drop_all}
+use Rattle.std.proofs.lemmas.List.{get_or-set_same, get_or-set_other, map-append, take_more}
 use Rattle.std.proofs.lemmas.List.Elements.{filter_map-append}
 use Rattle.std.proofs.lemmas.List.Folds.{list_any_at}
 use Rattle.std.proofs.lemmas.List.FromFn.{fill_by_all}

@@ -1,4 +1,5 @@
 //! Checking grants within the limits of a sheet.
+
 ghost use Rattle.std.specs.Prelude.{◌≡◌, ◌≢◌, ◌<◌, ℕ, List, Some, None, true, IfErr, IfOk, IfSome, IsErrAnd, IsErrOf, length, string_bytes};
 ghost use Rattle.std.specs.Io.KnownBytes.{Appends};
 ghost use Rattle.sheet_text.specs.Views.{IsSheetOf};

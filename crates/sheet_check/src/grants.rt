@@ -1,4 +1,5 @@
 //! Reading a grants file beside its sheet.
+
 ghost use Rattle.std.specs.Prelude.{◌≡◌, ◌<◌, ◌++◌, List, IfOk, IfSome, MatchResult, None, Some, filter_map, length, map, nat_eq, replicate, true, false};
 ghost use Rattle.std.specs.List.{position_from};
 ghost use Rattle.limit_tree.specs.declared.bounds.TheConstants.{MAX_LEAVES};

@@ -1,5 +1,6 @@
 //! The line of a verdict.
-ghost use Rattle.std.specs.Prelude.{◌≡◌, ◌<◌, ◌++◌, [], IfOk, OnOk, codes, length, string_bytes};
+
+ghost use Rattle.std.specs.Prelude.{◌≡◌, ◌<◌, ◌++◌, IfOk, OnOk, codes, length, string_bytes};
 ghost use Rattle.grant_certificate.specs.declared.flaw.Flaw.{Flaw};
 ghost use Rattle.grant_certificate.specs.declared.flaw.Flaw.TheVariants.{OverLimit};
 ghost use Rattle.grant_certificate.specs.declared.flaw.Verdict.TheVariants.{No};

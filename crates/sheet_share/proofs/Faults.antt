@@ -2,10 +2,8 @@
 use Rattle.std.proofs.Common.{◌≡◌, ◌≢◌}
 use Rattle.sheet_text.specs.declared.fault.SheetFault.{SheetFault}
 use Rattle.sheet_text.specs.declared.fault.SheetFault.TheVariants.{BadLine, Twice, LeafHasKids, Tree, Memory as NoSheetMemory}
-use Rattle.text_io.specs.declared.fault.TextFault.{TextFault}
-use Rattle.text_io.specs.declared.fault.TextFault.TheVariants.{Memory}
 use Rattle.sheet_share.specs.Faults.{of_sheet}
-use Rattle.sheet_share.specs.declared.fault.ShareFault.TheVariants.{Sheet, Text}
+use Rattle.sheet_share.specs.declared.fault.ShareFault.TheVariants.{Sheet}
 
 -- a fault that is told as that of a sheet is that fault, and not lack of memory
 pub sheet_told : (e fault : SheetFault) → of_sheet e ≡ Sheet fault → (e ≡ fault) × (e ≢ NoSheetMemory)

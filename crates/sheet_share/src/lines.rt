@@ -1,4 +1,5 @@
 //! The lines that a sharing prints.
+
 ghost use Rattle.std.specs.Prelude.{◌≡◌, ◌<◌, ◌^◌, ◌++◌, IfOk, OnOk, string_bytes};
 ghost use Rattle.sheet_share.specs.Lines.{share_line, share_lines, total, total_line};
 

@@ -1,4 +1,5 @@
 //! Sharing the limits of a sheet.
+
 ghost use Rattle.std.specs.Prelude.{◌≡◌, ◌≢◌, ◌<◌, ◌*◌, ◌^◌, [], ℕ, List, Some, true, IfErr, IfOk, IfSome, IsErrAnd, IsErrOf, OnOk, length, option_map, sum, slice_index, slice_index_or, string_bytes};
 ghost use Rattle.std.specs.Io.KnownBytes.{Appends};
 ghost use Rattle.limit_tree.specs.Outline.{limits};

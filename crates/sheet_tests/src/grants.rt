@@ -64,7 +64,7 @@ fn have_room_in<'h>(
     first
 }
 
-/// Without room they are refused, and with much they are taken.
+/// Without room they are refused, and with enough they are taken.
 fn expect_refusals<'h>(
     rt: &(impl AllocGlobal + Abort),
     heap: &'h LocalHeap,

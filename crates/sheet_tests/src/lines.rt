@@ -48,7 +48,7 @@ fn entries(rt: HostRuntime) {
     }
 }
 
-/// At several slips of a line the first hint in the order of this list is that of the line.
+/// If a line has several slips, its hint is the first in the order of this list.
 static HINTS: [(&[u8], Option<Hint>); 9] = [
     (b"\xef\xbb\xbfwant\t/a 1", Some(Hint::ByteOrderMark)),
     (b"want /a\t10M", Some(Hint::Tab)),

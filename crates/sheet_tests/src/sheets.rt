@@ -157,7 +157,7 @@ fn each_growth_may_be_refused(rt: HostRuntime) {
     let heap = LocalHeap::new(rt.alloc(), HEAP).expect(&rt, "a heap");
     for step in 0..256usize {
         let first = has_room_in(&rt, &heap, 16 * step);
-        // Without room it is refused, and with much it is read.
+        // Without room it is refused, and with enough it is read.
         holds(&rt, step > 0 || !first);
         holds(&rt, step < 255 || first);
     }

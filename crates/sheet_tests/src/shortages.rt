@@ -58,7 +58,7 @@ fn each_growth_of_a_line(rt: HostRuntime) {
             refusals = step;
         }
     }
-    // Without room it is refused, and with much it is taken.
+    // Without room it is refused, and with enough it is taken.
     holds(&rt, 0 < refusals && refusals < 255);
 }
 
@@ -115,7 +115,7 @@ fn each_growth_of_a_tree(rt: HostRuntime) {
     let nodes = nodes_of(&rt, &heap, &TWO_LINES);
     for step in 0..128usize {
         let refused = refusals_in(&rt, &heap, &nodes, 16 * step);
-        // Without room each is refused, and with much none.
+        // Without room each is refused, and with enough none.
         holds(&rt, step > 0 || refused == [true; 4]);
         holds(&rt, step < 127 || refused == [false; 4]);
     }

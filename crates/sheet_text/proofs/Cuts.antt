@@ -1,32 +1,11 @@
 -- Where a text is cut.
-use Rattle.std.proofs.Common.{◌≡◌, ◌∙◌, ℕ, zero, suc, ◌<◌, ◌==◌, Bool, true, false, List, [], ◌∷◌, ◌++◌, ◌≤◌, length, get_or, take, drop, refl, sym, ap, arith, eq-eqb}
+use Rattle.std.proofs.Common.{◌≡◌, ◌∙◌, ℕ, ◌<◌, ◌==◌, Bool, true, false, List, [], ◌∷◌, ◌++◌, ◌≤◌, length, get_or, take, drop, refl, sym, ap, arith}
 use Rattle.std.specs.List.{onto_first}
 use Rattle.std.proofs.Math.Seq.{drop-cons}
 use Rattle.std.proofs.lemmas.List.{take_all, length-take-le, get_or-take}
 use Rattle.std.proofs.lemmas.List.Splits.{slice_split-cons_yes, slice_split-cons_no, length-slice_split}
 use Rattle.sheet_text.specs.Paths.{parts, names_of}
-
--- before its first mark stands the first part
-pub cut_here : (mark : ℕ) (text : List ℕ) (at : ℕ) → at < length text → ((k : ℕ) → k < at → get_or text k 0 ≡ mark → ⊥) → get_or text at 0 ≡ mark → parts mark text ≡ take at text ∷ parts mark (drop (suc at) text)
-cut_here mark [] at l none is = absurd (omega arith)
-cut_here mark (x ∷ xs) zero l none is = slice_split-cons_yes (λ octet. octet == mark) x xs (eq-eqb x mark is)
-cut_here mark (x ∷ xs) (suc at) l none is =
-    slice_split-cons_no (λ octet. octet == mark) x xs (not_mark (x == mark) refl)
-    ∙ ap (onto_first x) (cut_here mark xs at (omega arith) (λ k less. none (suc k) (omega arith)) is)
-  where
-    not_mark : (b : Bool) → (x == mark) ≡ b → b ≡ false
-    not_mark true e = absurd (none 0 (omega arith) (grind (arith, e)))
-    not_mark false e = refl
-
-pub no_cut : (mark : ℕ) (text : List ℕ) → ((k : ℕ) → k < length text → get_or text k 0 ≡ mark → ⊥) → parts mark text ≡ text ∷ []
-no_cut mark [] none = refl
-no_cut mark (x ∷ xs) none =
-    slice_split-cons_no (λ octet. octet == mark) x xs (not_mark (x == mark) refl)
-    ∙ ap (onto_first x) (no_cut mark xs (λ k less. none (suc k) (omega arith)))
-  where
-    not_mark : (b : Bool) → (x == mark) ≡ b → b ≡ false
-    not_mark true e = absurd (none 0 (omega arith) (grind (arith, e)))
-    not_mark false e = refl
+use Rattle.sheet_text.proofs.LineCuts.{cut_here, no_cut}
 
 -- the names behind a name
 pub cut_names : (text : List ℕ) (at : ℕ) → at < length text → ((k : ℕ) → k < at → get_or text k 0 ≡ 47 → ⊥) → get_or text at 0 ≡ 47 → parts 47 text ≡ take at text ∷ names_of (drop at text)

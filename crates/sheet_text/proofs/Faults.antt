@@ -12,10 +12,9 @@ use Rattle.limit_tree.specs.declared.fault.TreeFault.TheVariants.{TooDeep, TooMa
 use Rattle.limit_tree.specs.Faults.{or_else, kind_fault, node_fault, first_fault, over_limit, first_over, tree_fault}
 use Rattle.limit_tree.specs.Outline.{is_leaf_kind}
 use Rattle.sheet_text.specs.Paths.{NoneTwice, Path}
-use Rattle.sheet_text.specs.declared.fault.SheetFault.TheVariants.{Tree}
 use Rattle.sheet_text.specs.Table.{Table, is_at, mention_at, path_at, paths_in}
 use Rattle.sheet_text.specs.Tree.{kind_in, line_in, line_of, node_paths, outline_of, paths_to}
-use Rattle.sheet_text.specs.Whole.{fault_line, whole_fault}
+use Rattle.sheet_text.specs.Whole.{fault_line}
 use Rattle.sheet_text.specs.Forest.{AreOver, is_want}
 use Rattle.sheet_text.specs.TreeLaw.{kids_in}
 use Rattle.sheet_text.proofs.Held.{is_tree}

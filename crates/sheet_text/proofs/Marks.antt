@@ -1,8 +1,5 @@
 -- Kids found by the marks of their names.
-use Rattle.std.proofs.Common.{◌≡◌, ◌∙◌, ℕ, Bool, true, false, cond, List, refl, sym, ap, subst, Option, None, Some, Bor, bytes_eq, arith}
-use Rattle.std.specs.BTreeMap.{is_at}
-use Rattle.std.specs.Ordering.{nat_cmp, is_eq}
-use Rattle.std.proofs.lemmas.Bool.Decides.{nat_tests}
+use Rattle.std.proofs.Common.{◌≡◌, ◌∙◌, ℕ, Bool, true, false, cond, List, refl, ap, subst, Option, None, Some, Bor, bytes_eq}
 use Rattle.sheet_text.proofs.Within.{is_name}
 use Rattle.sheet_text.specs.Named.{held_by, mark_of}
 

@@ -6,6 +6,8 @@ use Rattle.std.proofs.lemmas.List.Folds.{list_any-append}
 use Rattle.sheet_text.specs.Paths.{Path, same_path, is_within, is_among, NoneTwice, way_to}
 use Rattle.sheet_text.specs.Mentions.{mention, mention_all, mentions, AreStatedOrAbove}
 use Rattle.sheet_text.proofs.Within.{is_same, swapped}
+use Rattle.sheet_text.proofs.Walked.{or_turned}
+use Rattle.sheet_text.proofs.Tables.{or_none}
 
 among_map : (m n : List ℕ) (q : Path) (ws : List Path) → list_any (same_path (m ∷ q)) (map (λ rest. n ∷ rest) ws) ≡ (bytes_eq m n && is_among ws q)
 among_map m n q [] = go (bytes_eq m n)
@@ -24,14 +26,6 @@ among_way [] [] = refl
 among_way [] (m ∷ q) = refl
 among_way (n ∷ p) [] = refl
 among_way (n ∷ p) (m ∷ q) = among_map m n q (way_to p) ∙ ap (λ (b : Bool). bytes_eq m n && b) (among_way p q)
-
-or_none : (b : Bool) → (b || false) ≡ b
-or_none true = refl
-or_none false = refl
-
-or_turned : (a b c : Bool) → ((a || b) || c) ≡ (a || (b || c))
-or_turned true b c = refl
-or_turned false b c = refl
 
 among_mention : (seen : List Path) (p q : Path) → is_among (mention seen p) q ≡ (is_among seen q || same_path q p)
 among_mention seen p q = go (is_among seen p) refl (same_path q p) refl

@@ -8,7 +8,7 @@ use Rattle.std.proofs.lemmas.List.{length-take, length-map}
 use Rattle.std.proofs.Math.Nat.{pow-le-pow_right}
 use Rattle.sheet_text.specs.Text.{digit}
 
-both : (b d : Bool) → (b && d) ≡ true → (b ≡ true) × (d ≡ true)
+pub both : (b d : Bool) → (b && d) ≡ true → (b ≡ true) × (d ≡ true)
 both true d e = (refl, e)
 both false d e = cc
 

@@ -1,5 +1,5 @@
 -- The octets of a path.
-use Rattle.std.proofs.Common.{◌≡◌, ◌∙◌, ℕ, ◌<◌, ◌==◌, nat_eq, ◌&&◌, Bool, true, false, cond, List, [], ◌∷◌, refl, ap, sym, subst, eqb-true, arith, tests, Option, Some, Result, Ok, Err, Bor}
+use Rattle.std.proofs.Common.{◌≡◌, ◌∙◌, ℕ, ◌<◌, ◌==◌, nat_eq, ◌&&◌, true, false, cond, List, [], ◌∷◌, refl, ap, sym, subst, eqb-true, arith, tests, Option, Some, Result, Ok, Err, Bor}
 use Rattle.std.specs.Prelude.{IfSome, MatchResult}
 use Rattle.std.specs.Option.{option_map}
 use Rattle.sheet_text.specs.Paths.{IsPathText, names_of, parts}
@@ -9,10 +9,7 @@ use Rattle.std.specs.Str.{IsUtf8, IsAscii}
 use Rattle.std.proofs.lemmas.Str.{IsUtf8-from_ascii}
 use Rattle.std.proofs.lemmas.Str.Ascii.{IsAscii-cons, IsAscii-nil}
 use Rattle.sheet_text.specs.Text.{is_name, is_name_octet, is_named_path, named_path}
-
-both : (b d : Bool) → (b && d) ≡ true → (b ≡ true) × (d ≡ true)
-both true d e = (refl, e)
-both false d e = cc
+use Rattle.sheet_text.proofs.Numbers.{both}
 
 name_octet : (octet : ℕ) → is_name_octet octet ≡ true → octet < 128
 name_octet octet e = grind (arith, tests)

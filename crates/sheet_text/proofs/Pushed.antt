@@ -18,12 +18,7 @@ use Rattle.sheet_text.specs.Named.{named}
 use Rattle.sheet_text.specs.Table.{Table, Mention, mention_at, path_at, paths_in, unstated, want_count}
 use Rattle.sheet_text.specs.Inside.{AreBeneath, AreNames, AreNodes, Finds, IsTable, kid_of, mention_of, parents_of, paths_of, table_of, texts_of}
 use Rattle.sheet_text.proofs.Tables.{count, place_at, there_at}
-use Rattle.sheet_text.proofs.Rows.{push_get, set_get}
-
-same_bool : (a b : Bool) → (a ≡ true → b ≡ true) → (b ≡ true → a ≡ true) → a ≡ b
-same_bool true b f g = sym (f refl)
-same_bool false true f g = g refl
-same_bool false false f g = refl
+use Rattle.sheet_text.proofs.Rows.{push_get, set_get, same_bool}
 
 both_true : (a b : Bool) → a ≡ true → b ≡ true → (a && b) ≡ true
 both_true a b e f = ap (λ (t : Bool). t && b) e ∙ f

@@ -39,7 +39,7 @@ kid_last (x ∷ p) (y ∷ q) name =
     ∙ ap (λ (b : Bool). bytes_eq x y && (is_within p (q ++ name ∷ []) && b)) (far_eq (length (q ++ name ∷ [])) (length p))
     ∙ ap (λ (b : Bool). bytes_eq x y && b) (kid_last p q name)
 
-same_bool : (a b : Bool) → (a ≡ true → b ≡ true) → (b ≡ true → a ≡ true) → a ≡ b
+pub same_bool : (a b : Bool) → (a ≡ true → b ≡ true) → (b ≡ true → a ≡ true) → a ≡ b
 same_bool true b f g = sym (f refl)
 same_bool false true f g = g refl
 same_bool false false f g = refl

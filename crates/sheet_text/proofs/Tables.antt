@@ -43,7 +43,7 @@ pub apart_from : (p : Path) (paths : List Path) (place : ℕ) → is_among paths
 apart_from p paths place none l =
     false_from_ne_true (same_path (get_or paths place []) p) (λ e. true≢false (sym (ap (is_among paths) (sym (is_same (get_or paths place []) p e)) ∙ among_at paths place l) ∙ none))
 
-or_none : (b : Bool) → (b || false) ≡ b
+pub or_none : (b : Bool) → (b || false) ≡ b
 or_none true = refl
 or_none false = refl
 

@@ -21,7 +21,7 @@ use Rattle.sheet_text.specs.declared.fault.SheetFault.TheVariants.{Twice, LeafHa
 use Rattle.sheet_text.specs.Table.{Mention, Table, has_line, is_at, is_mentioned, is_want, mention, mention_all, noted, noted_at, paths_in, place_fault, size_fault, taken, taken_unless, unstated, want_count}
 use Rattle.sheet_text.specs.Tree.{kind_in, kind_of}
 
-either_false : (a b : Bool) → (a || b) ≡ false → (a ≡ false) × (b ≡ false)
+pub either_false : (a b : Bool) → (a || b) ≡ false → (a ≡ false) × (b ≡ false)
 either_false true b e = absurd (true≢false e)
 either_false false b e = (refl, e)
 

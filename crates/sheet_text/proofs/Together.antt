@@ -26,9 +26,9 @@ use Rattle.sheet_text.specs.Tree.{kind_in, line_in, node_paths, outline_of}
 use Rattle.sheet_text.specs.Whole.{fault_line, whole_fault}
 use Rattle.sheet_text.specs.Taken.{AreNoted, IsAboveLimit, IsTaken, IsTreeOfLines, Stated, stated_paths, take_on, taken_all}
 use Rattle.sheet_text.proofs.Noted.{not_noted, want_cons}
-use Rattle.sheet_text.proofs.Taken.{IsFit, after, fit, found_here, found_still, kind_here, kind_still, mentions_after, paths_after, paths_fold, paths_noted}
+use Rattle.sheet_text.proofs.Taken.{IsFit, after, fit, found_here, found_still, kind_here, kind_still, mentions_after, paths_after, paths_fold, paths_noted, either_false}
 use Rattle.sheet_text.proofs.Sound.{no_fault, over_stated}
-use Rattle.sheet_text.proofs.Tables.{count}
+use Rattle.sheet_text.proofs.Tables.{count, or_none}
 
 -- how many wants a line leaves
 wants_push : (t : Table) (p : Path) → want_count (t ++ unstated p ∷ []) ≡ want_count t
@@ -100,14 +100,6 @@ sound_after t line e q new old = go (same_path q e.path) refl
     go : (b : Bool) → same_path q e.path ≡ b → kind_fault (kind_in (after t line e) q) ≡ None
     go true is = ap kind_fault (kind_here t line e q is) ∙ new
     go false is = ap kind_fault (kind_still t line e q is) ∙ old
-
-or_none : (b : Bool) → (b || false) ≡ b
-or_none true = refl
-or_none false = refl
-
-either_false : (a b : Bool) → (a || b) ≡ false → (a ≡ false) × (b ≡ false)
-either_false true b e = absurd (true≢false e)
-either_false false b e = (refl, e)
 
 -- a line more
 taken_more : (t : Table) (lines : List Stated) (s : Stated) → IsFit t s.entry → IsTaken t lines → IsTaken (after t s.line s.entry) (lines ++ s ∷ [])

@@ -10,7 +10,7 @@ use Rattle.sheet_text.proofs.Within.{is_same, same_name, within_self, within_tra
 use Rattle.sheet_text.specs.Table.{Table, Mention, is_mentioned, is_want, mention, mention_all, paths_in, unstated}
 use Rattle.sheet_text.specs.Inside.{AreNames}
 use Rattle.sheet_text.specs.Walks.{Walked, walked, grown, IsFresh}
-use Rattle.sheet_text.proofs.Tables.{none_at}
+use Rattle.sheet_text.proofs.Tables.{none_at, or_none}
 
 -- the paths behind a path, one for each name more, and those above the last
 pub steps : Path → Path → List Path
@@ -78,11 +78,7 @@ no_wants table front (name ∷ names) none =
     ap (λ (b : Bool). b || list_any (is_want table) (overs (front ++ name ∷ []) names)) (no_want table front (none front (within_self front)))
     ∙ no_wants table (front ++ name ∷ []) names (λ q w. none q (within_trans front (front ++ name ∷ []) q (within_more front (name ∷ [])) w))
 
-or_none : (b : Bool) → (b || false) ≡ b
-or_none true = refl
-or_none false = refl
-
-or_turned : (a b c : Bool) → ((a || b) || c) ≡ (a || (b || c))
+pub or_turned : (a b c : Bool) → ((a || b) || c) ≡ (a || (b || c))
 or_turned true b c = refl
 or_turned false b c = refl
 

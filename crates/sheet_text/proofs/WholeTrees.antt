@@ -1,5 +1,5 @@
 -- The tree over what is mentioned, in its own words.
-use Rattle.std.proofs.Common.{◌≡◌, ◌∙◌, ℕ, zero, suc, ◌<◌, Bool, true, false, List, [], ◌∷◌, ◌++◌, map, length, get_or, refl, sym, ap, arith, filter, flat_map, Some}
+use Rattle.std.proofs.Common.{◌≡◌, ◌∙◌, ℕ, zero, suc, ◌<◌, true, List, [], ◌∷◌, ◌++◌, map, length, get_or, refl, sym, ap, arith, filter, flat_map, Some}
 use Rattle.limit_tree.specs.declared.place.NodeKind.{NodeKind}
 use Rattle.limit_tree.specs.declared.place.NodeKind.TheVariants.{Branch, Leaf}
 use Rattle.limit_tree.specs.declared.place.Place.{Place}
@@ -10,6 +10,7 @@ use Rattle.sheet_text.specs.Forest.{AreOver, tree_over, kids_by, outline_at, pat
 use Rattle.sheet_text.specs.TreeLaw.{AreMentions, IsTreeOf, kids_in}
 use Rattle.sheet_text.proofs.Held.{is_tree}
 use Rattle.sheet_text.proofs.TreeNodes.{among_each, kids_are, nodes_mentioned, mentioned_nodes, nodes_once}
+use Rattle.sheet_text.proofs.Rows.{same_bool}
 
 map_append : {A B : Type 0} (f : A → B) (xs ys : List A) → map f (xs ++ ys) ≡ map f xs ++ map f ys
 map_append f [] ys = refl
@@ -46,11 +47,6 @@ pub kinds_are : (kind : Path → NodeKind) (kids : Path → List Path) (levels :
 unfolding outline_at paths_at
 kinds_are kind kids zero path = kinds_alone kind path (kind path) refl
 kinds_are kind kids (suc levels) path = kinds_over kind path (kind path) (outline_at kind kids levels) (paths_at kind kids levels) (kids path) refl (kinds_are kind kids levels)
-
-same_bool : (a b : Bool) → (a ≡ true → b ≡ true) → (b ≡ true → a ≡ true) → a ≡ b
-same_bool true b f g = sym (f refl)
-same_bool false true f g = g refl
-same_bool false false f g = refl
 
 -- what a branch of a place holds
 range_of : (o : Place) (k : NodeKind) (b : SharedBranch) → branch_of k o.first o.leaves ≡ Some b → (k ≡ Branch b.limit) × ((i : ℕ) → b.holds i ≡ leaf_range o.first o.leaves i)

@@ -23,17 +23,17 @@ abbrev pub is_empty : Octets → Bool
 is_empty [] = true
 is_empty (octet ∷ rest) = false
 
--- a word begins with a digit, and has an octet that is none
+-- a word begins with a digit, and has an octet that is not one
 abbrev pub is_amount_with_unit : Octets → Bool
 is_amount_with_unit [] = false
 is_amount_with_unit (octet ∷ rest) = is_ascii_digit octet && not (list_all is_ascii_digit rest)
 
--- one of the words between single blanks is such a one
+-- one of the words between single blanks passes the test
 abbrev pub has_word : (Octets → Bool) → Octets → Bool
 has_word is_such line = list_any is_such (parts 32 line)
 
--- the first slip of a byte order mark, a tab, a remark after a statement, two blanks (a word
--- between them is empty), and a number with a unit, if the line has one
+-- the first of these slips that the line has: a byte order mark, a tab, a remark after a statement,
+-- two blanks (a word between them is empty), a number with a unit
 abbrev pub hint_of : Octets → Option Hint
 hint_of line =
     if begins_with_mark line then Some ByteOrderMark

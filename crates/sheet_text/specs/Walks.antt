@@ -49,8 +49,8 @@ pub record IsWalk (table : Table) (text : Octets) (walk : Walk) : Type 0 where
         under = walk.under;
       }
 
--- the first fault of a path that is there or not, has a line or not, is beneath a want, is to be
--- one, and is too deep
+-- the first fault of a path, from these facts: it is there, has a line, is beneath a want, is to be
+-- a want, is too deep
 abbrev pub fault_shown : ℕ → Bool → Bool → Bool → Bool → Bool → Option SheetFault
 fault_shown number there has_line under leaf deep =
     if there && has_line then Some (Twice number)

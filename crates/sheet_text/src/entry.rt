@@ -1,4 +1,5 @@
 //! The statement of a line of a sheet.
+
 ghost use Rattle.std.specs.Prelude.{◌≡◌, ◌∷◌, [], IfSome, option_map, Option, Some};
 ghost use Rattle.sheet_text.specs.Paths.{IsPathText};
 ghost use Rattle.sheet_text.specs.Text.{entry_of, entry_of_words, limit_kind, want_kind, number};

@@ -1,4 +1,5 @@
 //! Faults of a sheet.
+
 use crate::hint::Hint;
 use limit_tree::TreeFault;
 use std::alloc::AllocError;

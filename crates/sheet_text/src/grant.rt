@@ -1,4 +1,5 @@
 //! The statement of a line of a grants file.
+
 ghost use Rattle.std.specs.Prelude.{◌≡◌, ◌∷◌, [], IfSome, None, option_map};
 ghost use Rattle.sheet_text.specs.Text.{grant_of, grant_of_words};
 ghost use Rattle.sheet_text.specs.LineViews.{ArePathTexts, grant_view};

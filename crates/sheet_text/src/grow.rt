@@ -1,4 +1,5 @@
 //! Mentions of new paths.
+
 ghost use Rattle.std.specs.Prelude.{◌≡◌, ◌<◌, OnOk, IfOk, drop, length};
 ghost use Rattle.sheet_text.specs.Paths.{names_of, IsPathText};
 ghost use Rattle.sheet_text.specs.Table.{path_at};

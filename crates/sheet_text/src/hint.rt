@@ -1,4 +1,5 @@
 //! The likely slip of a line that is no statement.
+
 ghost use Rattle.std.specs.Prelude.{◌≡◌};
 ghost use Rattle.sheet_text.specs.Hints.{begins_with_mark, has_tab, has_word, hint_of, is_amount_with_unit, is_empty, is_remark};
 
@@ -15,7 +16,7 @@ pub enum Hint {
     Remark,
     /// A blank is next to another, or begins or ends the line.
     Blank,
-    /// A word begins with a digit, and has an octet that is none, as `10M`.
+    /// A word begins with a digit, and has an octet that is not one, such as `10M`.
     Unit,
 }
 

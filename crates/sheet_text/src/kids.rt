@@ -1,5 +1,6 @@
 //! The kids of each node.
-ghost use Rattle.std.specs.Prelude.{◌≡◌, ◌<◌, ◌∷◌, ◌++◌, [], ℕ, Vec, IfOk, OnOk, Some, length, slice_get, vec_len};
+
+ghost use Rattle.std.specs.Prelude.{◌≡◌, ◌<◌, ◌++◌, [], ℕ, Vec, IfOk, OnOk, Some, length, slice_get};
 ghost use Rattle.sheet_text.specs.Rows.{AreKidRows, joined};
 
 use crate::node::Nodes;

@@ -1,4 +1,5 @@
 //! Laws of the tree of a sheet, as the contracts of bodies that are empty or call another law.
+
 ghost use Rattle.sheet_text.specs.SheetLaw.{SheetIsOfItsLines};
 ghost use Rattle.sheet_text.specs.Taken.{TreeIsOfLines};
 ghost use Rattle.sheet_text.specs.TreeLaw.{MentionedIsStatedOrAbove, NodesHoldWhatIsBeneath, TreeIsOfWhatIsMentioned, TreeIsOfWhatIsStated};

@@ -1,4 +1,5 @@
 //! The names in the text of a path.
+
 ghost use Rattle.std.specs.Prelude.{◌≡◌, ◌<◌, ◌^◌, ◌≤◌, ◌==◌, ◌∷◌, [], length, count_by, drop, slice_index, take};
 ghost use Rattle.sheet_text.specs.Paths.{names_of, parts};
 

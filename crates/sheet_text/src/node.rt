@@ -1,5 +1,6 @@
 //! The nodes that a sheet mentions.
-ghost use Rattle.std.specs.Prelude.{◌≡◌, ◌<◌, ◌^◌, ◌∷◌, ◌++◌, [], false, OnOk, IfOk, IfSome, None, Some, length, slice_index_or};
+
+ghost use Rattle.std.specs.Prelude.{◌≡◌, ◌<◌, ◌^◌, ◌∷◌, ◌++◌, [], OnOk, IfOk, None, Some, length};
 ghost use Rattle.limit_tree.specs.Outline.{is_leaf_kind};
 ghost use Rattle.sheet_text.specs.Paths.{Octets, names_of, place_of, text_of};
 ghost use Rattle.sheet_text.specs.Table.{fresh, mention_at, noted, path_at, paths_in, unstated, want_count};

@@ -1,5 +1,6 @@
 //! Numbers by place.
-ghost use Rattle.std.specs.Prelude.{◌≡◌, ◌<◌, ◌≤◌, ◌^◌, ℕ, Some, None, true, IfOk, length, map, filter, nat_eq, vec_len, slice_index_or};
+
+ghost use Rattle.std.specs.Prelude.{◌≡◌, ◌<◌, ◌^◌, ℕ, Some, None, true, IfOk, length, map, filter, nat_eq, vec_len, slice_index_or};
 ghost use Rattle.std.specs.List.{position_from};
 ghost use Rattle.std.specs.Option.{is_some};
 ghost use Rattle.limit_tree.specs.Outline.{is_leaf_kind};

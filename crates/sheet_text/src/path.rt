@@ -1,4 +1,5 @@
 //! Paths.
+
 ghost use Rattle.std.specs.Prelude.{◌≡◌, IfSome, option_map};
 ghost use Rattle.std.specs.List.{list_all};
 ghost use Rattle.sheet_text.specs.Paths.{names_of, parts, IsPathText};

@@ -1,4 +1,5 @@
 //! Reading a sheet, line by line.
+
 ghost use Rattle.std.specs.Prelude.{◌≡◌, ◌++◌, Some, Ok, Err, IfOk, OnOk, MatchResult, length};
 ghost use Rattle.memory_terms.specs.Lack.{Unless};
 ghost use Rattle.sheet_text.specs.Rows.{AreBelow};

@@ -1,4 +1,5 @@
 //! The kids of one node, found by their names.
+
 ghost use Rattle.std.specs.Prelude.{◌≡◌, IfOk, None, OnErr, OnOk, Some, bytes_eq, if◌then◌else◌};
 ghost use Rattle.sheet_text.specs.Paths.{Octets};
 ghost use Rattle.sheet_text.specs.Named.{mark_of, named};

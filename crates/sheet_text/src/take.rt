@@ -1,4 +1,5 @@
 //! Taking the statement of a line.
+
 ghost use Rattle.std.specs.Prelude.{◌≡◌, ◌<◌, ◌≤◌, ℕ, IfOk, MatchResult, OnOk, Ok, Err, length};
 ghost use Rattle.memory_terms.specs.Lack.{Unless};
 ghost use Rattle.sheet_text.specs.Paths.{names_of, IsPathText};
@@ -38,7 +39,8 @@ fn size_fault(nodes: usize, wants: usize, kind: NodeKind) -> Option<TreeFault>
     }
 }
 
-/// The first fault of a path that is there or not, has a line or not, is beneath a want, is to be one, and is too deep.
+/// The first fault of a path, from these facts: it is there, has a line, is beneath a want, is to be a want, is too
+/// deep.
 fn fault_shown(
     number: usize,
     there: bool,

@@ -1,4 +1,5 @@
 //! The tree of a sheet, built from its nodes.
+
 ghost use Rattle.std.specs.Prelude.{◌≡◌, ◌<◌, ◌-◌, ◌++◌, [], IfOk, OnOk, length, map};
 ghost use Rattle.limit_tree.specs.Outline.{places};
 ghost use Rattle.sheet_text.specs.Forest.{tree_over};

@@ -1,4 +1,5 @@
 //! A walk along the names of a path as far as they are there.
+
 ghost use Rattle.std.specs.Prelude.{◌≡◌, ◌||◌};
 ghost use Rattle.limit_tree.specs.Outline.{is_leaf_kind};
 ghost use Rattle.sheet_text.specs.Paths.{names_of, place_of, IsPathText};
@@ -29,7 +30,7 @@ fn passes(under: bool, kind: NodeKind) -> bool
 }
 
 impl<'t, A: Allocator> Nodes<'t, A> {
-    /// Walks from the root along a path as far as it is there. No path beneath one that is not there is.
+    /// Walks from the root along a path as far as it is there. No path beneath a missing one is there.
     pub(crate) fn walk(&self, path: &str) -> Walk
         requires text { IsPathText path.now }
         ensures walk { IsWalk self.now path.now result }

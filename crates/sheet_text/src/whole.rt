@@ -1,4 +1,5 @@
 //! The whole tree, checked.
+
 ghost use Rattle.std.specs.Prelude.{◌≡◌, ◌<◌, [], ℕ, None, Some, MatchResult, OnOk, length};
 ghost use Rattle.memory_terms.specs.Lack.{Unless};
 ghost use Rattle.limit_tree.specs.declared.fault.TreeFault.TheVariants.{FloorsOverLimit};

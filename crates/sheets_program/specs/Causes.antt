@@ -24,7 +24,7 @@ abbrev pub IsSharingRefused : Octets → (List ℕ → Type 0) → Type 0
 IsSharingRefused gives refuses = (known : Option (List ℕ)) × (text printed : List ℕ)
     × gives known × IsTextOf text known × IsSharingOf text printed × refuses printed
 
--- the cause of a fault of `share`: none that its file or the output rules out
+-- the cause of a fault of `share`, which neither its file nor the output rules out
 abbrev pub IsShareWhy : Octets → Type 0 → Type 0 → (List ℕ → Type 0) → ShareFault → Type 0
 IsShareWhy gives refused fails refuses (share.Text ReadFault) = refused ⊎ fails
 IsShareWhy gives refused fails refuses (share.Text WriteFault) = IsSharingRefused gives refuses
@@ -48,7 +48,7 @@ IsVerdictRefused sheet grants refuses =
     × sheet known × grants also × IsTextOf sheet_text known × IsTextOf grants_text also
     × IsCheckOf sheet_text grants_text verdict printed × refuses printed
 
--- the cause of a fault of `check`, by which of its files may be refused or fail
+-- the cause of a fault of `check`, given for each of its files that it may be refused or fail
 abbrev pub IsCheckWhy : Octets → Octets → Type 0 → Type 0 → (List ℕ → Type 0) → CheckFault → Type 0
 IsCheckWhy sheet grants sheet_fails grants_fails refuses (check.SheetText TooLong) = IsTooLong sheet
 IsCheckWhy sheet grants sheet_fails grants_fails refuses (check.SheetText ReadFault) = sheet_fails

@@ -1,4 +1,5 @@
 //! The file of a fault, and the machine's error for it.
+
 ghost use Rattle.std.specs.Prelude.{◌≡◌};
 ghost use Rattle.sheets_program.specs.Runs.{checked_file, file_of, shared_file, text_file};
 

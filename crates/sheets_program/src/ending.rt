@@ -1,4 +1,5 @@
 //! The endings of a program on sheets.
+
 ghost use Rattle.std.specs.Prelude.{◌≡◌};
 ghost use Rattle.sheets_program.specs.Endings.{IsRefusedAs, IsToldEnd, IsUnwritten, status_of};
 

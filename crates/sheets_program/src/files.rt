@@ -1,4 +1,5 @@
 //! The files that words name.
+
 ghost use Rattle.std.specs.Prelude.{◌≡◌, ◌↔◌, ℕ, List, Option, IfOk, IsTrue, OnErr, true};
 ghost use Rattle.sheets_program.specs.Runs.{IsInput};
 

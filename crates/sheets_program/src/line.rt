@@ -1,4 +1,5 @@
 //! The words of the command line of the program.
+
 ghost use Rattle.std.specs.Prelude.{◌≡◌, IfErr, IfOk, map, string_bytes};
 ghost use Rattle.sheets_program.specs.Endings.{IsNoLine, IsOutOfMemory};
 

@@ -1,4 +1,5 @@
 //! Running the command of a line's words.
+
 ghost use Rattle.std.specs.Prelude.{◌≡◌, ◌≢◌, ◌⊎◌, ◌↔◌, ◌∷◌, [], ℕ, List, IsTrue, codes, map};
 ghost use Rattle.clap.specs.Words.{fault_of, subcommand_of};
 ghost use Rattle.command_line.specs.Commands.{sheets};

@@ -146,8 +146,8 @@ impl ControlSocket {
         Err(io::Error::from(ErrorKind::TimedOut))
     }
 
-    /// Writes all of a reply. A peer that reads nothing is waited for, 20 s for each part of it, or 2 s once the server
-    /// ends.
+    /// Writes all of a reply. Waits for a peer that reads nothing: at most 20 s for each part of the reply, or 2 s once
+    /// the server ends.
     pub fn write(&mut self, octets: &[u8], ending: &ServerShutdown) -> io::Result<()> {
         let mut at = 0;
         while at < octets.len() {

@@ -28,7 +28,7 @@ use std::alloc::{AllocError, Global};
 use std::io;
 use std::net::{Net, TcpListener, TcpStream};
 use std::sync::Wait;
-use std::time::{Clock, Duration};
+use std::time::Clock;
 use virtual_tree::Store;
 
 /// The reply to a client whose session the server ends.
@@ -137,7 +137,8 @@ where
         step_by(session, users, &mut *floors, &mut *store, input, moment)
     }
 
-    // A step that asks for no admission (`others_ask_no_floors` of `session_table`), so the lock of the floors is not held.
+    // A step that asks for no admission (`others_ask_no_floors` of `session_table`), so the lock of the floors is not
+    // held.
     fn step_uncounted(
         &mut self,
         users: &Authorizer,

@@ -23,8 +23,8 @@ const MOST_READS: u32 = u32::MAX;
 /// Size of one read of what comes after the end.
 const LAST_PIECE: usize = 512;
 
-/// A host with the settings of its session. A call whose type argument has several lifetimes may take neither settings nor
-/// users, so the functions below have one type parameter for the host, and one for the owner of the users.
+/// A host with the settings of its session. A call whose type argument has several lifetimes may take neither settings
+/// nor users, so the functions below have one type parameter for the host, and one for the owner of the users.
 pub(crate) trait SessionHost: Host<Global> {
     /// The settings of the session.
     fn settings(&self) -> Result<Settings, AllocError>;
@@ -72,9 +72,9 @@ fn session_number(key: usize) -> u32
     }
 }
 
-/// Serves a client from the greeting to the end of the control connection, which was accepted from this peer and has this
-/// key in the registry; the connection then leaves the registry. However the session ends, its transfers have ended and its
-/// floor is released.
+/// Serves a client from the greeting to the end of the control connection, which was accepted from this peer and has
+/// this key in the registry; the connection then leaves the registry. However the session ends, its transfers have
+/// ended and its floor is released.
 pub fn serve_session<R, S, H, B>(
     rt: &R,
     house: &House<S, H, B>,

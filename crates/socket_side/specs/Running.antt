@@ -111,7 +111,7 @@ module _ {R K : Type 0} where
       → end.end ≡ Aborted)
   Settles (running.Over told) event = event ≡ Some (Ended told.end told.sink)
 
-  -- whether there is something to report, except for a moving transfer
+  -- true if there is something to report; either value for a moving transfer
   abbrev pub RestsOn : Running R K → Bool → Type 0
   RestsOn running.Nothing result = result ≡ false
   RestsOn (running.Awaited listener port job since) result = result ≡ false

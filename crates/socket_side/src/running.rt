@@ -25,7 +25,7 @@ pub(crate) enum Prepared {
 #[derive(Drop)]
 pub(crate) enum Running<R: Drop, K: Drop> {
     Nothing,
-    /// The client has not connected yet. The moment since which it is waited for, in microseconds.
+    /// The client has not connected yet. The wait began at `since`, in microseconds.
     Awaited {
         listener: TcpListener,
         port: u16,

@@ -23,8 +23,9 @@ use std::sync::Wait;
 use std::time::{Clock, Duration};
 use virtual_tree::Store;
 
-/// The time without progress after which a read or write of a data connection fails, in milliseconds: a third of a minute,
-/// since a write that moved some octets before its time-out counts as progress, so a peer that reads nothing takes three.
+/// The time without progress after which a read or write of a data connection fails, in milliseconds: a third of a
+/// minute, since a write that moved some octets before its time-out counts as progress, so a peer that reads nothing
+/// takes three such times.
 const STANDSTILL: u64 = 20_000;
 
 /// The time for a client to connect to its passive port, in microseconds.
@@ -458,7 +459,8 @@ where
         unreachable!()
     }
 
-    /// Waits for the end of the running transfer and reports it; aborts it if no client has come. Drops what was prepared.
+    /// Waits for the end of the running transfer and reports it; aborts it if no client has come. Drops what was
+    /// prepared.
     pub fn settle(&mut self) -> Option<DataEvent<S::Sink>>
         ensures settled { Settles self.old.running result }
         ensures running { self.new.running ≡ Running.Nothing }

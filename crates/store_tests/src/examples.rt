@@ -11,7 +11,7 @@ use virtual_path::VPath;
 use virtual_tree::{Sink, Source, Store, StoreFault, WriteMode};
 
 fn memory_store(rt: &(impl Abort + AllocGlobal), path: &VPath) -> Result<(), StoreFault> {
-    let mut store = MemStore::new(rt.alloc(), 1_000_000)?; // of so many octets at most
+    let mut store = MemStore::new(rt.alloc(), 1_000_000)?; // of at most 1,000,000 octets
     store.make_dir(path)?; // the path is `/in`
     holds(rt, store.make_dir(path) == Err(StoreFault::Exists));
     holds(rt, store.list(path)?.is_empty());

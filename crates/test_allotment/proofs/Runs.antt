@@ -1,9 +1,9 @@
 -- Two whole runs of the rule end alike.
-use Rattle.std.proofs.Common.{◌≡◌, ℕ, zero, suc, ◌<◌, ◌≤◌, List, sym, ap, ◌∙◌, subst, arith, inl, inr}
+use Rattle.std.proofs.Common.{◌≡◌, ℕ, zero, suc, ◌<◌, List, sym, ap, ◌∙◌, subst, arith, inl, inr}
 use Rattle.std.proofs.lemmas.Bool.{cases_lt}
 use Rattle.limit_tree.specs.Sharing.{LimitTree, HasRoom}
 use Rattle.round_allocator.specs.Rounds.{IsExhausted}
-use Rattle.test_allotment.specs.Rule.{IsNext, IsGiven, IsRun, RunsEndAlike, give}
+use Rattle.test_allotment.specs.Rule.{IsNext, IsGiven, RunsEndAlike, give}
 
 -- there is one next leaf
 next-alike : (t : LimitTree) (g : List ℕ) (j k : ℕ) → IsNext t g j → IsNext t g k → j ≡ k

@@ -1,7 +1,7 @@
 -- Giving one octet at a time, from the floors on, to a leaf with room that has the least.
 use Rattle.std.proofs.Common.{◌≡◌, ℕ, ◌+◌, ◌-◌, ◌<◌, ◌≤◌, Bool, false, List, length, refl, sym, ap, ◌∙◌, subst, arith, sum, ◌⊎◌, inl, inr, Some, get_or-set_other, get_or-set_same}
 use Rattle.std.specs.Prelude.{IsTrue, slice_index}
-use Rattle.std.proofs.Math.ListN.{set, length-set}
+use Rattle.std.proofs.Math.ListN.{length-set}
 use Rattle.std.proofs.lemmas.Bool.{cases_eq, cases_Bool, false≢true, false_from_ne_true}
 use Rattle.std.proofs.lemmas.List.Sums.{sum_by-set}
 use Rattle.limit_tree.specs.Sharing.{Branch, LimitTree, HasNestedBranches, IsLimitTree, IsBranch, IsWanted, IsWithin, IsFull, IsUnmet, HasRoom, IsNotTooGreat, IsBottleneck, sum_over}

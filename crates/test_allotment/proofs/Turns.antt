@@ -1,6 +1,6 @@
 -- The leaf whose turn is next, among the first leaves.
-use Rattle.std.proofs.Common.{◌≡◌, ℕ, ◌+◌, ◌<◌, ◌≤◌, List, sym, subst, arith, inl, inr, Option, Some, None}
-use Rattle.std.specs.Prelude.{MatchOption, slice_index}
+use Rattle.std.proofs.Common.{◌≡◌, ℕ, ◌+◌, ◌<◌, List, sym, subst, arith, inl, inr, Option, Some, None}
+use Rattle.std.specs.Prelude.{MatchOption}
 use Rattle.std.proofs.lemmas.Bool.{cases_lt}
 use Rattle.limit_tree.specs.Sharing.{LimitTree, HasRoom}
 use Rattle.test_allotment.specs.Turns.{IsBetter, IsNextBelow, IsBestBelow}

@@ -1,4 +1,5 @@
 //! The plain allotment.
+
 ghost use Rattle.std.specs.Prelude.{◌≡◌, ◌+◌, ◌<◌, ◌^◌, ◌↔◌, length, sum, IsTrue, IfSome, MatchOption, IfOk};
 ghost use Rattle.limit_tree.specs.Sharing.{IsLimitTree, IsWanted, IsWithin, HasRoom};
 ghost use Rattle.limit_tree.specs.Outline.{limits};

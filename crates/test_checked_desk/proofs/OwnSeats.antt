@@ -1,6 +1,6 @@
 -- The seats of a desk, one of which is put back.
-use Rattle.std.proofs.Common.{◌≡◌, ◌≢◌, ℕ, zero, suc, ◌+◌, ◌<◌, List, [], ◌∷◌, length, get_or, set, sym, refl, ap, ◌∙◌, subst, arith, length-set}
-use Rattle.std.specs.Prelude.{Option, Some, None, slice_get}
+use Rattle.std.proofs.Common.{◌≡◌, ◌≢◌, ℕ, zero, suc, List, [], ◌∷◌, set, sym, refl, ap, ◌∙◌, subst, length-set}
+use Rattle.std.specs.Prelude.{Some, slice_get}
 use mathlib.Core.Logic.{dite}
 use native.Mathlib.Decide.{ℕ_discrete}
 use Rattle.atomic_table.specs.Seated.{TableId}
@@ -8,14 +8,7 @@ use Rattle.lane_desk.specs.declared.seat.LaneSeat.{LaneSeat}
 use Rattle.lane_desk.specs.Seats.{IsSameSeat}
 use Rattle.lane_desk.specs.Open.{AreFresh}
 use Rattle.lane_desk.specs.AllLanes.{AreSeats}
-
-value_or : {A : Type 0} → A → Option A → A
-value_or d None = d
-value_or d (Some y) = y
-
-some_is : {A : Type 0} (x y : A) → Some x ≡ Some y → x ≡ y
-unfolding value_or
-some_is x y e = ap (λ o. value_or x o) e
+use Rattle.lane_desk.proofs.AllLanes.{some_is}
 
 get_set_here : {A : Type 0} (l : List A) (i : ℕ) (a b : A) → slice_get (set l i a) i ≡ Some b → a ≡ b
 get_set_here [] zero a b e = absurd (cc)

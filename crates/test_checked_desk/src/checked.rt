@@ -14,8 +14,8 @@ use lane_desk::{
 use line_rates::{Ask, Limits};
 use std::alloc::{Allocator, Global};
 
-/// A desk with its rounds, the seats of its lanes, its book, and one tally for all. Between calls, each ask collected is
-/// answered. It must be closed.
+/// A desk with its rounds, the seats of its lanes, its book, and one tally for all. Between calls, each ask collected
+/// is answered. It must be closed.
 pub struct CheckedDesk<N, A: Allocator = Global> {
     desk: Desk<N, A>,
     round: RoundDesk<N>,
@@ -102,7 +102,7 @@ impl<N, A: Allocator + Clone> CheckedDesk<N, A> {
         false
     }
 
-    /// A round.
+    /// A round of the desk under these limits, at a moment in milliseconds.
     pub fn round<L: Allocator, B: Allocator + Clone>(
         &mut self,
         alloc: B,

@@ -59,8 +59,8 @@ impl<N> OwnSeat<N> {
         }
     }
 
-    /// The worker takes a grant that waits, moves `moved` octets or all if it has fewer, and gives the rest back. Returns
-    /// the octets granted.
+    /// The worker takes a grant that waits, moves `moved` octets or all if it has fewer, and gives the rest back.
+    /// Returns the octets granted.
     pub fn take<A: Allocator>(&mut self, desk: &Desk<N, A>, moved: u64) -> Option<u64>
         requires desk { IsSeatOf desk.now self.old.seat }
         ensures same { IsSameSeat self.old.seat self.new.seat }

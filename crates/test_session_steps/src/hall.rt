@@ -1,4 +1,4 @@
-//! The program's own parts, beside a session and its users, and the words that report on them.
+//! The program's own parts, apart from a session and its users, and the words that report on them.
 
 use crate::fault::Fault;
 use crate::made::{make_floors, make_store};

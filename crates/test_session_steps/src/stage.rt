@@ -24,8 +24,8 @@ use std::alloc::Global;
 use std::io::{self, BufRead, ErrorKind, Write};
 use test_fail_store::FailStore;
 
-/// A read returns the next line. A word in its place says what comes between the lines, and the read then returns
-/// nothing of the client.
+/// The host of a session. A read returns the next line. A word in its place says what comes between the lines, and the
+/// read then returns no octets.
 #[derive(Drop)]
 pub(crate) struct Stage<R, W> {
     pub hall: Hall,
@@ -93,7 +93,7 @@ impl<R: BufRead, W: Write> Stage<R, W> {
         self.is_deaf = false;
     }
 
-    /// Returns the fault that ended the program within a session, if any.
+    /// Returns the fault that ends the program after a session, if any.
     pub fn fault(&mut self) -> Result<(), Fault> {
         match self.fault.take() {
             None => Ok(()),
@@ -154,7 +154,8 @@ impl<R: BufRead, W: Write> Stage<R, W> {
         }
     }
 
-    /// Returns the text of a line: for a word none, but the client may be gone; any other line itself.
+    /// Follows a word, and returns `AtEnd` if the client is gone then, and otherwise `Nothing`. Any other line is
+    /// copied into the buffer.
     fn take_word_or_line(&mut self, line: &[u8], buffer: &mut [u8]) -> Result<Piece, Fault>
         ensures bound { IfOk result (λ piece. reads_within piece buffer.new) }
     {

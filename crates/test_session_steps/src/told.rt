@@ -15,7 +15,7 @@ pub(crate) type Job = session_table::Job<Global, MemSource<Global>, MemSink<Glob
 
 pub(crate) type Actions = Vec<Action<Global, MemSource<Global>, MemSink<Global>>>;
 
-/// Maximum number of pieces of a sent file that are printed; the size of a piece.
+/// Maximum number of pieces of a sent file that are printed, each of at most 8 octets.
 const PIECES: usize = 8;
 
 pub(crate) fn put(told: &mut Vec<u8>, text: &str) -> Result<(), Fault> {

@@ -2,7 +2,7 @@
 
 use std::alloc::AllocError;
 
-/// Why a decision could not be made or entered.
+/// The reason for which a decision could not be made or entered.
 #[derive(Clone, Copy, Debug, PartialEq, Eq)]
 pub enum FundsFault {
     /// There was no memory.

@@ -1,5 +1,5 @@
-//! The program `test_world_steps`: it reads events of a world of lanes and rounds, one per line of standard input, and prints
-//! the answer of each. It is not part of the server: through it, the stored runs of `runs/worlds.toml` and
+//! The program `test_world_steps`: it reads events of a world of lanes and rounds, one per line of standard input, and
+//! prints the answer of each. It is not part of the server: through it, the stored runs of `runs/worlds.toml` and
 //! `tools/random-worlds` compare the core of sharing with the table of events, worked by hand and read a second time.
 //!
 //! `words.rt` has the syntax of a line. An answer is a word with its numbers, a refusal the name of the fault.

@@ -8,7 +8,8 @@ use share_world::Event;
 pub(crate) enum Line {
     /// `group NUMBER DOWN UP`: a group of the next world.
     Group(GroupRate),
-    /// `user NUMBER GROUP DOWN UP SESSION_DOWN SESSION_UP FLOOR_DOWN FLOOR_UP`: a user of the next world; `-` for no group.
+    /// `user NUMBER GROUP DOWN UP SESSION_DOWN SESSION_UP FLOOR_DOWN FLOOR_UP`: a user of the next world; `-` for no
+    /// group.
     User(UserRate),
     /// `world LANES SERVER DOWN UP`: a new world, with the groups and users before it.
     World(u64, [u64; 3]),

@@ -1,7 +1,6 @@
 -- A text that was read whole.
-use Rattle.std.proofs.Common.{◌≡◌, ◌<◌, ◌≤◌, ◌∙◌, List, ◌++◌, ℕ, Option, Some, None, IfSome, Result, Ok, Err, length, append-nil, sym, ap, refl, subst, arith}
-use Rattle.std.specs.Io.KnownBytes.{Consumes, IsAtEnd, Keeps, ReadConsumes}
-use Rattle.std.proofs.KnownBytes.{Keeps-trans}
+use Rattle.std.proofs.Common.{◌≡◌, ◌<◌, ◌≤◌, ◌∙◌, List, ◌++◌, ℕ, Option, Some, None, length, append-nil, sym, ap, refl, arith}
+use Rattle.std.specs.Io.KnownBytes.{Consumes, IsAtEnd}
 use Rattle.text_io.specs.Texts.{IsTextOf}
 
 pub read_whole_text : (old new : Option (List ℕ)) (items text : List ℕ) → Consumes old new items → IsAtEnd new → old ≡ Some text → items ≡ text

@@ -1,6 +1,6 @@
 -- What writes one after another leave.
-use Rattle.std.proofs.Common.{ℕ, ◌≡◌, ◌+◌, List, [], ◌++◌, take, drop, Option, Some, None, Result, Ok, Err, OnErr, sym, ap, arith, append_assoc, ◌∙◌}
-use Rattle.std.proofs.lemmas.List.{append-nil, drop-take, take-append-drop, take-take}
+use Rattle.std.proofs.Common.{ℕ, ◌≡◌, ◌+◌, List, ◌++◌, take, drop, Option, Some, None, Result, Ok, Err, OnErr, sym, ap, arith, append_assoc, ◌∙◌}
+use Rattle.std.proofs.lemmas.List.{drop-take, take-append-drop, take-take}
 use Rattle.std.specs.Io.KnownBytes.{Appends, Keeps}
 
 pub appends_keeps : (a b c : Option (List ℕ)) (x : List ℕ) → Appends a b x → Keeps b c → Appends a c x

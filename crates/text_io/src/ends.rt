@@ -1,6 +1,6 @@
 //! The ends that programs read and write: their octets, and the failures that they may have.
 
-ghost use Rattle.std.specs.Prelude.{◌≡◌, ◌+◌, ◌<◌, ◌≤◌, ℕ, Bool, List, Option, Some, None, true, false, length, take, IfOk, OnErr, OnOk, vec_len, vec_capacity};
+ghost use Rattle.std.specs.Prelude.{◌≡◌, ◌+◌, ◌<◌, ◌≤◌, ℕ, Bool, List, Option, Some, true, false, length, take, IfOk, OnErr, OnOk, vec_len, vec_capacity};
 ghost use Rattle.std.specs.Io.{ReadsAtMost};
 ghost use Rattle.std.specs.Io.KnownBytes.{Appends, Keeps, ReadConsumes};
 ghost use Rattle.text_io.specs.Parts.{AppendsPart};
@@ -64,7 +64,7 @@ impl<A: Allocator> TextWriter for Vec<u8, A> {
     }
 }
 
-/// Any other reader or writer, as a file: it may fail at each call.
+/// Any other reader or writer, such as a file: it may fail at each call.
 #[derive(Drop)]
 pub struct Outside<E>(pub E);
 

@@ -1,4 +1,5 @@
 //! A file read whole, up to the maximum size of a text.
+
 ghost use Rattle.std.specs.Prelude.{◌≡◌, ◌≢◌, ◌≤◌, ◌<◌, ℕ, List, Option, false, true, IfErr, IfOk, IfSome, IsErrOf, OnOk, length, vec_len};
 ghost use Rattle.std.specs.Io.KnownBytes.{Consumes, IsAtEnd};
 

@@ -42,7 +42,7 @@ const FULL: Option<BookFault> = Some(BookFault::BookFull);
 const NOT_YET: Option<BookFault> = Some(BookFault::NotYet(5));
 
 static ENTRIES: [Row; 4] = [
-    // A full book accepts no octets, but an entry of nothing.
+    // A full book refuses an octet, but accepts an entry of 0 octets.
     (&[1], MAX_ISSUED, &[(5, FULL)], MAX_ISSUED, None),
     (
         &[0],
@@ -51,7 +51,7 @@ static ENTRIES: [Row; 4] = [
         MAX_ISSUED,
         Some(5),
     ),
-    // Of its last three octets two are issued.
+    // Two of its last three octets are issued, and then two more are refused.
     (
         &[1, 1],
         MAX_ISSUED - 3,

@@ -22,7 +22,7 @@ fn data_pump(
 ) -> Result<(), OpenFault> {
     let connection: Vec<u8> = Vec::new(rt.alloc());
     let mut out = DataOut::open(rt.alloc(), source, connection, DataType::Ascii)?; // reads once
-    let pumped = pump_out(funds.grant(3), &mut out, &mut funds.tally); // at most so many octets
+    let pumped = pump_out(funds.grant(3), &mut out, &mut funds.tally); // at most 3 octets
     holds(rt, pumped.moved == 3 && pumped.end == PumpEnd::More);
     let rest = funds.grant(out.waiting() as u64); // of all that is left to move
     let pumped = pump_out(rest, &mut out, &mut funds.tally);

@@ -9,8 +9,8 @@ use test_transfer_ends::{Collected, FAULT, Inlet, Octets, Outlet, Scheduled, rec
 /// A call that moves one octet.
 const ONE: Scheduled = Scheduled::Move(1);
 
-/// The schedule of a connection's writes; and then the octets it has taken of a grant of four, the number moved, the number
-/// given back, and the end of the pump.
+/// The schedule of a connection's writes; and then the octets it has taken of a grant of four, the number moved, the
+/// number given back, and the end of the pump.
 type Download = (&'static [Scheduled], &'static [u8], u64, u64, PumpEnd);
 
 static DOWNLOADS: [Download; 5] = [
@@ -54,9 +54,9 @@ fn each_write_to_a_connection(rt: HostRuntime) {
     }
 }
 
-/// The schedule of a sink's writes, and grants; and then the octets that the sink has taken, the octets moved by each pump,
-/// the numbers moved and given back, and the end of the last pump. A CR at the end of a piece is held back, so it is not
-/// written then.
+/// The schedule of a sink's writes, and grants; and then the octets that the sink has taken, the octets moved by each
+/// pump, the numbers moved and given back, and the end of the last pump. A CR at the end of a piece is held back, so it
+/// is not written then.
 type Upload = (
     &'static [Scheduled],
     &'static [u64],

@@ -1,5 +1,5 @@
-//! Tests of books, grants and tallies, of text on the wire, of pumps, of transfers between data connections and the files
-//! of a store, and of ports and registries, by public calls alone.
+//! Tests of books, grants and tallies, of text on the wire, of pumps, of transfers between data connections and the
+//! files of a store, and of ports and registries, by public calls alone.
 #![tactic(auto)]
 
 #[cfg(test)]

@@ -1,4 +1,4 @@
-//! Registries of connections: worked rows, keys and counts. The checks of a registry are in a function that borrows
+//! Registries of connections: limits, keys and counts. The checks of a registry are in a function that borrows
 //! it, which is cheap to prove.
 
 use super::expect::holds;

@@ -124,8 +124,8 @@ fn filled<'h>(rt: &impl Abort, heap: &'h LocalHeap, count: u8) -> Registry<&'h L
 
 const NEW: [u8; 4] = [10, 0, 1, 0];
 
-// Returns whether an admission was refused to a registry with this many connections. If so, it is unchanged, and admits one
-// more.
+// Returns whether an admission was refused to a registry with this many connections. If so, it is unchanged, and admits
+// one more.
 fn is_refused<A: Allocator + Clone>(
     rt: &impl Abort,
     registry: &mut Registry<A>,

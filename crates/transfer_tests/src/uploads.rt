@@ -175,8 +175,8 @@ fn a_full_read(rt: HostRuntime) {
     expect_received(&rt, &row);
 }
 
-/// The schedules of the reads and writes of an upload of `abcdef`, with pumps of two octets; the octets of the sink, the
-/// first end of a pump other than `More`, and the number of pumps before it.
+/// The schedules of the reads and writes of an upload of `abcdef`, with pumps of two octets; the octets of the sink,
+/// the first end of a pump other than `More`, and the number of pumps before it.
 type Failure = (
     &'static [Scheduled],
     &'static [Scheduled],

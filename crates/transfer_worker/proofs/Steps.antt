@@ -4,16 +4,15 @@ use Rattle.std.specs.Prelude.{Option, replicate}
 use Rattle.std.proofs.lemmas.List.{replicate_more}
 use Rattle.std.proofs.lemmas.Grind.{flat_map-append}
 use Rattle.line_rates.specs.declared.ask.Ask.{Ask}
-use Rattle.grant_ledger.specs.Books.{TallyView, capped}
+use Rattle.grant_ledger.specs.Books.{TallyView}
 use Rattle.data_pump.specs.declared.pumped.Pumped.{Pumped}
 use Rattle.desk_rule.specs.declared.view.LaneView.{LaneView}
-use Rattle.desk_rule.specs.Lanes.{has_asked, has_taken}
+use Rattle.desk_rule.specs.Lanes.{has_asked}
 use Rattle.transfer_worker.specs.declared.end.JobEnd.{JobEnd}
 use Rattle.transfer_worker.specs.declared.gate.Go.TheVariants.{On, Later, Stop}
 use Rattle.transfer_worker.specs.Passes.{PassCall, pass_call, Passes, calls_until, leaves}
-use Rattle.transfer_worker.specs.Transfers.{Flow, Known, Pumps}
 use Rattle.transfer_worker.specs.Runs.{WorkerView, worker, Adds}
-use Rattle.transfer_worker.specs.Works.{WaitsInVain, Takes}
+use Rattle.transfer_worker.specs.Works.{WaitsInVain}
 use Rattle.transfer_worker.proofs.Adding.{passes_then, passes_are}
 
 abbrev pub Asked : Type 0

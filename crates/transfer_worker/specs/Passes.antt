@@ -22,7 +22,7 @@ abbrev pub calls_until : ℕ → ℕ → Go → ℕ → List PassCall
 calls_until session moved go laters =
     replicate laters (pass_call session moved Later) ++ pass_call session moved go ∷ []
 
--- the calls of a worker that was let on repeatedly, each time after that many answers Later
+-- the calls of a worker that may go on repeatedly, each time after this many answers Later
 abbrev pub leaves : ℕ → ℕ → List ℕ → List PassCall
 leaves session moved laters = flat_map (calls_until session moved On) laters
 

@@ -86,8 +86,8 @@ moves_of turns = map (λ t. t.pumped.moved) turns
 abbrev pub looks_of : List Turn → ℕ
 looks_of turns = sum_by (λ t. length t.between) turns
 
--- The further operations of a worker: it made these asks, took these amounts, found nothing that
--- often, moved these octets, and called its gate in this way. When it sat down and rose is defined
+-- The further operations of a worker: it made these asks, took these amounts, found nothing this
+-- many times, moved these octets, and called its gate in this way. Its sittings are defined
 -- elsewhere.
 pub record Adds (asks : List Ask) (taken : List ℕ) (looks : ℕ) (moves : List ℕ)
     (calls : List PassCall) (v w : WorkerView) : Type 0 where

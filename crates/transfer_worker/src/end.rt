@@ -16,7 +16,7 @@ pub enum JobEnd {
     Stopped,
 }
 
-/// Why a worker returned.
+/// The reason for which a worker returned.
 #[derive(Clone, Copy, Debug, PartialEq, Eq)]
 pub enum LoopEnd {
     /// A pop returned nothing.

@@ -51,7 +51,7 @@ where
     unreachable!()
 }
 
-/// Pumps the grant that answers the last ask, once it is there. Returns none if the gate says `Stop` before.
+/// Pumps the grant that answers the last ask, once it is there. `None` if the gate says `Stop` first.
 pub(crate) fn pump_next<R, K, C, A, G, W, N, D>(
     rt: &W,
     desk: &Desk<N, D>,

@@ -3,8 +3,8 @@
 use crossbeam_queue::protocol::{Lesson, Outcome, Protocol, Split};
 use std::collections::LinkedList;
 
-/// The operations of one pass: the jobs that it pushed and those that it popped, in order. Exists for contracts only; no
-/// value is ever made.
+/// The operations of one pass: the jobs that it pushed and those that it popped, in order. Exists for contracts only;
+/// no value is ever made.
 pub struct Hand<J> {
     pub pushed: LinkedList<J>,
     pub popped: LinkedList<J>,

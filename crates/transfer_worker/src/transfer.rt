@@ -1,6 +1,6 @@
 //! One job, from its opening to its end.
 
-ghost use Rattle.std.specs.Prelude.{◌≡◌, ℕ, true, false};
+ghost use Rattle.std.specs.Prelude.{◌≡◌, true, false};
 ghost use Rattle.data_pump.specs.declared.pumped.PumpEnd.TheVariants.{More};
 ghost use Rattle.desk_rule.specs.declared.view.SeatState.TheVariants.{Free};
 ghost use Rattle.lane_desk.specs.Seats.{seat_view, IsSeatOf, IsSameSeat};
@@ -22,8 +22,8 @@ use std::io::{Read, Write};
 use std::sync::Wait;
 use virtual_tree::{Sink, Source};
 
-/// Sits down, asks, takes and pumps until the transfer has ended, and rises. Returns true if the gate said `Stop`: a seat
-/// that had asked then keeps that state.
+/// Sits down, asks, takes and pumps until the transfer has ended, and rises. Returns true if the gate said `Stop`: a
+/// seat that had asked then keeps that state.
 fn run_transfer<R, K, C, A, G, W, N, D>(
     rt: &W,
     desk: &Desk<N, D>,
@@ -82,8 +82,8 @@ where
 }
 
 /// Opens one job and runs it to its end over a seat that is lent with its tally, as `worker_loop` runs each job that it
-/// pops. Returns true if the gate said `Stop`: the seat may then have asked, and keeps that state for the closing of the
-/// desk. For a job that cannot be opened, its end is reported and the seat does not sit down.
+/// pops. Returns true if the gate said `Stop`: the seat may then have asked, and keeps that state for the closing of
+/// the desk. For a job that cannot be opened, its end is reported and the seat does not sit down.
 pub fn run_job<R, K, C, A, G, W, N, D>(
     rt: &W,
     alloc: A,

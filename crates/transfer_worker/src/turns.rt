@@ -1,6 +1,6 @@
 //! One turn of a transfer: takes the grant that waits on its lane, and pumps it.
 
-ghost use Rattle.std.specs.Prelude.{◌≡◌, ◌+◌, ℕ, List, ◌++◌, Some, IfSome, IfNone, sum};
+ghost use Rattle.std.specs.Prelude.{◌≡◌, ◌+◌, ℕ, List, ◌++◌, Some, IfSome, IfNone};
 ghost use Rattle.desk_rule.specs.declared.view.SeatState.TheVariants.{Asked};
 ghost use Rattle.desk_rule.specs.Lanes.{has_looked};
 ghost use Rattle.lane_desk.specs.Seats.{seat_view, IsSeatOf, IsSameSeat};
@@ -16,8 +16,8 @@ use std::alloc::Allocator;
 use std::io::{Read, Write};
 use virtual_tree::{Sink, Source};
 
-/// Takes the grant that answers the ask, pumps it, and spends it. If there is none yet, returns `None` and changes only the
-/// seat's count of looks.
+/// Takes the grant that answers the ask, pumps it, and spends it. If there is none yet, returns `None` and changes only
+/// the seat's count of looks.
 pub fn turn_out<S: Source, K: Write + Drop, A: Allocator, N, D: Allocator>(
     desk: &Desk<N, D>,
     seat: &mut LaneSeat<N>,
@@ -46,8 +46,8 @@ pub fn turn_out<S: Source, K: Write + Drop, A: Allocator, N, D: Allocator>(
     }
 }
 
-/// Takes the grant that answers the ask, pumps it, and spends it. If there is none yet, returns `None` and changes only the
-/// seat's count of looks.
+/// Takes the grant that answers the ask, pumps it, and spends it. If there is none yet, returns `None` and changes only
+/// the seat's count of looks.
 pub fn turn_in<K: Read + Drop, T: Sink, A: Allocator, N, D: Allocator>(
     desk: &Desk<N, D>,
     seat: &mut LaneSeat<N>,

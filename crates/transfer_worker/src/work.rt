@@ -1,6 +1,6 @@
 //! The loop of a worker.
 
-ghost use Rattle.std.specs.Prelude.{◌≡◌, ℕ, List};
+ghost use Rattle.std.specs.Prelude.{◌≡◌};
 ghost use Rattle.desk_rule.specs.declared.view.SeatState.TheVariants.{Free};
 ghost use Rattle.transfer_worker.specs.Boards.{done_by, IsOfBoard, IsSameBoard};
 ghost use Rattle.transfer_worker.specs.Order.{ShowsHeld};
@@ -23,8 +23,8 @@ use virtual_tree::{Sink, Source};
 
 /// Pops jobs and runs each to its end, until a pop returns nothing or the gate says `Stop`.
 ///
-/// After `Stop` in the middle of a job the seat may have asked: it keeps that state for the closing of the desk. The only
-/// memory allocated is a buffer for each transfer; a job without memory for it ends as `Memory`.
+/// After `Stop` in the middle of a job the seat may have asked: it keeps that state for the closing of the desk. The
+/// only memory allocated is a buffer for each transfer; a job without memory for it ends as `Memory`.
 pub fn worker_loop<R, K, C, A, G, W, N, D, B>(
     rt: &W,
     alloc: A,

@@ -20,12 +20,12 @@ pub(crate) enum Making {
     Child(&'static str),
     /// The path of a text below this one.
     Joined(&'static str),
-    /// Of the root: the root.
+    /// The path without its last name; for the root, the root itself.
     Parent,
     Clone,
 }
 
-/// Of the root: the root.
+/// The path that a text names, from the root.
 pub(crate) fn path_of<A: Allocator + Copy>(rt: &impl Abort, alloc: A, text: &str) -> VPath<A> {
     VPath::root(alloc).resolve(alloc, text).expect(rt, text)
 }
@@ -63,14 +63,22 @@ static MADE: &[(&str, Making, &str)] = &[
     ("/home/ann", Making::Resolve("../../.."), "/"),
     ("/home/ann", Making::Resolve("/a/../b/."), "/b"),
     ("/home/ann", Making::Resolve("..."), "/home/ann/..."),
-    ("/", Making::Resolve("a\tb"), "a name holds a control octet"),
+    (
+        "/",
+        Making::Resolve("a\tb"),
+        "a name contains a control octet or is not a single name",
+    ),
     (
         "/",
         Making::Resolve("a\u{7f}"),
-        "a name holds a control octet",
+        "a name contains a control octet or is not a single name",
     ),
     ("/a", Making::Child("c"), "/a/c"),
-    ("/", Making::Child(".."), "a name holds a control octet"),
+    (
+        "/",
+        Making::Child(".."),
+        "a name contains a control octet or is not a single name",
+    ),
     ("/a", Making::Joined("/a/b"), "/a/a/b"),
     ("/a/b", Making::Clone, "/a/b"),
     ("/a/b", Making::Parent, "/a"),

@@ -44,7 +44,7 @@ is_long_name name = nat_lt LONGEST_NAME (length name)
 abbrev pub is_long : Path → Bool
 is_long path = nat_lt LONGEST_PATH (length (path_text path))
 
--- why a text is refused for any starting path
+-- the refusal of a text, whatever the starting path
 abbrev pub text_refusal : List ℕ → Result (Unit {0}) PathFault
 text_refusal text = cond (list_any is_control text) (Err BadName)
     (cond (list_any is_long_name (names_of text)) (Err TooLong) (Ok tt))
@@ -62,7 +62,7 @@ is_one_name name =
     not (bytes_eq name [] || bytes_eq name (codes ".") || bytes_eq name (codes "..")
     || list_any is_slash name || list_any is_control name)
 
--- whether a path may contain the name
+-- a path may contain the name
 abbrev pub is_name : List ℕ → Bool
 is_name name = is_one_name name && not (is_long_name name)
 

@@ -3,11 +3,11 @@
 use std::alloc::AllocError;
 use thiserror::Error;
 
-/// Why a text is not a path. They are checked in this order.
+/// The reason for which a text is not a path. Reasons are checked in this order.
 #[derive(Clone, Copy, Debug, PartialEq, Eq, Error)]
 pub enum PathFault {
-    /// A name contains an octet below 32, or 127.
-    #[error("a name holds a control octet")]
+    /// A name contains an octet below 32, or 127; or the text for `child` is not one name.
+    #[error("a name contains a control octet or is not a single name")]
     BadName,
     /// A name has more than 255 octets, or the path's text more than 4,096.
     #[error("a name or the path is too long")]

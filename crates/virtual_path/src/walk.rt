@@ -94,7 +94,7 @@ fn follow<A: Allocator>(text: &mut String<A>, name: &str) -> Result<(), AllocErr
 }
 
 /// Follows the names of `way`, one after another.
-pub fn walk<A: Allocator>(text: &mut String<A>, way: &str) -> Result<(), AllocError>
+pub(crate) fn walk<A: Allocator>(text: &mut String<A>, way: &str) -> Result<(), AllocError>
     ensures walks { OnOk result ((path : Path) → AllByRecursion HasNoSlash path
         → string_bytes text.old ≡ slashed path
         → string_bytes text.new ≡ slashed (fold through path (names_of way.now))) }

@@ -38,7 +38,7 @@ pub data Exchange (R K : Type 0) : Type 0 where
   RemoveFile : Path → Result (Unit {0}) StoreFault → Exchange R K
   Rename : Path → Path → Result (Unit {0}) StoreFault → Exchange R K
 
--- why the call was refused, if it was
+-- the reason for which the call was refused, if it was
 abbrev pub refusal : {R K : Type 0} → Exchange R K → Option StoreFault
 refusal (Stat path answer) = result_err answer
 refusal (Listing path answer) = result_err answer
@@ -62,13 +62,13 @@ names_of listed = map (λ entry. string_bytes entry.name) listed.items
 
 -- ---- the two ends of a file
 
--- the file that a sink writes to: its path, and how many of its first octets are kept before the
--- new ones
+-- the file that a sink writes to: its path, and the number of its first octets that are kept before
+-- the new ones
 pub record Target : Type 0 where
   pub path : Path
   pub kept : ℕ
 
--- why a source or sink refuses: if its octets are known, the device is not a reason
+-- the reason for which a source or sink refuses: if its octets are known, the device is none
 abbrev pub IsEndFault : Option (List ℕ) → StoreFault → Type 0
 IsEndFault known fault = (fault ≡ Memory) ⊎ ((fault ≡ Device) × (known ≡ None))
 

@@ -3,7 +3,8 @@
 use std::alloc::AllocError;
 use thiserror::Error;
 
-/// Why a store refuses a call. They are checked in this order.
+/// The reason for which a store refuses a call. Reasons are checked in this order, except that a rename of or to the
+/// root is `Inside` at once; `Device` and `Memory` can come at any time.
 #[derive(Clone, Copy, Debug, PartialEq, Eq, Error)]
 pub enum StoreFault {
     /// There is no entry at the path, or no directory above it.

@@ -5,7 +5,7 @@
 pub enum WriteMode {
     /// An empty file, which is created if there is none.
     New,
-    /// After the first octets, this many; the others are cut off.
+    /// After this number of octets; the others are cut off.
     At(u64),
     /// After all octets of the file, which is created if there is none.
     Append,

@@ -37,7 +37,7 @@ pub trait Sink: Drop {
     /// The octets received so far, if they are known.
     ghost collected: { Self → Option (List ℕ) };
 
-    /// The file that they go to, and how many of its octets are kept before them, if these are known.
+    /// The file that they go to, and the number of its octets that are kept before them, if these are known.
     ghost target: { Self → Option Target };
 
     /// Takes all of these octets. Success or failure, the target stays the same.

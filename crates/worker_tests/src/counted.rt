@@ -6,8 +6,7 @@ use std::io;
 use std::io::{ErrorKind, Read, Write};
 use virtual_tree::{Sink, Source, StoreFault};
 
-/// It returns as much as it has left and fits, takes everything, and fails once this many calls
-/// were made.
+/// Returns as many octets as are left and fit, takes everything, and fails once this many calls were made.
 #[derive(Clone, Copy)]
 pub(crate) struct End {
     /// The octets that it still returns.

@@ -1,6 +1,6 @@
 //! Files, sinks and connections in memory that check themselves whether they got the expected octets.
 
-ghost use Rattle.std.specs.Prelude.{◌≡◌, ◌≤◌, length};
+ghost use Rattle.std.specs.Prelude.{◌≤◌, length};
 
 use std::io;
 use std::io::{ErrorKind, Read, Write};

@@ -92,7 +92,7 @@ impl<B: PartsName> House<B> {
     }
 }
 
-/// The gate of a worker. It gives leave this many times, then says `Stop`, and records the last end reported.
+/// The gate of a worker. It says `Stop` after `passes` other answers, and records the last end reported.
 #[derive(Drop)]
 pub(crate) struct Keeper<'h, B: PartsName> {
     house: &'h House<B>,

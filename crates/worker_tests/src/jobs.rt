@@ -20,11 +20,11 @@ use transfer_worker::{BoardPass, JobBoard, JobEnd, LaneJob, LoopEnd, open_board,
 /// More calls than an end gets.
 const ALL: usize = 100;
 
-/// More leave than a transfer needs.
+/// More answers of the gate than a transfer needs.
 const LEAVE: u64 = 100;
 
-/// The octets of a file, the calls before it fails, those before the connection fails, and the number of leaves of the
-/// gate; and the end of the download, and the octets moved until then.
+/// The octets of a file, the calls before it fails, those before the connection fails, and the answers of the gate
+/// before `Stop`; and the end of the download, and the octets moved until then.
 type Download = (usize, usize, usize, u64, JobEnd, u64);
 
 static DOWNLOADS: [Download; 12] = [
@@ -39,14 +39,14 @@ static DOWNLOADS: [Download; 12] = [
     (140_000, ALL, 0, LEAVE, JobEnd::WriteFault, 0),
     (140_000, ALL, 1, LEAVE, JobEnd::WriteFault, 65_536),
     (140_000, ALL, 2, LEAVE, JobEnd::WriteFault, 131_072),
-    // no leave to ask, initially and later
+    // a gate that says Stop, initially and later
     (140_000, ALL, ALL, 0, JobEnd::Stopped, 0),
     (140_000, ALL, ALL, 2, JobEnd::Stopped, 65_536),
     (140_000, ALL, ALL, 4, JobEnd::Stopped, 131_072),
 ];
 
-/// The octets of a connection, the calls before it fails, those before the sink fails, and the number of leaves of the
-/// gate; and the end of the upload, the octets moved, and those that the sink took.
+/// The octets of a connection, the calls before it fails, those before the sink fails, and the answers of the gate
+/// before `Stop`; and the end of the upload, the octets moved, and those that the sink took.
 type Upload = (usize, usize, usize, u64, JobEnd, u64, usize);
 
 static UPLOADS: [Upload; 11] = [
@@ -61,7 +61,7 @@ static UPLOADS: [Upload; 11] = [
     (140_000, ALL, 0, LEAVE, JobEnd::WriteFault, 65_536, 0),
     (140_000, ALL, 1, LEAVE, JobEnd::WriteFault, 131_072, 65_536),
     (140_000, ALL, 2, LEAVE, JobEnd::WriteFault, 140_000, 131_072),
-    // no leave to ask, initially and later
+    // a gate that says Stop, initially and later
     (140_000, ALL, ALL, 0, JobEnd::Stopped, 0, 0),
     (140_000, ALL, ALL, 2, JobEnd::Stopped, 65_536, 65_536),
 ];

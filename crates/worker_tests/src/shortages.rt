@@ -1,6 +1,5 @@
 //! Each growth of each call refused in turn: the call passes once there is memory.
 
-ghost use Rattle.std.specs.Prelude.{◌≡◌};
 ghost use Rattle.transfer_worker.specs.Boards.{IsOfBoard, IsSameBoard};
 
 use super::counted::End;
@@ -48,7 +47,7 @@ fn boards_open_once_there_is_memory(rt: HostRuntime) -> Result<(), Fail> {
     Ok(())
 }
 
-/// A gate that never gives leave.
+/// A gate that always says `Stop`.
 #[derive(Drop)]
 struct Shut {
     last: Go,
@@ -78,8 +77,8 @@ impl<Q: Remnant> Gate<Q> for Shut {
     }
 }
 
-/// The direction of a job, its type, room in octets, and whether it is enough for its buffers. Under TYPE A there are two,
-/// the smaller one first.
+/// The direction of a job, its type, room in octets, and whether it is enough for its buffers. Under TYPE A there are
+/// two, the smaller one first.
 type Buffers = (Way, DataType, usize, bool);
 
 static BUFFERS: [Buffers; 10] = [

@@ -168,7 +168,6 @@ fn hand_of<B: PartsName>(worker: LentWorker<B, OfTest>, pass: BoardPass<Job>) ->
     }
 }
 
-// Both hands.
 fn both<B: PartsName>(
     rt: &(impl Abort + AllocGlobal),
     first: Hand<B>,

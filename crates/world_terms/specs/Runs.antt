@@ -47,7 +47,7 @@ pub record IsRunOfSome (rates : Rates) (start : World) (events : List Event)
   pub replies : List (Result EventAnswer StepFault)
   pub run : IsRun rates start (take done events) replies end
 
--- the value of an event that is not refused; none otherwise
+-- the value for an event that is not refused; otherwise `none`
 abbrev pub if_ok : {X : Type 0} → Result EventAnswer StepFault → X → (EventAnswer → X) → X
 if_ok (Ok a) none f = f a
 if_ok (Err fault) none f = none
@@ -68,7 +68,7 @@ abbrev pub last_ask : ℕ → List Occasion → Option Ask
 last_ask i [] = None
 last_ask i (x ∷ past) = or_else (if_ok x.reply None (λ a. ask_by i x.event)) (last_ask i past)
 
--- whether an event with this answer exchanges the word of its lane
+-- an event with this answer exchanges the word of its lane
 abbrev pub is_exchange : Event → EventAnswer → Bool
 is_exchange (event.Decide m) a = false
 is_exchange (event.Moved i n) a = false

@@ -3,8 +3,8 @@
 use std::alloc::AllocError;
 use thiserror::Error;
 
-/// Why an event is refused; it then changes nothing. `NoLane` is checked first, then `WrongState`; for a decision then
-/// `NotYet`, `TooMuch`, `FloorsOver`, `Memory` and `BookFull`.
+/// The reason for which an event is refused; it then changes nothing. `NoLane` is checked first, then `WrongState`; for
+/// a decision then `NotYet`, `TooMuch`, `FloorsOver` or `Memory`, and `BookFull`.
 #[derive(Clone, Copy, Debug, PartialEq, Eq, Error)]
 pub enum StepFault {
     /// The event is not possible in the lane's state, or not all decided amounts are posted.
@@ -16,7 +16,7 @@ pub enum StepFault {
     /// More is moved than is in hand, or an ask wants more than the largest want.
     #[error("TooMuch")]
     TooMuch,
-    /// The tick is not above that of the last decision, which is included.
+    /// The tick is not above that of the last decision, which the variant contains.
     #[error("NotYet")]
     NotYet(u64),
     /// The octets issued would exceed the most that one book issues.

@@ -1,5 +1,5 @@
-//! Tests of the core of sharing that no stored run shows: a whole run with its replies, and memory that is refused at each
-//! growth in turn.
+//! Tests of the core of sharing that no stored run shows: a whole run with its replies, and memory that is refused at
+//! each growth in turn.
 #![tactic(auto)]
 
 #[cfg(test)]

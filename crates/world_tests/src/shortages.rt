@@ -20,8 +20,8 @@ fn steps<'h>(rt: &impl Abort, world: &mut World<&'h LocalHeap>, from: usize) -> 
     EVENTS.len()
 }
 
-// Returns whether a world has memory for all events beside one hole of some octets. If memory is refused, it is available
-// again for that event, and the world ends as one that never lacked any.
+// Returns whether a world has memory for all events beside one hole of some octets. If memory is refused, it is
+// available again for that event, and the world ends as one that never lacked any.
 fn has_memory(rt: &(impl Abort + AllocGlobal), room: usize) -> bool {
     let heap = LocalHeap::new(rt.alloc(), HEAP).expect(rt, "a heap");
     let mut world = two_lanes(rt, &heap, &heap, &heap);
@@ -74,7 +74,7 @@ fn runs_on(rt: &(impl Abort + AllocGlobal), room: usize) -> bool {
 
 #[test]
 fn each_growth(rt: HostRuntime) {
-    // Room rises by less than the smallest growth, so each growth is refused first once.
+    // Room rises by less than the smallest growth, so each growth in turn is the first to be refused.
     for step in 0..256usize {
         let room = 16 * step;
         let answers = [has_memory(&rt, room), runs(&rt, room), runs_on(&rt, room)];

@@ -1,9 +1,8 @@
-use Rattle.std.proofs.Common.{ℕ, ◌≡◌, List, [], ◌++◌, Option, refl, sym, ap, subst, append_assoc}
+use Rattle.std.proofs.Common.{List, [], ◌++◌, refl, sym, subst, append_assoc}
 use Rattle.std.proofs.lemmas.List.{append-nil}
 use Rattle.std.specs.Vec.Iter.{into_iter_items}
 use Rattle.control_session.specs.Calls.{HostCall}
 use Rattle.control_session.specs.Turns.{Carries}
-use Rattle.control_session.specs.declared.turn_fault.TurnFault.{TurnFault}
 use Rattle.session_table.specs.declared.actions.Action.{Action}
 use Rattle.control_session.proofs.Going.{carries_step, chain_more}
 use Rattle.control_session.proofs.carrying.carry_all.Goals as goal

@@ -1,4 +1,4 @@
-use Rattle.std.proofs.Common.{ℕ, ◌≡◌, ◌++◌, List, Option, length}
+use Rattle.std.proofs.Common.{◌++◌, List, Option, length}
 use Rattle.std.specs.Vec.Iter.{into_iter_items}
 use Rattle.control_session.specs.Calls.{Chain, HostCall}
 use Rattle.control_session.specs.Turns.{Carries}

@@ -1,4 +1,4 @@
-use Rattle.std.proofs.Common.{ℕ, ◌≡◌, List, subst}
+use Rattle.std.proofs.Common.{List, subst}
 use Rattle.session_table.specs.Laws.{releases}
 use Rattle.session_table.specs.declared.actions.Action.{Action}
 use Rattle.control_session.specs.Calls.{Chain}

@@ -1,4 +1,4 @@
-use Rattle.std.proofs.Common.{ℕ, ◌≡◌, List, arith}
+use Rattle.std.proofs.Common.{arith}
 use Rattle.control_session.proofs.Going.{releases_step}
 use Rattle.control_session.proofs.carrying.release_all.Goals as goal
 

@@ -1,4 +1,4 @@
-use Rattle.std.proofs.Common.{ℕ, ◌≡◌, List, [], ◌∷◌, Bool, refl, sym, subst}
+use Rattle.std.proofs.Common.{[], ◌∷◌, Bool, refl, sym, subst}
 use Rattle.control_session.specs.Sides.SideCall.{Aborts}
 use Rattle.session_events.specs.Leaving.{abort_actions}
 use Rattle.control_session.specs.Calls.HostCall.{Asked}

@@ -1,4 +1,4 @@
-use Rattle.std.proofs.Common.{ℕ, ◌≡◌, List, true}
+use Rattle.std.proofs.Common.{true}
 use Rattle.control_session.specs.Standing.{owed}
 use Rattle.control_session.specs.Turns.{asked_as}
 use Rattle.control_session.proofs.Going.{went_more}

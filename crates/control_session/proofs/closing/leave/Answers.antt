@@ -1,4 +1,4 @@
-use Rattle.std.proofs.Common.{ℕ, ◌≡◌, List, [], ◌∷◌, ◌++◌, Option, refl, sym, subst}
+use Rattle.std.proofs.Common.{[], ◌∷◌, ◌++◌, Option, refl, sym, subst}
 use Rattle.handler_hooks.specs.Events.Event.{Disconnected}
 use Rattle.session_events.specs.Leaving.{leaving_by}
 use Rattle.session_events.specs.declared.closing.Leaving.{Leaving}

@@ -1,4 +1,4 @@
-use Rattle.std.proofs.Common.{ℕ, ◌≡◌, List, [], ◌∷◌, Option, refl, sym, subst}
+use Rattle.std.proofs.Common.{[], ◌∷◌, Option, refl, sym, subst}
 use Rattle.handler_hooks.specs.Events.Event.{LoggedOut as logged_out}
 use Rattle.session_events.specs.Leaving.{logout_actions}
 use Rattle.session_events.specs.declared.closing.LoggedOut.{LoggedOut}

@@ -1,4 +1,4 @@
-use Rattle.std.proofs.Common.{ℕ, ◌≡◌, ◌⊎◌, List, [], length, None, true, false}
+use Rattle.std.proofs.Common.{◌≡◌, ◌⊎◌, List, [], length, None, true, false}
 use Rattle.ftp_wire.specs.Items.{Item}
 use Rattle.ftp_wire.specs.Reading.{HasRead}
 use Rattle.control_session.specs.Rows.{IsRow}

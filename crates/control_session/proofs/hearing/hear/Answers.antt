@@ -1,10 +1,8 @@
-use Rattle.std.proofs.Common.{ℕ, ◌≡◌, ◌+◌, ◌∙◌, inl, inr, List, [], ◌++◌, Bool, true, false, take, refl, sym, ap, subst}
+use Rattle.std.proofs.Common.{ℕ, ◌+◌, ◌∙◌, inl, inr, List, [], ◌++◌, true, false, take, refl, sym, ap, subst}
 use Rattle.std.proofs.lemmas.List.{append-nil}
-use Rattle.control_session.specs.Calls.{piece_call}
-use Rattle.control_session.specs.declared.host.Piece.{Piece}
 use Rattle.control_session.specs.declared.host.Piece.TheVariants.{Octets, Nothing, AtEnd}
-use Rattle.control_session.specs.Turns.{Heard, asked_as}
-use Rattle.control_session.proofs.Going.{heard_as, of_err, or_false, went_more}
+use Rattle.control_session.specs.Turns.{asked_as}
+use Rattle.control_session.proofs.Going.{heard_as, of_err, went_more}
 use Rattle.control_session.proofs.Turning.{ends_went, fails_went, reads_went}
 use Rattle.ftp_wire.specs.Items.{Item}
 use Rattle.ftp_wire.specs.Reading.{HasRead, items_of}

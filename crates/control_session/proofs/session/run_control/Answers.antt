@@ -1,4 +1,4 @@
-use Rattle.std.proofs.Common.{◌≡◌, inl, inr, refl, sym, ap, subst}
+use Rattle.std.proofs.Common.{inl, inr, refl, ap, subst}
 use Rattle.control_session.specs.Rows.{IsRow}
 use Rattle.session_table.specs.Laws.{logged_in}
 use Rattle.session_table.specs.Steps.{Standing}

@@ -1,7 +1,7 @@
-use Rattle.std.proofs.Common.{ℕ, ◌≡◌, [], None, refl, true}
+use Rattle.std.proofs.Common.{[], None, refl, true}
 use Rattle.control_session.specs.Standing.{stand}
 use Rattle.control_session.specs.Turns.{asked_as, at}
-use Rattle.control_session.proofs.Going.{on_ok_to, went_more}
+use Rattle.control_session.proofs.Going.{on_ok_to}
 use Rattle.control_session.proofs.Listening.{on_err_to}
 use Rattle.control_session.proofs.session.run_session.Goals as goal
 

@@ -1,4 +1,4 @@
-use Rattle.std.proofs.Common.{ℕ, ◌≡◌, ◌∙◌, List, OnOk, refl, sym, true}
+use Rattle.std.proofs.Common.{◌≡◌, ◌∙◌, List, OnOk, refl, sym, true}
 use Rattle.ftp_wire.specs.Items.{Item}
 use Rattle.control_session.specs.Turns.{asked_as}
 use Rattle.control_session.proofs.Going.{off_ok, went_more}

@@ -1,4 +1,4 @@
-use Rattle.std.proofs.Common.{ℕ, ◌≡◌, List, None, length, true}
+use Rattle.std.proofs.Common.{◌≡◌, List, None, length, true}
 use Rattle.ftp_wire.specs.Items.{Item}
 use Rattle.control_session.specs.Rows.{IsRow}
 use Rattle.control_session.specs.Standing.{stand}

@@ -1,4 +1,4 @@
-use Rattle.std.proofs.Common.{ℕ, ◌≡◌, List, [], OnOk, Some, refl, true}
+use Rattle.std.proofs.Common.{◌≡◌, List, [], OnOk, Some, refl, true}
 use Rattle.ftp_wire.specs.Items.{Item}
 use Rattle.control_session.specs.Turns.{asked_as, at}
 use Rattle.control_session.proofs.Turning.{came_next, event_given, looked_none, looked_some}

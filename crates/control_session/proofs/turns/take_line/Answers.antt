@@ -1,4 +1,4 @@
-use Rattle.std.proofs.Common.{ℕ, ◌≡◌, List, [], ◌∷◌, ◌++◌, refl}
+use Rattle.std.proofs.Common.{[], ◌∷◌, ◌++◌, refl}
 use Rattle.control_session.specs.Turns.{asked_as}
 use Rattle.ftp_wire.specs.Reading.{item_of}
 use Rattle.control_session.proofs.Going.{both_ok, off_ok, went_more}

@@ -1,4 +1,4 @@
-use Rattle.std.proofs.Common.{ℕ, ◌≡◌, ◌++◌, List, None, false, length, true}
+use Rattle.std.proofs.Common.{◌≡◌, ◌++◌, List, None, false, length, true}
 use Rattle.std.specs.Vec.Iter.{into_iter_items}
 use Rattle.ftp_wire.specs.Items.{Item}
 use Rattle.ftp_wire.specs.Reading.{items_of}

@@ -1,4 +1,4 @@
-use Rattle.std.proofs.Common.{ℕ, ◌≡◌, inl, inr, List, refl}
+use Rattle.std.proofs.Common.{inl, inr, refl}
 use Rattle.control_session.specs.Sides.{given_of}
 use Rattle.control_session.specs.Turns.{behind}
 use Rattle.control_session.proofs.Going.{any_ok}

@@ -1,4 +1,4 @@
-use Rattle.std.proofs.Common.{◌≡◌, ℕ, subst}
+use Rattle.std.proofs.Common.{ℕ, subst}
 use Rattle.atomic_table.specs.Seated.{TableId}
 use Rattle.lane_desk.specs.Open.{AreFresh}
 use Rattle.lane_desk.specs.Seats.{desk_id}

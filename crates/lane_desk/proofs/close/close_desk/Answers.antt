@@ -1,9 +1,9 @@
-use Rattle.std.proofs.Common.{rules, ◌≡◌, ◌≤◌, ◌<◌, ◌+◌, ℕ, [], ◌∷◌, ◌++◌, ap, refl, ◌∙◌, sym, subst, arith, get_or, length, length-append, append-nil, append_assoc}
+use Rattle.std.proofs.Common.{rules, ◌≡◌, ◌+◌, ℕ, [], ◌∷◌, ◌++◌, ap, refl, ◌∙◌, sym, subst, arith, get_or, length, append-nil, append_assoc}
 use Rattle.grant_ledger.specs.Books.{capped}
 use Rattle.desk_rule.specs.Lanes.{unturned}
 use Rattle.lane_desk.specs.Turns.{turns, back}
-use Rattle.lane_desk.specs.AllLanes.{AllClosed, taken_in_all, taken_by_all}
-use Rattle.lane_desk.proofs.AllLanes.{all_more, all_settled, taken_most, taken_more, next_seat, empty_of, none_at, capped_more, capped_none}
+use Rattle.lane_desk.specs.AllLanes.{AllClosed, taken_in_all}
+use Rattle.lane_desk.proofs.AllLanes.{all_more, all_settled, taken_more, next_seat, empty_of, none_at, capped_more, capped_none}
 use Rattle.lane_desk.proofs.close.close_desk.Goals as goal
 
 pub close_lane-requires-clause-seat : goal.close_lane-requires-clause-seat

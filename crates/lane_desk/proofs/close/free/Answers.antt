@@ -1,6 +1,5 @@
-use Rattle.std.proofs.Common.{ap, ◌∙◌, sym, subst, ◌≡◌}
+use Rattle.std.proofs.Common.{ap, ◌∙◌, sym, subst}
 use lib.ListN.{get_elem?}
-use mathlib.Core.Option.{some}
 use Rattle.std.specs.Mem.Slots.{slots_items}
 use Rattle.atomic_table.specs.Table.{Final, Seen}
 use Rattle.desk_rule.specs.Lanes.{Kept}

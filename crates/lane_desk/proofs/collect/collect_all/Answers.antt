@@ -1,4 +1,4 @@
-use Rattle.std.proofs.Common.{rules, ◌≡◌, ◌<◌, ◌≤◌, List, Option, Some, None, ℕ, ◌+◌, ◌^◌, length, [], ◌∷◌, ◌++◌, ap, ◌∙◌, sym, arith, length-append}
+use Rattle.std.proofs.Common.{◌<◌, List, Some, None, ◌+◌, length, [], ◌∷◌, ◌++◌, ap, ◌∙◌, sym, arith, length-append}
 use Rattle.std.specs.Int.{bit_at}
 use Rattle.line_rates.specs.TickTree.{Asker}
 use Rattle.lane_desk.specs.Turns.{turns}

@@ -1,6 +1,6 @@
 use Rattle.std.proofs.Common.{rules, ap, ◌∙◌, sym, subst, ◌∷◌, ◌<◌}
 use Rattle.atomic_table.specs.Table.{rest}
-use Rattle.desk_rule.specs.declared.view.LaneSlot.TheVariants.{Blank, WithGrant}
+use Rattle.desk_rule.specs.declared.view.LaneSlot.TheVariants.{WithGrant}
 use Rattle.desk_rule.proofs.Keeps.{takes_grant}
 use Rattle.lane_desk.proofs.Taking.{owns_round, taken_front, rises_of, rises_then, same_grant, took_back}
 use Rattle.lane_desk.proofs.gather.take_back.Goals as goal

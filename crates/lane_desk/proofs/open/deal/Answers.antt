@@ -1,4 +1,4 @@
-use Rattle.std.proofs.Common.{rules, ◌≡◌, ap, ◌∙◌, sym, arith, subst, ◌+◌}
+use Rattle.std.proofs.Common.{rules, ap, ◌∙◌, sym, subst, ◌+◌}
 use Rattle.desk_rule.specs.Lanes.{lane_in, dealer_after, dealt_to}
 use Rattle.lane_desk.specs.Open.{AreFresh}
 use Rattle.lane_desk.proofs.Opening.{deals_of, fresh_more}

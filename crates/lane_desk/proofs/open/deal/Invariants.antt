@@ -1,4 +1,4 @@
-use Rattle.std.proofs.Common.{◌≡◌, ◌≤◌, [], length}
+use Rattle.std.proofs.Common.{◌≡◌, ◌≤◌, []}
 use Rattle.std.specs.Prelude.{vec_len, vec_capacity}
 use Rattle.desk_rule.specs.declared.view.DeskView.TheVariants.{Round}
 use Rattle.lane_desk.specs.Begun.{dealt_round}

@@ -1,4 +1,4 @@
-use Rattle.std.proofs.Common.{rules, ◌≡◌, ℕ, ◌≤◌, ap, ◌∙◌, sym, arith, replicate}
+use Rattle.std.proofs.Common.{rules, ℕ, ◌≤◌, ◌∙◌, arith}
 use Rattle.lane_desk.proofs.Opening.{opens_with, begun}
 use Rattle.lane_desk.proofs.open.open_desk.Goals as goal
 use Rattle.lane_desk.proofs.open.open_desk.Goals.{then-lanes-eq0, else-lanes-eq0}

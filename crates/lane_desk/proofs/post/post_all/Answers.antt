@@ -1,8 +1,8 @@
-use Rattle.std.proofs.Common.{rules, ◌≡◌, ◌+◌, ◌<◌, ◌≤◌, length, sum, ℕ, ◌-◌, List, drop, get_or, set, ap, ◌∙◌, sym, arith}
+use Rattle.std.proofs.Common.{rules, ◌≡◌, ◌<◌, length, ℕ, ◌-◌, get_or, set, ap, ◌∙◌, arith}
 use Rattle.grant_ledger.specs.Books.{PurseView, GrantView}
-use Rattle.desk_rule.specs.Lanes.{posted_in, has_posted}
+use Rattle.desk_rule.specs.Lanes.{has_posted}
 use Rattle.lane_desk.specs.Turns.{turns}
-use Rattle.lane_desk.specs.Posted.{turn_at, posted_all, AreDue}
+use Rattle.lane_desk.specs.Posted.{turn_at}
 use Rattle.lane_desk.proofs.PostedLemmas.{due_here, due_next, rest_next, sum_next, posted_next}
 use Rattle.lane_desk.proofs.post.post_all.Goals as goal
 

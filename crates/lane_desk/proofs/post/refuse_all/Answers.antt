@@ -1,6 +1,5 @@
-use Rattle.std.proofs.Common.{rules, ◌≡◌, ◌+◌, ◌<◌, ◌≤◌, length, ℕ, ap, ◌∙◌, sym, arith}
+use Rattle.std.proofs.Common.{◌≡◌, ap, ◌∙◌, arith}
 use Rattle.grant_ledger.specs.Books.{GrantView}
-use Rattle.desk_rule.specs.Lanes.{posted_in}
 use Rattle.lane_desk.specs.Turns.{turns}
 use Rattle.lane_desk.proofs.PostedLemmas.{refuse_step}
 use Rattle.lane_desk.proofs.post.refuse_all.Goals as goal

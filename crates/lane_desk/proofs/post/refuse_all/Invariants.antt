@@ -1,4 +1,4 @@
-use Rattle.std.proofs.Common.{◌≡◌, ◌+◌, ◌≤◌, drop, map}
+use Rattle.std.proofs.Common.{◌≡◌, ◌≤◌, drop, map}
 use Rattle.line_rates.specs.TickTree.{lane_in}
 use Rattle.desk_rule.specs.Lanes.{posted_in, most}
 use Rattle.lane_desk.specs.Turns.{turns, IsSameRound}

@@ -1,10 +1,9 @@
-use Rattle.std.proofs.Common.{rules, ◌≡◌, ◌≤◌, ◌<◌, ◌+◌, ℕ, [], ◌∷◌, ◌++◌, ap, ◌∙◌, sym, subst, arith, get_or, length, length-append, append_assoc, sum, reverse, refl}
+use Rattle.std.proofs.Common.{◌≡◌, ◌≤◌, ◌<◌, ◌+◌, ℕ, [], ◌∷◌, ◌++◌, ap, ◌∙◌, sym, subst, arith, get_or, length, length-append, append_assoc, sum, reverse, refl}
 use Rattle.std.proofs.lemmas.Grind.{common_steps}
 use Rattle.desk_rule.specs.Lanes.{unturned, posted_in}
 use Rattle.lane_desk.specs.Turns.{turns, back}
 use Rattle.lane_desk.specs.Seats.{desk_id, seat_view}
 use Rattle.lane_desk.specs.AllLanes.{taken_in_all}
-use Rattle.lane_desk.specs.Workers.{moved_by_all}
 use Rattle.lane_desk.proofs.AllLanes.{taken_most}
 use Rattle.lane_desk.proofs.Sums.{settled_more, posted_still, taken_all, taken_plus, taken_sum, moved_plus, next_order, next_worker}
 use Rattle.lane_desk.proofs.settlement.settle_all.Goals as goal

@@ -1,8 +1,8 @@
 use Rattle.std.proofs.Common.{rules}
 use Rattle.std.proofs.lemmas.List.Sorted.{answers_always}
 use Rattle.rate_floors.specs.Promises.{user_key}
-use Rattle.rate_floors.proofs.PlaceLemmas.{at_place, at_none}
 use Rattle.rate_floors.proofs.find.find_user.Goals as goal
+use Rattle.line_rates.proofs.PutLemmas.{at_place, at_none}
 
 pub returns-in-Ok : goal.returns-in-Ok
 returns-in-Ok c = record {

@@ -1,8 +1,8 @@
 use Rattle.std.proofs.Common.{rules}
 use Rattle.std.proofs.lemmas.List.Sorted.{answers_always}
 use Rattle.round_pace.specs.Paced.{group_key}
-use Rattle.round_pace.proofs.Places.{at_place, at_none}
 use Rattle.round_pace.proofs.paced.find_group.Goals as goal
+use Rattle.line_rates.proofs.PutLemmas.{at_place, at_none}
 
 pub returns-in-Ok : goal.returns-in-Ok
 returns-in-Ok c = record {

@@ -1,4 +1,4 @@
-use Rattle.std.proofs.Common.{List, ap, sym, subst, ℕ}
+use Rattle.std.proofs.Common.{List, sym, subst, ℕ}
 use Rattle.ftp_wire.specs.Reading.{item_of}
 use Rattle.session_core.specs.Rows.{rule_by}
 use Rattle.session_table.specs.Plans.{Ran, Stops}

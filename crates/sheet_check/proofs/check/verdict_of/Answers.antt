@@ -1,4 +1,4 @@
-use Rattle.std.proofs.Common.{◌≡◌, ◌∙◌, List, ℕ, Option, Some, sym, ap, subst}
+use Rattle.std.proofs.Common.{◌≡◌, ◌∙◌, List, ℕ, Option, sym, ap, subst}
 use Rattle.limit_tree.specs.declared.place.Place.{Place}
 use Rattle.limit_tree.specs.Outline.{limits}
 use Rattle.grant_certificate.specs.Flaws.{IsVerdict, IsFirstFlaw}

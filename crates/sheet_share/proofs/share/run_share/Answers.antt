@@ -1,6 +1,4 @@
-use Rattle.std.proofs.Common.{◌≡◌, ◌∙◌, List, ℕ, Some, Err, length, sym, ap, subst, arith}
-use Rattle.text_io.specs.declared.fault.TextFault.{TextFault}
-use Rattle.text_io.specs.declared.fault.TextFault.TheVariants.{ReadFault, TooLong, WriteFault}
+use Rattle.std.proofs.Common.{◌≡◌, ◌∙◌, List, ℕ, Some, length, sym, ap, subst, arith}
 use Rattle.text_io.specs.declared.read.TheConstants.{MAX_TEXT}
 use Rattle.text_io.proofs.Told.{told_as}
 use Rattle.text_io.proofs.Reading.{read_whole_text, read_text_of, read_whole_few}
@@ -8,7 +6,7 @@ use Rattle.sheet_text.specs.Sheet.{sheet_fault}
 use Rattle.sheet_text.specs.declared.fault.SheetFault.TheVariants.{Memory as NoSheetMemory}
 use Rattle.sheet_share.specs.Faults.{of_sheet}
 use Rattle.sheet_share.specs.Sharing.{IsSharingOf}
-use Rattle.sheet_share.specs.declared.fault.ShareFault.TheVariants.{Sheet, Text}
+use Rattle.sheet_share.specs.declared.fault.ShareFault.TheVariants.{Sheet}
 use Rattle.sheet_share.proofs.Faults.{sheet_told}
 use Rattle.sheet_share.proofs.share.run_share.Goals as goal
 

@@ -1,6 +1,6 @@
-use Rattle.std.proofs.Common.{rules, ap, ◌∙◌, sym, ◌≡◌, ◌∷◌, [], refl, arith, ℕ, suc, ◌+◌, ◌-◌, ◌<◌, true, subst}
+use Rattle.std.proofs.Common.{rules, ap, ◌∙◌, sym, ◌∷◌, arith, ℕ, ◌+◌, ◌-◌, ◌<◌, true}
 use Rattle.atomic_table.specs.Table.{rest}
-use Rattle.desk_rule.specs.declared.view.LaneSlot.TheVariants.{Blank, WithAsk}
+use Rattle.desk_rule.specs.declared.view.LaneSlot.TheVariants.{WithAsk}
 use Rattle.desk_rule.specs.Lanes.{has_collected, turn_in}
 use Rattle.lane_desk.specs.Held.{stack}
 use Rattle.lane_desk.proofs.RoundCalls.{all_in, collects_of, collected_front, knows_after, knows_missed}

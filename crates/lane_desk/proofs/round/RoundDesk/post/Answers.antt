@@ -1,5 +1,4 @@
-use Rattle.std.proofs.Common.{rules, ap, ◌∙◌, sym, ◌≡◌, ◌∷◌, [], refl, arith, ℕ, suc, ◌+◌, ◌-◌, ◌<◌, true, false, subst, set}
-use Rattle.desk_rule.specs.declared.view.LaneSlot.TheVariants.{Blank, WithGrant}
+use Rattle.std.proofs.Common.{rules, ap, ◌∙◌, refl, arith, ℕ, ◌+◌, ◌-◌, ◌<◌, false, set}
 use Rattle.desk_rule.specs.Lanes.{has_posted, turn_in}
 use Rattle.lane_desk.specs.Held.{stack, round_in, is_due}
 use Rattle.lane_desk.proofs.RoundCalls.{all_in, posting_front, posts_front, posts_then, left_slot, knows_after, posted_not_due, turn_is, round_after}

@@ -1,10 +1,9 @@
-use Rattle.std.proofs.Common.{rules, ◌≡◌, ◌+◌, ◌/◌, ◌<◌, ◌≤◌, sum, ℕ, List, length, map, ap, ◌∙◌, sym, subst, arith}
+use Rattle.std.proofs.Common.{◌≡◌, ◌/◌, sum, ℕ, List, map, ap, ◌∙◌, sym, subst, arith}
 use Rattle.limit_tree.specs.Outline.{limits as seen}
 use Rattle.line_rates.specs.TickTree.{Asker, lane_in, IsPlan}
 use Rattle.lane_desk.specs.Refusals.{IsRefused}
-use Rattle.desk_rule.specs.Lanes.{posted_in}
 use Rattle.lane_desk.specs.Turns.{turns}
-use Rattle.lane_desk.specs.Posted.{AreDue, AllAnswered, posted_all, nothing_for}
+use Rattle.lane_desk.specs.Posted.{AreDue, posted_all, nothing_for}
 use Rattle.lane_desk.specs.Rounded.{IsRound, IsRefusedRound}
 use Rattle.lane_desk.proofs.RoundLemmas.{due_plan, due_asks, posted_mid, rounded, round_total, answered_round, refused, refused_total, answered_refused}
 use Rattle.lane_desk.proofs.round.RoundDesk.round.Goals as goal

@@ -1,6 +1,6 @@
-use Rattle.std.proofs.Common.{rules, ap, ◌∙◌, sym, ◌≡◌, ◌∷◌, [], refl}
-use Rattle.desk_rule.specs.Lanes.{lane_in, has_asked, KnowsLane}
-use Rattle.desk_rule.specs.declared.view.SeatState.TheVariants.{Worker, Asked}
+use Rattle.std.proofs.Common.{rules, ap, refl}
+use Rattle.desk_rule.specs.Lanes.{lane_in}
+use Rattle.desk_rule.specs.declared.view.SeatState.TheVariants.{Asked}
 use Rattle.desk_rule.specs.declared.view.LaneSlot.TheVariants.{WithAsk}
 use Rattle.lane_desk.proofs.Calls.{ready, asks_of, asks_then, knows_of, known_as}
 use Rattle.lane_desk.proofs.seat.LaneSeat.ask.Goals as goal

@@ -1,6 +1,4 @@
-use Rattle.std.proofs.Common.{rules, ap, ◌∙◌, sym, ◌∷◌}
-use Rattle.atomic_table.specs.Table.{rest}
-use Rattle.desk_rule.specs.declared.view.LaneSlot.TheVariants.{Blank}
+use Rattle.std.proofs.Common.{rules}
 use Rattle.desk_rule.proofs.Keeps.{rises}
 use Rattle.lane_desk.proofs.Calls.{owns_of}
 use Rattle.lane_desk.proofs.seat.LaneSeat.rise.Goals as goal

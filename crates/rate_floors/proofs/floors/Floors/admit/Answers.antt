@@ -2,7 +2,8 @@ use Rattle.std.proofs.Common.{◌≡◌, ◌∙◌, sym, ap, subst, List, None}
 use Rattle.std.specs.FinMap as finite
 use Rattle.line_rates.specs.Stated.{by_number}
 use Rattle.rate_floors.specs.declared.find.UserSessions.{UserSessions}
-use Rattle.rate_floors.specs.Promises.{Promises, IsAt, user_key, admits, one_more, added, changed, PromisesFit}
+use Rattle.line_rates.specs.Put.{IsAt}
+use Rattle.rate_floors.specs.Promises.{Promises, user_key, admits, one_more, added, changed, PromisesFit}
 use Rattle.rate_floors.proofs.FitLemmas.{fit_more}
 use Rattle.rate_floors.proofs.FloorLemmas.{unchanged, cond_same, cond_true, entry_key, changed_value, told_after, has_room}
 use Rattle.rate_floors.proofs.floors.Floors.admit.Goals as goal

@@ -1,10 +1,8 @@
-use Rattle.std.proofs.Common.{arith, ◌≡◌, ◌+◌, ◌*◌, ap, ℕ}
+use Rattle.std.proofs.Common.{arith, ap}
 use Rattle.rate_floors.specs.Promises.{Promises}
 use Rattle.rate_floors.proofs.FloorLemmas.{is_after}
 use Rattle.rate_floors.proofs.floors.Floors.line_after.Goals as goal
-
-times_more : (r l : ℕ) → (r + 1) * l ≡ r * l + l
-times_more r l = omega arith
+use Rattle.line_rates.proofs.TickLemmas.{times_more}
 
 pub overflow_add-down : goal.overflow_add-down
 overflow_add-down g c = let s = (is_after c.args.self.now c.self.inside.promised_down c.self.inside.promised_up c.self.inside.groups.items c.self.inside.users.items c.args.entry (ap (λ (p : Promises). p.users) c.self.view_is) c.self.invariant.told c.requires.stands).room in omega arith

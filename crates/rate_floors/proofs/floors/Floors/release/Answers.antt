@@ -1,7 +1,8 @@
 use Rattle.std.proofs.Common.{rules, ◌∙◌, sym, ap, subst, List}
 use Rattle.std.proofs.lemmas.Bool.{lt-ltb}
 use Rattle.rate_floors.specs.declared.find.UserSessions.{UserSessions}
-use Rattle.rate_floors.specs.Promises.{Promises, user_of, IsAt, user_key, has_counted, has_session, one_less, taken, changed, PromisesFit}
+use Rattle.line_rates.specs.Put.{IsAt}
+use Rattle.rate_floors.specs.Promises.{Promises, user_of, user_key, has_counted, has_session, one_less, taken, changed, PromisesFit}
 use Rattle.rate_floors.proofs.FitLemmas.{fit_less}
 use Rattle.rate_floors.proofs.FloorLemmas.{cond_true, entry_key, entry_stands, changed_value, told_before, has_floors}
 use Rattle.rate_floors.proofs.floors.Floors.release.Goals as goal

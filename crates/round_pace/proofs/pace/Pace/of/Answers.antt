@@ -3,9 +3,9 @@ use Rattle.std.specs.List.{All}
 use Rattle.line_rates.specs.Stated.{FitsGroup, FitsUser}
 use Rattle.round_pace.specs.Paced.{IsGroupPace, IsUserPace, new_group, new_user}
 use Rattle.round_pace.proofs.Keeping.{groups_new, users_new}
-use Rattle.round_pace.proofs.Mapped.{all_mapped}
 use Rattle.round_pace.proofs.NewPaces.{credit_new, group_new, user_new, same_paced}
 use Rattle.round_pace.proofs.pace.Pace.of.Goals as goal
+use Rattle.rate_floors.proofs.PlaceLemmas.{all_mapped}
 
 pub invariant_of-result : goal.invariant_of-result
 invariant_of-result g c =

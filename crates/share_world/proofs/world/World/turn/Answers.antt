@@ -3,9 +3,10 @@ use Rattle.world_terms.specs.Decisions.{AllPosted}
 use Rattle.world_terms.specs.Steps.{lane_of}
 use Rattle.share_world.specs.Turns.{is_collect}
 use Rattle.share_world.proofs.Asking.{all_left, none_left}
-use Rattle.share_world.proofs.Turning.{books_at, not_posted, set_length, turn_seen}
+use Rattle.share_world.proofs.Turning.{books_at, not_posted, turn_seen}
 use Rattle.share_world.proofs.world.World.turn.Goals as goal
 use Rattle.share_world.proofs.world.World.turn.Goals.{else-is_collect-via-then-is_collect+else-not-all_posted, else-is_collect-via-else-is_collect}
+use Rattle.share_world.proofs.Sharing.{set_length}
 
 pub returns-then-not-all_posted-clause-step : goal.returns-then-not-all_posted-clause-step
 returns-then-not-all_posted-clause-step g c =

@@ -8,6 +8,7 @@ use Rattle.line_rates.specs.declared.ask.Way.TheVariants.{Down, Up}
 use Rattle.line_rates.specs.declared.row.GroupRate.{GroupRate}
 use Rattle.line_rates.specs.declared.row.UserRate.{UserRate}
 use Rattle.line_rates.specs.Names.{is_number}
+use Rattle.line_rates.specs.Put.{IsAt}
 use Rattle.line_rates.specs.Rates.{Rates, way_of, group_rate, user_code, rates_code}
 use Rattle.line_rates.specs.Stated.{by_number, user_number, stated, IsRising, FitsUser}
 use Rattle.rate_floors.specs.declared.find.GroupPromise.{GroupPromise}

@@ -5,8 +5,8 @@ use Rattle.toml.specs.Data.{Data, string, integer, float, boolean, datetime, arr
 use Rattle.ftp_terms.specs.Lines.{is_control, HasNoControl}
 use Rattle.config_file.specs.declared.fault.Problem.{Problem}
 use Rattle.config_file.specs.declared.fault.Problem.TheVariants.{OutOfRange}
-use Rattle.config_file.specs.declared.kind.Kind.{Kind}
-use Rattle.config_file.specs.declared.kind.Kind.TheVariants as kind
+use Rattle.config_file.specs.declared.kind.KeyKind.{KeyKind}
+use Rattle.config_file.specs.declared.kind.KeyKind.TheVariants as kind
 use Rattle.config_file.specs.Keys.{KeyRow, Fits, Judges, JudgesFound, JudgesUnless, is_anonymous, when_absent}
 use Rattle.config_file.specs.Rows.{IsAddressed, IsLined, IsLineDefault, IsOptional}
 use Rattle.config_file.specs.Values.{Held, nothing, number, text, flag, address, inner, items, as_line, ReadsAddress}
@@ -44,7 +44,7 @@ pub not_refused : (key : List ℕ) (default : Option Held) (m : Members) (proble
 not_refused key default m problem fits not = found_once key default (get_member key m) fits.0 problem fits.1 not
 
 -- an address row is refused in no table that it fits
-fits_once_of : (key : List ℕ) (of : Kind) (default : Option Held) (m : Members) (problem : Problem) → IsAddressed of default
+fits_once_of : (key : List ℕ) (of : KeyKind) (default : Option Held) (m : Members) (problem : Problem) → IsAddressed of default
     → Fits (record { key = key; kind = of; default = default }) m → Judges (record { key = key; kind = of; default = default }) m (Err problem) → ⊥
 fits_once_of key kind.Text default m problem is fits not = is
 fits_once_of key kind.Line default m problem is fits not = is
@@ -58,7 +58,7 @@ fits_once_of key kind.Rows default m problem is fits not = is
 pub fits_once : (row : KeyRow) (m : Members) (problem : Problem) → IsAddressed row.kind row.default → Fits row m → Judges row m (Err problem) → ⊥
 fits_once row m problem is fits not = fits_once_of row.key row.kind row.default m problem is fits not
 
-maybe_once_of : (key : List ℕ) (of : Kind) (default : Option Held) (m : Members) (problem : Problem) → IsOptional kind.Address of default
+maybe_once_of : (key : List ℕ) (of : KeyKind) (default : Option Held) (m : Members) (problem : Problem) → IsOptional kind.Address of default
     → Fits (record { key = key; kind = of; default = default }) m → Judges (record { key = key; kind = of; default = default }) m (Err problem) → ⊥
 maybe_once_of key kind.Text default m problem is fits not = is
 maybe_once_of key kind.Line default m problem is fits not = is
@@ -73,12 +73,12 @@ pub maybe_once : (row : KeyRow) (m : Members) (problem : Problem) → IsOptional
 maybe_once row m problem is fits not = maybe_once_of row.key row.kind row.default m problem is fits not
 
 -- a line that is read has no control octet
-read_plain : (judging : Kind) (s t : List ℕ) (bad : Bool) → bad ≡ list_any is_control s
+read_plain : (judging : KeyKind) (s t : List ℕ) (bad : Bool) → bad ≡ list_any is_control s
     → Ok (text t) ≡ (if bad then Err (OutOfRange judging) else Ok (text s)) → HasNoControl t
 read_plain judging s t true same judged = cc
 read_plain judging s t false same judged = let here : t ≡ s = cc in rw here (plain s (sym same))
 
-line_plain : (judging : Kind) (found : Data) (t : List ℕ) → Ok (text t) ≡ as_line judging found → HasNoControl t
+line_plain : (judging : KeyKind) (found : Data) (t : List ℕ) → Ok (text t) ≡ as_line judging found → HasNoControl t
 line_plain judging (string s) t judged = read_plain judging s t (list_any is_control s) refl judged
 line_plain judging (integer z) t judged = cc
 line_plain judging (float x) t judged = cc
@@ -87,7 +87,7 @@ line_plain judging (datetime d) t judged = cc
 line_plain judging (array ds) t judged = cc
 line_plain judging (table ms) t judged = cc
 
-absent_plain : (judging : Kind) (default : Option Held) (t : List ℕ) → IsLineDefault default → Ok (text t) ≡ when_absent judging default → HasNoControl t
+absent_plain : (judging : KeyKind) (default : Option Held) (t : List ℕ) → IsLineDefault default → Ok (text t) ≡ when_absent judging default → HasNoControl t
 absent_plain judging None t is judged = cc
 absent_plain judging (Some nothing) t is judged = absurd is
 absent_plain judging (Some (number n)) t is judged = absurd is
@@ -112,7 +112,7 @@ password_unless : (unread : Bool) (key : List ℕ) (default : Option Held) (m : 
 password_unless true key default m t is judged = let here : t ≡ [] = cc in rw here tt
 password_unless false key default m t is judged = password_found key default (get_member key m) t is judged
 
-plain_of : (key : List ℕ) (of : Kind) (default : Option Held) (m : Members) (t : List ℕ) → IsLined of default
+plain_of : (key : List ℕ) (of : KeyKind) (default : Option Held) (m : Members) (t : List ℕ) → IsLined of default
     → Judges (record { key = key; kind = of; default = default }) m (Ok (text t)) → HasNoControl t
 plain_of key kind.Text default m t is judged = absurd is
 plain_of key kind.Line default m t is judged = line_found key default (get_member key m) t is judged

@@ -5,20 +5,20 @@ use Rattle.std.specs.List.{list_any}
 use Rattle.toml.specs.Data.{Data, string, Members, no_members, member, get_member}
 use Rattle.config_file.specs.declared.fault.Problem.{Problem}
 use Rattle.config_file.specs.declared.fault.Problem.TheVariants.{Unknown, Missing}
-use Rattle.config_file.specs.declared.kind.Kind.{Kind}
-use Rattle.config_file.specs.declared.kind.Kind.TheVariants.{Password}
+use Rattle.config_file.specs.declared.kind.KeyKind.{KeyKind}
+use Rattle.config_file.specs.declared.kind.KeyKind.TheVariants.{Password}
 use Rattle.config_file.specs.Values.{Held, text, Judged, Reads}
 
 -- the row of a key; one without a default must be stated
 pub record KeyRow : Type 0 where
   pub key : List ℕ
-  pub kind : Kind
+  pub kind : KeyKind
   pub default : Option Held
 
-abbrev pub needed : List ℕ → Kind → KeyRow
+abbrev pub needed : List ℕ → KeyKind → KeyRow
 needed key kind = record { key = key; kind = kind; default = None }
 
-abbrev pub optional : List ℕ → Kind → Held → KeyRow
+abbrev pub optional : List ℕ → KeyKind → Held → KeyRow
 optional key kind default = record { key = key; kind = kind; default = Some default }
 
 -- ---- one key
@@ -28,12 +28,12 @@ abbrev pub is_anonymous : Option Data → Bool
 is_anonymous (Some (string name)) = bytes_eq name (codes "anonymous")
 is_anonymous _ = false
 
-abbrev pub is_unread : Kind → Members → Bool
+abbrev pub is_unread : KeyKind → Members → Bool
 is_unread Password given = is_anonymous (get_member (codes "name") given)
 is_unread _ given = false
 
 -- the default of a key that is not stated
-abbrev pub when_absent : Kind → Option Held → Judged
+abbrev pub when_absent : KeyKind → Option Held → Judged
 when_absent kind None = Err (Missing kind)
 when_absent kind (Some default) = Ok default
 

@@ -7,7 +7,7 @@ use Rattle.config_file.specs.declared.fault.Header.{Header}
 use Rattle.config_file.specs.declared.fault.Problem.{Problem}
 use Rattle.config_file.specs.declared.fault.Problem.TheVariants.{WrongKind}
 use Rattle.config_file.specs.declared.fault.TableName.{TableName}
-use Rattle.config_file.specs.declared.kind.Kind.TheVariants.{Rows}
+use Rattle.config_file.specs.declared.kind.KeyKind.TheVariants.{Rows}
 use Rattle.config_file.specs.Keys.{KeyRow, States, IsFine, IsRefused}
 use Rattle.config_file.specs.Values.{Held}
 

@@ -2,8 +2,8 @@
 use Rattle.std.specs.Prelude.{◌≤◌, ℕ, Option, Some, None}
 use Rattle.toml.specs.Data.{no_items}
 use Rattle.ftp_terms.specs.Lines.{HasNoControl}
-use Rattle.config_file.specs.declared.kind.Kind.{Kind}
-use Rattle.config_file.specs.declared.kind.Kind.TheVariants as kind
+use Rattle.config_file.specs.declared.kind.KeyKind.{KeyKind}
+use Rattle.config_file.specs.declared.kind.KeyKind.TheVariants as kind
 use Rattle.config_file.specs.Keys.{KeyRow}
 use Rattle.config_file.specs.Values.{Held, nothing, number, text, flag, address, items}
 
@@ -12,7 +12,7 @@ IsNumberDefault high None = Unit {0}
 IsNumberDefault high (Some (number n)) = n ≤ high
 IsNumberDefault high _ = ⊥
 
-abbrev pub IsNumbered : Kind → Option Held → Type 0
+abbrev pub IsNumbered : KeyKind → Option Held → Type 0
 IsNumbered (kind.Number low high) default = IsNumberDefault high default
 IsNumbered _ default = ⊥
 
@@ -20,7 +20,7 @@ abbrev pub IsNumberRow : KeyRow → Type 0
 IsNumberRow row = IsNumbered row.kind row.default
 
 -- the largest number that a kind has
-abbrev pub highest_of : Kind → ℕ
+abbrev pub highest_of : KeyKind → ℕ
 highest_of (kind.Number low high) = high
 highest_of _ = 0
 
@@ -30,7 +30,7 @@ highest row = highest_of row.kind
 abbrev pub IsSmallRow : KeyRow → Type 0
 IsSmallRow row = IsNumberRow row × (highest row ≤ 65535)
 
-abbrev pub IsTexted : Kind → Option Held → Type 0
+abbrev pub IsTexted : KeyKind → Option Held → Type 0
 IsTexted kind.Text None = Unit {0}
 IsTexted _ default = ⊥
 
@@ -42,7 +42,7 @@ IsLineDefault None = Unit {0}
 IsLineDefault (Some (text line)) = HasNoControl line
 IsLineDefault _ = ⊥
 
-abbrev pub IsLined : Kind → Option Held → Type 0
+abbrev pub IsLined : KeyKind → Option Held → Type 0
 IsLined kind.Line default = IsLineDefault default
 IsLined kind.Password default = IsLineDefault default
 IsLined _ default = ⊥
@@ -54,7 +54,7 @@ abbrev pub IsNothing : Option Held → Type 0
 IsNothing (Some nothing) = Unit {0}
 IsNothing _ = ⊥
 
-abbrev pub IsOptional : Kind → Kind → Option Held → Type 0
+abbrev pub IsOptional : KeyKind → KeyKind → Option Held → Type 0
 IsOptional kind.Line kind.Line default = IsNothing default
 IsOptional kind.Address kind.Address default = IsNothing default
 IsOptional _ _ default = ⊥
@@ -72,7 +72,7 @@ IsFlagDefault None = Unit {0}
 IsFlagDefault (Some (flag b)) = Unit {0}
 IsFlagDefault _ = ⊥
 
-abbrev pub IsFlagged : Kind → Option Held → Type 0
+abbrev pub IsFlagged : KeyKind → Option Held → Type 0
 IsFlagged kind.Flag default = IsFlagDefault default
 IsFlagged _ default = ⊥
 
@@ -84,21 +84,21 @@ IsAddressDefault None = Unit {0}
 IsAddressDefault (Some (address octets)) = Unit {0}
 IsAddressDefault _ = ⊥
 
-abbrev pub IsAddressed : Kind → Option Held → Type 0
+abbrev pub IsAddressed : KeyKind → Option Held → Type 0
 IsAddressed kind.Address default = IsAddressDefault default
 IsAddressed _ default = ⊥
 
 abbrev pub IsAddressRow : KeyRow → Type 0
 IsAddressRow row = IsAddressed row.kind row.default
 
-abbrev pub IsTabled : Kind → Option Held → Type 0
+abbrev pub IsTabled : KeyKind → Option Held → Type 0
 IsTabled kind.Table None = Unit {0}
 IsTabled _ default = ⊥
 
 abbrev pub IsTableRow : KeyRow → Type 0
 IsTableRow row = IsTabled row.kind row.default
 
-abbrev pub IsListed : Kind → Option Held → Type 0
+abbrev pub IsListed : KeyKind → Option Held → Type 0
 IsListed kind.Rows (Some (items no_items)) = Unit {0}
 IsListed _ default = ⊥
 

@@ -5,7 +5,7 @@ use Rattle.std.specs.Net.Addr.{ipv4_octets}
 use Rattle.toml.specs.Data.{no_items}
 use Rattle.toml.specs.View.{items_view}
 use Rattle.ftp_terms.specs.declared.entries.TheConstants.{LATEST}
-use Rattle.config_file.specs.declared.kind.Kind.TheVariants.{Text, Line, Password, Flag, Number, Address, Rows}
+use Rattle.config_file.specs.declared.kind.KeyKind.TheVariants.{Text, Line, Password, Flag, Number, Address, Rows}
 use Rattle.config_file.specs.declared.stated.TheConstants.{MAX_RATE, MAX_SESSIONS}
 use Rattle.config_file.specs.declared.stated.ServerTable.{ServerTable}
 use Rattle.config_file.specs.declared.stated.GroupTable.{GroupTable}

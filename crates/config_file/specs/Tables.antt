@@ -6,7 +6,7 @@ use Rattle.toml.specs.View.{table_view, items_view}
 use Rattle.config_file.specs.declared.fault.TableName.{TableName}
 use Rattle.config_file.specs.declared.fault.TableName.TheVariants as name
 use Rattle.config_file.specs.declared.keys.TheConstants.{LATEST_VERSION}
-use Rattle.config_file.specs.declared.kind.Kind.TheVariants.{Number, Table}
+use Rattle.config_file.specs.declared.kind.KeyKind.TheVariants.{Number, Table}
 use Rattle.config_file.specs.declared.stated.Top.{Top}
 use Rattle.config_file.specs.declared.stated.UserTable.{UserTable}
 use Rattle.config_file.specs.declared.stated.OverrideTable.{OverrideTable}

@@ -8,8 +8,8 @@ use Rattle.toml.specs.Data.{Data, string, integer, boolean, array, table, Items,
 use Rattle.ftp_terms.specs.Lines.{is_control}
 use Rattle.config_file.specs.declared.fault.Problem.{Problem}
 use Rattle.config_file.specs.declared.fault.Problem.TheVariants.{WrongKind, OutOfRange}
-use Rattle.config_file.specs.declared.kind.Kind.{Kind}
-use Rattle.config_file.specs.declared.kind.Kind.TheVariants.{Text, Line, Password, Flag, Number, Address, Table, Rows}
+use Rattle.config_file.specs.declared.kind.KeyKind.{KeyKind}
+use Rattle.config_file.specs.declared.kind.KeyKind.TheVariants.{Text, Line, Password, Flag, Number, Address, Table, Rows}
 
 -- the value of a key; `nothing` for an optional key that is left out
 pub data Held : Type 0 where
@@ -45,7 +45,7 @@ as_text (string s) = Ok (text s)
 as_text _ = Err (WrongKind Text)
 
 -- a text without control octets
-abbrev pub as_line : Kind → Data → Judged
+abbrev pub as_line : KeyKind → Data → Judged
 as_line kind (string s) = if list_any is_control s then Err (OutOfRange kind) else Ok (text s)
 as_line kind _ = Err (WrongKind kind)
 
@@ -75,7 +75,7 @@ ReadsAddress (string s) judged = MatchResult judged (IsAddressHeld s) (IsNoAddre
 ReadsAddress _ judged = judged ≡ Err (WrongKind Address)
 
 -- the result of reading a value of this kind
-abbrev pub Reads : Kind → Data → Judged → Type 0
+abbrev pub Reads : KeyKind → Data → Judged → Type 0
 Reads Text found judged = judged ≡ as_text found
 Reads Line found judged = judged ≡ as_line Line found
 Reads Password found judged = judged ≡ as_line Password found

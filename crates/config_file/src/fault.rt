@@ -3,7 +3,7 @@
 ghost use Rattle.std.specs.Prelude.{◌≡◌, ◌<◌, ◌^◌, option_map};
 ghost use Rattle.config_file.specs.Lists.{place_of, row_at, whole};
 
-use crate::kind::Kind;
+use crate::kind::KeyKind;
 use std::alloc::{AllocError, AllocFailed};
 use thiserror::Error;
 
@@ -15,13 +15,13 @@ pub enum Problem {
     Unknown,
     /// The table lacks the key, which has no default.
     #[error("missing; it must be {0}")]
-    Missing(Kind),
+    Missing(KeyKind),
     /// The key has a value of another kind.
     #[error("of the wrong kind; it must be {0}")]
-    WrongKind(Kind),
+    WrongKind(KeyKind),
     /// The key has a value of its kind that is out of its range.
     #[error("out of range; it must be {0}")]
-    OutOfRange(Kind),
+    OutOfRange(KeyKind),
 }
 
 /// A key with its problem.

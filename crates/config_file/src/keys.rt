@@ -6,7 +6,7 @@ ghost use Rattle.config_file.specs.Seen.{rows_of};
 ghost use Rattle.config_file.specs.Tables.{table_rows};
 
 use crate::fault::TableName;
-use crate::kind::Kind;
+use crate::kind::KeyKind;
 use crate::row::{Absent, Row};
 use crate::stated::{MAX_RATE, MAX_SESSIONS};
 use ftp_terms::LATEST;
@@ -14,35 +14,35 @@ use ftp_terms::LATEST;
 /// The latest version of the file. It has groups, which version 1 does not have.
 pub const LATEST_VERSION: u64 = 2;
 
-const VERSIONS: Kind = Kind::Number {
+const VERSIONS: KeyKind = KeyKind::Number {
     low: 1,
     high: LATEST_VERSION,
 };
 
-const PORTS: Kind = Kind::Number {
+const PORTS: KeyKind = KeyKind::Number {
     low: 1,
     high: 65535,
 };
 
-const RATES: Kind = Kind::Number {
+const RATES: KeyKind = KeyKind::Number {
     low: 0,
     high: MAX_RATE,
 };
 
-const CONNECTIONS: Kind = Kind::Number { low: 1, high: 512 };
+const CONNECTIONS: KeyKind = KeyKind::Number { low: 1, high: 512 };
 
-const LIMITS: Kind = Kind::Number { low: 0, high: 512 };
+const LIMITS: KeyKind = KeyKind::Number { low: 0, high: 512 };
 
-const ATTEMPTS: Kind = Kind::Number { low: 1, high: 100 };
+const ATTEMPTS: KeyKind = KeyKind::Number { low: 1, high: 100 };
 
-const LANE_NUMBERS: Kind = Kind::Number { low: 1, high: 64 };
+const LANE_NUMBERS: KeyKind = KeyKind::Number { low: 1, high: 64 };
 
-const SESSION_NUMBERS: Kind = Kind::Number {
+const SESSION_NUMBERS: KeyKind = KeyKind::Number {
     low: 0,
     high: MAX_SESSIONS,
 };
 
-const MOMENTS: Kind = Kind::Number {
+const MOMENTS: KeyKind = KeyKind::Number {
     low: 0,
     high: LATEST,
 };
@@ -51,15 +51,15 @@ const MOMENTS: Kind = Kind::Number {
 
 pub(crate) const VERSION: Row<'static> = Row("version", VERSIONS, Absent::Refused);
 
-pub(crate) const SERVERS: Row<'static> = Row("server", Kind::Table, Absent::Refused);
+pub(crate) const SERVERS: Row<'static> = Row("server", KeyKind::Table, Absent::Refused);
 
-pub(crate) const GROUPS: Row<'static> = Row("group", Kind::Rows, Absent::NoRows);
+pub(crate) const GROUPS: Row<'static> = Row("group", KeyKind::Rows, Absent::NoRows);
 
-pub(crate) const USERS: Row<'static> = Row("user", Kind::Rows, Absent::NoRows);
+pub(crate) const USERS: Row<'static> = Row("user", KeyKind::Rows, Absent::NoRows);
 
-pub(crate) const DIRS: Row<'static> = Row("dir", Kind::Rows, Absent::NoRows);
+pub(crate) const DIRS: Row<'static> = Row("dir", KeyKind::Rows, Absent::NoRows);
 
-pub(crate) const FILES: Row<'static> = Row("file", Kind::Rows, Absent::NoRows);
+pub(crate) const FILES: Row<'static> = Row("file", KeyKind::Rows, Absent::NoRows);
 
 pub(crate) static TOP: [Row<'static>; 6] = [VERSION, SERVERS, GROUPS, USERS, DIRS, FILES];
 
@@ -67,15 +67,15 @@ pub(crate) static TOP: [Row<'static>; 6] = [VERSION, SERVERS, GROUPS, USERS, DIR
 
 const LOCAL: Absent<'static> = Absent::Address([127, 0, 0, 1]);
 
-pub(crate) const ADDRESS: Row<'static> = Row("address", Kind::Address, LOCAL);
+pub(crate) const ADDRESS: Row<'static> = Row("address", KeyKind::Address, LOCAL);
 
 pub(crate) const PORT: Row<'static> = Row("port", PORTS, Absent::Number(2121));
 
-pub(crate) const ROOT: Row<'static> = Row("root", Kind::Line, Absent::Refused);
+pub(crate) const ROOT: Row<'static> = Row("root", KeyKind::Line, Absent::Refused);
 
 pub(crate) const CAPACITY: Row<'static> = Row("capacity", RATES, Absent::Number(1_048_576));
 
-pub(crate) const BANNER: Row<'static> = Row("banner", Kind::Line, Absent::Line("Ready"));
+pub(crate) const BANNER: Row<'static> = Row("banner", KeyKind::Line, Absent::Line("Ready"));
 
 pub(crate) const MAX_CONS: Row<'static> = Row("max_cons", CONNECTIONS, Absent::Number(64));
 
@@ -93,19 +93,19 @@ pub(crate) const MAX_LOGIN_ATTEMPTS: Row<'static> = Row(
 
 pub(crate) const PERMIT_FOREIGN: Row<'static> = Row(
     "permit_foreign_addresses",
-    Kind::Flag,
+    KeyKind::Flag,
     Absent::Flag(false),
 );
 
 pub(crate) const PERMIT_PRIVILEGED: Row<'static> = Row(
     "permit_privileged_ports",
-    Kind::Flag,
+    KeyKind::Flag,
     Absent::Flag(false),
 );
 
 pub(crate) const MASQUERADE: Row<'static> = Row(
     "masquerade_address",
-    Kind::Address,
+    KeyKind::Address,
     Absent::Nothing,
 );
 
@@ -146,17 +146,17 @@ pub(crate) static SERVER: [Row<'static>; 18] = [
 
 // ---- [[group]]
 
-pub(crate) const NAME: Row<'static> = Row("name", Kind::Line, Absent::Refused);
+pub(crate) const NAME: Row<'static> = Row("name", KeyKind::Line, Absent::Refused);
 
 pub(crate) static GROUP: [Row<'static>; 3] = [NAME, DOWN_RATE, UP_RATE];
 
 // ---- [[user]]
 
-pub(crate) const PASSWORD: Row<'static> = Row("password", Kind::Password, Absent::Refused);
+pub(crate) const PASSWORD: Row<'static> = Row("password", KeyKind::Password, Absent::Refused);
 
-pub(crate) const HOME: Row<'static> = Row("home", Kind::Line, Absent::Refused);
+pub(crate) const HOME: Row<'static> = Row("home", KeyKind::Line, Absent::Refused);
 
-pub(crate) const PERMS: Row<'static> = Row("perms", Kind::Line, Absent::Line("elr"));
+pub(crate) const PERMS: Row<'static> = Row("perms", KeyKind::Line, Absent::Line("elr"));
 
 pub(crate) const SESSION_DOWN_RATE: Row<'static> = Row(
     "session_down_rate",
@@ -174,13 +174,13 @@ pub(crate) const SESSION_DOWN_FLOOR: Row<'static> = Row(
 
 pub(crate) const SESSION_UP_FLOOR: Row<'static> = Row("session_up_floor", RATES, Absent::Number(0));
 
-pub(crate) const MSG_LOGIN: Row<'static> = Row("msg_login", Kind::Line, Absent::Line("Welcome"));
+pub(crate) const MSG_LOGIN: Row<'static> = Row("msg_login", KeyKind::Line, Absent::Line("Welcome"));
 
-pub(crate) const MSG_QUIT: Row<'static> = Row("msg_quit", Kind::Line, Absent::Line("Goodbye"));
+pub(crate) const MSG_QUIT: Row<'static> = Row("msg_quit", KeyKind::Line, Absent::Line("Goodbye"));
 
-pub(crate) const GROUP_NAME: Row<'static> = Row("group", Kind::Line, Absent::Nothing);
+pub(crate) const GROUP_NAME: Row<'static> = Row("group", KeyKind::Line, Absent::Nothing);
 
-pub(crate) const OVERRIDES: Row<'static> = Row("override", Kind::Rows, Absent::NoRows);
+pub(crate) const OVERRIDES: Row<'static> = Row("override", KeyKind::Rows, Absent::NoRows);
 
 pub(crate) static USER: [Row<'static>; 14] = [
     NAME,
@@ -201,17 +201,17 @@ pub(crate) static USER: [Row<'static>; 14] = [
 
 // ---- [[user.override]]
 
-pub(crate) const PATH: Row<'static> = Row("path", Kind::Line, Absent::Refused);
+pub(crate) const PATH: Row<'static> = Row("path", KeyKind::Line, Absent::Refused);
 
-pub(crate) const OVERRIDE_PERMS: Row<'static> = Row("perms", Kind::Line, Absent::Refused);
+pub(crate) const OVERRIDE_PERMS: Row<'static> = Row("perms", KeyKind::Line, Absent::Refused);
 
-pub(crate) const RECURSIVE: Row<'static> = Row("recursive", Kind::Flag, Absent::Flag(false));
+pub(crate) const RECURSIVE: Row<'static> = Row("recursive", KeyKind::Flag, Absent::Flag(false));
 
 pub(crate) static OVERRIDE: [Row<'static>; 3] = [PATH, OVERRIDE_PERMS, RECURSIVE];
 
 // ---- [[dir]] and [[file]]
 
-pub(crate) const TEXT: Row<'static> = Row("text", Kind::Text, Absent::Refused);
+pub(crate) const TEXT: Row<'static> = Row("text", KeyKind::Text, Absent::Refused);
 
 pub(crate) const MODIFIED: Row<'static> = Row("modified", MOMENTS, Absent::Number(0));
 

@@ -4,7 +4,7 @@ use thiserror::Error;
 
 /// The values that a key may have.
 #[derive(Clone, Copy, Debug, PartialEq, Eq, Error)]
-pub enum Kind {
+pub enum KeyKind {
     /// Any text.
     #[error("a text")]
     Text,

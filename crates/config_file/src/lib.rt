@@ -32,7 +32,7 @@ mod world;
 
 pub use fault::{Fault, Header, KeyFault, Problem, TableName};
 pub use keys::{LATEST_VERSION, rows_of};
-pub use kind::Kind;
+pub use kind::KeyKind;
 pub use row::{Absent, Row};
 pub use stated::{
     DirTable, FileTable, GroupTable, MAX_RATE, MAX_SESSIONS, OverrideTable, ServerTable, UserTable,

@@ -10,7 +10,7 @@ ghost use Rattle.config_file.specs.Seen.{default_of, judged_of, row_of};
 ghost use Rattle.config_file.specs.Values.{Reads, ReadsAddress, as_flag, as_inner, as_items, as_line, as_number, as_text};
 
 use crate::fault::Problem;
-use crate::kind::Kind;
+use crate::kind::KeyKind;
 use crate::row::{Absent, Row};
 use std::net::Ipv4Addr;
 use toml::{Table, Value};
@@ -38,7 +38,7 @@ pub(crate) fn value_at<'a>(table: &'a Table, key: &str) -> Option<&'a Value>
 fn read_number<'a>(value: &'a Value, low: u64, high: u64) -> Result<Reading<'a>, Problem>
     ensures number { judged_of result ≡ as_number low high (view value.now) }
 {
-    let kind = Kind::Number { low, high };
+    let kind = KeyKind::Number { low, high };
     let Value::Integer(number) = value else {
         return Err(Problem::WrongKind(kind));
     };
@@ -56,7 +56,7 @@ fn read_text(value: &Value) -> Result<Reading<'_>, Problem>
 {
     match value.as_str() {
         Some(text) => Ok(Reading::Text(text)),
-        None => Err(Problem::WrongKind(Kind::Text)),
+        None => Err(Problem::WrongKind(KeyKind::Text)),
     }
 }
 
@@ -66,7 +66,7 @@ fn has_control(text: &str) -> bool
     text.bytes().any(|octet| octet < 32 || octet == 127)
 }
 
-fn read_line<'a>(value: &'a Value, kind: Kind) -> Result<Reading<'a>, Problem>
+fn read_line<'a>(value: &'a Value, kind: KeyKind) -> Result<Reading<'a>, Problem>
     ensures line { judged_of result ≡ as_line kind (view value.now) }
 {
     let Some(text) = value.as_str() else {
@@ -83,7 +83,7 @@ fn read_flag(value: &Value) -> Result<Reading<'_>, Problem>
 {
     match value.as_bool() {
         Some(flag) => Ok(Reading::Flag(flag)),
-        None => Err(Problem::WrongKind(Kind::Flag)),
+        None => Err(Problem::WrongKind(KeyKind::Flag)),
     }
 }
 
@@ -91,11 +91,11 @@ fn read_address(value: &Value) -> Result<Reading<'_>, Problem>
     ensures address { ReadsAddress (view value.now) (judged_of result) }
 {
     let Some(text) = value.as_str() else {
-        return Err(Problem::WrongKind(Kind::Address));
+        return Err(Problem::WrongKind(KeyKind::Address));
     };
     match text.parse::<Ipv4Addr>() {
         Ok(address) => Ok(Reading::Address(address)),
-        Err(_) => Err(Problem::OutOfRange(Kind::Address)),
+        Err(_) => Err(Problem::OutOfRange(KeyKind::Address)),
     }
 }
 
@@ -104,7 +104,7 @@ fn read_table(value: &Value) -> Result<Reading<'_>, Problem>
 {
     match value.as_table() {
         Some(table) => Ok(Reading::Table(table)),
-        None => Err(Problem::WrongKind(Kind::Table)),
+        None => Err(Problem::WrongKind(KeyKind::Table)),
     }
 }
 
@@ -113,26 +113,26 @@ fn read_rows(value: &Value) -> Result<Reading<'_>, Problem>
 {
     match value.as_array() {
         Some(rows) => Ok(Reading::Rows(rows.as_slice())),
-        None => Err(Problem::WrongKind(Kind::Rows)),
+        None => Err(Problem::WrongKind(KeyKind::Rows)),
     }
 }
 
 /// Reads a value of a kind.
-fn read_value<'a>(value: &'a Value, kind: Kind) -> Result<Reading<'a>, Problem>
+fn read_value<'a>(value: &'a Value, kind: KeyKind) -> Result<Reading<'a>, Problem>
     ensures value { Reads kind (view value.now) (judged_of result) }
 {
     match kind {
-        Kind::Text => read_text(value),
-        Kind::Line | Kind::Password => read_line(value, kind),
-        Kind::Flag => read_flag(value),
-        Kind::Number { low, high } => read_number(value, low, high),
-        Kind::Address => read_address(value),
-        Kind::Table => read_table(value),
-        Kind::Rows => read_rows(value),
+        KeyKind::Text => read_text(value),
+        KeyKind::Line | KeyKind::Password => read_line(value, kind),
+        KeyKind::Flag => read_flag(value),
+        KeyKind::Number { low, high } => read_number(value, low, high),
+        KeyKind::Address => read_address(value),
+        KeyKind::Table => read_table(value),
+        KeyKind::Rows => read_rows(value),
     }
 }
 
-fn read_absent<'a>(kind: Kind, absent: Absent<'a>) -> Result<Reading<'a>, Problem>
+fn read_absent<'a>(kind: KeyKind, absent: Absent<'a>) -> Result<Reading<'a>, Problem>
     ensures absent { judged_of result ≡ when_absent kind (default_of absent.entry) }
 {
     Ok(match absent {
@@ -157,11 +157,11 @@ fn is_anonymous(table: &Table) -> bool
     }
 }
 
-fn is_unread(table: &Table, kind: Kind) -> bool
+fn is_unread(table: &Table, kind: KeyKind) -> bool
     ensures unread { result ≡ is_unread kind (table_view table.now) }
 {
     match kind {
-        Kind::Password => is_anonymous(table),
+        KeyKind::Password => is_anonymous(table),
         _ => false,
     }
 }

@@ -1,6 +1,6 @@
 //! A row of a table of keys.
 
-use crate::kind::Kind;
+use crate::kind::KeyKind;
 
 /// The value of a key that is not stated.
 #[derive(Clone, Copy, Debug)]
@@ -19,4 +19,4 @@ pub enum Absent<'a> {
 
 /// A key of a table: its name, the kind of its value, and its value if it is not stated.
 #[derive(Clone, Copy, Debug)]
-pub struct Row<'a>(pub &'a str, pub Kind, pub Absent<'a>);
+pub struct Row<'a>(pub &'a str, pub KeyKind, pub Absent<'a>);

@@ -10,7 +10,7 @@ ghost use Rattle.config_file.specs.Values.{Held};
 
 use crate::fault::{Fault, Header, KeyFault, Problem, TableName};
 use crate::judge::judge;
-use crate::kind::Kind;
+use crate::kind::KeyKind;
 use crate::row::Row;
 use std::alloc::Global;
 use toml::{Table, Value};
@@ -45,7 +45,7 @@ fn read_row<'a, R: Keyed<'a>>(
     let Some(table) = value.as_table() else {
         return Err(KeyFault {
             key,
-            problem: Problem::WrongKind(Kind::Rows),
+            problem: Problem::WrongKind(KeyKind::Rows),
         });
     };
     judge(table, rows, grouped)?;

@@ -7,10 +7,10 @@ use Rattle.data_pump.specs.Downloads.{OutFlow, MovesOut, IsSending, still_to_com
 use Rattle.data_pump.proofs.KnownLemmas.{known-appended, known-consumed, known-at_end}
 
 -- the first octets that wait were the first to come
-pub to_come-let_go : (data_type : DataType) (n : ℕ) (waiting : List ℕ) (known : Option (List ℕ))
+pub to_come-consume : (data_type : DataType) (n : ℕ) (waiting : List ℕ) (known : Option (List ℕ))
     → Consumes (still_to_come data_type waiting known) (still_to_come data_type (drop n waiting) known) (take n waiting)
-to_come-let_go data_type n waiting None = tt
-to_come-let_go data_type n waiting (Some octets) =
+to_come-consume data_type n waiting None = tt
+to_come-consume data_type n waiting (Some octets) =
     ap (λ l. l ++ sent data_type octets) (sym (take-append-drop n waiting)) ∙ append_assoc (take n waiting) (drop n waiting) (sent data_type octets)
 
 module _ {S K : Type 0} (remaining : S → Option (List ℕ)) (contents : K → Option (List ℕ)) where

@@ -79,7 +79,7 @@ impl<A: Allocator> WireBuffer<A> {
     }
 
     /// Removes the first `count` octets that wait.
-    pub fn let_go(&mut self, count: usize)
+    pub fn consume(&mut self, count: usize)
         requires some { count ≤ length self.old.octets }
         ensures data_type { self.new.data_type ≡ self.old.data_type }
         ensures left { self.new.octets ≡ drop count self.old.octets }

@@ -134,7 +134,7 @@ impl<S: Source, K: Write + Drop, A: Allocator> Outflow<S, K, A> {
     {
         let count = most.min(self.buffer.len() as u64) as usize;
         let moved = write_front(&mut self.connection, self.buffer.front(count));
-        self.buffer.let_go(moved);
+        self.buffer.consume(moved);
         if moved < count {
             return Pumped {
                 moved: moved as u64,

@@ -4,7 +4,7 @@
 
 mod serving;
 
-use ftpd_program::{Ending, Told, run_words};
+use ftpd_program::{FtpdErrorText, FtpdExit, run_words};
 use serving::{Asked, serve_asked};
 use sheets_program::{Machine, NOBODY_READS, Noted, as_words, line_words, null_device};
 use std::io;
@@ -14,15 +14,15 @@ use std::process::ExitCode;
 use std::sync::Wait;
 use std::thread::Threads;
 use std::time::Clock;
-use text_io::Outside;
+use text_io::FallibleIo;
 
 /// Runs the command of these words, and serves what they ask for.
 fn run<'w, R, W>(
     rt: &R,
     machine: &HostRuntime,
     words: &'w [&'w str],
-    output: &mut Outside<W>,
-) -> Ending<'w>
+    output: &mut FallibleIo<W>,
+) -> FtpdExit<'w>
 where
     R: Threads
         + Wait
@@ -50,11 +50,15 @@ where
 
 /// Reports the ending on standard error, and returns its status. If nobody reads the output any more, that is not
 /// reported as a fault, except for a server, which was to go on.
-fn told<W: Write>(machine: &HostRuntime, ending: &Ending<'_>, output: &Outside<Noted<W>>) -> u8 {
-    if output.0.is_closed() && !matches!(ending, Ending::Server(_)) {
+fn told<W: Write>(
+    machine: &HostRuntime,
+    ending: &FtpdExit<'_>,
+    output: &FallibleIo<Noted<W>>,
+) -> u8 {
+    if output.0.is_closed() && !matches!(ending, FtpdExit::Server(_)) {
         return NOBODY_READS;
     }
-    let told = Told {
+    let told = FtpdErrorText {
         ending,
         output: output.0.error(),
     };
@@ -74,14 +78,14 @@ where
         + Send
         + Sync,
 {
-    let mut output = Outside(Noted::new(io::writer(machine)));
+    let mut output = FallibleIo(Noted::new(io::writer(machine)));
     let texts = match line_words(machine) {
         Ok(texts) => texts,
-        Err(ending) => return told(machine, &Ending::Common(ending), &output),
+        Err(ending) => return told(machine, &FtpdExit::Common(ending), &output),
     };
     let words = match as_words(rt.alloc(), texts.as_slice()) {
         Ok(words) => words,
-        Err(ending) => return told(machine, &Ending::Common(ending), &output),
+        Err(ending) => return told(machine, &FtpdExit::Common(ending), &output),
     };
     let ending = run(rt, machine, words.as_slice(), &mut output);
     told(machine, &ending, &output)

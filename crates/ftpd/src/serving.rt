@@ -7,12 +7,12 @@
 
 use folder_store::DirStore;
 use ftp_daemon::{ServeFault, Service, StopSign, serve};
-use ftpd_program::{Ending, Server};
+use ftpd_program::{FtpdExit, Server};
 use log::sink::Console;
 use log::{Level, Logged};
 use server_config::{Config, ServedStore};
 use session_notes::Notes;
-use sheets_program::Ending as Common;
+use sheets_program::Exit as Common;
 use std::alloc::{AllocError, Global};
 use std::fs;
 use std::net::{Net, TcpListener, TcpStream};
@@ -171,7 +171,7 @@ pub(crate) fn serve_asked<'w, R, W>(
     machine: &HostRuntime,
     service: (Config, Option<String>),
     output: &mut W,
-) -> Ending<'w>
+) -> FtpdExit<'w>
 where
     R: Threads
         + Wait
@@ -192,7 +192,7 @@ where
         None => None,
     };
     match serve_config(rt, machine, config, stop, output) {
-        Ok(()) => Ending::Common(Common::Done),
-        Err(fault) => Ending::Server(fault),
+        Ok(()) => FtpdExit::Common(Common::Done),
+        Err(fault) => FtpdExit::Server(fault),
     }
 }

@@ -10,13 +10,13 @@ use Rattle.ftpd_program.specs.Endings.{IsCommon}
 use Rattle.ftpd_program.specs.Runs.{IsCommandEnd, IsPrintEnd, IsScriptEnd}
 use Rattle.ftpd_program.specs.Scripting.{IsUnscripted}
 use Rattle.ftpd_program.specs.Serving.{IsServeEnd, Service}
-use Rattle.ftpd_program.specs.declared.ending.Ending.{Ending}
-use Rattle.ftpd_program.specs.declared.ending.Ending.TheVariants.{Common, Config, Session, Server}
+use Rattle.ftpd_program.specs.declared.ending.FtpdExit.{FtpdExit}
+use Rattle.ftpd_program.specs.declared.ending.FtpdExit.TheVariants.{Common, Config, Session, Server}
 use Rattle.ftpd_program.specs.declared.printing.Print.TheVariants.{Report, Latest}
 use Rattle.ftpd_program.specs.declared.scripting.ScriptFault.{ScriptFault}
 use Rattle.ftpd_program.specs.declared.scripting.ScriptFault.TheVariants.{Session as Unserved}
 
-pub share_end : (gives : List ℕ → Octets) (serves : Service) (Refuses : List ℕ → Type 0) (words : Words) (sheet : List ℕ) (old new : Option (List ℕ)) (ending : Ending)
+pub share_end : (gives : List ℕ → Octets) (serves : Service) (Refuses : List ℕ → Type 0) (words : Words) (sheet : List ℕ) (old new : Option (List ℕ)) (ending : FtpdExit)
     → IsOfSheets (IsShare sheet) words → IsCommandEnd gives serves Refuses words old new ending → IsCommon (IsShareEnd gives sheet old new) ending
 share_end gives serves Refuses (Sheet (Share path)) sheet old new (Common ending) is end = subst (λ (p : List ℕ). IsShareEnd gives p old new ending) is end
 share_end gives serves Refuses (Sheet (Share path)) sheet old new (Config fault) is end = absurd end
@@ -28,7 +28,7 @@ share_end gives serves Refuses (Migrate path) sheet old new ending is end = absu
 share_end gives serves Refuses (Script path) sheet old new ending is end = absurd is
 share_end gives serves Refuses (Serve path stop_file) sheet old new ending is end = absurd is
 
-pub check_end : (gives : List ℕ → Octets) (serves : Service) (Refuses : List ℕ → Type 0) (words : Words) (sheet grants : List ℕ) (old new : Option (List ℕ)) (ending : Ending)
+pub check_end : (gives : List ℕ → Octets) (serves : Service) (Refuses : List ℕ → Type 0) (words : Words) (sheet grants : List ℕ) (old new : Option (List ℕ)) (ending : FtpdExit)
     → IsOfSheets (IsCheck sheet grants) words → IsCommandEnd gives serves Refuses words old new ending → IsCommon (IsCheckEnd gives sheet grants old new) ending
 check_end gives serves Refuses (Sheet (Check path other)) sheet grants old new (Common ending) is end =
     let first = subst (λ (p : List ℕ). IsCheckEnd gives p other.now old new ending) is.0 end in
@@ -42,7 +42,7 @@ check_end gives serves Refuses (Migrate path) sheet grants old new ending is end
 check_end gives serves Refuses (Script path) sheet grants old new ending is end = absurd is
 check_end gives serves Refuses (Serve path stop_file) sheet grants old new ending is end = absurd is
 
-pub report_end : (gives : List ℕ → Octets) (serves : Service) (Refuses : List ℕ → Type 0) (words : Words) (config : List ℕ) (old new : Option (List ℕ)) (ending : Ending)
+pub report_end : (gives : List ℕ → Octets) (serves : Service) (Refuses : List ℕ → Type 0) (words : Words) (config : List ℕ) (old new : Option (List ℕ)) (ending : FtpdExit)
     → IsCheckConfig config words → IsCommandEnd gives serves Refuses words old new ending → IsPrintEnd Report (gives config) Refuses old new ending
 report_end gives serves Refuses (CheckConfig path) config old new ending is end = subst (λ (p : List ℕ). IsPrintEnd Report (gives p) Refuses old new ending) is end
 report_end gives serves Refuses (Sheet words) config old new ending is end = absurd is
@@ -50,7 +50,7 @@ report_end gives serves Refuses (Migrate path) config old new ending is end = ab
 report_end gives serves Refuses (Script path) config old new ending is end = absurd is
 report_end gives serves Refuses (Serve path stop_file) config old new ending is end = absurd is
 
-pub migrate_end : (gives : List ℕ → Octets) (serves : Service) (Refuses : List ℕ → Type 0) (words : Words) (config : List ℕ) (old new : Option (List ℕ)) (ending : Ending)
+pub migrate_end : (gives : List ℕ → Octets) (serves : Service) (Refuses : List ℕ → Type 0) (words : Words) (config : List ℕ) (old new : Option (List ℕ)) (ending : FtpdExit)
     → IsMigrate config words → IsCommandEnd gives serves Refuses words old new ending → IsPrintEnd Latest (gives config) Refuses old new ending
 migrate_end gives serves Refuses (Migrate path) config old new ending is end = subst (λ (p : List ℕ). IsPrintEnd Latest (gives p) Refuses old new ending) is end
 migrate_end gives serves Refuses (Sheet words) config old new ending is end = absurd is
@@ -58,7 +58,7 @@ migrate_end gives serves Refuses (CheckConfig path) config old new ending is end
 migrate_end gives serves Refuses (Script path) config old new ending is end = absurd is
 migrate_end gives serves Refuses (Serve path stop_file) config old new ending is end = absurd is
 
-pub script_end : (gives : List ℕ → Octets) (serves : Service) (Refuses : List ℕ → Type 0) (words : Words) (config : List ℕ) (old new : Option (List ℕ)) (ending : Ending)
+pub script_end : (gives : List ℕ → Octets) (serves : Service) (Refuses : List ℕ → Type 0) (words : Words) (config : List ℕ) (old new : Option (List ℕ)) (ending : FtpdExit)
     → IsScript config words → IsCommandEnd gives serves Refuses words old new ending → IsScriptEnd gives config old new ending
 script_end gives serves Refuses (Script path) config old new ending is end = subst (λ (p : List ℕ). IsScriptEnd gives p old new ending) is end
 script_end gives serves Refuses (Sheet words) config old new ending is end = absurd is
@@ -66,7 +66,7 @@ script_end gives serves Refuses (CheckConfig path) config old new ending is end 
 script_end gives serves Refuses (Migrate path) config old new ending is end = absurd is
 script_end gives serves Refuses (Serve path stop_file) config old new ending is end = absurd is
 
-pub serve_end : (gives : List ℕ → Octets) (serves : Service) (Refuses : List ℕ → Type 0) (words : Words) (config : List ℕ) (path : Option (List ℕ)) (old new : Option (List ℕ)) (ending : Ending)
+pub serve_end : (gives : List ℕ → Octets) (serves : Service) (Refuses : List ℕ → Type 0) (words : Words) (config : List ℕ) (path : Option (List ℕ)) (old new : Option (List ℕ)) (ending : FtpdExit)
     → IsServe config path words → IsCommandEnd gives serves Refuses words old new ending → IsServeEnd (gives config) serves path old new ending
 serve_end gives serves Refuses (Serve word stop_file) config path old new ending is end =
     let first = subst (λ (p : List ℕ). IsServeEnd (gives p) serves (option_map (λ w. w.now) stop_file) old new ending) is.0 end in

@@ -7,16 +7,16 @@ use Rattle.command_line.specs.declared.words.Words.TheVariants.{Sheet, CheckConf
 use Rattle.script_session.specs.Served.{IsSessionBreak, most_reads}
 use Rattle.sheets_program.specs.Causes.{AreOpened, IsSheetWhy}
 use Rattle.sheets_program.specs.Runs.{IsInput, Octets, file_of}
-use Rattle.sheets_program.specs.declared.ending.Ending.TheVariants.{Text}
+use Rattle.sheets_program.specs.declared.ending.Exit.TheVariants.{Text}
 use Rattle.sheets_program.specs.declared.files.TheConstants.{STANDARD_INPUT}
 use Rattle.text_io.specs.declared.fault.TextFault.TheVariants.{ReadFault, TooLong}
 use Rattle.ftpd_program.specs.Endings.{IsCommon}
-use Rattle.ftpd_program.specs.declared.ending.Ending.{Ending}
-use Rattle.ftpd_program.specs.declared.ending.Ending.TheVariants.{Common, Session}
+use Rattle.ftpd_program.specs.declared.ending.FtpdExit.{FtpdExit}
+use Rattle.ftpd_program.specs.declared.ending.FtpdExit.TheVariants.{Common, Session}
 
 -- the cause of a fault of reading the file of that path: a read fault is possible, and a read fault
 -- or a text that is too long names the file
-abbrev pub IsReadWhy : List ℕ → Type 0 → Ending → Type 0
+abbrev pub IsReadWhy : List ℕ → Type 0 → FtpdExit → Type 0
 IsReadWhy path may (Common (Text fault cause)) =
     (fault ≡ ReadFault → may × (file_of cause ≡ Some path))
     × (fault ≡ TooLong → file_of cause ≡ Some path)
@@ -32,7 +32,7 @@ MayBreakInput gives fails =
 -- the same for `script`, which opens standard input too, and whose session may break off: `breaks`
 -- is that the output may refuse a reply
 abbrev pub IsScriptWhy : (List ℕ → Octets) → (List ℕ → Type 0) → (List ℕ → Type 0) → Type 0 → List ℕ
-    → Ending → Type 0
+    → FtpdExit → Type 0
 IsScriptWhy gives refused fails breaks config (Common (Text fault cause)) =
     (fault ≡ ReadFault → ((refused config ⊎ fails config) × (file_of cause ≡ Some config))
     ⊎ (refused STANDARD_INPUT.now × (file_of cause ≡ Some STANDARD_INPUT.now)))
@@ -43,14 +43,14 @@ IsScriptWhy gives refused fails breaks config (Session fault) =
 IsScriptWhy gives refused fails breaks config _ = Unit {0}
 
 -- a command ends without its configuration
-abbrev pub IsWithoutConfig : Ending → Type 0
+abbrev pub IsWithoutConfig : FtpdExit → Type 0
 IsWithoutConfig (Common (Text fault cause)) = fault ≡ ReadFault
 IsWithoutConfig _ = ⊥
 
 -- `script` opens no file if its configuration is standard input; otherwise the configuration, and
 -- then standard input, unless the configuration is refused
 abbrev pub AreScriptOpened : {O : Type 0} → (O → List ℕ → O → Type 0) → O → O → (List ℕ → Type 0)
-    → List ℕ → Ending → Type 0
+    → List ℕ → FtpdExit → Type 0
 AreScriptOpened {O} opens old new refused config ending =
     (IsInput config × (new ≡ old))
     ⊎ ((opens old config new × refused config × IsWithoutConfig ending)
@@ -58,7 +58,7 @@ AreScriptOpened {O} opens old new refused config ending =
 
 -- the cause of the fault with which that command ends, if it ends with one
 abbrev pub IsCommandWhy : (List ℕ → Octets) → (List ℕ → Type 0) → (List ℕ → Type 0)
-    → (List ℕ → Type 0) → Type 0 → Words → Ending → Type 0
+    → (List ℕ → Type 0) → Type 0 → Words → FtpdExit → Type 0
 IsCommandWhy gives refused fails refuses breaks (Sheet words) ending =
     IsCommon (IsSheetWhy gives refused fails refuses words) ending
 IsCommandWhy gives refused fails refuses breaks (CheckConfig config) ending =
@@ -72,7 +72,7 @@ IsCommandWhy gives refused fails refuses breaks (Serve config stop_file) ending 
 
 -- the files that a command opens, in the order of its words
 abbrev pub AreCommandOpened : {O : Type 0} → (O → List ℕ → O → Type 0) → O → O → (List ℕ → Type 0)
-    → Words → Ending → Type 0
+    → Words → FtpdExit → Type 0
 AreCommandOpened opens old new refused (Sheet words) ending =
     IsCommon (AreOpened opens old new refused words) ending
 AreCommandOpened opens old new refused (CheckConfig config) ending = opens old config.now new

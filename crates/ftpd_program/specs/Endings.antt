@@ -2,11 +2,11 @@
 use Rattle.std.specs.Prelude.{ℕ}
 use Rattle.script_session.specs.declared.fault.SessionFault.TheVariants.{Control, Folder}
 use Rattle.sheets_program.specs.Endings as common
-use Rattle.sheets_program.specs.declared.ending.Ending.{Ending as CommonEnding}
-use Rattle.ftpd_program.specs.declared.ending.Ending.{Ending}
-use Rattle.ftpd_program.specs.declared.ending.Ending.TheVariants.{Common, Config, Session, Server}
+use Rattle.sheets_program.specs.declared.ending.Exit.{Exit as CommonExit}
+use Rattle.ftpd_program.specs.declared.ending.FtpdExit.{FtpdExit}
+use Rattle.ftpd_program.specs.declared.ending.FtpdExit.TheVariants.{Common, Config, Session, Server}
 
-abbrev pub status_of : Ending → ℕ
+abbrev pub status_of : FtpdExit → ℕ
 status_of (Common ending) = common.status_of ending
 status_of (Config fault) = 1
 status_of (Session fault) = 1
@@ -15,7 +15,7 @@ status_of (Server fault) = 1
 -- nothing was written: the command line or the configuration is refused, or there is a fault other
 -- than that of the output; but a session that broke off may have written some replies, and a server
 -- its messages
-abbrev pub IsUnwritten : Ending → Type 0
+abbrev pub IsUnwritten : FtpdExit → Type 0
 IsUnwritten (Common ending) = common.IsUnwritten ending
 IsUnwritten (Config fault) = Unit {0}
 IsUnwritten (Session Folder) = Unit {0}
@@ -23,7 +23,7 @@ IsUnwritten (Session (Control why)) = ⊥
 IsUnwritten (Server fault) = ⊥
 
 -- an ending that any command may have, with that property
-abbrev pub IsCommon : (CommonEnding → Type 0) → Ending → Type 0
+abbrev pub IsCommon : (CommonExit → Type 0) → FtpdExit → Type 0
 IsCommon P (Common ending) = P ending
 IsCommon P (Config fault) = ⊥
 IsCommon P (Session fault) = ⊥

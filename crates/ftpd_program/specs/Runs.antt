@@ -5,15 +5,15 @@ use Rattle.std.specs.Prelude.{ℕ, List, Option, option_map}
 use Rattle.command_line.specs.declared.words.Words.{Words}
 use Rattle.command_line.specs.declared.words.Words.TheVariants.{Sheet, CheckConfig, Migrate, Script, Serve}
 use Rattle.sheets_program.specs.Runs.{IsInput, IsSheetEnd, Octets}
-use Rattle.sheets_program.specs.declared.ending.Ending.TheVariants.{Done, Refused, Text}
+use Rattle.sheets_program.specs.declared.ending.Exit.TheVariants.{Done, Refused, Text}
 use Rattle.sheets_program.specs.declared.files.TheConstants.{STANDARD_INPUT}
 use Rattle.ftpd_program.specs.Endings.{IsCommon}
 use Rattle.ftpd_program.specs.Faults.{IsPrintingFaultOf, IsReadingFaultOf}
 use Rattle.ftpd_program.specs.Printing.{AppendsPrint, IsPrintOf, IsUnprintedAt}
 use Rattle.ftpd_program.specs.Scripting.{IsRefusalOf, IsScripted, IsUnscripted}
 use Rattle.ftpd_program.specs.Serving.{IsServeEnd, Service}
-use Rattle.ftpd_program.specs.declared.ending.Ending.{Ending}
-use Rattle.ftpd_program.specs.declared.ending.Ending.TheVariants.{Common, Config, Session}
+use Rattle.ftpd_program.specs.declared.ending.FtpdExit.{FtpdExit}
+use Rattle.ftpd_program.specs.declared.ending.FtpdExit.TheVariants.{Common, Config, Session}
 use Rattle.ftpd_program.specs.declared.printing.Print.{Print}
 use Rattle.ftpd_program.specs.declared.printing.Print.TheVariants.{Report, Latest}
 use Rattle.ftpd_program.specs.declared.scripting.ScriptFault.TheVariants.{Session as Unserved}
@@ -21,7 +21,7 @@ use Rattle.ftpd_program.specs.declared.scripting.ScriptFault.TheVariants.{Sessio
 -- the ending of a command that prints a text about a configuration, by the contents that its file
 -- may have
 abbrev pub IsPrintEnd : Print → Octets → (List ℕ → Type 0) → Option (List ℕ) → Option (List ℕ)
-    → Ending → Type 0
+    → FtpdExit → Type 0
 IsPrintEnd print gives Refuses old new (Common Done) =
     (text : Option (List ℕ)) × gives text × AppendsPrint print text old new
 IsPrintEnd print gives Refuses old new (Common (Text fault cause)) =
@@ -32,7 +32,7 @@ IsPrintEnd print gives Refuses old new _ = ⊥
 
 -- the ending of `script` for the path of a configuration; the control text is that of standard
 -- input
-abbrev pub IsScriptEnd : (List ℕ → Octets) → List ℕ → Option (List ℕ) → Option (List ℕ) → Ending
+abbrev pub IsScriptEnd : (List ℕ → Octets) → List ℕ → Option (List ℕ) → Option (List ℕ) → FtpdExit
     → Type 0
 IsScriptEnd gives config old new (Common Done) =
     ¬ IsInput config × ((text before after : Option (List ℕ))
@@ -49,7 +49,7 @@ IsScriptEnd gives config old new _ = ⊥
 
 -- the ending of that command, given the possible calls of a server
 abbrev pub IsCommandEnd : (List ℕ → Octets) → Service → (List ℕ → Type 0) → Words → Option (List ℕ)
-    → Option (List ℕ) → Ending → Type 0
+    → Option (List ℕ) → FtpdExit → Type 0
 IsCommandEnd gives serves Refuses (Sheet words) old new ending =
     IsCommon (IsSheetEnd gives words old new) ending
 IsCommandEnd gives serves Refuses (CheckConfig config) old new ending =

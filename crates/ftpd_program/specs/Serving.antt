@@ -2,11 +2,11 @@
 use Rattle.std.specs.Prelude.{ℕ, List, Option, Result, Ok, Err}
 use Rattle.server_config.specs.declared.config.Config.{Config}
 use Rattle.sheets_program.specs.Runs.{Octets}
-use Rattle.sheets_program.specs.declared.ending.Ending.TheVariants.{Done, Text}
+use Rattle.sheets_program.specs.declared.ending.Exit.TheVariants.{Done, Text}
 use Rattle.ftpd_program.specs.Faults.{IsReadingFaultOf}
 use Rattle.ftpd_program.specs.Scripting.{IsConfigOf, IsRefusalOf}
-use Rattle.ftpd_program.specs.declared.ending.Ending.{Ending}
-use Rattle.ftpd_program.specs.declared.ending.Ending.TheVariants.{Common, Config as Unread, Server}
+use Rattle.ftpd_program.specs.declared.ending.FtpdExit.{FtpdExit}
+use Rattle.ftpd_program.specs.declared.ending.FtpdExit.TheVariants.{Common, Config as Unread, Server}
 use Rattle.ftpd_program.specs.declared.server.ServeFault.{ServeFault}
 
 abbrev pub Answer : Type 0
@@ -28,7 +28,7 @@ IsAnswered gives serves stop_file old new answer =
     (config : Config) × IsConfigIn gives config × serves config stop_file old new answer
 
 -- the ending of a command without a configuration of its file
-abbrev pub IsUnconfiguredEnd : Octets → Ending → Type 0
+abbrev pub IsUnconfiguredEnd : Octets → FtpdExit → Type 0
 IsUnconfiguredEnd gives (Common (Text fault cause)) = IsReadingFaultOf gives fault
 IsUnconfiguredEnd gives (Unread fault) =
     (text : Option (List ℕ)) × gives text × IsRefusalOf text fault
@@ -37,7 +37,7 @@ IsUnconfiguredEnd gives _ = ⊥
 -- the ending of `serve`, by the contents that the configuration may have, a server, and a stop
 -- file, if any
 abbrev pub IsServeEnd : Octets → Service → Option (List ℕ) → Option (List ℕ) → Option (List ℕ)
-    → Ending → Type 0
+    → FtpdExit → Type 0
 IsServeEnd gives serves stop_file old new (Common Done) =
     IsAnswered gives serves stop_file old new (Ok tt)
 IsServeEnd gives serves stop_file old new (Server fault) =
@@ -45,6 +45,6 @@ IsServeEnd gives serves stop_file old new (Server fault) =
 IsServeEnd gives serves stop_file old new ending = IsUnconfiguredEnd gives ending
 
 -- the ending of a command for the result of the server
-abbrev pub end_of : Answer → Ending
+abbrev pub end_of : Answer → FtpdExit
 end_of (Ok done) = Common Done
 end_of (Err fault) = Server fault

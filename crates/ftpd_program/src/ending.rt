@@ -6,7 +6,7 @@ ghost use Rattle.ftpd_program.specs.Endings.{status_of};
 use crate::server::ServeFault;
 use script_session::SessionFault;
 use server_config::ConfigFault;
-use sheets_program::{Ending as Common, Told as SheetsTold};
+use sheets_program::{ErrorText, Exit as Common};
 use std::{fmt, io};
 
 const NAME: &str = "ftpd";
@@ -15,7 +15,7 @@ const FOLDER_FOR_SCRIPT: &str = "[server]: root: `script` serves no folder, but 
 
 /// The ending of a run of the program.
 #[derive(Debug, Drop)]
-pub enum Ending<'w> {
+pub enum FtpdExit<'w> {
     /// An ending that any command may have.
     Common(Common<'w>),
     /// The configuration is refused.
@@ -26,48 +26,48 @@ pub enum Ending<'w> {
     Server(ServeFault),
 }
 
-impl<'w> Ending<'w> {
+impl<'w> FtpdExit<'w> {
     /// The status: 0 for work that is done, 1 for a fault, 2 for a refused command line, 3 for grants with a flaw.
     pub fn status(&self) -> u8
         ensures status { result ≡ status_of self.now }
     {
         match self {
-            Ending::Common(ending) => ending.status(),
-            Ending::Config(_) | Ending::Session(_) | Ending::Server(_) => 1,
+            FtpdExit::Common(ending) => ending.status(),
+            FtpdExit::Config(_) | FtpdExit::Session(_) | FtpdExit::Server(_) => 1,
         }
     }
 }
 
 /// An ending as printed on standard error: the name of the fault in the last line, and details above it.
 #[derive(Clone, Copy)]
-pub struct Told<'e, 'w> {
-    pub ending: &'e Ending<'w>,
+pub struct FtpdErrorText<'e, 'w> {
+    pub ending: &'e FtpdExit<'w>,
     /// The last error of standard output, if there was one.
     pub output: Option<io::Error>,
 }
 
-impl fmt::Display for Told<'_, '_> {
+impl fmt::Display for FtpdErrorText<'_, '_> {
     fn fmt<W: fmt::Write>(&self, f: &mut fmt::Formatter<W>) -> fmt::Result {
         match self.ending {
-            Ending::Common(ending) => {
-                let told = SheetsTold {
+            FtpdExit::Common(ending) => {
+                let told = ErrorText {
                     name: NAME,
                     ending,
                     output: self.output,
                 };
                 write!(f, "{told}")
             }
-            Ending::Config(fault) => {
+            FtpdExit::Config(fault) => {
                 writeln!(f, "{fault}")?;
                 writeln!(f, "{NAME}: {}", fault.name())
             }
-            Ending::Session(fault) => {
+            FtpdExit::Session(fault) => {
                 if *fault == SessionFault::Folder {
                     writeln!(f, "{FOLDER_FOR_SCRIPT}")?;
                 }
                 writeln!(f, "{NAME}: {fault}")
             }
-            Ending::Server(fault) => writeln!(f, "{NAME}: {fault}"),
+            FtpdExit::Server(fault) => writeln!(f, "{NAME}: {fault}"),
         }
     }
 }

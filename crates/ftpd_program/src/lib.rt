@@ -19,9 +19,9 @@ mod scripting;
 mod server;
 mod serving;
 
-pub use ending::{Ending, Told};
+pub use ending::{FtpdErrorText, FtpdExit};
 pub use printing::{Print, PrintFault, run_print};
 pub use run::run_words;
 pub use scripting::{ScriptFault, run_script};
 pub use server::{ServeFault, Server};
-pub use sheets_program::{Openings, STANDARD_INPUT};
+pub use sheets_program::{Opener, STANDARD_INPUT};

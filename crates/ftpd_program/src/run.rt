@@ -14,14 +14,14 @@ ghost use Rattle.ftpd_program.specs.Endings.{IsCommon, IsUnwritten};
 ghost use Rattle.ftpd_program.specs.Runs.{IsCommandEnd, IsPrintEnd, IsScriptEnd};
 ghost use Rattle.ftpd_program.specs.Serving.{IsServeEnd};
 
-use super::ending::Ending;
+use super::ending::FtpdExit;
 use super::printing::{Print, PrintFault, run_print};
 use super::scripting::{ScriptFault, run_script};
 use super::server::Server;
 use super::serving::serve;
 use command_line::{Words, read_words};
 use sheets_program::{
-    Ending as Common, Openings, STANDARD_INPUT, is_input, run_sheet_words, tell, text_cause,
+    Exit as Common, Opener, STANDARD_INPUT, is_input, run_sheet_words, tell, text_cause,
 };
 use std::alloc::Global;
 use text_io::{TextFault, TextWriter};
@@ -30,13 +30,13 @@ const NO_TEXT_LEFT: &str =
     "error: standard input cannot be both the configuration and the control text\n";
 
 /// Prints a text about a configuration.
-fn print_text<'w, O: Openings, W: TextWriter>(
+fn print_text<'w, O: Opener, W: TextWriter>(
     alloc: Global,
     print: Print,
     config: &'w str,
     files: &mut O,
     output: &mut W,
-) -> Ending<'w>
+) -> FtpdExit<'w>
     ensures end { IsPrintEnd print (O.Gives files.old config.now) (W.may_refuse output.old)
         (W.contents output.old) (W.contents output.new) result }
     ensures why { IsReadWhy config.now
@@ -48,26 +48,26 @@ fn print_text<'w, O: Openings, W: TextWriter>(
         Ok(file) => file,
         Err(error) => {
             let cause = text_cause(TextFault::ReadFault, config, Some(error));
-            return Ending::Common(Common::Text(TextFault::ReadFault, cause));
+            return FtpdExit::Common(Common::Text(TextFault::ReadFault, cause));
         }
     };
     match run_print(alloc, print, &mut file, output) {
-        Ok(()) => Ending::Common(Common::Done),
-        Err(PrintFault::Config(fault)) => Ending::Config(fault),
+        Ok(()) => FtpdExit::Common(Common::Done),
+        Err(PrintFault::Config(fault)) => FtpdExit::Config(fault),
         Err(PrintFault::Text(fault)) => {
             let cause = text_cause(fault, config, O::reason(&file));
-            Ending::Common(Common::Text(fault, cause))
+            FtpdExit::Common(Common::Text(fault, cause))
         }
     }
 }
 
 /// Serves the control text of standard input. Both files are opened before anything is read.
-fn script<'w, O: Openings, W: TextWriter>(
+fn script<'w, O: Opener, W: TextWriter>(
     alloc: Global,
     config: &'w str,
     files: &mut O,
     output: &mut W,
-) -> Ending<'w>
+) -> FtpdExit<'w>
     ensures end { IsScriptEnd (O.Gives files.old) config.now
         (W.contents output.old) (W.contents output.new) result }
     ensures why { IsScriptWhy (O.Gives files.old) (O.MayRefuse files.old) (O.MayFail files.old)
@@ -77,40 +77,40 @@ fn script<'w, O: Openings, W: TextWriter>(
     ensures unwritten { IsUnwritten result → output.new ≡ output.old }
 {
     if is_input(config) {
-        return Ending::Common(Common::refused(alloc, NO_TEXT_LEFT));
+        return FtpdExit::Common(Common::refused(alloc, NO_TEXT_LEFT));
     }
     let mut file = match files.open(config) {
         Ok(file) => file,
         Err(error) => {
             let cause = text_cause(TextFault::ReadFault, config, Some(error));
-            return Ending::Common(Common::Text(TextFault::ReadFault, cause));
+            return FtpdExit::Common(Common::Text(TextFault::ReadFault, cause));
         }
     };
     let mut input = match files.open(STANDARD_INPUT) {
         Ok(input) => input,
         Err(error) => {
             let cause = text_cause(TextFault::ReadFault, STANDARD_INPUT, Some(error));
-            return Ending::Common(Common::Text(TextFault::ReadFault, cause));
+            return FtpdExit::Common(Common::Text(TextFault::ReadFault, cause));
         }
     };
     match run_script(alloc, &mut file, &mut input, output) {
-        Ok(()) => Ending::Common(Common::Done),
+        Ok(()) => FtpdExit::Common(Common::Done),
         Err(ScriptFault::Text(fault)) => {
             let cause = text_cause(fault, config, O::reason(&file));
-            Ending::Common(Common::Text(fault, cause))
+            FtpdExit::Common(Common::Text(fault, cause))
         }
-        Err(ScriptFault::Config(fault)) => Ending::Config(fault),
-        Err(ScriptFault::Session(fault)) => Ending::Session(fault),
+        Err(ScriptFault::Config(fault)) => FtpdExit::Config(fault),
+        Err(ScriptFault::Session(fault)) => FtpdExit::Session(fault),
     }
 }
 
-fn run_command<'w, O: Openings, W: TextWriter, V: Server<W>>(
+fn run_command<'w, O: Opener, W: TextWriter, V: Server<W>>(
     alloc: Global,
     words: Words<'w>,
     files: &mut O,
     server: &mut V,
     output: &mut W,
-) -> Ending<'w>
+) -> FtpdExit<'w>
     ensures end { IsCommandEnd (O.Gives files.old) V.Serves (W.may_refuse output.old) words.entry
         (W.contents output.old) (W.contents output.new) result }
     ensures why { IsCommandWhy (O.Gives files.old) (O.MayRefuse files.old)
@@ -121,7 +121,7 @@ fn run_command<'w, O: Openings, W: TextWriter, V: Server<W>>(
     ensures unwritten { IsUnwritten result → output.new ≡ output.old }
 {
     match words {
-        Words::Sheet(words) => Ending::Common(run_sheet_words(alloc, words, files, output)),
+        Words::Sheet(words) => FtpdExit::Common(run_sheet_words(alloc, words, files, output)),
         Words::CheckConfig { config } => { print_text(alloc, Print::Report, config, files, output) }
         Words::Migrate { config } => print_text(alloc, Print::Latest, config, files, output),
         Words::Script { config } => script(alloc, config, files, output),
@@ -134,13 +134,13 @@ fn run_command<'w, O: Openings, W: TextWriter, V: Server<W>>(
 /// Runs the command of the words, which do not include the program's name. Nothing is written to the output if the
 /// words are refused, nor before a fault other than that of the output; but a session that broke off may have written
 /// some replies, and a server that ended early its messages.
-pub fn run_words<'w, O: Openings, W: TextWriter, V: Server<W>>(
+pub fn run_words<'w, O: Opener, W: TextWriter, V: Server<W>>(
     alloc: Global,
     words: &'w [&'w str],
     files: &mut O,
     server: &mut V,
     output: &mut W,
-) -> Ending<'w>
+) -> FtpdExit<'w>
     ensures share { (sheet : List ℕ) → IsPlainWord sheet
         → map (λ s. s.now) words.now ≡ codes "share" ∷ sheet ∷ []
         → IsCommon (IsShareEnd (O.Gives files.old) sheet
@@ -186,6 +186,6 @@ pub fn run_words<'w, O: Openings, W: TextWriter, V: Server<W>>(
 {
     match read_words(alloc, words) {
         Ok(words) => run_command(alloc, words, files, server, output),
-        Err(fault) => Ending::Common(tell(fault, output)),
+        Err(fault) => FtpdExit::Common(tell(fault, output)),
     }
 }

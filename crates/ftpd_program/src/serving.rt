@@ -5,20 +5,20 @@ ghost use Rattle.ftpd_program.specs.Endings.{IsUnwritten};
 ghost use Rattle.ftpd_program.specs.Causes.{IsReadWhy};
 ghost use Rattle.ftpd_program.specs.Serving.{IsConfigIn, IsServeEnd, IsUnconfiguredEnd, end_of};
 
-use crate::ending::Ending;
+use crate::ending::FtpdExit;
 use crate::scripting::{ScriptFault, read_config};
 use crate::server::{ServeFault, Server};
 use server_config::Config;
-use sheets_program::{Ending as Common, Openings, text_cause};
+use sheets_program::{Exit as Common, Opener, text_cause};
 use std::alloc::Global;
 use text_io::{TextFault, TextWriter};
 
 /// Reads the configuration of a file, which is then closed. `Err` is the ending of the command without it.
-fn config_at<'w, O: Openings>(
+fn config_at<'w, O: Opener>(
     alloc: Global,
     path: &'w str,
     files: &mut O,
-) -> Result<Config, Ending<'w>>
+) -> Result<Config, FtpdExit<'w>>
     ensures config { IfOk result (IsConfigIn (O.Gives files.old path.now)) }
     ensures refused { IfErr result (IsUnconfiguredEnd (O.Gives files.old path.now)) }
     ensures why { IfErr result
@@ -29,38 +29,38 @@ fn config_at<'w, O: Openings>(
         Ok(file) => file,
         Err(error) => {
             let cause = text_cause(TextFault::ReadFault, path, Some(error));
-            return Err(Ending::Common(Common::Text(TextFault::ReadFault, cause)));
+            return Err(FtpdExit::Common(Common::Text(TextFault::ReadFault, cause)));
         }
     };
     match read_config(alloc, &mut file) {
         Ok(config) => Ok(config),
-        Err(ScriptFault::Config(fault)) => Err(Ending::Config(fault)),
-        Err(ScriptFault::Session(fault)) => Err(Ending::Session(fault)),
+        Err(ScriptFault::Config(fault)) => Err(FtpdExit::Config(fault)),
+        Err(ScriptFault::Session(fault)) => Err(FtpdExit::Session(fault)),
         Err(ScriptFault::Text(fault)) => {
             let cause = text_cause(fault, path, O::reason(&file));
-            Err(Ending::Common(Common::Text(fault, cause)))
+            Err(FtpdExit::Common(Common::Text(fault, cause)))
         }
     }
 }
 
-fn ended<'w>(answer: Result<(), ServeFault>) -> Ending<'w>
+fn ended<'w>(answer: Result<(), ServeFault>) -> FtpdExit<'w>
     ensures end { result ≡ end_of answer }
 {
     match answer {
-        Ok(()) => Ending::Common(Common::Done),
-        Err(fault) => Ending::Server(fault),
+        Ok(()) => FtpdExit::Common(Common::Done),
+        Err(fault) => FtpdExit::Server(fault),
     }
 }
 
 /// Runs `serve`. The configuration is read whole and checked, and its file closed, before the server is called.
-pub(crate) fn serve<'w, O: Openings, W: TextWriter, V: Server<W>>(
+pub(crate) fn serve<'w, O: Opener, W: TextWriter, V: Server<W>>(
     alloc: Global,
     config: &'w str,
     stop_file: Option<&str>,
     files: &mut O,
     server: &mut V,
     output: &mut W,
-) -> Ending<'w>
+) -> FtpdExit<'w>
     ensures end { IsServeEnd (O.Gives files.old config.now) V.Serves
         (option_map (λ w. w.now) stop_file.entry)
         (W.contents output.old) (W.contents output.new) result }

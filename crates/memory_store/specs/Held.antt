@@ -4,13 +4,13 @@ use Rattle.std.specs.Arc.{arc_value}
 use Rattle.std.specs.declared.sync.Arc.{Arc}
 use Rattle.virtual_path.specs.Path.{slashed, names_in, HasNoSlash}
 use Rattle.memory_store.specs.declared.entry.Held.{Held}
-use Rattle.memory_store.specs.declared.entry.Held.TheVariants as held
+use Rattle.memory_store.specs.declared.entry.Content.TheVariants as content
 use Rattle.memory_store.specs.Tree.{Node}
 use Rattle.memory_store.specs.Tree.Node.{Directory, File}
 
 abbrev pub node_of : {A : Type 0} → Held A → Node
-node_of held.Directory = Directory
-node_of (held.File octets moment) = File (arc_value octets).items moment
+node_of content.Directory = Directory
+node_of (content.File octets moment) = File (arc_value octets).items moment
 
 -- the shared octets
 abbrev pub shared : {A B : Type 0} → Arc (Vec ℕ A) B → List ℕ

@@ -11,7 +11,7 @@ use std::sync::Arc;
 ///
 /// A file's octets never change and are shared with their readers; a change makes a new list.
 #[derive(Drop)]
-pub(crate) enum Held<A: Allocator> {
+pub(crate) enum Content<A: Allocator> {
     Directory,
     File(Arc<Vec<u8, A>, A>, u64),
 }
@@ -19,7 +19,7 @@ pub(crate) enum Held<A: Allocator> {
 /// An entry of a store in memory.
 #[derive(Drop)]
 pub(crate) struct Entry<A: Allocator> {
-    held: Held<A>,
+    content: Content<A>,
 }
 
 impl<A: Allocator> Model for Entry<A> {
@@ -32,7 +32,7 @@ impl<A: Allocator> Model for Entry<A> {
 
     ghost use Rattle.memory_store.specs.Held.{node_of};
 
-    ghost view = { λ entry. node_of entry.held };
+    ghost view = { λ entry. node_of entry.content };
 }
 
 impl<A: Allocator> Entry<A> {
@@ -45,7 +45,7 @@ impl<A: Allocator> Entry<A> {
         ensures { result ≡ Directory }
     {
         Entry {
-            held: Held::Directory,
+            content: Content::Directory,
         }
     }
 
@@ -53,34 +53,34 @@ impl<A: Allocator> Entry<A> {
         ensures { result ≡ File (shared octets) moment }
     {
         Entry {
-            held: Held::File(octets, moment),
+            content: Content::File(octets, moment),
         }
     }
 
     pub fn kind(&self) -> EntryKind
         ensures { result ≡ kind_of self.now }
     {
-        match &self.held {
-            Held::Directory => EntryKind::Directory,
-            Held::File(_, _) => EntryKind::File,
+        match &self.content {
+            Content::Directory => EntryKind::Directory,
+            Content::File(_, _) => EntryKind::File,
         }
     }
 
     pub fn size(&self) -> u64
         ensures { result ≡ size_of self.now }
     {
-        match &self.held {
-            Held::Directory => 0,
-            Held::File(octets, _) => octets.len() as u64,
+        match &self.content {
+            Content::Directory => 0,
+            Content::File(octets, _) => octets.len() as u64,
         }
     }
 
     pub fn meta(&self) -> Meta
         ensures { result ≡ meta_of self.now }
     {
-        match &self.held {
-            Held::Directory => Meta::new(EntryKind::Directory, 0, 0),
-            Held::File(octets, moment) => {
+        match &self.content {
+            Content::Directory => Meta::new(EntryKind::Directory, 0, 0),
+            Content::File(octets, moment) => {
                 Meta::new(EntryKind::File, octets.len() as u64, *moment / 1000)
             }
         }
@@ -90,9 +90,9 @@ impl<A: Allocator> Entry<A> {
     pub fn into_octets(self) -> Option<Arc<Vec<u8, A>, A>>
         ensures { option_map shared result ≡ octets_of self }
     {
-        match self.held {
-            Held::Directory => None,
-            Held::File(octets, _) => Some(octets),
+        match self.content {
+            Content::Directory => None,
+            Content::File(octets, _) => Some(octets),
         }
     }
 
@@ -100,12 +100,12 @@ impl<A: Allocator> Entry<A> {
     pub fn share(&self) -> Result<Entry<A>, AllocError>
         ensures { IfOk result (λ entry. entry ≡ self.now) }
     {
-        match &self.held {
-            Held::Directory => Ok(Entry {
-                held: Held::Directory,
+        match &self.content {
+            Content::Directory => Ok(Entry {
+                content: Content::Directory,
             }),
-            Held::File(octets, moment) => Ok(Entry {
-                held: Held::File(Arc::try_clone(octets)?, *moment),
+            Content::File(octets, moment) => Ok(Entry {
+                content: Content::File(Arc::try_clone(octets)?, *moment),
             }),
         }
     }

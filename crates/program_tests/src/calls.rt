@@ -5,7 +5,7 @@ use crate::expect::{holds, same, tells};
 use crate::texts::{LOGIN, LUNCH, LUNCH_GRANTS, MIGRATED, SMALL, WELCOME};
 use command_line::{SheetWords, WordsFault};
 use ftpd_program::{Print, STANDARD_INPUT, run_print, run_script};
-use sheets_program::{Ending, Told, as_words, run_sheet_words, tell};
+use sheets_program::{ErrorText, Exit, as_words, run_sheet_words, tell};
 
 #[test]
 fn grants_are_checked(rt: HostRuntime) {
@@ -23,9 +23,9 @@ fn grants_are_checked(rt: HostRuntime) {
 
 #[test]
 fn words_are_refused(rt: HostRuntime) {
-    let ending = Ending::refused(rt.alloc(), "error: no such word\n");
+    let ending = Exit::refused(rt.alloc(), "error: no such word\n");
     holds(&rt, ending.status() == 2);
-    let told = Told {
+    let told = ErrorText {
         name: "sheets",
         ending: &ending,
         output: None,

@@ -1,9 +1,9 @@
 //! Ends that read and write octets in pieces, and that fail midway.
 
-use ftpd_program::{Openings, STANDARD_INPUT};
+use ftpd_program::{Opener, STANDARD_INPUT};
 use std::io;
 use std::io::{ErrorKind, Read, Write};
-use text_io::Outside;
+use text_io::FallibleIo;
 
 /// The way in which an end returns its text.
 #[derive(Clone, Copy)]
@@ -72,22 +72,22 @@ pub(crate) struct Files<'t> {
     pub input: Option<Given<'t>>,
 }
 
-impl<'t> Openings for Files<'t> {
-    type End = Outside<GivenReader<'t>>;
+impl<'t> Opener for Files<'t> {
+    type End = FallibleIo<GivenReader<'t>>;
 
-    fn open(&mut self, path: &str) -> io::Result<Outside<GivenReader<'t>>> {
+    fn open(&mut self, path: &str) -> io::Result<FallibleIo<GivenReader<'t>>> {
         let given = match path {
             "file" => Some(self.file),
             STANDARD_INPUT => self.input,
             _ => None,
         };
         match given {
-            Some(given) => Ok(Outside(given.reader())),
+            Some(given) => Ok(FallibleIo(given.reader())),
             None => Err(io::Error::from(ErrorKind::NotFound)),
         }
     }
 
-    fn reason(_end: &Outside<GivenReader<'t>>) -> Option<io::Error> {
+    fn reason(_end: &FallibleIo<GivenReader<'t>>) -> Option<io::Error> {
         None
     }
 }

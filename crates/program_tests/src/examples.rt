@@ -4,14 +4,14 @@ use crate::expect::holds;
 use crate::servers::Noting;
 use crate::texts::SMALL;
 use ftpd_program::run_words;
-use sheets_program::{Openings, run_sheets};
+use sheets_program::{Opener, run_sheets};
 use std::io;
 
 /// One text, for each path.
 #[derive(Clone, Copy)]
 struct Text(&'static str);
 
-impl Openings for Text {
+impl Opener for Text {
     type End = &'static [u8];
 
     fn open(&mut self, _path: &str) -> io::Result<&'static [u8]> {

@@ -4,10 +4,10 @@ use crate::ends::{FailingWriter, Files, Given};
 use crate::expect::{holds, same, tells};
 use crate::servers::Noting;
 use crate::texts::{LOGIN, LUNCH, LUNCH_GRANTS, LUNCH_LINES, SMALL, WELCOME};
-use ftpd_program::{STANDARD_INPUT, Told, run_words};
+use ftpd_program::{FtpdErrorText, STANDARD_INPUT, run_words};
 use sheet_check::{CheckFault, run_check};
 use std::process::Abort;
-use text_io::{Outside, TextFault};
+use text_io::{FallibleIo, TextFault};
 
 /// The file `file`, standard input, the number of octets that the output takes, and all that is written to it.
 type Run<'a> = (Given<'a>, Option<Given<'a>>, usize, &'a str);
@@ -24,7 +24,7 @@ const ALL: usize = usize::MAX;
 fn breaks_off(rt: &(impl Abort + AllocGlobal), words: &[&str], run: &Run<'_>) {
     let (file, input, left, output) = *run;
     let mut taken = Vec::new(rt.alloc());
-    let mut writer = Outside(FailingWriter {
+    let mut writer = FallibleIo(FailingWriter {
         taken: &mut taken,
         left,
     });
@@ -36,7 +36,7 @@ fn breaks_off(rt: &(impl Abort + AllocGlobal), words: &[&str], run: &Run<'_>) {
         (true, false) => READ_FAULT,
         (false, false) => WRITE_FAULT,
     };
-    let shown = Told {
+    let shown = FtpdErrorText {
         ending: &ending,
         output: None,
     };
@@ -89,7 +89,7 @@ fn checks(rt: HostRuntime) {
 #[test]
 fn grants_are_not_read(rt: HostRuntime) {
     let mut output = Vec::new(rt.alloc());
-    let mut sheet = Outside(Given::Broken(LUNCH, 20).reader());
+    let mut sheet = FallibleIo(Given::Broken(LUNCH, 20).reader());
     let mut grants = LUNCH_GRANTS.as_bytes();
     let answer = run_check(rt.alloc(), &mut sheet, &mut grants, &mut output);
     holds(

@@ -3,7 +3,7 @@
 use crate::ends::{Files, Given};
 use crate::expect::{holds, same, tells};
 use crate::texts::SMALL;
-use ftpd_program::{Ending, ServeFault, Server, Told, run_words};
+use ftpd_program::{FtpdErrorText, FtpdExit, ServeFault, Server, run_words};
 use server_config::Config;
 use std::alloc::Global;
 use std::process::Abort;
@@ -57,8 +57,8 @@ impl<W: TextWriter> Server<W> for Noting {
 }
 
 /// Checks that the ending prints as this text.
-fn is_told(rt: &(impl Abort + AllocGlobal), ending: &Ending<'_>, wanted: &str) {
-    let told = Told {
+fn is_told(rt: &(impl Abort + AllocGlobal), ending: &FtpdExit<'_>, wanted: &str) {
+    let told = FtpdErrorText {
         ending,
         output: None,
     };
@@ -72,7 +72,7 @@ fn served<'w>(
     text: &str,
     server: &mut Noting,
     output: &mut Vec<u8>,
-) -> Ending<'w> {
+) -> FtpdExit<'w> {
     let mut files = Files {
         file: Given::Whole(text),
         input: None,

@@ -4,7 +4,7 @@ use crate::ends::{FailingWriter, Given};
 use crate::expect::{holds, same};
 use crate::texts::LUNCH_LINES;
 use std::process::Abort;
-use text_io::{Outside, TextFault, read_whole, write_whole};
+use text_io::{FallibleIo, TextFault, read_whole, write_whole};
 
 /// A text as its reader returns it, and what is read; None if it breaks off.
 static READ: [(Given<'static>, Option<&str>); 8] = [
@@ -21,7 +21,7 @@ static READ: [(Given<'static>, Option<&str>); 8] = [
 /// Checks that the text is read to its end, or to its fault.
 fn is_read(rt: &(impl Abort + AllocGlobal), given: Given<'_>, wanted: Option<&str>) {
     let mut reader = given.reader();
-    match (read_whole(rt.alloc(), &mut Outside(&mut reader)), wanted) {
+    match (read_whole(rt.alloc(), &mut FallibleIo(&mut reader)), wanted) {
         (Ok(octets), Some(text)) => same(rt, &octets, text),
         (answer, _) => holds(rt, answer == Err(TextFault::ReadFault) && wanted.is_none()),
     }
@@ -50,7 +50,7 @@ static WRITTEN: [(&str, usize); 8] = [
 /// Checks that the writer has the front of the text.
 fn is_written(rt: &(impl Abort + AllocGlobal), text: &str, left: usize) {
     let mut taken = Vec::new(rt.alloc());
-    let mut writer = Outside(FailingWriter {
+    let mut writer = FallibleIo(FailingWriter {
         taken: &mut taken,
         left,
     });

@@ -6,9 +6,9 @@ use Rattle.session_host.specs.Alone.{Parts}
 use Rattle.session_host.specs.declared.silent.Silent.{Silent}
 use Rattle.script_session.specs.Scripts.{script_parts}
 use Rattle.script_session.specs.declared.side.ScriptSide.{ScriptSide}
-use Rattle.script_session.specs.declared.side.StillClock.{StillClock}
+use Rattle.script_session.specs.declared.side.ZeroClock.{ZeroClock}
 
-pub ends_as : {R W : Type 0} (Holds : Parts Memory StillClock (ScriptSide Upload) R W Silent → Type 0) (side : ScriptSide Upload)
+pub ends_as : {R W : Type 0} (Holds : Parts Memory ZeroClock (ScriptSide Upload) R W Silent → Type 0) (side : ScriptSide Upload)
     (store store' : Memory) (floors floors' : Promises) (reader reader' : R) (writer writer' : W)
     → store' ≡ store → floors' ≡ floors → reader' ≡ reader → writer' ≡ writer
     → Holds (script_parts store floors side reader writer) → Holds (script_parts store' floors' side reader' writer')

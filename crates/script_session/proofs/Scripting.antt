@@ -14,7 +14,7 @@ use Rattle.session_host.specs.Silent.{StaysSilent}
 use Rattle.session_host.specs.Told.{IsTold}
 use Rattle.session_table.specs.Steps.{Standing}
 use Rattle.session_table.specs.declared.settings.Settings.{Settings}
-use Rattle.script_session.specs.Scripts.{AnswersScript, IsScript, StandsStill, as_known, home_address, script_parts, unasked}
+use Rattle.script_session.specs.Scripts.{AnswersScript, IsScript, ReadsZero, as_known, home_address, script_parts, unasked}
 use Rattle.script_session.specs.declared.side.ScriptSide.{ScriptSide}
 
 -- the ends as what is known of them
@@ -62,12 +62,12 @@ module _ {A S C D H Q K T R W : Type 0} (Row : Standing → Given K → ℕ → 
 module _ {T R W : Type 0} (users : Users) (settings : Settings Global) (port : ℕ) (remaining : R → Option (List ℕ)) (contents : W → Option (List ℕ)) (result : Result T ControlFault)
     (store store' : Memory) (promises promises' : Promises) (side : ScriptSide Upload) (reader reader' : R) (writer writer' : W) where
   pub script_told : promises' ≡ promises
-      → IsTold (IsRow {A = Global} {R = List ℕ} InMemory users) StandsStill AnswersScript StaysSilent remaining contents result (new_session settings home_address)
+      → IsTold (IsRow {A = Global} {R = List ℕ} InMemory users) ReadsZero AnswersScript StaysSilent remaining contents result (new_session settings home_address)
       (script_parts store promises (unasked port) reader writer) (script_parts store' promises' side reader' writer')
       → IsScript users settings port promises store store' (remaining reader) (remaining reader') (contents writer) (contents writer') result
   script_told same told = record {
     side = side;
-    told = subst (λ (x : Promises). IsTold (IsRow {A = Global} {R = List ℕ} InMemory users) StandsStill AnswersScript StaysSilent as_known as_known result (new_session settings home_address)
+    told = subst (λ (x : Promises). IsTold (IsRow {A = Global} {R = List ℕ} InMemory users) ReadsZero AnswersScript StaysSilent as_known as_known result (new_session settings home_address)
         (script_parts store promises (unasked port) (remaining reader) (contents writer)) (script_parts store' x side (remaining reader') (contents writer')))
-        same (told_known _ StandsStill AnswersScript StaysSilent remaining contents _ _ _ _ told);
+        same (told_known _ ReadsZero AnswersScript StaysSilent remaining contents _ _ _ _ told);
   }

@@ -21,11 +21,11 @@ use Rattle.session_table.specs.declared.inputs.End.{End}
 use Rattle.session_table.specs.declared.inputs.End.TheVariants.{Done, Lost, Local, Full, NoConnection, NoMemory, Aborted}
 use Rattle.session_table.specs.declared.settings.Settings.{Settings}
 use Rattle.script_session.specs.declared.side.ScriptSide.{ScriptSide}
-use Rattle.script_session.specs.declared.side.StillClock.{StillClock}
+use Rattle.script_session.specs.declared.side.ZeroClock.{ZeroClock}
 
 -- the clock always shows 0
-abbrev pub StandsStill : StillClock → ℕ → StillClock → Type 0
-StandsStill old moment new = (moment ≡ 0) × (new ≡ old)
+abbrev pub ReadsZero : ZeroClock → ℕ → ZeroClock → Type 0
+ReadsZero old moment new = (moment ≡ 0) × (new ≡ old)
 
 -- a file was read to its end, or its store could not read on
 abbrev pub IsSent : End → Type 0
@@ -62,7 +62,7 @@ home_address = 127 ∷ 0 ∷ 0 ∷ 1 ∷ []
 -- the parts of a script's session: a store, floors, a data side and two ends, beside the clock and
 -- a handler without effect
 abbrev pub script_parts : {R W : Type 0} → Memory → Promises → ScriptSide Upload → R → W
-    → Parts Memory StillClock (ScriptSide Upload) R W Silent
+    → Parts Memory ZeroClock (ScriptSide Upload) R W Silent
 script_parts store promises side reader writer =
     record {
       store = store;
@@ -88,7 +88,7 @@ pub record IsScript {T : Type 0} (users : Users) (settings : Settings Global) (p
     (promises : Promises) (store store' : Memory) (left left' out out' : Option (List ℕ))
     (result : Result T ControlFault) : Type 0 where
   pub side : ScriptSide Upload
-  pub told : IsTold {A = Global} {Q = List ℕ} (IsRow InMemory users) StandsStill AnswersScript
+  pub told : IsTold {A = Global} {Q = List ℕ} (IsRow InMemory users) ReadsZero AnswersScript
       StaysSilent as_known as_known
       result (new_session settings home_address)
       (script_parts store promises (unasked port) left out)

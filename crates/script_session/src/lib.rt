@@ -32,4 +32,4 @@ pub use fault::SessionFault;
 pub use script::serve_text;
 pub use serving::serve_config;
 pub use session_host::ControlFault;
-pub use side::{ScriptSide, StillClock};
+pub use side::{ScriptSide, ZeroClock};

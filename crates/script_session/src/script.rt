@@ -5,14 +5,14 @@ ghost use Rattle.std.specs.declared.alloc.Global.{Global};
 ghost use Rattle.memory_store.specs.InMemory.{InMemory, Upload};
 ghost use Rattle.session_host.specs.Breaks.{IsBreak, MayBreakReading, MayBreakWriting};
 ghost use Rattle.script_session.specs.Served.{most_reads};
-ghost use Rattle.script_session.specs.Scripts.{AnswersScript, IsScript, StandsStill, home_address, script_parts, unasked};
+ghost use Rattle.script_session.specs.Scripts.{AnswersScript, IsScript, ReadsZero, home_address, script_parts, unasked};
 ghost use Rattle.script_session.specs.declared.side.ScriptSide.{ScriptSide};
 ghost use Rattle.session_host.specs.Alone.{AloneDoes};
 ghost use Rattle.session_host.specs.Rows.{IsRow};
 ghost use Rattle.session_host.specs.Sessions.{IsServed, new_session};
 ghost use Rattle.session_host.specs.Silent.{StaysSilent};
 
-use crate::side::{ScriptSide, StillClock};
+use crate::side::{ScriptSide, ZeroClock};
 use authorizer::Authorizer;
 use memory_store::MemStore;
 use rate_floors::Floors;
@@ -42,7 +42,7 @@ pub fn serve_text<F: Allocator + Clone, R: TextReader, W: TextWriter>(
 ) -> Result<(), ControlFault>
     ensures whole { (side : ScriptSide Upload) × IsServed
         (IsRow {A = Global} {R = List ℕ} InMemory users.now.users)
-        (AloneDoes StandsStill AnswersScript StaysSilent R.remaining R.may_fail W.contents
+        (AloneDoes ReadsZero AnswersScript StaysSilent R.remaining R.may_fail W.contents
         W.may_refuse)
         u32.MAX result (new_session settings home_address)
         (script_parts store.old floors.old (unasked port) reader.old writer.old)
@@ -55,7 +55,7 @@ pub fn serve_text<F: Allocator + Clone, R: TextReader, W: TextWriter>(
         (MayBreakWriting W.contents W.may_refuse writer.old)) }
     ensures floors { floors.new ≡ floors.old }
 {
-    let mut clock = StillClock;
+    let mut clock = ZeroClock;
     let mut side = ScriptSide { port, came: None };
     let mut hooks = Silent;
     let mut host = SoleHost {

@@ -1,6 +1,6 @@
 //! The clock and the data side of a session without sockets.
 
-ghost use Rattle.script_session.specs.Scripts.{AnswersScript, EndsScript, IsSent, StandsStill};
+ghost use Rattle.script_session.specs.Scripts.{AnswersScript, EndsScript, IsSent, ReadsZero};
 
 use ftp_wire::HostPort;
 use session_host::{DataEvent, DataSide, Moments};
@@ -10,10 +10,10 @@ use virtual_tree::{Source, StoreFault};
 
 /// A clock that always shows the beginning of 1970.
 #[derive(Clone, Copy, Debug)]
-pub struct StillClock;
+pub struct ZeroClock;
 
-impl Moments for StillClock {
-    ghost Gives = { StandsStill };
+impl Moments for ZeroClock {
+    ghost Gives = { ReadsZero };
 
     fn moment(&mut self) -> u64 {
         0

@@ -3,8 +3,8 @@ use Rattle.std.proofs.Common.{◌≡◌, ℕ, ◌+◌, Bool, cond, List, [], ◌
 use Rattle.std.specs.Borrow.{Bor}
 use Rattle.std.specs.Prelude.{bytes_eq, codes}
 use Rattle.toml.specs.Data.{Data, table, Items, no_items, item, Members, get_member}
-use Rattle.config_file.specs.declared.kind.Kind.{Kind}
-use Rattle.config_file.specs.declared.kind.Kind.TheVariants as kind
+use Rattle.config_file.specs.declared.kind.KeyKind.{KeyKind}
+use Rattle.config_file.specs.declared.kind.KeyKind.TheVariants as kind
 use Rattle.server_config.specs.Groups.{number_named, group_in}
 use Rattle.server_config.specs.RateRows.{numbered, group_row, user_row}
 use Rattle.config_file.specs.Keys.{AllHeld, JudgesFound, KeyRow, needed, optional}
@@ -19,7 +19,7 @@ use Rattle.line_rates.specs.declared.row.UserRate.{UserRate}
 -- ---- what is judged has one value
 
 -- keys that are read by a function of what is found
-abbrev IsPlain : Kind → Type 0
+abbrev IsPlain : KeyKind → Type 0
 IsPlain kind.Address = ⊥
 IsPlain kind.Password = ⊥
 IsPlain _ = Unit {0}
@@ -27,7 +27,7 @@ IsPlain _ = Unit {0}
 ok_same : {A B : Type 0} {judged : Result A B} {x y : A} → Ok x ≡ judged → Ok y ≡ judged → x ≡ y
 ok_same p q = cc
 
-reads_once : (of : Kind) (found : Data) (x y : Held) → IsPlain of → Reads of found (Ok x) → Reads of found (Ok y) → x ≡ y
+reads_once : (of : KeyKind) (found : Data) (x y : Held) → IsPlain of → Reads of found (Ok x) → Reads of found (Ok y) → x ≡ y
 reads_once kind.Text found x y is a b = ok_same a b
 reads_once kind.Line found x y is a b = ok_same a b
 reads_once kind.Password found x y is a b = absurd is

@@ -20,7 +20,7 @@ use Rattle.config_file.specs.Tables.{IsTables, is_grouped, top_rows}
 use Rattle.config_file.specs.Keys.{needed}
 use Rattle.config_file.specs.Values.{Held, number}
 use Rattle.config_file.specs.declared.keys.TheConstants.{LATEST_VERSION}
-use Rattle.config_file.specs.declared.kind.Kind.TheVariants.{Number, Table}
+use Rattle.config_file.specs.declared.kind.KeyKind.TheVariants.{Number, Table}
 use Rattle.config_file.specs.declared.stated.UserTable.{UserTable}
 use Rattle.config_file.specs.declared.tables.Tables.{Tables}
 use Rattle.server_config.specs.Configs.{IsMadeOf, IsConfig, IsConfigText}

@@ -13,7 +13,7 @@ use Rattle.toml.specs.Data.{Data, integer, Items, Members, get_member}
 use Rattle.toml.specs.View.{view, table_view, items_view}
 use Rattle.toml.specs.declared.value.Value.{Value}
 use Rattle.config_file.specs.Keys.{AllHeld, JudgesFound, KeyRow, needed}
-use Rattle.config_file.specs.declared.kind.Kind.TheVariants as kind
+use Rattle.config_file.specs.declared.kind.KeyKind.TheVariants as kind
 use Rattle.server_config.specs.RateRows.{rates_of, group_rows, user_rows}
 use Rattle.config_file.specs.TableKeys.{group_rows as group_keys, group_values, list_row, rate_row, server_rows, server_values, user_rows as user_keys, user_values}
 use Rattle.config_file.specs.Values.{Held, inner, items}

@@ -52,7 +52,7 @@ fn state_row<A: Allocator + Clone, R: Drop, K: Drop>(
     ensures unchanged { OnErr result (state.new ≡ state.old) }
 {
     match row {
-        StateRow::Note(notice) => state.note(notice),
+        StateRow::Note(notice) => state.reply_notice(notice),
         StateRow::Feat => feat_row(state),
         StateRow::Opts(wanted) => opts_row(state, wanted),
         StateRow::Type(wanted) => type_row(state, wanted),

@@ -78,7 +78,7 @@ pub(crate) fn serve<A: Allocator + Clone, F: Allocator + Clone, S: Store<A>>(
 {
     match item {
         LineItem::Fault(fault) => {
-            let actions = state.tell(Answer::Fault(*fault))?;
+            let actions = state.reply(Answer::Fault(*fault))?;
             state.forget_source();
             Ok(actions)
         }

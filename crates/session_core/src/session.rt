@@ -10,7 +10,7 @@ use authorizer::Authorizer;
 use ftp_wire::LineItem;
 use rate_floors::Floors;
 use session_events::{close, take_port};
-use session_state::{State, put, put_abort, room_for};
+use session_state::{State, push_abort, push_reserved, room_for};
 use session_state_rows::greeting;
 use session_table::{Action, Answer, Control, Input, Meanwhile, Refusal, Settings, Stage};
 use std::alloc::{AllocError, Allocator, Global};
@@ -113,9 +113,9 @@ impl<A: Allocator + Clone> Session<A> {
     {
         let mut actions = room_for(&self.state, 3)?;
         let refused = Answer::Refusal(Refusal::TooManyHeldLines);
-        put(&mut actions, Action::Say(refused));
-        put_abort(&mut actions, self.state.runs());
-        put(&mut actions, Action::CloseControl);
+        push_reserved(&mut actions, Action::Say(refused));
+        push_abort(&mut actions, self.state.runs());
+        push_reserved(&mut actions, Action::CloseControl);
         self.state.close_control();
         Ok(actions)
     }

@@ -7,7 +7,7 @@ ghost use Rattle.session_table.specs.Plans.Plan.{Then};
 ghost use Rattle.session_table.specs.Table.{closed_row};
 ghost use Rattle.session_table.specs.Views.{runs};
 
-use session_state::{State, put, put_abort, put_leaving, room_for};
+use session_state::{State, push_abort, push_logout, push_reserved, room_for};
 use session_table::{Action, HookCall, Text};
 use std::alloc::{AllocError, Allocator};
 
@@ -58,9 +58,9 @@ pub fn close<A: Allocator + Clone, R: Drop, K: Drop>(
     let nobody = Text::empty(state.alloc()?);
     let was_inside = state.is_inside();
     let number = state.number();
-    put_abort(&mut actions, state.runs());
+    push_abort(&mut actions, state.runs());
     let name = state.disconnect(nobody);
-    put_leaving(&mut actions, was_inside, name, number);
-    put(&mut actions, Action::Hook(HookCall::Disconnect));
+    push_logout(&mut actions, was_inside, name, number);
+    push_reserved(&mut actions, Action::Hook(HookCall::Disconnect));
     Ok(actions)
 }

@@ -12,7 +12,7 @@ ghost use Rattle.session_state.specs.Waiting.{if_quitting};
 ghost use Rattle.session_table.specs.declared.stages.Work.TheVariants.{Idle};
 
 use authorizer::Authorizer;
-use session_state::{Farewell, State, put, put_farewell, room_for};
+use session_state::{Farewell, State, push_farewell, push_reserved, room_for};
 use session_table::{Action, Answer, Control, End, Errand, HookCall, Notice, Refusal, Stage};
 use std::alloc::{AllocError, Allocator};
 use virtual_path::VPath;
@@ -37,7 +37,7 @@ fn end_told<A: Allocator>(end: End, finished: Result<(), StoreFault>) -> Answer<
 }
 
 /// Appends the reply to the end of a transfer, unless it was aborted or the control connection is to be closed.
-fn put_reply<A: Allocator, R: Drop, K: Drop>(
+fn push_reply<A: Allocator, R: Drop, K: Drop>(
     actions: &mut Vec<Action<A, R, K>, A>,
     control: Control,
     was_aborted: bool,
@@ -52,14 +52,14 @@ fn put_reply<A: Allocator, R: Drop, K: Drop>(
         Control::Closing => {}
         Control::Open | Control::Quitting => {
             if !was_aborted {
-                put(actions, Action::Say(reply));
+                push_reserved(actions, Action::Say(reply));
             }
         }
     }
 }
 
 /// Appends the event for the handler; listings have none.
-fn put_hook<A: Allocator, R: Drop, K: Drop>(
+fn push_hook<A: Allocator, R: Drop, K: Drop>(
     actions: &mut Vec<Action<A, R, K>, A>,
     errand: Errand<VPath<A>>,
     end: End,
@@ -72,12 +72,12 @@ fn put_hook<A: Allocator, R: Drop, K: Drop>(
     match errand {
         Errand::Listing => {}
         Errand::Sending(path) => match end {
-            End::Done => put(actions, Action::Hook(HookCall::FileSent(path))),
-            _ => put(actions, Action::Hook(HookCall::IncompleteFileSent(path))),
+            End::Done => push_reserved(actions, Action::Hook(HookCall::FileSent(path))),
+            _ => push_reserved(actions, Action::Hook(HookCall::IncompleteFileSent(path))),
         },
         Errand::Taking(path) => match end {
-            End::Done => put(actions, Action::Hook(HookCall::FileReceived(path))),
-            _ => put(
+            End::Done => push_reserved(actions, Action::Hook(HookCall::FileReceived(path))),
+            _ => push_reserved(
                 actions,
                 Action::Hook(HookCall::IncompleteFileReceived(path)),
             ),
@@ -99,7 +99,7 @@ pub(crate) fn quit_if_waiting<A: Allocator + Clone, R: Drop, K: Drop>(
         ≡ and_quits users.now.users state.old actions.old.items state.old.control }
 {
     if let Some(farewell) = parting {
-        put_farewell(state, farewell, actions);
+        push_farewell(state, farewell, actions);
     }
 }
 
@@ -133,8 +133,8 @@ fn tell_end<A: Allocator + Clone, R: Drop, K: Drop>(
         return;
     }
     let reply = end_told(ending.end, finished);
-    put_reply(actions, state.control(), ending.was_aborted, reply);
-    put_hook(actions, ending.errand, ending.end);
+    push_reply(actions, state.control(), ending.was_aborted, reply);
+    push_hook(actions, ending.errand, ending.end);
     quit_if_waiting(state, users, ending.parting, actions);
 }
 

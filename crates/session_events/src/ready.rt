@@ -9,7 +9,7 @@ use crate::ends::quit_if_waiting;
 use authorizer::Authorizer;
 use ftp_terms::LineText;
 use ftp_wire::{HostPort, port_text};
-use session_state::{Farewell, State, made, put, room_for};
+use session_state::{Farewell, State, made, push_reserved, room_for};
 use session_table::{Action, Answer, Passive, Refusal};
 use std::alloc::{AllocError, Allocator};
 
@@ -58,7 +58,7 @@ fn say_port<A: Allocator + Clone, R: Drop, K: Drop>(
 {
     let mut actions = room_for(state, 5)?;
     let told = port_told(state, passive, port)?;
-    put(&mut actions, Action::Say(told));
+    push_reserved(&mut actions, Action::Say(told));
     Ok(actions)
 }
 
@@ -94,7 +94,7 @@ fn tell_none<A: Allocator + Clone, R: Drop, K: Drop>(
     let mut actions = room_for(state, 5)?;
     let parting = Farewell::if_waiting(state, users)?;
     let none = Answer::Refusal(Refusal::NoPassivePort);
-    put(&mut actions, Action::Say(none));
+    push_reserved(&mut actions, Action::Say(none));
     state.end_waiting();
     quit_if_waiting(state, users, parting, &mut actions);
     Ok(actions)

@@ -11,7 +11,7 @@ ghost use Rattle.session_table.specs.declared.answers.Answer.TheVariants.{Made};
 ghost use Rattle.session_table.specs.declared.notices.Notice.TheVariants.{SendRnto};
 ghost use Rattle.virtual_path.specs.Path.{path_text};
 
-use crate::outcomes::put_changed;
+use crate::outcomes::push_changed;
 use ftp_terms::Meta;
 use session_state::{Location, State, path_answer, room_for};
 use session_table::{Action, Answer, Notice, Refusal};
@@ -52,7 +52,7 @@ pub fn mkd_row<A: Allocator + Clone, S: Store<A>>(
     let mut actions = room_for(state, 1)?;
     let reply = path_reply(state, location)?;
     let changed = store.make_dir(location.stored());
-    put_changed(state, reply, changed, &mut actions);
+    push_changed(state, reply, changed, &mut actions);
     Ok(actions)
 }
 
@@ -73,7 +73,7 @@ pub fn dele_row<A: Allocator + Clone, S: Store<A>>(
     let mut actions = room_for(state, 1)?;
     let reply = Answer::Notice(Notice::FileRemoved);
     let changed = store.remove_file(location.stored());
-    put_changed(state, reply, changed, &mut actions);
+    push_changed(state, reply, changed, &mut actions);
     Ok(actions)
 }
 
@@ -97,7 +97,7 @@ pub fn rmd_row<A: Allocator + Clone, S: Store<A>>(
     let mut actions = room_for(state, 1)?;
     let reply = Answer::Notice(Notice::DirectoryRemoved);
     let changed = store.remove_dir(location.stored());
-    put_changed(state, reply, changed, &mut actions);
+    push_changed(state, reply, changed, &mut actions);
     Ok(actions)
 }
 
@@ -115,7 +115,7 @@ fn keep<A: Allocator + Clone, R: Drop, K: Drop>(
     if let Err(fault) = looked {
         return state.refuse(Refusal::Store(fault));
     }
-    let actions = state.note(Notice::SendRnto)?;
+    let actions = state.reply_notice(Notice::SendRnto)?;
     state.keep_source(stored);
     Ok(actions)
 }
@@ -161,6 +161,6 @@ pub fn rnto_row<A: Allocator + Clone, S: Store<A>>(
         Some(source) => store.rename(source, location.stored()),
     };
     let reply = Answer::Notice(Notice::Renamed);
-    put_changed(state, reply, changed, &mut actions);
+    push_changed(state, reply, changed, &mut actions);
     Ok(actions)
 }

@@ -14,7 +14,7 @@ use crate::lines::letters_held;
 use authorizer::Authorizer;
 use ftp_reply::{Reply, ReplyCode, mlst_entry};
 use ftp_terms::{LineText, Meta};
-use session_state::{Location, State, put, with_room};
+use session_state::{Location, State, push_reserved, with_room};
 use session_table::{Action, Answer, Refusal};
 use std::alloc::{AllocError, Allocator};
 use virtual_path::VPath;
@@ -46,7 +46,7 @@ fn answer_of<A: Allocator + Clone>(
 {
     let mut lines = with_room(state.alloc()?, 1)?;
     let line = LineText::joined(state.alloc()?, "", " ", entry.as_str())?;
-    put(&mut lines, line);
+    push_reserved(&mut lines, line);
     let first = LineText::fixed("Listing");
     let last = LineText::fixed("End");
     let reply = Reply::several_lines(ReplyCode::new(250), first, lines, last);
@@ -87,7 +87,7 @@ pub fn mlst_row<A: Allocator + Clone, S: Store<A>>(
         Err(fault) => state.refuse(Refusal::Store(fault)),
         Ok(meta) => {
             let answer = entry_answer(state, users, location.path(), &meta)?;
-            state.tell(answer)
+            state.reply(answer)
         }
     }
 }

@@ -51,7 +51,7 @@ pub fn size_row<A: Allocator + Clone, S: Store<A>>(
             EntryKind::Directory => state.refuse(Refusal::Store(StoreFault::IsDir)),
             EntryKind::File => {
                 let answer = size_answer(state.alloc()?, meta.size)?;
-                state.tell(answer)
+                state.reply(answer)
             }
         },
     }
@@ -77,7 +77,7 @@ pub fn mdtm_row<A: Allocator + Clone, S: Store<A>>(
             EntryKind::Directory => state.refuse(Refusal::Store(StoreFault::IsDir)),
             EntryKind::File => {
                 let text = mdtm_line(state.alloc()?, meta.modified)?;
-                state.tell(made(213, text))
+                state.reply(made(213, text))
             }
         },
     }

@@ -4,7 +4,7 @@ ghost use Rattle.std.specs.Prelude.{◌≡◌, IfOk, OnErr};
 ghost use Rattle.session_table.specs.Plans.{RanByStore, Stops};
 ghost use Rattle.session_table.specs.TransferRows.{appe_row, reads, retr_row, stor_row, store_mode, writes};
 
-use crate::outcomes::{put_refusal, put_start};
+use crate::outcomes::{push_refusal, push_start};
 use session_state::{Location, State, room_for};
 use session_table::{Action, Errand, Job};
 use std::alloc::{AllocError, Allocator};
@@ -25,11 +25,11 @@ fn reads<A: Allocator + Clone, S: Store<A>>(
 {
     let mut actions = room_for(state, 2)?;
     match store.open_read(location.stored(), offset) {
-        Err(fault) => put_refusal(state, fault, &mut actions),
+        Err(fault) => push_refusal(state, fault, &mut actions),
         Ok(source) => {
             let job = Job::SendFile(source, state.data_type());
             let errand = Errand::Sending(location.into_path());
-            put_start(state, errand, job, &mut actions);
+            push_start(state, errand, job, &mut actions);
         }
     }
     Ok(actions)
@@ -70,11 +70,11 @@ fn writes<A: Allocator + Clone, S: Store<A>>(
 {
     let mut actions = room_for(state, 2)?;
     match store.open_write(location.stored(), mode, moment) {
-        Err(fault) => put_refusal(state, fault, &mut actions),
+        Err(fault) => push_refusal(state, fault, &mut actions),
         Ok(sink) => {
             let job = Job::TakeFile(sink, state.data_type());
             let errand = Errand::Taking(location.into_path());
-            put_start(state, errand, job, &mut actions);
+            push_start(state, errand, job, &mut actions);
         }
     }
     Ok(actions)

@@ -7,14 +7,14 @@ ghost use Rattle.session_table.specs.StateRows.{refuses, tells};
 ghost use Rattle.session_table.specs.TransferRows.{starts};
 ghost use Rattle.session_table.specs.declared.refusals.Refusal.TheVariants.{Store};
 
-use session_state::{State, put};
+use session_state::{State, push_reserved};
 use session_table::{Action, Answer, Errand, Job, Notice, Refusal};
 use std::alloc::Allocator;
 use virtual_path::VPath;
 use virtual_tree::StoreFault;
 
 /// Puts the store's refusal.
-pub(crate) fn put_refusal<A: Allocator + Clone, R: Drop, K: Drop>(
+pub(crate) fn push_refusal<A: Allocator + Clone, R: Drop, K: Drop>(
     state: &mut State<A>,
     fault: StoreFault,
     actions: &mut Vec<Action<A, R, K>, A>,
@@ -23,12 +23,12 @@ pub(crate) fn put_refusal<A: Allocator + Clone, R: Drop, K: Drop>(
     requires room { vec_len actions.old + 1 ≤ vec_capacity actions.old }
     ensures row { Then state.new actions.new.items ≡ refuses state.old (Store fault) }
 {
-    put(actions, Action::Say(Answer::Refusal(Refusal::Store(fault))));
+    push_reserved(actions, Action::Say(Answer::Refusal(Refusal::Store(fault))));
     state.forget_source();
 }
 
 /// Puts the reply to a change of the store, or its refusal.
-pub(crate) fn put_changed<A: Allocator + Clone, R: Drop, K: Drop>(
+pub(crate) fn push_changed<A: Allocator + Clone, R: Drop, K: Drop>(
     state: &mut State<A>,
     reply: Answer<A>,
     changed: Result<(), StoreFault>,
@@ -40,13 +40,13 @@ pub(crate) fn put_changed<A: Allocator + Clone, R: Drop, K: Drop>(
         ≡ unless_fault state.old (λ done. tells state.old reply) changed }
 {
     match changed {
-        Err(fault) => put_refusal(state, fault, actions),
-        Ok(()) => put(actions, Action::Say(reply)),
+        Err(fault) => push_refusal(state, fault, actions),
+        Ok(()) => push_reserved(actions, Action::Say(reply)),
     }
 }
 
 /// Begins a transfer.
-pub(crate) fn put_start<A: Allocator + Clone, R: Drop, K: Drop>(
+pub(crate) fn push_start<A: Allocator + Clone, R: Drop, K: Drop>(
     state: &mut State<A>,
     errand: Errand<VPath<A>>,
     job: Job<A, R, K>,
@@ -56,7 +56,7 @@ pub(crate) fn put_start<A: Allocator + Clone, R: Drop, K: Drop>(
     requires room { vec_len actions.old + 2 ≤ vec_capacity actions.old }
     ensures row { Then state.new actions.new.items ≡ starts state.old errand job }
 {
-    put(actions, Action::Say(Answer::Notice(Notice::Opening)));
-    put(actions, Action::Start(job));
+    push_reserved(actions, Action::Say(Answer::Notice(Notice::Opening)));
+    push_reserved(actions, Action::Start(job));
     state.begin(errand);
 }

@@ -31,7 +31,7 @@ fn go_to<A: Allocator + Clone, R: Drop, K: Drop>(
         Ok(meta) => match meta.kind {
             EntryKind::File => state.refuse(Refusal::Store(StoreFault::NotDir)),
             EntryKind::Directory => {
-                let actions = state.note(Notice::DirectoryChanged)?;
+                let actions = state.reply_notice(Notice::DirectoryChanged)?;
                 state.change_directory(path);
                 Ok(actions)
             }

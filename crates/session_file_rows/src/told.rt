@@ -13,7 +13,7 @@ use crate::way::Way;
 use authorizer::Authorizer;
 use ftp_reply::{Reply, ReplyCode};
 use ftp_terms::{LineText, Meta};
-use session_state::{State, put, with_room};
+use session_state::{State, push_reserved, with_room};
 use session_table::{Action, Answer, Errand, Job, Notice, Octets, Style};
 use std::alloc::{AllocError, Allocator};
 use virtual_path::VPath;
@@ -29,8 +29,8 @@ fn send_octets<A: Allocator + Clone, R: Drop, K: Drop>(
     ensures unchanged { OnErr result (state.new ≡ state.old) }
 {
     let mut actions = with_room(state.alloc()?, 2)?;
-    put(&mut actions, Action::Say(Answer::Notice(Notice::Opening)));
-    put(&mut actions, Action::Start(Job::Text(octets)));
+    push_reserved(&mut actions, Action::Say(Answer::Notice(Notice::Opening)));
+    push_reserved(&mut actions, Action::Start(Job::Text(octets)));
     state.begin(Errand::Listing);
     Ok(actions)
 }
@@ -58,7 +58,7 @@ fn tell_lines<A: Allocator + Clone, R: Drop, K: Drop>(
     let first = LineText::fixed("Status");
     let last = LineText::fixed("End");
     let reply = Reply::several_lines(ReplyCode::new(213), first, lines, last);
-    state.tell(Answer::Made(reply))
+    state.reply(Answer::Made(reply))
 }
 
 fn tell_line<A: Allocator + Clone, R: Drop, K: Drop>(
@@ -69,7 +69,7 @@ fn tell_line<A: Allocator + Clone, R: Drop, K: Drop>(
         Then state.now actions.items ≡ status_lines state.now (text_of line ∷ [])) }
 {
     let mut lines = with_room(state.alloc()?, 1)?;
-    put(&mut lines, line);
+    push_reserved(&mut lines, line);
     tell_lines(state, lines)
 }
 

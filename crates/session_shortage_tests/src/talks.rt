@@ -14,7 +14,7 @@ use session_table::Settings;
 use std::alloc::Allocator;
 use std::process::Abort;
 use test_scarce_memory::{HEAP, leave_hole};
-use text_io::{Outside, TextReader};
+use text_io::{FallibleIo, TextReader};
 
 /// The greeting and the lines of a session, its output on a store that an earlier session has changed, and the number
 /// of the first row that changes the store.
@@ -116,7 +116,7 @@ fn serve_rows<'h>(
     } else {
         Vec::new(rt.alloc())
     };
-    let reader = Outside(ScarceReader {
+    let reader = FallibleIo(ScarceReader {
         rt,
         heap,
         rows,

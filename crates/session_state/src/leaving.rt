@@ -8,7 +8,7 @@ ghost use Rattle.session_table.specs.declared.actions.Action.TheVariants.{Abort,
 ghost use Rattle.session_table.specs.declared.actions.HookCall.TheVariants.{Logout};
 
 use crate::answers::copied;
-use crate::room::put;
+use crate::room::push_reserved;
 use crate::state::State;
 use authorizer::Authorizer;
 use session_table::{Action, Answer, Control, HookCall, Notice, Text};
@@ -16,19 +16,19 @@ use std::alloc::{AllocError, Allocator};
 use std::marker::Model;
 
 /// Appends the abort of a running transfer.
-pub fn put_abort<A: Allocator, R: Drop, K: Drop>(actions: &mut Vec<Action<A, R, K>, A>, runs: bool)
+pub fn push_abort<A: Allocator, R: Drop, K: Drop>(actions: &mut Vec<Action<A, R, K>, A>, runs: bool)
     requires room { vec_len actions.old < vec_capacity actions.old }
     ensures items { actions.new.items ≡ actions.old.items ++ cond runs (Abort ∷ []) [] }
     ensures len { vec_len actions.new ≤ vec_len actions.old + 1 }
     ensures kept { vec_capacity actions.old ≤ vec_capacity actions.new }
 {
     if runs {
-        put(actions, Action::Abort);
+        push_reserved(actions, Action::Abort);
     }
 }
 
 /// Appends the actions of a user who leaves.
-pub fn put_leaving<A: Allocator, R: Drop, K: Drop>(
+pub fn push_logout<A: Allocator, R: Drop, K: Drop>(
     actions: &mut Vec<Action<A, R, K>, A>,
     was_inside: bool,
     name: Text<A>,
@@ -41,8 +41,8 @@ pub fn put_leaving<A: Allocator, R: Drop, K: Drop>(
     ensures kept { vec_capacity actions.old ≤ vec_capacity actions.new }
 {
     if was_inside {
-        put(actions, Action::Hook(HookCall::Logout(name)));
-        put(actions, Action::ReleaseFloor(number));
+        push_reserved(actions, Action::Hook(HookCall::Logout(name)));
+        push_reserved(actions, Action::ReleaseFloor(number));
     }
 }
 
@@ -109,7 +109,7 @@ impl<A: Allocator + Clone> Farewell<A> {
 }
 
 /// Appends the farewell to other actions: the reply, the leave of the user, and the close.
-pub fn put_farewell<A: Allocator + Clone, R: Drop, K: Drop>(
+pub fn push_farewell<A: Allocator + Clone, R: Drop, K: Drop>(
     state: &mut State<A>,
     farewell: Farewell<A>,
     actions: &mut Vec<Action<A, R, K>, A>,
@@ -120,7 +120,7 @@ pub fn put_farewell<A: Allocator + Clone, R: Drop, K: Drop>(
     let was_inside = state.is_inside();
     let number = state.number();
     let name = state.log_out(farewell.nobody);
-    put(actions, Action::Say(farewell.reply));
-    put_leaving(actions, was_inside, name, number);
-    put(actions, Action::CloseControl);
+    push_reserved(actions, Action::Say(farewell.reply));
+    push_logout(actions, was_inside, name, number);
+    push_reserved(actions, Action::CloseControl);
 }

@@ -3,7 +3,7 @@
 //! ```text
 //! state.change_directory(path); // each such call changes just what its name says
 //! holds(rt, state.cwd().text() == "/in");
-//! let told = state.note(Notice::DirectoryChanged); // actions, of which one is a reply
+//! let told = state.reply_notice(Notice::DirectoryChanged); // actions, of which one is a reply
 //! says(rt, told, "250 Directory changed\r\n");
 //! ```
 #![tactic(auto)]
@@ -17,7 +17,7 @@ mod state;
 mod told;
 
 pub use answers::{copied, made, path_answer};
-pub use leaving::{Farewell, put_abort, put_farewell, put_leaving};
+pub use leaving::{Farewell, push_abort, push_farewell, push_logout};
 pub use location::Location;
-pub use room::{put, room_for, with_room};
+pub use room::{push_reserved, room_for, with_room};
 pub use state::State;

@@ -16,7 +16,7 @@ pub fn with_room<T, A: Allocator>(alloc: A, count: usize) -> Result<Vec<T, A>, A
 }
 
 /// Appends an item to a list that has room.
-pub fn put<T: Drop, A: Allocator>(items: &mut Vec<T, A>, item: T)
+pub fn push_reserved<T: Drop, A: Allocator>(items: &mut Vec<T, A>, item: T)
     requires room { vec_len items.old < vec_capacity items.old }
     ensures items { items.new.items ≡ items.old.items ++ item ∷ [] }
     ensures len { vec_len items.new ≡ vec_len items.old + 1 }

@@ -2,7 +2,7 @@
 
 ghost use Rattle.std.specs.Prelude.{◌≡◌, [], ◌∷◌, IfOk, OnErr};
 
-use crate::room::{put, with_room};
+use crate::room::{push_reserved, with_room};
 use crate::state::State;
 use session_table::{Action, Answer, Notice, Refusal};
 use std::alloc::{AllocError, Allocator};
@@ -13,25 +13,25 @@ impl<A: Allocator + Clone> State<A> {
     ghost use Rattle.session_table.specs.declared.actions.Action.TheVariants.{Say};
 
     /// Makes the actions of one reply.
-    pub fn tell<R: Drop, K: Drop>(
+    pub fn reply<R: Drop, K: Drop>(
         &self,
         answer: Answer<A>,
     ) -> Result<Vec<Action<A, R, K>, A>, AllocError>
         ensures ok { IfOk result (λ actions. actions.items ≡ Say answer ∷ []) }
     {
         let mut actions = with_room(self.alloc()?, 1)?;
-        put(&mut actions, Action::Say(answer));
+        push_reserved(&mut actions, Action::Say(answer));
         Ok(actions)
     }
 
     /// Makes the actions of one reply with a fixed text.
-    pub fn note<R: Drop, K: Drop>(
+    pub fn reply_notice<R: Drop, K: Drop>(
         &self,
         notice: Notice,
     ) -> Result<Vec<Action<A, R, K>, A>, AllocError>
         ensures ok { IfOk result (λ actions. Then self.now actions.items ≡ notes self.now notice) }
     {
-        self.tell(Answer::Notice(notice))
+        self.reply(Answer::Notice(notice))
     }
 
     /// Makes the actions of one refusal, and forgets the path that RNFR named.
@@ -43,7 +43,7 @@ impl<A: Allocator + Clone> State<A> {
             Then self.new actions.items ≡ refuses self.old refusal) }
         ensures err { OnErr result (self.new ≡ self.old) }
     {
-        let actions = self.tell(Answer::Refusal(refusal))?;
+        let actions = self.reply(Answer::Refusal(refusal))?;
         self.forget_source();
         Ok(actions)
     }

@@ -6,7 +6,7 @@ ghost use Rattle.session_table.specs.StateRows.{abor_row, eprt_row, epsv_row, op
 ghost use Rattle.ftp_wire.specs.declared.commands.ExtendedPassive.TheVariants.{All};
 
 use ftp_wire::{ExtendedPassive, ExtendedPort, HostPort};
-use session_state::{State, put, with_room};
+use session_state::{State, push_reserved, with_room};
 use session_table::{Action, Answer, Notice, Passive, Refusal};
 use std::alloc::{AllocError, Allocator};
 
@@ -36,8 +36,8 @@ pub fn port_row<A: Allocator + Clone, R: Drop, K: Drop>(
         return state.refuse(refusal);
     }
     let mut actions = with_room(state.alloc()?, 2)?;
-    put(&mut actions, Action::Say(Answer::Notice(Notice::Fine)));
-    put(&mut actions, Action::ConnectTo(to));
+    push_reserved(&mut actions, Action::Say(Answer::Notice(Notice::Fine)));
+    push_reserved(&mut actions, Action::ConnectTo(to));
     state.prepare();
     Ok(actions)
 }
@@ -66,7 +66,7 @@ fn opens<A: Allocator + Clone, R: Drop, K: Drop>(
     ensures unchanged { OnErr result (state.new ≡ state.old) }
 {
     let mut actions = with_room(state.alloc()?, 1)?;
-    put(&mut actions, Action::OpenPassive);
+    push_reserved(&mut actions, Action::OpenPassive);
     state.await_port(passive);
     Ok(actions)
 }
@@ -89,7 +89,7 @@ fn forbid_plain<A: Allocator + Clone, R: Drop, K: Drop>(
         Then state.new actions.items ≡ epsv_row state.old All) }
     ensures unchanged { OnErr result (state.new ≡ state.old) }
 {
-    let actions = state.note(Notice::OnlyExtended)?;
+    let actions = state.reply_notice(Notice::OnlyExtended)?;
     state.forbid_plain();
     Ok(actions)
 }
@@ -123,13 +123,13 @@ pub fn abor_row<A: Allocator + Clone, R: Drop, K: Drop>(
     ensures unchanged { OnErr result (state.new ≡ state.old) }
 {
     if !state.has_transfer() {
-        return state.note(Notice::NothingToAbort);
+        return state.reply_notice(Notice::NothingToAbort);
     }
     let mut actions = with_room(state.alloc()?, 3)?;
     let aborted = Answer::Refusal(Refusal::TransferAborted);
-    put(&mut actions, Action::Say(aborted));
-    put(&mut actions, Action::Abort);
-    put(&mut actions, Action::Say(Answer::Notice(Notice::AbortDone)));
+    push_reserved(&mut actions, Action::Say(aborted));
+    push_reserved(&mut actions, Action::Abort);
+    push_reserved(&mut actions, Action::Say(Answer::Notice(Notice::AbortDone)));
     state.abort();
     Ok(actions)
 }

@@ -11,7 +11,7 @@ ghost use Rattle.session_table.specs.declared.answers.Answer.TheVariants.{Made};
 use ftp_reply::{Reply, ReplyCode};
 use ftp_terms::{Facts, LineText};
 use ftp_wire::{FeatureOption, facts_text, starred_facts_text};
-use session_state::{State, made, put, with_room};
+use session_state::{State, made, push_reserved, with_room};
 use session_table::{Action, Answer, Notice};
 use std::alloc::{AllocError, Allocator};
 
@@ -40,13 +40,13 @@ fn features<A: Allocator + Clone>(alloc: A, facts: Facts) -> Result<Vec<LineText
     let stars = starred_facts_text(alloc.clone()?, facts)?;
     let listing = LineText::joined(alloc.clone()?, " MLST ", stars.as_str(), "")?;
     let mut lines = with_room(alloc, 7)?;
-    put(&mut lines, LineText::fixed(" EPRT"));
-    put(&mut lines, LineText::fixed(" EPSV"));
-    put(&mut lines, LineText::fixed(" MDTM"));
-    put(&mut lines, listing);
-    put(&mut lines, LineText::fixed(" REST STREAM"));
-    put(&mut lines, LineText::fixed(" SIZE"));
-    put(&mut lines, LineText::fixed(" UTF8"));
+    push_reserved(&mut lines, LineText::fixed(" EPRT"));
+    push_reserved(&mut lines, LineText::fixed(" EPSV"));
+    push_reserved(&mut lines, LineText::fixed(" MDTM"));
+    push_reserved(&mut lines, listing);
+    push_reserved(&mut lines, LineText::fixed(" REST STREAM"));
+    push_reserved(&mut lines, LineText::fixed(" SIZE"));
+    push_reserved(&mut lines, LineText::fixed(" UTF8"));
     Ok(lines)
 }
 
@@ -67,7 +67,7 @@ pub fn feat_row<A: Allocator + Clone, R: Drop, K: Drop>(
     ensures row { IfOk result (λ actions. Then state.now actions.items ≡ feat_row state.now) }
 {
     let answer = features_answer(state.alloc()?, state.facts())?;
-    state.tell(answer)
+    state.reply(answer)
 }
 
 fn facts_row<A: Allocator + Clone, R: Drop, K: Drop>(
@@ -79,7 +79,7 @@ fn facts_row<A: Allocator + Clone, R: Drop, K: Drop>(
     ensures unchanged { OnErr result (state.new ≡ state.old) }
 {
     let answer = facts_answer(state.alloc()?, facts)?;
-    let actions = state.tell(answer)?;
+    let actions = state.reply(answer)?;
     state.set_facts(facts);
     Ok(actions)
 }
@@ -94,7 +94,7 @@ pub fn opts_row<A: Allocator + Clone, R: Drop, K: Drop>(
     ensures unchanged { OnErr result (state.new ≡ state.old) }
 {
     match wanted {
-        FeatureOption::Utf8On => state.note(Notice::Utf8IsOn),
+        FeatureOption::Utf8On => state.reply_notice(Notice::Utf8IsOn),
         FeatureOption::Mlst(facts) => facts_row(state, facts),
     }
 }

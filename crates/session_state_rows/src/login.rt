@@ -11,7 +11,7 @@ ghost use Rattle.session_table.specs.declared.answers.Answer.TheVariants.{Made};
 
 use authorizer::Authorizer;
 use rate_floors::Floors;
-use session_state::{State, copied, put, room_for};
+use session_state::{State, copied, push_reserved, room_for};
 use session_table::{Action, Answer, HookCall, Refusal, Stage, Text};
 use std::alloc::{AllocError, Allocator};
 
@@ -45,9 +45,9 @@ fn welcomed<A: Allocator + Clone, R: Drop, K: Drop>(
 {
     let mut actions = room_for(state, 2)?;
     let reply = welcome(state, users)?;
-    put(&mut actions, Action::Say(reply));
+    push_reserved(&mut actions, Action::Say(reply));
     let name = name_of(state)?;
-    put(&mut actions, Action::Hook(HookCall::Login(name)));
+    push_reserved(&mut actions, Action::Hook(HookCall::Login(name)));
     Ok(actions)
 }
 
@@ -60,8 +60,8 @@ fn not_admitted<A: Allocator + Clone, R: Drop, K: Drop>(
 {
     let mut actions = room_for(state, 2)?;
     let refused = Answer::Refusal(Refusal::NoGuarantee);
-    put(&mut actions, Action::Say(refused));
-    put(&mut actions, Action::CloseControl);
+    push_reserved(&mut actions, Action::Say(refused));
+    push_reserved(&mut actions, Action::CloseControl);
     Ok(actions)
 }
 
@@ -126,16 +126,16 @@ fn lose_attempt<A: Allocator + Clone, R: Drop, K: Drop>(
     ensures row { Then state.new actions.new.items ≡ turned_away state.old }
 {
     if state.is_last_attempt() {
-        put(
+        push_reserved(
             actions,
             Action::Say(Answer::Refusal(Refusal::TooManyLogins)),
         );
-        put(actions, Action::CloseControl);
+        push_reserved(actions, Action::CloseControl);
         state.lose_last_attempt();
         return;
     }
     let refused = Answer::Refusal(Refusal::LoginIncorrect);
-    put(actions, Action::Say(refused));
+    push_reserved(actions, Action::Say(refused));
     state.lose_attempt();
 }
 
@@ -148,7 +148,7 @@ fn turn_away<A: Allocator + Clone, R: Drop, K: Drop>(
 {
     let mut actions = room_for(state, 3)?;
     let name = name_of(state)?;
-    put(&mut actions, Action::Hook(HookCall::LoginFailed(name)));
+    push_reserved(&mut actions, Action::Hook(HookCall::LoginFailed(name)));
     lose_attempt(state, &mut actions);
     Ok(actions)
 }

@@ -7,12 +7,12 @@ ghost use Rattle.session_table.specs.StateRows.{greeting, rein_row, restarts, us
 ghost use Rattle.session_table.specs.declared.actions.Action.TheVariants.{DropData};
 ghost use Rattle.session_table.specs.declared.answers.Answer.TheVariants.{Made};
 
-use session_state::{State, copied, put, put_leaving, room_for};
+use session_state::{State, copied, push_logout, push_reserved, room_for};
 use session_table::{Action, Answer, HookCall, Notice, Stage, Text};
 use std::alloc::{AllocError, Allocator};
 use virtual_path::VPath;
 
-fn put_drop<A: Allocator, R: Drop, K: Drop>(
+fn push_drop<A: Allocator, R: Drop, K: Drop>(
     actions: &mut Vec<Action<A, R, K>, A>,
     was_prepared: bool,
 )
@@ -20,7 +20,7 @@ fn put_drop<A: Allocator, R: Drop, K: Drop>(
     ensures items { actions.new.items ≡ actions.old.items ++ cond was_prepared (DropData ∷ []) [] }
 {
     if was_prepared {
-        put(actions, Action::DropData);
+        push_reserved(actions, Action::DropData);
     }
 }
 
@@ -41,9 +41,9 @@ fn restart<A: Allocator + Clone, R: Drop, K: Drop>(
     let was_prepared = state.is_prepared();
     let number = state.number();
     let before = state.begin_anew(root, name, stage);
-    put_leaving(actions, was_inside, before, number);
-    put(actions, Action::Say(reply));
-    put_drop(actions, was_prepared);
+    push_logout(actions, was_inside, before, number);
+    push_reserved(actions, Action::Say(reply));
+    push_drop(actions, was_prepared);
 }
 
 /// USER (RFC 959, section 4.1.1).
@@ -92,7 +92,7 @@ pub fn greeting<A: Allocator + Clone, R: Drop, K: Drop>(
 {
     let mut actions = room_for(state, 2)?;
     let reply = banner_reply(state)?;
-    put(&mut actions, Action::Say(reply));
-    put(&mut actions, Action::Hook(HookCall::Connect));
+    push_reserved(&mut actions, Action::Say(reply));
+    push_reserved(&mut actions, Action::Hook(HookCall::Connect));
     Ok(actions)
 }

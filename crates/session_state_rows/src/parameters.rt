@@ -21,7 +21,7 @@ pub fn type_row<A: Allocator + Clone, R: Drop, K: Drop>(
         Then state.new actions.items ≡ type_row state.old data_type) }
     ensures unchanged { OnErr result (state.new ≡ state.old) }
 {
-    let actions = state.note(Notice::TypeIs(data_type))?;
+    let actions = state.reply_notice(Notice::TypeIs(data_type))?;
     state.set_data_type(data_type);
     Ok(actions)
 }
@@ -54,7 +54,7 @@ pub fn rest_row<A: Allocator + Clone, R: Drop, K: Drop>(
         return state.refuse(Refusal::OffsetNeedsImage);
     }
     let answer = restart_answer(state.alloc()?, offset)?;
-    let actions = state.tell(answer)?;
+    let actions = state.reply(answer)?;
     state.set_offset(offset);
     Ok(actions)
 }
@@ -66,7 +66,7 @@ pub fn pwd_row<A: Allocator + Clone, R: Drop, K: Drop>(
     ensures row { IfOk result (λ actions. Then state.now actions.items ≡ pwd_row state.now) }
 {
     let answer = path_answer(state.alloc()?, state.cwd().text())?;
-    state.tell(answer)
+    state.reply(answer)
 }
 
 /// STAT without an argument (RFC 959, section 4.1.3).
@@ -76,7 +76,7 @@ pub fn status_row<A: Allocator + Clone, R: Drop, K: Drop>(
     ensures row { IfOk result (λ actions. Then state.now actions.items ≡ status_row state.now) }
 {
     if state.has_transfer() {
-        return state.note(Notice::TransferInProgress);
+        return state.reply_notice(Notice::TransferInProgress);
     }
-    state.note(Notice::NoTransfer)
+    state.reply_notice(Notice::NoTransfer)
 }

@@ -5,7 +5,7 @@ ghost use Rattle.session_table.specs.Plans.Plan.{Then};
 ghost use Rattle.session_table.specs.StateRows.{quit_row};
 
 use authorizer::Authorizer;
-use session_state::{Farewell, State, put_farewell, room_for};
+use session_state::{Farewell, State, push_farewell, room_for};
 use session_table::Action;
 use std::alloc::{AllocError, Allocator};
 
@@ -20,6 +20,6 @@ pub fn quit_row<A: Allocator + Clone, R: Drop, K: Drop>(
 {
     let mut actions = room_for(state, 4)?;
     let farewell = Farewell::new(state, users)?;
-    put_farewell(state, farewell, &mut actions);
+    push_farewell(state, farewell, &mut actions);
     Ok(actions)
 }

@@ -18,7 +18,7 @@ use virtual_path::VPath;
 fn session_state(rt: &(impl Abort + AllocGlobal), state: &mut State, path: VPath) {
     state.change_directory(path); // each such call changes just what its name says
     holds(rt, state.cwd().text() == "/in");
-    let told = state.note(Notice::DirectoryChanged); // actions, of which one is a reply
+    let told = state.reply_notice(Notice::DirectoryChanged); // actions, of which one is a reply
     says(rt, told, "250 Directory changed\r\n");
 }
 

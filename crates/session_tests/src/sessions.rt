@@ -15,7 +15,7 @@ use std::io;
 use std::io::Write;
 use std::process::Abort;
 use std::test::Fail;
-use text_io::{Outside, TextWriter};
+use text_io::{FallibleIo, TextWriter};
 
 /// The end of a long name.
 const LONG: &str = "abcdefghijklmnopqrstuvwxyzabcdefghijklmnopqrstuvwxyzabcdefghijklmnopqrstuvwxyz";
@@ -159,7 +159,7 @@ fn a_long_reply(rt: HostRuntime) {
     let mut whole: Vec<u8> = Vec::new(rt.alloc());
     talk(&rt, &mut room, lines, &mut whole);
     holds(&rt, 10_000 < whole.len());
-    let mut slow = Outside(SlowClient {
+    let mut slow = FallibleIo(SlowClient {
         taken: Vec::new(rt.alloc()),
     });
     talk(&rt, &mut room, lines, &mut slow);

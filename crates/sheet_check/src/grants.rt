@@ -14,7 +14,7 @@ ghost use Rattle.sheet_text.specs.Views.{IsSheetOf};
 
 use crate::grants_fault::GrantsFault;
 use grant_certificate::Certificate;
-use sheet_text::{Grant, Sheet, cut_line, hint_of, is_skipped, read_grant};
+use sheet_text::{GrantsLine, Sheet, cut_line, hint_of, is_skipped, read_grant};
 use std::alloc::{AllocError, Allocator};
 
 /// The grant of a leaf, with the number of the named node.
@@ -58,7 +58,7 @@ fn judge<A: Allocator>(
     sheet: &Sheet<'_, A>,
     place: usize,
     number: usize,
-    line: Grant<'_>,
+    line: GrantsLine<'_>,
 ) -> Result<(usize, Given), GrantsFault>
     requires texts { ArePathTexts line }
     ensures judged { MatchResult result

@@ -7,7 +7,7 @@ use sheet_check::{GrantsFault, read_grants, run_check};
 use sheet_share::run_share;
 use sheet_text::{Nodes, cut_line, read_grant, read_sheet};
 use std::test::Fail;
-use text_io::{Outside, TextReader, TextWriter, read_whole, write_whole};
+use text_io::{FallibleIo, TextReader, TextWriter, read_whole, write_whole};
 
 #[test]
 fn faults_are_told(rt: HostRuntime) {
@@ -66,7 +66,7 @@ fn text_io(rt: HostRuntime) {
     holds(&rt, text.as_slice() == b"limit / 10\n".as_slice());
     let mut output = Vec::new(alloc); // takes octets while memory lasts
     write_whole("total 10\n", &mut output).expect(&rt, "room");
-    let mut other = Outside(output); // any other end, such as a file: it may fail at each call
+    let mut other = FallibleIo(output); // any other end, such as a file: it may fail at each call
     other.write_text(b"QUIT\r\n").expect(&rt, "room");
     holds(&rt, other.0.as_slice() == b"total 10\nQUIT\r\n".as_slice());
 }

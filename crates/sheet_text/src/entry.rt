@@ -12,7 +12,7 @@ use limit_tree::NodeKind;
 
 /// The statement of one line about a path. The root's text is empty, and any other's has a `/` before each name.
 #[derive(Clone, Copy)]
-pub struct Entry<'t> {
+pub struct SheetLine<'t> {
     pub path: &'t str,
     pub kind: NodeKind,
 }
@@ -35,7 +35,7 @@ fn read_want(want: &[u8], floor: Option<u64>) -> Option<NodeKind>
     Some(NodeKind::Leaf { want, floor })
 }
 
-fn three_words<'t>(word: &[u8], place: &'t [u8], amount: &[u8]) -> Option<Entry<'t>>
+fn three_words<'t>(word: &[u8], place: &'t [u8], amount: &[u8]) -> Option<SheetLine<'t>>
     ensures entry { option_map entry_view result
         ≡ entry_of_words (word.now ∷ place.now ∷ amount.now ∷ []) }
     ensures text { IfSome result (λ entry. IsPathText entry.path.now) }
@@ -43,17 +43,22 @@ fn three_words<'t>(word: &[u8], place: &'t [u8], amount: &[u8]) -> Option<Entry<
     if word == b"limit".as_slice() {
         let path = read_path(place)?;
         let kind = read_limit(amount)?;
-        return Some(Entry { path, kind });
+        return Some(SheetLine { path, kind });
     }
     if word == b"want".as_slice() {
         let path = read_named_path(place)?;
         let kind = read_want(amount, Some(0))?;
-        return Some(Entry { path, kind });
+        return Some(SheetLine { path, kind });
     }
     None
 }
 
-fn four_words<'t>(word: &[u8], place: &'t [u8], amount: &[u8], floor: &[u8]) -> Option<Entry<'t>>
+fn four_words<'t>(
+    word: &[u8],
+    place: &'t [u8],
+    amount: &[u8],
+    floor: &[u8],
+) -> Option<SheetLine<'t>>
     ensures entry { option_map entry_view result
         ≡ entry_of_words (word.now ∷ place.now ∷ amount.now ∷ floor.now ∷ []) }
     ensures text { IfSome result (λ entry. IsPathText entry.path.now) }
@@ -63,11 +68,11 @@ fn four_words<'t>(word: &[u8], place: &'t [u8], amount: &[u8], floor: &[u8]) -> 
     }
     let path = read_named_path(place)?;
     let kind = read_want(amount, read_number(floor))?;
-    Some(Entry { path, kind })
+    Some(SheetLine { path, kind })
 }
 
 /// Reads `limit PATH N`, `limit PATH -`, `want PATH N` or `want PATH N FLOOR`.
-pub fn read_entry(line: &[u8]) -> Option<Entry<'_>>
+pub fn read_entry(line: &[u8]) -> Option<SheetLine<'_>>
     ensures entry { option_map entry_view result ≡ entry_of line.now }
     ensures text { IfSome result (λ entry. IsPathText entry.path.now) }
 {

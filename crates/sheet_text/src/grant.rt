@@ -10,13 +10,13 @@ use crate::path::read_path;
 
 /// The statement of one line: octets for the want of a path, and the path of a node, if it names one.
 #[derive(Clone, Copy)]
-pub struct Grant<'t> {
+pub struct GrantsLine<'t> {
     pub path: &'t str,
     pub octets: u64,
     pub node: Option<&'t str>,
 }
 
-fn three_words<'t>(word: &[u8], place: &'t [u8], amount: &[u8]) -> Option<Grant<'t>>
+fn three_words<'t>(word: &[u8], place: &'t [u8], amount: &[u8]) -> Option<GrantsLine<'t>>
     ensures line { option_map grant_view result
         ≡ grant_of_words (word.now ∷ place.now ∷ amount.now ∷ []) }
     ensures texts { IfSome result ArePathTexts }
@@ -26,14 +26,19 @@ fn three_words<'t>(word: &[u8], place: &'t [u8], amount: &[u8]) -> Option<Grant<
     }
     let path = read_path(place)?;
     let octets = read_number(amount)?;
-    Some(Grant {
+    Some(GrantsLine {
         path,
         octets,
         node: None,
     })
 }
 
-fn four_words<'t>(word: &[u8], place: &'t [u8], amount: &[u8], name: &'t [u8]) -> Option<Grant<'t>>
+fn four_words<'t>(
+    word: &[u8],
+    place: &'t [u8],
+    amount: &[u8],
+    name: &'t [u8],
+) -> Option<GrantsLine<'t>>
     ensures line { option_map grant_view result
         ≡ grant_of_words (word.now ∷ place.now ∷ amount.now ∷ name.now ∷ []) }
     ensures texts { IfSome result ArePathTexts }
@@ -44,7 +49,7 @@ fn four_words<'t>(word: &[u8], place: &'t [u8], amount: &[u8], name: &'t [u8]) -
     let path = read_path(place)?;
     let octets = read_number(amount)?;
     let node = read_path(name)?;
-    Some(Grant {
+    Some(GrantsLine {
         path,
         octets,
         node: Some(node),
@@ -52,7 +57,7 @@ fn four_words<'t>(word: &[u8], place: &'t [u8], amount: &[u8], name: &'t [u8]) -
 }
 
 /// Reads `grant PATH N` or `grant PATH N NODE`.
-pub fn read_grant(line: &[u8]) -> Option<Grant<'_>>
+pub fn read_grant(line: &[u8]) -> Option<GrantsLine<'_>>
     ensures line { option_map grant_view result ≡ grant_of line.now }
     ensures texts { IfSome result ArePathTexts }
 {

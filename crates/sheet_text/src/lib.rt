@@ -34,9 +34,9 @@ mod walk;
 mod whole;
 
 pub use cut::{cut_at, cut_line};
-pub use entry::{Entry, read_entry};
+pub use entry::{SheetLine, read_entry};
 pub use fault::SheetFault;
-pub use grant::{Grant, read_grant};
+pub use grant::{GrantsLine, read_grant};
 pub use hint::{Hint, hint_of};
 pub use laws::{
     mentioned_is_stated_or_above, nodes_hold_what_is_beneath, sheet_is_of_its_lines,

@@ -11,7 +11,7 @@ ghost use Rattle.sheet_text.specs.LineViews.{entry_view};
 ghost use Rattle.sheet_text.specs.Kept.{wanted};
 
 use crate::cut::cut_line;
-use crate::entry::{Entry, read_entry};
+use crate::entry::{SheetLine, read_entry};
 use crate::fault::SheetFault;
 use crate::hint::hint_of;
 use crate::node::{Nodes, is_leaf};
@@ -48,7 +48,7 @@ pub(crate) struct Reading<'t, A: Allocator> {
 
 impl<'t, A: Allocator + Clone> Reading<'t, A> {
     /// Takes the statement of a line.
-    fn take(&mut self, number: usize, entry: Entry<'t>) -> Result<(), SheetFault>
+    fn take(&mut self, number: usize, entry: SheetLine<'t>) -> Result<(), SheetFault>
         requires text { IsPathText entry.path.now }
         requires below { AreBelow (length self.old.nodes) self.old.wants.items }
         ensures taken { MatchResult result

@@ -3,22 +3,22 @@
 #![tactic(auto)]
 
 use sheets_program::{
-    Ending, Machine, NOBODY_READS, Noted, Told, as_words, line_words, null_device, run_sheets,
+    ErrorText, Exit, Machine, NOBODY_READS, Noted, as_words, line_words, null_device, run_sheets,
 };
 use std::io;
 use std::io::Write;
 use std::process::ExitCode;
-use text_io::Outside;
+use text_io::FallibleIo;
 
 const NAME: &str = "sheets";
 
 /// Reports the ending on standard error, and returns its status. If nobody reads the output any more, that is not
 /// reported as a fault.
-fn told<W: Write>(rt: &HostRuntime, ending: &Ending<'_>, output: &Outside<Noted<W>>) -> u8 {
+fn told<W: Write>(rt: &HostRuntime, ending: &Exit<'_>, output: &FallibleIo<Noted<W>>) -> u8 {
     if output.0.is_closed() {
         return NOBODY_READS;
     }
-    let told = Told {
+    let told = ErrorText {
         name: NAME,
         ending,
         output: output.0.error(),
@@ -29,7 +29,7 @@ fn told<W: Write>(rt: &HostRuntime, ending: &Ending<'_>, output: &Outside<Noted<
 
 /// Runs the command of the words after the program's name, and returns the status.
 fn run_line(rt: &HostRuntime) -> u8 {
-    let mut output = Outside(Noted::new(io::writer(rt)));
+    let mut output = FallibleIo(Noted::new(io::writer(rt)));
     let texts = match line_words(rt) {
         Ok(texts) => texts,
         Err(ending) => return told(rt, &ending, &output),

@@ -15,8 +15,8 @@ use Rattle.sheet_share.specs.declared.fault.ShareFault.TheVariants as share
 use Rattle.sheet_text.specs.Sheet.{sheet_fault}
 use Rattle.text_io.specs.Texts.{IsTextOf}
 use Rattle.text_io.specs.declared.fault.TextFault.TheVariants.{TooLong, ReadFault, WriteFault, Memory}
-use Rattle.sheets_program.specs.declared.ending.Ending.{Ending}
-use Rattle.sheets_program.specs.declared.ending.Ending.TheVariants.{Share, Check}
+use Rattle.sheets_program.specs.declared.ending.Exit.{Exit}
+use Rattle.sheets_program.specs.declared.ending.Exit.TheVariants.{Share, Check}
 use Rattle.sheets_program.specs.Runs.{IsNamedTwice, IsTooLong, Octets}
 
 -- the output may refuse the lines of the sharing of a text that the sheet may contain
@@ -31,7 +31,7 @@ IsShareWhy gives refused fails refuses (share.Text WriteFault) = IsSharingRefuse
 IsShareWhy gives refused fails refuses _ = Unit {0}
 
 -- the same for the fault of an ending, if it is one of `share`
-abbrev pub IsShareReason : Octets → Type 0 → Type 0 → (List ℕ → Type 0) → Ending → Type 0
+abbrev pub IsShareReason : Octets → Type 0 → Type 0 → (List ℕ → Type 0) → Exit → Type 0
 IsShareReason gives refused fails refuses (Share fault cause) =
     IsShareWhy gives refused fails refuses fault
 IsShareReason gives refused fails refuses _ = Unit {0}
@@ -68,14 +68,14 @@ IsCheckWhy sheet grants sheet_fails grants_fails refuses (check.Text WriteFault)
 IsCheckWhy sheet grants sheet_fails grants_fails refuses (check.Text Memory) = Unit {0}
 
 -- the same for the fault of an ending, if it is one of `check`
-abbrev pub IsCheckReason : Octets → Octets → Type 0 → Type 0 → (List ℕ → Type 0) → Ending → Type 0
+abbrev pub IsCheckReason : Octets → Octets → Type 0 → Type 0 → (List ℕ → Type 0) → Exit → Type 0
 IsCheckReason sheet grants sheet_fails grants_fails refuses (Check fault cause) =
     IsCheckWhy sheet grants sheet_fails grants_fails refuses fault
 IsCheckReason sheet grants sheet_fails grants_fails refuses _ = Unit {0}
 
 -- the cause of the fault with which that command ends, if it ends with one
 abbrev pub IsSheetWhy : (List ℕ → Octets) → (List ℕ → Type 0) → (List ℕ → Type 0)
-    → (List ℕ → Type 0) → SheetWords → Ending → Type 0
+    → (List ℕ → Type 0) → SheetWords → Exit → Type 0
 IsSheetWhy gives refused fails refuses (ShareWords sheet) ending =
     IsShareReason (gives sheet.now) (refused sheet.now) (fails sheet.now) refuses ending
 IsSheetWhy gives refused fails refuses (CheckWords sheet grants) ending =
@@ -83,14 +83,14 @@ IsSheetWhy gives refused fails refuses (CheckWords sheet grants) ending =
     (refused grants.now ⊎ fails grants.now) refuses ending
 
 -- `check` ends without the text of its sheet
-abbrev pub IsWithoutSheet : Ending → Type 0
+abbrev pub IsWithoutSheet : Exit → Type 0
 IsWithoutSheet (Check fault cause) = fault ≡ check.SheetText ReadFault
 IsWithoutSheet _ = ⊥
 
 -- `check` opens no file if standard input is named twice; otherwise the sheet, and then the grants,
 -- unless the sheet is refused
 abbrev pub AreBothOpened : {O : Type 0} → (O → List ℕ → O → Type 0) → O → O → (List ℕ → Type 0)
-    → List ℕ → List ℕ → Ending → Type 0
+    → List ℕ → List ℕ → Exit → Type 0
 AreBothOpened {O} opens old new refused sheet grants ending =
     (IsNamedTwice sheet grants × (new ≡ old))
     ⊎ ((opens old sheet new × refused sheet × IsWithoutSheet ending)
@@ -98,7 +98,7 @@ AreBothOpened {O} opens old new refused sheet grants ending =
 
 -- the files that a command opens, in the order of its words
 abbrev pub AreOpened : {O : Type 0} → (O → List ℕ → O → Type 0) → O → O → (List ℕ → Type 0)
-    → SheetWords → Ending → Type 0
+    → SheetWords → Exit → Type 0
 AreOpened opens old new refused (ShareWords sheet) ending = opens old sheet.now new
 AreOpened opens old new refused (CheckWords sheet grants) ending =
     AreBothOpened opens old new refused sheet.now grants.now ending

@@ -6,10 +6,10 @@ use Rattle.command_line.specs.declared.words.WordsFault.TheVariants.{Memory as N
 use Rattle.sheet_check.specs.declared.fault.CheckFault.TheVariants.{Text as CheckText}
 use Rattle.sheet_share.specs.declared.fault.ShareFault.TheVariants.{Text as ShareText}
 use Rattle.text_io.specs.declared.fault.TextFault.TheVariants.{Memory, WriteFault}
-use Rattle.sheets_program.specs.declared.ending.Ending.{Ending}
-use Rattle.sheets_program.specs.declared.ending.Ending.TheVariants.{Done, Flawed, Refused, Text, Share, Check}
+use Rattle.sheets_program.specs.declared.ending.Exit.{Exit}
+use Rattle.sheets_program.specs.declared.ending.Exit.TheVariants.{Done, Flawed, Refused, Text, Share, Check}
 
-abbrev pub status_of : Ending → ℕ
+abbrev pub status_of : Exit → ℕ
 status_of Done = 0
 status_of (Text fault cause) = 1
 status_of (Share fault cause) = 1
@@ -19,7 +19,7 @@ status_of Flawed = 3
 
 -- nothing was written: the command line is refused, or there is a fault other than that of the
 -- output
-abbrev pub IsUnwritten : Ending → Type 0
+abbrev pub IsUnwritten : Exit → Type 0
 IsUnwritten Done = ⊥
 IsUnwritten Flawed = ⊥
 IsUnwritten (Refused text) = Unit {0}
@@ -28,7 +28,7 @@ IsUnwritten (Share fault cause) = fault ≢ ShareText WriteFault
 IsUnwritten (Check fault cause) = fault ≢ CheckText WriteFault
 
 -- memory ran out before a command
-abbrev pub IsOutOfMemory : Ending → Type 0
+abbrev pub IsOutOfMemory : Exit → Type 0
 IsOutOfMemory Done = ⊥
 IsOutOfMemory Flawed = ⊥
 IsOutOfMemory (Refused text) = ⊥
@@ -37,18 +37,18 @@ IsOutOfMemory (Share fault cause) = ⊥
 IsOutOfMemory (Check fault cause) = ⊥
 
 -- the command line is refused with that text, or memory ran out
-abbrev pub IsRefusedAs : List ℕ → Ending → Type 0
+abbrev pub IsRefusedAs : List ℕ → Exit → Type 0
 IsRefusedAs told (Refused text) = string_bytes text ≡ told
 IsRefusedAs told ending = IsOutOfMemory ending
 
 -- the words of the line cannot be read: it is refused, or memory ran out
-abbrev pub IsNoLine : Ending → Type 0
+abbrev pub IsNoLine : Exit → Type 0
 IsNoLine (Refused text) = Unit {0}
 IsNoLine ending = IsOutOfMemory ending
 
 -- the ending of words without a command: the help or version that they asked for is appended to the
 -- output, and a refusal is the ending
-abbrev pub IsToldEnd : WordsFault → Option (List ℕ) → Option (List ℕ) → Ending → Type 0
+abbrev pub IsToldEnd : WordsFault → Option (List ℕ) → Option (List ℕ) → Exit → Type 0
 IsToldEnd NoMemory old new ending = IsOutOfMemory ending
 IsToldEnd (NoCommand text is_help) old new Done =
     IsTrue is_help × Appends old new (string_bytes text)

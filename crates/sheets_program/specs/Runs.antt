@@ -21,8 +21,8 @@ use Rattle.text_io.specs.declared.fault.TextFault.{TextFault}
 use Rattle.text_io.specs.declared.fault.TextFault.TheVariants.{TooLong, ReadFault, WriteFault, Memory}
 use Rattle.text_io.specs.declared.read.TheConstants.{MAX_TEXT}
 use Rattle.sheets_program.specs.declared.cause.Cause.{Cause}
-use Rattle.sheets_program.specs.declared.ending.Ending.{Ending}
-use Rattle.sheets_program.specs.declared.ending.Ending.TheVariants.{Done, Flawed, Refused, Text, Share, Check}
+use Rattle.sheets_program.specs.declared.ending.Exit.{Exit}
+use Rattle.sheets_program.specs.declared.ending.Exit.TheVariants.{Done, Flawed, Refused, Text, Share, Check}
 use Rattle.sheets_program.specs.declared.files.TheConstants.{DASH, STANDARD_INPUT}
 
 -- a test of the octets that a file may contain
@@ -94,7 +94,7 @@ IsShareFault gives (share.Text TooLong) = IsTooLong gives
 IsShareFault gives (share.Text _) = Unit {0}
 
 -- the ending of `share` for the path of a sheet
-abbrev pub IsShareEnd : (List ℕ → Octets) → List ℕ → Option (List ℕ) → Option (List ℕ) → Ending
+abbrev pub IsShareEnd : (List ℕ → Octets) → List ℕ → Option (List ℕ) → Option (List ℕ) → Exit
     → Type 0
 IsShareEnd gives sheet old new Done =
     (text : Option (List ℕ)) × gives sheet text × AppendsSharing text old new
@@ -123,7 +123,7 @@ IsCheckFault sheet grants _ = Unit {0}
 
 -- the ending of `check` for the paths of a sheet and of grants: a yes is done, and a no is a flaw
 abbrev pub IsCheckEnd : (List ℕ → Octets) → List ℕ → List ℕ → Option (List ℕ) → Option (List ℕ)
-    → Ending → Type 0
+    → Exit → Type 0
 IsCheckEnd gives sheet grants old new Done =
     ¬ IsNamedTwice sheet grants × IsJudged (gives sheet) (gives grants) Yes old new
 IsCheckEnd gives sheet grants old new Flawed =
@@ -137,7 +137,7 @@ IsCheckEnd gives sheet grants old new (Check fault cause) = ¬ IsNamedTwice shee
     × (file_of cause ≡ checked_file sheet grants fault)
 
 -- the ending of that command
-abbrev pub IsSheetEnd : (List ℕ → Octets) → SheetWords → Option (List ℕ) → Option (List ℕ) → Ending
+abbrev pub IsSheetEnd : (List ℕ → Octets) → SheetWords → Option (List ℕ) → Option (List ℕ) → Exit
     → Type 0
 IsSheetEnd gives (ShareWords sheet) old new ending = IsShareEnd gives sheet.now old new ending
 IsSheetEnd gives (CheckWords sheet grants) old new ending =

@@ -12,7 +12,7 @@ use text_io::{TextFault, TextWriter, write_whole};
 
 /// The ending of a run of the program.
 #[derive(Debug, Drop)]
-pub enum Ending<'w> {
+pub enum Exit<'w> {
     /// The command did its work, or the words asked for help or the version.
     Done,
     /// The grants have a flaw, which was written to standard output.
@@ -27,61 +27,61 @@ pub enum Ending<'w> {
     Check(CheckFault, Cause<'w>),
 }
 
-impl<'w> Ending<'w> {
+impl<'w> Exit<'w> {
     /// The status: 0 for work that is done, 1 for a fault, 2 for a refused command line, 3 for grants with a flaw.
     pub fn status(&self) -> u8
         ensures status { result ≡ status_of self.now }
     {
         match self {
-            Ending::Done => 0,
-            Ending::Text(_, _) | Ending::Share(_, _) | Ending::Check(_, _) => 1,
-            Ending::Refused(_) => 2,
-            Ending::Flawed => 3,
+            Exit::Done => 0,
+            Exit::Text(_, _) | Exit::Share(_, _) | Exit::Check(_, _) => 1,
+            Exit::Refused(_) => 2,
+            Exit::Flawed => 3,
         }
     }
 
     /// Memory ran out.
-    pub fn out_of_memory() -> Ending<'w>
-        ensures memory { result ≡ Ending.Text TextFault.Memory
+    pub fn out_of_memory() -> Exit<'w>
+        ensures memory { result ≡ Exit.Text TextFault.Memory
             (record { file = None; reason = None }) }
     {
         let cause = Cause {
             file: None,
             reason: None,
         };
-        Ending::Text(TextFault::Memory, cause)
+        Exit::Text(TextFault::Memory, cause)
     }
 
     /// A command line that is refused with this text.
-    pub fn refused(alloc: Global, text: &str) -> Ending<'w>
+    pub fn refused(alloc: Global, text: &str) -> Exit<'w>
         ensures refused { IsRefusedAs text.now result }
     {
         match String::from_str(alloc, text) {
-            Ok(text) => Ending::Refused(text),
-            Err(_) => Ending::out_of_memory(),
+            Ok(text) => Exit::Refused(text),
+            Err(_) => Exit::out_of_memory(),
         }
     }
 }
 
 /// Returns the ending of words without a command. Help or the version, if they asked for it, is written to the output.
-pub fn tell<'w, W: TextWriter>(fault: WordsFault, output: &mut W) -> Ending<'w>
+pub fn tell<'w, W: TextWriter>(fault: WordsFault, output: &mut W) -> Exit<'w>
     ensures told { IsToldEnd fault (W.contents output.old) (W.contents output.new) result }
     ensures unwritten { IsUnwritten result → output.new ≡ output.old }
 {
     let WordsFault::Refused { text, is_help } = fault else {
-        return Ending::out_of_memory();
+        return Exit::out_of_memory();
     };
     if !is_help {
-        return Ending::Refused(text);
+        return Exit::Refused(text);
     }
     match write_whole(&text, output) {
-        Ok(()) => Ending::Done,
+        Ok(()) => Exit::Done,
         Err(fault) => {
             let cause = Cause {
                 file: None,
                 reason: None,
             };
-            Ending::Text(fault, cause)
+            Exit::Text(fault, cause)
         }
     }
 }

@@ -20,7 +20,7 @@ pub fn is_input(path: &str) -> bool
 }
 
 /// Opens the files that words name.
-pub trait Openings {
+pub trait Opener {
     type End: TextReader + Drop;
 
     /// The contents that the file of a path may have; None for unknown octets.

@@ -22,10 +22,10 @@ mod run;
 mod told;
 
 pub use cause::{Cause, text_cause};
-pub use ending::{Ending, tell};
-pub use files::{DASH, Openings, STANDARD_INPUT, is_input};
+pub use ending::{Exit, tell};
+pub use files::{DASH, Opener, STANDARD_INPUT, is_input};
 pub use line::{as_words, line_words};
 pub use machine::{Machine, Opened, null_device};
 pub use noted::{NOBODY_READS, Noted};
 pub use run::{run_sheet_words, run_sheets};
-pub use told::{TextTold, Told};
+pub use told::{ErrorText, TextReason};

@@ -1,12 +1,12 @@
 //! The files of the machine that a program runs on.
 
-use crate::files::{Openings, is_input};
+use crate::files::{Opener, is_input};
 use crate::noted::Noted;
 use std::fs::OpenOptions;
 use std::io::Read;
 use std::rt::Files;
 use std::{fs, io};
-use text_io::Outside;
+use text_io::FallibleIo;
 
 /// A file, or standard input.
 #[derive(Drop)]
@@ -31,18 +31,18 @@ pub struct Machine<'r, R> {
     pub rt: &'r R,
 }
 
-impl<'r, R: Files + Input> Openings for Machine<'r, R> {
-    type End = Outside<Noted<Opened<R::File, R::Reader>>>;
+impl<'r, R: Files + Input> Opener for Machine<'r, R> {
+    type End = FallibleIo<Noted<Opened<R::File, R::Reader>>>;
 
-    fn open(&mut self, path: &str) -> io::Result<Outside<Noted<Opened<R::File, R::Reader>>>> {
+    fn open(&mut self, path: &str) -> io::Result<FallibleIo<Noted<Opened<R::File, R::Reader>>>> {
         if is_input(path) {
-            return Ok(Outside(Noted::new(Opened::Input(self.rt.reader()))));
+            return Ok(FallibleIo(Noted::new(Opened::Input(self.rt.reader()))));
         }
         let file = fs::open(self.rt, path)?;
-        Ok(Outside(Noted::new(Opened::File(file))))
+        Ok(FallibleIo(Noted::new(Opened::File(file))))
     }
 
-    fn reason(end: &Outside<Noted<Opened<R::File, R::Reader>>>) -> Option<io::Error> {
+    fn reason(end: &FallibleIo<Noted<Opened<R::File, R::Reader>>>) -> Option<io::Error> {
         end.0.error()
     }
 }

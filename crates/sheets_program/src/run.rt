@@ -11,8 +11,8 @@ ghost use Rattle.sheets_program.specs.Endings.{IsOutOfMemory, IsToldEnd, IsUnwri
 ghost use Rattle.sheets_program.specs.Runs.{IsCheckEnd, IsNamedTwice, IsShareEnd, IsSheetEnd};
 
 use crate::cause::{Cause, check_cause, share_cause};
-use crate::ending::{Ending, tell};
-use crate::files::{Openings, is_input};
+use crate::ending::{Exit, tell};
+use crate::files::{Opener, is_input};
 use command_line::{SheetWords, read_sheet_words};
 use grant_certificate::Verdict;
 use sheet_check::{CheckFault, run_check};
@@ -22,12 +22,12 @@ use text_io::{TextFault, TextWriter};
 
 const READ_TWICE: &str = "error: standard input cannot be both the sheet and the grants\n";
 
-fn share<'w, O: Openings, W: TextWriter>(
+fn share<'w, O: Opener, W: TextWriter>(
     alloc: Global,
     sheet: &'w str,
     files: &mut O,
     output: &mut W,
-) -> Ending<'w>
+) -> Exit<'w>
     ensures end { IsShareEnd (O.Gives files.old) sheet.now
         (W.contents output.old) (W.contents output.new) result }
     ensures why { IsShareReason (O.Gives files.old sheet.now) (O.MayRefuse files.old sheet.now)
@@ -42,12 +42,12 @@ fn share<'w, O: Openings, W: TextWriter>(
                 file: Some(sheet),
                 reason: Some(error),
             };
-            return Ending::Share(ShareFault::Text(TextFault::ReadFault), cause);
+            return Exit::Share(ShareFault::Text(TextFault::ReadFault), cause);
         }
     };
     match run_share(alloc, &mut file, output) {
-        Ok(()) => Ending::Done,
-        Err(fault) => Ending::Share(fault, share_cause(fault, sheet, O::reason(&file))),
+        Ok(()) => Exit::Done,
+        Err(fault) => Exit::Share(fault, share_cause(fault, sheet, O::reason(&file))),
     }
 }
 
@@ -58,13 +58,13 @@ fn is_named_twice(sheet: &str, grants: &str) -> bool
 }
 
 /// Runs `check`. Both files are opened before anything is read.
-fn check<'w, O: Openings, W: TextWriter>(
+fn check<'w, O: Opener, W: TextWriter>(
     alloc: Global,
     sheet: &'w str,
     grants: &'w str,
     files: &mut O,
     output: &mut W,
-) -> Ending<'w>
+) -> Exit<'w>
     ensures end { IsCheckEnd (O.Gives files.old) sheet.now grants.now
         (W.contents output.old) (W.contents output.new) result }
     ensures why { IsCheckReason (O.Gives files.old sheet.now) (O.Gives files.old grants.now)
@@ -76,7 +76,7 @@ fn check<'w, O: Openings, W: TextWriter>(
     ensures unwritten { IsUnwritten result → output.new ≡ output.old }
 {
     if is_named_twice(sheet, grants) {
-        return Ending::refused(alloc, READ_TWICE);
+        return Exit::refused(alloc, READ_TWICE);
     }
     let mut first = match files.open(sheet) {
         Ok(file) => file,
@@ -85,7 +85,7 @@ fn check<'w, O: Openings, W: TextWriter>(
                 file: Some(sheet),
                 reason: Some(error),
             };
-            return Ending::Check(CheckFault::SheetText(TextFault::ReadFault), cause);
+            return Exit::Check(CheckFault::SheetText(TextFault::ReadFault), cause);
         }
     };
     let mut second = match files.open(grants) {
@@ -95,27 +95,27 @@ fn check<'w, O: Openings, W: TextWriter>(
                 file: Some(grants),
                 reason: Some(error),
             };
-            return Ending::Check(CheckFault::GrantsText(TextFault::ReadFault), cause);
+            return Exit::Check(CheckFault::GrantsText(TextFault::ReadFault), cause);
         }
     };
     match run_check(alloc, &mut first, &mut second, output) {
-        Ok(Verdict::Yes) => Ending::Done,
-        Ok(Verdict::No(_)) => Ending::Flawed,
+        Ok(Verdict::Yes) => Exit::Done,
+        Ok(Verdict::No(_)) => Exit::Flawed,
         Err(fault) => {
             let cause = check_cause(fault, sheet, O::reason(&first), grants, O::reason(&second));
-            Ending::Check(fault, cause)
+            Exit::Check(fault, cause)
         }
     }
 }
 
 /// Runs a command on a sheet, `share` or `check`, on files that are opened in the order of its words. Nothing is
 /// written to the output if standard input is named twice, nor before a fault other than that of the output.
-pub fn run_sheet_words<'w, O: Openings, W: TextWriter>(
+pub fn run_sheet_words<'w, O: Opener, W: TextWriter>(
     alloc: Global,
     words: SheetWords<'w>,
     files: &mut O,
     output: &mut W,
-) -> Ending<'w>
+) -> Exit<'w>
     ensures end { IsSheetEnd (O.Gives files.old) words.entry
         (W.contents output.old) (W.contents output.new) result }
     ensures why { IsSheetWhy (O.Gives files.old) (O.MayRefuse files.old)
@@ -132,12 +132,12 @@ pub fn run_sheet_words<'w, O: Openings, W: TextWriter>(
 
 /// Runs the command of the words of `sheets`, which do not include the program's name. Nothing is written to the output
 /// if the words are refused, nor before a fault other than that of the output.
-pub fn run_sheets<'w, O: Openings, W: TextWriter>(
+pub fn run_sheets<'w, O: Opener, W: TextWriter>(
     alloc: Global,
     words: &'w [&'w str],
     files: &mut O,
     output: &mut W,
-) -> Ending<'w>
+) -> Exit<'w>
     ensures share { (sheet : List ℕ) → IsPlainWord sheet
         → map (λ s. s.now) words.now ≡ codes "share" ∷ sheet ∷ []
         → IsShareEnd (O.Gives files.old) sheet

@@ -1,7 +1,7 @@
 //! The messages of a program on standard error: the name of a fault in the last line, and details above it.
 
 use crate::cause::Cause;
-use crate::ending::Ending;
+use crate::ending::Exit;
 use limit_tree::TreeFault;
 use sheet_check::{CheckFault, GrantsFault};
 use sheet_share::ShareFault;
@@ -16,16 +16,16 @@ const GRANTS_LINE: &str = "a line is `grant PATH N` or `grant PATH N NODE`";
 
 /// An ending, as the program of that name prints it.
 #[derive(Clone, Copy)]
-pub struct Told<'e, 'w> {
+pub struct ErrorText<'e, 'w> {
     pub name: &'e str,
-    pub ending: &'e Ending<'w>,
+    pub ending: &'e Exit<'w>,
     /// The last error of standard output, if any.
     pub output: Option<io::Error>,
 }
 
 /// The line above the fault of a text: its file, and the machine's reason.
 #[derive(Clone, Copy)]
-pub struct TextTold<'w> {
+pub struct TextReason<'w> {
     pub fault: TextFault,
     pub cause: Cause<'w>,
     /// The last error of standard output, if any.
@@ -36,7 +36,7 @@ fn name_of<'w>(cause: &Cause<'w>) -> &'w str {
     cause.file.unwrap_or("standard input")
 }
 
-impl fmt::Display for TextTold<'_> {
+impl fmt::Display for TextReason<'_> {
     fn fmt<W: fmt::Write>(&self, f: &mut fmt::Formatter<W>) -> fmt::Result {
         let file = name_of(&self.cause);
         match (self.fault, self.cause.reason, self.output) {
@@ -117,14 +117,14 @@ fn grants_above<W: fmt::Write>(
     }
 }
 
-impl Told<'_, '_> {
+impl ErrorText<'_, '_> {
     fn text_above<W: fmt::Write>(
         &self,
         f: &mut fmt::Formatter<W>,
         cause: &Cause<'_>,
         fault: TextFault,
     ) -> fmt::Result {
-        let told = TextTold {
+        let told = TextReason {
             fault,
             cause: *cause,
             output: self.output,
@@ -160,21 +160,21 @@ impl Told<'_, '_> {
     }
 }
 
-impl fmt::Display for Told<'_, '_> {
+impl fmt::Display for ErrorText<'_, '_> {
     fn fmt<W: fmt::Write>(&self, f: &mut fmt::Formatter<W>) -> fmt::Result {
         match self.ending {
-            Ending::Done => Ok(()),
-            Ending::Flawed => Ok(()),
-            Ending::Refused(text) => write!(f, "{text}"),
-            Ending::Text(fault, cause) => {
+            Exit::Done => Ok(()),
+            Exit::Flawed => Ok(()),
+            Exit::Refused(text) => write!(f, "{text}"),
+            Exit::Text(fault, cause) => {
                 self.text_above(f, cause, *fault)?;
                 writeln!(f, "{}: {fault}", self.name)
             }
-            Ending::Share(fault, cause) => {
+            Exit::Share(fault, cause) => {
                 self.share_above(f, cause, *fault)?;
                 writeln!(f, "{}: {fault}", self.name)
             }
-            Ending::Check(fault, cause) => {
+            Exit::Check(fault, cause) => {
                 self.check_above(f, cause, *fault)?;
                 writeln!(f, "{}: {fault}", self.name)
             }

@@ -66,9 +66,9 @@ impl<A: Allocator> TextWriter for Vec<u8, A> {
 
 /// Any other reader or writer, such as a file: it may fail at each call.
 #[derive(Drop)]
-pub struct Outside<E>(pub E);
+pub struct FallibleIo<E>(pub E);
 
-impl<R: Read> TextReader for Outside<R> {
+impl<R: Read> TextReader for FallibleIo<R> {
     ghost remaining = { λ o. R.remaining o.0 };
 
     ghost may_fail = { λ _. true };
@@ -126,7 +126,7 @@ fn write_through<W: Write>(writer: &mut W, text: &[u8]) -> io::Result<()>
     writer.flush()
 }
 
-impl<W: Write> TextWriter for Outside<W> {
+impl<W: Write> TextWriter for FallibleIo<W> {
     ghost contents = { λ o. W.contents o.0 };
 
     ghost may_refuse = { λ _ _. Unit {0} };

@@ -8,7 +8,7 @@
 //! holds(&rt, text.as_slice() == b"limit / 10\n".as_slice());
 //! let mut output = Vec::new(alloc); // takes octets while memory lasts
 //! write_whole("total 10\n", &mut output).expect(&rt, "room");
-//! let mut other = Outside(output); // any other end, such as a file: it may fail at each call
+//! let mut other = FallibleIo(output); // any other end, such as a file: it may fail at each call
 //! other.write_text(b"QUIT\r\n").expect(&rt, "room");
 //! holds(&rt, other.0.as_slice() == b"total 10\nQUIT\r\n".as_slice());
 //! ```
@@ -19,7 +19,7 @@ mod fault;
 mod read;
 mod write;
 
-pub use ends::{Outside, TextReader, TextWriter};
+pub use ends::{FallibleIo, TextReader, TextWriter};
 pub use fault::TextFault;
 pub use read::{MAX_TEXT, read_whole};
 pub use write::write_whole;

@@ -4,7 +4,7 @@ use Rattle.ftpd_program.proofs.serving.serve.Goals as goal
 
 pub returns-in-Ok-clause-end : goal.returns-in-Ok-clause-end
 returns-in-Ok-clause-end g c =
-    let gives = g.O.Openings.Gives c.args.files.now c.args.config.now in
+    let gives = g.O.Opener.Gives c.args.files.now c.args.config.now in
     let path = option_map (λ w. w.now) c.args.stop_file in
     let old = g.W.TextWriter.contents c.args.output.now in
     let new = g.W.TextWriter.contents c.serve.new.output in

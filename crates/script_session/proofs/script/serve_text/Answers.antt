@@ -5,7 +5,7 @@ use Rattle.session_host.specs.Alone.{AloneDoes}
 use Rattle.session_host.specs.Rows.{IsRow}
 use Rattle.session_host.specs.Sessions.{IsServed, new_session}
 use Rattle.session_host.specs.Silent.{StaysSilent}
-use Rattle.script_session.specs.Scripts.{AnswersScript, IsScript, StandsStill, home_address, script_parts, unasked}
+use Rattle.script_session.specs.Scripts.{AnswersScript, IsScript, ReadsZero, home_address, script_parts, unasked}
 use Rattle.script_session.proofs.Ending.{ends_as}
 use Rattle.script_session.proofs.Scripting.{script_told}
 use Rattle.script_session.proofs.script.serve_text.Goals as goal
@@ -15,7 +15,7 @@ returns-clause-whole g c =
     let host = c.run_alone.new.host in (
       host.side.now,
       ends_as (λ last. IsServed (IsRow {A = Global} {R = List ℕ} InMemory c.args.users.now.users)
-          (AloneDoes StandsStill AnswersScript StaysSilent g.R.TextReader.remaining g.R.TextReader.may_fail g.W.TextWriter.contents g.W.TextWriter.may_refuse)
+          (AloneDoes ReadsZero AnswersScript StaysSilent g.R.TextReader.remaining g.R.TextReader.may_fail g.W.TextWriter.contents g.W.TextWriter.may_refuse)
           4294967295 c.run_alone.result (new_session c.args.settings home_address)
           (script_parts c.args.store.now c.args.floors.now (unasked c.args.port) c.args.reader.now c.args.writer.now) last)
           host.side.now host.store.now _ host.floors.now _ host.reader.now _ host.writer.now _ (search rules) (search rules) (search rules) (search rules) c.run_alone.ensures.whole,

@@ -10,6 +10,6 @@ returns-clause-row g c = λ promises.
     let store = c.make_dir-changed.new.self in
     let made = c.make_dir-changed.result in
     let step = subst (λ path. g.S.Store.Step c.args.store.now (MakeDir path made) store) c.stored.ensures.stored c.make_dir-changed.ensures in
-    let row = c.put_changed.ensures.row
+    let row = c.push_changed.ensures.row
     ∙ ap (λ reply. unless_fault {A = g.row.A.Denot} {R = g.row.S-Source.Denot} {K = g.row.S-Sink.Denot} c.args.state.now (λ done. tells c.args.state.now reply) made) c.in_ok-reply.ensures.reply in
-    (made, store, step, told g.S.Store.Step _ store c.put_changed.new.state c.put_changed.new.actions.items row promises)
+    (made, store, step, told g.S.Store.Step _ store c.push_changed.new.state c.push_changed.new.actions.items row promises)

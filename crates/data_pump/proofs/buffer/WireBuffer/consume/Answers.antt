@@ -2,7 +2,7 @@ use Rattle.std.proofs.Common.{◌≡◌, ◌+◌, ◌-◌, ◌≤◌, ℕ, List,
 use Rattle.std.specs.Prelude.{slice_range}
 use Rattle.std.proofs.lemmas.List.{drop-take, drop-drop, length-take}
 use Rattle.data_pump.specs.Buffers.{Waiting}
-use Rattle.data_pump.proofs.buffer.WireBuffer.let_go.Goals as goal
+use Rattle.data_pump.proofs.buffer.WireBuffer.consume.Goals as goal
 
 -- the octets after the first n of a range
 slice_range-drop : (xs : List ℕ) (from to n : ℕ) → from + n ≤ to → slice_range xs (from + n) to ≡ drop n (slice_range xs from to)

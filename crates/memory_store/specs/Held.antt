@@ -3,12 +3,12 @@ use Rattle.std.specs.Prelude.{◌≡◌, ℕ, List, Vec}
 use Rattle.std.specs.Arc.{arc_value}
 use Rattle.std.specs.declared.sync.Arc.{Arc}
 use Rattle.virtual_path.specs.Path.{slashed, names_in, HasNoSlash}
-use Rattle.memory_store.specs.declared.entry.Held.{Held}
+use Rattle.memory_store.specs.declared.entry.Content.{Content}
 use Rattle.memory_store.specs.declared.entry.Content.TheVariants as content
 use Rattle.memory_store.specs.Tree.{Node}
 use Rattle.memory_store.specs.Tree.Node.{Directory, File}
 
-abbrev pub node_of : {A : Type 0} → Held A → Node
+abbrev pub node_of : {A : Type 0} → Content A → Node
 node_of content.Directory = Directory
 node_of (content.File octets moment) = File (arc_value octets).items moment
 

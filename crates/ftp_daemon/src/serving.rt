@@ -7,17 +7,15 @@ ghost use Rattle.transfer_worker.specs.Boards.{AreNewPasses};
 
 use crate::lanes::{run_threads, serve_clients};
 use crate::opening::{Line, Rooms, Service, open_line, open_rooms};
-use crate::settling::{Lent, Room, settle_served, settle_unlent};
+use crate::settling::{Room, settle_served, settle_unlent};
 use crate::watching::{StopSign, is_up};
-use crate::works::{Lists, Waiting, Works, lend_passes, lend_seats, new_lists};
+use crate::works::{LentLine, Lists, Waiting, Works, lend_line, lend_passes, new_lists};
 use data_sockets::socket_address;
 use event_word::{EventCount, SharedEventCount};
 use ftpd_program::ServeFault;
 use grant_ledger::Settled;
 use handler_hooks::Hooks;
-use lane_desk::Rounds;
-use lane_rounds::Turns;
-use lent_parts::{LentBoard, LentDesk, LentPass, LentRounds, PartsName};
+use lent_parts::{LentBoard, LentPass, PartsName};
 use round_pace::Pace;
 use server_house::{House, ServerHooks, ServerShutdown};
 use std::alloc::{AllocError, Global};
@@ -122,6 +120,55 @@ where
     (settle_served(&rt, lent, room), served)
 }
 
+// Serves with what is lent of a line and of a board.
+fn serve_lent<R, S, H, B, P, W>(
+    rt: &R,
+    rooms: Rooms<S, H, P>,
+    board: LentBoard<B, Waiting<S>>,
+    mut passes: Vec<LentPass<B, Waiting<S>>>,
+    line: LentLine<B>,
+    listener: TcpListener,
+    writer: &mut W,
+) -> (Settled, Result<(), ServeFault>)
+where
+    R: Threads
+        + Wait
+        + Clock
+        + Net<Listener = TcpListener, Stream = TcpStream>
+        + AllocGlobal
+        + Copy
+        + Send
+        + Sync,
+    S: Store<Global> + Send + Drop,
+    S::Source: Send,
+    S::Sink: Send,
+    H: ServerHooks + Send,
+    B: PartsName + Send + Sync + 'static,
+    P: StopSign + Send + Sync + Drop,
+    W: TextWriter,
+    ensures sum { result.0.issued ≡ result.0.moved + result.0.back }
+{
+    match passes.pop() {
+        Some(pass) => {
+            let (house, pace, stop) = furnish(rooms, board, pass);
+            let (lent, room) = line.paced(pace);
+            let works = Works {
+                rt: *rt,
+                house,
+                passes: Mutex::new(passes),
+                lent,
+                stop,
+            };
+            serve_works(works, room, listener, writer)
+        }
+        None => {
+            let Rooms { pace, .. } = rooms;
+            let (lent, room) = line.paced(pace);
+            (settle_served(rt, lent, room), Err(ServeFault::NoThread))
+        }
+    }
+}
+
 /// Serves with a desk and a board of this name. Returns the settled book, and whether clients were served.
 fn serve_named<R, S, H, B, P, W>(
     rt: &R,
@@ -153,57 +200,18 @@ where
     requires passes { AreNewPasses B.board (length passes.items) passes.items }
     ensures sum { result.0.issued ≡ result.0.moved + result.0.back }
 {
-    let lists = new_lists::<B, Waiting<S>>(rt.alloc(), line.seats.len(), passes.len());
-    match lists {
+    match new_lists::<B, Waiting<S>>(rt.alloc(), line.seats.len(), passes.len()) {
         Err(AllocError) => (settle_unlent(line), Err(ServeFault::Memory)),
         Ok(lists) => {
             let Lists {
-                mut workers,
+                workers,
                 gathered,
                 passes: mut lent_passes,
             } = lists;
-            let Line {
-                desk,
-                round,
-                seats,
-                book,
-                mut tally,
-                room,
-            } = line;
-            lend_seats(seats, &mut tally, &mut workers);
             lend_passes(passes, &mut lent_passes);
-            let rounds = LentRounds::new(Rounds::new(round, book, tally));
-            let desk = LentDesk::new(desk);
-            let room = Room {
-                gathered,
-                worked: room,
-            };
-            match lent_passes.pop() {
-                Some(pass) => {
-                    let (house, pace, stop) = furnish(rooms, LentBoard::new(board), pass);
-                    let works = Works {
-                        rt: *rt,
-                        house,
-                        passes: Mutex::new(lent_passes),
-                        lent: Lent {
-                            desk,
-                            turns: Mutex::new(Turns::new(rounds, pace)),
-                            workers,
-                        },
-                        stop,
-                    };
-                    serve_works(works, room, listener, writer)
-                }
-                None => {
-                    let Rooms { pace, .. } = rooms;
-                    let lent = Lent {
-                        desk,
-                        turns: Mutex::new(Turns::new(rounds, pace)),
-                        workers,
-                    };
-                    (settle_served(rt, lent, room), Err(ServeFault::NoThread))
-                }
-            }
+            let board = LentBoard::new(board);
+            let line = lend_line(line, workers, gathered);
+            serve_lent(rt, rooms, board, lent_passes, line, listener, writer)
         }
     }
 }

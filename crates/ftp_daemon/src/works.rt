@@ -2,14 +2,18 @@
 
 ghost use Rattle.std.specs.Prelude.{◌≡◌, ◌+◌, ◌≤◌, [], IfOk, length, vec_capacity};
 ghost use Rattle.lane_desk.specs.Open.{AreFresh};
+ghost use Rattle.lent_parts.specs.Names.{IsNamed};
 ghost use Rattle.transfer_worker.specs.Boards.{AreNewPasses};
 
-use crate::settling::Lent;
+use crate::opening::Line;
+use crate::settling::{Lent, Room};
 use data_sockets::{DataConnection, Served};
 use grant_ledger::Tally;
 use handler_hooks::Hooks;
-use lane_desk::LaneSeat;
-use lent_parts::{LentPass, LentWorker, PartsName};
+use lane_desk::{LaneSeat, Rounds};
+use lane_rounds::Turns;
+use lent_parts::{LentDesk, LentPass, LentRounds, LentWorker, PartsName};
+use round_pace::Pace;
 use server_house::House;
 use std::alloc::{AllocError, Global};
 use std::sync::Mutex;
@@ -95,6 +99,69 @@ pub(crate) fn lend_seats<B: PartsName>(
 {
     for seat in seats {
         workers.push_reserved(Mutex::new(LentWorker::new(seat, tally.split())));
+    }
+}
+
+/// What is lent of a line, and room to gather it. It cannot be dropped.
+pub(crate) struct LentLine<B: PartsName> {
+    desk: LentDesk<B, ()>,
+    rounds: LentRounds<B, ()>,
+    workers: Vec<Mutex<LentWorker<B, ()>>>,
+    room: Room<B>,
+    ghost gathered: { length workers.items ≤ vec_capacity room.gathered },
+    ghost worked: { length workers.items ≤ vec_capacity room.worked },
+}
+
+/// Lends a line, in these two lists: its desk, its rounds with their book, and its seats.
+pub(crate) fn lend_line<B: PartsName>(
+    line: Line,
+    mut workers: Vec<Mutex<LentWorker<B, ()>>>,
+    gathered: Vec<LentWorker<B, ()>>,
+) -> LentLine<B>
+    requires desk { IsNamed B.desk B.lanes line.desk }
+    requires workers { (workers.items ≡ [])
+        × (length line.seats.items ≤ vec_capacity workers) }
+    requires gathered { (gathered.items ≡ [])
+        × (length line.seats.items ≤ vec_capacity gathered) }
+{
+    let Line {
+        desk,
+        round,
+        seats,
+        book,
+        mut tally,
+        room,
+    } = line;
+    lend_seats(seats, &mut tally, &mut workers);
+    LentLine {
+        desk: LentDesk::new(desk),
+        rounds: LentRounds::new(Rounds::new(round, book, tally)),
+        workers,
+        room: Room {
+            gathered,
+            worked: room,
+        },
+    }
+}
+
+impl<B: PartsName> LentLine<B> {
+    /// The parts for the threads, with the pace of their rounds; and the room.
+    pub(crate) fn paced(self, pace: Pace) -> (Lent<B>, Room<B>)
+        ensures gathered { length result.0.workers.items ≤ vec_capacity result.1.gathered }
+        ensures worked { length result.0.workers.items ≤ vec_capacity result.1.worked }
+    {
+        let LentLine {
+            desk,
+            rounds,
+            workers,
+            room,
+        } = self;
+        let lent = Lent {
+            desk,
+            turns: Mutex::new(Turns::new(rounds, pace)),
+            workers,
+        };
+        (lent, room)
     }
 }
 

@@ -115,57 +115,6 @@ where
         copy_settings(self.rt.alloc(), &self.house.settings)
     }
 
-    // A step that may count the session: it is lent the shared floors of all sessions.
-    fn step_counted(
-        &mut self,
-        users: &Authorizer,
-        session: &mut Session<Global>,
-        input: &mut Option<Input<Global, S::Sink>>,
-    ) -> Result<Vec<Action<Global, S::Source, S::Sink>>, Option<DataEvent<S::Sink>>>
-        ensures row { IfSome input.old (λ input. IfOk result (λ actions.
-            Stepped (IsRow S.Step users.now.users) AnyCall
-            self.old session.old (given_of input) session.new actions.items self.new)) }
-        ensures unchanged { OnErr result (session.new ≡ session.old) }
-        ensures tried { IfSome input.old (λ input. OnErr result (
-            StepTried (IsRow {A = Global} {R = S.Source} S.Step users.now.users) AnyCall
-            self.old session.old (given_of input) self.new)) }
-        ensures back { IfSome input.old (λ input. IfErr result (λ back. back ≡ event_in input)) }
-    {
-        let moment = millis_since_1970(self.rt);
-        let mut floors = self.house.floors.lock(self.rt);
-        let mut store = self.house.store_of(self.key).lock(self.rt);
-        step_by(session, users, &mut *floors, &mut *store, input, moment)
-    }
-
-    // A step that asks for no admission (`others_ask_no_floors` of `session_table`), so the lock of the floors is not
-    // held.
-    fn step_uncounted(
-        &mut self,
-        users: &Authorizer,
-        session: &mut Session<Global>,
-        input: &mut Option<Input<Global, S::Sink>>,
-    ) -> Result<Vec<Action<Global, S::Source, S::Sink>>, Option<DataEvent<S::Sink>>>
-        ensures row { IfSome input.old (λ input. IfOk result (λ actions.
-            Stepped (IsRow S.Step users.now.users) AnyCall
-            self.old session.old (given_of input) session.new actions.items self.new)) }
-        ensures unchanged { OnErr result (session.new ≡ session.old) }
-        ensures tried { IfSome input.old (λ input. OnErr result (
-            StepTried (IsRow {A = Global} {R = S.Source} S.Step users.now.users) AnyCall
-            self.old session.old (given_of input) self.new)) }
-        ensures back { IfSome input.old (λ input. IfErr result (λ back. back ≡ event_in input)) }
-    {
-        let moment = millis_since_1970(self.rt);
-        let mut store = self.house.store_of(self.key).lock(self.rt);
-        step_by(
-            session,
-            users,
-            &mut self.no_floors,
-            &mut *store,
-            input,
-            moment,
-        )
-    }
-
     // Passes on the events of the data side after the end of the control connection.
     fn end_with(
         &mut self,
@@ -219,11 +168,16 @@ where
         session: &mut Session<Global>,
         input: &mut Option<Input<Global, S::Sink>>,
     ) -> Result<Vec<Action<Global, S::Source, S::Sink>>, Option<DataEvent<S::Sink>>> {
+        let moment = millis_since_1970(self.rt);
         if asks_floors(session, input) {
-            self.step_counted(users, session, input)
-        } else {
-            self.step_uncounted(users, session, input)
+            let mut floors = self.house.floors.lock(self.rt);
+            let mut store = self.house.store_of(self.key).lock(self.rt);
+            return step_by(session, users, &mut *floors, &mut *store, input, moment);
         }
+        // Asks for no admission (`others_ask_no_floors` of `session_table`), so needs no lock of the floors.
+        let floors = &mut self.no_floors;
+        let mut store = self.house.store_of(self.key).lock(self.rt);
+        step_by(session, users, floors, &mut *store, input, moment)
     }
 
     fn close(

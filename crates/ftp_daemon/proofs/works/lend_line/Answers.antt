@@ -2,7 +2,7 @@ use Rattle.std.proofs.Common.{ℕ, subst}
 use Rattle.atomic_table.specs.Seated.{TableId}
 use Rattle.lane_desk.specs.Open.{AreFresh}
 use Rattle.lane_desk.specs.Seats.{desk_id}
-use Rattle.ftp_daemon.proofs.serving.serve_named.Goals as goal
+use Rattle.ftp_daemon.proofs.works.lend_line.Goals as goal
 
 pub lend_seats-requires-clause-seats : goal.lend_seats-requires-clause-seats
 lend_seats-requires-clause-seats g c =

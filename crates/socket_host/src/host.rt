@@ -1,10 +1,9 @@
 //! The host of a control session.
 
-ghost use Rattle.std.specs.Prelude.{◌≡◌, IfErr, IfNone, IfOk, IfSome, OnErr, [], false, option_map, true, unwrap_or};
+ghost use Rattle.std.specs.Prelude.{◌≡◌, IfNone, IfSome, [], false, option_map, true, unwrap_or};
 ghost use Rattle.std.specs.declared.alloc.Global.{Global};
 ghost use Rattle.control_session.specs.Rows.{IsRow};
-ghost use Rattle.control_session.specs.Turns.{StepTried, Stepped};
-ghost use Rattle.control_session.specs.Sides.{event_in, given_of};
+ghost use Rattle.control_session.specs.Turns.{Stepped};
 ghost use Rattle.control_session.specs.Sides.Given.{Came};
 ghost use Rattle.rate_floors.specs.Promises.{HasNoSessions};
 ghost use Rattle.session_table.specs.Steps.{asks_floors};

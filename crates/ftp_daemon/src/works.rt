@@ -102,7 +102,7 @@ pub(crate) fn lend_seats<B: PartsName>(
     }
 }
 
-/// What is lent of a line, and room to gather it. It cannot be dropped.
+/// The lent parts of a line, and room to gather them. It cannot be dropped.
 pub(crate) struct LentLine<B: PartsName> {
     desk: LentDesk<B, ()>,
     rounds: LentRounds<B, ()>,

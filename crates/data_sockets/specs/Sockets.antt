@@ -4,4 +4,4 @@ use Rattle.std.specs.declared.net.tcp.TcpStream.{TcpStream}
 use Rattle.data_sockets.specs.declared.connection.DataConnection.{DataConnection}
 
 abbrev pub socket_of : DataConnection → TcpStream
-socket_of connection = arc_value connection.stream
+socket_of connection = (arc_value connection.socket).stream

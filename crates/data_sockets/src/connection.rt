@@ -3,16 +3,27 @@
 ghost use Rattle.std.specs.Prelude.{◌≡◌, IfOk};
 ghost use Rattle.data_sockets.specs.Sockets.{socket_of};
 
+use crate::fault_word::{fault_of, fault_word};
+use crate::retry::{read_through, write_through};
 use std::alloc::{AllocError, Global};
 use std::io;
 use std::io::{Read, Write};
 use std::net::{Shutdown, TcpStream};
 use std::sync::Arc;
+use std::sync::atomic::{AtomicU64, Ordering};
+
+/// A socket, and the last error of a call on it.
+#[derive(Drop)]
+struct Socket {
+    stream: TcpStream,
+    // `fault_word` of the error; 0 before the first
+    fault: AtomicU64,
+}
 
 /// A handle of a data connection. The socket is closed once the last handle is dropped.
 #[derive(Drop)]
 pub struct DataConnection {
-    stream: Arc<TcpStream, Global>,
+    socket: Arc<Socket, Global>,
 }
 
 impl DataConnection {
@@ -20,40 +31,61 @@ impl DataConnection {
     pub fn new(alloc: Global, stream: TcpStream) -> Result<DataConnection, AllocError>
         ensures socket { IfOk result (λ connection. socket_of connection ≡ stream) }
     {
-        let stream = Arc::new(alloc, stream)?;
-        Ok(DataConnection { stream })
+        let fault = AtomicU64::new(0);
+        let socket = Arc::new(alloc, Socket { stream, fault })?;
+        Ok(DataConnection { socket })
     }
 
     /// Another handle of the same socket.
     pub fn another(&self) -> Result<DataConnection, AllocError>
         ensures socket { IfOk result (λ other. socket_of other ≡ socket_of self.now) }
     {
-        let stream = Arc::try_clone(&self.stream)?;
-        Ok(DataConnection { stream })
+        let socket = Arc::try_clone(&self.socket)?;
+        Ok(DataConnection { socket })
+    }
+
+    /// The last error of a read or write by any handle, if there was one.
+    pub fn fault(&self) -> Option<io::Error> {
+        fault_of(self.socket.fault.load(Ordering::SeqCst))
+    }
+
+    // Keeps the error of a call for the other handles.
+    fn noted(&self, answer: io::Result<usize>) -> io::Result<usize>
+        ensures same { result ≡ answer }
+    {
+        match answer {
+            Ok(count) => Ok(count),
+            Err(error) => {
+                self.socket.fault.store(fault_word(error), Ordering::SeqCst);
+                Err(error)
+            }
+        }
     }
 
     /// Shuts down the sending direction, so that the client reads the end of a download.
     pub fn finish(&self) {
-        let _ = self.stream.shutdown(Shutdown::Write);
+        let _ = self.socket.stream.shutdown(Shutdown::Write);
     }
 
     /// Shuts the socket down in both directions; calls that wait on it return.
     pub fn abort(&self) {
-        let _ = self.stream.shutdown(Shutdown::Both);
+        let _ = self.socket.stream.shutdown(Shutdown::Both);
     }
 }
 
 impl Read for DataConnection {
     fn read(&mut self, buffer: &mut [u8]) -> io::Result<usize> {
-        let mut stream: &TcpStream = &self.stream;
-        stream.read(buffer)
+        let mut stream: &TcpStream = &self.socket.stream;
+        let answer = read_through(&mut stream, buffer);
+        self.noted(answer)
     }
 }
 
 impl Write for DataConnection {
     fn write(&mut self, octets: &[u8]) -> io::Result<usize> {
-        let mut stream: &TcpStream = &self.stream;
-        stream.write(octets)
+        let mut stream: &TcpStream = &self.socket.stream;
+        let answer = write_through(&mut stream, octets);
+        self.noted(answer)
     }
 
     fn flush(&mut self) -> io::Result<()> {

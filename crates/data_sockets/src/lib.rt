@@ -29,8 +29,10 @@
 
 mod cell;
 mod connection;
+mod fault_word;
 mod name;
 mod passive;
+mod retry;
 mod served;
 
 pub use cell::{TransferCell, TransferEnd};

@@ -3,6 +3,7 @@
 ghost use Rattle.std.specs.Prelude.{◌↔◌, IsTrue};
 ghost use Rattle.data_sockets.specs.Peers.{IsAddress, IsFrom, IsWanted};
 
+use std::io;
 use std::net::{Ipv4Addr, Net, SocketAddr, SocketAddrV4, TcpListener, TcpStream};
 
 /// Most connections examined in one call; the others wait for the next call.
@@ -16,18 +17,14 @@ pub fn socket_address(address: [u8; 4], port: u16) -> SocketAddr
     SocketAddr::V4(SocketAddrV4::new(Ipv4Addr::new(a, b, c, d), port))
 }
 
-/// Listens on a port, so that `accept_from` does not wait. `None` if the port cannot be bound.
-pub fn listen<R>(rt: &R, address: [u8; 4], port: u16) -> Option<TcpListener>
+/// Listens on a port, so that `accept_from` does not wait.
+pub fn listen<R>(rt: &R, address: [u8; 4], port: u16) -> io::Result<TcpListener>
 where
     R: Net<Listener = TcpListener, Stream = TcpStream>,
 {
-    match TcpListener::bind(rt, socket_address(address, port)) {
-        Ok(listener) => match listener.set_nonblocking(true) {
-            Ok(()) => Some(listener),
-            Err(_) => None,
-        },
-        Err(_) => None,
-    }
+    let listener = TcpListener::bind(rt, socket_address(address, port))?;
+    listener.set_nonblocking(true)?;
+    Ok(listener)
 }
 
 fn is_from(from: SocketAddr, peer: [u8; 4]) -> bool

@@ -1,13 +1,17 @@
 //! Control connections: admission, and a thread for each.
 
+ghost use Rattle.std.specs.Prelude.{◌≡◌};
 ghost use Rattle.std.specs.Thread.{IsSend, IsSync};
+ghost use Rattle.ftp_daemon.specs.Accepting.{is_reported};
 
+use event_word::{has_passed, micros};
 use lent_parts::PartsName;
 use passive_ports::AdmitFault;
-use server_house::{House, NotServed, ServerHooks, ShutdownStage};
+use server_house::{House, NotServed, ServerEvent, ServerHooks, ShutdownStage};
 use socket_host::serve_session;
 use std::alloc::Global;
-use std::io::Write;
+use std::io;
+use std::io::{ErrorKind, Write};
 use std::net::{Net, Shutdown, SocketAddr, TcpListener, TcpStream};
 use std::sync::Wait;
 use std::thread;
@@ -23,6 +27,9 @@ const BRIEFLY: u64 = 50;
 
 /// The wait after a connection could not be accepted, in milliseconds.
 const PAUSE: u64 = 20;
+
+/// The time between two reports of such failures at least, in microseconds.
+const QUIET: u64 = 1_000_000;
 
 fn refusal(why: NotServed) -> &'static [u8] {
     match why {
@@ -115,8 +122,73 @@ where
     }
 }
 
+// Returns whether a failure at this moment is reported: unless one was reported within the last second, and not if the
+// call was only interrupted.
+fn is_reported(error: &io::Error, reported: Option<u64>, now: u64) -> bool
+    ensures reported { result ≡ is_reported error.now reported now }
+{
+    if error.kind() == ErrorKind::Interrupted {
+        return false;
+    }
+    match reported {
+        Some(since) => has_passed(since, now, QUIET),
+        None => true,
+    }
+}
+
+// Reports that a connection could not be accepted, and waits briefly. Returns the moment of the last report.
+fn not_accepted<R, S, H, B>(
+    rt: &R,
+    house: &House<S, H, B>,
+    error: io::Error,
+    reported: Option<u64>,
+) -> Option<u64>
+where
+    R: Wait + Clock,
+    S: Store<Global>,
+    H: ServerHooks,
+    B: PartsName,
+{
+    let now = micros(rt);
+    let is_due = is_reported(&error, reported, now);
+    if is_due {
+        house.handler.lock(rt).on_server(ServerEvent::NotAccepted(error));
+    }
+    thread::sleep(rt, Duration::from_millis(PAUSE));
+    if is_due { Some(now) } else { reported }
+}
+
+// Admits a connection, or tells its client why it is not served.
+fn admit<R, S, H, B>(
+    rt: &R,
+    house: &House<S, H, B>,
+    stream: TcpStream,
+    from: SocketAddr,
+) -> Option<Client>
+where
+    R: Wait,
+    S: Store<Global>,
+    H: ServerHooks,
+    B: PartsName,
+{
+    let peer = octets_of(from);
+    let admitted = house.registry.lock(rt).admit(peer);
+    match admitted {
+        Ok(key) => arrive(rt, house, stream, peer, key),
+        Err(fault) => {
+            refuse(rt, house, stream, peer, NotServed::NotAdmitted(fault));
+            None
+        }
+    }
+}
+
 // Waits for the next connection. `None` if it is not admitted, or there is none.
-fn next_client<R, S, H, B>(rt: &R, house: &House<S, H, B>, listener: &TcpListener) -> Option<Client>
+fn next_client<R, S, H, B>(
+    rt: &R,
+    house: &House<S, H, B>,
+    listener: &TcpListener,
+    reported: &mut Option<u64>,
+) -> Option<Client>
 where
     R: Wait + Clock,
     S: Store<Global>,
@@ -128,18 +200,10 @@ where
             if house.ending.has_begun(ShutdownStage::Sessions) {
                 return None;
             }
-            let peer = octets_of(from);
-            let admitted = house.registry.lock(rt).admit(peer);
-            match admitted {
-                Ok(key) => arrive(rt, house, stream, peer, key),
-                Err(fault) => {
-                    refuse(rt, house, stream, peer, NotServed::NotAdmitted(fault));
-                    None
-                }
-            }
+            admit(rt, house, stream, from)
         }
-        Err(_) => {
-            thread::sleep(rt, Duration::from_millis(PAUSE));
+        Err(error) => {
+            *reported = not_accepted(rt, house, error, *reported);
             None
         }
     }
@@ -200,13 +264,14 @@ where
                 × IsSend S.Sink.row × IsSend H.row }
         {
             let mut admitted = 0u64;
+            let mut reported = None;
             for _ in rt.forever() {
                 if house.ending.has_begun(ShutdownStage::Sessions)
                     || is_enough(house.numbers.sessions, admitted)
                 {
                     break;
                 }
-                match next_client(rt, house, &listener) {
+                match next_client(rt, house, &listener, &mut reported) {
                     Some(client) => {
                         let started = Builder::new()
                             .stack_size(STACK)

@@ -13,6 +13,7 @@
 mod accepting;
 mod crew;
 mod lanes;
+mod listening;
 mod opening;
 mod serving;
 mod settling;

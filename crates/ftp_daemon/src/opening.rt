@@ -8,6 +8,7 @@ ghost use Rattle.lane_desk.specs.Posted.{AllAnswered};
 ghost use Rattle.lane_desk.specs.Turns.{back, turns, IsRoundOf};
 
 use authorizer::Authorizer;
+use client_patience::Patience;
 use data_sockets::TransferCell;
 use event_word::micros;
 use ftpd_program::ServeFault;
@@ -42,6 +43,8 @@ pub struct Service<S: Drop, H: Hooks, P: Drop> {
     pub handler: H,
     /// The stop sign, if there is one.
     pub stop: Option<P>,
+    /// The limits of time for clients.
+    pub patience: Patience,
 }
 
 /// The parts that the threads will share, except desk and board.
@@ -55,6 +58,7 @@ pub(crate) struct Rooms<S: Store<Global>, H: Hooks, P: Drop> {
     pub(crate) arrivals: Vec<Mutex<Option<TcpStream>>>,
     pub(crate) handler: H,
     pub(crate) stop: Option<P>,
+    pub(crate) patience: Patience,
     pub(crate) floors: Floors,
     pub(crate) ports: RestingPorts,
     pub(crate) registry: Registry,
@@ -125,6 +129,7 @@ where
         own_stores,
         handler,
         stop,
+        patience,
     } = service;
     let most = usize::from(numbers.max_cons);
     let floors = Floors::of(alloc, &limits)?;
@@ -144,6 +149,7 @@ where
         arrivals,
         handler,
         stop,
+        patience,
         floors,
         ports,
         registry,

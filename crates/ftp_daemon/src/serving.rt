@@ -6,11 +6,11 @@ ghost use Rattle.lent_parts.specs.Names.{IsBoardOf, IsNamed};
 ghost use Rattle.transfer_worker.specs.Boards.{AreNewPasses};
 
 use crate::lanes::{run_threads, serve_clients};
+use crate::listening::{listen_on, warn_of_descriptors};
 use crate::opening::{Line, Rooms, Service, open_line, open_rooms};
 use crate::settling::{Room, settle_served, settle_unlent};
 use crate::watching::{StopSign, is_up};
 use crate::works::{LentLine, Lists, Waiting, Works, lend_line, lend_passes, new_lists};
-use data_sockets::socket_address;
 use event_word::{EventCount, SharedEventCount};
 use ftpd_program::ServeFault;
 use grant_ledger::Settled;
@@ -43,6 +43,7 @@ fn furnish<S: Store<Global>, H: Hooks, B: PartsName, P: Drop>(
         arrivals,
         handler,
         stop,
+        patience,
         floors,
         ports,
         registry,
@@ -54,6 +55,7 @@ fn furnish<S: Store<Global>, H: Hooks, B: PartsName, P: Drop>(
         users,
         settings,
         numbers,
+        patience,
         store: Mutex::new(store),
         own_stores,
         arrivals,
@@ -237,7 +239,7 @@ fn tell_settled<W: TextWriter>(
 /// Serves until as many sessions were admitted as the numbers say, or until the stop sign is up, and then waits for the
 /// sessions in progress. Writes `ready` once clients may connect, and at the end the outcome of all octets issued.
 ///
-/// Returns `Bind` if the address and port cannot be bound, `NoThread` if a thread of the server cannot be started,
+/// Returns `Bind` if the address and port cannot be bound (the handler is told why), `NoThread` if a thread of the server cannot be started,
 /// `Stopped` if the stop sign is up at the start.
 pub fn serve<R, S, H, P, W>(
     rt: &R,
@@ -265,10 +267,9 @@ where
         return Err(ServeFault::Stopped);
     }
     let numbers = service.numbers;
-    let own = socket_address(numbers.address, numbers.port);
-    let Ok(listener) = TcpListener::bind(rt, own) else {
-        return Err(ServeFault::Bind);
-    };
+    let mut service = service;
+    let listener = listen_on(rt, &numbers, &mut service.handler)?;
+    warn_of_descriptors(&numbers, &mut service.handler);
     let rooms = open_rooms(rt, service)?;
     let lanes = usize::from(numbers.lanes);
     let Ok((board, passes)) = open_board(rt.alloc(), usize::from(numbers.max_cons), lanes + 1)

@@ -32,8 +32,7 @@ pub(crate) fn is_up<P: StopSign>(stop: &Option<P>) -> bool {
     }
 }
 
-/// Checks the sign until the sessions are to end. If it is up, ends them, and wakes the thread that accepts by a
-/// connection to its own port.
+/// Checks the sign until the sessions are to end. If it is up, ends them, and wakes the thread that accepts.
 pub(crate) fn watch<R, S, H, B, P>(rt: &R, house: &House<S, H, B>, sign: &P)
 where
     R: Wait + Clock + Net<Listener = TcpListener, Stream = TcpStream>,
@@ -48,11 +47,32 @@ where
         }
         if sign.is_up() {
             house.ending.begin(ShutdownStage::Sessions);
-            let own = socket_address(house.numbers.address, house.numbers.port);
-            let _ = TcpStream::connect_timeout(rt, &own, Duration::from_millis(WAKING));
+            wake(rt, house);
             return;
         }
         thread::sleep(rt, Duration::from_millis(LOOK));
+    }
+    unreachable!()
+}
+
+// Wakes the thread that accepts, by a connection to its own port. If the machine lends no file, port or memory for it at
+// the moment, tries again: sessions that end give theirs back.
+fn wake<R, S, H, B>(rt: &R, house: &House<S, H, B>)
+where
+    R: Wait + Clock + Net<Listener = TcpListener, Stream = TcpStream>,
+    S: Store<Global>,
+    H: Hooks,
+    B: PartsName,
+{
+    let own = socket_address(house.numbers.address, house.numbers.port);
+    for _ in rt.forever() {
+        if house.ending.has_begun(ShutdownStage::Lanes) {
+            return;
+        }
+        match TcpStream::connect_timeout(rt, &own, Duration::from_millis(WAKING)) {
+            Ok(_) => return,
+            Err(_) => thread::sleep(rt, Duration::from_millis(LOOK)),
+        }
     }
     unreachable!()
 }

@@ -1,11 +1,12 @@
 //! The shared parts of a server.
 
-ghost use Rattle.std.specs.Prelude.{IfOk};
-ghost use Rattle.server_house.specs.Settings.{AreSameSettings};
+ghost use Rattle.std.specs.Prelude.{◌≡◌, IfOk, [], ◌∷◌};
+ghost use Rattle.server_house.specs.Settings.{AreSettingsAt, announced};
 
 use crate::ending::ServerShutdown;
 use crate::lane::LaneSign;
 use authorizer::Authorizer;
+use client_patience::Patience;
 use data_sockets::{DataConnection, Served, TransferCell};
 use event_word::{EventCount, SharedEventCount};
 use ftp_terms::LineText;
@@ -28,6 +29,7 @@ pub struct House<S: Store<Global>, H: Hooks, B: PartsName> {
     pub users: Authorizer,
     pub settings: Settings,
     pub numbers: ServerNumbers,
+    pub patience: Patience,
     /// The store of all sessions without one of their own.
     pub store: Mutex<S>,
     /// A store for each connection, by its number, over the same files as the shared one; empty if there can be only
@@ -65,9 +67,21 @@ impl<S: Store<Global>, H: Hooks, B: PartsName> House<S, H, B> {
     }
 }
 
-/// The settings of one more session. Fails if memory runs out.
-pub fn copy_settings(alloc: Global, settings: &Settings) -> Result<Settings, AllocError>
-    ensures same { IfOk result (AreSameSettings settings.now) }
+/// The address that replies to PASV have: the stated one, or that at which the client arrived if none in particular is
+/// stated (RFC 1122, section 3.2.1.3: 0.0.0.0 is no address of a host).
+fn announced(stated: [u8; 4], arrived: [u8; 4]) -> [u8; 4]
+    ensures address { result ≡ announced stated arrived }
+{
+    if stated == [0; 4] { arrived } else { stated }
+}
+
+/// The settings of one more session, whose client arrived at this address. Fails if memory runs out.
+pub fn copy_settings(
+    alloc: Global,
+    settings: &Settings,
+    arrived: [u8; 4],
+) -> Result<Settings, AllocError>
+    ensures same { IfOk result (AreSettingsAt settings.now arrived) }
 {
     let banner = String::from_str(alloc, settings.banner.as_str())?;
     Ok(Settings {
@@ -75,6 +89,6 @@ pub fn copy_settings(alloc: Global, settings: &Settings) -> Result<Settings, All
         login_attempts: settings.login_attempts,
         permits_foreign_addresses: settings.permits_foreign_addresses,
         permits_privileged_ports: settings.permits_privileged_ports,
-        address: settings.address,
+        address: announced(settings.address, arrived),
     })
 }

@@ -6,12 +6,16 @@
 //! such as the listing of a large folder, delays nobody else if each session has a store of its own.
 #![tactic(auto)]
 
+mod cause;
+mod descriptors;
 mod ending;
 mod house;
 mod lane;
 mod server_hooks;
 
+pub use cause::EndCause;
+pub use descriptors::descriptors_for;
 pub use ending::{ServerShutdown, ShutdownStage, stages_stay_begun};
 pub use house::{House, copy_settings};
 pub use lane::LaneSign;
-pub use server_hooks::{NotServed, ServerHooks};
+pub use server_hooks::{NotServed, ServerEvent, ServerHooks, SessionEvent};

@@ -3,8 +3,15 @@ use Rattle.std.specs.Prelude.{ℕ, List, codes, Option, Some, None}
 use Rattle.std.specs.Borrow.{Bor}
 use Rattle.std.specs.Fmt.{◌++?◌, debug_str}
 use Rattle.passive_ports.specs.declared.fault.AdmitFault.TheVariants.{TooMany, TooManyOfAddress, Memory}
+use Rattle.server_house.specs.declared.cause.EndCause.{EndCause}
+use Rattle.server_house.specs.declared.cause.EndCause.TheVariants.{Aborted, NothingPrepared, NoClient, NotConnected, NoLane, NoMemory, File, Connection, ControlLost, ServerEnds}
 use Rattle.server_house.specs.declared.server_hooks.NotServed.{NotServed}
 use Rattle.server_house.specs.declared.server_hooks.NotServed.TheVariants.{NotAdmitted, NoThread}
+use Rattle.server_house.specs.declared.server_hooks.ServerEvent.{ServerEvent}
+use Rattle.server_house.specs.declared.server_hooks.ServerEvent.TheVariants.{NotBound, NotAccepted, FewDescriptors}
+use Rattle.server_house.specs.declared.server_hooks.SessionEvent.{SessionEvent}
+use Rattle.server_house.specs.declared.server_hooks.SessionEvent.TheVariants.{NoPort, TimedOut, Cut}
+use Rattle.client_patience.specs.declared.waits.TimeOut.TheVariants as time
 use Rattle.session_notes.specs.declared.words.Noted.{Noted}
 use Rattle.session_notes.specs.declared.words.Noted.TheVariants.{Connect, Disconnect, Login, LoginFailed, Logout, Sent, Received, NotSent, NotReceived}
 use Rattle.session_notes.specs.declared.words.NoteText.{NoteText}
@@ -33,3 +40,26 @@ refusal_words (NotAdmitted TooMany) = codes "too many connections"
 refusal_words (NotAdmitted TooManyOfAddress) = codes "too many connections from this address"
 refusal_words (NotAdmitted Memory) = codes "out of memory"
 refusal_words NoThread = codes "no thread could be started"
+
+abbrev pub cause_words : EndCause → List ℕ
+cause_words Aborted = codes "aborted by the client"
+cause_words NothingPrepared = codes "no data connection was prepared"
+cause_words NoClient = codes "nobody connected to the passive port in time"
+cause_words (NotConnected error) = codes "the client's port could not be connected to"
+cause_words NoLane = codes "no room for another transfer"
+cause_words NoMemory = codes "out of memory"
+cause_words File = codes "the file could not be read or written"
+cause_words (Connection error) = codes "the data connection failed"
+cause_words ControlLost = codes "the control connection was lost"
+cause_words ServerEnds = codes "the server ends"
+
+abbrev pub session_words : SessionEvent → List ℕ
+session_words (NoPort error) = codes "no passive port"
+session_words (TimedOut time.Login) = codes "timed out without a login"
+session_words (TimedOut time.Idle) = codes "timed out without a sign of life"
+session_words (Cut cause) = codes "transfer cut"
+
+abbrev pub server_words : ServerEvent → List ℕ
+server_words (NotBound address port error) = codes "cannot listen on"
+server_words (NotAccepted error) = codes "connections cannot be accepted"
+server_words (FewDescriptors limit needed) = codes "too few open files are allowed"

@@ -1,10 +1,10 @@
 //! A handler that writes a note of each event.
 
 use crate::moment::second_of;
-use crate::words::{NoteText, Noted, refusal_words};
+use crate::words::{CauseText, NoteText, Noted, ServerText, SessionText, refusal_words};
 use handler_hooks::Hooks;
-use log::{Log, info};
-use server_house::{NotServed, ServerHooks};
+use log::{Log, info, warn};
+use server_house::{EndCause, NotServed, ServerEvent, ServerHooks, SessionEvent};
 use std::net::Ipv4Addr;
 use std::time::Clock;
 
@@ -15,6 +15,8 @@ pub struct Notes<L> {
     // the peer of the session that the next events are about
     peer: [u8; 4],
     session: usize,
+    // the reason for the incomplete file that these events report, if they report one
+    cause: Option<EndCause>,
 }
 
 impl<L: Log + Clock> Notes<L> {
@@ -24,6 +26,7 @@ impl<L: Log + Clock> Notes<L> {
             log,
             peer: [0; 4],
             session: 0,
+            cause: None,
         }
     }
 
@@ -33,6 +36,22 @@ impl<L: Log + Clock> Notes<L> {
         let session = self.session;
         let text = NoteText { event, name };
         info!(self.log; target: "", "{time} {peer} #{session} {text}");
+    }
+
+    // An incomplete file, with the reason if it is known.
+    fn note_incomplete(&self, event: Noted, path: &str) {
+        match self.cause {
+            None => self.note(event, Some(path)),
+            Some(cause) => {
+                let time = second_of(self.log.since_1970());
+                let peer = Ipv4Addr::from(self.peer);
+                let session = self.session;
+                let name = Some(path);
+                let text = NoteText { event, name };
+                let cause = CauseText(cause);
+                info!(self.log; target: "", "{time} {peer} #{session} {text}: {cause}");
+            }
+        }
     }
 }
 
@@ -70,18 +89,27 @@ impl<L: Log + Clock + Drop> Hooks for Notes<L> {
     }
 
     fn on_incomplete_file_sent(&mut self, path: &str) {
-        self.note(Noted::NotSent, Some(path));
+        self.note_incomplete(Noted::NotSent, path);
     }
 
     fn on_incomplete_file_received(&mut self, path: &str) {
-        self.note(Noted::NotReceived, Some(path));
+        self.note_incomplete(Noted::NotReceived, path);
     }
 }
 
 impl<L: Log + Clock + Drop> ServerHooks for Notes<L> {
-    fn attend(&mut self, peer: [u8; 4], session: usize) {
+    fn attend(&mut self, peer: [u8; 4], session: usize, cause: Option<EndCause>) {
         self.peer = peer;
         self.session = session;
+        self.cause = cause;
+    }
+
+    fn on_session(&mut self, event: SessionEvent) {
+        let time = second_of(self.log.since_1970());
+        let peer = Ipv4Addr::from(self.peer);
+        let session = self.session;
+        let text = SessionText(event);
+        info!(self.log; target: "", "{time} {peer} #{session} {text}");
     }
 
     fn on_refused(&mut self, peer: [u8; 4], why: NotServed) {
@@ -89,5 +117,11 @@ impl<L: Log + Clock + Drop> ServerHooks for Notes<L> {
         let peer = Ipv4Addr::from(peer);
         let why = refusal_words(why);
         info!(self.log; target: "", "{time} {peer} refused: {why}");
+    }
+
+    fn on_server(&mut self, event: ServerEvent) {
+        let time = second_of(self.log.since_1970());
+        let text = ServerText(event);
+        warn!(self.log; target: "", "{time} {text}");
     }
 }

@@ -1,11 +1,14 @@
 //! The words of events and refusals.
 
 ghost use Rattle.std.specs.Prelude.{◌≡◌};
-ghost use Rattle.session_notes.specs.Words.{event_words, refusal_words};
+ghost use Rattle.session_notes.specs.Words.{cause_words, event_words, refusal_words, server_words, session_words};
 
+use client_patience::TimeOut;
 use passive_ports::AdmitFault;
-use server_house::NotServed;
-use std::fmt;
+use server_house::{EndCause, NotServed, ServerEvent, SessionEvent};
+use std::io::ErrorKind;
+use std::net::{Ipv4Addr, SocketAddrV4};
+use std::{fmt, io};
 
 /// An event of a session.
 #[derive(Clone, Copy, Debug, PartialEq, Eq)]
@@ -70,5 +73,110 @@ pub(crate) fn refusal_words(why: NotServed) -> &'static str
         }
         NotServed::NotAdmitted(AdmitFault::Memory) => "out of memory",
         NotServed::NoThread => "no thread could be started",
+    }
+}
+
+/// The reason for which a transfer did not come to its end, in words.
+fn cause_words(cause: EndCause) -> &'static str
+    ensures words { result.now ≡ cause_words cause }
+{
+    match cause {
+        EndCause::Aborted => "aborted by the client",
+        EndCause::NothingPrepared => "no data connection was prepared",
+        EndCause::NoClient => "nobody connected to the passive port in time",
+        EndCause::NotConnected(_) => "the client's port could not be connected to",
+        EndCause::NoLane => "no room for another transfer",
+        EndCause::NoMemory => "out of memory",
+        EndCause::File => "the file could not be read or written",
+        EndCause::Connection(_) => "the data connection failed",
+        EndCause::ControlLost => "the control connection was lost",
+        EndCause::ServerEnds => "the server ends",
+    }
+}
+
+// The machine's error of a cause, if there is one.
+fn error_of(cause: EndCause) -> Option<io::Error> {
+    match cause {
+        EndCause::NotConnected(error) => Some(error),
+        EndCause::Connection(error) => error,
+        _ => None,
+    }
+}
+
+/// A cause with the machine's error, if there is one. A time limit that passed without an octet is said in words, since
+/// the machine calls it a resource that is temporarily unavailable.
+#[derive(Clone, Copy)]
+pub(crate) struct CauseText(pub EndCause);
+
+impl fmt::Display for CauseText {
+    fn fmt<W: fmt::Write>(&self, f: &mut fmt::Formatter<W>) -> fmt::Result {
+        f.write_str(cause_words(self.0))?;
+        match error_of(self.0) {
+            None => Ok(()),
+            Some(error) => match error.kind() {
+                ErrorKind::WouldBlock | ErrorKind::TimedOut => f.write_str(": no octet moved in time"),
+                _ => write!(f, ": {error}"),
+            },
+        }
+    }
+}
+
+fn session_words(event: SessionEvent) -> &'static str
+    ensures words { result.now ≡ session_words event }
+{
+    match event {
+        SessionEvent::NoPort(_) => "no passive port",
+        SessionEvent::TimedOut(TimeOut::Login) => "timed out without a login",
+        SessionEvent::TimedOut(TimeOut::Idle) => "timed out without a sign of life",
+        SessionEvent::Cut(_) => "transfer cut",
+    }
+}
+
+/// An event of a session, with its reason if it has one.
+#[derive(Clone, Copy)]
+pub(crate) struct SessionText(pub SessionEvent);
+
+impl fmt::Display for SessionText {
+    fn fmt<W: fmt::Write>(&self, f: &mut fmt::Formatter<W>) -> fmt::Result {
+        let words = session_words(self.0);
+        match self.0 {
+            SessionEvent::NoPort(error) => write!(f, "{words}: {error}"),
+            SessionEvent::TimedOut(_) => f.write_str(words),
+            SessionEvent::Cut(cause) => {
+                let cause = CauseText(cause);
+                write!(f, "{words}: {cause}")
+            }
+        }
+    }
+}
+
+fn server_words(event: ServerEvent) -> &'static str
+    ensures words { result.now ≡ server_words event }
+{
+    match event {
+        ServerEvent::NotBound(_, _, _) => "cannot listen on",
+        ServerEvent::NotAccepted(_) => "connections cannot be accepted",
+        ServerEvent::FewDescriptors(_, _) => "too few open files are allowed",
+    }
+}
+
+/// An event of the server, with its numbers and the machine's error.
+#[derive(Clone, Copy)]
+pub(crate) struct ServerText(pub ServerEvent);
+
+impl fmt::Display for ServerText {
+    fn fmt<W: fmt::Write>(&self, f: &mut fmt::Formatter<W>) -> fmt::Result {
+        let words = server_words(self.0);
+        match self.0 {
+            ServerEvent::NotBound(address, port, error) => {
+                let at = SocketAddrV4::new(Ipv4Addr::from(address), port);
+                write!(f, "{words} {at}: {error}")
+            }
+            ServerEvent::NotAccepted(error) => write!(f, "{words}: {error}"),
+            ServerEvent::FewDescriptors(limit, needed) => write!(
+                f,
+                "{words}: {limit} of the {needed} that all clients together may need; see `ulimit -n`, LimitNOFILE"
+            ),
+        }
     }
 }

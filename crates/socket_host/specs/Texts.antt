@@ -1,8 +1,17 @@
--- The octets of a read, and the errors of one that only found nothing.
-use Rattle.std.specs.Prelude.{ℕ, Bool, true, false, List, [], take}
+-- The octets of a read and of a last reply, the errors of a read that only found nothing, and the
+-- octets of an address.
+use Rattle.std.specs.Prelude.{◌≡◌, ◌++◌, ⊤, ℕ, Bool, true, false, List, [], ◌∷◌, Option, Some, None, codes, take}
+use Rattle.std.specs.Net.Addr.{ipv4_octets}
+use Rattle.std.specs.Net.Socket.{v4_ip}
+use Rattle.std.specs.declared.net.socket_addr.SocketAddr.{SocketAddr}
+use Rattle.std.specs.declared.net.socket_addr.SocketAddr.TheVariants.{V4, V6}
 use Rattle.std.specs.declared.io.ErrorKind.{ErrorKind}
 use Rattle.std.specs.declared.io.ErrorKind.TheVariants.{WouldBlock, TimedOut, Interrupted}
 use Rattle.control_session.specs.declared.host.Piece.{Piece}
+use Rattle.client_patience.specs.declared.waits.TimeOut.{TimeOut}
+use Rattle.client_patience.specs.declared.waits.TimeOut.TheVariants.{Login, Idle}
+use Rattle.session_core.specs.declared.events.DataEvent.{DataEvent}
+use Rattle.session_core.specs.declared.events.DataEvent.TheVariants.{Ready, Ended}
 use Rattle.control_session.specs.declared.host.Piece.TheVariants.{Octets, Nothing, AtEnd}
 
 abbrev pub octets_in : Piece → List ℕ → List ℕ
@@ -15,3 +24,20 @@ is_pause WouldBlock = true
 is_pause TimedOut = true
 is_pause Interrupted = true
 is_pause _ = false
+
+-- the octets of an IPv4 address
+abbrev pub IsOctetsOf : SocketAddr → List ℕ → Type 0
+IsOctetsOf (V4 socket) octets = ipv4_octets (v4_ip socket) ≡ octets
+IsOctetsOf (V6 socket) octets = ⊤
+
+-- the last reply to a client that has passed a limit of time
+abbrev pub time_out_reply : TimeOut → List ℕ
+time_out_reply Login = codes "421 Login timed out" ++ 13 ∷ 10 ∷ []
+time_out_reply Idle = codes "421 Idle too long" ++ 13 ∷ 10 ∷ []
+
+-- a passive port was asked for, and none could be had
+abbrev pub is_without_port : {K : Type 0} → Option (DataEvent K) → Bool
+is_without_port None = false
+is_without_port (Some (Ready None)) = true
+is_without_port (Some (Ready (Some port))) = false
+is_without_port (Some (Ended end sink)) = false

@@ -3,14 +3,14 @@
 ghost use Rattle.std.specs.Prelude.{◌<◌, ◌≡◌, ◌≤◌, IfOk, length, take};
 ghost use Rattle.control_session.specs.Calls.{reads_within};
 ghost use Rattle.line_mender.specs.Mended.{after_all, after_silence, ending_of, kept};
-ghost use Rattle.socket_host.specs.Texts.{is_pause, octets_in};
+ghost use Rattle.socket_host.specs.Texts.{IsOctetsOf, is_pause, octets_in};
 
 use control_session::Piece;
 use line_mender::Mender;
 use server_house::{ServerShutdown, ShutdownStage};
 use std::io;
 use std::io::{ErrorKind, Read, Write};
-use std::net::{Shutdown, TcpStream};
+use std::net::{Shutdown, SocketAddr, TcpStream};
 use std::time::Duration;
 
 /// The time-out of a read while nothing runs, in milliseconds.
@@ -28,8 +28,11 @@ const MOST_WAITS: u32 = 20;
 /// Most of them once the server ends.
 const LAST_WAITS: u32 = 2;
 
-/// Most reads from a connection that is to be closed, so that the last reply arrives.
-const LAST_READS: usize = 5;
+/// Most reads from a connection that is to be closed.
+const LAST_READS: usize = 4;
+
+/// The time-out of one of them, in milliseconds.
+const LAST_WAIT: u64 = 50;
 
 const LF: u8 = 10;
 
@@ -49,6 +52,16 @@ fn is_pause(kind: ErrorKind) -> bool
         kind,
         ErrorKind::WouldBlock | ErrorKind::TimedOut | ErrorKind::Interrupted
     )
+}
+
+// The octets of an IPv4 address; a connection to an IPv4 listener has no other.
+fn octets_of(address: SocketAddr) -> [u8; 4]
+    ensures octets { IsOctetsOf address result }
+{
+    match address {
+        SocketAddr::V4(at) => at.ip().octets(),
+        SocketAddr::V6(_) => [0; 4],
+    }
 }
 
 impl ControlSocket {
@@ -156,20 +169,27 @@ impl ControlSocket {
         Ok(())
     }
 
-    /// Ends the connection in such a way that what was written arrives.
+    /// Ends the connection in such a way that what was written arrives: reads what the peer had still sent, since a
+    /// connection that is closed with octets unread is reset. Waits at most 200 ms, and 50 ms for a peer that neither
+    /// sends nor closes.
     pub fn hang_up(&mut self, buffer: &mut [u8]) {
         let _ = self.stream.shutdown(Shutdown::Write);
-        self.set_pace(false);
+        let _ = self
+            .stream
+            .set_read_timeout(Some(Duration::from_millis(LAST_WAIT)));
         for _ in 0..LAST_READS {
             match self.stream.read(buffer) {
-                Ok(0) => return,
+                Ok(0) | Err(_) => return,
                 Ok(_) => {}
-                Err(error) => {
-                    if !is_pause(error.kind()) {
-                        return;
-                    }
-                }
             }
+        }
+    }
+
+    /// The address of the server at which the client arrived; that of no host if it is unknown.
+    pub fn arrived_at(&self) -> [u8; 4] {
+        match self.stream.local_addr() {
+            Ok(at) => octets_of(at),
+            Err(_) => [0; 4],
         }
     }
 }

@@ -1,7 +1,8 @@
 //! The host of a control session.
 
-ghost use Rattle.std.specs.Prelude.{◌≡◌, IfNone, IfSome, [], false, option_map, true, unwrap_or};
+ghost use Rattle.std.specs.Prelude.{◌≡◌, ◌<◌, IfNone, IfOk, IfSome, [], false, length, option_map, true, unwrap_or};
 ghost use Rattle.std.specs.declared.alloc.Global.{Global};
+ghost use Rattle.control_session.specs.Calls.{reads_within};
 ghost use Rattle.control_session.specs.Rows.{IsRow};
 ghost use Rattle.control_session.specs.Turns.{Stepped};
 ghost use Rattle.control_session.specs.Sides.Given.{Came};
@@ -9,29 +10,70 @@ ghost use Rattle.rate_floors.specs.Promises.{HasNoSessions};
 ghost use Rattle.session_table.specs.Steps.{asks_floors};
 ghost use Rattle.session_table.specs.Views.{is_closed};
 ghost use Rattle.std.specs.FinMap as map;
+ghost use Rattle.socket_host.specs.Cuts.{cause_of_cut};
+ghost use Rattle.socket_host.specs.Texts.{is_without_port, time_out_reply};
 ghost use Rattle.socket_host.specs.Unsaid.{AnyCall};
 
 use crate::control::ControlSocket;
 use crate::moments::millis_since_1970;
 use authorizer::Authorizer;
+use client_patience::{TimeOut, Waits};
 use control_session::{DataEvent, Host, Leaving, Piece, Session, close_by, end_by, step_by};
+use event_word::{has_passed, micros};
 use ftp_wire::HostPort;
 use handler_hooks::{Hooks, tell};
 use lent_parts::PartsName;
 use line_rates::Limits;
 use rate_floors::Floors;
-use server_house::{House, ServerHooks, ShutdownStage, copy_settings};
-use session_table::{Action, HookCall, Input, Job, Settings, Text};
+use server_house::{
+    EndCause, House, ServerHooks, SessionEvent, ShutdownStage, copy_settings,
+};
+use session_table::{Action, End, HookCall, Input, Job, Settings, Text};
 use socket_side::SocketSide;
 use std::alloc::{AllocError, Global};
 use std::io;
 use std::net::{Net, TcpListener, TcpStream};
 use std::sync::Wait;
-use std::time::Clock;
+use std::thread;
+use std::time::{Clock, Duration};
 use virtual_tree::Store;
 
 /// The reply to a client whose session the server ends.
 const ENDING: &[u8] = b"421 Server is ending\r\n";
+
+/// How often a session that delays a reply looks whether the server ends, in milliseconds.
+const LOOK: u64 = 50;
+
+// The last reply to a client that has passed a limit of time.
+fn time_out_reply(why: TimeOut) -> &'static [u8]
+    ensures text { result.now ≡ time_out_reply why }
+{
+    match why {
+        TimeOut::Login => b"421 Login timed out\r\n",
+        TimeOut::Idle => b"421 Idle too long\r\n",
+    }
+}
+
+// The reason for which the transfer was cut whose end is the last event of its session, if it was.
+fn cause_of_cut<K>(last: &Option<DataEvent<K>>, is_ending: bool) -> Option<EndCause>
+    ensures cause { result ≡ cause_of_cut last.now is_ending }
+{
+    match last {
+        None | Some(DataEvent::Ready(_)) | Some(DataEvent::Ended { end: End::Done, .. }) => None,
+        Some(DataEvent::Ended { .. }) => Some(if is_ending {
+            EndCause::ServerEnds
+        } else {
+            EndCause::ControlLost
+        }),
+    }
+}
+
+// Returns whether a passive port was asked for, and none could be had.
+fn is_without_port<K>(event: &Option<DataEvent<K>>) -> bool
+    ensures none { result ≡ is_without_port event.now }
+{
+    matches!(event, Some(DataEvent::Ready(None)))
+}
 
 // Floors without rows, which need no memory.
 fn floors_of_nobody(alloc: Global) -> Option<Floors>
@@ -75,6 +117,9 @@ pub struct SocketHost<'h, R, S: Store<Global>, H: Hooks, B: PartsName> {
     key: usize,
     // the number of the user who is logged in, by which rounds identify them
     user: u32,
+    waits: Waits,
+    // the reply that comes next is to a wrong password
+    is_wrong: bool,
     // lent to steps that need no floors
     no_floors: Floors,
 }
@@ -105,13 +150,70 @@ where
             peer,
             key,
             user: 0,
+            waits: Waits::new(micros(rt)),
+            is_wrong: false,
             no_floors,
         })
     }
 
     /// The settings of the session.
     pub(crate) fn copy_settings(&self) -> Result<Settings, AllocError> {
-        copy_settings(self.rt.alloc(), &self.house.settings)
+        let arrived = self.socket.arrived_at();
+        copy_settings(self.rt.alloc(), &self.house.settings, arrived)
+    }
+
+    fn is_ending(&self) -> bool {
+        self.house.ending.has_begun(ShutdownStage::Sessions)
+    }
+
+    // Lets this many seconds pass, without a lock; ends early if the server ends.
+    fn delay(&self, seconds: u32) {
+        let since = micros(self.rt);
+        for _ in self.rt.forever() {
+            if self.is_ending() || has_passed(since, micros(self.rt), u64::from(seconds) * 1_000_000) {
+                return;
+            }
+            thread::sleep(self.rt, Duration::from_millis(LOOK));
+        }
+    }
+
+    // Follows who is logged in, and when.
+    fn follow(&mut self, call: &HookCall<Global>) {
+        match call {
+            HookCall::Login(name) => {
+                self.user = number_of(&self.house.users, name.as_str());
+                self.waits.log_in();
+            }
+            HookCall::Logout(_) => self.waits.log_out(micros(self.rt)),
+            HookCall::LoginFailed(_) => self.is_wrong = true,
+            _ => {}
+        }
+    }
+
+    // Reports an event of the session that is none of its steps.
+    fn report(&mut self, event: SessionEvent) {
+        let mut handler = self.house.handler.lock(self.rt);
+        handler.attend(self.peer, self.key, None);
+        handler.on_session(event);
+    }
+
+    // Tells the client that it has passed a limit of time.
+    fn time_out(&mut self, why: TimeOut) {
+        self.report(SessionEvent::TimedOut(why));
+        let _ = self.socket.write(time_out_reply(why), &self.house.ending);
+    }
+
+    // Reads once, and notes a sign of life.
+    fn read_some(&mut self, buffer: &mut [u8]) -> io::Result<Piece>
+        requires room { 0 < length buffer.old }
+        ensures bound { IfOk result (λ piece. reads_within piece buffer.new) }
+    {
+        let is_busy = self.side.is_busy();
+        let piece = self.socket.read(is_busy, buffer)?;
+        if is_busy || piece != Piece::Nothing {
+            self.waits.hear(micros(self.rt));
+        }
+        Ok(piece)
     }
 
     // Passes on the events of the data side after the end of the control connection.
@@ -211,28 +313,36 @@ where
     }
 
     fn note(&mut self, call: &HookCall<Global>) {
-        if let HookCall::Login(name) = call {
-            self.user = number_of(&self.house.users, name.as_str());
-        }
+        self.follow(call);
         let mut handler = self.house.handler.lock(self.rt);
-        handler.attend(self.peer, self.key);
+        handler.attend(self.peer, self.key, self.side.cause());
         tell(&mut *handler, call);
     }
 
     fn write(&mut self, reply: &[u8]) -> io::Result<()> {
+        if self.is_wrong {
+            self.is_wrong = false;
+            self.delay(self.house.patience.login_delay);
+        }
         self.socket.write(reply, &self.house.ending)
     }
 
     fn read(&mut self, buffer: &mut [u8]) -> io::Result<Piece> {
-        if self.house.ending.has_begun(ShutdownStage::Sessions) {
+        if self.is_ending() {
             let _ = self.socket.write(ENDING, &self.house.ending);
             return Ok(Piece::AtEnd);
         }
         if self.side.rest() {
             return Ok(Piece::Nothing);
         }
-        let is_quick = self.side.is_busy();
-        self.socket.read(is_quick, buffer)
+        if !self.side.is_busy() {
+            let out = self.waits.time_out(self.house.patience, micros(self.rt));
+            if let Some(why) = out {
+                self.time_out(why);
+                return Ok(Piece::AtEnd);
+            }
+        }
+        self.read_some(buffer)
     }
 
     fn open_passive(&mut self) {
@@ -258,10 +368,20 @@ where
     }
 
     fn look(&mut self) -> Option<DataEvent<S::Sink>> {
-        self.side.look(self.user)
+        let event = self.side.look(self.user);
+        if is_without_port(&event) {
+            if let Some(error) = self.side.port_fault() {
+                self.report(SessionEvent::NoPort(error));
+            }
+        }
+        event
     }
 
     fn settle(&mut self) -> Option<DataEvent<S::Sink>> {
-        self.side.settle()
+        let last = self.side.settle();
+        if let Some(cause) = cause_of_cut(&last, self.is_ending()) {
+            self.report(SessionEvent::Cut(cause));
+        }
+        last
     }
 }

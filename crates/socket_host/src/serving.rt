@@ -72,10 +72,8 @@ fn session_number(key: usize) -> u32
     }
 }
 
-/// Serves a client from the greeting to the end of the control connection, which was accepted from this peer and has
-/// this key in the registry; the connection then leaves the registry. However the session ends, its transfers have
-/// ended and its floor is released.
-pub fn serve_session<R, S, H, B>(
+// Runs a session and closes its connection.
+fn run_client<R, S, H, B>(
     rt: &R,
     house: &House<S, H, B>,
     stream: TcpStream,
@@ -92,10 +90,27 @@ where
     let host = SocketHost::new(rt, house, ControlSocket::new(stream), side, peer, key);
     if let Some(mut host) = host {
         run_hosted(&rt.alloc(), &mut host, house, peer);
-        house.registry.lock(rt).leave(key);
         let mut buffer = [0; LAST_PIECE];
         host.hang_up(&mut buffer);
-    } else {
-        house.registry.lock(rt).leave(key);
     }
+}
+
+/// Serves a client from the greeting to the end of the control connection, which was accepted from this peer and has
+/// this key in the registry. However the session ends, its transfers have ended and its floor is released. The
+/// connection leaves the registry last, once its socket is closed, so that the registry bounds threads and sockets.
+pub fn serve_session<R, S, H, B>(
+    rt: &R,
+    house: &House<S, H, B>,
+    stream: TcpStream,
+    peer: [u8; 4],
+    key: usize,
+)
+where
+    R: Wait + Clock + Net<Listener = TcpListener, Stream = TcpStream> + AllocGlobal,
+    S: Store<Global>,
+    H: ServerHooks,
+    B: PartsName,
+{
+    run_client(rt, house, stream, peer, key);
+    house.registry.lock(rt).leave(key);
 }

@@ -1,2 +1,3 @@
+pub mod Causes
 pub mod Jobs
 pub mod Running

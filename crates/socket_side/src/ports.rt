@@ -2,6 +2,7 @@
 
 use data_sockets::listen;
 use passive_ports::{PortHost, RestingPorts};
+use std::io;
 use std::net::{Net, TcpListener, TcpStream};
 use std::sync::{Mutex, Wait};
 
@@ -11,6 +12,8 @@ pub(crate) struct SharedPorts<'r, 'p, R> {
     pub rt: &'r R,
     pub ports: &'p Mutex<RestingPorts>,
     pub address: [u8; 4],
+    /// The error of the last port that could not be listened on.
+    pub fault: Option<io::Error>,
 }
 
 impl<'r, 'p, R> PortHost<TcpListener> for SharedPorts<'r, 'p, R>
@@ -28,7 +31,13 @@ where
     fn bind(&mut self, port: u16) -> Option<TcpListener>
         ensures { ⊤ }
     {
-        listen(self.rt, self.address, port)
+        match listen(self.rt, self.address, port) {
+            Ok(listener) => Some(listener),
+            Err(error) => {
+                self.fault = Some(error);
+                None
+            }
+        }
     }
 
     fn rest(&mut self, port: u16) {

@@ -2,8 +2,10 @@
 
 ghost use Rattle.std.specs.Prelude.{◌≡◌, IfNone, IfSome, IsTrue, false};
 ghost use Rattle.session_core.specs.declared.events.DataEvent.TheVariants.{Ready};
-ghost use Rattle.session_table.specs.declared.inputs.End.TheVariants.{Aborted};
-ghost use Rattle.socket_side.specs.Running.{GoesOn, IsAwaited, IsHandedOver, IsNoTarget, Looks, RestsOn, Settles, Starts, TakesEnd, aborted, event_of, is_busy, port_in};
+ghost use Rattle.server_house.specs.declared.cause.EndCause.TheVariants as cause;
+ghost use Rattle.session_table.specs.declared.inputs.End.TheVariants.{Aborted, NoMemory};
+ghost use Rattle.socket_side.specs.Causes.{AbortCause, GoesCause, LookCause, StartCause, TakenCause, cause_of};
+ghost use Rattle.socket_side.specs.Running.{GoesOn, IsAwaited, IsHandedOver, IsNoTarget, Looks, RestsOn, Settles, Starts, TakesEnd, aborted, event_of, is_busy, over, port_in};
 
 use crate::ports::SharedPorts;
 use crate::running::{Prepared, Running, is_upload, lane_job, over, sink_of};
@@ -13,14 +15,14 @@ use ftp_wire::HostPort;
 use handler_hooks::Hooks;
 use lent_parts::PartsName;
 use passive_ports::{MOST_TRIES, open_passive};
-use server_house::House;
+use server_house::{EndCause, House};
 use session_core::DataEvent;
 use session_table::{End, Job};
 use std::alloc::Global;
-use std::mem;
 use std::net::{Net, TcpListener, TcpStream};
 use std::sync::Wait;
 use std::time::{Clock, Duration};
+use std::{io, mem};
 use virtual_tree::Store;
 
 /// The time without progress after which a read or write of a data connection fails, in milliseconds: a third of a
@@ -45,6 +47,23 @@ fn end_of(is_aborted: bool, end: End) -> End
     if is_aborted { End::Aborted } else { end }
 }
 
+// The reason for the end that a lane reports, with the error of the connection, if there was one.
+fn cause_of(is_aborted: bool, end: End, fault: Option<io::Error>) -> Option<EndCause>
+    ensures cause { result ≡ cause_of is_aborted end fault }
+{
+    if is_aborted {
+        return Some(EndCause::Aborted);
+    }
+    match end {
+        End::Done => None,
+        End::Lost => Some(EndCause::Connection(fault)),
+        End::Local | End::Full => Some(EndCause::File),
+        End::NoConnection => Some(EndCause::NoLane),
+        End::NoMemory => Some(EndCause::NoMemory),
+        End::Aborted => Some(EndCause::ServerEnds),
+    }
+}
+
 // The report of an end, if there is one.
 fn event_of<K: Drop>(end: Option<TransferEnd<K>>) -> Option<DataEvent<K>>
     ensures event { result ≡ event_of end }
@@ -66,8 +85,12 @@ pub struct SocketSide<'h, R, S: Store<Global>, H: Hooks, B: PartsName> {
     session: u32,
     prepared: Prepared,
     running: Running<S::Source, S::Sink>,
+    // the reason for the last end that was made or taken, unless it is that all was moved
+    cause: Option<EndCause>,
     // the result of opening a port, to be reported: the port, or that none was free
     ready: Option<Option<u16>>,
+    // the error for which none could be listened on
+    port_fault: Option<io::Error>,
     // the number of ends reported when the transfer was handed over
     seen: u64,
 }
@@ -99,7 +122,9 @@ where
             session,
             prepared: Prepared::Nothing,
             running: Running::Nothing,
+            cause: None,
             ready: None,
+            port_fault: None,
             seen: 0,
         }
     }
@@ -109,6 +134,7 @@ where
         ensures prepared { self.new.prepared ≡ Prepared.Nothing }
         ensures running { self.new.running ≡ self.old.running }
         ensures ready { self.new.ready ≡ self.old.ready }
+        ensures cause { self.new.cause ≡ self.old.cause }
     {
         let before = mem::replace(&mut self.prepared, Prepared::Nothing);
         match before {
@@ -122,14 +148,37 @@ where
         self.house.ports.lock(self.rt).give_back(port);
     }
 
-    // Leases a port and listens on it.
-    fn listening(&self) -> Option<(u16, TcpListener)> {
+    // Leases a port and listens on it. If none could be listened on, the error of the last is kept.
+    fn listening(&mut self) -> Option<(u16, TcpListener)>
+        ensures prepared { self.new.prepared ≡ self.old.prepared }
+        ensures running { self.new.running ≡ self.old.running }
+        ensures cause { self.new.cause ≡ self.old.cause }
+    {
         let mut ports = SharedPorts {
             rt: self.rt,
             ports: &self.house.ports,
             address: self.house.numbers.address,
+            fault: None,
         };
-        open_passive(&mut ports, MOST_TRIES)
+        let listening = open_passive(&mut ports, MOST_TRIES);
+        let SharedPorts { fault, .. } = ports;
+        self.port_fault = fault;
+        listening
+    }
+
+    /// The machine's error for which no port could be listened on, when a look has just reported that none is free. None
+    /// if all are leased.
+    pub fn port_fault(&self) -> Option<io::Error>
+        ensures fault { result ≡ self.now.port_fault }
+    {
+        self.port_fault
+    }
+
+    /// The reason for the last end that was reported, unless it is that all octets were moved.
+    pub fn cause(&self) -> Option<EndCause>
+        ensures cause { result ≡ self.now.cause }
+    {
+        self.cause
     }
 
     /// Listens on a passive port, if one is free. The next look reports it.
@@ -181,20 +230,36 @@ where
         self.running = match DataConnection::new(self.rt.alloc(), stream) {
             Ok(own) => match own.another() {
                 Ok(theirs) => self.push(own, theirs, job, user),
-                Err(_) => over(End::NoMemory, job),
+                Err(_) => self.without_memory(job),
             },
-            Err(_) => over(End::NoMemory, job),
+            Err(_) => self.without_memory(job),
         };
     }
 
+    // A transfer for which there is no memory.
+    fn without_memory(
+        &mut self,
+        job: Job<Global, S::Source, S::Sink>,
+    ) -> Running<S::Source, S::Sink>
+        ensures over { result ≡ over NoMemory job }
+        ensures cause { self.new.cause ≡ Some cause.NoMemory }
+        ensures prepared { self.new.prepared ≡ self.old.prepared }
+        ensures ready { self.new.ready ≡ self.old.ready }
+    {
+        self.cause = Some(EndCause::NoMemory);
+        over(End::NoMemory, job)
+    }
+
     fn push(
-        &self,
+        &mut self,
         own: DataConnection,
         theirs: DataConnection,
         job: Job<Global, S::Source, S::Sink>,
         user: u32,
     ) -> Running<S::Source, S::Sink>
         ensures running { IsHandedOver job result }
+        ensures prepared { self.new.prepared ≡ self.old.prepared }
+        ensures ready { self.new.ready ≡ self.old.ready }
     {
         let job = lane_job(job, theirs, user, self.session);
         let mut pass = self.house.pass.lock(self.rt);
@@ -206,10 +271,13 @@ where
                     is_aborted: false,
                 }
             }
-            Err(job) => Running::Over(TransferEnd {
-                end: End::NoConnection,
-                sink: sink_of(job),
-            }),
+            Err(job) => {
+                self.cause = Some(EndCause::NoLane);
+                Running::Over(TransferEnd {
+                    end: End::NoConnection,
+                    sink: sink_of(job),
+                })
+            }
         }
     }
 
@@ -247,6 +315,7 @@ where
             None => {
                 if has_passed(since, micros(self.rt), PATIENCE) {
                     self.close_port(listener, port);
+                    self.cause = Some(EndCause::NoClient);
                     self.running = over(End::NoConnection, job);
                 } else {
                     self.running = Running::Awaited {
@@ -265,15 +334,23 @@ where
         ensures running { Starts self.old.prepared job self.new.running }
         ensures prepared { self.new.prepared ≡ Prepared.Nothing }
         ensures ready { self.new.ready ≡ self.old.ready }
+        ensures cause { StartCause self.old.prepared self.new.cause }
     {
         let prepared = mem::replace(&mut self.prepared, Prepared::Nothing);
+        self.cause = None;
         match prepared {
-            Prepared::Nothing => self.running = over(End::NoConnection, job),
+            Prepared::Nothing => {
+                self.cause = Some(EndCause::NothingPrepared);
+                self.running = over(End::NoConnection, job);
+            }
             Prepared::Target(to) => {
                 let at = socket_address(to.address, to.port);
                 match TcpStream::connect_timeout(self.rt, &at, Duration::from_millis(CONNECTING)) {
                     Ok(stream) => self.hand_over(stream, job, user),
-                    Err(_) => self.running = over(End::NoConnection, job),
+                    Err(error) => {
+                        self.cause = Some(EndCause::NotConnected(error));
+                        self.running = over(End::NoConnection, job);
+                    }
                 }
             }
             Prepared::Listening(listener, port) => {
@@ -288,6 +365,7 @@ where
         ensures running { self.new.running ≡ aborted self.old.running }
         ensures prepared { self.new.prepared ≡ self.old.prepared }
         ensures ready { self.new.ready ≡ self.old.ready }
+        ensures cause { AbortCause self.old.running self.old.cause self.new.cause }
     {
         let before = mem::replace(&mut self.running, Running::Nothing);
         self.running = match before {
@@ -298,6 +376,7 @@ where
                 since: _,
             } => {
                 self.close_port(listener, port);
+                self.cause = Some(EndCause::Aborted);
                 over(End::Aborted, job)
             }
             Running::Moving {
@@ -329,6 +408,7 @@ where
         ensures running { TakesEnd self.old.running result self.new.running }
         ensures prepared { self.new.prepared ≡ self.old.prepared }
         ensures ready { self.new.ready ≡ self.old.ready }
+        ensures cause { TakenCause self.old.running result self.old.cause self.new.cause }
     {
         let before = mem::replace(&mut self.running, Running::Nothing);
         match before {
@@ -353,6 +433,7 @@ where
                 is_aborted,
             } => match self.told() {
                 Some(TransferEnd { end, sink }) => {
+                    self.cause = cause_of(is_aborted, end, connection.fault());
                     drop(connection);
                     Some(TransferEnd {
                         end: end_of(is_aborted, end),
@@ -375,6 +456,7 @@ where
         ensures running { GoesOn self.old.running self.new.running }
         ensures prepared { self.new.prepared ≡ self.old.prepared }
         ensures ready { self.new.ready ≡ self.old.ready }
+        ensures cause { GoesCause self.old.running self.old.cause self.new.cause }
     {
         let before = mem::replace(&mut self.running, Running::Nothing);
         match before {
@@ -405,6 +487,8 @@ where
         ensures end { IfNone self.old.ready (Looks self.old.running result self.new.running) }
         ensures ready { self.new.ready ≡ None }
         ensures prepared { self.new.prepared ≡ self.old.prepared }
+        ensures cause { IfNone self.old.ready
+            (LookCause self.old.running result self.old.cause self.new.cause) }
     {
         if let Some(port) = self.ready.take() {
             return Some(DataEvent::Ready(port));

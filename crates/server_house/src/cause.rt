@@ -1,0 +1,28 @@
+//! Reasons for the ends of transfers.
+
+use std::io;
+
+/// The reason for which a transfer did not come to its end.
+#[derive(Clone, Copy)]
+pub enum EndCause {
+    /// The client aborted it.
+    Aborted,
+    /// The client had neither opened a port nor named one.
+    NothingPrepared,
+    /// Nobody connected to the passive port in time.
+    NoClient,
+    /// The client's port could not be connected to.
+    NotConnected(io::Error),
+    /// The board of transfers had no room.
+    NoLane,
+    /// Memory ran out.
+    NoMemory,
+    /// The file could not be read or written.
+    File,
+    /// The data connection failed, with the error of its last failing call, if one is known.
+    Connection(Option<io::Error>),
+    /// The control connection was lost.
+    ControlLost,
+    /// The server ends.
+    ServerEnds,
+}

@@ -11,6 +11,7 @@ use Rattle.clap.specs.declared.error.kind.ErrorKind.TheVariants.{OutOfMemory}
 use Rattle.command_line.specs.declared.words.WordsFault.{WordsFault}
 use Rattle.command_line.specs.declared.words.WordsFault.TheVariants.{Memory, Refused}
 use Rattle.command_line.specs.Given.{IsPlainWord, IsRefusal, IsRefusedAs}
+use Rattle.command_line.proofs.ServeWords.{until_taken}
 
 -- a plain command has no global argument
 pub no_globals : (a b g d : Bool) → (a && (not b && (not g && d))) ≡ true → g ≡ false
@@ -218,24 +219,20 @@ serves (b ∷ bs) plain =
 abbrev pub until : List ℕ → List ℕ → List Text
 until word path = codes "serve" ∷ word ∷ codes "--stop-file" ∷ path ∷ []
 
-until_taken : (b d : ℕ) (bs ds : List ℕ) → (b == 45) ≡ false → (d == 45) ≡ false → takes ftpd (until (b ∷ bs) (d ∷ ds)) ≡ true
-unfolding clap_on_literals
-until_taken b d bs ds ne nf = simp (ne, nf) refl
-
 until_entered : (b d : ℕ) (bs ds : List ℕ) → (b == 45) ≡ false → (d == 45) ≡ false
     → subcommand_of ftpd (until (b ∷ bs) (d ∷ ds)) ≡ Some (codes "serve", rows_in (subcommand_of ftpd (until (b ∷ bs) (d ∷ ds))))
 unfolding clap_on_literals
-until_entered b d bs ds ne nf = simp (ne, nf) refl
+until_entered b d bs ds ne nf = refl
 
 until_first : (b d : ℕ) (bs ds : List ℕ) → (b == 45) ≡ false → (d == 45) ≡ false
     → first_of (codes "CONFIG") (rows_in (subcommand_of ftpd (until (b ∷ bs) (d ∷ ds)))) ≡ Some (b ∷ bs)
 unfolding clap_on_literals
-until_first b d bs ds ne nf = simp (ne, nf) refl
+until_first b d bs ds ne nf = simp ne (simp nf refl)
 
 until_path : (b d : ℕ) (bs ds : List ℕ) → (b == 45) ≡ false → (d == 45) ≡ false
     → first_of (codes "PATH") (rows_in (subcommand_of ftpd (until (b ∷ bs) (d ∷ ds)))) ≡ Some (d ∷ ds)
 unfolding clap_on_literals
-until_path b d bs ds ne nf = simp (ne, nf) refl
+until_path b d bs ds ne nf = simp ne (simp nf refl)
 
 -- what the parser makes of those words
 pub record ServesUntil (word path : List ℕ) : Type 0 where
@@ -251,7 +248,7 @@ serves_until (b ∷ bs) [] plain also = absurd also
 serves_until (b ∷ bs) (d ∷ ds) plain also =
     let ne = ne_eqb _ _ plain in
     let nf = ne_eqb _ _ also in
-    record { rows = _; taken = until_taken b d bs ds ne nf; entered = until_entered b d bs ds ne nf; config = until_first b d bs ds ne nf; stop_file = until_path b d bs ds ne nf }
+    record { rows = _; taken = until_taken (b ∷ bs) (d ∷ ds) plain also; entered = until_entered b d bs ds ne nf; config = until_first b d bs ds ne nf; stop_file = until_path b d bs ds ne nf }
 
 -- ---- of `sheets`
 

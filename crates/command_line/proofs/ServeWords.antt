@@ -1,11 +1,11 @@
 -- The words of `serve` with options are taken, and what the parser then holds of them: the walk over them, word by word.
-use Rattle.std.proofs.Common.{◌&&◌, ◌∙◌, ap, refl, codes, sym, subst, true, false, Bool, ◌≡◌, ◌==◌, ◌<◌, ℕ, List, [], ◌∷◌, Option, None, Some}
-use Rattle.std.specs.Prelude.{is_some, list_all, option_map, unwrap_or}
-use Rattle.std.specs.List.{find, fold}
+use Rattle.std.proofs.Common.{◌&&◌, ◌∙◌, ap, refl, codes, sym, subst, true, false, Bool, ◌≡◌, ◌==◌, ℕ, List, [], ◌∷◌, None, Some}
+use Rattle.std.specs.Prelude.{unwrap_or}
+use Rattle.std.specs.List.{find, fold, list_all}
 use Rattle.std.proofs.lemmas.Bool.{ne_eqb}
 use Rattle.clap.specs.Takes.{built_takes, default_passes, is_valid, level_passes, settle_passes, turn_passes, walk_passes}
-use Rattle.clap.specs.Walk.{Held, Row, Rule, Text, Walk, answers_to, finished, first_of, idle, nothing_held, option, rows_after, walk, walk_from, walked}
-use Rattle.clap.specs.Simple.{App, Shape, built, entered, label_of, names_of, new_shape, rows_at}
+use Rattle.clap.specs.Walk.{Row, Rule, Text, Walk, answers_to, finished, first_of, idle, nothing_held, option, rows_after, walk, walk_from, walked}
+use Rattle.clap.specs.Simple.{App, Shape, built, label_of, names_of, new_shape}
 use Rattle.clap.specs.Words.{is_simple, subcommand_of, takes}
 use Rattle.clap.specs.declared.builder.value_parser.Reading.TheVariants.{AsWritten}
 use Rattle.clap.specs.declared.parser.matches.ValueSource.TheVariants.{CommandLine}
@@ -37,7 +37,7 @@ valued rows id value = record {
 -- the walk after that option, which waits for its value
 abbrev waiting_for : List Row → Text → Walk
 waiting_for rows id = record {
-  held = record { rows = rows; pending = None; skip = 0 };
+  held = record { rows = rows; pending = Some (id, []); skip = 0 };
   waiting = option id;
   position = 2;
   is_trailing = false;
@@ -239,7 +239,7 @@ until_above : (config path : Text) → level_passes (built ftpd).top (names_of (
 unfolding clap_on_literals
 until_above config path = refl
 
-pub until_taken : (config path : Text) → IsPlainWord config → IsPlainWord path → takes ftpd (codes "serve" ∷ config ∷ codes "--stop-file" ∷ path ∷ []) ≡ true
+until_taken : (config path : Text) → IsPlainWord config → IsPlainWord path → takes ftpd (codes "serve" ∷ config ∷ codes "--stop-file" ∷ path ∷ []) ≡ true
 until_taken config path plain also =
     let below = level _ _ (until_walks config path plain also) (until_settles config path) defaults_pass (until_valid config path) in
     and_then _ _ simple (by_level (built ftpd) _ _ _ serving (until_stops config path) found_is below (until_above config path))
@@ -261,8 +261,88 @@ timed_above : (config login idle_time delay : Text) → level_passes (built ftpd
 unfolding clap_on_literals
 timed_above config login idle_time delay = refl
 
-pub timed_taken : (config login idle_time delay : Text) → IsPlainWord config → IsPlainWord login → IsPlainWord idle_time → IsPlainWord delay
+timed_taken : (config login idle_time delay : Text) → IsPlainWord config → IsPlainWord login → IsPlainWord idle_time → IsPlainWord delay
     → takes ftpd (timed_words config login idle_time delay) ≡ true
 timed_taken config login idle_time delay plain second third fourth =
     let below = level _ _ (timed_walks config login idle_time delay plain second third fourth) (timed_settles config login idle_time delay) defaults_pass (timed_valid config login idle_time delay) in
     and_then _ _ simple (by_level (built ftpd) _ _ _ serving (timed_stops config login idle_time delay) found_is below (timed_above config login idle_time delay))
+
+-- ---- what the parser then holds of them
+
+-- no number of seconds is stated
+abbrev pub AreUnstated : List Row → Type 0
+AreUnstated rows =
+    (first_of (codes "login-timeout") rows ≡ None)
+    × (first_of (codes "idle-timeout") rows ≡ None) × (first_of (codes "login-delay") rows ≡ None)
+
+-- what the parser makes of the words of `serve` with each option in seconds
+pub record ServesTimed (config login idle_time delay : Text) : Type 0 where
+  pub rows : List Row
+  pub taken : takes ftpd (timed_words config login idle_time delay) ≡ true
+  pub entered : subcommand_of ftpd (timed_words config login idle_time delay) ≡ Some (codes "serve", rows)
+  pub of : first_of (codes "CONFIG") rows ≡ Some config
+  pub no_path : first_of (codes "PATH") rows ≡ None
+  pub first : first_of (codes "login-timeout") rows ≡ Some login
+  pub second : first_of (codes "idle-timeout") rows ≡ Some idle_time
+  pub third : first_of (codes "login-delay") rows ≡ Some delay
+
+timed_entered : (config login idle_time delay : Text) → subcommand_of ftpd (timed_words config login idle_time delay)
+    ≡ Some (codes "serve", rows_after rules [] (config ∷ codes "--login-timeout" ∷ login ∷ codes "--idle-timeout" ∷ idle_time ∷ codes "--login-delay" ∷ delay ∷ []))
+unfolding clap_on_literals
+timed_entered config login idle_time delay = refl
+
+timed_rows : (config login idle_time delay : Text) → finished rules (valued (row (codes "CONFIG") config ∷ row (codes "login-timeout") login ∷ row (codes "idle-timeout") idle_time ∷ []) (codes "login-delay") delay).held
+    ≡ row (codes "CONFIG") config ∷ row (codes "login-timeout") login ∷ row (codes "idle-timeout") idle_time ∷ row (codes "login-delay") delay ∷ []
+unfolding clap_on_literals
+timed_rows config login idle_time delay = refl
+
+pub serves_timed : (config login idle_time delay : Text) → IsPlainWord config → IsPlainWord login → IsPlainWord idle_time → IsPlainWord delay → ServesTimed config login idle_time delay
+serves_timed config login idle_time delay plain second third fourth =
+    let walks = timed_walks config login idle_time delay plain second third fourth in
+    let end : rows_after rules [] (config ∷ codes "--login-timeout" ∷ login ∷ codes "--idle-timeout" ∷ idle_time ∷ codes "--login-delay" ∷ delay ∷ []) ≡ row (codes "CONFIG") config ∷ row (codes "login-timeout") login ∷ row (codes "idle-timeout") idle_time ∷ row (codes "login-delay") delay ∷ []
+    = ap (λ (w : Walk). finished rules w.held) walks.leads ∙ timed_rows config login idle_time delay in
+    record {
+      rows = row (codes "CONFIG") config ∷ row (codes "login-timeout") login ∷ row (codes "idle-timeout") idle_time ∷ row (codes "login-delay") delay ∷ [];
+      taken = timed_taken config login idle_time delay plain second third fourth;
+      entered = timed_entered config login idle_time delay ∙ ap (λ (rows : List Row). Some (codes "serve", rows)) end;
+      of = refl;
+      no_path = refl;
+      first = refl;
+      second = refl;
+      third = refl;
+    }
+
+-- the words of `serve` with a stop file
+abbrev pub until : Text → Text → List Text
+until config path = codes "serve" ∷ config ∷ codes "--stop-file" ∷ path ∷ []
+
+-- what the parser makes of those words
+pub record ServesUntil (config path : Text) : Type 0 where
+  pub rows : List Row
+  pub taken : takes ftpd (until config path) ≡ true
+  pub entered : subcommand_of ftpd (until config path) ≡ Some (codes "serve", rows)
+  pub of : first_of (codes "CONFIG") rows ≡ Some config
+  pub stop_file : first_of (codes "PATH") rows ≡ Some path
+  pub usual : AreUnstated rows
+
+until_entered : (config path : Text) → subcommand_of ftpd (until config path) ≡ Some (codes "serve", rows_after rules [] (config ∷ codes "--stop-file" ∷ path ∷ []))
+unfolding clap_on_literals
+until_entered config path = refl
+
+until_rows : (config path : Text) → finished rules (valued (row (codes "CONFIG") config ∷ []) (codes "PATH") path).held ≡ row (codes "CONFIG") config ∷ row (codes "PATH") path ∷ []
+unfolding clap_on_literals
+until_rows config path = refl
+
+pub serves_until : (config path : Text) → IsPlainWord config → IsPlainWord path → ServesUntil config path
+serves_until config path plain also =
+    let walks = until_walks config path plain also in
+    let end : rows_after rules [] (config ∷ codes "--stop-file" ∷ path ∷ []) ≡ row (codes "CONFIG") config ∷ row (codes "PATH") path ∷ []
+    = ap (λ (w : Walk). finished rules w.held) walks.leads ∙ until_rows config path in
+    record {
+      rows = row (codes "CONFIG") config ∷ row (codes "PATH") path ∷ [];
+      taken = until_taken config path plain also;
+      entered = until_entered config path ∙ ap (λ (rows : List Row). Some (codes "serve", rows)) end;
+      of = refl;
+      stop_file = refl;
+      usual = (refl, refl, refl);
+    }

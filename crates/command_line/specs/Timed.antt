@@ -40,10 +40,9 @@ IsPatienceIn rows p =
     × IsSecondsOr IDLE_TIMEOUT (codes "idle-timeout") rows p.idle_timeout
     × IsSecondsOr LOGIN_DELAY (codes "login-delay") rows p.login_delay
 
--- the same for the command that the parser entered, if any
+-- the same for the command that the parser entered, if it is `serve`
 abbrev pub IsTimedBy : Option (Text × List Row) → Patience → Type 0
-IsTimedBy None p = Unit {0}
-IsTimedBy (Some (name, rows)) p = IsPatienceIn rows p
+IsTimedBy found p = (rows : List Row) → found ≡ Some (codes "serve", rows) → IsPatienceIn rows p
 
 -- each of these options that is given states a number of seconds
 abbrev pub IsTimed : Option (Text × List Row) → Type 0
@@ -75,7 +74,7 @@ IsUntimedIn rows fault =
     IsUntimedBy (codes "login-timeout") rows fault
     ⊎ (IsUntimedBy (codes "idle-timeout") rows fault ⊎ IsUntimedBy (codes "login-delay") rows fault)
 
--- the same for the command that the parser entered
+-- the same for the command that the parser entered, which is `serve`
 abbrev pub IsUntimed : Option (Text × List Row) → WordsFault → Type 0
-IsUntimed None fault = ⊥
-IsUntimed (Some (name, rows)) fault = IsUntimedIn rows fault
+IsUntimed found fault =
+    (rows : List Row) × (found ≡ Some (codes "serve", rows)) × IsUntimedIn rows fault

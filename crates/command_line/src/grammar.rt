@@ -178,7 +178,8 @@ fn with_seconds<'a>(
 fn with_patience<'a>(alloc: Global, command: Command<'a>) -> Result<Command<'a>, AllocError>
     ensures rules { IfOk result (λ c. app_of c ≡ with_patience (app_of command.entry)) }
 {
-    let login = "Seconds in which a client has to log in, or it is told 421; 0 is no limit [default: 60]";
+    let login =
+        "Seconds in which a client has to log in, or it is told 421; 0 is no limit [default: 60]";
     let idle =
         "Seconds without a command or a transfer, after which a client is told 421; 0 is no limit [default: 0]";
     let delay = "Seconds before a wrong password is answered [default: 1]";

@@ -49,8 +49,7 @@ fn seconds_in(text: &str) -> Option<u32>
 fn refusal(alloc: Global, option: &str, value: &str) -> WordsFault
     ensures refusal { IsRefusalOf option.now value.now result }
 {
-    let text = format!(
-        in alloc;
+    let text = format!(in alloc;
         "error: invalid value '{value}' for '--{option} <SECONDS>': it must be a number of seconds from 0 to {MAX_SECONDS}, in digits\n\nFor more information, try '--help'.\n"
     );
     match text {
@@ -97,7 +96,7 @@ fn patience_of(alloc: Global, inner: &ArgMatches<'_>) -> Result<Patience, WordsF
     })
 }
 
-/// The patience that the words of the entered command state.
+/// The patience that the words of the entered command state, if it is `serve`; otherwise it is of no account.
 pub(crate) fn stated_patience(
     alloc: Global,
     matches: &ArgMatches<'_>,
@@ -106,8 +105,8 @@ pub(crate) fn stated_patience(
     ensures refused { IfErr result (IsUntimed (subcommand_rows_of matches.now)) }
 {
     match entered(matches) {
-        Some((_, inner)) => patience_of(alloc, inner),
-        None => Ok(Patience {
+        Some(("serve", inner)) => patience_of(alloc, inner),
+        _ => Ok(Patience {
             login_timeout: LOGIN_TIMEOUT,
             idle_timeout: IDLE_TIMEOUT,
             login_delay: LOGIN_DELAY,

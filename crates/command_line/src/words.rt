@@ -4,7 +4,7 @@ ghost use Rattle.std.specs.Prelude.{◌≡◌, ◌↔◌, ◌∷◌, [], ℕ, Li
 ghost use Rattle.clap.specs.Words.{app_of, fault_of, first_of, found_of, is_simple, is_simple_and_free, kind_of, rows_of, subcommand_of, subcommand_rows_of, takes};
 ghost use Rattle.command_line.specs.Commands.{ftpd, sheets};
 ghost use Rattle.command_line.specs.Given.{GivesOneOrMemory, GivesOrMemory, IsCheck, IsCheckConfig, IsFound, IsHelp, IsMigrate, IsOfSheets, IsPlainWord, IsRefusal, IsRefusedAs, IsScript, IsServe, IsSheetFound, IsShare, IsRefusedFor, IsTaken, entered_rows};
-ghost use Rattle.command_line.specs.Timed.{IsPatienceIn, IsSeconds, IsTimedBy, timed_words, usual_patience};
+ghost use Rattle.command_line.specs.Timed.{IsSeconds, IsTimedBy, timed_words, usual_patience};
 
 use crate::grammar::{ftpd_command, sheets_command};
 use crate::patience::{Patience, stated_patience};
@@ -125,7 +125,7 @@ fn sheet_words<'a>(matches: &ArgMatches<'a>) -> Option<SheetWords<'a>>
 
 /// The command of that name, with its words, which state that patience.
 fn given<'a>(name: &str, inner: &ArgMatches<'a>, patience: Patience) -> Option<Words<'a>>
-    requires patience { IsPatienceIn (rows_of (found_of inner.now)) patience }
+    requires patience { IsTimedBy (Some (name.now, rows_of (found_of inner.now))) patience }
     ensures found { IfSome result (IsFound (Some (name.now, rows_of (found_of inner.now)))) }
     ensures none { result ≡ None → (words : Words)
         → IsFound (Some (name.now, rows_of (found_of inner.now))) words → ⊥ }

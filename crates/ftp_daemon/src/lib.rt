@@ -20,6 +20,7 @@ mod settling;
 mod watching;
 mod works;
 
+pub use client_patience::Patience;
 pub use ftpd_program::{ScriptFault, ServeFault, run_script};
 pub use grant_certificate::Verdict;
 pub use opening::Service;

@@ -1,7 +1,8 @@
 -- What finish decides, by the octets of the file.
-use Rattle.std.proofs.Common.{◌≡◌, ℕ, zero, suc, ◌+◌, ◌-◌, ◌≤◌, min, true, false, cond, List, ◌++◌, length, take, refl, sym, ap, ◌∙◌, arith, Some, Result, Ok, Err, nat_lt, length-append}
+use Rattle.std.proofs.Common.{◌≡◌, ℕ, zero, suc, ◌+◌, ◌-◌, ◌<◌, ◌≤◌, min, true, false, cond, List, ◌++◌, length, take, refl, sym, ap, ◌∙◌, arith, Some, Result, Ok, Err, nat_lt, length-append}
 use Rattle.std.proofs.lemmas.List.{length-take}
 use Rattle.std.specs.FinMap.{get}
+use borrow.Author.Tests.{lt-ltb, ltb-true}
 use Rattle.virtual_tree.specs.declared.fault.StoreFault.{StoreFault}
 use Rattle.virtual_tree.specs.declared.fault.StoreFault.TheVariants as fault
 use Rattle.virtual_tree.specs.Calls.{in_answer}
@@ -58,6 +59,17 @@ pub passed_is : (old : Memory) (upload : Upload) (moment : ℕ) (octets : List �
 passed_is old upload moment octets first came is first_is came_is =
     ap (λ n. total old.tree - length octets + first + n) came_is
     ∙ ap (λ n. total old.tree - length octets + n + length upload.octets) first_is ∙ filled_total old upload moment octets is
+
+above : (capacity most first came after : ℕ) → first + came ≡ after → capacity ≤ most → most < came → capacity < after
+above capacity most first came after sum within more = omega arith
+
+-- more was received than is kept, and the capacity is no greater
+pub cut_passes : (old : Memory) (upload : Upload) (moment : ℕ) (octets : List ℕ) (most : ℕ) → size_at (get old.tree upload.spot) ≡ length octets → old.capacity ≤ most → nat_lt most (length upload.octets) ≡ true
+    → nat_lt old.capacity (total (filled old.tree upload moment octets)) ≡ true
+cut_passes old upload moment octets most is within cut =
+    lt-ltb old.capacity (total (filled old.tree upload moment octets))
+    (above old.capacity most (total old.tree - length octets + min upload.kept (length octets)) (length upload.octets) (total (filled old.tree upload moment octets))
+    (filled_total old upload moment octets is) within (ltb-true most (length upload.octets) cut))
 
 -- where nothing stays, what came is all
 pub none_kept : (kept : ℕ) (first others joined : List ℕ) → kept ≡ 0 → joined ≡ others → joined ≡ take kept first ++ others

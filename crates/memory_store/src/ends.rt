@@ -2,6 +2,7 @@
 
 ghost use Rattle.std.specs.Prelude.{◌≡◌, ◌≤◌, min, take, length, Some};
 
+use crate::received::Received;
 use crate::spot::Spot;
 use std::alloc::Allocator;
 use std::marker::Model;
@@ -27,15 +28,25 @@ impl<A: Allocator> Model for MemSource<A> {
 }
 
 /// The octets received for a file; `finish` puts them into it.
+///
+/// Only the first are kept, at most as many as the store's capacity: more than that never fit.
 #[derive(Drop)]
 pub struct MemSink<A: Allocator> {
     pub(crate) spot: Spot<A>,
     pub(crate) kept: usize,
+    /// The most octets that are held.
+    pub(crate) most: u64,
+    /// The first octets received.
     pub(crate) octets: Vec<u8, A>,
+    /// Whether more than `most` octets were received.
+    pub(crate) is_cut: bool,
+    /// All octets received.
+    pub(crate) received: Received,
 }
 
 impl<A: Allocator> Model for MemSink<A> {
     ghost use Rattle.memory_store.specs.Codes.{upload_code};
+    ghost use Rattle.memory_store.specs.Held.{IsHeld};
     ghost use Rattle.memory_store.specs.InMemory.{Upload};
 
     ghost Value = { Upload };
@@ -43,7 +54,9 @@ impl<A: Allocator> Model for MemSink<A> {
     ghost coded = { upload_code };
 
     ghost view = { λ sink.
-        record { spot = sink.spot; kept = sink.kept; octets = sink.octets.items } };
+        record { spot = sink.spot; kept = sink.kept; octets = sink.received.octets } };
+
+    ghost invariant = { λ sink. IsHeld sink.most sink.octets.items sink.is_cut sink.received.octets };
 }
 
 /// Copies as many octets as there is room for, and returns their number.
@@ -77,8 +90,16 @@ impl<A: Allocator> Sink for MemSink<A> {
     ghost target = { λ sink. Some (target_of sink) };
 
     fn write(&mut self, octets: &[u8]) -> Result<(), StoreFault> {
-        match self.octets.extend_from_slice(octets) {
-            Ok(()) => Ok(()),
+        let room = (self.most - self.octets.len() as u64) as usize;
+        let count = room.min(octets.len());
+        match self.octets.extend_from_slice(&octets[..count]) {
+            Ok(()) => {
+                if count < octets.len() {
+                    self.is_cut = true;
+                }
+                self.received.add(octets);
+                Ok(())
+            }
             Err(_) => Err(StoreFault::Memory),
         }
     }

@@ -16,6 +16,7 @@ mod entry;
 mod files;
 mod laws;
 mod memory;
+mod received;
 mod renaming;
 mod spot;
 mod vacancy;

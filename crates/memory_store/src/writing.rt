@@ -10,6 +10,7 @@ ghost use Rattle.memory_store.specs.Tree.Node.{File};
 use crate::ends::{MemSink, MemSource};
 use crate::entry::Entry;
 use crate::memory::MemStore;
+use crate::received::Received;
 use crate::spot::Spot;
 use std::alloc::{AllocError, Allocator};
 use std::sync::Arc;
@@ -41,7 +42,7 @@ impl<A: Allocator + Clone> MemStore<A> {
         Ok(Entry::file(octets, moment))
     }
 
-    /// A sink with no octets yet.
+    /// A sink with no octets yet, which keeps as many as the capacity.
     pub(crate) fn sink(&self, spot: &Spot<A>, kept: usize) -> Result<MemSink<A>, AllocError>
         ensures spot { IfOk result (λ sink. sink.spot ≡ spot.now) }
         ensures kept { IfOk result (λ sink. sink.kept ≡ kept) }
@@ -52,7 +53,10 @@ impl<A: Allocator + Clone> MemStore<A> {
         Ok(MemSink {
             spot,
             kept,
+            most: self.capacity,
             octets: Vec::new(alloc),
+            is_cut: false,
+            received: Received::new(),
         })
     }
 
@@ -251,6 +255,37 @@ impl<A: Allocator + Clone> MemStore<A> {
         let filled = self.joined(octets, kept, came)?;
         self.files.put(spot, Entry::file(filled, moment))?;
         Ok(())
+    }
+
+    /// Appends what a sink received to the first octets of its file, which has `octets`.
+    ///
+    /// If a sink received more than it could keep, it is too much for the store too. Only that of a store with
+    /// a smaller capacity may have lost octets that would fit: there was no memory for them.
+    pub(crate) fn fill_from(
+        &mut self,
+        sink: MemSink<A>,
+        octets: &[u8],
+        moment: u64,
+    ) -> Result<(), StoreFault>
+        requires { size_at (map.get self.old.tree sink.spot) ≡ length octets.now }
+        ensures { Changes self.old result self.new
+            (finish_octets self.old sink moment (Some octets.now)) unit_of (λ tree. tree) }
+    {
+        let MemSink {
+            spot,
+            kept,
+            most,
+            octets: came,
+            is_cut,
+            received: _,
+        } = sink;
+        if !is_cut {
+            return self.fill(spot, kept, came, octets, moment);
+        }
+        if most < self.capacity {
+            return Err(StoreFault::Memory);
+        }
+        Err(StoreFault::Full)
     }
 }
 

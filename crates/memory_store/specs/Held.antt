@@ -22,8 +22,8 @@ pub record IsSpotText (directory name : List ℕ) : Type 0 where
   pub slashes : slashed (names_in directory) ≡ directory
   pub no_slash : HasNoSlash name
 
--- what a sink keeps of the octets that it received: the first, at most so many, and whether there
--- were more
+-- a sink holds the first of the octets that it received, at most `most`, and knows whether it
+-- received more
 pub record IsHeld (most : ℕ) (held : List ℕ) (is_cut : Bool) (received : List ℕ) : Type 0 where
   pub first : held ≡ take most received
   pub cut : is_cut ≡ nat_lt most (length received)

@@ -1,6 +1,6 @@
 //! Sources and sinks of files in memory.
 
-ghost use Rattle.std.specs.Prelude.{◌≡◌, ◌≤◌, min, take, length, Some};
+ghost use Rattle.std.specs.Prelude.{◌≡◌, ◌≤◌, ◌++◌, min, take, length, Some, IfErr, OnOk, OnErr};
 
 use crate::received::Received;
 use crate::spot::Spot;
@@ -29,16 +29,16 @@ impl<A: Allocator> Model for MemSource<A> {
 
 /// The octets received for a file; `finish` puts them into it.
 ///
-/// Only the first are kept, at most as many as the store's capacity: more than that never fit.
+/// It holds only the first, at most as many as the store's capacity: more than that never fit.
 #[derive(Drop)]
 pub struct MemSink<A: Allocator> {
     pub(crate) spot: Spot<A>,
     pub(crate) kept: usize,
-    /// The most octets that are held.
+    /// Maximum number of octets held.
     pub(crate) most: u64,
     /// The first octets received.
     pub(crate) octets: Vec<u8, A>,
-    /// Whether more than `most` octets were received.
+    /// True if more than `most` octets were received.
     pub(crate) is_cut: bool,
     /// All octets received.
     pub(crate) received: Received,
@@ -54,9 +54,26 @@ impl<A: Allocator> Model for MemSink<A> {
     ghost coded = { upload_code };
 
     ghost view = { λ sink.
-        record { spot = sink.spot; kept = sink.kept; octets = sink.received.octets } };
+        record {
+          spot = sink.spot;
+          kept = sink.kept;
+          most = sink.most;
+          octets = sink.received.octets;
+        } };
 
-    ghost invariant = { λ sink. IsHeld sink.most sink.octets.items sink.is_cut sink.received.octets };
+    ghost invariant = { λ sink.
+        IsHeld sink.most sink.octets.items sink.is_cut sink.received.octets };
+}
+
+impl<A: Allocator> MemSink<A> {
+    /// Number of octets that it holds in memory: the first that it received, at most as many as the store's
+    /// capacity was when the file was opened.
+    #[tactic(auto, using(crate::proofs::Fills::held_count))]
+    pub fn held(&self) -> usize
+        ensures { result ≡ min self.now.most (length self.now.octets) }
+    {
+        self.octets.len()
+    }
 }
 
 /// Copies as many octets as there is room for, and returns their number.
@@ -89,7 +106,15 @@ impl<A: Allocator> Sink for MemSink<A> {
 
     ghost target = { λ sink. Some (target_of sink) };
 
-    fn write(&mut self, octets: &[u8]) -> Result<(), StoreFault> {
+    /// Receives all of these octets, and holds what it has room for. The target stays the same, and so does the most
+    /// that it holds.
+    fn write(&mut self, octets: &[u8]) -> Result<(), StoreFault>
+        ensures octets { OnOk result (self.new.octets ≡ self.old.octets ++ octets.now) }
+        ensures kept { OnErr result (self.new.octets ≡ self.old.octets) }
+        ensures target { target_of self.new ≡ target_of self.old }
+        ensures most { self.new.most ≡ self.old.most }
+        ensures refusal { IfErr result (λ fault. fault ≡ StoreFault.Memory) }
+    {
         let room = (self.most - self.octets.len() as u64) as usize;
         let count = room.min(octets.len());
         match self.octets.extend_from_slice(&octets[..count]) {

@@ -1,6 +1,6 @@
 //! Sources and sinks of files in memory.
 
-ghost use Rattle.std.specs.Prelude.{◌≡◌, ◌≤◌, ◌++◌, min, take, length, Some, IfErr, OnOk, OnErr};
+ghost use Rattle.std.specs.Prelude.{◌≡◌, ◌≤◌, min, take, length, Some, IfErr, OnOk, OnErr};
 
 use crate::received::Received;
 use crate::spot::Spot;
@@ -99,7 +99,9 @@ impl<A: Allocator> Source for MemSource<A> {
 }
 
 impl<A: Allocator> Sink for MemSink<A> {
+    ghost use Rattle.std.specs.Io.KnownBytes.{Appends};
     ghost use Rattle.std.specs.Prelude.{Some};
+    ghost use Rattle.virtual_tree.specs.Calls.{IsEndFault};
     ghost use Rattle.memory_store.specs.InMemory.{target_of};
 
     ghost collected = { λ sink. Some sink.octets };
@@ -109,11 +111,12 @@ impl<A: Allocator> Sink for MemSink<A> {
     /// Receives all of these octets, and holds what it has room for. The target stays the same, and so does the most
     /// that it holds.
     fn write(&mut self, octets: &[u8]) -> Result<(), StoreFault>
-        ensures octets { OnOk result (self.new.octets ≡ self.old.octets ++ octets.now) }
-        ensures kept { OnErr result (self.new.octets ≡ self.old.octets) }
-        ensures target { target_of self.new ≡ target_of self.old }
+        ensures octets { OnOk result
+            (Appends (Some self.old.octets) (Some self.new.octets) octets.now) }
+        ensures kept { OnErr result (Some self.new.octets ≡ Some self.old.octets) }
+        ensures target { Some (target_of self.new) ≡ Some (target_of self.old) }
         ensures most { self.new.most ≡ self.old.most }
-        ensures refusal { IfErr result (λ fault. fault ≡ StoreFault.Memory) }
+        ensures refusal { IfErr result (IsEndFault (Some self.old.octets)) }
     {
         let room = (self.most - self.octets.len() as u64) as usize;
         let count = room.min(octets.len());

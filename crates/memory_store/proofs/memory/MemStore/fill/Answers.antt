@@ -1,4 +1,4 @@
-use Rattle.std.proofs.Common.{◌≡◌, ℕ, ◌<◌, ◌^◌, sym, ap, ◌∙◌, subst, nat_lt, true, false, length, List, ◌++◌, take, min}
+use Rattle.std.proofs.Common.{◌≡◌, ℕ, ◌<◌, ◌^◌, sym, ap, ◌∙◌, subst, nat_lt, length, List, ◌++◌, take, min}
 use Rattle.std.specs.FinMap as map
 use borrow.Author.Tests.{lt-ltb, le-ltb}
 use Rattle.virtual_tree.specs.declared.fault.StoreFault.TheVariants as fault

@@ -1,4 +1,4 @@
-use Rattle.std.proofs.Common.{◌≡◌, ◌≤◌, sym, ap, ◌∙◌, subst, nat_lt, true, length}
+use Rattle.std.proofs.Common.{◌≡◌, ◌≤◌, sym, ap, ◌∙◌, subst, nat_lt, length}
 use Rattle.virtual_tree.specs.declared.fault.StoreFault.TheVariants as fault
 use Rattle.memory_store.specs.Tree.{Tree}
 use Rattle.memory_store.specs.InMemory.{Memory, Upload, unit_of}

@@ -147,6 +147,33 @@ def a_store_that_is_full():
         same(server.notes_made()[2:5], ['received "/g"', 'received "/g"', 'sent "/g"'], "the notes")
 
 
+def resident_most(process):
+    """The most octets of memory that a process ever had resident."""
+    with open(f"/proc/{process.pid}/status", encoding="ascii") as it:
+        return next(int(line.split()[1]) * 1024 for line in it if line.startswith("VmHWM:"))
+
+
+def an_upload_takes_no_more_than_the_capacity():
+    """An upload of 50,000 times the capacity is read to its end and told 552, takes no memory, and leaves the file as it was opened."""
+    with Server(server="capacity = 1000") as server:
+        client = Client(server)
+        client.store("g", b"x" * 900)
+        before = resident_most(server.process)
+        data = client.passive()
+        client.says("APPE g", "150 Opening data connection")
+        for _ in range(500):
+            data.socket.sendall(bytes(100_000))
+        data.close()
+        client.says(None, "552 Storage is full")
+        more = resident_most(server.process) - before
+        want(more < 5_000_000, f"{more} octets more than before")
+        same(client.retrieve("g"), b"x" * 900, "the file")
+        client.says("DELE g", "250 File removed")
+        client.store("g", b"x" * 997)
+        client.quit()
+        server.ended()
+
+
 def a_long_listing():
     """Each entry of a directory of some thousands, of each length, in the order of their octets, over data and in a reply."""
     lengths = {f"entry{number}": number for number in range(5000)}
@@ -664,6 +691,7 @@ ROWS = [
     a_folder_has_what_was_stored,
     a_file_is_opened_for_reading_alone,
     a_store_that_is_full,
+    an_upload_takes_no_more_than_the_capacity,
     a_long_listing,
     refused_connections,
     a_session_without_a_thread,

@@ -1,10 +1,13 @@
 -- What finish decides, by the octets of the file.
-use Rattle.std.proofs.Common.{◌≡◌, ℕ, zero, suc, ◌+◌, ◌-◌, ◌≤◌, min, true, false, cond, List, ◌++◌, length, take, refl, sym, ap, ◌∙◌, arith, Some, Result, Ok, Err, nat_lt, length-append}
-use Rattle.std.proofs.lemmas.List.{length-take}
+use Rattle.std.proofs.Common.{◌≡◌, ℕ, zero, suc, ◌+◌, ◌-◌, ◌<◌, ◌≤◌, min, Bool, true, false, cond, List, ◌++◌, length, take, refl, sym, ap, ◌∙◌, arith, Some, Result, Ok, Err, nat_lt, length-append}
+use Rattle.std.proofs.lemmas.List.{length-take, take_all}
+use Rattle.std.proofs.lemmas.Bool.{ltb-false}
 use Rattle.std.specs.FinMap.{get}
+use borrow.Author.Tests.{lt-ltb, ltb-true}
 use Rattle.virtual_tree.specs.declared.fault.StoreFault.{StoreFault}
 use Rattle.virtual_tree.specs.declared.fault.StoreFault.TheVariants as fault
 use Rattle.virtual_tree.specs.Calls.{in_answer}
+use Rattle.memory_store.specs.Held.{IsHeld}
 use Rattle.memory_store.specs.Tree.{Spot, Tree, size_at, total}
 use Rattle.memory_store.specs.Tree.Node.{File}
 use Rattle.memory_store.specs.InMemory.{Memory, Upload, Changes, left_by, filled, finish_octets}
@@ -58,6 +61,34 @@ pub passed_is : (old : Memory) (upload : Upload) (moment : ℕ) (octets : List �
 passed_is old upload moment octets first came is first_is came_is =
     ap (λ n. total old.tree - length octets + first + n) came_is
     ∙ ap (λ n. total old.tree - length octets + n + length upload.octets) first_is ∙ filled_total old upload moment octets is
+
+above : (capacity first came after : ℕ) → first + came ≡ after → capacity < came → capacity < after
+above capacity first came after sum more = omega arith
+
+-- more was received than the capacity
+pub more_passes : (old : Memory) (upload : Upload) (moment : ℕ) (octets : List ℕ) → size_at (get old.tree upload.spot) ≡ length octets → old.capacity < length upload.octets
+    → nat_lt old.capacity (total (filled old.tree upload moment octets)) ≡ true
+more_passes old upload moment octets is more =
+    lt-ltb old.capacity (total (filled old.tree upload moment octets))
+    (above old.capacity (total old.tree - length octets + min upload.kept (length octets)) (length upload.octets) (total (filled old.tree upload moment octets))
+    (filled_total old upload moment octets is) more)
+
+between : (capacity most came : ℕ) → capacity ≤ most → most < came → capacity < came
+between capacity most came within more = omega arith
+
+-- more was received than a sink holds, and the capacity is no greater
+pub cut_passes : (old : Memory) (upload : Upload) (moment : ℕ) (octets : List ℕ) → size_at (get old.tree upload.spot) ≡ length octets → old.capacity ≤ upload.most → nat_lt upload.most (length upload.octets) ≡ true
+    → nat_lt old.capacity (total (filled old.tree upload moment octets)) ≡ true
+cut_passes old upload moment octets is within cut =
+    more_passes old upload moment octets is (between old.capacity upload.most (length upload.octets) within (ltb-true upload.most (length upload.octets) cut))
+
+-- what a sink holds, where it received no more
+pub held_whole : (upload seen : Upload) (held : List ℕ) (is_cut : Bool) → seen ≡ upload → IsHeld seen.most held is_cut seen.octets → nat_lt upload.most (length upload.octets) ≡ false → held ≡ upload.octets
+held_whole upload seen held is_cut same is whole =
+    is.first ∙ take_all seen.most seen.octets (ltb-false seen.most (length seen.octets) (ap (λ (u : Upload). nat_lt u.most (length u.octets)) same ∙ whole)) ∙ ap (λ (u : Upload). u.octets) same
+
+pub held_count : (most : ℕ) (held : List ℕ) (is_cut : Bool) (received : List ℕ) → IsHeld most held is_cut received → length held ≡ min most (length received)
+held_count most held is_cut received is = ap length is.first ∙ length-take most received
 
 -- where nothing stays, what came is all
 pub none_kept : (kept : ℕ) (first others joined : List ℕ) → kept ≡ 0 → joined ≡ others → joined ≡ take kept first ++ others

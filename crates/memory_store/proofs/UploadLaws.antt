@@ -13,10 +13,11 @@ use Rattle.virtual_tree.specs.declared.fault.StoreFault.TheVariants as fault
 use Rattle.virtual_tree.specs.declared.mode.WriteMode.{WriteMode}
 use Rattle.virtual_tree.specs.declared.mode.WriteMode.TheVariants.{New, At, Append}
 use Rattle.virtual_tree.specs.Calls.{in_answer, Target, Writes}
-use Rattle.memory_store.specs.Tree.{Node, Spot, Tree, spot_of, node_in, node_at, total}
+use Rattle.memory_store.specs.Tree.{Node, Spot, Tree, spot_of, node_in, node_at, size_at, total}
 use Rattle.memory_store.specs.Tree.Node.{Directory, File}
-use Rattle.memory_store.specs.InMemory.{Memory, Upload, Opening, target_of, kind_in, kind_at, vacancy, opened, open_new, open_absent, open_node, filled, finished, finish_node, if_found, unit_of, left_by}
-use Rattle.memory_store.specs.Uploads.{octets_in, kept_by, FinishPutsWhatCame}
+use Rattle.memory_store.specs.InMemory.{Memory, Upload, Opening, begun, target_of, kind_in, kind_at, vacancy, opened, open_new, open_absent, open_node, filled, finished, finish_node, if_found, unit_of, left_by}
+use Rattle.memory_store.specs.Uploads.{octets_in, kept_by, FinishPutsWhatCame, MoreIsFull}
+use Rattle.memory_store.proofs.Fills.{decided_full, more_passes}
 use Rattle.memory_store.specs.Orders.{paths_total}
 
 no_answer : {X : Type 0} (why : StoreFault) (x : X) → (let refused : Result X StoreFault = Err why in refused) ≡ Ok x → ⊥
@@ -41,13 +42,13 @@ unless_refused false why answer x e = e
 
 abbrev IsOpening : Spot → ℕ → Result Opening StoreFault → Type 0
 IsOpening spot kept (Err why) = Unit {0}
-IsOpening spot kept (Ok opening) = (opening.upload.spot ≡ spot) × (opening.upload.kept ≡ kept) × (opening.upload.octets ≡ [])
+IsOpening spot kept (Ok opening) = (opening.spot ≡ spot) × (opening.kept ≡ kept)
 
 new_opens : (tree : Tree) (spot : Spot) (moment : ℕ) (above here : Option EntryKind) → IsOpening spot 0 (open_new tree moment (vacancy spot above here))
 new_opens tree spot moment None here = tt
 new_opens tree spot moment (Some kind.File) here = tt
 new_opens tree spot moment (Some kind.Directory) (Some found) = tt
-new_opens tree spot moment (Some kind.Directory) None = (refl, refl, refl)
+new_opens tree spot moment (Some kind.Directory) None = (refl, refl)
 
 absent_opens : (tree : Tree) (path : Path) (spot : Spot) (moment : ℕ) (mode : WriteMode) → IsOpening spot (kept_by mode []) (open_absent tree path spot moment mode)
 absent_opens tree path spot moment New = new_opens tree spot moment (kind_at tree _) (kind_in tree spot)
@@ -63,19 +64,19 @@ node_opens tree path spot moment mode None = absent_opens tree path spot moment 
 node_opens tree path spot moment New (Some Directory) = tt
 node_opens tree path spot moment (At offset) (Some Directory) = tt
 node_opens tree path spot moment Append (Some Directory) = tt
-node_opens tree path spot moment New (Some (File octets modified)) = (refl, refl, refl)
-node_opens tree path spot moment (At offset) (Some (File octets modified)) = cut_opens spot offset (nat_lt (length octets) offset) _ (refl, refl, refl)
-node_opens tree path spot moment Append (Some (File octets modified)) = (refl, refl, refl)
+node_opens tree path spot moment New (Some (File octets modified)) = (refl, refl)
+node_opens tree path spot moment (At offset) (Some (File octets modified)) = cut_opens spot offset (nat_lt (length octets) offset) _ (refl, refl)
+node_opens tree path spot moment Append (Some (File octets modified)) = (refl, refl)
 
-given_by : (tree : Tree) (path : Path) (mode : WriteMode) (moment : ℕ) (found : Option Spot) (upload : Upload) → Ok upload ≡ in_answer (λ (opening : Opening). opening.upload) (opened tree path mode moment found)
+given_by : (memory : Memory) (tree : Tree) (path : Path) (mode : WriteMode) (moment : ℕ) (found : Option Spot) (upload : Upload) → Ok upload ≡ in_answer (begun memory) (opened tree path mode moment found)
     → (found ≡ Some upload.spot) × (upload.kept ≡ kept_by mode (octets_in (node_in tree found))) × (upload.octets ≡ [])
-given_by tree path mode moment None upload e = absurd (no_answer fault.IsDir upload (sym e))
-given_by tree path mode moment (Some spot) upload e =
-    let decided = told_by (λ (opening : Opening). opening.upload) (open_node tree path spot moment mode (get tree spot)) upload e in
+given_by memory tree path mode moment None upload e = absurd (no_answer fault.IsDir upload (sym e))
+given_by memory tree path mode moment (Some spot) upload e =
+    let decided = told_by (begun memory) (open_node tree path spot moment mode (get tree spot)) upload e in
     let is = subst (IsOpening spot (kept_by mode (octets_in (get tree spot)))) decided.1 (node_opens tree path spot moment mode (get tree spot)) in (
       ap Some (sym is.0 ∙ ap (λ (u : Upload). u.spot) (sym decided.2)),
       ap (λ (u : Upload). u.kept) decided.2 ∙ is.1,
-      ap (λ (u : Upload). u.octets) decided.2 ∙ is.2,
+      ap (λ (u : Upload). u.octets) decided.2,
     )
 
 -- ---- writes
@@ -122,7 +123,7 @@ at_its_spot tree spot node = get-insert paths_total tree spot node spot ∙ ap (
 
 pub finish_puts_what_came : FinishPutsWhatCame
 finish_puts_what_came first opened before after path mode moment later given brought pieces opens writes finish =
-    let start = given_by first.tree path mode moment (spot_of path) given (opens.0 (not_memory given)).0 in
+    let start = given_by first first.tree path mode moment (spot_of path) given (opens.0 (not_memory given)).0 in
     let way = writes_bring pieces given brought writes in
     let end = finish.0 (not_memory tt) in
     let decided = told_by (unit_of {P = Tree}) (finished before brought later) tt end.0 in
@@ -137,3 +138,10 @@ finish_puts_what_came first opened before after path mode moment later given bro
     ∙ ap (λ k. Some (File (take k (octets_in (get before.tree brought.spot)) ++ brought.octets) later)) kept
     ∙ ap (λ came. Some (File (take (kept_by mode (octets_in (node_at first.tree path))) (octets_in (get before.tree brought.spot)) ++ came) later)) octets
     ∙ ap (λ found. Some (File (take (kept_by mode (octets_in (node_at first.tree path))) (octets_in (node_in before.tree found)) ++ concat pieces) later)) (sym stands)
+
+-- ---- more than the capacity
+
+pub more_is_full : MoreIsFull
+more_is_full memory upload moment modified octets found more =
+    ap (if_found (finish_node memory upload moment)) found
+    ∙ decided_full memory upload moment octets (more_passes memory upload moment octets (ap size_at found) more)

@@ -12,6 +12,13 @@ memory_code =
 
 abbrev pub upload_code : Coded Upload
 upload_code =
-    code_by (Spot × (ℕ × List ℕ)) (coded× spot_code (coded× coded_ℕ (coded_list coded_ℕ)))
-    (λ upload. (upload.spot, (upload.kept, upload.octets)))
-    (λ parts. record { spot = parts.0; kept = parts.1.0; octets = parts.1.1 }) (λ _. refl)
+    code_by (Spot × (ℕ × (ℕ × List ℕ)))
+    (coded× spot_code (coded× coded_ℕ (coded× coded_ℕ (coded_list coded_ℕ))))
+    (λ upload. (upload.spot, (upload.kept, (upload.most, upload.octets))))
+    (λ parts.
+    record {
+      spot = parts.0;
+      kept = parts.1.0;
+      most = parts.1.1.0;
+      octets = parts.1.1.1;
+    }) (λ _. refl)

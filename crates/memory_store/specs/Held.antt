@@ -1,5 +1,5 @@
 -- Entries of a store in memory as contracts see them.
-use Rattle.std.specs.Prelude.{◌≡◌, ℕ, List, Vec}
+use Rattle.std.specs.Prelude.{◌≡◌, ℕ, Bool, List, length, take, nat_lt, Vec}
 use Rattle.std.specs.Arc.{arc_value}
 use Rattle.std.specs.declared.sync.Arc.{Arc}
 use Rattle.virtual_path.specs.Path.{slashed, names_in, HasNoSlash}
@@ -21,3 +21,9 @@ shared octets = (arc_value octets).items
 pub record IsSpotText (directory name : List ℕ) : Type 0 where
   pub slashes : slashed (names_in directory) ≡ directory
   pub no_slash : HasNoSlash name
+
+-- a sink holds the first of the octets that it received, at most `most`, and knows whether it
+-- received more
+pub record IsHeld (most : ℕ) (held : List ℕ) (is_cut : Bool) (received : List ℕ) : Type 0 where
+  pub first : held ≡ take most received
+  pub cut : is_cut ≡ nat_lt most (length received)

@@ -20,10 +20,11 @@ pub record Memory : Type 0 where
   pub capacity : ℕ
 
 -- an upload: the spot of its file, the number of the file's octets that are kept before the new
--- ones, and those received
+-- ones, the most octets that its sink holds in memory, and all those received
 pub record Upload : Type 0 where
   pub spot : Spot
   pub kept : ℕ
+  pub most : ℕ
   pub octets : List ℕ
 
 -- the target of an upload
@@ -136,14 +137,25 @@ moved_tree tree move = moved_by_kind tree move (kind_of move.node)
 
 -- ---- files that are written
 
--- a file opened for writing: the tree afterwards, and the upload
+-- a file opened for writing: the tree afterwards, the file's spot, and how many of its octets are
+-- kept
 pub record Opening : Type 0 where
   pub tree : Tree
-  pub upload : Upload
+  pub spot : Spot
+  pub kept : ℕ
 
 abbrev pub opening : Tree → Spot → ℕ → Opening
-opening tree spot kept =
-    record { tree = tree; upload = record { spot = spot; kept = kept; octets = [] } }
+opening tree spot kept = record { tree = tree; spot = spot; kept = kept }
+
+-- the upload that then begins: its sink holds at most as many octets as the store may
+abbrev pub begun : Memory → Opening → Upload
+begun memory opening =
+    record {
+      spot = opening.spot;
+      kept = opening.kept;
+      most = memory.capacity;
+      octets = [];
+    }
 
 abbrev pub open_new : Tree → ℕ → Result Spot StoreFault → Result Opening StoreFault
 open_new tree moment (Err why) = Err why
@@ -220,7 +232,7 @@ unit_of _ = tt
 
 abbrev pub Opens : Memory → Result Upload StoreFault → Memory → Result Opening StoreFault → Type 0
 Opens old answer new decided =
-    Changes old answer new decided (λ opening. opening.upload) (λ opening. opening.tree)
+    Changes old answer new decided (begun old) (λ opening. opening.tree)
 
 abbrev pub InMemory : Memory → Exchange (List ℕ) Upload → Memory → Type 0
 InMemory old (Stat path answer) new =

@@ -1,14 +1,16 @@
 -- The effect of an upload, over all its calls.
-use Rattle.std.specs.Prelude.{ℕ, ◌≡◌, List, [], ◌++◌, length, take, Option, Some, Ok}
+use Rattle.std.specs.Prelude.{ℕ, ◌≡◌, List, [], ◌++◌, ◌<◌, length, take, Option, Some, Ok, Err}
 use Rattle.std.specs.List.{concat}
 use Rattle.virtual_path.specs.Path.{Path}
+use Rattle.virtual_tree.specs.declared.fault.StoreFault.TheVariants as fault
 use Rattle.virtual_tree.specs.declared.mode.WriteMode.{WriteMode}
 use Rattle.virtual_tree.specs.declared.mode.WriteMode.TheVariants.{New, At, Append}
 use Rattle.virtual_tree.specs.Calls.{Writes}
 use Rattle.virtual_tree.specs.Calls.Exchange.{OpenWrite, Finish}
 use Rattle.memory_store.specs.Tree.{Node, node_at}
 use Rattle.memory_store.specs.Tree.Node.{File}
-use Rattle.memory_store.specs.InMemory.{Memory, Upload, InMemory, target_of}
+use Rattle.std.specs.FinMap.{get}
+use Rattle.memory_store.specs.InMemory.{Memory, Upload, InMemory, target_of, finished}
 
 -- the octets of the file at a path; none if there is no file
 abbrev pub octets_in : Option Node → List ℕ
@@ -35,3 +37,11 @@ FinishPutsWhatCame =
     → node_at after.tree path
     ≡ Some (File (take (kept_by mode (octets_in (node_at first.tree path)))
     (octets_in (node_at before.tree path)) ++ concat pieces) later)
+
+-- If more octets were received than the capacity, the upload does not fit, whatever the other files
+-- have and however many octets of its file are kept.
+abbrev pub MoreIsFull : Type 0
+MoreIsFull =
+    (memory : Memory) (upload : Upload) (moment modified : ℕ) (octets : List ℕ)
+    → get memory.tree upload.spot ≡ Some (File octets modified)
+    → memory.capacity < length upload.octets → finished memory upload moment ≡ Err fault.Full

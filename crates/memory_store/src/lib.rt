@@ -16,11 +16,12 @@ mod entry;
 mod files;
 mod laws;
 mod memory;
+mod received;
 mod renaming;
 mod spot;
 mod vacancy;
 mod writing;
 
 pub use ends::{MemSink, MemSource};
-pub use laws::finish_puts_what_came;
+pub use laws::{finish_puts_what_came, more_than_the_capacity_is_full};
 pub use memory::MemStore;

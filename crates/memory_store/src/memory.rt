@@ -144,17 +144,12 @@ impl<A: Allocator + Clone> Store<A> for MemStore<A> {
     }
 
     fn finish(&mut self, sink: MemSink<A>, moment: u64) -> Result<(), StoreFault> {
-        let MemSink {
-            spot,
-            kept,
-            octets: came,
-        } = sink;
-        let Some(entry) = self.share(&spot)? else {
+        let Some(entry) = self.share(&sink.spot)? else {
             return Err(StoreFault::NotFound);
         };
         match entry.into_octets() {
             None => Err(StoreFault::IsDir),
-            Some(octets) => self.fill(spot, kept, came, octets.as_slice(), moment),
+            Some(octets) => self.fill_from(sink, octets.as_slice(), moment),
         }
     }
 

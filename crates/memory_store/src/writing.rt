@@ -1,6 +1,6 @@
 //! Files of a store in memory that are opened, written and finished.
 
-ghost use Rattle.std.specs.Prelude.{◌≡◌, ◌++◌, ◌≤◌, ◌+◌, ◌-◌, ◌<◌, ◌^◌, [], IfOk, Ok, Some, take, length, false, nat_lt};
+ghost use Rattle.std.specs.Prelude.{◌≡◌, ◌++◌, ◌≤◌, ◌+◌, ◌-◌, ◌<◌, ◌^◌, [], IfOk, Ok, Err, Some, take, length, false, nat_lt};
 ghost use Rattle.std.specs.FinMap as map;
 ghost use Rattle.memory_store.specs.Held.{shared};
 ghost use Rattle.memory_store.specs.InMemory.{vacant, finish_octets, unit_of, Changes, opening, open_new, open_absent, open_octets, open_node, octets_from, Opens};
@@ -10,6 +10,7 @@ ghost use Rattle.memory_store.specs.Tree.Node.{File};
 use crate::ends::{MemSink, MemSource};
 use crate::entry::Entry;
 use crate::memory::MemStore;
+use crate::received::Received;
 use crate::spot::Spot;
 use std::alloc::{AllocError, Allocator};
 use std::sync::Arc;
@@ -41,10 +42,11 @@ impl<A: Allocator + Clone> MemStore<A> {
         Ok(Entry::file(octets, moment))
     }
 
-    /// A sink with no octets yet.
+    /// A sink with no octets yet, which keeps as many as the capacity.
     pub(crate) fn sink(&self, spot: &Spot<A>, kept: usize) -> Result<MemSink<A>, AllocError>
         ensures spot { IfOk result (λ sink. sink.spot ≡ spot.now) }
         ensures kept { IfOk result (λ sink. sink.kept ≡ kept) }
+        ensures most { IfOk result (λ sink. sink.most ≡ self.now.capacity) }
         ensures octets { IfOk result (λ sink. sink.octets ≡ []) }
     {
         let spot = spot.copy(&self.alloc)?;
@@ -52,7 +54,10 @@ impl<A: Allocator + Clone> MemStore<A> {
         Ok(MemSink {
             spot,
             kept,
+            most: self.capacity,
             octets: Vec::new(alloc),
+            is_cut: false,
+            received: Received::new(),
         })
     }
 
@@ -225,21 +230,26 @@ impl<A: Allocator + Clone> MemStore<A> {
         others > self.capacity || came as u64 > self.capacity - others
     }
 
-    /// Appends what was received to the first octets of a file, which has `octets`.
+    /// Appends what a sink received, and holds, to the first octets of its file, which has `octets`.
     pub(crate) fn fill(
         &mut self,
-        spot: Spot<A>,
-        kept: usize,
-        came: Vec<u8, A>,
+        sink: MemSink<A>,
         octets: &[u8],
         moment: u64,
     ) -> Result<(), StoreFault>
-        requires { size_at (map.get self.old.tree spot) ≡ length octets.now }
+        requires file { size_at (map.get self.old.tree sink.spot) ≡ length octets.now }
+        requires whole { nat_lt sink.most (length sink.octets) ≡ false }
         ensures { Changes self.old result self.new
-            (finish_octets self.old
-            (record { spot = spot; kept = kept; octets = came.items }) moment (Some octets.now))
-            unit_of (λ tree. tree) }
+            (finish_octets self.old sink moment (Some octets.now)) unit_of (λ tree. tree) }
     {
+        let MemSink {
+            spot,
+            kept,
+            most: _,
+            octets: came,
+            is_cut: _,
+            received: _,
+        } = sink;
         let first = kept.min(octets.len());
         let is_passed = self.is_passed(octets.len(), first, came.len());
         if is_passed {
@@ -251,6 +261,31 @@ impl<A: Allocator + Clone> MemStore<A> {
         let filled = self.joined(octets, kept, came)?;
         self.files.put(spot, Entry::file(filled, moment))?;
         Ok(())
+    }
+
+    /// Appends what a sink received to the first octets of its file, which has `octets`.
+    ///
+    /// If a sink received more than it could keep, it is too much for the store too. Only that of a store with
+    /// a smaller capacity may have lost octets that would fit: there was no memory for them.
+    pub(crate) fn fill_from(
+        &mut self,
+        sink: MemSink<A>,
+        octets: &[u8],
+        moment: u64,
+    ) -> Result<(), StoreFault>
+        requires { size_at (map.get self.old.tree sink.spot) ≡ length octets.now }
+        ensures step { Changes self.old result self.new
+            (finish_octets self.old sink moment (Some octets.now)) unit_of (λ tree. tree) }
+        ensures cut { sink.most < length sink.octets → self.old.capacity ≤ sink.most
+            → result ≡ Err StoreFault.Full }
+    {
+        if !sink.is_cut {
+            return self.fill(sink, octets, moment);
+        }
+        if sink.most < self.capacity {
+            return Err(StoreFault::Memory);
+        }
+        Err(StoreFault::Full)
     }
 }
 

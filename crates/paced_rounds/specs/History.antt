@@ -29,7 +29,7 @@ round_at now out = record { now = now; leaves = granted_by out }
 abbrev pub octets_of : Held → ℕ
 octets_of h = sum_by granted_octets h.leaves
 
--- what the log has of a round: its moment, and what was subtracted for it
+-- a round in the log: its moment, and each ask with the grant that was subtracted for it
 abbrev pub Entry : Type 0
 Entry = ℕ × ProofLog Ask ℕ
 

@@ -1,8 +1,11 @@
-//! Tests of the desk: its rounds, its workers in threads, its close and its settlement, by public calls alone.
+//! Tests of the desk: its rounds, at ticks of the test and under a pace, its workers in threads, its close and its
+//! settlement, by public calls alone.
 #![tactic(auto)]
 
 #[cfg(test)]
 mod expect;
+#[cfg(test)]
+mod paces;
 #[cfg(test)]
 mod refusals;
 #[cfg(test)]

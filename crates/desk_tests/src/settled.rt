@@ -32,6 +32,10 @@ fn two_lanes_share_a_rate(rt: HostRuntime) {
                     holds(&rt, record.tick == 0 && record.answered == 3);
                     holds(&rt, record.sealed.grants() == [2, 1].as_slice());
                     holds(&rt, record.lanes.as_slice() == [0, 1].as_slice());
+                    holds(
+                        &rt,
+                        record.asks.as_slice() == [down(0, 5), down(1, 5)].as_slice(),
+                    );
                 }
                 Err(_) => panic!(&rt; "the first round was refused"),
             }

@@ -19,15 +19,15 @@ abbrev Find : Type 0
 Find = Option Ask
 
 -- 1 where the ask is of the lane
-pub is_at : ℕ → Asker → ℕ
+unfoldable pub is_at : ℕ → Asker → ℕ
 is_at k x = cond (nat_eq x.0 k) 1 0
 
 -- how many of the asks are of the lane
-pub many : ℕ → List Asker → ℕ
+unfoldable pub many : ℕ → List Asker → ℕ
 many k [] = 0
 many k (x ∷ xs) = is_at k x + many k xs
 
-is_same : (k : ℕ) (x : Asker) → x.0 ≡ k → is_at k x ≡ 1
+pub is_same : (k : ℕ) (x : Asker) → x.0 ≡ k → is_at k x ≡ 1
 unfolding is_at
 is_same k x e = ap (λ (b : Bool). cond b 1 0) (eq-eqb x.0 k e)
 
@@ -35,7 +35,7 @@ is_other : (k : ℕ) (x : Asker) → x.0 ≢ k → is_at k x ≡ 0
 unfolding is_at
 is_other k x e = ap (λ (b : Bool). cond b 1 0) (ne_eqb x.0 k e)
 
-many_sum : (k : ℕ) (xs : List Asker) → many k xs ≡ sum_by (is_at k) xs
+pub many_sum : (k : ℕ) (xs : List Asker) → many k xs ≡ sum_by (is_at k) xs
 unfolding many
 many_sum k [] = refl
 many_sum k (x ∷ xs) = ap (λ (n : ℕ). is_at k x + n) (many_sum k xs) ∙ sym (sum_by-cons (is_at k) x xs)
@@ -87,7 +87,7 @@ all_due (x ∷ xs) ts few due =
     let d = due x.0 (omega (arith, one, none)) in
     (d.0, d.1, names_not x.0 xs none, all_due xs ts (λ k. omega (arith, few k)) (λ k e. due k (omega (arith, few k, e))))
 
-at_most_one : (f : Find) → mark_of f ≤ 1
+pub at_most_one : (f : Find) → mark_of f ≤ 1
 at_most_one None = omega arith
 at_most_one (Some a) = omega arith
 

@@ -11,3 +11,4 @@ pub mod PostedLemmas
 pub mod RoundLemmas
 pub mod Calls
 pub mod Sums
+pub mod AskedLemmas

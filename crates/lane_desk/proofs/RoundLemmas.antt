@@ -9,6 +9,7 @@ use Rattle.grant_ledger.specs.Books.{BookView}
 use Rattle.desk_rule.specs.declared.view.TurnView.{TurnView}
 use Rattle.desk_rule.specs.Lanes.{has_missed, has_collected, has_posted, posted_in}
 use Rattle.lane_desk.specs.declared.refusal.RoundRefusal.{RoundRefusal}
+use Rattle.lane_desk.specs.Asked.{IsAskedPlan}
 use Rattle.lane_desk.specs.Refusals.{IsRefused}
 use Rattle.lane_desk.specs.Tried.{tried_by, tried, asks_from, mark_of, AreTried}
 use Rattle.lane_desk.specs.Posted.{turn_at, posted_all, AreDue, AllAnswered, nothing_for}
@@ -98,9 +99,10 @@ pub posted_mid : (fs : List Find) (old mid : List TurnView) (asks : List Asker) 
 posted_mid fs old mid asks marks t = ap posted_in t.turns ∙ posted_in-tried fs old
 
 -- a round that was decided
-pub rounded : (rates : Rates) (tick : ℕ) (tree : LimitTree) (lanes grants : List ℕ) (fs : List Find) (old mid new : List TurnView) (asks : List Asker) (marks : ℕ) → AreTried fs old mid asks marks → AllAnswered old → IsPlan rates tick asks tree lanes
-    → length lanes ≡ length grants → new ≡ posted_all lanes grants mid → IsRound rates tick old new marks tree lanes grants
-rounded rates tick tree lanes grants fs old mid new asks marks t answered p each is =
+pub rounded : (rates : Rates) (tick : ℕ) (tree : LimitTree) (lanes : List ℕ) (own : List Ask) (grants : List ℕ) (fs : List Find) (old mid new : List TurnView) (asks : List Asker) (marks : ℕ) → AreTried fs old mid asks marks → AllAnswered old → IsAskedPlan rates tick asks tree lanes own
+    → length lanes ≡ length grants → new ≡ posted_all lanes grants mid → IsRound rates tick old new marks tree lanes own grants
+rounded rates tick tree lanes own grants fs old mid new asks marks t answered a each is =
+    let p = a.plan in
     let all : IsPermutation (asks_from 0 fs) p.order = subst (λ (xs : List Asker). IsPermutation xs p.order) t.asks_are p.all in
     let long : length (map lane_in p.order) ≡ length grants = ap length (sym p.lanes_are) ∙ each in
     let now : new ≡ posted_all (map lane_in p.order) grants (tried fs old) = is ∙ (λ q. posted_all (p.lanes_are q) grants (t.turns q)) in
@@ -111,7 +113,8 @@ rounded rates tick tree lanes grants fs old mid new asks marks t answered p each
       each = λ i near. subst (λ (ts : List TurnView). IsAnswered (get_or fs i None) (turn_at old i) (turn_at ts i)) (sym now)
           (answers (get_or fs i None) (turn_at old i) (turn_at (posted_all (map lane_in p.order) grants (tried fs old)) i) grants (outcome fs old p.order grants t.wide answered all long i near));
       marks = t.marks;
-      plan = subst (λ (xs : List Asker). IsPlan rates tick xs tree lanes) t.asks_are p;
+      plan = record { order = p.order; all = all; tree = p.tree; lanes_are = p.lanes_are };
+      asks_are = a.asks_are;
       posted = subst (λ (z : List ℕ × List TurnView). (j : ℕ) → j < length z.0 → (turn_at z.1 (get_or z.0 j 0)).posted ≡ (turn_at old (get_or z.0 j 0)).posted ++ get_or grants j 0 ∷ []) (λ q. (sym p.lanes_are q, sym now q))
           (posted fs old p.order grants t.wide answered all long);
     }
@@ -121,8 +124,8 @@ pub round_total : (rates : Rates) (tick : ℕ) (tree : LimitTree) (lanes grants 
 round_total rates tick tree lanes grants fs old mid new asks marks t answered p each is =
     ap posted_in is ∙ posted_sum lanes grants mid (due_plan rates tick tree lanes fs old mid asks marks t answered p) each ∙ ap (λ (n : ℕ). n + sum grants) (posted_mid fs old mid asks marks t)
 
-pub answered_round : (rates : Rates) (tick : ℕ) (tree : LimitTree) (lanes grants : List ℕ) (old new : List TurnView) (marks : ℕ) → IsRound rates tick old new marks tree lanes grants → AllAnswered old → AllAnswered new
-answered_round rates tick tree lanes grants old new marks r answered i near =
+pub answered_round : (rates : Rates) (tick : ℕ) (tree : LimitTree) (lanes : List ℕ) (own : List Ask) (grants : List ℕ) (old new : List TurnView) (marks : ℕ) → IsRound rates tick old new marks tree lanes own grants → AllAnswered old → AllAnswered new
+answered_round rates tick tree lanes own grants old new marks r answered i near =
     let here : i < length old = omega (arith, near, r.still) in
     even_after (get_or r.found i None) (turn_at old i) (turn_at new i) (r.each i here) (answered i here)
 

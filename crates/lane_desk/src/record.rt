@@ -16,7 +16,7 @@ use crate::refusal::RoundRefusal;
 use crate::round::RoundDesk;
 use grant_certificate::Sealed;
 use grant_ledger::Book;
-use line_rates::Limits;
+use line_rates::{Ask, Limits};
 use std::alloc::{Allocator, Global};
 
 /// The record of a round.
@@ -28,6 +28,8 @@ pub struct RoundRecord<A: Allocator = Global> {
     pub answered: u64,
     /// The lane of each leaf of the limit tree.
     pub lanes: Vec<u8, A>,
+    /// The ask of each leaf.
+    pub asks: Vec<Ask, A>,
     /// The limit tree with the grants of its leaves, which are best.
     pub sealed: Sealed<A>,
 }
@@ -62,7 +64,8 @@ impl<N> RoundDesk<N> {
         ensures answered { AllAnswered (turns self.new) }
         ensures tick { IfOk result (λ r. r.tick ≡ moment / 100) }
         ensures round { IfOk result (λ r. IsRound limits.now (moment / 100) (turns self.old)
-            (turns self.new) r.answered (seen r.sealed.tree) r.lanes.items r.sealed.grants) }
+            (turns self.new) r.answered (seen r.sealed.tree) r.lanes.items r.asks.items
+            r.sealed.grants) }
         ensures best { IfOk result (λ r. IsBest (seen r.sealed.tree) r.sealed.grants) }
         ensures issued { IfOk result
             (λ r. book.new.issued ≡ book.old.issued + sum r.sealed.grants) }
@@ -82,6 +85,7 @@ impl<N> RoundDesk<N> {
             Ok(decision) => {
                 let Decision {
                     lanes,
+                    asks: leaf_asks,
                     sealed,
                     purse,
                 } = decision;
@@ -90,6 +94,7 @@ impl<N> RoundDesk<N> {
                     tick,
                     answered,
                     lanes,
+                    asks: leaf_asks,
                     sealed,
                 })
             }

@@ -64,7 +64,8 @@ impl<N> Rounds<N> {
         ensures tally { self.new.tally ≡ self.old.tally }
         ensures tick { IfOk result (λ r. r.tick ≡ moment / 100) }
         ensures round { IfOk result (λ r. IsRound limits.now (moment / 100) (turns self.old.desk)
-            (turns self.new.desk) r.answered (seen r.sealed.tree) r.lanes.items r.sealed.grants) }
+            (turns self.new.desk) r.answered (seen r.sealed.tree) r.lanes.items r.asks.items
+            r.sealed.grants) }
         ensures best { IfOk result (λ r. IsBest (seen r.sealed.tree) r.sealed.grants) }
         ensures issued { IfOk result
             (λ r. self.new.book.issued ≡ self.old.book.issued + sum r.sealed.grants) }

@@ -1,17 +1,25 @@
 //! Names of the parts that are lent.
 
-ghost use Rattle.std.specs.Prelude.{ℕ};
+ghost use Rattle.std.specs.Prelude.{ℕ, Bool, true};
 ghost use Rattle.atomic_table.specs.Seated.{TableId};
-ghost use Rattle.lent_parts.specs.Names.{no_table};
+ghost use Rattle.line_rates.specs.Rates.{Rates};
+ghost use Rattle.lent_parts.specs.Names.{no_table, no_rates};
 
 use std::marker::Brand;
 
 /// Names the parts of one server in the types of what its threads are lent: the table of its desk with the number of
-/// its lanes, and the table of its board.
+/// its lanes; the rates of its rounds, the octets issued before the first of them, and a test that their moments pass;
+/// and the table of its board.
 pub trait PartsName {
     ghost desk: { TableId };
 
     ghost lanes: { ℕ };
+
+    ghost rates: { Rates };
+
+    ghost carried: { ℕ };
+
+    ghost when: { ℕ → Bool };
 
     ghost board: { TableId };
 }
@@ -21,6 +29,12 @@ impl PartsName for Brand {
     ghost desk = { no_table };
 
     ghost lanes = { 0 };
+
+    ghost rates = { no_rates };
+
+    ghost carried = { 0 };
+
+    ghost when = { λ _. true };
 
     ghost board = { no_table };
 }

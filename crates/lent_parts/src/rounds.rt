@@ -1,30 +1,49 @@
-//! The rounds of a desk with its book, as lent to the thread that holds a round.
+//! The rounds of a desk with its book and their pace, as lent to the thread that holds a round.
 
-ghost use Rattle.std.specs.Prelude.{◌≡◌, ◌+◌, ◌/◌, Some, sum, IfOk, IfErr, OnOk, OnErr};
+ghost use Rattle.std.specs.Prelude.{◌≡◌, ◌+◌, ◌/◌, ◌++◌, [], ◌∷◌, true, max, Some, sum, IfOk, IfErr, OnOk, OnErr};
 ghost use Rattle.limit_tree.specs.Outline.{limits as seen};
 ghost use Rattle.limit_tree.specs.Sharing.{IsBest};
+ghost use Rattle.line_rates.specs.Rates.{rates_code};
 ghost use Rattle.lent_parts.specs.Names.{RoundsAt};
 ghost use Rattle.lane_desk.specs.Turns.{turns};
 ghost use Rattle.lane_desk.specs.Rounded.{IsRound, IsRefusedRound};
+ghost use Rattle.round_pace.specs.Earned.{tick_of};
+ghost use Rattle.round_pace.specs.Histories.{rates_of, after};
+ghost use Rattle.round_pace.specs.Offered.{offer_round, due_in};
+ghost use Rattle.round_pace.specs.Spent.{due_for_in};
+ghost use Rattle.paced_rounds.specs.History.{round_at, history};
+ghost use Rattle.paced_rounds.specs.Seconds.{AreAt, HasKept};
+ghost use base.Stored.{Coded-set};
 
 use crate::desk::LentDesk;
 use crate::name::PartsName;
 use lane_desk::{RoundFault, RoundRecord, Rounds};
-use line_rates::Limits;
+use line_rates::Way;
+use paced_rounds::PacedRounds;
+use round_pace::Due;
 use std::alloc::Allocator;
 use std::marker::PhantomData;
 
-/// The rounds of the desk with a name, with its book. They cannot be dropped.
+/// The rounds of the desk with a name, with its book, at a pace of the name's rates. Each was held at a moment that
+/// passes the test of the name. They cannot be dropped.
 pub struct LentRounds<B: PartsName, N> {
-    rounds: Rounds<N>,
+    rounds: PacedRounds<N>,
     name: PhantomData<B>,
-    ghost named: { RoundsAt B.desk B.lanes rounds.desk },
+    ghost named: { RoundsAt B.desk B.lanes rounds.rounds.desk },
+    ghost rated: { rates_of rounds.pace ≡ B.rates } by { Coded-set rates_code _ _ },
+    ghost carried: { rounds.carried ≡ B.carried },
+    ghost moments: { AreAt B.when (history rounds.log.items) },
+    ghost last: { B.when rounds.latest ≡ true },
 }
 
 impl<B: PartsName, N> LentRounds<B, N> {
     /// The rounds of the desk, before any seat was returned.
-    pub fn new(rounds: Rounds<N>) -> LentRounds<B, N>
-        requires named { RoundsAt B.desk B.lanes rounds.desk }
+    pub fn new(rounds: PacedRounds<N>) -> LentRounds<B, N>
+        requires named { RoundsAt B.desk B.lanes rounds.rounds.desk }
+        requires rated { rates_of rounds.pace ≡ B.rates }
+        requires carried { rounds.carried ≡ B.carried }
+        requires moments { AreAt B.when (history rounds.log.items) }
+        requires last { B.when rounds.latest ≡ true }
         ensures rounds { result.rounds ≡ rounds }
     {
         LentRounds {
@@ -35,41 +54,67 @@ impl<B: PartsName, N> LentRounds<B, N> {
 
     /// The octets issued so far.
     pub fn issued(&self) -> u64
-        ensures issued { result ≡ self.now.rounds.book.issued }
+        ensures issued { result ≡ self.now.rounds.rounds.book.issued }
     {
         self.rounds.issued()
     }
 
-    /// A round of the desk, as `Rounds::round`.
-    pub fn round<L: Allocator, A: Allocator + Clone, D: Allocator>(
+    /// The earliest moment of the next round for anybody.
+    pub fn due(&self, now: u64) -> Due
+        ensures due { result ≡ due_in self.now.rounds.pace now }
+    {
+        self.rounds.due(now)
+    }
+
+    /// The earliest moment of the next round for a transfer of a user.
+    pub fn due_for(&self, way: Way, user: u32, now: u64) -> Due
+        ensures due { result ≡ due_for_in way user self.now.rounds.pace now }
+    {
+        self.rounds.due_for(way, user, now)
+    }
+
+    /// A round of the desk, as `PacedRounds::hold`.
+    pub fn hold<A: Allocator + Clone, D: Allocator>(
         &mut self,
         alloc: A,
         desk: &LentDesk<B, N, D>,
-        limits: &Limits<L>,
-        moment: u64,
+        now: u64,
     ) -> Result<RoundRecord<A>, RoundFault>
-        ensures tally { self.new.rounds.tally ≡ self.old.rounds.tally }
-        ensures tick { IfOk result (λ r. r.tick ≡ moment / 100) }
-        ensures round { IfOk result (λ r. IsRound limits.now (moment / 100)
-            (turns self.old.rounds.desk) (turns self.new.rounds.desk) r.answered
-            (seen r.sealed.tree) r.lanes.items r.sealed.grants) }
+        requires when { B.when now ≡ true }
+        ensures tally { self.new.rounds.rounds.tally ≡ self.old.rounds.rounds.tally }
+        ensures tick { let p = offer_round (tick_of (max now self.old.rounds.latest))
+            self.old.rounds.pace in IfOk result (λ r. r.tick ≡ p.moment / 100) }
+        ensures round { let p = offer_round (tick_of (max now self.old.rounds.latest))
+            self.old.rounds.pace in IfOk result (λ r. IsRound p.offered (p.moment / 100)
+            (turns self.old.rounds.rounds.desk) (turns self.new.rounds.rounds.desk) r.answered
+            (seen r.sealed.tree) r.lanes.items r.asks.items r.sealed.grants) }
         ensures best { IfOk result (λ r. IsBest (seen r.sealed.tree) r.sealed.grants) }
-        ensures issued { IfOk result (λ r.
-            self.new.rounds.book.issued ≡ self.old.rounds.book.issued + sum r.sealed.grants) }
-        ensures last_tick { OnOk result (self.new.rounds.book.last_tick ≡ Some (moment / 100)) }
-        ensures refused { IfErr result (λ f. IsRefusedRound A limits.now (moment / 100)
-            self.old.rounds.book (turns self.old.rounds.desk) (turns self.new.rounds.desk)
-            f.answered f.reason) }
-        ensures unchanged { OnErr result (self.new.rounds.book ≡ self.old.rounds.book) }
+        ensures issued { IfOk result (λ r. self.new.rounds.rounds.book.issued
+            ≡ self.old.rounds.rounds.book.issued + sum r.sealed.grants) }
+        ensures last_tick { let p = offer_round (tick_of (max now self.old.rounds.latest))
+            self.old.rounds.pace in OnOk result
+            (self.new.rounds.rounds.book.last_tick ≡ Some (p.moment / 100)) }
+        ensures refused { let p = offer_round (tick_of (max now self.old.rounds.latest))
+            self.old.rounds.pace in IfErr result (λ f. IsRefusedRound A p.offered (p.moment / 100)
+            self.old.rounds.rounds.book (turns self.old.rounds.rounds.desk)
+            (turns self.new.rounds.rounds.desk) f.answered f.reason) }
+        ensures unchanged { OnErr result
+            (self.new.rounds.rounds.book ≡ self.old.rounds.rounds.book) }
+        ensures grows { history self.new.rounds.log.items ≡ history self.old.rounds.log.items
+            ++ round_at (max now self.old.rounds.latest) result ∷ [] }
+        ensures left { self.new.rounds.pace
+            ≡ after self.old.rounds.pace (round_at (max now self.old.rounds.latest) result) }
     {
-        self.rounds.round(alloc, desk.desk(), limits, moment)
+        self.rounds.hold(alloc, desk.desk(), now)
     }
 
-    /// Returns the rounds, once no thread has them any more.
+    /// Returns the rounds, once no thread has them any more: there is a history of rounds, at moments that pass the test
+    /// of the name, in which each rate of the name was kept, and which granted the octets issued beyond those carried.
     pub fn into_rounds(self) -> Rounds<N>
-        ensures rounds { (result ≡ self.rounds) × RoundsAt B.desk B.lanes result.desk }
+        ensures rounds { (result ≡ self.rounds.rounds) × RoundsAt B.desk B.lanes result.desk }
+        ensures kept { HasKept B.rates B.when B.carried result.book.issued }
     {
         let LentRounds { rounds, name: _ } = self;
-        rounds
+        rounds.into_rounds()
     }
 }

@@ -2,6 +2,7 @@
 
 ghost use Rattle.std.specs.Prelude.{◌≡◌, ◌+◌, ◌≤◌, [], length, vec_capacity};
 ghost use Rattle.lane_desk.specs.Workers.{AreWorkers, moved_by_all};
+ghost use Rattle.paced_rounds.specs.Seconds.{HasKept};
 ghost use Rattle.lent_parts.specs.Told.{moved_by_lent};
 
 use crate::desk::LentDesk;
@@ -40,7 +41,10 @@ fn gather<R: Wait, B: PartsName, N, A: Allocator>(
 /// Gathers everything lent of a desk, closes it, and settles the book: the octets issued are those moved and those
 /// given back in the tallies. The workers are in the order of their lanes, and there is room for as many.
 ///
-/// Their types say that they are of this desk. That each lane's worker is there, and in its place, is checked:
+/// There is a history of rounds, at moments that pass the test of the name, in which each rate of the name was kept, and
+/// which granted the octets issued beyond those carried.
+///
+/// The types of the workers say that they are of this desk. That each lane's worker is there, and in its place, is checked:
 /// otherwise this would wait for ever.
 pub fn settle_lent<R: Wait, B: PartsName, N, A: Allocator, D: Allocator>(
     rt: &R,
@@ -51,9 +55,11 @@ pub fn settle_lent<R: Wait, B: PartsName, N, A: Allocator, D: Allocator>(
 ) -> Settled
     requires room { length workers.items ≤ vec_capacity room }
     requires none { room.items ≡ [] }
-    ensures issued { result.issued ≡ rounds.rounds.book.issued }
-    ensures moved { result.moved ≡ rounds.rounds.tally.moved + moved_by_lent workers.items }
+    ensures issued { result.issued ≡ rounds.rounds.rounds.book.issued }
+    ensures moved { result.moved
+        ≡ rounds.rounds.rounds.tally.moved + moved_by_lent workers.items }
     ensures sum { result.issued ≡ result.moved + result.back }
+    ensures kept { HasKept B.rates B.when B.carried result.issued }
 {
     let mut gathered = room;
     gather(rt, workers, &mut gathered);

@@ -12,3 +12,7 @@ mod GroupsIn
 mod UsersIn
 mod HandedIn
 mod Keeping
+mod Credited
+mod Limits
+mod StatedRates
+mod Holding

@@ -7,3 +7,4 @@ pub mod Paced
 pub mod Offered
 pub mod Taken
 pub mod Spent
+pub mod Histories

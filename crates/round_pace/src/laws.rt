@@ -2,6 +2,7 @@
 
 ghost use Rattle.round_pace.specs.Rounds.{KeepsSeconds, KeepsWindows, LosesNothing, ReachesRates, SessionsAreRounds};
 ghost use Rattle.round_pace.specs.Earned.{OffersCredits};
+ghost use Rattle.round_pace.specs.Histories.{HistoriesAreRounds, HistoriesKeepRates, RatesStay, NewRates, TicksBegin};
 ghost use Rattle.round_pace.specs.Offered.{HandsRowsIn};
 ghost use Rattle.round_pace.specs.FloorsFit.{FloorsFitOffers, FloorFitsSession};
 ghost use Rattle.round_pace.specs.PromisesOffered.{PromisesStayFit, EarnsItsTicks};
@@ -40,4 +41,13 @@ pub fn floors_fit_what_is_offered()
 /// The limits that a round is handed are those of the rows: what is left under each rate.
 pub fn rows_are_handed_in()
     ensures rows { HandsRowsIn }
+{}
+
+/// The rounds of a new pace are rounds under the rate of each name that has one, so each such rate is kept.
+pub fn histories_keep_rates()
+    ensures rounds { HistoriesAreRounds }
+    ensures kept { HistoriesKeepRates }
+    ensures stay { RatesStay }
+    ensures new { NewRates }
+    ensures begin { TicksBegin }
 {}

@@ -1,12 +1,19 @@
 use Rattle.std.proofs.Common.{◌≡◌, ◌/◌, sum, ℕ, List, map, ap, ◌∙◌, sym, subst, arith}
 use Rattle.limit_tree.specs.Outline.{limits as seen}
-use Rattle.line_rates.specs.TickTree.{Asker, lane_in, IsPlan}
+use Rattle.line_rates.specs.TickTree.{Asker, lane_in}
+use Rattle.lane_desk.specs.Asked.{AreApart, IsAskedPlan}
 use Rattle.lane_desk.specs.Refusals.{IsRefused}
 use Rattle.lane_desk.specs.Turns.{turns}
 use Rattle.lane_desk.specs.Posted.{AreDue, posted_all, nothing_for}
 use Rattle.lane_desk.specs.Rounded.{IsRound, IsRefusedRound}
+use Rattle.lane_desk.proofs.AskedLemmas.{found_apart}
 use Rattle.lane_desk.proofs.RoundLemmas.{due_plan, due_asks, posted_mid, rounded, round_total, answered_round, refused, refused_total, answered_refused}
 use Rattle.lane_desk.proofs.round.RoundDesk.round.Goals as goal
+
+pub decide-requires : goal.decide-requires
+decide-requires g c =
+    let t = c.collect_all-asks.ensures.tried in
+    record { apart = subst AreApart (sym c.as_slice.ensures.asks) (found_apart t.0 c.collect_all-asks.result.asks t.1.asks_are) }
 
 pub post_all-requires-clause-due : goal.post_all-requires-clause-due
 post_all-requires-clause-due g c =
@@ -19,8 +26,8 @@ post_all-requires-clause-due g c =
     let tick : ℕ = c.args.moment / 100 in
     let d = c.in-Ok.decision in
     let tree = seen d.sealed.tree in
-    let plan = subst (λ (xs : List Asker). IsPlan rates tick xs tree d.lanes.items) c.as_slice.ensures.asks c.in-Ok.ensures.plan in
-    subst (λ (ls : List ℕ). AreDue ls mid) (sym c.deref.ensures.value) (due_plan rates tick tree d.lanes.items t.0 old mid asks marks t.1 c.requires.answered plan)
+    let own = subst (λ (xs : List Asker). IsAskedPlan rates tick xs tree d.lanes.items d.asks.items) c.as_slice.ensures.asks c.in-Ok.ensures.plan in
+    subst (λ (ls : List ℕ). AreDue ls mid) (sym c.deref.ensures.value) (due_plan rates tick tree d.lanes.items t.0 old mid asks marks t.1 c.requires.answered own.plan)
 
 pub post_all-requires-clause-most : goal.post_all-requires-clause-most
 post_all-requires-clause-most g c =
@@ -55,11 +62,11 @@ returns-in-Ok-clause-round g c =
     let tick : ℕ = c.args.moment / 100 in
     let d = c.in-Ok.decision in
     let tree = seen d.sealed.tree in
-    let plan = subst (λ (xs : List Asker). IsPlan rates tick xs tree d.lanes.items) c.as_slice.ensures.asks c.in-Ok.ensures.plan in
+    let own = subst (λ (xs : List Asker). IsAskedPlan rates tick xs tree d.lanes.items d.asks.items) c.as_slice.ensures.asks c.in-Ok.ensures.plan in
     let new = turns c.post_all.new.round in
     let is : new ≡ posted_all d.lanes.items d.sealed.grants mid = c.post_all.ensures.posted ∙ (λ q. posted_all (c.deref.ensures.value q) (c.grants.ensures.grants q) mid) in
-    subst (λ (n : ℕ). IsRound rates tick old new n tree d.lanes.items d.sealed.grants) (sym c.answered-answered.ensures.answered)
-    (rounded rates tick tree d.lanes.items d.sealed.grants t.0 old mid new asks marks t.1 c.requires.answered plan c.in-Ok.ensures.each is)
+    subst (λ (n : ℕ). IsRound rates tick old new n tree d.lanes.items d.asks.items d.sealed.grants) (sym c.answered-answered.ensures.answered)
+    (rounded rates tick tree d.lanes.items d.asks.items d.sealed.grants t.0 old mid new asks marks t.1 c.requires.answered own c.in-Ok.ensures.each is)
 
 pub returns-in-Ok-clause-answered : goal.returns-in-Ok-clause-answered
 returns-in-Ok-clause-answered g c =
@@ -72,10 +79,10 @@ returns-in-Ok-clause-answered g c =
     let tick : ℕ = c.args.moment / 100 in
     let d = c.in-Ok.decision in
     let tree = seen d.sealed.tree in
-    let plan = subst (λ (xs : List Asker). IsPlan rates tick xs tree d.lanes.items) c.as_slice.ensures.asks c.in-Ok.ensures.plan in
+    let own = subst (λ (xs : List Asker). IsAskedPlan rates tick xs tree d.lanes.items d.asks.items) c.as_slice.ensures.asks c.in-Ok.ensures.plan in
     let new = turns c.post_all.new.round in
     let is : new ≡ posted_all d.lanes.items d.sealed.grants mid = c.post_all.ensures.posted ∙ (λ q. posted_all (c.deref.ensures.value q) (c.grants.ensures.grants q) mid) in
-    answered_round rates tick tree d.lanes.items d.sealed.grants old new marks (rounded rates tick tree d.lanes.items d.sealed.grants t.0 old mid new asks marks t.1 c.requires.answered plan c.in-Ok.ensures.each is) c.requires.answered
+    answered_round rates tick tree d.lanes.items d.asks.items d.sealed.grants old new marks (rounded rates tick tree d.lanes.items d.asks.items d.sealed.grants t.0 old mid new asks marks t.1 c.requires.answered own c.in-Ok.ensures.each is) c.requires.answered
 
 pub returns-in-Ok-clause-total : goal.returns-in-Ok-clause-total
 returns-in-Ok-clause-total g c =
@@ -88,10 +95,10 @@ returns-in-Ok-clause-total g c =
     let tick : ℕ = c.args.moment / 100 in
     let d = c.in-Ok.decision in
     let tree = seen d.sealed.tree in
-    let plan = subst (λ (xs : List Asker). IsPlan rates tick xs tree d.lanes.items) c.as_slice.ensures.asks c.in-Ok.ensures.plan in
+    let own = subst (λ (xs : List Asker). IsAskedPlan rates tick xs tree d.lanes.items d.asks.items) c.as_slice.ensures.asks c.in-Ok.ensures.plan in
     let new = turns c.post_all.new.round in
     let is : new ≡ posted_all d.lanes.items d.sealed.grants mid = c.post_all.ensures.posted ∙ (λ q. posted_all (c.deref.ensures.value q) (c.grants.ensures.grants q) mid) in
-    round_total rates tick tree d.lanes.items d.sealed.grants t.0 old mid new asks marks t.1 c.requires.answered plan c.in-Ok.ensures.each is
+    round_total rates tick tree d.lanes.items d.sealed.grants t.0 old mid new asks marks t.1 c.requires.answered own.plan c.in-Ok.ensures.each is
 
 pub returns-in-Err-clause-refused : goal.returns-in-Err-clause-refused
 returns-in-Err-clause-refused g c =

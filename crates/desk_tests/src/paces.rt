@@ -1,0 +1,144 @@
+//! Two lanes whose rounds have a pace, at moments of the test.
+
+ghost use Rattle.std.specs.Prelude.{◌≡◌, []};
+ghost use Rattle.lane_desk.specs.Seats.{IsSeatOf};
+ghost use Rattle.lane_desk.specs.Turns.{back, IsRoundOf};
+
+use super::expect::{OfTest, down, holds};
+use grant_ledger::{Book, Settled};
+use lane_desk::{Desk, RoundRefusal, Rounds, open_desk};
+use line_rates::{Limits, UserRate, Way};
+use linked_list_allocator::LocalHeap;
+use paced_rounds::PacedRounds;
+use round_pace::{Due, Pace};
+use std::process::Abort;
+use test_checked_desk::{OwnSeat, settle_two, two_seats};
+use test_scarce_memory::{HEAP, leave_hole};
+
+/// A desk of two lanes, whose workers sit, with its rounds.
+struct PacedDesk {
+    desk: Desk<OfTest>,
+    first: OwnSeat<OfTest>,
+    second: OwnSeat<OfTest>,
+    rounds: PacedRounds<OfTest>,
+    ghost two: { desk.lanes ≡ 2 },
+    ghost led: { IsRoundOf desk rounds.rounds.desk × (back rounds.rounds.desk ≡ []) },
+    ghost first_is: { IsSeatOf desk first.seat × (first.seat.lane ≡ 0) },
+    ghost second_is: { IsSeatOf desk second.seat × (second.seat.lane ≡ 1) },
+}
+
+// Two octets per tick of the pace, of which user 7 gets at most one.
+fn limits(rt: &(impl Abort + AllocGlobal)) -> Limits {
+    let mut users = Vec::new(rt.alloc());
+    users
+        .push(UserRate {
+            user: 7,
+            group: None,
+            down: 500,
+            up: 0,
+            session_down: 0,
+            session_up: 0,
+            session_down_floor: 0,
+            session_up_floor: 0,
+        })
+        .expect(rt, "memory");
+    Limits::of(1_000, 0, 0, Vec::new(rt.alloc()), users).expect(rt, "limits")
+}
+
+impl PacedDesk {
+    fn open(rt: &(impl Abort + AllocGlobal)) -> PacedDesk {
+        let pace = Pace::of(rt.alloc(), limits(rt), 0).expect(rt, "a pace");
+        let (book, mut tally) = Book::<OfTest>::open(0);
+        match open_desk(rt.alloc(), 2, &book) {
+            Ok((desk, round, seats)) => {
+                let Some((first, second)) = two_seats(&desk, seats) else {
+                    panic!(rt; "no seats")
+                };
+                let mut first = OwnSeat::new(first, &mut tally);
+                let mut second = OwnSeat::new(second, &mut tally);
+                holds(rt, first.sit(&desk) && second.sit(&desk));
+                PacedDesk {
+                    desk,
+                    first,
+                    second,
+                    rounds: PacedRounds::new(Rounds::new(round, book, tally), pace, 0),
+                }
+            }
+            Err(_) => panic!(rt; "no desk"),
+        }
+    }
+
+    // Users 7 and 8 ask.
+    fn ask_both(&mut self, rt: &impl Abort) {
+        holds(rt, self.first.ask(&self.desk, down(7, 10)));
+        holds(rt, self.second.ask(&self.desk, down(8, 10)));
+    }
+
+    // Returns whether both take these grants.
+    fn take_both(&mut self, grants: (u64, u64)) -> bool {
+        self.first.take(&self.desk, 10) == Some(grants.0)
+            && self.second.take(&self.desk, 10) == Some(grants.1)
+    }
+
+    // Both ask, a round is held at a moment, and both take their grants. Returns whether they are these.
+    fn shares(&mut self, rt: &(impl Abort + AllocGlobal), now: u64, grants: (u64, u64)) -> bool {
+        self.ask_both(rt);
+        match self.rounds.hold(rt.alloc(), &self.desk, now) {
+            Ok(record) => holds(
+                rt,
+                record.asks.as_slice() == [down(7, 10), down(8, 10)].as_slice(),
+            ),
+            Err(_) => panic!(rt; "a round was refused"),
+        }
+        self.take_both(grants)
+    }
+
+    // A round without memory answers both with 0 octets.
+    fn is_refused(&mut self, rt: &(impl Abort + AllocGlobal), now: u64) -> bool {
+        let heap = LocalHeap::new(rt.alloc(), HEAP).expect(rt, "a heap");
+        let _rest = leave_hole(rt, &heap, 0).expect(rt, "no hole");
+        self.ask_both(rt);
+        match self.rounds.hold(&heap, &self.desk, now) {
+            Ok(_) => panic!(rt; "a round without memory"),
+            Err(fault) => holds(
+                rt,
+                fault.reason == RoundRefusal::Memory && fault.answered == 3,
+            ),
+        }
+        self.take_both((0, 0))
+    }
+
+    fn close(self, rt: &(impl Abort + AllocGlobal)) -> Settled {
+        let PacedDesk {
+            desk,
+            mut first,
+            mut second,
+            rounds,
+        } = self;
+        holds(rt, first.rise(&desk) && second.rise(&desk));
+        let room = Vec::with_capacity(rt.alloc(), 2).expect(rt, "memory");
+        settle_two(desk, rounds.into_rounds(), first, second, room)
+    }
+}
+
+#[test]
+fn rounds_keep_the_rates_of_their_pace(rt: HostRuntime) {
+    let mut paced = PacedDesk::open(&rt);
+    holds(&rt, paced.shares(&rt, 0, (1, 1)));
+    // in the same tick nothing is left; a tick without a round is made up for
+    holds(&rt, paced.shares(&rt, 1_999, (0, 0)));
+    holds(&rt, paced.shares(&rt, 4_000, (2, 2)));
+    // an earlier moment counts as the last one
+    holds(&rt, paced.shares(&rt, 0, (0, 0)));
+    holds(&rt, paced.rounds.due(4_000) == Due::At(6_000));
+    holds(
+        &rt,
+        paced.rounds.due_for(Way::Down, 7, 4_000) == Due::At(6_000),
+    );
+    // a refused round takes nothing from what is left
+    holds(&rt, paced.is_refused(&rt, 6_000));
+    holds(&rt, paced.shares(&rt, 6_000, (1, 1)));
+    holds(&rt, paced.rounds.issued() == 8);
+    let settled = paced.close(&rt);
+    holds(&rt, settled.issued == 8 && settled.moved == 8);
+}

@@ -1,0 +1,16 @@
+use Rattle.std.proofs.Common.{◌≡◌, refl, ap, ◌∙◌}
+use Rattle.std.specs.Prelude.{max}
+use Rattle.paced_rounds.specs.History.{round_at, history}
+use Rattle.lent_parts.proofs.MomentLemmas.{later_passes, moments_more}
+use Rattle.lent_parts.proofs.rounds.LentRounds.hold.Goals as goal
+
+pub invariant_of-self-clause-moments : goal.invariant_of-self-clause-moments
+invariant_of-self-clause-moments g c =
+    let old = c.args.self.now in
+    moments_more g.B.PartsName.when (history old.rounds.log.items) (history c.hold.new.self.log.items) c.args.now old.rounds.latest (round_at (max c.args.now old.rounds.latest) c.hold.result) old.moments c.requires.when old.last refl
+    c.hold.ensures.grows
+
+pub invariant_of-self-clause-last : goal.invariant_of-self-clause-last
+invariant_of-self-clause-last g c =
+    let old = c.args.self.now in
+    ap g.B.PartsName.when c.hold.ensures.latest ∙ later_passes g.B.PartsName.when c.args.now old.rounds.latest c.requires.when old.last

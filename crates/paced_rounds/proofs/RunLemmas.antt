@@ -1,0 +1,179 @@
+-- Steps of a history.
+use Rattle.std.proofs.Common.{◌≡◌, ◌≢◌, ℕ, zero, suc, ◌+◌, ◌/◌, ◌<◌, ◌≤◌, List, [], ◌∷◌, ◌++◌, map, drop, length, get_or, sum, sym, refl, ap, ◌∙◌, subst, arith, Some, Option, Result, Ok, Err}
+use Rattle.std.specs.Prelude.{sum_by, IfOk, OnErr}
+use Rattle.std.proofs.Math.Logic.{∥∥₁_map, ∥∥₁_elim}
+use Rattle.std.proofs.Props.{props}
+use Rattle.std.proofs.lemmas.List.{map-append, append_assoc}
+use Rattle.std.proofs.lemmas.List.Sums.{sum_by_push, sum-map}
+use Rattle.limit_tree.specs.Outline.{limits as seen}
+use Rattle.limit_tree.specs.Sharing.{LimitTree, IsBest}
+use Rattle.line_rates.specs.declared.ask.Ask.{Ask}
+use Rattle.line_rates.specs.declared.ask.Name.{Name}
+use Rattle.line_rates.specs.Granted.{Granted, granted_ask, granted_octets, granted_under, GrantsKeepNames}
+use Rattle.line_rates.specs.Names.{want_of}
+use Rattle.line_rates.specs.Rates.{Rates}
+use Rattle.line_rates.specs.TickTree.{ask_in, IsTickTree}
+use Rattle.desk_rule.specs.declared.view.TurnView.{TurnView}
+use Rattle.lane_desk.specs.declared.record.RoundRecord.{RoundRecord}
+use Rattle.lane_desk.specs.declared.record.RoundFault.{RoundFault}
+use Rattle.lane_desk.specs.Rounded.{IsRound}
+use Rattle.lane_desk.proofs.PostedLemmas.{drops}
+use Rattle.round_pace.specs.Earned.{tick_of}
+use Rattle.round_pace.specs.Offered.{offer_round}
+use Rattle.round_pace.specs.Paced.{Paced, IsPacedFrom}
+use Rattle.round_pace.specs.Histories.{Held, take_one, take_all, after, after_all, KeepsLimits, IsHeld, AreHeld, rates_of, KeepsRates, HistoriesKeepRates, RatesStay, NewRates, TicksBegin}
+use Rattle.paced_rounds.specs.History.{leaves, granted_by, round_at, octets_of, Entry, granted_in, held_in, history, IsRun}
+
+abbrev pub Outcome : Type 0 → Type 0
+Outcome A = Result (RoundRecord A) RoundFault
+
+-- asks with their grants
+pub leaves-asks : (xs : List Ask) (ns : List ℕ) → length xs ≡ length ns → map granted_ask (leaves xs ns) ≡ xs
+leaves-asks [] ns e = refl
+leaves-asks (x ∷ xs) [] e = absurd (omega (arith, e))
+leaves-asks (x ∷ xs) (n ∷ ns) e = ap (λ (l : List Ask). x ∷ l) (leaves-asks xs ns (omega (arith, e)))
+
+pub leaves-octets : (xs : List Ask) (ns : List ℕ) → length xs ≡ length ns → map granted_octets (leaves xs ns) ≡ ns
+leaves-octets [] [] e = refl
+leaves-octets [] (n ∷ ns) e = absurd (omega (arith, e))
+leaves-octets (x ∷ xs) [] e = absurd (omega (arith, e))
+leaves-octets (x ∷ xs) (n ∷ ns) e = ap (λ (l : List ℕ). n ∷ l) (leaves-octets xs ns (omega (arith, e)))
+
+pub take_next : (xs : List Ask) (ns : List ℕ) (d : Ask) (i : ℕ) (p q : Paced) → i < length xs → length xs ≡ length ns → q ≡ take_one p (record { ask = get_or xs i d; octets = get_or ns i 0 })
+    → take_all (leaves (drop (i + 1) xs) (drop (i + 1) ns)) q ≡ take_all (leaves (drop i xs) (drop i ns)) p
+take_next xs ns d i p q h e is =
+    ap (take_all (leaves (drop (i + 1) xs) (drop (i + 1) ns))) is
+    ∙ (λ k. take_all (leaves (sym (drops xs d i h) k) (sym (drops ns 0 i (omega (arith, h, e))) k)) p)
+
+-- one round more
+after_more : (p : Paced) (hs : List Held) (h : Held) → after_all p (hs ++ h ∷ []) ≡ after (after_all p hs) h
+after_more p [] h = refl
+after_more p (x ∷ hs) h = after_more (after p x) hs h
+
+held_more : (p : Paced) (hs : List Held) (h : Held) → AreHeld p hs → IsHeld (after_all p hs) h → AreHeld p (hs ++ h ∷ [])
+held_more p [] h are is = (is, tt)
+held_more p (x ∷ hs) h are is = (are.0, held_more (after p x) hs h are.1 is)
+
+run_next : TicksBegin → (p q : Paced) (latest : ℕ) (hs : List Held) (h : Held) → latest ≤ h.now → KeepsLimits (offer_round (tick_of h.now) p).offered ((offer_round (tick_of h.now) p).moment / 100) h.leaves → q ≡ after p h → IsRun p latest hs → IsRun q h.now (hs ++ h ∷ [])
+run_next ticks p q latest hs h later kept is r =
+    let soon : p.begun ≤ tick_of h.now + 1 = omega (arith, later, r.near) in
+    let held : IsHeld p h = record { later = soon; kept = kept } in
+    record {
+      begun = r.begun;
+      rates = r.rates;
+      first = r.first;
+      from = r.from;
+      held = held_more r.first hs h r.held (subst (λ (x : Paced). IsHeld x h) r.is held);
+      is = is ∙ ap (λ (x : Paced). after x h) r.is ∙ sym (after_more r.first hs h);
+      near = (let e : q.begun ≡ tick_of h.now + 1 = ap (λ (x : Paced). x.begun) is ∙ ticks p h soon in omega (arith, e));
+    }
+
+pub run_more : TicksBegin → (p q : Paced) (latest : ℕ) (hs new : List Held) (h : Held) → latest ≤ h.now
+    → KeepsLimits (offer_round (tick_of h.now) p).offered ((offer_round (tick_of h.now) p).moment / 100) h.leaves → q ≡ after p h → new ≡ hs ++ h ∷ [] → ∥ IsRun p latest hs ∥₁ → ∥ IsRun q h.now new ∥₁
+run_more ticks p q latest hs new h later kept is e old =
+    ∥∥₁_map old (λ r. subst (IsRun q h.now) (sym e) (run_next ticks p q latest hs h later kept is r))
+
+-- the log with one round more
+pub grown : (items new : List Entry) (x : Entry) (h : Held) → new ≡ items ++ x ∷ [] → held_in x ≡ h → history new ≡ history items ++ h ∷ []
+grown items new x h e is = ap history e ∙ map-append held_in items (x ∷ []) ∙ ap (λ (y : Held). history items ++ y ∷ []) is
+
+pub taken_next : (xs : List Ask) (ns : List ℕ) (d : Ask) (i : ℕ) (old new : List (Ask × ℕ)) → i < length xs → length xs ≡ length ns → new ≡ old ++ (get_or xs i d, get_or ns i 0) ∷ []
+    → map granted_in new ++ leaves (drop (i + 1) xs) (drop (i + 1) ns) ≡ map granted_in old ++ leaves (drop i xs) (drop i ns)
+taken_next xs ns d i old new h e is =
+    ap (λ (l : List (Ask × ℕ)). map granted_in l ++ leaves (drop (i + 1) xs) (drop (i + 1) ns)) is
+    ∙ ap (λ (l : List Granted). l ++ leaves (drop (i + 1) xs) (drop (i + 1) ns)) (map-append granted_in old ((get_or xs i d, get_or ns i 0) ∷ []))
+    ∙ append_assoc (map granted_in old) (granted_in (get_or xs i d, get_or ns i 0) ∷ []) (leaves (drop (i + 1) xs) (drop (i + 1) ns))
+    ∙ (λ k. map granted_in old ++ leaves (sym (drops xs d i h) k) (sym (drops ns 0 i (omega (arith, h, e))) k))
+
+-- what a round grants keeps the limits
+pub keeps : GrantsKeepNames → (rates : Rates) (tick : ℕ) (old new : List TurnView) (marks : ℕ) (tree : LimitTree) (lanes : List ℕ) (asks : List Ask) (grants : List ℕ) → IsRound rates tick old new marks tree lanes asks grants → IsBest tree grants
+    → (length asks ≡ length grants) × KeepsLimits rates tick (leaves asks grants)
+keeps law rates tick old new marks tree lanes asks grants round best =
+    let tree_of : IsTickTree rates tick asks tree = subst (λ (xs : List Ask). IsTickTree rates tick xs tree) (sym round.asks_are) round.plan.tree in
+    let each : length asks ≡ length grants = sym (best.within.wanted.leaves ∙ ap length tree_of.wants ∙ long want_of asks) in (
+      each,
+      law rates tick tree (leaves asks grants)
+          (subst (λ (xs : List Ask). IsTickTree rates tick xs tree) (sym (leaves-asks asks grants each)) tree_of)
+          (subst (λ (ns : List ℕ). Rattle.limit_tree.specs.Sharing.IsWithin tree ns) (sym (leaves-octets asks grants each)) best.within),
+    )
+  where
+    long : (f : Ask → ℕ) (xs : List Ask) → length (map f xs) ≡ length xs
+    long f [] = refl
+    long f (x ∷ xs) = ap suc (long f xs)
+
+pub keeps_none : (rates : Rates) (tick : ℕ) → KeepsLimits rates tick []
+keeps_none rates tick n most e = omega arith
+
+-- the octets of a round, and of one round more
+pub octets_granted : (asks : List Ask) (grants : List ℕ) → length asks ≡ length grants → sum_by granted_octets (leaves asks grants) ≡ sum grants
+octets_granted asks grants e = sym (sum-map granted_octets (leaves asks grants)) ∙ ap sum (leaves-octets asks grants e)
+
+pub sum_more : (hs new : List Held) (h : Held) → new ≡ hs ++ h ∷ [] → sum_by octets_of new ≡ sum_by octets_of hs + octets_of h
+sum_more hs new h e = ap (sum_by octets_of) e ∙ sum_by_push octets_of hs h
+
+-- a run keeps the rates of its pace
+rates_all : RatesStay → (p : Paced) (hs : List Held) → rates_of (after_all p hs) ≡ rates_of p
+rates_all stay p [] = refl
+rates_all stay p (h ∷ hs) = rates_all stay (after p h) hs ∙ stay p h
+
+run_keeps : HistoriesKeepRates → RatesStay → NewRates → (p : Paced) (latest : ℕ) (hs : List Held) → IsRun p latest hs → KeepsRates (rates_of p) hs
+run_keeps law stay new p latest hs r =
+    subst (λ (x : Rates). KeepsRates x hs) (sym (ap rates_of r.is ∙ rates_all stay r.first hs ∙ new r.begun r.rates r.first r.from)) (law r.begun r.rates r.first hs r.from r.held)
+
+keeps-prop : (rates : Rates) (hs : List Held) → IsProp (KeepsRates rates hs)
+keeps-prop rates hs = hlevel props
+
+pub keeps_rates : HistoriesKeepRates → RatesStay → NewRates → (p : Paced) (latest : ℕ) (hs : List Held) → ∥ IsRun p latest hs ∥₁ → KeepsRates (rates_of p) hs
+keeps_rates law stay new p latest hs run = ∥∥₁_elim run (keeps-prop (rates_of p) hs) (run_keeps law stay new p latest hs)
+
+-- no round yet
+pub run_new : (now : ℕ) (rates : Rates) (p : Paced) (items : List Entry) → IsPacedFrom (tick_of now) rates p → items ≡ [] → ∥ IsRun p now (history items) ∥₁
+run_new now rates p items from e =
+    subst (λ (l : List Entry). ∥ IsRun p now (history l) ∥₁) (sym e)
+    ∣ record {
+      begun = tick_of now;
+      rates = rates;
+      first = p;
+      from = from;
+      held = tt;
+      is = refl;
+      near = (let f : p.begun ≡ tick_of now = ap (λ (q : Paced). q.begun) from.is in omega (arith, f));
+    } ∣₁
+
+-- What a round leads to: it keeps the limits, each grant is subtracted from the rows of its ask and
+-- is in the log, and the book issues what is granted.
+pub record Leads {A : Type 0} (p q : Paced) (now old new : ℕ) (taken : List (Ask × ℕ)) (out : Outcome A) : Type 0 where
+  pub kept : KeepsLimits (offer_round (tick_of now) p).offered ((offer_round (tick_of now) p).moment / 100) (granted_by out)
+  pub is : q ≡ after p (round_at now out)
+  pub log : map granted_in taken ≡ granted_by out
+  pub issued : new ≡ old + octets_of (round_at now out)
+
+pub leads_ok : {A : Type 0} → GrantsKeepNames → (p o q : Paced) (now moment before issued : ℕ) (rates : Rates) (taken : List (Ask × ℕ)) (out : Outcome A) (r : RoundRecord A) (old new : List TurnView) (xs : List Ask) (ns : List ℕ) → out ≡ Ok r
+    → o ≡ offer_round (tick_of now) p → rates ≡ o.offered → moment ≡ o.moment
+    → IfOk out (λ r. IsRound rates (moment / 100) old new r.answered (seen r.sealed.tree) r.lanes.items r.asks.items r.sealed.grants) → IfOk out (λ r. IsBest (seen r.sealed.tree) r.sealed.grants)
+    → xs ≡ r.asks.items → ns ≡ r.sealed.grants → q ≡ take_all (leaves xs ns) o → map granted_in taken ≡ leaves xs ns → IfOk out (λ r. issued ≡ before + sum r.sealed.grants) → Leads p q now before issued taken out
+leads_ok {A} law p o q now moment before issued rates taken out r old new xs ns is offered limits at rounded bests asks grants charged logged tells =
+    let round : IsRound rates (moment / 100) old new r.answered (seen r.sealed.tree) r.lanes.items r.asks.items r.sealed.grants =
+    subst (λ (x : Outcome A). IfOk x (λ r. IsRound rates (moment / 100) old new r.answered (seen r.sealed.tree) r.lanes.items r.asks.items r.sealed.grants)) is rounded in
+    let best : IsBest (seen r.sealed.tree) r.sealed.grants = subst (λ (x : Outcome A). IfOk x (λ r. IsBest (seen r.sealed.tree) r.sealed.grants)) is bests in
+    let told : issued ≡ before + sum r.sealed.grants = subst (λ (x : Outcome A). IfOk x (λ r. issued ≡ before + sum r.sealed.grants)) is tells in
+    let kept = keeps law rates (moment / 100) old new r.answered (seen r.sealed.tree) r.lanes.items r.asks.items r.sealed.grants round best in
+    subst (Leads p q now before issued taken) (sym is) (record {
+      kept = subst (λ (z : Rates × ℕ). KeepsLimits z.0 (z.1 / 100) (leaves r.asks.items r.sealed.grants)) (λ i. ((limits ∙ ap (λ (x : Paced). x.offered) offered) i, (at ∙ ap (λ (x : Paced). x.moment) offered) i)) kept.1;
+      is = charged ∙ (λ i. take_all (leaves (asks i) (grants i)) (offered i));
+      log = logged ∙ (λ i. leaves (asks i) (grants i));
+      issued = told ∙ ap (λ (n : ℕ). before + n) (sym (octets_granted r.asks.items r.sealed.grants kept.0));
+    })
+
+pub leads_err : {A : Type 0} → (p o q : Paced) (now before issued : ℕ) (taken : List (Ask × ℕ)) (out : Outcome A) (f : RoundFault) → out ≡ Err f → o ≡ offer_round (tick_of now) p → q ≡ o → taken ≡ [] → OnErr out (issued ≡ before) → Leads p q now before issued taken out
+leads_err {A} p o q now before issued taken out f is offered same none tells =
+    let told : issued ≡ before = subst (λ (x : Outcome A). OnErr x (issued ≡ before)) is tells in
+    subst (Leads p q now before issued taken) (sym is) (record {
+      kept = keeps_none (offer_round (tick_of now) p).offered ((offer_round (tick_of now) p).moment / 100);
+      is = same ∙ offered;
+      log = ap (map granted_in) none;
+      issued = told ∙ (let e : before ≡ before + 0 = omega arith in e);
+    })
+
+pub told_more : (before issued carried : ℕ) (hs new : List Held) (h : Held) → before ≡ carried + sum_by octets_of hs → new ≡ hs ++ h ∷ [] → issued ≡ before + octets_of h → issued ≡ carried + sum_by octets_of new
+told_more before issued carried hs new h told e grants = omega (arith, told, grants, sum_more hs new h e)

@@ -1,0 +1,56 @@
+use Rattle.std.proofs.Common.{◌≡◌, ◌≤◌, ◌++◌, [], ◌∷◌, ℕ, map, ap, ◌∙◌, sym, refl, arith, Result, Ok, Err, OnErr}
+use Rattle.grant_ledger.specs.Books.{BookView}
+use Rattle.round_pace.specs.Histories.{rates_of}
+use Rattle.paced_rounds.specs.History.{granted_in, round_at, history}
+use Rattle.lane_desk.specs.Turns.{turns}
+use Rattle.paced_rounds.proofs.RunLemmas.{Leads, leads_ok, leads_err, grown, run_more, told_more}
+use Rattle.paced_rounds.proofs.rounds.PacedRounds.hold.Goals as goal
+use Rattle.paced_rounds.proofs.rounds.PacedRounds.hold.Goals.{in-Ok, in-Err}
+
+on_err : {A B : Type 0} (old new : BookView) (x : Result A B) → OnErr x (new ≡ old) → OnErr x (new.issued ≡ old.issued)
+on_err old new (Ok r) h = h
+on_err old new (Err f) h = ap (λ (b : BookView). b.issued) h
+
+pub invariant_of-self : goal.invariant_of-self
+invariant_of-self g c =
+    let old = c.args.self.now in
+    let now : ℕ = c.max-now.result in
+    let new = c.round-result.new.self in
+    let pace = c.match-result.self.1.1.0 in
+    let taken = c.match-result.taken.items in
+    let out = c.round-result.result in
+    let leads : Leads old.pace pace now old.rounds.book.issued new.book.issued taken out =
+    elim c.match-result.branch [
+      | in-Ok w ↦ leads_ok c.grants_keep_names.ensures.kept old.pace c.offer-moment.new.self pace now c.offer-moment.result old.rounds.book.issued new.book.issued c.limits.result.now taken out w.in-Ok.made
+          (turns old.rounds.desk) (turns new.desk) w.deref.result.now w.grants.result.now w.in-Ok.is c.offer-moment.ensures.round c.limits.ensures.limits c.offer-moment.ensures.moment
+          c.round-result.ensures.round c.round-result.ensures.best w.deref.ensures.value w.grants.ensures.grants (ap (λ s. s.1.1.0) w.self-is ∙ w.charge-taken.ensures.taken)
+          (ap (λ l. map granted_in l.items) w.taken-is ∙ w.charge-taken.ensures.log) c.round-result.ensures.issued
+      | in-Err w ↦ leads_err old.pace c.offer-moment.new.self pace now old.rounds.book.issued new.book.issued taken out w.in-Err.field-0
+          w.in-Err.is c.offer-moment.ensures.round (ap (λ s. s.1.1.0) w.self-is) (ap (λ l. l.items) w.taken-is ∙ w.new-taken.ensures.none) (on_err old.rounds.book new.book out c.round-result.ensures.unchanged)
+    ] in
+    let later : old.latest ≤ now = omega (arith, c.max-now.ensures) in
+    let more : history c.and-self.result.items ≡ history old.log.items ++ round_at now out ∷ [] =
+    grown old.log.items c.and-self.result.items (now, c.match-result.taken) (round_at now out) c.and-self.ensures.more (λ i. record { now = now; leaves = leads.log i }) in
+    record {
+      run = run_more c.histories_keep_rates.ensures.begin old.pace pace old.latest (history old.log.items) (history c.and-self.result.items) (round_at now out) later leads.kept leads.is more old.run;
+      told = told_more old.rounds.book.issued new.book.issued old.carried (history old.log.items) (history c.and-self.result.items) (round_at now out) old.told more leads.issued;
+    }
+
+pub returns-clause-rates : goal.returns-clause-rates
+returns-clause-rates g c =
+    let old = c.args.self.now in
+    let now : ℕ = c.max-now.result in
+    let new = c.round-result.new.self in
+    let pace = c.match-result.self.1.1.0 in
+    let taken = c.match-result.taken.items in
+    let out = c.round-result.result in
+    let leads : Leads old.pace pace now old.rounds.book.issued new.book.issued taken out =
+    elim c.match-result.branch [
+      | in-Ok w ↦ leads_ok c.grants_keep_names.ensures.kept old.pace c.offer-moment.new.self pace now c.offer-moment.result old.rounds.book.issued new.book.issued c.limits.result.now taken out w.in-Ok.made
+          (turns old.rounds.desk) (turns new.desk) w.deref.result.now w.grants.result.now w.in-Ok.is c.offer-moment.ensures.round c.limits.ensures.limits c.offer-moment.ensures.moment
+          c.round-result.ensures.round c.round-result.ensures.best w.deref.ensures.value w.grants.ensures.grants (ap (λ s. s.1.1.0) w.self-is ∙ w.charge-taken.ensures.taken)
+          (ap (λ l. map granted_in l.items) w.taken-is ∙ w.charge-taken.ensures.log) c.round-result.ensures.issued
+      | in-Err w ↦ leads_err old.pace c.offer-moment.new.self pace now old.rounds.book.issued new.book.issued taken out w.in-Err.field-0
+          w.in-Err.is c.offer-moment.ensures.round (ap (λ s. s.1.1.0) w.self-is) (ap (λ l. l.items) w.taken-is ∙ w.new-taken.ensures.none) (on_err old.rounds.book new.book out c.round-result.ensures.unchanged)
+    ] in
+    ap rates_of leads.is ∙ c.histories_keep_rates.ensures.stay old.pace (round_at now out)

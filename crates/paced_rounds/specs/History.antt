@@ -1,0 +1,54 @@
+-- The history of paced rounds.
+use Rattle.std.specs.Prelude.{◌≡◌, ℕ, ◌+◌, ◌≤◌, List, [], ◌∷◌, map, sum_by, Result, Ok, Err}
+use Rattle.line_rates.specs.declared.ask.Ask.{Ask}
+use Rattle.line_rates.specs.Granted.{Granted, granted_octets}
+use Rattle.line_rates.specs.Rates.{Rates}
+use Rattle.lane_desk.specs.declared.record.RoundRecord.{RoundRecord}
+use Rattle.lane_desk.specs.declared.record.RoundFault.{RoundFault}
+use Rattle.proof_log.specs.declared.log.ProofLog.{ProofLog}
+use Rattle.round_pace.specs.Earned.{tick_of}
+use Rattle.round_pace.specs.Histories.{Held, after_all, AreHeld}
+use Rattle.round_pace.specs.Paced.{Paced, IsPacedFrom}
+
+-- each ask with its grant
+abbrev pub leaves : List Ask → List ℕ → List Granted
+leaves [] ns = []
+leaves (x ∷ xs) [] = []
+leaves (x ∷ xs) (n ∷ ns) = record { ask = x; octets = n } ∷ leaves xs ns
+
+-- the asks that a round answered, with their grants; a refused round grants nothing
+abbrev pub granted_by : {A : Type 0} → Result (RoundRecord A) RoundFault → List Granted
+granted_by (Ok r) = leaves r.asks.items r.sealed.grants
+granted_by (Err f) = []
+
+-- a round by its moment and its result
+abbrev pub round_at : {A : Type 0} → ℕ → Result (RoundRecord A) RoundFault → Held
+round_at now out = record { now = now; leaves = granted_by out }
+
+-- the octets that a round granted
+abbrev pub octets_of : Held → ℕ
+octets_of h = sum_by granted_octets h.leaves
+
+-- a round in the log: its moment, and each ask with the grant that was subtracted for it
+abbrev pub Entry : Type 0
+Entry = ℕ × ProofLog Ask ℕ
+
+abbrev pub granted_in : Ask × ℕ → Granted
+granted_in x = record { ask = x.0; octets = x.1 }
+
+abbrev pub held_in : Entry → Held
+held_in x = record { now = x.0; leaves = map granted_in x.1.items }
+
+-- the rounds of the log
+abbrev pub history : List Entry → List Held
+history items = map held_in items
+
+-- The pace is what the rounds left of a new one, and each kept the limits that it was offered.
+pub record IsRun (p : Paced) (latest : ℕ) (hs : List Held) : Type 0 where
+  pub begun : ℕ
+  pub rates : Rates
+  pub first : Paced
+  pub from : IsPacedFrom begun rates first
+  pub held : AreHeld first hs
+  pub is : p ≡ after_all first hs
+  pub near : p.begun ≤ tick_of latest + 1

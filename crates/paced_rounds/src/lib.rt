@@ -1,0 +1,15 @@
+//! Rounds of a desk at a pace, with the history of what they granted.
+//!
+//! [`PacedRounds`] are the rounds of a desk with their pace, and a history that only proofs read. [`PacedRounds::hold`]
+//! has the pace offer a moment and limits, holds the round, and subtracts each grant from exactly the rows of the ask that
+//! it answers. So for whoever has them, whatever was done with them before: in each second of the clock the rounds granted
+//! under each name with a rate at most that rate ([`PacedRounds::rates_are_kept`]), and the octets granted are those that
+//! the book issued.
+#![tactic(auto)]
+
+mod charge;
+mod laws;
+mod rounds;
+
+pub use laws::seconds_are_kept;
+pub use rounds::PacedRounds;

@@ -1,0 +1,155 @@
+//! The rounds of a desk at a pace.
+
+ghost use Rattle.std.specs.Prelude.{◌≡◌, ◌+◌, ◌/◌, ◌++◌, [], ◌∷◌, max, Some, sum, sum_by, IfOk, IfErr, OnOk, OnErr};
+ghost use Rattle.limit_tree.specs.Outline.{limits as seen};
+ghost use Rattle.limit_tree.specs.Sharing.{IsBest};
+ghost use Rattle.line_rates.specs.Rates.{Rates};
+ghost use Rattle.lane_desk.specs.Turns.{turns, IsRoundOf, IsSameRound};
+ghost use Rattle.lane_desk.specs.Rounded.{IsRound, IsRefusedRound};
+ghost use Rattle.round_pace.specs.Earned.{tick_of};
+ghost use Rattle.round_pace.specs.Offered.{offer_round, due_in};
+ghost use Rattle.round_pace.specs.Paced.{IsPacedFrom};
+ghost use Rattle.round_pace.specs.Spent.{due_for_in};
+ghost use Rattle.round_pace.specs.Histories.{rates_of, after, KeepsRates};
+ghost use Rattle.paced_rounds.specs.History.{round_at, history, octets_of, IsRun};
+
+use crate::charge::charge;
+use grant_ledger::Tally;
+use lane_desk::{Desk, RoundFault, RoundRecord, Rounds};
+use line_rates::{Ask, Way, grants_keep_names};
+use proof_log::ProofLog;
+use round_pace::{Due, Pace, histories_keep_rates};
+use std::alloc::{Allocator, Global};
+
+/// The rounds of a desk with their pace. The log has the moment of each round, and the asks
+/// that it answered with their grants. They cannot be dropped.
+pub struct PacedRounds<N, A: Allocator = Global> {
+    rounds: Rounds<N>,
+    pace: Pace<A>,
+    /// The moment of the last round, in microseconds.
+    latest: u64,
+    /// The octets issued before the first round.
+    carried: u64,
+    log: ProofLog<u64, ProofLog<Ask, u64>>,
+    ghost run: { ∥ IsRun pace latest (history log.items) ∥₁ },
+    ghost told: { rounds.book.issued ≡ carried + sum_by octets_of (history log.items) },
+}
+
+impl<N, A: Allocator> PacedRounds<N, A> {
+    /// The rounds of a desk with a new pace, which was made at this moment in microseconds.
+    pub fn new(rounds: Rounds<N>, pace: Pace<A>, now: u64) -> PacedRounds<N, A>
+        requires new { (rates : Rates) × IsPacedFrom (tick_of now) rates pace }
+        ensures rounds { result.rounds ≡ rounds }
+        ensures pace { result.pace ≡ pace }
+        ensures latest { result.latest ≡ now }
+        ensures carried { result.carried ≡ rounds.book.issued }
+        ensures none { history result.log.items ≡ [] }
+    {
+        let carried = rounds.issued();
+        PacedRounds {
+            rounds,
+            pace,
+            latest: now,
+            carried,
+            log: ProofLog::new(),
+        }
+    }
+
+    /// The octets issued so far.
+    pub fn issued(&self) -> u64
+        ensures issued { result ≡ self.now.rounds.book.issued }
+    {
+        self.rounds.issued()
+    }
+
+    /// The earliest moment of the next round for anybody, as `Pace::due`.
+    pub fn due(&self, now: u64) -> Due
+        ensures due { result ≡ due_in self.now.pace now }
+    {
+        self.pace.due(now)
+    }
+
+    /// The earliest moment of the next round for a transfer of a user, as `Pace::due_for`.
+    pub fn due_for(&self, way: Way, user: u32, now: u64) -> Due
+        ensures due { result ≡ due_for_in way user self.now.pace now }
+    {
+        self.pace.due_for(way, user, now)
+    }
+
+    /// Holds a round at a moment in microseconds; one before that of the last round counts as that moment. Tries each
+    /// lane once, divides what is left under the rates among the asks found, answers each, and subtracts each grant from
+    /// the rows of its own ask. A refused round answers each ask with 0 octets.
+    pub fn hold<B: Allocator + Clone, D: Allocator>(
+        &mut self,
+        alloc: B,
+        desk: &Desk<N, D>,
+        now: u64,
+    ) -> Result<RoundRecord<B>, RoundFault>
+        requires desk { IsRoundOf desk.now self.old.rounds.desk }
+        ensures same { IsSameRound self.old.rounds.desk self.new.rounds.desk }
+        ensures tally { self.new.rounds.tally ≡ self.old.rounds.tally }
+        ensures tick { let p = offer_round (tick_of (max now self.old.latest)) self.old.pace in
+            IfOk result (λ r. r.tick ≡ p.moment / 100) }
+        ensures round { let p = offer_round (tick_of (max now self.old.latest)) self.old.pace in
+            IfOk result (λ r. IsRound p.offered (p.moment / 100) (turns self.old.rounds.desk)
+            (turns self.new.rounds.desk) r.answered (seen r.sealed.tree) r.lanes.items
+            r.asks.items r.sealed.grants) }
+        ensures best { IfOk result (λ r. IsBest (seen r.sealed.tree) r.sealed.grants) }
+        ensures issued { IfOk result (λ r.
+            self.new.rounds.book.issued ≡ self.old.rounds.book.issued + sum r.sealed.grants) }
+        ensures last_tick { let p = offer_round (tick_of (max now self.old.latest)) self.old.pace in
+            OnOk result (self.new.rounds.book.last_tick ≡ Some (p.moment / 100)) }
+        ensures refused { let p = offer_round (tick_of (max now self.old.latest)) self.old.pace in
+            IfErr result (λ f. IsRefusedRound B p.offered (p.moment / 100) self.old.rounds.book
+            (turns self.old.rounds.desk) (turns self.new.rounds.desk) f.answered f.reason) }
+        ensures unchanged { OnErr result (self.new.rounds.book ≡ self.old.rounds.book) }
+        ensures latest { self.new.latest ≡ max now self.old.latest }
+        ensures carried { self.new.carried ≡ self.old.carried }
+        ensures grows { history self.new.log.items ≡ history self.old.log.items
+            ++ round_at (max now self.old.latest) result ∷ [] }
+        ensures left { self.new.pace
+            ≡ after self.old.pace (round_at (max now self.old.latest) result) }
+        ensures rates { rates_of self.new.pace ≡ rates_of self.old.pace }
+    {
+        grants_keep_names();
+        histories_keep_rates();
+        let now = now.max(self.latest);
+        let moment = self.pace.offer(now);
+        let result = self.rounds.round(alloc, desk, self.pace.limits(), moment);
+        let taken = match &result {
+            Ok(made) => charge(&mut self.pace, &made.asks, made.sealed.grants()),
+            Err(_) => ProofLog::new(),
+        };
+        self.log = self.log.and(&now, &taken);
+        self.latest = now;
+        result
+    }
+
+    /// A law of the type: in each second of the clock, the rounds so far granted under each name at most its rate, and in
+    /// a second from any moment at most the rate and what is kept. The octets that they granted are those issued.
+    pub fn rates_are_kept(&self)
+        ensures kept { KeepsRates (rates_of self.now.pace) (history self.now.log.items) }
+        ensures issued { self.now.rounds.book.issued
+            ≡ self.now.carried + sum_by octets_of (history self.now.log.items) }
+    {
+        histories_keep_rates();
+    }
+
+    /// Returns the rounds, once no thread holds one any more.
+    pub fn into_rounds(self) -> Rounds<N>
+        ensures rounds { result ≡ self.rounds }
+        ensures kept { KeepsRates (rates_of self.pace) (history self.log.items) }
+        ensures issued { result.book.issued
+            ≡ self.carried + sum_by octets_of (history self.log.items) }
+    {
+        self.rates_are_kept();
+        let PacedRounds {
+            rounds,
+            pace: _,
+            latest: _,
+            carried: _,
+            log: _,
+        } = self;
+        rounds
+    }
+}

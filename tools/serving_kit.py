@@ -117,16 +117,18 @@ class Server:
 
     `root` is "memory", or "folder" for a fresh one of these `files`: each a path with its octets, a length of zeros, or None for a
     directory. `server` are more lines of its table, `rates` more lines of ann's. With `stop` it has a stop file, `stop`. In place of
-    all this there may be the whole `text` of its configuration, with its port.
+    all this there may be the whole `text` of its configuration, with its port. `words` are more words of its command line, and `before`
+    is what the shell does that starts it.
     """
 
-    def __init__(self, sessions=1, root="memory", files=None, server="", rates="", users=USERS, stop=False, passive=8, text=None, port=None):
+    def __init__(self, sessions=1, root="memory", files=None, server="", rates="", users=USERS, stop=False, passive=8, text=None, port=None, words=None, before=None):
         self.room = tempfile.TemporaryDirectory(prefix="ftpd-serving-")
         self.place = self.room.name
         self.folder = f"{self.place}/files" if root == "folder" else None
         self.sessions, self.server, self.passive, self.text = sessions, server, passive, text
         self.tables = users.format(rates=rates) + ("" if self.folder else FILES)
-        self.words = ["--stop-file", "stop"] if stop else []
+        self.words = [*(["--stop-file", "stop"] if stop else []), *(["--login-delay", "0"] if words is None else words)]
+        self.before = before
         self.process, self.port = None, port
         if self.folder:
             os.mkdir(self.folder)
@@ -164,7 +166,8 @@ class Server:
     def begin_again(self):
         self.notes = open(f"{self.place}/notes", "wb+")
         self.output = open(f"{self.place}/output", "wb+")
-        words = [SERVER, "serve", "ftpd.toml", *self.words]
+        words = ["/bin/sh", "-c", f'{self.before}; exec "$@"', "sh"] if self.before else []
+        words += [SERVER, "serve", "ftpd.toml", *self.words]
         self.process = subprocess.Popen(words, cwd=self.place, stdin=subprocess.DEVNULL, stdout=self.output, stderr=self.notes, env={})
         until(lambda: self.told().startswith("ready\n") or self.process.poll() is not None, "ready")
 
@@ -241,9 +244,9 @@ class Server:
 class Client:
     """A control connection. With a name it logs in, and asks for octets as they are."""
 
-    def __init__(self, server, name="ann", password="secret", tries=TRIES, source=None):
+    def __init__(self, server, name="ann", password="secret", tries=TRIES, source=None, at="127.0.0.1"):
         self.server, self.tries, self.text = server, tries, b""
-        self.socket = socket.create_connection(("127.0.0.1", server.port), SECONDS, source_address=source and (source, 0))
+        self.socket = socket.create_connection((at, server.port), SECONDS, source_address=source and (source, 0))
         if name:
             self.says(None, "220 Ready")
             self.says(f"USER {name}", "331 Password required")

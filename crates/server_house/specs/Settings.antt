@@ -1,12 +1,12 @@
 -- Copies of settings.
-use Rattle.std.specs.Prelude.{◌≡◌, ◌==◌, ℕ, List, [], ◌∷◌, Bool, true, false}
+use Rattle.std.specs.Prelude.{◌≡◌, ℕ, zero, List, [], ◌∷◌}
 use Rattle.std.specs.declared.alloc.Global.{Global}
 use Rattle.ftp_terms.specs.LineText.{text_of}
 use Rattle.session_table.specs.declared.settings.Settings.{Settings}
 
 -- the address that a client is told: the stated one, or that at which it arrived if 0.0.0.0 is stated
 abbrev pub announced : List ℕ → List ℕ → List ℕ
-announced (0 ∷ 0 ∷ 0 ∷ 0 ∷ []) arrived = arrived
+announced (zero ∷ zero ∷ zero ∷ zero ∷ []) arrived = arrived
 announced stated arrived = stated
 
 -- the same settings, with a banner of its own of the same text, for a client that arrived there

@@ -3,7 +3,7 @@
 ghost use Rattle.std.specs.Prelude.{◌≡◌, IfNone, IfSome, IsTrue, false};
 ghost use Rattle.session_core.specs.declared.events.DataEvent.TheVariants.{Ready};
 ghost use Rattle.server_house.specs.declared.cause.EndCause.TheVariants as cause;
-ghost use Rattle.session_table.specs.declared.inputs.End.TheVariants.{Aborted, NoMemory};
+ghost use Rattle.session_table.specs.declared.inputs.End.TheVariants.{Aborted, NoConnection, NoMemory};
 ghost use Rattle.socket_side.specs.Causes.{AbortCause, GoesCause, LookCause, StartCause, TakenCause, cause_of};
 ghost use Rattle.socket_side.specs.Running.{GoesOn, IsAwaited, IsHandedOver, IsNoTarget, Looks, RestsOn, Settles, Starts, TakesEnd, aborted, event_of, is_busy, over, port_in};
 
@@ -281,6 +281,17 @@ where
         }
     }
 
+    // Ends a transfer that got no data connection.
+    fn end_without(&mut self, why: EndCause, job: Job<Global, S::Source, S::Sink>)
+        ensures running { self.new.running ≡ over NoConnection job }
+        ensures cause { self.new.cause ≡ Some why }
+        ensures prepared { self.new.prepared ≡ self.old.prepared }
+        ensures ready { self.new.ready ≡ self.old.ready }
+    {
+        self.cause = Some(why);
+        self.running = over(End::NoConnection, job);
+    }
+
     // The peer whose connections are accepted.
     fn wanted_peer(&self) -> Option<[u8; 4]>
         ensures any { IsTrue self.now.house.now.settings.permits_foreign_addresses → result ≡ None }
@@ -315,8 +326,7 @@ where
             None => {
                 if has_passed(since, micros(self.rt), PATIENCE) {
                     self.close_port(listener, port);
-                    self.cause = Some(EndCause::NoClient);
-                    self.running = over(End::NoConnection, job);
+                    self.end_without(EndCause::NoClient, job);
                 } else {
                     self.running = Running::Awaited {
                         listener,
@@ -339,18 +349,12 @@ where
         let prepared = mem::replace(&mut self.prepared, Prepared::Nothing);
         self.cause = None;
         match prepared {
-            Prepared::Nothing => {
-                self.cause = Some(EndCause::NothingPrepared);
-                self.running = over(End::NoConnection, job);
-            }
+            Prepared::Nothing => self.end_without(EndCause::NothingPrepared, job),
             Prepared::Target(to) => {
                 let at = socket_address(to.address, to.port);
                 match TcpStream::connect_timeout(self.rt, &at, Duration::from_millis(CONNECTING)) {
                     Ok(stream) => self.hand_over(stream, job, user),
-                    Err(error) => {
-                        self.cause = Some(EndCause::NotConnected(error));
-                        self.running = over(End::NoConnection, job);
-                    }
+                    Err(error) => self.end_without(EndCause::NotConnected(error), job),
                 }
             }
             Prepared::Listening(listener, port) => {

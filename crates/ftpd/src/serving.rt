@@ -6,7 +6,7 @@
 //! type parameter for their permission.
 
 use folder_store::DirStore;
-use ftp_daemon::{ServeFault, Service, StopSign, serve};
+use ftp_daemon::{RoundClock, ServeFault, Service, StopSign, serve};
 use ftpd_program::{FtpdExit, Server};
 use log::sink::Console;
 use log::{Level, Logged};
@@ -117,6 +117,7 @@ where
     R: Threads
         + Wait
         + Clock
+        + RoundClock
         + Net<Listener = TcpListener, Stream = TcpStream>
         + AllocGlobal
         + Copy
@@ -176,6 +177,7 @@ where
     R: Threads
         + Wait
         + Clock
+        + RoundClock
         + Net<Listener = TcpListener, Stream = TcpStream>
         + AllocGlobal
         + Copy

@@ -631,6 +631,38 @@ def a_rate_is_kept():
             same(server.ended()[1], 2 * rate, "octets moved")
 
 
+def rates_of_two_users():
+    """Four sessions with small files on two lanes: each user's octets take as long as their own rate wants, down and up."""
+    rates, size = {"ann": 200_000, "bob": 400_000}, 20_000
+    users = "".join(f'[[user]]\nname = "{name}"\npassword = "secret"\nhome = "/"\nperms = "elradfmw"\ndown_rate = {rate}\nup_rate = {rate}\n'
+                    for name, rate in rates.items())
+    took, faults = {}, []
+
+    def work(server, name, number):
+        try:
+            client = Client(server, name)
+            for _ in range(rates[name] // size):
+                same(len(client.retrieve("small")), size, "the octets")
+                client.store(f"{name}{number}", bytes(size))
+            took[name] = max(took.get(name, 0), time.monotonic() - begun)
+            client.quit()
+        except Exception as fault:
+            faults.append(fault)
+
+    with Server(sessions=4, root="folder", files={"small": size}, server="lanes = 2", users=users) as server:
+        begun = time.monotonic()
+        threads = [threading.Thread(target=work, args=(server, name, number)) for name in rates for number in range(2)]
+        for thread in threads:
+            thread.start()
+        for thread in threads:
+            thread.join()
+        if faults:
+            raise faults[0]
+        for name in rates:
+            want(took[name] > 1.7, f"two seconds' octets of {name} came and went in {took[name]:.2f} seconds")
+        same(server.ended()[1], 4 * sum(rates.values()), "octets moved")
+
+
 def notes():
     """Who logged in, sent, stored, and left; no password, and no text of a line that was refused."""
     with Server(sessions=2, root="folder", files={"f": b"a\nb", "big": MUCH}) as server:
@@ -709,6 +741,7 @@ ROWS = [
     what_cannot_be_served,
     more_transfers_than_lanes,
     a_rate_is_kept,
+    rates_of_two_users,
     notes,
     ftplib_as_it_is,
 ]

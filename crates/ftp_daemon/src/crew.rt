@@ -3,7 +3,7 @@
 use crate::watching::{StopSign, watch};
 use crate::works::Works;
 use handler_hooks::Hooks;
-use lane_rounds::{keep_rounds, work_lane};
+use lane_rounds::{RoundClock, keep_rounds, work_lane};
 use lent_parts::PartsName;
 use server_house::ShutdownStage;
 use std::alloc::Global;
@@ -33,7 +33,7 @@ pub(crate) trait Crew {
 
 impl<R, S, H, B, P> Crew for Works<R, S, H, B, P>
 where
-    R: Wait + Clock + Net<Listener = TcpListener, Stream = TcpStream> + AllocGlobal,
+    R: Wait + Clock + RoundClock + Net<Listener = TcpListener, Stream = TcpStream> + AllocGlobal,
     S: Store<Global>,
     H: Hooks,
     B: PartsName,

@@ -3,7 +3,8 @@
 //!
 //! [`serve`] listens, writes `ready`, and serves until it has had its sessions or its stop sign is up. Then it waits
 //! for the sessions in progress, gathers all parts that it lent, and writes `settled issued I moved M back B`: by the
-//! types of what the threads were lent, the octets issued are those moved and those given back, whatever happened.
+//! types of what the threads were lent, the octets issued are those moved and those given back, whatever happened, and
+//! rounds that kept each rate granted them, at moments of the server's [`RoundClock`].
 //!
 //! The crate is also the library of the programs: it re-exports the commands that need no server, with the types that
 //! they take and return. [`run_share`] and [`run_check`] work on sheets, [`run_script`] serves a session without
@@ -23,6 +24,7 @@ mod works;
 pub use client_patience::Patience;
 pub use ftpd_program::{ScriptFault, ServeFault, run_script};
 pub use grant_certificate::Verdict;
+pub use lane_rounds::RoundClock;
 pub use opening::Service;
 pub use script_session::SessionFault;
 pub use server_config::{Config, ConfigFault, migrate};

@@ -1,20 +1,22 @@
 //! The parts that a server needs before it serves.
 
-ghost use Rattle.std.specs.Prelude.{◌≡◌, ◌+◌, ◌≤◌, [], length, vec_capacity};
+ghost use Rattle.std.specs.Prelude.{◌≡◌, ◌+◌, ◌≤◌, [], true, IfOk, length, vec_capacity};
 ghost use Rattle.lane_desk.specs.Open.{AreFresh};
 ghost use Rattle.desk_rule.specs.Lanes.{posted_in};
 ghost use Rattle.lane_desk.specs.Seats.{desk_id};
 ghost use Rattle.lane_desk.specs.Posted.{AllAnswered};
 ghost use Rattle.lane_desk.specs.Turns.{back, turns, IsRoundOf};
+ghost use Rattle.round_pace.specs.Earned.{tick_of};
+ghost use Rattle.round_pace.specs.Paced.{IsPacedFrom};
 
 use authorizer::Authorizer;
 use client_patience::Patience;
 use data_sockets::TransferCell;
-use event_word::micros;
 use ftpd_program::ServeFault;
 use grant_ledger::{Book, Settled, Tally, settle};
 use handler_hooks::Hooks;
 use lane_desk::{Desk, LaneSeat, RoundDesk, Worked, open_desk};
+use lane_rounds::RoundClock;
 use line_rates::Limits;
 use passive_ports::{PoolFault, Registry, RestingPorts};
 use rate_floors::Floors;
@@ -25,7 +27,6 @@ use session_table::Settings;
 use std::alloc::{AllocError, Global};
 use std::net::TcpStream;
 use std::sync::Mutex;
-use std::time::Clock;
 use virtual_tree::Store;
 
 /// The parts that a caller hands to a server.
@@ -65,6 +66,8 @@ pub(crate) struct Rooms<S: Store<Global>, H: Hooks, P: Drop> {
     pub(crate) cells: Vec<TransferCell<S::Sink>>,
     pub(crate) lanes: Vec<LaneSign>,
     pub(crate) pace: Pace,
+    /// The moment at which the pace was made, in microseconds.
+    pub(crate) begun: u64,
 }
 
 fn new_cells<K: Drop>(alloc: Global, count: usize) -> Result<Vec<TransferCell<K>>, AllocError> {
@@ -114,10 +117,12 @@ pub(crate) fn open_rooms<R, S, H, P>(
     service: Service<S, H, P>,
 ) -> Result<Rooms<S, H, P>, ServeFault>
 where
-    R: Clock + AllocGlobal,
+    R: RoundClock + AllocGlobal,
     S: Store<Global> + Drop,
     H: Hooks,
     P: Drop,
+    ensures new { IfOk result (λ r. IsPacedFrom (tick_of r.begun) service.limits r.pace) }
+    ensures when { IfOk result (λ r. R.when r.begun ≡ true) }
 {
     let alloc = rt.alloc();
     let Service {
@@ -139,7 +144,8 @@ where
     let arrivals = new_arrivals(alloc, most)?;
     let cells = new_cells(alloc, most)?;
     let lanes = new_lanes(alloc, usize::from(numbers.lanes))?;
-    let pace = Pace::of(alloc, limits, micros(rt))?;
+    let begun = rt.moment();
+    let pace = Pace::of(alloc, limits, begun)?;
     Ok(Rooms {
         settings,
         numbers,
@@ -156,6 +162,7 @@ where
         cells,
         lanes,
         pace,
+        begun,
     })
 }
 
@@ -171,6 +178,7 @@ pub(crate) struct Line {
     ghost begun: { AllAnswered (turns round) × (posted_in (turns round) ≡ 0) },
     ghost fresh: { AreFresh (desk_id desk) desk.lanes seats.items },
     ghost told: { book.issued ≡ tally.moved + tally.back },
+    ghost unissued: { book.issued ≡ 0 },
     ghost empty: { (room.items ≡ []) × (length seats.items ≤ vec_capacity room) },
 }
 

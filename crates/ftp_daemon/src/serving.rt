@@ -1,8 +1,14 @@
 //! A server, from its listener to its settlement.
 
-ghost use Rattle.std.specs.Prelude.{◌≡◌, ◌+◌, ◌≤◌, IfOk, length, vec_capacity};
+ghost use Rattle.std.specs.Prelude.{◌≡◌, ◌≢◌, ◌+◌, ◌*◌, ◌≤◌, ℕ, true, IfOk, length, vec_capacity};
 ghost use Rattle.std.specs.Thread.{IsSend, IsSync};
+ghost use Rattle.lane_rounds.specs.Clocks.{IsTestOf};
 ghost use Rattle.lent_parts.specs.Names.{IsBoardOf, IsNamed};
+ghost use Rattle.line_rates.specs.Rates.{Rates};
+ghost use Rattle.paced_rounds.specs.Seconds.{AreInSeconds, HasKept};
+ghost use Rattle.round_pace.specs.Earned.{tick_of};
+ghost use Rattle.round_pace.specs.Histories.{rates_of};
+ghost use Rattle.round_pace.specs.Paced.{IsPacedFrom};
 ghost use Rattle.transfer_worker.specs.Boards.{AreNewPasses};
 
 use crate::lanes::{run_threads, serve_clients};
@@ -15,8 +21,10 @@ use event_word::{EventCount, SharedEventCount};
 use ftpd_program::ServeFault;
 use grant_ledger::Settled;
 use handler_hooks::Hooks;
+use lane_rounds::RoundClock;
 use lent_parts::{LentBoard, LentPass, PartsName};
-use round_pace::Pace;
+use paced_rounds::seconds_are_kept;
+use round_pace::{Pace, histories_keep_rates};
 use server_house::{House, ServerHooks, ServerShutdown};
 use std::alloc::{AllocError, Global};
 use std::marker::Brand;
@@ -33,7 +41,9 @@ fn furnish<S: Store<Global>, H: Hooks, B: PartsName, P: Drop>(
     rooms: Rooms<S, H, P>,
     board: LentBoard<B, Waiting<S>>,
     pass: LentPass<B, Waiting<S>>,
-) -> (House<S, H, B>, Pace, Option<P>) {
+) -> (House<S, H, B>, Pace, Option<P>)
+    ensures pace { result.1 ≡ rooms.pace }
+{
     let Rooms {
         settings,
         numbers,
@@ -50,6 +60,7 @@ fn furnish<S: Store<Global>, H: Hooks, B: PartsName, P: Drop>(
         cells,
         lanes,
         pace,
+        begun: _,
     } = rooms;
     let house = House {
         users,
@@ -85,6 +96,7 @@ where
     R: Threads
         + Wait
         + Clock
+        + RoundClock
         + Net<Listener = TcpListener, Stream = TcpStream>
         + AllocGlobal
         + Copy
@@ -100,6 +112,7 @@ where
     requires gathered { length works.lent.workers.items ≤ vec_capacity room.gathered }
     requires worked { length works.lent.workers.items ≤ vec_capacity room.worked }
     ensures sum { result.0.issued ≡ result.0.moved + result.0.back }
+    ensures kept { HasKept B.rates B.when B.carried result.0.issued }
 {
     let rt = works.rt;
     let house = &works.house;
@@ -136,6 +149,7 @@ where
     R: Threads
         + Wait
         + Clock
+        + RoundClock
         + Net<Listener = TcpListener, Stream = TcpStream>
         + AllocGlobal
         + Copy
@@ -148,12 +162,18 @@ where
     B: PartsName + Send + Sync + 'static,
     P: StopSign + Send + Sync + Drop,
     W: TextWriter,
+    requires new { (rates : Rates) × IsPacedFrom (tick_of rooms.begun) rates rooms.pace }
+    requires rated { rates_of rooms.pace ≡ B.rates }
+    requires when { B.when rooms.begun ≡ true }
+    requires clock { IsTestOf R.when B.when }
     ensures sum { result.0.issued ≡ result.0.moved + result.0.back }
+    ensures kept { HasKept B.rates B.when B.carried result.0.issued }
 {
+    let begun = rooms.begun;
     match passes.pop() {
         Some(pass) => {
             let (house, pace, stop) = furnish(rooms, board, pass);
-            let (lent, room) = line.paced(pace);
+            let (lent, room) = line.paced(pace, begun);
             let works = Works {
                 rt: *rt,
                 house,
@@ -165,7 +185,7 @@ where
         }
         None => {
             let Rooms { pace, .. } = rooms;
-            let (lent, room) = line.paced(pace);
+            let (lent, room) = line.paced(pace, begun);
             (settle_served(rt, lent, room), Err(ServeFault::NoThread))
         }
     }
@@ -185,6 +205,7 @@ where
     R: Threads
         + Wait
         + Clock
+        + RoundClock
         + Net<Listener = TcpListener, Stream = TcpStream>
         + AllocGlobal
         + Copy
@@ -200,7 +221,13 @@ where
     requires desk { IsNamed B.desk B.lanes line.desk }
     requires board { IsBoardOf B.board board }
     requires passes { AreNewPasses B.board (length passes.items) passes.items }
+    requires new { (rates : Rates) × IsPacedFrom (tick_of rooms.begun) rates rooms.pace }
+    requires rated { rates_of rooms.pace ≡ B.rates }
+    requires when { B.when rooms.begun ≡ true }
+    requires clock { IsTestOf R.when B.when }
+    requires carried { line.book.issued ≡ B.carried }
     ensures sum { result.0.issued ≡ result.0.moved + result.0.back }
+    ensures kept { HasKept B.rates B.when B.carried result.0.issued }
 {
     match new_lists::<B, Waiting<S>>(rt.alloc(), line.seats.len(), passes.len()) {
         Err(AllocError) => (settle_unlent(line), Err(ServeFault::Memory)),
@@ -239,8 +266,12 @@ fn tell_settled<W: TextWriter>(
 /// Serves until as many sessions were admitted as the numbers say, or until the stop sign is up, and then waits for the
 /// sessions in progress. Writes `ready` once clients may connect, and at the end the outcome of all octets issued.
 ///
-/// Returns `Bind` if the address and port cannot be bound (the handler is told why), `NoThread` if a thread of the server cannot be started,
-/// `Stopped` if the stop sign is up at the start.
+/// Each round is held at a moment of the clock, and under the rates of the limits: there is a history of rounds at such
+/// moments in which the rate of each name is kept, and which granted all octets issued. So if the moments of the clock are
+/// in some seconds, at most the rate of the server is issued for each of these seconds.
+///
+/// Returns `Bind` if the address and port cannot be bound (the handler is told why), `NoThread` if a thread of the server
+/// cannot be started, `Stopped` if the stop sign is up at the start.
 pub fn serve<R, S, H, P, W>(
     rt: &R,
     service: Service<S, H, P>,
@@ -250,6 +281,7 @@ where
     R: Threads
         + Wait
         + Clock
+        + RoundClock
         + Net<Listener = TcpListener, Stream = TcpStream>
         + AllocGlobal
         + Copy
@@ -262,7 +294,13 @@ where
     P: StopSign + Send + Sync + Drop,
     W: TextWriter,
     ensures sum { IfOk result (λ settled. settled.issued ≡ settled.moved + settled.back) }
+    ensures kept { IfOk result (λ settled. HasKept service.limits R.when 0 settled.issued) }
+    ensures seconds { IfOk result (λ settled. (first count : ℕ)
+        → AreInSeconds R.when first count → service.limits.server ≢ 0
+        → settled.issued ≤ count * service.limits.server) }
 {
+    histories_keep_rates();
+    seconds_are_kept();
     if is_up(&service.stop) {
         return Err(ServeFault::Stopped);
     }

@@ -4,6 +4,7 @@ ghost use Rattle.std.specs.Prelude.{◌≡◌, ◌+◌, ◌≤◌, [], length, v
 ghost use Rattle.lane_desk.specs.Open.{AreFresh};
 ghost use Rattle.lane_desk.specs.Workers.{AreWorkers};
 ghost use Rattle.lane_desk.specs.Seats.{desk_id};
+ghost use Rattle.paced_rounds.specs.Seconds.{HasKept};
 
 use crate::opening::Line;
 use grant_ledger::{Settled, Tally};
@@ -50,6 +51,7 @@ pub(crate) fn settle_served<R: Wait, B: PartsName>(rt: &R, lent: Lent<B>, room: 
     requires gathered { length lent.workers.items ≤ vec_capacity room.gathered }
     requires worked { length lent.workers.items ≤ vec_capacity room.worked }
     ensures sum { result.issued ≡ result.moved + result.back }
+    ensures kept { HasKept B.rates B.when B.carried result.issued }
 {
     let Lent {
         desk,
@@ -83,6 +85,7 @@ fn gather_fresh(
 /// Settles a line that was lent to nobody.
 pub(crate) fn settle_unlent(line: Line) -> Settled
     ensures sum { result.issued ≡ result.moved + result.back }
+    ensures issued { result.issued ≡ line.book.issued }
 {
     let Line {
         desk,

@@ -1,8 +1,13 @@
 //! The parts that the threads of one server work with.
 
-ghost use Rattle.std.specs.Prelude.{◌≡◌, ◌+◌, ◌≤◌, [], IfOk, length, vec_capacity};
+ghost use Rattle.std.specs.Prelude.{◌≡◌, ◌+◌, ◌≤◌, [], true, IfOk, length, vec_capacity};
 ghost use Rattle.lane_desk.specs.Open.{AreFresh};
-ghost use Rattle.lent_parts.specs.Names.{IsNamed};
+ghost use Rattle.lane_rounds.specs.Clocks.{IsTestOf};
+ghost use Rattle.lent_parts.specs.Names.{IsNamed, RoundsAt};
+ghost use Rattle.line_rates.specs.Rates.{Rates};
+ghost use Rattle.round_pace.specs.Earned.{tick_of};
+ghost use Rattle.round_pace.specs.Histories.{rates_of};
+ghost use Rattle.round_pace.specs.Paced.{IsPacedFrom};
 ghost use Rattle.transfer_worker.specs.Boards.{AreNewPasses};
 
 use crate::opening::Line;
@@ -11,8 +16,9 @@ use data_sockets::{DataConnection, Served};
 use grant_ledger::Tally;
 use handler_hooks::Hooks;
 use lane_desk::{LaneSeat, Rounds};
-use lane_rounds::Turns;
+use lane_rounds::{RoundClock, Turns};
 use lent_parts::{LentDesk, LentPass, LentRounds, LentWorker, PartsName};
+use paced_rounds::PacedRounds;
 use round_pace::Pace;
 use server_house::House;
 use std::alloc::{AllocError, Global};
@@ -28,7 +34,7 @@ pub(crate) type Waiting<S> = LaneJob<
 >;
 
 /// Everything that the threads of a server share. It cannot be dropped.
-pub(crate) struct Works<R, S: Store<Global>, H: Hooks, B: PartsName, P> {
+pub(crate) struct Works<R: RoundClock, S: Store<Global>, H: Hooks, B: PartsName, P> {
     pub(crate) rt: R,
     pub(crate) house: House<S, H, B>,
     /// The passes with which lanes take transfers: each takes one as it begins.
@@ -36,6 +42,7 @@ pub(crate) struct Works<R, S: Store<Global>, H: Hooks, B: PartsName, P> {
     pub(crate) lent: Lent<B>,
     /// The stop sign, if there is one.
     pub(crate) stop: Option<P>,
+    ghost clock: { IsTestOf R.when B.when },
 }
 
 /// Room for seats and passes that are lent.
@@ -105,11 +112,13 @@ pub(crate) fn lend_seats<B: PartsName>(
 /// The lent parts of a line, and room to gather them. It cannot be dropped.
 pub(crate) struct LentLine<B: PartsName> {
     desk: LentDesk<B, ()>,
-    rounds: LentRounds<B, ()>,
+    rounds: Rounds<()>,
     workers: Vec<Mutex<LentWorker<B, ()>>>,
     room: Room<B>,
     ghost gathered: { length workers.items ≤ vec_capacity room.gathered },
     ghost worked: { length workers.items ≤ vec_capacity room.worked },
+    ghost named: { RoundsAt B.desk B.lanes rounds.desk },
+    ghost carried: { rounds.book.issued ≡ B.carried },
 }
 
 /// Lends a line, in these two lists: its desk, its rounds with their book, and its seats.
@@ -119,6 +128,7 @@ pub(crate) fn lend_line<B: PartsName>(
     gathered: Vec<LentWorker<B, ()>>,
 ) -> LentLine<B>
     requires desk { IsNamed B.desk B.lanes line.desk }
+    requires carried { line.book.issued ≡ B.carried }
     requires workers { (workers.items ≡ [])
         × (length line.seats.items ≤ vec_capacity workers) }
     requires gathered { (gathered.items ≡ [])
@@ -135,7 +145,7 @@ pub(crate) fn lend_line<B: PartsName>(
     lend_seats(seats, &mut tally, &mut workers);
     LentLine {
         desk: LentDesk::new(desk),
-        rounds: LentRounds::new(Rounds::new(round, book, tally)),
+        rounds: Rounds::new(round, book, tally),
         workers,
         room: Room {
             gathered,
@@ -145,8 +155,11 @@ pub(crate) fn lend_line<B: PartsName>(
 }
 
 impl<B: PartsName> LentLine<B> {
-    /// The parts for the threads, with the pace of their rounds; and the room.
-    pub(crate) fn paced(self, pace: Pace) -> (Lent<B>, Room<B>)
+    /// The parts for the threads, with the pace of their rounds, which was made at this moment; and the room.
+    pub(crate) fn paced(self, pace: Pace, begun: u64) -> (Lent<B>, Room<B>)
+        requires new { (rates : Rates) × IsPacedFrom (tick_of begun) rates pace }
+        requires rated { rates_of pace ≡ B.rates }
+        requires when { B.when begun ≡ true }
         ensures gathered { length result.0.workers.items ≤ vec_capacity result.1.gathered }
         ensures worked { length result.0.workers.items ≤ vec_capacity result.1.worked }
     {
@@ -156,9 +169,10 @@ impl<B: PartsName> LentLine<B> {
             workers,
             room,
         } = self;
+        let rounds = PacedRounds::new(rounds, pace, begun);
         let lent = Lent {
             desk,
-            turns: Mutex::new(Turns::new(rounds, pace)),
+            turns: Mutex::new(Turns::new(LentRounds::new(rounds))),
             workers,
         };
         (lent, room)

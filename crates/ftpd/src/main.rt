@@ -4,6 +4,7 @@
 
 mod serving;
 
+use ftp_daemon::RoundClock;
 use ftpd_program::{FtpdErrorText, FtpdExit, run_words};
 use serving::{Asked, serve_asked};
 use sheets_program::{Machine, NOBODY_READS, Noted, as_words, line_words, null_device};
@@ -27,6 +28,7 @@ where
     R: Threads
         + Wait
         + Clock
+        + RoundClock
         + Net<Listener = TcpListener, Stream = TcpStream>
         + AllocGlobal
         + Copy
@@ -72,6 +74,7 @@ where
     R: Threads
         + Wait
         + Clock
+        + RoundClock
         + Net<Listener = TcpListener, Stream = TcpStream>
         + AllocGlobal
         + Copy

@@ -6,7 +6,7 @@
 //! type parameter for their permission.
 
 use folder_store::DirStore;
-use ftp_daemon::{Patience, ServeFault, Service, StopSign, serve};
+use ftp_daemon::{Patience, RoundClock, ServeFault, Service, StopSign, serve};
 use ftpd_program::{FtpdExit, Server};
 use log::sink::Console;
 use log::{Level, Logged};
@@ -132,6 +132,7 @@ where
     R: Threads
         + Wait
         + Clock
+        + RoundClock
         + Net<Listener = TcpListener, Stream = TcpStream>
         + AllocGlobal
         + Copy
@@ -193,6 +194,7 @@ where
     R: Threads
         + Wait
         + Clock
+        + RoundClock
         + Net<Listener = TcpListener, Stream = TcpStream>
         + AllocGlobal
         + Copy

@@ -1,10 +1,12 @@
 //! The gate of a lane.
 
+ghost use Rattle.lane_rounds.specs.Clocks.{IsTestOf};
+
+use crate::clock::RoundClock;
 use crate::ends::told_of;
 use crate::rounds::help;
 use crate::turns::Turns;
 use data_sockets::{DataConnection, Served, TransferEnd};
-use event_word::micros;
 use handler_hooks::Hooks;
 use lent_parts::{LentDesk, PartsName};
 use server_house::{House, LaneSign, ShutdownStage};
@@ -26,7 +28,17 @@ const PAUSE: u64 = 1_000;
 
 /// The gate of a lane for one transfer. It waits for answers, and holds rounds.
 #[derive(Drop)]
-pub(crate) struct LaneGate<'r, 'h, 'd, 't, R, S: Store<Global>, H: Hooks, B: PartsName, N> {
+pub(crate) struct LaneGate<
+    'r,
+    'h,
+    'd,
+    't,
+    R: RoundClock,
+    S: Store<Global>,
+    H: Hooks,
+    B: PartsName,
+    N,
+> {
     rt: &'r R,
     house: &'h House<S, H, B>,
     desk: &'d LentDesk<B, N>,
@@ -39,11 +51,12 @@ pub(crate) struct LaneGate<'r, 'h, 'd, 't, R, S: Store<Global>, H: Hooks, B: Par
     // the octets moved at the last answer, and whether that was no more than at the one before
     moved: u64,
     is_empty: bool,
+    ghost clock: { IsTestOf R.when B.when },
 }
 
 impl<'r, 'h, 'd, 't, R, S, H, B, N> LaneGate<'r, 'h, 'd, 't, R, S, H, B, N>
 where
-    R: Wait + Clock + AllocGlobal,
+    R: Wait + Clock + RoundClock + AllocGlobal,
     S: Store<Global>,
     H: Hooks,
     B: PartsName,
@@ -55,7 +68,9 @@ where
         desk: &'d LentDesk<B, N>,
         turns: &'t Mutex<Turns<B, N>>,
         lane: usize,
-    ) -> Self {
+    ) -> Self
+        requires clock { IsTestOf R.when B.when }
+    {
         let seen = match house.lanes.get(lane) {
             Some(sign) => sign.answered.seen(),
             None => 0,
@@ -86,7 +101,7 @@ where
     // Waits for an answer to the ask, if one was made. Of two calls since the last answer, the first may have been
     // before the ask.
     fn await_answer(&self, sign: &LaneSign) {
-        let now = micros(self.rt);
+        let now = self.rt.moment();
         let due = help(
             self.rt.alloc(),
             self.house,
@@ -131,7 +146,7 @@ impl<'r, 'h, 'd, 't, R, S, H, B, N> Gate<
     Ran<Served<Global, S::Source>, S::Sink, DataConnection, Global>,
 > for LaneGate<'r, 'h, 'd, 't, R, S, H, B, N>
 where
-    R: Wait + Clock + AllocGlobal,
+    R: Wait + Clock + RoundClock + AllocGlobal,
     S: Store<Global>,
     H: Hooks,
     B: PartsName,

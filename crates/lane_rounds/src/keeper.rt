@@ -1,8 +1,10 @@
 //! The thread of rounds.
 
+ghost use Rattle.lane_rounds.specs.Clocks.{IsTestOf};
+
+use crate::clock::RoundClock;
 use crate::rounds::{Tried, try_one};
 use crate::turns::Turns;
-use event_word::micros;
 use handler_hooks::Hooks;
 use lent_parts::{LentDesk, PartsName};
 use server_house::{House, ShutdownStage};
@@ -15,7 +17,7 @@ use virtual_tree::Store;
 /// The longest wait for the bell before it checks by itself, in milliseconds.
 const BACKSTOP: u64 = 200;
 
-/// Holds rounds when no lane does, until the lanes are to end.
+/// Holds rounds when no lane does, until the lanes are to end. The moments of the clock pass the test of the name.
 pub fn keep_rounds<R, S, H, B, N>(
     rt: &R,
     house: &House<S, H, B>,
@@ -23,17 +25,18 @@ pub fn keep_rounds<R, S, H, B, N>(
     turns: &Mutex<Turns<B, N>>,
 )
 where
-    R: Wait + Clock + AllocGlobal,
+    R: Wait + Clock + RoundClock + AllocGlobal,
     S: Store<Global>,
     H: Hooks,
     B: PartsName,
+    requires clock { IsTestOf R.when B.when }
 {
     for _ in rt.forever() {
         let seen = house.bell.seen();
         if house.ending.has_begun(ShutdownStage::Lanes) {
             return;
         }
-        let now = micros(rt);
+        let now = rt.moment();
         match try_one(rt.alloc(), house, desk, turns, None, now) {
             Tried::NotBefore(moment) => {
                 thread::sleep(rt, Duration::from_micros(moment.saturating_sub(now)));

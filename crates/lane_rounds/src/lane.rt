@@ -1,5 +1,8 @@
 //! The thread of a lane.
 
+ghost use Rattle.lane_rounds.specs.Clocks.{IsTestOf};
+
+use crate::clock::RoundClock;
 use crate::gate::LaneGate;
 use crate::turns::Turns;
 use data_sockets::{DataConnection, Served};
@@ -25,7 +28,8 @@ fn sign<R: Source, K: Sink, C: Read + Write + Drop>(sign: &LaneSign, job: &LaneJ
     }
 }
 
-/// Takes transfers from the board and runs each to its end, until the lanes are to end.
+/// Takes transfers from the board and runs each to its end, until the lanes are to end. The moments of the clock pass the
+/// test of the name.
 pub fn work_lane<R, S, H, B, N>(
     rt: &R,
     house: &House<S, H, B>,
@@ -35,10 +39,11 @@ pub fn work_lane<R, S, H, B, N>(
     mut pass: LentPass<B, LaneJob<Served<Global, S::Source>, S::Sink, DataConnection>>,
 )
 where
-    R: Wait + Clock + AllocGlobal,
+    R: Wait + Clock + RoundClock + AllocGlobal,
     S: Store<Global>,
     H: Hooks,
     B: PartsName,
+    requires clock { IsTestOf R.when B.when }
 {
     let lane = worker.lane();
     for _ in rt.forever() {

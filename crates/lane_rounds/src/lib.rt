@@ -4,9 +4,10 @@
 //! tries the lock of the [`Turns`] and holds a round itself, for all lanes that have asked; nobody waits for that lock.
 //! If another thread has the lock, that thread checks the bell after it has released the lock, so no ask is missed.
 //! [`keep_rounds`] is the fallback: it holds a round when no lane does. The pace says when a round may be held and what
-//! it may grant.
+//! it may grant. The moments of rounds are read from a [`RoundClock`].
 #![tactic(auto)]
 
+mod clock;
 mod ends;
 mod gate;
 mod keeper;
@@ -14,6 +15,7 @@ mod lane;
 mod rounds;
 mod turns;
 
+pub use clock::RoundClock;
 pub use keeper::keep_rounds;
 pub use lane::work_lane;
 pub use turns::Turns;

@@ -1,10 +1,11 @@
 //! Rounds, held by whichever lane needs one.
 
+ghost use Rattle.std.specs.Prelude.{◌≡◌, true};
+
 use crate::turns::Turns;
 use handler_hooks::Hooks;
-use lane_desk::RoundRecord;
-use lent_parts::{LentDesk, PartsName};
-use round_pace::{Due, Pace};
+use lent_parts::{LentDesk, LentRounds, PartsName};
+use round_pace::Due;
 use server_house::{House, LaneSign};
 use std::alloc::Global;
 use std::sync::Mutex;
@@ -34,21 +35,6 @@ fn tell_lanes(lanes: &[LaneSign], answered: u64) {
     }
 }
 
-// Subtracts what a round granted from what its rates had earned.
-fn charge(pace: &mut Pace, lanes: &[LaneSign], record: &RoundRecord) {
-    let grants = record.sealed.grants();
-    for place in 0..record.lanes.len() {
-        let lane = usize::from(record.lanes[place]);
-        match (lanes.get(lane), grants.get(place)) {
-            (Some(sign), Some(octets)) => {
-                let (way, user) = sign.name.get();
-                pace.took(way, user, *octets);
-            }
-            _ => {}
-        }
-    }
-}
-
 // Holds one round. A refused one has answered each lane too, with 0 octets.
 fn hold_one<B: PartsName, N>(
     alloc: Global,
@@ -56,25 +42,24 @@ fn hold_one<B: PartsName, N>(
     desk: &LentDesk<B, N>,
     turns: &mut Turns<B, N>,
     now: u64,
-) {
-    let moment = turns.pace.offer(now);
-    match turns.rounds.round(alloc, desk, turns.pace.limits(), moment) {
-        Ok(record) => {
-            charge(&mut turns.pace, lanes, &record);
-            tell_lanes(lanes, record.answered);
-        }
+)
+    requires when { B.when now ≡ true }
+{
+    match turns.rounds.hold(alloc, desk, now) {
+        Ok(record) => tell_lanes(lanes, record.answered),
         Err(fault) => tell_lanes(lanes, fault.answered),
     }
 }
 
-// The earliest moment of a round for the worker of a lane, or for anybody.
-fn due_by(pace: &Pace, sign: Option<&LaneSign>, now: u64) -> Due {
+// The earliest moment of a round for the worker of a lane, or for anybody. The lane's sign is a hint: it may have the
+// name of the worker's next transfer by now, and then a round is held too early or too late for this one.
+fn due_by<B: PartsName, N>(rounds: &LentRounds<B, N>, sign: Option<&LaneSign>, now: u64) -> Due {
     match sign {
         Some(sign) => {
             let (way, user) = sign.name.get();
-            pace.due_for(way, user, now)
+            rounds.due_for(way, user, now)
         }
-        None => pace.due(now),
+        None => rounds.due(now),
     }
 }
 
@@ -86,10 +71,12 @@ pub(crate) fn try_one<S: Store<Global>, H: Hooks, B: PartsName, N>(
     turns: &Mutex<Turns<B, N>>,
     sign: Option<&LaneSign>,
     now: u64,
-) -> Tried {
+) -> Tried
+    requires when { B.when now ≡ true }
+{
     match turns.try_lock() {
         None => Tried::ByAnother,
-        Some(mut guard) => match due_by(&guard.pace, sign, now) {
+        Some(mut guard) => match due_by(&guard.rounds, sign, now) {
             Due::At(moment) => Tried::NotBefore(moment),
             Due::Now => {
                 let seen = house.bell.seen();
@@ -111,7 +98,9 @@ pub(crate) fn help<S: Store<Global>, H: Hooks, B: PartsName, N>(
     turns: &Mutex<Turns<B, N>>,
     sign: &LaneSign,
     now: u64,
-) -> Option<u64> {
+) -> Option<u64>
+    requires when { B.when now ≡ true }
+{
     house.bell.raise();
     for _ in 0..IN_A_ROW {
         match try_one(alloc, house, desk, turns, Some(sign), now) {

@@ -1,9 +1,11 @@
 //! The parts that the workers of these tests share, and their gate, which holds the rounds itself.
 
+ghost use Rattle.std.specs.Prelude.{◌≡◌, ◌<◌, ℕ, true};
+
 use super::counted::End;
 use super::expect::OfTest;
 use lent_parts::{LentDesk, LentRounds, PartsName};
-use line_rates::Limits;
+use round_pace::TICK_MICROS;
 use std::alloc::{Allocator, Global};
 use std::sync::Mutex;
 use std::sync::atomic::{AtomicU64, Ordering};
@@ -21,22 +23,21 @@ pub(crate) const SECOND: u32 = 2;
 /// Number of yields of a delayed thread in each turn.
 const YIELDS: u32 = 100;
 
-/// The rounds, one per tick.
+/// The rounds, at moments of the test.
 pub(crate) struct Turns<B: PartsName> {
     rounds: LentRounds<B, OfTest>,
-    moment: u64,
+    // the earliest moment of the next round, in microseconds
+    next: u64,
+    ghost any: { (moment : ℕ) → B.when moment ≡ true },
 }
 
 impl<B: PartsName> Turns<B> {
-    fn round<A: Allocator + Clone>(
-        &mut self,
-        alloc: A,
-        desk: &LentDesk<B, OfTest>,
-        limits: &Limits,
-    ) {
-        let moment = self.moment;
-        self.moment = moment.saturating_add(100);
-        let _ = self.rounds.round(alloc, desk, limits, moment);
+    // Holds a round, this many ticks of the pace after that of the last one.
+    fn round<A: Allocator + Clone>(&mut self, alloc: A, desk: &LentDesk<B, OfTest>, ticks: u64) {
+        let skipped = ticks.saturating_sub(1).saturating_mul(TICK_MICROS);
+        let now = self.next.saturating_add(skipped);
+        self.next = now.saturating_add(TICK_MICROS);
+        let _ = self.rounds.hold(alloc, desk, now);
     }
 }
 
@@ -44,21 +45,17 @@ impl<B: PartsName> Turns<B> {
 pub(crate) struct House<B: PartsName> {
     desk: LentDesk<B, OfTest>,
     turns: Mutex<Turns<B>>,
-    limits: Limits,
     has_moved: AtomicU64,
 }
 
 impl<B: PartsName> House<B> {
-    pub(crate) fn new(
-        desk: LentDesk<B, OfTest>,
-        rounds: LentRounds<B, OfTest>,
-        limits: Limits,
-    ) -> House<B> {
-        let moment = 0;
+    pub(crate) fn new(desk: LentDesk<B, OfTest>, rounds: LentRounds<B, OfTest>) -> House<B>
+        requires any { (moment : ℕ) → B.when moment ≡ true }
+    {
+        let turns = Turns { rounds, next: 0 };
         House {
             desk,
-            turns: Mutex::new(Turns { rounds, moment }),
-            limits,
+            turns: Mutex::new(turns),
             has_moved: AtomicU64::new(0),
         }
     }
@@ -67,15 +64,15 @@ impl<B: PartsName> House<B> {
         &self.desk
     }
 
-    /// Holds a round, unless another thread is holding one.
+    /// Holds a round in the next tick of the pace, unless another thread is holding one.
     pub(crate) fn serve<A: Allocator + Clone>(&self, alloc: A) {
-        self.serve_under(alloc, &self.limits);
+        self.serve_after(alloc, 1);
     }
 
-    /// Holds a round under other limits, unless another thread is holding one.
-    pub(crate) fn serve_under<A: Allocator + Clone>(&self, alloc: A, limits: &Limits) {
+    /// Holds a round this many ticks after the last one, unless another thread is holding one.
+    pub(crate) fn serve_after<A: Allocator + Clone>(&self, alloc: A, ticks: u64) {
         match self.turns.try_lock() {
-            Some(mut turns) => turns.round(alloc, &self.desk, limits),
+            Some(mut turns) => turns.round(alloc, &self.desk, ticks),
             None => thread::yield_now(),
         }
     }
@@ -84,10 +81,9 @@ impl<B: PartsName> House<B> {
         let House {
             desk,
             turns,
-            limits: _limits,
             has_moved: _has_moved,
         } = self;
-        let Turns { rounds, moment: _ } = turns.into_inner();
+        let Turns { rounds, next: _ } = turns.into_inner();
         (desk, rounds)
     }
 }

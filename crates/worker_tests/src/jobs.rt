@@ -1,11 +1,12 @@
 //! Whole jobs in one thread, each to its end, and a loop of them.
 
-ghost use Rattle.std.specs.Prelude.{◌≡◌};
+ghost use Rattle.std.specs.Prelude.{◌≡◌, ℕ, true};
 ghost use Rattle.transfer_worker.specs.Boards.{IsOfBoard, IsSameBoard};
+ghost use Rattle.round_pace.specs.Histories.{rates_of};
 ghost use Rattle.lane_desk.specs.Seats.{desk_id};
 
 use super::counted::End;
-use super::expect::{OfTest, holds, limits};
+use super::expect::{OfTest, holds};
 use super::house::{House, Job, Keeper};
 use super::parts::{Lent, Opened};
 use super::shortages::{loop_without_memory, refuse_buffers};
@@ -186,12 +187,15 @@ fn stop_after_an_ask<B: PartsName>(
 fn run_named<B: PartsName>(rt: &(impl Abort + AllocGlobal + Wait), opened: Opened) -> (u64, Settled)
     requires desk { desk_id opened.desk ≡ B.desk }
     requires lanes { opened.desk.lanes ≡ B.lanes }
+    requires rates { rates_of opened.rounds.pace ≡ B.rates }
+    requires carried { opened.rounds.carried ≡ B.carried }
+    requires any { (moment : ℕ) → B.when moment ≡ true }
 {
     let Lent {
         house,
         mut first,
         second,
-    } = Lent::<B>::new(opened, limits(rt, 0));
+    } = Lent::<B>::new(opened);
     let moved = run_all(rt, &house, &mut first);
     refuse_buffers(rt, &house, &mut first);
     let second = loop_without_memory(rt, &house, second);
@@ -207,7 +211,7 @@ fn run_named<B: PartsName>(rt: &(impl Abort + AllocGlobal + Wait), opened: Opene
 
 #[test]
 fn jobs_of_each_end(rt: HostRuntime) {
-    let (moved, settled) = run_named::<Brand>(&rt, Opened::new(&rt));
+    let (moved, settled) = run_named::<Brand>(&rt, Opened::new(&rt, 0));
     holds(&rt, settled.moved == moved.saturating_add(280_010));
     holds(&rt, 65_536 <= settled.back);
 }

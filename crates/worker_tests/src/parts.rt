@@ -1,52 +1,59 @@
 //! A desk of two lanes, with its parts lent, and settled once they are returned.
 
-ghost use Rattle.std.specs.Prelude.{◌≡◌, ◌+◌, []};
-ghost use Rattle.desk_rule.specs.Lanes.{fresh, posted_in};
+ghost use Rattle.std.specs.Prelude.{◌≡◌, ◌+◌, ℕ, true, []};
+ghost use Rattle.desk_rule.specs.Lanes.{fresh};
 ghost use Rattle.lane_desk.specs.Seats.{desk_id, seat_view, IsSeatOf};
-ghost use Rattle.lane_desk.specs.Posted.{AllAnswered};
-ghost use Rattle.lane_desk.specs.Turns.{turns, back, IsRoundOf};
+ghost use Rattle.lane_desk.specs.Turns.{back, IsRoundOf};
+ghost use Rattle.paced_rounds.specs.History.{history};
+ghost use Rattle.round_pace.specs.Histories.{rates_of};
 
-use super::expect::OfTest;
+use super::expect::{OfTest, limits};
 use super::house::House;
 use grant_ledger::{Book, Settled, Tally};
-use lane_desk::{Desk, LaneSeat, RoundDesk, Rounds, Worked, open_desk};
+use lane_desk::{Desk, LaneSeat, Rounds, Worked, open_desk};
 use lent_parts::{LentDesk, LentRounds, LentWorker, PartsName, settle_lent};
-use line_rates::Limits;
+use paced_rounds::PacedRounds;
+use round_pace::Pace;
 use std::process::Abort;
 use std::sync::Wait;
 use test_checked_desk::two_seats;
 
-/// A desk of two lanes, just opened, with its rounds, its seats, its book and a tally.
+/// A desk of two lanes, just opened, with its rounds, its seats and their tallies.
 pub(crate) struct Opened {
     pub(crate) desk: Desk<OfTest>,
-    round: RoundDesk<OfTest>,
+    pub(crate) rounds: PacedRounds<OfTest>,
     first: LaneSeat<OfTest>,
     second: LaneSeat<OfTest>,
-    book: Book<OfTest>,
-    tally: Tally<OfTest>,
+    first_tally: Tally<OfTest>,
+    second_tally: Tally<OfTest>,
     ghost two: { desk.lanes ≡ 2 },
-    ghost led: { IsRoundOf desk round × (back round ≡ []) },
-    ghost begun: { AllAnswered (turns round) × (posted_in (turns round) ≡ 0) },
+    ghost led: { IsRoundOf desk rounds.rounds.desk × (back rounds.rounds.desk ≡ []) },
+    ghost none: { history rounds.log.items ≡ [] },
     ghost first_is: { IsSeatOf desk first × (first.lane ≡ 0) × (seat_view first ≡ fresh) },
     ghost second_is: { IsSeatOf desk second × (second.lane ≡ 1) × (seat_view second ≡ fresh) },
-    ghost told: { book.issued ≡ tally.moved + tally.back },
+    ghost tallies: { (first_tally.moved + first_tally.back ≡ 0)
+        × (second_tally.moved + second_tally.back ≡ 0) },
 }
 
 impl Opened {
-    pub(crate) fn new(rt: &(impl Abort + AllocGlobal)) -> Opened {
-        let (book, tally) = Book::<OfTest>::open(0);
+    /// A desk whose rounds have this rate of the server; 0 limits nothing.
+    pub(crate) fn new(rt: &(impl Abort + AllocGlobal), rate: u64) -> Opened {
+        let pace = Pace::of(rt.alloc(), limits(rt, rate), 0).expect(rt, "a pace");
+        let (book, mut tally) = Book::<OfTest>::open(0);
         match open_desk(rt.alloc(), 2, &book) {
             Ok((desk, round, seats)) => {
                 let Some((first, second)) = two_seats(&desk, seats) else {
                     panic!(rt; "no seats")
                 };
+                let first_tally = tally.split();
+                let second_tally = tally.split();
                 Opened {
                     desk,
-                    round,
+                    rounds: PacedRounds::new(Rounds::new(round, book, tally), pace, 0),
                     first,
                     second,
-                    book,
-                    tally,
+                    first_tally,
+                    second_tally,
                 }
             }
             Err(_) => panic!(rt; "no desk"),
@@ -62,25 +69,25 @@ pub(crate) struct Lent<B: PartsName> {
 }
 
 impl<B: PartsName> Lent<B> {
-    pub(crate) fn new(opened: Opened, limits: Limits) -> Lent<B>
+    pub(crate) fn new(opened: Opened) -> Lent<B>
         requires desk { desk_id opened.desk ≡ B.desk }
         requires lanes { opened.desk.lanes ≡ B.lanes }
+        requires rates { rates_of opened.rounds.pace ≡ B.rates }
+        requires carried { opened.rounds.carried ≡ B.carried }
+        requires any { (moment : ℕ) → B.when moment ≡ true }
     {
         let Opened {
             desk,
-            round,
+            rounds,
             first,
             second,
-            book,
-            mut tally,
+            first_tally,
+            second_tally,
         } = opened;
-        let first = LentWorker::new(first, tally.split());
-        let second = LentWorker::new(second, tally.split());
-        let rounds = LentRounds::new(Rounds::new(round, book, tally));
         Lent {
-            house: House::new(LentDesk::new(desk), rounds, limits),
-            first,
-            second,
+            house: House::new(LentDesk::new(desk), LentRounds::new(rounds)),
+            first: LentWorker::new(first, first_tally),
+            second: LentWorker::new(second, second_tally),
         }
     }
 

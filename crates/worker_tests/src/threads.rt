@@ -1,12 +1,13 @@
 //! Two workers at once: the transfer of one is delayed until that of the other has moved an octet.
 
-ghost use Rattle.std.specs.Prelude.{◌≡◌};
+ghost use Rattle.std.specs.Prelude.{◌≡◌, ℕ, true};
+ghost use Rattle.round_pace.specs.Histories.{rates_of};
 ghost use Rattle.lane_desk.specs.Seats.{desk_id};
 ghost use Rattle.lent_parts.specs.Names.{IsPassOf};
 ghost use Rattle.transfer_worker.specs.Boards.{board_id};
 
 use super::counted::End;
-use super::expect::{OfTest, holds, limits};
+use super::expect::{OfTest, holds};
 use super::house::{FIRST, House, Job, Keeper, SECOND};
 use super::parts::{Lent, Opened, settle_house};
 use ftp_terms::DataType;
@@ -186,13 +187,16 @@ where
     R: Abort + AllocGlobal + Threads + Wait + Sync,
     requires desk { desk_id opened.desk ≡ B.desk }
     requires lanes { opened.desk.lanes ≡ B.lanes }
+    requires rates { rates_of opened.rounds.pace ≡ B.rates }
+    requires carried { opened.rounds.carried ≡ B.carried }
+    requires any { (moment : ℕ) → B.when moment ≡ true }
     requires board { board_id board.board ≡ B.board }
 {
     let Lent {
         house,
         first,
         second,
-    } = Lent::<B>::new(opened, limits(rt, 0));
+    } = Lent::<B>::new(opened);
     let Board { board, one, two } = board;
     let hands = both(rt, hand_of(first, one), hand_of(second, two));
     work_and_settle(rt, house, LentBoard::new(board), hands)
@@ -200,7 +204,7 @@ where
 
 #[test]
 fn one_transfer_waits_for_the_other(rt: HostRuntime) {
-    let opened = Opened::new(&rt);
+    let opened = Opened::new(&rt, 0);
     let board = Board::new(&rt);
     let (did_one_each, settled) = work_both::<Brand, _>(&rt, opened, board);
     holds(&rt, did_one_each && settled.moved == 280_000);

@@ -1,14 +1,15 @@
 //! Turns of one transfer on one lane: grants of one octet and of two, under a rate of the server.
 
-ghost use Rattle.std.specs.Prelude.{◌≡◌, IfNone};
+ghost use Rattle.std.specs.Prelude.{◌≡◌, ℕ, true, IfNone};
 ghost use Rattle.desk_rule.specs.declared.view.SeatState.TheVariants.{Asked};
 ghost use Rattle.desk_rule.specs.Lanes.{has_looked};
+ghost use Rattle.round_pace.specs.Histories.{rates_of};
 ghost use Rattle.lane_desk.specs.Seats.{desk_id, seat_view, IsSeatOf, IsSameSeat};
 ghost use Rattle.lent_parts.specs.Names.{SitsAt};
 ghost use Rattle.transfer_worker.specs.Turns.{IsTold};
 
 use super::ends::{File, Kept, Line};
-use super::expect::{OfTest, holds, limits};
+use super::expect::{OfTest, holds};
 use super::house::House;
 use super::parts::{Lent, Opened};
 use data_pump::{DataIn, DataOut, PumpEnd, Pumped};
@@ -16,7 +17,7 @@ use ftp_terms::DataType;
 use grant_ledger::{Settled, Tally};
 use lane_desk::{Desk, LaneSeat, SeatState};
 use lent_parts::{LentWorker, PartsName};
-use line_rates::{Ask, Limits};
+use line_rates::Ask;
 use std::marker::{Brand, PhantomData};
 use std::process::Abort;
 use std::sync::Wait;
@@ -101,13 +102,13 @@ impl<B: PartsName> Lane<B> {
         }
     }
 
-    // An ask, a turn that finds nothing, a round, and the turn of its grant: whether it moved this much and ended
-    // in this way.
+    // An ask, a turn that finds nothing, a round this many ticks of the pace after the last one, and the turn of its grant: whether it
+    // moved this much and ended in this way.
     fn moves(
         &mut self,
         rt: &(impl Abort + AllocGlobal),
         house: &House<B>,
-        limits: &Limits,
+        ticks: u64,
         moving: &mut Moving,
         moved: u64,
         end: PumpEnd,
@@ -118,7 +119,7 @@ impl<B: PartsName> Lane<B> {
                 self.seat.ask(desk, moving.ask());
                 let looked = moving.turn(desk, &mut self.seat, &mut self.tally);
                 holds(rt, looked.is_none());
-                house.serve_under(rt.alloc(), limits);
+                house.serve_after(rt.alloc(), ticks);
                 let pumped = moving.turn(desk, &mut self.seat, &mut self.tally);
                 pumped == Some(Pumped { moved, end })
             }
@@ -127,13 +128,12 @@ impl<B: PartsName> Lane<B> {
     }
 }
 
-// Under a rate of one octet per tick: CR LF for the LF of a text, octet by octet.
+// A round in each tick of the pace, under a rate of one octet per tick: CR LF for the LF of a text, octet by octet.
 fn sends_a_text<B: PartsName>(
     rt: &(impl Abort + AllocGlobal),
     house: &House<B>,
     lane: &mut Lane<B>,
 ) {
-    let rate = limits(rt, 10);
     let source = File {
         rest: b"a\nb",
         reads: 2,
@@ -146,17 +146,16 @@ fn sends_a_text<B: PartsName>(
     let opened = DataOut::open(rt.alloc(), source, connection, DataType::Ascii);
     let mut out = Moving::Out(opened.expect(rt, "a download"));
     for end in [PumpEnd::More, PumpEnd::More, PumpEnd::More, PumpEnd::Ended] {
-        holds(rt, lane.moves(rt, house, &rate, &mut out, 1, end));
+        holds(rt, lane.moves(rt, house, 1, &mut out, 1, end));
     }
 }
 
-// Under a rate of two octets per tick: pieces `a CR`, `LF b`, `CR`, the last CR of which belongs to the text.
+// A round in each second tick: pieces `a CR`, `LF b`, `CR`, the last CR of which belongs to the text.
 fn receives_a_text<B: PartsName>(
     rt: &(impl Abort + AllocGlobal),
     house: &House<B>,
     lane: &mut Lane<B>,
 ) {
-    let rate = limits(rt, 20);
     let connection = Line {
         rest: b"a\r\nb\r",
         wanted: b"",
@@ -171,13 +170,10 @@ fn receives_a_text<B: PartsName>(
     for moved in [2, 2, 1] {
         holds(
             rt,
-            lane.moves(rt, house, &rate, &mut moving, moved, PumpEnd::More),
+            lane.moves(rt, house, 2, &mut moving, moved, PumpEnd::More),
         );
     }
-    holds(
-        rt,
-        lane.moves(rt, house, &rate, &mut moving, 0, PumpEnd::Ended),
-    );
+    holds(rt, lane.moves(rt, house, 2, &mut moving, 0, PumpEnd::Ended));
     match moving.into_sink() {
         Some(sink) => holds(rt, sink.wanted.is_empty()),
         None => panic!(rt; "a download"),
@@ -188,12 +184,15 @@ fn receives_a_text<B: PartsName>(
 fn move_texts<B: PartsName>(rt: &(impl Abort + AllocGlobal + Wait), opened: Opened) -> Settled
     requires desk { desk_id opened.desk ≡ B.desk }
     requires lanes { opened.desk.lanes ≡ B.lanes }
+    requires rates { rates_of opened.rounds.pace ≡ B.rates }
+    requires carried { opened.rounds.carried ≡ B.carried }
+    requires any { (moment : ℕ) → B.when moment ≡ true }
 {
     let Lent {
         house,
         first,
         second,
-    } = Lent::<B>::new(opened, limits(rt, 0));
+    } = Lent::<B>::new(opened);
     let mut lane = Lane::new(first);
     lane.sit(rt, &house);
     sends_a_text(rt, &house, &mut lane);
@@ -209,6 +208,6 @@ fn move_texts<B: PartsName>(rt: &(impl Abort + AllocGlobal + Wait), opened: Open
 
 #[test]
 fn texts_go_by_one_and_by_two_octets(rt: HostRuntime) {
-    let settled = move_texts::<Brand>(&rt, Opened::new(&rt));
+    let settled = move_texts::<Brand>(&rt, Opened::new(&rt, 500));
     holds(&rt, settled.moved == 4 + 5 && settled.issued == 4 + 8);
 }

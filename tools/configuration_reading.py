@@ -135,8 +135,8 @@ LATEST = {
 
 def similar_to(key, keys):
     """What is told of the first key that is most similar to one, where few letters lead there."""
-    most = min(MOST_EDITS, len(key.encode()) - 1)
-    edits = {it: edits_between(key, it) for it in keys if len(key.encode()) <= len(it) + MOST_EDITS}
+    most = min(MOST_EDITS, len(key) - 1)
+    edits = {it: edits_between(key, it) for it in keys}
     near = {it: count for it, count in edits.items() if 0 < count <= most}
     return f"; a similar key is {min(near, key=near.get)}" if near else ""
 

@@ -6,6 +6,7 @@ pub mod Numbers
 pub mod RateRows
 pub mod Refused
 pub mod Settings
+pub mod Similar
 pub mod Store
 pub mod UserProblems
 pub mod Users

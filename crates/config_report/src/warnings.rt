@@ -2,10 +2,12 @@
 
 ghost use Rattle.std.specs.Prelude.{◌≡◌, ◌++◌, IfOk, OnOk};
 ghost use Rattle.server_config.specs.Settings.{told_address};
-ghost use Rattle.config_report.specs.Warnings.{has_few_ports, is_among_own, is_untold, server_warnings, user_warnings, warnings};
+ghost use Rattle.config_report.specs.Warnings.{has_few_ports, is_among_own, is_open, is_untold, server_warnings, user_warnings, warnings};
 
-use crate::floors::is_single;
+use crate::floors::{is_single, is_unmet};
 use crate::homes::has_home;
+use crate::letters::may_browse;
+use crate::roots::{is_nearly_memory, is_relative};
 use crate::warning::Warning;
 use config_file::{GroupTable, ServerTable, UserTable};
 use server_config::ServedStore;
@@ -49,12 +51,29 @@ fn has_few_ports(server: &ServerTable) -> bool
         < u32::from(server.passive_first) + u32::from(server.max_cons)
 }
 
+/// Returns whether a user other than `anonymous` has an empty password.
+fn is_open(user: &UserTable) -> bool
+    ensures open { result ≡ is_open user.now }
+{
+    user.password.is_empty() && user.name != "anonymous"
+}
+
 /// Adds the warnings of the server.
-fn warn_of_server<'a>(found: &mut Vec<Warning<'a>>, server: &ServerTable) -> Result<(), AllocError>
+fn warn_of_server<'a>(
+    found: &mut Vec<Warning<'a>>,
+    server: &ServerTable<'a>,
+) -> Result<(), AllocError>
     ensures warnings { OnOk result
         (found.new.items ≡ found.old.items ++ server_warnings server.now) }
 {
     let (first, last) = (server.passive_first, server.passive_last);
+    let root = server.root;
+    if is_nearly_memory(root) {
+        found.push(Warning::NearlyMemory { root })?;
+    }
+    if is_relative(root) {
+        found.push(Warning::RelativeRoot { root })?;
+    }
     if is_untold(server) {
         found.push(Warning::NoAddress)?;
     }
@@ -84,6 +103,18 @@ fn warn_of_user<'a>(
         ≡ found.old.items ++ user_warnings server.now groups.now store.old user.now) }
     ensures same { store.new ≡ store.old }
 {
+    if is_open(user) {
+        found.push(Warning::NoPassword { user: user.name })?;
+    }
+    if !may_browse(user.perms) {
+        found.push(Warning::Unbrowsed {
+            user: user.name,
+            letters: user.perms,
+        })?;
+    }
+    if is_unmet(server, groups, user) {
+        found.push(Warning::NoFirstSession { user: user.name })?;
+    }
     if is_single(server, groups, user) {
         found.push(Warning::NoSecondSession { user: user.name })?;
     }
@@ -99,7 +130,7 @@ fn warn_of_user<'a>(
 /// Returns the warnings of a configuration: those of its server, and then those of its users in their order.
 pub fn warnings_of<'a>(
     alloc: Global,
-    server: &ServerTable,
+    server: &ServerTable<'a>,
     groups: &[GroupTable],
     users: &[UserTable<'a>],
     store: &mut ServedStore,

@@ -122,13 +122,13 @@ ordered letters =
     ++ (word_if letters 109 (codes "m") ++ word_if letters 119 (codes "w")))))))
 
 -- what the letters permit
-abbrev pub permitted : List ℕ → List ℕ
+unfoldable pub permitted : List ℕ → List ℕ
 permitted letters =
-    word_if letters 101 (codes "to change directory, ") ++ (word_if letters 108 (codes "to list, ")
-    ++ (word_if letters 114 (codes "to retrieve, ") ++ (word_if letters 97 (codes "to append, ")
-    ++ (word_if letters 100 (codes "to delete, ") ++ (word_if letters 102 (codes "to rename, ")
-    ++ (word_if letters 109 (codes "to make directories, ")
-    ++ word_if letters 119 (codes "to store, ")))))))
+    word_if letters 101 (codes "change directory, ") ++ (word_if letters 108 (codes "list, ")
+    ++ (word_if letters 114 (codes "retrieve, ") ++ (word_if letters 97 (codes "append, ")
+    ++ (word_if letters 100 (codes "delete, ") ++ (word_if letters 102 (codes "rename, ")
+    ++ (word_if letters 109 (codes "make directories, ")
+    ++ word_if letters 119 (codes "store, ")))))))
 
 abbrev pub user_line : UserTable → List ℕ
 user_line user =
@@ -154,8 +154,8 @@ warning_text (FewPorts first last connections) =
 warning_text (NoPassword user) =
     codes "user " ++ user.now ++ codes ": the password is empty, and anybody may log in"
 warning_text (Unbrowsed user letters) =
-    codes "user " ++ user.now ++ codes ": the letters " ++ letters.now ++ codes " permit "
-    ++ permitted letters.now ++ codes "and no more; clients need e and l"
+    codes "user " ++ user.now ++ codes ": clients need the letters e and l; permitted: "
+    ++ permitted letters.now ++ codes "nothing else"
 warning_text (NoFirstSession user) =
     codes "user " ++ user.now
     ++ codes ": not even the first session can be guaranteed what each is, and no login is accepted"

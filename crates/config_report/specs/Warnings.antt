@@ -48,14 +48,20 @@ is_relative root =
     not (bytes_eq (map to_ascii_lowercase root) (codes "memory"))
     && not (begins_with_slash root)
 
-abbrev pub server_warnings : ServerTable → List Warning
-server_warnings server =
-    (if is_nearly_memory server.root.now then NearlyMemory server.root ∷ [] else [])
-    ++ (if is_relative server.root.now then RelativeRoot server.root ∷ [] else [])
-    ++ (if is_untold server then NoAddress ∷ [] else [])
+abbrev pub root_warnings : Bor (List ℕ) → List Warning
+root_warnings root =
+    (if is_nearly_memory root.now then NearlyMemory root ∷ [] else [])
+    ++ (if is_relative root.now then RelativeRoot root ∷ [] else [])
+
+abbrev pub port_warnings : ServerTable → List Warning
+port_warnings server =
+    (if is_untold server then NoAddress ∷ [] else [])
     ++ (if is_among_own server then OwnPorts server.passive_first server.passive_last ∷ [] else [])
     ++ (if has_few_ports server
     then FewPorts server.passive_first server.passive_last server.max_cons ∷ [] else [])
+
+abbrev pub server_warnings : ServerTable → List Warning
+server_warnings server = root_warnings server.root ++ port_warnings server
 
 -- ---- of a user's guarantees
 
@@ -145,12 +151,19 @@ has_home (served.Folder text) home = true
 
 -- ---- all
 
-abbrev pub user_warnings : ServerTable → List GroupTable → ServedStore → UserTable → List Warning
-user_warnings server groups store user =
+abbrev pub access_warnings : UserTable → List Warning
+access_warnings user =
     (if is_open user then NoPassword user.name ∷ [] else [])
     ++ (if may_browse user.perms.now then [] else Unbrowsed user.name user.perms ∷ [])
-    ++ (if is_unmet server groups user then NoFirstSession user.name ∷ [] else [])
+
+abbrev pub floor_warnings : ServerTable → List GroupTable → UserTable → List Warning
+floor_warnings server groups user =
+    (if is_unmet server groups user then NoFirstSession user.name ∷ [] else [])
     ++ (if is_single server groups user then NoSecondSession user.name ∷ [] else [])
+
+abbrev pub user_warnings : ServerTable → List GroupTable → ServedStore → UserTable → List Warning
+user_warnings server groups store user =
+    access_warnings user ++ floor_warnings server groups user
     ++ (if has_home store user.home.now then [] else NoHome user.name user.home ∷ [])
 
 -- those of the server, and then those of the users in their order

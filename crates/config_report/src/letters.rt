@@ -47,7 +47,7 @@ pub(crate) fn ordered(alloc: Global, letters: &str) -> Result<String, AllocError
     )
 }
 
-/// Letters, printed as what they permit, each followed by a blank.
+/// Letters, printed as what they permit, each followed by a comma and a blank.
 #[derive(Clone, Copy)]
 pub(crate) struct Permitted<'a>(pub(crate) &'a str);
 
@@ -57,19 +57,20 @@ impl fmt::Display for Permitted<'_> {
 
     ghost output = { λ p. Some (permitted p.0.now) };
 
+    #[tactic(auto, unfolding(crate::specs::Lines::permitted))]
     fn fmt<W: fmt::Write>(&self, f: &mut fmt::Formatter<W>) -> fmt::Result {
         let letters = self.0;
         write!(
             f,
             "{}{}{}{}{}{}{}{}",
-            word_if(letters, b'e', "to change directory, "),
-            word_if(letters, b'l', "to list, "),
-            word_if(letters, b'r', "to retrieve, "),
-            word_if(letters, b'a', "to append, "),
-            word_if(letters, b'd', "to delete, "),
-            word_if(letters, b'f', "to rename, "),
-            word_if(letters, b'm', "to make directories, "),
-            word_if(letters, b'w', "to store, ")
+            word_if(letters, b'e', "change directory, "),
+            word_if(letters, b'l', "list, "),
+            word_if(letters, b'r', "retrieve, "),
+            word_if(letters, b'a', "append, "),
+            word_if(letters, b'd', "delete, "),
+            word_if(letters, b'f', "rename, "),
+            word_if(letters, b'm', "make directories, "),
+            word_if(letters, b'w', "store, ")
         )
     }
 }

@@ -89,7 +89,7 @@ impl fmt::Display for Warning<'_> {
             }
             Warning::Unbrowsed { user, letters } => write!(
                 f,
-                "user {user}: the letters {letters} permit {}and no more; clients need e and l",
+                "user {user}: clients need the letters e and l; permitted: {}nothing else",
                 Permitted(letters)
             ),
             Warning::NoFirstSession { user } => write!(

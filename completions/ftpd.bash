@@ -11,6 +11,8 @@ _ftpd_words() {
     [[ ${COMP_WORDS[1]} == serve ]] && options="$2 $options"
     if [[ ${COMP_WORDS[1]} == help ]]; then
         [[ $COMP_CWORD -gt 2 ]] || mapfile -t COMPREPLY < <(compgen -W "$1" -- "$word")
+    elif [[ $before == --*-timeout || $before == --*-delay ]]; then
+        return # a number
     elif [[ $word == -* && $before != --stop-file ]]; then
         mapfile -t COMPREPLY < <(compgen -W "$options" -- "$word")
     else
@@ -19,7 +21,7 @@ _ftpd_words() {
 }
 
 _ftpd() {
-    _ftpd_words 'share check check-config migrate script serve help' '--stop-file'
+    _ftpd_words 'share check check-config migrate script serve help' '--stop-file --login-timeout --idle-timeout --login-delay'
 }
 
 _sheets() {

@@ -585,10 +585,16 @@ def what_cannot_be_served():
     """A folder that is not there, a stop file that is, an output that takes nothing, and a configuration that is none."""
     server = Server(root="folder")
     os.rmdir(server.folder)
-    same(server.run(), (1, "", "ftpd: Store\n"), "a folder that is not there")
+    same(server.run(), (1, "", f"{server.folder}: No such file or directory (os error 2)\nftpd: Store\n"), "a folder that is not there")
+    with open(server.folder, "w", encoding="utf-8"):
+        same(server.run(), (1, "", f"{server.folder}: Not a directory (os error 20)\nftpd: Store\n"), "a file for a folder")
+    os.remove(server.folder)
     server = Server(stop=True)
     server.stop()
-    same(server.run(), (1, "", "ftpd: Stopped\n"), "a stop file that is there before")
+    same(server.run(), (1, "", "stop is there already: remove it\nftpd: Stopped\n"), "a stop file that is there before")
+    server = Server()
+    server.words = ["--stop-file", "gone/stop"]
+    same(server.run(), (1, "", "the stop file gone/stop could not be noticed: No such file or directory (os error 2)\nftpd: Stopped\n"), "a stop file without its folder")
     with open("/dev/full", "wb") as full:
         same(Server().run(stdout=full), (1, None, "ftpd: WriteFault\n"), "an output that takes nothing")
     same(Server(text="version = 3\n").run(), (1, "", "top: version: out of range; it must be a number from 1 to 2\nftpd: OutOfRange\n"), "a configuration of a later version")

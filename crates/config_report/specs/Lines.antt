@@ -1,8 +1,8 @@
 -- The lines of the report on a configuration.
-use Rattle.std.specs.Prelude.{ℕ, ◌-◌, ◌^◌, ◌&&◌, if◌then◌else◌, nat_eq, List, [], ◌∷◌, ◌++◌, codes, Option, Some, None}
+use Rattle.std.specs.Prelude.{ℕ, ◌-◌, ◌^◌, ◌&&◌, if◌then◌else◌, nat_eq, List, [], ◌∷◌, ◌++◌, codes, cond, Option, Some, None}
 use Rattle.std.specs.Borrow.{Bor}
 use Rattle.std.specs.Fmt.{decimal, format_spec, styled_decimal, styled_text}
-use Rattle.std.specs.List.{flat_map}
+use Rattle.std.specs.List.{flat_map, list_any}
 use Rattle.std.specs.Net.Addr.{ipv4_octets}
 use Rattle.std.specs.Net.Text.{ipv4_text}
 use Rattle.config_file.specs.declared.stated.ServerTable.{ServerTable}
@@ -10,7 +10,7 @@ use Rattle.config_file.specs.declared.stated.GroupTable.{GroupTable}
 use Rattle.config_file.specs.declared.stated.UserTable.{UserTable}
 use Rattle.server_config.specs.Settings.{told_address}
 use Rattle.config_report.specs.declared.warning.Warning.{Warning}
-use Rattle.config_report.specs.declared.warning.Warning.TheVariants.{NoAddress, OwnPorts, FewPorts, NoSecondSession, NoHome}
+use Rattle.config_report.specs.declared.warning.Warning.TheVariants.{NearlyMemory, RelativeRoot, NoAddress, OwnPorts, FewPorts, NoPassword, Unbrowsed, NoFirstSession, NoSecondSession, NoHome}
 
 -- A text at the left of a column of this width, with blanks after it; and at its right, with blanks
 -- before it. A longer text is not cut.
@@ -109,14 +109,40 @@ users_head =
     10 ∷ left 16 (codes "user") ++ codes " " ++ left 10 (codes "may") ++ codes " "
     ++ left 16 (codes "group") ++ codes " home" ++ 10 ∷ []
 
+-- a text if the letter is among others
+abbrev pub word_if : List ℕ → ℕ → List ℕ → List ℕ
+word_if letters letter word = cond (list_any (nat_eq letter) letters) word (codes "")
+
+-- the letters among these in their order, `elradfmw`, each once
+abbrev pub ordered : List ℕ → List ℕ
+ordered letters =
+    word_if letters 101 (codes "e") ++ (word_if letters 108 (codes "l")
+    ++ (word_if letters 114 (codes "r") ++ (word_if letters 97 (codes "a")
+    ++ (word_if letters 100 (codes "d") ++ (word_if letters 102 (codes "f")
+    ++ (word_if letters 109 (codes "m") ++ word_if letters 119 (codes "w")))))))
+
+-- what the letters permit
+unfoldable pub permitted : List ℕ → List ℕ
+permitted letters =
+    word_if letters 101 (codes "change directory, ") ++ (word_if letters 108 (codes "list, ")
+    ++ (word_if letters 114 (codes "retrieve, ") ++ (word_if letters 97 (codes "append, ")
+    ++ (word_if letters 100 (codes "delete, ") ++ (word_if letters 102 (codes "rename, ")
+    ++ (word_if letters 109 (codes "make directories, ")
+    ++ word_if letters 119 (codes "store, ")))))))
+
 abbrev pub user_line : UserTable → List ℕ
 user_line user =
-    left 16 user.name.now ++ codes " " ++ left 10 user.perms.now ++ codes " "
+    left 16 user.name.now ++ codes " " ++ left 10 (ordered user.perms.now) ++ codes " "
     ++ left 16 (group_text user.group) ++ codes " " ++ user.home.now ++ 10 ∷ []
 
 -- ---- warnings
 
 abbrev pub warning_text : Warning → List ℕ
+warning_text (NearlyMemory root) =
+    root.now ++ codes " is the path of a folder; the word for a store in memory is memory"
+warning_text (RelativeRoot root) =
+    codes "the folder " ++ root.now
+    ++ codes " is sought where the program is started; state a path that begins with /"
 warning_text NoAddress =
     codes "clients are told 0.0.0.0 for passive connections; state masquerade_address"
 warning_text (OwnPorts first last) =
@@ -125,6 +151,14 @@ warning_text (OwnPorts first last) =
 warning_text (FewPorts first last connections) =
     decimal connections ++ codes " connections have fewer passive ports, " ++ decimal first
     ++ codes " to " ++ decimal last
+warning_text (NoPassword user) =
+    codes "user " ++ user.now ++ codes ": the password is empty, and anybody may log in"
+warning_text (Unbrowsed user letters) =
+    codes "user " ++ user.now ++ codes ": clients need the letters e and l; permitted: "
+    ++ permitted letters.now ++ codes "nothing else"
+warning_text (NoFirstSession user) =
+    codes "user " ++ user.now
+    ++ codes ": not even the first session can be guaranteed what each is, and no login is accepted"
 warning_text (NoSecondSession user) =
     codes "user " ++ user.now ++ codes ": a second session cannot be guaranteed what each is"
 warning_text (NoHome user home) =

@@ -1,7 +1,8 @@
 -- Settings that are accepted and have no use, each with its test.
-use Rattle.std.specs.Prelude.{ℕ, ◌+◌, ◌*◌, Bool, true, false, not, ◌||◌, ◌&&◌, cond, if◌then◌else◌, nat_eq, nat_le, nat_lt, List, [], ◌∷◌, ◌++◌, bytes_eq, Option, Some, None, Result, Ok, Err}
+use Rattle.std.specs.Prelude.{ℕ, ◌+◌, ◌*◌, Bool, true, false, not, ◌||◌, ◌&&◌, cond, if◌then◌else◌, nat_eq, nat_le, nat_lt, List, [], ◌∷◌, ◌++◌, bytes_eq, codes, length, map, Option, Some, None, Result, Ok, Err}
 use Rattle.std.specs.Borrow.{Bor}
-use Rattle.std.specs.List.{flat_map}
+use Rattle.std.specs.Char.{to_ascii_lowercase}
+use Rattle.std.specs.List.{flat_map, list_any}
 use Rattle.std.specs.Net.Addr.{ipv4_bits}
 use Rattle.ftp_terms.specs.declared.entries.EntryKind.{EntryKind}
 use Rattle.ftp_terms.specs.declared.entries.EntryKind.TheVariants as kind
@@ -15,7 +16,7 @@ use Rattle.config_file.specs.declared.stated.GroupTable.{GroupTable}
 use Rattle.config_file.specs.declared.stated.UserTable.{UserTable}
 use Rattle.server_config.specs.Settings.{told_address}
 use Rattle.config_report.specs.declared.warning.Warning.{Warning}
-use Rattle.config_report.specs.declared.warning.Warning.TheVariants.{NoAddress, OwnPorts, FewPorts, NoSecondSession, NoHome}
+use Rattle.config_report.specs.declared.warning.Warning.TheVariants.{NearlyMemory, RelativeRoot, NoAddress, OwnPorts, FewPorts, NoPassword, Unbrowsed, NoFirstSession, NoSecondSession, NoHome}
 use Rattle.config_report.specs.declared.warnings.TheConstants.{OWN_FIRST, OWN_LAST}
 
 -- ---- of the server
@@ -32,12 +33,35 @@ is_among_own server = nat_le server.passive_first OWN_LAST && nat_le OWN_FIRST s
 abbrev pub has_few_ports : ServerTable → Bool
 has_few_ports server = nat_lt (server.passive_last + 1) (server.passive_first + server.max_cons)
 
-abbrev pub server_warnings : ServerTable → List Warning
-server_warnings server =
+-- the root is the word `memory` in other letters: a folder
+abbrev pub is_nearly_memory : List ℕ → Bool
+is_nearly_memory root =
+    bytes_eq (map to_ascii_lowercase root) (codes "memory") && not (bytes_eq root (codes "memory"))
+
+abbrev pub begins_with_slash : List ℕ → Bool
+begins_with_slash [] = false
+begins_with_slash (c ∷ cs) = nat_eq c 47
+
+-- the root is the path of a folder that depends on where the program is started
+abbrev pub is_relative : List ℕ → Bool
+is_relative root =
+    not (bytes_eq (map to_ascii_lowercase root) (codes "memory"))
+    && not (begins_with_slash root)
+
+abbrev pub root_warnings : Bor (List ℕ) → List Warning
+root_warnings root =
+    (if is_nearly_memory root.now then NearlyMemory root ∷ [] else [])
+    ++ (if is_relative root.now then RelativeRoot root ∷ [] else [])
+
+abbrev pub port_warnings : ServerTable → List Warning
+port_warnings server =
     (if is_untold server then NoAddress ∷ [] else [])
     ++ (if is_among_own server then OwnPorts server.passive_first server.passive_last ∷ [] else [])
     ++ (if has_few_ports server
     then FewPorts server.passive_first server.passive_last server.max_cons ∷ [] else [])
+
+abbrev pub server_warnings : ServerTable → List Warning
+server_warnings server = root_warnings server.root ++ port_warnings server
 
 -- ---- of a user's guarantees
 
@@ -55,31 +79,56 @@ rates_named groups (Some name) = rates_by groups name.now
 abbrev pub fits : ℕ → ℕ → Bool
 fits sum rate = nat_eq rate 0 || nat_le sum rate
 
--- a session's guarantee one way is within the limit of the session, and twice that within the
--- limits of the user, the group and the way
-abbrev pub fits_twice : ℕ → ℕ → ℕ → ℕ → ℕ → Bool
-fits_twice floor session user group way =
-    fits floor session
-    && (fits (2 * floor) user && (fits (2 * floor) group && fits (2 * floor) way))
+-- a session's guarantee one way is within the limit of the session, and the sum of such guarantees
+-- within the limits of the user, the group and the way
+abbrev pub fits_within : ℕ → ℕ → ℕ → ℕ → ℕ → ℕ → Bool
+fits_within floor sum session user group way =
+    fits floor session && (fits sum user && (fits sum group && fits sum way))
 
 -- the sessions of the user have a guarantee
 abbrev pub has_floor : UserTable → Bool
 has_floor user = not (nat_eq user.session_down_floor 0) || not (nat_eq user.session_up_floor 0)
 
--- two sessions of the user, alone on the server, have their guarantees; both ways count against the
+-- a session of the user, alone on the server, has its guarantees; both ways count against the
 -- server's rate
+abbrev pub fit_one : ServerTable → ℕ × ℕ → UserTable → Bool
+fit_one server group user =
+    let down = user.session_down_floor in
+    let up = user.session_up_floor in
+    fits_within down down user.session_down_rate user.down_rate group.0 server.down_rate
+    && (fits_within up up user.session_up_rate user.up_rate group.1 server.up_rate
+    && fits (down + up) server.rate)
+
+-- two sessions of the user, alone on the server, have theirs
 abbrev pub fit_two : ServerTable → ℕ × ℕ → UserTable → Bool
 fit_two server group user =
-    fits_twice user.session_down_floor user.session_down_rate user.down_rate group.0
-    server.down_rate
-    && (fits_twice user.session_up_floor user.session_up_rate user.up_rate group.1 server.up_rate
-    && fits (2 * user.session_down_floor + 2 * user.session_up_floor) server.rate)
+    let down = user.session_down_floor in
+    let up = user.session_up_floor in
+    fits_within down (2 * down) user.session_down_rate user.down_rate group.0 server.down_rate
+    && (fits_within up (2 * up) user.session_up_rate user.up_rate group.1 server.up_rate
+    && fits (2 * down + 2 * up) server.rate)
 
--- the sessions of the user have a guarantee, and a second session cannot have it, even alone with
--- the first
+-- the sessions of the user have a guarantee, and not even the first session can have it
+abbrev pub is_unmet : ServerTable → List GroupTable → UserTable → Bool
+is_unmet server groups user =
+    has_floor user && not (fit_one server (rates_named groups user.group) user)
+
+-- the sessions of the user have a guarantee; the first session can have it, and a second cannot,
+-- even alone with the first
 abbrev pub is_single : ServerTable → List GroupTable → UserTable → Bool
 is_single server groups user =
-    has_floor user && not (fit_two server (rates_named groups user.group) user)
+    let group = rates_named groups user.group in
+    has_floor user && (fit_one server group user && not (fit_two server group user))
+
+-- ---- of a user's password and letters
+
+-- the password is empty; that of `anonymous` is of no account
+abbrev pub is_open : UserTable → Bool
+is_open user = nat_eq (length user.password.now) 0 && not (bytes_eq user.name.now (codes "anonymous"))
+
+-- the letters permit to change directories and to list them
+abbrev pub may_browse : List ℕ → Bool
+may_browse letters = list_any (nat_eq 101) letters && list_any (nat_eq 108) letters
 
 -- ---- of a user's home
 
@@ -102,9 +151,19 @@ has_home (served.Folder text) home = true
 
 -- ---- all
 
+abbrev pub access_warnings : UserTable → List Warning
+access_warnings user =
+    (if is_open user then NoPassword user.name ∷ [] else [])
+    ++ (if may_browse user.perms.now then [] else Unbrowsed user.name user.perms ∷ [])
+
+abbrev pub floor_warnings : ServerTable → List GroupTable → UserTable → List Warning
+floor_warnings server groups user =
+    (if is_unmet server groups user then NoFirstSession user.name ∷ [] else [])
+    ++ (if is_single server groups user then NoSecondSession user.name ∷ [] else [])
+
 abbrev pub user_warnings : ServerTable → List GroupTable → ServedStore → UserTable → List Warning
 user_warnings server groups store user =
-    (if is_single server groups user then NoSecondSession user.name ∷ [] else [])
+    access_warnings user ++ floor_warnings server groups user
     ++ (if has_home store user.home.now then [] else NoHome user.name user.home ∷ [])
 
 -- those of the server, and then those of the users in their order

@@ -1,8 +1,7 @@
-//! The check that two sessions of a user can have their guarantees.
+//! The checks that a session of a user, and two, can have their guarantees.
 
-ghost use Rattle.std.specs.Prelude.{◌≡◌, ◌≤◌, ◌*◌};
-ghost use Rattle.config_file.specs.declared.stated.TheConstants.{MAX_RATE};
-ghost use Rattle.config_report.specs.Warnings.{fit_two, fits, fits_twice, has_floor, is_single, rates_by, rates_named};
+ghost use Rattle.std.specs.Prelude.{◌≡◌};
+ghost use Rattle.config_report.specs.Warnings.{fit_one, fit_two, fits, fits_within, has_floor, is_single, is_unmet, rates_by, rates_named};
 
 use config_file::{GroupTable, ServerTable, UserTable};
 
@@ -35,13 +34,12 @@ fn fits(sum: u64, rate: u64) -> bool
     rate == 0 || sum <= rate
 }
 
-/// Returns whether a session's guarantee one way is within the limit of the session, and twice that within the limits
-/// of the user, the group and the way.
-fn fits_twice(floor: u64, session: u64, user: u64, group: u64, way: u64) -> bool
-    requires floor { floor ≤ MAX_RATE }
-    ensures fits { result ≡ fits_twice floor session user group way }
+/// Returns whether a session's guarantee one way is within the limit of the session, and the sum of such guarantees
+/// within the limits of the user, the group and the way.
+fn fits_within(floor: u64, sum: u64, session: u64, user: u64, group: u64, way: u64) -> bool
+    ensures fits { result ≡ fits_within floor sum session user group way }
 {
-    fits(floor, session) && fits(2 * floor, user) && fits(2 * floor, group) && fits(2 * floor, way)
+    fits(floor, session) && fits(sum, user) && fits(sum, group) && fits(sum, way)
 }
 
 fn has_floor(user: &UserTable) -> bool
@@ -50,20 +48,45 @@ fn has_floor(user: &UserTable) -> bool
     user.session_down_floor != 0 || user.session_up_floor != 0
 }
 
+/// Returns whether a session of a user, whose group has these rates, can have its guarantees.
+fn fit_one(server: &ServerTable, group: (u64, u64), user: &UserTable) -> bool
+    ensures fit { result ≡ fit_one server.now group user.now }
+{
+    let down = user.session_down_floor;
+    let up = user.session_up_floor;
+    fits_within(
+        down,
+        down,
+        user.session_down_rate,
+        user.down_rate,
+        group.0,
+        server.down_rate,
+    ) && fits_within(
+        up,
+        up,
+        user.session_up_rate,
+        user.up_rate,
+        group.1,
+        server.up_rate,
+    ) && fits(down + up, server.rate)
+}
+
 /// Returns whether two sessions of a user, whose group has these rates, can have their guarantees.
 fn fit_two(server: &ServerTable, group: (u64, u64), user: &UserTable) -> bool
     ensures fit { result ≡ fit_two server.now group user.now }
 {
     let down = user.session_down_floor;
     let up = user.session_up_floor;
-    fits_twice(
+    fits_within(
         down,
+        2 * down,
         user.session_down_rate,
         user.down_rate,
         group.0,
         server.down_rate,
-    ) && fits_twice(
+    ) && fits_within(
         up,
+        2 * up,
         user.session_up_rate,
         user.up_rate,
         group.1,
@@ -71,9 +94,17 @@ fn fit_two(server: &ServerTable, group: (u64, u64), user: &UserTable) -> bool
     ) && fits(2 * down + 2 * up, server.rate)
 }
 
-/// Returns whether the sessions of a user have a guarantee that a second session cannot have.
+/// Returns whether the sessions of a user have a guarantee that not even the first session can have.
+pub(crate) fn is_unmet(server: &ServerTable, groups: &[GroupTable], user: &UserTable) -> bool
+    ensures unmet { result ≡ is_unmet server.now groups.now user.now }
+{
+    has_floor(user) && !fit_one(server, rates_named(groups, user.group), user)
+}
+
+/// Returns whether the sessions of a user have a guarantee that the first session can have, and a second cannot.
 pub(crate) fn is_single(server: &ServerTable, groups: &[GroupTable], user: &UserTable) -> bool
     ensures single { result ≡ is_single server.now groups.now user.now }
 {
-    has_floor(user) && !fit_two(server, rates_named(groups, user.group), user)
+    let group = rates_named(groups, user.group);
+    has_floor(user) && fit_one(server, group, user) && !fit_two(server, group, user)
 }

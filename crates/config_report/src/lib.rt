@@ -9,11 +9,14 @@
 
 mod floors;
 mod homes;
+mod letters;
 mod lines;
 mod reporting;
+mod roots;
 mod warning;
 mod warnings;
 
 pub use reporting::report;
+pub use roots::is_nearly_memory;
 pub use warning::Warning;
 pub use warnings::warnings_of;

@@ -6,6 +6,7 @@ ghost use Rattle.std.specs.Net.Addr.{ipv4_octets};
 ghost use Rattle.std.specs.Net.Text.{ipv4_text};
 ghost use Rattle.config_report.specs.Lines.{both_line, group_rates, listens_line, part_line, port_text, ports_text, rate_column, rate_columns, rates_head, report_text, server_lines, server_rates, serves_line, takes_line, tells_line, user_line, user_rates, users_head, warning_line, ways_line};
 
+use crate::letters::ordered;
 use crate::warning::Warning;
 use crate::warnings::told_address;
 use config_file::{GroupTable, ServerTable, UserTable};
@@ -195,15 +196,16 @@ fn write_users_head(text: &mut String) -> Result<(), AllocError>
     writeln!(text, "\n{:<16} {:<10} {:<16} home", "user", "may", "group")
 }
 
-fn write_user(text: &mut String, user: &UserTable) -> Result<(), AllocError>
+fn write_user(alloc: Global, text: &mut String, user: &UserTable) -> Result<(), AllocError>
     ensures line { OnOk result
         (string_bytes text.new ≡ string_bytes text.old ++ user_line user.now) }
 {
     let group = user.group.unwrap_or("-");
+    let letters = ordered(alloc, user.perms)?;
     writeln!(
         text,
         "{:<16} {:<10} {:<16} {}",
-        user.name, user.perms, group, user.home
+        user.name, letters, group, user.home
     )
 }
 
@@ -217,12 +219,12 @@ fn write_groups(text: &mut String, groups: &[GroupTable]) -> Result<(), AllocErr
     Ok(())
 }
 
-fn write_users(text: &mut String, users: &[UserTable]) -> Result<(), AllocError>
+fn write_users(alloc: Global, text: &mut String, users: &[UserTable]) -> Result<(), AllocError>
     ensures lines { OnOk result
         (string_bytes text.new ≡ string_bytes text.old ++ flat_map user_line users.now) }
 {
     for user in users {
-        write_user(text, user)?;
+        write_user(alloc, text, user)?;
     }
     Ok(())
 }
@@ -264,7 +266,7 @@ pub(crate) fn lines_of(
     write_groups(&mut text, groups)?;
     write_rates_of_users(&mut text, users)?;
     write_users_head(&mut text)?;
-    write_users(&mut text, users)?;
+    write_users(alloc, &mut text, users)?;
     write_warnings(&mut text, warnings)?;
     Ok(text)
 }

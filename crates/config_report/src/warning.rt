@@ -1,10 +1,19 @@
 //! Warnings: settings that are accepted and have no use.
 
+use crate::letters::Permitted;
 use std::fmt;
 
 /// A setting that is accepted and has no use. It prints as one line, without its end.
 #[derive(Clone, Copy, Debug, PartialEq, Eq)]
 pub enum Warning<'a> {
+    /// The root is the word `memory` in other letters, and so the path of a folder.
+    NearlyMemory {
+        root: &'a str,
+    },
+    /// The root is a path that does not begin with `/`.
+    RelativeRoot {
+        root: &'a str,
+    },
     /// The address for passive connections is 0.0.0.0.
     NoAddress,
     /// Passive ports, from the first to the last of these, are among those that the machine takes for its own
@@ -18,6 +27,19 @@ pub enum Warning<'a> {
         first: u16,
         last: u16,
         connections: u16,
+    },
+    /// The user's password is empty.
+    NoPassword {
+        user: &'a str,
+    },
+    /// The user's letters do not permit to change directories and to list them.
+    Unbrowsed {
+        user: &'a str,
+        letters: &'a str,
+    },
+    /// Not even the first session of the user can have its guarantee.
+    NoFirstSession {
+        user: &'a str,
     },
     /// A second session of the user cannot have the guarantee of the first.
     NoSecondSession {
@@ -38,6 +60,14 @@ impl fmt::Display for Warning<'_> {
 
     fn fmt<W: fmt::Write>(&self, f: &mut fmt::Formatter<W>) -> fmt::Result {
         match self {
+            Warning::NearlyMemory { root } => write!(
+                f,
+                "{root} is the path of a folder; the word for a store in memory is memory"
+            ),
+            Warning::RelativeRoot { root } => write!(
+                f,
+                "the folder {root} is sought where the program is started; state a path that begins with /"
+            ),
             Warning::NoAddress => write!(
                 f,
                 "clients are told 0.0.0.0 for passive connections; state masquerade_address"
@@ -53,6 +83,18 @@ impl fmt::Display for Warning<'_> {
             } => write!(
                 f,
                 "{connections} connections have fewer passive ports, {first} to {last}"
+            ),
+            Warning::NoPassword { user } => {
+                write!(f, "user {user}: the password is empty, and anybody may log in")
+            }
+            Warning::Unbrowsed { user, letters } => write!(
+                f,
+                "user {user}: clients need the letters e and l; permitted: {}nothing else",
+                Permitted(letters)
+            ),
+            Warning::NoFirstSession { user } => write!(
+                f,
+                "user {user}: not even the first session can be guaranteed what each is, and no login is accepted"
             ),
             Warning::NoSecondSession { user } => write!(
                 f,

@@ -2,10 +2,12 @@
 
 ghost use Rattle.std.specs.Prelude.{◌≡◌, ◌++◌, IfOk, OnOk};
 ghost use Rattle.server_config.specs.Settings.{told_address};
-ghost use Rattle.config_report.specs.Warnings.{has_few_ports, is_among_own, is_untold, server_warnings, user_warnings, warnings};
+ghost use Rattle.config_report.specs.Warnings.{access_warnings, floor_warnings, has_few_ports, is_among_own, is_open, is_untold, port_warnings, root_warnings, user_warnings, warnings};
 
-use crate::floors::is_single;
+use crate::floors::{is_single, is_unmet};
 use crate::homes::has_home;
+use crate::letters::may_browse;
+use crate::roots::{is_nearly_memory, is_relative};
 use crate::warning::Warning;
 use config_file::{GroupTable, ServerTable, UserTable};
 use server_config::ServedStore;
@@ -49,10 +51,30 @@ fn has_few_ports(server: &ServerTable) -> bool
         < u32::from(server.passive_first) + u32::from(server.max_cons)
 }
 
-/// Adds the warnings of the server.
-fn warn_of_server<'a>(found: &mut Vec<Warning<'a>>, server: &ServerTable) -> Result<(), AllocError>
+/// Returns whether a user other than `anonymous` has an empty password.
+fn is_open(user: &UserTable) -> bool
+    ensures open { result ≡ is_open user.now }
+{
+    user.password.is_empty() && user.name != "anonymous"
+}
+
+/// Adds the warnings of the root.
+fn warn_of_root<'a>(found: &mut Vec<Warning<'a>>, root: &'a str) -> Result<(), AllocError>
+    ensures warnings { OnOk result (found.new.items ≡ found.old.items ++ root_warnings root.entry) }
+{
+    if is_nearly_memory(root) {
+        found.push(Warning::NearlyMemory { root })?;
+    }
+    if is_relative(root) {
+        found.push(Warning::RelativeRoot { root })?;
+    }
+    Ok(())
+}
+
+/// Adds the warnings of the address and the ports.
+fn warn_of_ports<'a>(found: &mut Vec<Warning<'a>>, server: &ServerTable) -> Result<(), AllocError>
     ensures warnings { OnOk result
-        (found.new.items ≡ found.old.items ++ server_warnings server.now) }
+        (found.new.items ≡ found.old.items ++ port_warnings server.now) }
 {
     let (first, last) = (server.passive_first, server.passive_last);
     if is_untold(server) {
@@ -71,6 +93,42 @@ fn warn_of_server<'a>(found: &mut Vec<Warning<'a>>, server: &ServerTable) -> Res
     Ok(())
 }
 
+/// Adds the warnings of a user's password and letters.
+fn warn_of_access<'a>(found: &mut Vec<Warning<'a>>, user: &UserTable<'a>) -> Result<(), AllocError>
+    ensures warnings { OnOk result
+        (found.new.items ≡ found.old.items ++ access_warnings user.now) }
+{
+    if is_open(user) {
+        found.push(Warning::NoPassword { user: user.name })?;
+    }
+    if !may_browse(user.perms) {
+        found.push(Warning::Unbrowsed {
+            user: user.name,
+            letters: user.perms,
+        })?;
+    }
+    Ok(())
+}
+
+/// Adds the warnings of a user's guarantees.
+fn warn_of_floors<'a>(
+    found: &mut Vec<Warning<'a>>,
+    server: &ServerTable,
+    groups: &[GroupTable],
+    user: &UserTable<'a>,
+) -> Result<(), AllocError>
+    ensures warnings { OnOk result (found.new.items
+        ≡ found.old.items ++ floor_warnings server.now groups.now user.now) }
+{
+    if is_unmet(server, groups, user) {
+        found.push(Warning::NoFirstSession { user: user.name })?;
+    }
+    if is_single(server, groups, user) {
+        found.push(Warning::NoSecondSession { user: user.name })?;
+    }
+    Ok(())
+}
+
 /// Adds the warnings of a user.
 fn warn_of_user<'a>(
     alloc: Global,
@@ -84,9 +142,8 @@ fn warn_of_user<'a>(
         ≡ found.old.items ++ user_warnings server.now groups.now store.old user.now) }
     ensures same { store.new ≡ store.old }
 {
-    if is_single(server, groups, user) {
-        found.push(Warning::NoSecondSession { user: user.name })?;
-    }
+    warn_of_access(found, user)?;
+    warn_of_floors(found, server, groups, user)?;
     if !has_home(alloc, store, user.home)? {
         found.push(Warning::NoHome {
             user: user.name,
@@ -99,7 +156,7 @@ fn warn_of_user<'a>(
 /// Returns the warnings of a configuration: those of its server, and then those of its users in their order.
 pub fn warnings_of<'a>(
     alloc: Global,
-    server: &ServerTable,
+    server: &ServerTable<'a>,
     groups: &[GroupTable],
     users: &[UserTable<'a>],
     store: &mut ServedStore,
@@ -108,7 +165,8 @@ pub fn warnings_of<'a>(
         (λ found. found.items ≡ warnings server.now groups.now users.now store.old) }
 {
     let mut found = Vec::new(alloc);
-    warn_of_server(&mut found, server)?;
+    warn_of_root(&mut found, server.root)?;
+    warn_of_ports(&mut found, server)?;
     for user in users {
         warn_of_user(alloc, &mut found, server, groups, store, user)?;
     }

@@ -5,7 +5,7 @@
 mod serving;
 
 use ftp_daemon::RoundClock;
-use ftpd_program::{FtpdErrorText, FtpdExit, run_words};
+use ftpd_program::{FtpdErrorText, FtpdExit, StartFault, run_words};
 use serving::{Asked, serve_asked};
 use sheets_program::{Machine, NOBODY_READS, Noted, as_words, line_words, null_device};
 use std::io;
@@ -17,13 +17,14 @@ use std::thread::Threads;
 use std::time::Clock;
 use text_io::FallibleIo;
 
-/// Runs the command of these words, and serves what they ask for.
+/// Runs the command of these words, and serves what they ask for. Returns the ending, and the reason for which a server
+/// did not start, if it is known.
 fn run<'w, R, W>(
     rt: &R,
     machine: &HostRuntime,
     words: &'w [&'w str],
     output: &mut FallibleIo<W>,
-) -> FtpdExit<'w>
+) -> (FtpdExit<'w>, Option<StartFault>)
 where
     R: Threads
         + Wait
@@ -46,7 +47,7 @@ where
     );
     match asked.into_service() {
         Some(service) => serve_asked(rt, machine, service, output),
-        None => ending,
+        None => (ending, None),
     }
 }
 
@@ -55,6 +56,7 @@ where
 fn told<W: Write>(
     machine: &HostRuntime,
     ending: &FtpdExit<'_>,
+    start: Option<&StartFault>,
     output: &FallibleIo<Noted<W>>,
 ) -> u8 {
     if output.0.is_closed() && !matches!(ending, FtpdExit::Server(_)) {
@@ -63,6 +65,7 @@ fn told<W: Write>(
     let told = FtpdErrorText {
         ending,
         output: output.0.error(),
+        start,
     };
     let _ = eprint!(machine; "{told}");
     ending.status()
@@ -84,14 +87,14 @@ where
     let mut output = FallibleIo(Noted::new(io::writer(machine)));
     let texts = match line_words(machine) {
         Ok(texts) => texts,
-        Err(ending) => return told(machine, &FtpdExit::Common(ending), &output),
+        Err(ending) => return told(machine, &FtpdExit::Common(ending), None, &output),
     };
     let words = match as_words(rt.alloc(), texts.as_slice()) {
         Ok(words) => words,
-        Err(ending) => return told(machine, &FtpdExit::Common(ending), &output),
+        Err(ending) => return told(machine, &FtpdExit::Common(ending), None, &output),
     };
-    let ending = run(rt, machine, words.as_slice(), &mut output);
-    told(machine, &ending, &output)
+    let (ending, start) = run(rt, machine, words.as_slice(), &mut output);
+    told(machine, &ending, start.as_ref(), &output)
 }
 
 fn main(rt: HostRuntime) -> ExitCode {

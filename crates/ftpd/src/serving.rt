@@ -7,14 +7,14 @@
 
 use folder_store::DirStore;
 use ftp_daemon::{Patience, RoundClock, ServeFault, Service, StopSign, serve};
-use ftpd_program::{FtpdExit, Server};
+use ftpd_program::{FtpdExit, Server, StartFault};
 use log::sink::Console;
 use log::{Level, Logged};
 use server_config::{Config, ServedStore};
 use session_notes::Notes;
 use sheets_program::Exit as Common;
 use std::alloc::{AllocError, Global};
-use std::fs;
+use std::{fs, io};
 use std::net::{Net, TcpListener, TcpStream};
 use std::sync::Wait;
 use std::thread::Threads;
@@ -183,13 +183,63 @@ where
     Ok(())
 }
 
-/// Serves as asked, and returns the ending of the program.
+/// Number of the machine's error "Not a directory".
+const NOT_A_DIRECTORY: i32 = 20;
+
+/// Returns the machine's reason for which there is no folder at a path, if there is one.
+fn no_folder(machine: &HostRuntime, path: &str) -> Option<io::Error> {
+    match fs::metadata(machine, path) {
+        Ok(found) if found.is_dir() => None,
+        Ok(_) => Some(io::Error::from_raw_os_error(NOT_A_DIRECTORY)),
+        Err(reason) => Some(reason),
+    }
+}
+
+/// Returns the path of the folder of a file.
+fn folder_of(path: &str) -> &str {
+    match path.rsplit_once('/') {
+        None => ".",
+        Some(("", _)) => "/",
+        Some((folder, _)) => folder,
+    }
+}
+
+/// Returns the stop file at a path. `Err` if there is something at the path, or if a file there could not be noticed.
+fn stop_at(machine: &HostRuntime, path: String) -> Result<StopFile, StartFault> {
+    let reason = match fs::metadata(machine, path.as_str()) {
+        Ok(_) => return Err(StartFault::StopFileThere { path }),
+        Err(reason) if reason.kind() != io::ErrorKind::NotFound => Some(reason),
+        Err(_) => no_folder(machine, folder_of(path.as_str())),
+    };
+    match reason {
+        Some(reason) => Err(StartFault::StopFileUnseen { path, reason }),
+        None => Ok(StopFile {
+            machine: *machine,
+            path,
+        }),
+    }
+}
+
+/// Returns the fault of a start whose folder is not there, if it is not.
+fn folder_fault(machine: &HostRuntime, store: &ServedStore) -> Option<StartFault> {
+    let ServedStore::Folder(folder) = store else {
+        return None;
+    };
+    let reason = no_folder(machine, folder.as_str())?;
+    match String::from_str(machine.alloc(), folder.as_str()) {
+        Ok(path) => Some(StartFault::Folder { path, reason }),
+        Err(_) => None,
+    }
+}
+
+/// Serves as asked. Returns the ending of the program, and the reason for which the server did not start, if it is
+/// known.
 pub(crate) fn serve_asked<'w, R, W>(
     rt: &R,
     machine: &HostRuntime,
     service: AskedService,
     output: &mut W,
-) -> FtpdExit<'w>
+) -> (FtpdExit<'w>, Option<StartFault>)
 where
     R: Threads
         + Wait
@@ -208,14 +258,17 @@ where
         patience,
     } = service;
     let stop = match stop_file {
-        Some(path) => Some(StopFile {
-            machine: *machine,
-            path,
-        }),
+        Some(path) => match stop_at(machine, path) {
+            Ok(stop) => Some(stop),
+            Err(start) => return (FtpdExit::Server(ServeFault::Stopped), Some(start)),
+        },
         None => None,
     };
+    if let Some(start) = folder_fault(machine, &config.store) {
+        return (FtpdExit::Server(ServeFault::Store), Some(start));
+    }
     match serve_config(rt, machine, config, stop, patience, output) {
-        Ok(()) => FtpdExit::Common(Common::Done),
-        Err(fault) => FtpdExit::Server(fault),
+        Ok(()) => (FtpdExit::Common(Common::Done), None),
+        Err(fault) => (FtpdExit::Server(fault), None),
     }
 }

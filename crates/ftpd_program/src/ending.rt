@@ -4,6 +4,7 @@ ghost use Rattle.std.specs.Prelude.{◌≡◌};
 ghost use Rattle.ftpd_program.specs.Endings.{status_of};
 
 use crate::server::ServeFault;
+use crate::start::StartFault;
 use script_session::SessionFault;
 use server_config::ConfigFault;
 use sheets_program::{ErrorText, Exit as Common};
@@ -44,6 +45,8 @@ pub struct FtpdErrorText<'e, 'w> {
     pub ending: &'e FtpdExit<'w>,
     /// The last error of standard output, if there was one.
     pub output: Option<io::Error>,
+    /// The reason for which a server did not start, if it is known.
+    pub start: Option<&'e StartFault>,
 }
 
 impl fmt::Display for FtpdErrorText<'_, '_> {
@@ -67,7 +70,12 @@ impl fmt::Display for FtpdErrorText<'_, '_> {
                 }
                 writeln!(f, "{NAME}: {fault}")
             }
-            FtpdExit::Server(fault) => writeln!(f, "{NAME}: {fault}"),
+            FtpdExit::Server(fault) => {
+                if let Some(start) = self.start {
+                    writeln!(f, "{start}")?;
+                }
+                writeln!(f, "{NAME}: {fault}")
+            }
         }
     }
 }

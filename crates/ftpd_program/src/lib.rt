@@ -18,6 +18,7 @@ mod run;
 mod scripting;
 mod server;
 mod serving;
+mod start;
 
 pub use command_line::Patience;
 pub use ending::{FtpdErrorText, FtpdExit};
@@ -26,3 +27,4 @@ pub use run::run_words;
 pub use scripting::{ScriptFault, run_script};
 pub use server::{ServeFault, Server};
 pub use sheets_program::{Opener, STANDARD_INPUT};
+pub use start::StartFault;

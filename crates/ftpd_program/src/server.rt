@@ -27,7 +27,7 @@ pub enum ServeFault {
     /// Memory ran out.
     #[error("Memory")]
     Memory,
-    /// The stop file was there at the start.
+    /// The stop file was there at the start, or could never be noticed: its folder is not there.
     #[error("Stopped")]
     Stopped,
 }

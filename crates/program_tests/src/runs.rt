@@ -39,6 +39,7 @@ fn breaks_off(rt: &(impl Abort + AllocGlobal), words: &[&str], run: &Run<'_>) {
     let shown = FtpdErrorText {
         ending: &ending,
         output: None,
+        start: None,
     };
     tells(rt, &shown, told);
     holds(rt, ending.status() == 1);

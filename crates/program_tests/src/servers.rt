@@ -3,9 +3,13 @@
 use crate::ends::{Files, Given};
 use crate::expect::{holds, same, tells};
 use crate::texts::SMALL;
-use ftpd_program::{FtpdErrorText, FtpdExit, Patience, ServeFault, Server, run_words};
+use ftpd_program::{
+    FtpdErrorText, FtpdExit, Patience, ServeFault, Server, StartFault, run_words,
+};
 use server_config::Config;
 use std::alloc::Global;
+use std::io;
+use std::net::Ipv4Addr;
 use std::process::Abort;
 use text_io::TextWriter;
 
@@ -66,6 +70,7 @@ fn is_told(rt: &(impl Abort + AllocGlobal), ending: &FtpdExit<'_>, wanted: &str)
     let told = FtpdErrorText {
         ending,
         output: None,
+        start: None,
     };
     tells(rt, &told, wanted);
 }
@@ -130,6 +135,79 @@ fn faults_are_told(rt: HostRuntime) {
         holds(&rt, ending.status() == 1);
         is_told(&rt, &ending, told);
     }
+}
+
+/// Checks that a fault that did not let the server start prints as this line above the fault's name.
+fn starts_not(rt: &(impl Abort + AllocGlobal), fault: ServeFault, start: &StartFault, wanted: &str) {
+    let ending = FtpdExit::Server(fault);
+    let told = FtpdErrorText {
+        ending: &ending,
+        output: None,
+        start: Some(start),
+    };
+    tells(rt, &told, wanted);
+}
+
+fn text(rt: &(impl Abort + AllocGlobal), word: &str) -> String {
+    String::from_str(rt.alloc(), word).expect(rt, "memory")
+}
+
+#[test]
+fn starts_are_explained(rt: HostRuntime) {
+    let listen = StartFault::Listen {
+        address: Ipv4Addr::new(127, 0, 0, 1),
+        port: 2121,
+        reason: io::Error::from_raw_os_error(98),
+    };
+    starts_not(
+        &rt,
+        ServeFault::Bind,
+        &listen,
+        "cannot listen on 127.0.0.1:2121: Address already in use (os error 98)\nftpd: Bind\n",
+    );
+    let folder = StartFault::Folder {
+        path: text(&rt, "/srv/ftp"),
+        reason: io::Error::from_raw_os_error(2),
+    };
+    starts_not(
+        &rt,
+        ServeFault::Store,
+        &folder,
+        "/srv/ftp: No such file or directory (os error 2)\nftpd: Store\n",
+    );
+    let word = StartFault::Folder {
+        path: text(&rt, "Memory"),
+        reason: io::Error::from_raw_os_error(2),
+    };
+    starts_not(
+        &rt,
+        ServeFault::Store,
+        &word,
+        "Memory: No such file or directory (os error 2); the word for a store in memory is memory\nftpd: Store\n",
+    );
+}
+
+#[test]
+fn stop_files_are_explained(rt: HostRuntime) {
+    let there = StartFault::StopFileThere {
+        path: text(&rt, "/run/ftpd/stop"),
+    };
+    starts_not(
+        &rt,
+        ServeFault::Stopped,
+        &there,
+        "/run/ftpd/stop is there already: remove it\nftpd: Stopped\n",
+    );
+    let unseen = StartFault::StopFileUnseen {
+        path: text(&rt, "/gone/stop"),
+        reason: io::Error::from_raw_os_error(2),
+    };
+    starts_not(
+        &rt,
+        ServeFault::Stopped,
+        &unseen,
+        "the stop file /gone/stop could not be noticed: No such file or directory (os error 2)\nftpd: Stopped\n",
+    );
 }
 
 const OUT_OF_RANGE: &str =

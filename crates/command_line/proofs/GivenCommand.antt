@@ -14,7 +14,10 @@ use Rattle.command_line.specs.declared.words.SheetWords.{SheetWords}
 use Rattle.command_line.specs.declared.words.SheetWords.TheVariants.{Share, Check}
 use Rattle.command_line.specs.declared.words.Words.{Words}
 use Rattle.command_line.specs.declared.words.Words.TheVariants.{Sheet, CheckConfig, Migrate, Script, Serve}
+use Rattle.command_line.specs.Timed.{IsPatienceIn, IsTimedBy}
+use Rattle.command_line.specs.declared.patience.Patience.{Patience}
 use Rattle.command_line.proofs.EnteredCommand.{Entered, enters}
+use Rattle.command_line.proofs.Seconds.{one_patience}
 use Rattle.command_line.proofs.RowValues.{all_want_values, required_value, requires_value}
 
 -- what follows where one of these elements passes, and is what a search found
@@ -96,10 +99,10 @@ sheets_found any words none =
       ),
     )
 
-pub ftpd_found : (any : Bor (List (Bor Text))) (words : List Text) → fault_of ftpd words ≡ []
+pub ftpd_found : (any : Bor (List (Bor Text))) (words : List Text) (p : Patience) → fault_of ftpd words ≡ [] → IsTimedBy (subcommand_of ftpd words) p
     → (command : Words) × IsFound (subcommand_of ftpd words) command
 unfolding at_place
-ftpd_found any words none =
+ftpd_found any words p none timed =
     let e = enters (built ftpd) words refl refl none in
     by_cases ((command : Words) × IsFound (subcommand_of ftpd words) command) (λ s. answers_to e.name (label_of s)) (built ftpd).subs e.command e.is_its (
       λ _ is.
@@ -124,8 +127,10 @@ ftpd_found any words none =
               (
                 λ _ is.
                     let found = one_found _ _ e _ is (codes "CONFIG") refl refl in
-                    let path = first_of (codes "PATH") found.1 in
-                    (Serve (at_place any found.0) (option_map (at_place any) path), (found.1, found.2, found.3, if_any any path)),
+                    let path = first_of (codes "PATH") found.1 in (
+                      Serve (at_place any found.0) (option_map (at_place any) path) p,
+                      (found.1, found.2, found.3, if_any any path, timed found.1 found.2),
+                    ),
                 (λ help _. absurd (not_help _ _ e help), tt),
               ),
             ),
@@ -169,7 +174,7 @@ sheet_named P found (Sheet words) rows name named config migrate script serve ho
 sheet_named P found (CheckConfig config) rows name named config_apart migrate_apart script_apart serve_apart holds (other, same, given) = absurd (different _ _ _ _ _ config_apart named same)
 sheet_named P found (Migrate config) rows name named config_apart migrate_apart script_apart serve_apart holds (other, same, given) = absurd (different _ _ _ _ _ migrate_apart named same)
 sheet_named P found (Script config) rows name named config_apart migrate_apart script_apart serve_apart holds (other, same, given) = absurd (different _ _ _ _ _ script_apart named same)
-sheet_named P found (Serve config stop_file) rows name named config_apart migrate_apart script_apart serve_apart holds (other, same, given, path) = absurd (different _ _ _ _ _ serve_apart named same)
+sheet_named P found (Serve config stop_file patience) rows name named config_apart migrate_apart script_apart serve_apart holds (other, same, given, path, also) = absurd (different _ _ _ _ _ serve_apart named same)
 
 pub share_of_sheets : (found : Option (Text × List Row)) (command : Words) (rows : List Row) (word : Text) → found ≡ Some (codes "share", rows) → first_of (codes "SHEET") rows ≡ Some word
     → IsFound found command → IsOfSheets (IsShare word) command
@@ -188,7 +193,7 @@ check_config_is found (Sheet (Check sheet grants)) rows word named first (other,
 check_config_is found (CheckConfig config) rows word named first (other, same, given) = let are = same_rows _ _ _ _ _ named same in cc
 check_config_is found (Migrate config) rows word named first (other, same, given) = absurd (different _ _ _ _ _ refl named same)
 check_config_is found (Script config) rows word named first (other, same, given) = absurd (different _ _ _ _ _ refl named same)
-check_config_is found (Serve config stop_file) rows word named first (other, same, given, path) = absurd (different _ _ _ _ _ refl named same)
+check_config_is found (Serve config stop_file patience) rows word named first (other, same, given, path, also) = absurd (different _ _ _ _ _ refl named same)
 
 pub migrate_is : (found : Option (Text × List Row)) (command : Words) (rows : List Row) (word : Text) → found ≡ Some (codes "migrate", rows) → first_of (codes "CONFIG") rows ≡ Some word
     → IsFound found command → IsMigrate word command
@@ -197,7 +202,7 @@ migrate_is found (Sheet (Check sheet grants)) rows word named first (other, same
 migrate_is found (CheckConfig config) rows word named first (other, same, given) = absurd (different _ _ _ _ _ refl named same)
 migrate_is found (Migrate config) rows word named first (other, same, given) = let are = same_rows _ _ _ _ _ named same in cc
 migrate_is found (Script config) rows word named first (other, same, given) = absurd (different _ _ _ _ _ refl named same)
-migrate_is found (Serve config stop_file) rows word named first (other, same, given, path) = absurd (different _ _ _ _ _ refl named same)
+migrate_is found (Serve config stop_file patience) rows word named first (other, same, given, path, also) = absurd (different _ _ _ _ _ refl named same)
 
 pub script_is : (found : Option (Text × List Row)) (command : Words) (rows : List Row) (word : Text) → found ≡ Some (codes "script", rows) → first_of (codes "CONFIG") rows ≡ Some word
     → IsFound found command → IsScript word command
@@ -206,13 +211,15 @@ script_is found (Sheet (Check sheet grants)) rows word named first (other, same,
 script_is found (CheckConfig config) rows word named first (other, same, given) = absurd (different _ _ _ _ _ refl named same)
 script_is found (Migrate config) rows word named first (other, same, given) = absurd (different _ _ _ _ _ refl named same)
 script_is found (Script config) rows word named first (other, same, given) = let are = same_rows _ _ _ _ _ named same in cc
-script_is found (Serve config stop_file) rows word named first (other, same, given, path) = absurd (different _ _ _ _ _ refl named same)
+script_is found (Serve config stop_file patience) rows word named first (other, same, given, path, also) = absurd (different _ _ _ _ _ refl named same)
 
-pub serve_is : (found : Option (Text × List Row)) (command : Words) (rows : List Row) (word : Text) → found ≡ Some (codes "serve", rows) → first_of (codes "CONFIG") rows ≡ Some word
-    → IsFound found command → IsServe word (first_of (codes "PATH") rows) command
-serve_is found (Sheet (Share sheet)) rows word named first (other, same, given) = absurd (different _ _ _ _ _ refl named same)
-serve_is found (Sheet (Check sheet grants)) rows word named first (other, same, given, also) = absurd (different _ _ _ _ _ refl named same)
-serve_is found (CheckConfig config) rows word named first (other, same, given) = absurd (different _ _ _ _ _ refl named same)
-serve_is found (Migrate config) rows word named first (other, same, given) = absurd (different _ _ _ _ _ refl named same)
-serve_is found (Script config) rows word named first (other, same, given) = absurd (different _ _ _ _ _ refl named same)
-serve_is found (Serve config stop_file) rows word named first (other, same, given, path) = let are = same_rows _ _ _ _ _ named same in (cc, cc)
+pub serve_is : (found : Option (Text × List Row)) (command : Words) (rows : List Row) (word : Text) (p : Patience) → found ≡ Some (codes "serve", rows) → first_of (codes "CONFIG") rows ≡ Some word
+    → IsPatienceIn rows p → IsFound found command → IsServe word (first_of (codes "PATH") rows) p command
+serve_is found (Sheet (Share sheet)) rows word p named first states (other, same, given) = absurd (different _ _ _ _ _ refl named same)
+serve_is found (Sheet (Check sheet grants)) rows word p named first states (other, same, given, also) = absurd (different _ _ _ _ _ refl named same)
+serve_is found (CheckConfig config) rows word p named first states (other, same, given) = absurd (different _ _ _ _ _ refl named same)
+serve_is found (Migrate config) rows word p named first states (other, same, given) = absurd (different _ _ _ _ _ refl named same)
+serve_is found (Script config) rows word p named first states (other, same, given) = absurd (different _ _ _ _ _ refl named same)
+serve_is found (Serve config stop_file patience) rows word p named first states (other, same, given, path, also) =
+    let are = same_rows _ _ _ _ _ named same in
+    (cc, cc, one_patience rows patience p (subst (λ (r : List Row). IsPatienceIn r patience) (sym are) also) states)

@@ -11,6 +11,7 @@ use Rattle.clap.specs.declared.error.kind.ErrorKind.TheVariants.{OutOfMemory}
 use Rattle.command_line.specs.declared.words.WordsFault.{WordsFault}
 use Rattle.command_line.specs.declared.words.WordsFault.TheVariants.{Memory, Refused}
 use Rattle.command_line.specs.Given.{IsPlainWord, IsRefusal, IsRefusedAs}
+use Rattle.command_line.proofs.ServeWords.{AreUnstated}
 
 -- a plain command has no global argument
 pub no_globals : (a b g d : Bool) → (a && (not b && (not g && d))) ≡ true → g ≡ false
@@ -200,6 +201,10 @@ serve_no_path : (b : ℕ) (bs : List ℕ) → (b == 45) ≡ false
 unfolding clap_on_literals
 serve_no_path b bs ne = simp ne refl
 
+serve_usual : (b : ℕ) (bs : List ℕ) → (b == 45) ≡ false → AreUnstated (rows_in (subcommand_of ftpd (codes "serve" ∷ (b ∷ bs) ∷ [])))
+unfolding clap_on_literals
+serve_usual b bs ne = simp ne (refl, refl, refl)
+
 -- what the parser makes of the words of `serve` with no stop file
 pub record Serves (word : List ℕ) : Type 0 where
   pub rows : List Row
@@ -207,51 +212,13 @@ pub record Serves (word : List ℕ) : Type 0 where
   pub entered : subcommand_of ftpd (codes "serve" ∷ word ∷ []) ≡ Some (codes "serve", rows)
   pub config : first_of (codes "CONFIG") rows ≡ Some word
   pub no_path : first_of (codes "PATH") rows ≡ None
+  pub usual : AreUnstated rows
 
 pub serves : (word : List ℕ) → IsPlainWord word → Serves word
 serves [] plain = absurd plain
 serves (b ∷ bs) plain =
     let ne = ne_eqb _ _ plain in
-    record { rows = _; taken = serve_taken b bs ne; entered = serve_entered b bs ne; config = serve_first b bs ne; no_path = serve_no_path b bs ne }
-
--- the words of `serve` with a stop file
-abbrev pub until : List ℕ → List ℕ → List Text
-until word path = codes "serve" ∷ word ∷ codes "--stop-file" ∷ path ∷ []
-
-until_taken : (b d : ℕ) (bs ds : List ℕ) → (b == 45) ≡ false → (d == 45) ≡ false → takes ftpd (until (b ∷ bs) (d ∷ ds)) ≡ true
-unfolding clap_on_literals
-until_taken b d bs ds ne nf = simp (ne, nf) refl
-
-until_entered : (b d : ℕ) (bs ds : List ℕ) → (b == 45) ≡ false → (d == 45) ≡ false
-    → subcommand_of ftpd (until (b ∷ bs) (d ∷ ds)) ≡ Some (codes "serve", rows_in (subcommand_of ftpd (until (b ∷ bs) (d ∷ ds))))
-unfolding clap_on_literals
-until_entered b d bs ds ne nf = simp (ne, nf) refl
-
-until_first : (b d : ℕ) (bs ds : List ℕ) → (b == 45) ≡ false → (d == 45) ≡ false
-    → first_of (codes "CONFIG") (rows_in (subcommand_of ftpd (until (b ∷ bs) (d ∷ ds)))) ≡ Some (b ∷ bs)
-unfolding clap_on_literals
-until_first b d bs ds ne nf = simp (ne, nf) refl
-
-until_path : (b d : ℕ) (bs ds : List ℕ) → (b == 45) ≡ false → (d == 45) ≡ false
-    → first_of (codes "PATH") (rows_in (subcommand_of ftpd (until (b ∷ bs) (d ∷ ds)))) ≡ Some (d ∷ ds)
-unfolding clap_on_literals
-until_path b d bs ds ne nf = simp (ne, nf) refl
-
--- what the parser makes of those words
-pub record ServesUntil (word path : List ℕ) : Type 0 where
-  pub rows : List Row
-  pub taken : takes ftpd (until word path) ≡ true
-  pub entered : subcommand_of ftpd (until word path) ≡ Some (codes "serve", rows)
-  pub config : first_of (codes "CONFIG") rows ≡ Some word
-  pub stop_file : first_of (codes "PATH") rows ≡ Some path
-
-pub serves_until : (word path : List ℕ) → IsPlainWord word → IsPlainWord path → ServesUntil word path
-serves_until [] path plain also = absurd plain
-serves_until (b ∷ bs) [] plain also = absurd also
-serves_until (b ∷ bs) (d ∷ ds) plain also =
-    let ne = ne_eqb _ _ plain in
-    let nf = ne_eqb _ _ also in
-    record { rows = _; taken = until_taken b d bs ds ne nf; entered = until_entered b d bs ds ne nf; config = until_first b d bs ds ne nf; stop_file = until_path b d bs ds ne nf }
+    record { rows = _; taken = serve_taken b bs ne; entered = serve_entered b bs ne; config = serve_first b bs ne; no_path = serve_no_path b bs ne; usual = serve_usual b bs ne }
 
 -- ---- of `sheets`
 

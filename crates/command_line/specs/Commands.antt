@@ -11,6 +11,10 @@ file_rule id = record (new_rule id) { required = true; action = Some Set }
 abbrev pub option_rule : Text → Text → Rule
 option_rule id long = record (new_rule id) { long = Some long; action = Some Set }
 
+-- an optional option `--ID SECONDS`, with one value
+abbrev pub seconds_rule : Text → Rule
+seconds_rule id = record (new_rule id) { long = Some id; value_names = 1; action = Some Set }
+
 -- a command without words
 abbrev pub bare : Text → App
 bare name = new_app name
@@ -37,11 +41,22 @@ migrate = with_rule (bare (codes "migrate")) (file_rule (codes "CONFIG"))
 abbrev pub script : App
 script = with_rule (bare (codes "script")) (file_rule (codes "CONFIG"))
 
--- `serve CONFIG [--stop-file PATH]`
+-- the command with the options `--login-timeout`, `--idle-timeout` and `--login-delay`
+abbrev pub with_patience : App → App
+with_patience app =
+    with_rule
+    (with_rule
+    (with_rule app
+    (seconds_rule (codes "login-timeout")))
+    (seconds_rule (codes "idle-timeout")))
+    (seconds_rule (codes "login-delay"))
+
+-- `serve CONFIG [--stop-file PATH] [--login-timeout SECONDS] [--idle-timeout SECONDS]
+-- [--login-delay SECONDS]`
 abbrev pub serve : App
 serve =
-    with_rule (with_rule (bare (codes "serve")) (file_rule (codes "CONFIG")))
-    (option_rule (codes "PATH") (codes "stop-file"))
+    with_patience (with_rule (with_rule (bare (codes "serve")) (file_rule (codes "CONFIG")))
+    (option_rule (codes "PATH") (codes "stop-file")))
 
 -- the program of that name without commands; its words do not include a program's name
 abbrev pub top : Text → App

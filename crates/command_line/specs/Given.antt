@@ -2,9 +2,12 @@
 use Rattle.std.specs.Prelude.{◌≡◌, ◌≢◌, ◌↔◌, ◌⊎◌, ℕ, List, [], ◌∷◌, IsTrue, MatchResult, Option, Result, Some, codes, option_map}
 use Rattle.std.specs.Borrow.{Bor}
 use Rattle.clap.specs.declared.parser.matches.ArgMatches.{ArgMatches}
-use Rattle.clap.specs.Words.{IsAmong, Kinds, Row, Text, first_of, found_of, rows_of}
+use Rattle.clap.specs.Words.{IsAmong, Kinds, Row, Text, fault_of, first_of, found_of, rows_of, subcommand_of}
 use Rattle.clap.specs.declared.error.kind.ErrorKind.{ErrorKind}
 use Rattle.clap.specs.declared.error.kind.ErrorKind.TheVariants.{DisplayHelp, DisplayVersion}
+use Rattle.command_line.specs.Commands.{ftpd}
+use Rattle.command_line.specs.Timed.{IsPatienceIn, IsTimed, IsUntimed}
+use Rattle.command_line.specs.declared.patience.Patience.{Patience}
 use Rattle.command_line.specs.declared.words.SheetWords.{SheetWords}
 use Rattle.command_line.specs.declared.words.SheetWords.TheVariants.{Share, Check}
 use Rattle.command_line.specs.declared.words.Words.{Words}
@@ -33,7 +36,7 @@ IsOfSheets P (Sheet words) = P words
 IsOfSheets P (CheckConfig config) = ⊥
 IsOfSheets P (Migrate config) = ⊥
 IsOfSheets P (Script config) = ⊥
-IsOfSheets P (Serve config stop_file) = ⊥
+IsOfSheets P (Serve config stop_file patience) = ⊥
 
 -- the command `check-config` of that configuration
 abbrev pub IsCheckConfig : List ℕ → Words → Type 0
@@ -41,7 +44,7 @@ IsCheckConfig word (Sheet words) = ⊥
 IsCheckConfig word (CheckConfig config) = config.now ≡ word
 IsCheckConfig word (Migrate config) = ⊥
 IsCheckConfig word (Script config) = ⊥
-IsCheckConfig word (Serve config stop_file) = ⊥
+IsCheckConfig word (Serve config stop_file patience) = ⊥
 
 -- the command `migrate` of that configuration
 abbrev pub IsMigrate : List ℕ → Words → Type 0
@@ -49,7 +52,7 @@ IsMigrate word (Sheet words) = ⊥
 IsMigrate word (CheckConfig config) = ⊥
 IsMigrate word (Migrate config) = config.now ≡ word
 IsMigrate word (Script config) = ⊥
-IsMigrate word (Serve config stop_file) = ⊥
+IsMigrate word (Serve config stop_file patience) = ⊥
 
 -- the command `script` of that configuration
 abbrev pub IsScript : List ℕ → Words → Type 0
@@ -57,16 +60,16 @@ IsScript word (Sheet words) = ⊥
 IsScript word (CheckConfig config) = ⊥
 IsScript word (Migrate config) = ⊥
 IsScript word (Script config) = config.now ≡ word
-IsScript word (Serve config stop_file) = ⊥
+IsScript word (Serve config stop_file patience) = ⊥
 
--- the command `serve` of that configuration, with that stop file, if any
-abbrev pub IsServe : List ℕ → Option (List ℕ) → Words → Type 0
-IsServe word path (Sheet words) = ⊥
-IsServe word path (CheckConfig config) = ⊥
-IsServe word path (Migrate config) = ⊥
-IsServe word path (Script config) = ⊥
-IsServe word path (Serve config stop_file) =
-    (config.now ≡ word) × (option_map (λ w. w.now) stop_file ≡ path)
+-- the command `serve` of that configuration, with that stop file, if any, and that patience
+abbrev pub IsServe : List ℕ → Option (List ℕ) → Patience → Words → Type 0
+IsServe word path p (Sheet words) = ⊥
+IsServe word path p (CheckConfig config) = ⊥
+IsServe word path p (Migrate config) = ⊥
+IsServe word path p (Script config) = ⊥
+IsServe word path p (Serve config stop_file patience) =
+    (config.now ≡ word) × (option_map (λ w. w.now) stop_file ≡ path) × (patience ≡ p)
 
 -- the name of a command that the parser entered, and its arguments
 abbrev pub entered_rows : Bor Text × Bor ArgMatches → Text × List Row
@@ -94,10 +97,11 @@ IsFound found (Migrate config) =
 IsFound found (Script config) =
     (rows : List Row) × (found ≡ Some (codes "script", rows))
     × (first_of (codes "CONFIG") rows ≡ Some config.now)
-IsFound found (Serve config stop_file) =
+IsFound found (Serve config stop_file patience) =
     (rows : List Row) × (found ≡ Some (codes "serve", rows))
     × (first_of (codes "CONFIG") rows ≡ Some config.now)
     × (first_of (codes "PATH") rows ≡ option_map (λ w. w.now) stop_file)
+    × IsPatienceIn rows patience
 
 -- the words give that command, or memory ran out
 abbrev pub GivesOrMemory : {T : Type 0} → (T → Type 0) → Result T WordsFault → Type 0
@@ -121,3 +125,12 @@ abbrev pub IsRefusal : Kinds → WordsFault → Type 0
 IsRefusal kinds (Refused text is_help) =
     (kind : ErrorKind) × IsAmong kind kinds × (IsTrue is_help ↔ IsHelp kind)
 IsRefusal kinds Memory = Unit {0}
+
+-- the parser of `ftpd` accepts the words, and each number of seconds among them is one
+abbrev pub IsTaken : List Text → Type 0
+IsTaken words = (fault_of ftpd words ≡ []) × IsTimed (subcommand_of ftpd words)
+
+-- memory ran out, or that is the refusal of the words: by the parser, or of a number of seconds
+abbrev pub IsRefusedFor : List Text → WordsFault → Type 0
+IsRefusedFor words fault =
+    IsRefusal (fault_of ftpd words) fault ⊎ IsUntimed (subcommand_of ftpd words) fault

@@ -2,7 +2,7 @@
 
 ghost use Rattle.std.specs.Prelude.{◌≡◌, IfOk, codes, false};
 ghost use Rattle.clap.specs.Words.{app_of, rule_of, with_rule};
-ghost use Rattle.command_line.specs.Commands.{bare, check, check_config, file_rule, ftpd, migrate, option_rule, script, serve, share, sheets, top, with_sheets};
+ghost use Rattle.command_line.specs.Commands.{bare, check, check_config, file_rule, ftpd, migrate, option_rule, script, seconds_rule, serve, share, sheets, top, with_patience, with_sheets};
 
 use clap::{Arg, ArgAction, Command};
 use std::alloc::{AllocError, Global};
@@ -24,6 +24,18 @@ fn option<'a>(alloc: Global, id: &'a str, long: &'a str, help: &'a str) -> Arg<'
 {
     Arg::new(alloc, id)
         .long(long)
+        .action(ArgAction::Set)
+        .help(help)
+}
+
+/// An optional option `--ID SECONDS`.
+fn seconds<'a>(alloc: Global, id: &'a str, help: &'a str) -> Arg<'a>
+    ensures rule { rule_of result ≡ seconds_rule id.entry.now }
+    ensures local { result.global ≡ false }
+{
+    Arg::new(alloc, id)
+        .long(id)
+        .value_name("SECONDS")
         .action(ArgAction::Set)
         .help(help)
 }
@@ -148,13 +160,43 @@ fn with_stop_file<'a>(alloc: Global, command: Command<'a>) -> Result<Command<'a>
     Ok(command)
 }
 
+/// The command with an optional number of seconds, given by an option of that name.
+fn with_seconds<'a>(
+    alloc: Global,
+    command: Command<'a>,
+    id: &'a str,
+    help: &'a str,
+) -> Result<Command<'a>, AllocError>
+    ensures rule { IfOk result
+        (λ c. app_of c ≡ with_rule (app_of command.entry) (seconds_rule id.entry.now)) }
+{
+    let command = command.arg(seconds(alloc, id, help))?;
+    Ok(command)
+}
+
+/// The command with its options in seconds.
+fn with_patience<'a>(alloc: Global, command: Command<'a>) -> Result<Command<'a>, AllocError>
+    ensures rules { IfOk result (λ c. app_of c ≡ with_patience (app_of command.entry)) }
+{
+    let login =
+        "Seconds in which a client has to log in, or it is told 421; 0 is no limit [default: 60]";
+    let idle =
+        "Seconds without a command or a transfer, after which a client is told 421; 0 is no limit [default: 0]";
+    let delay = "Seconds before a wrong password is answered [default: 1]";
+    let with_login = with_seconds(alloc, command, "login-timeout", login)?;
+    let with_idle = with_seconds(alloc, with_login, "idle-timeout", idle)?;
+    let command = with_seconds(alloc, with_idle, "login-delay", delay)?;
+    Ok(command)
+}
+
 fn serve_command<'a>(alloc: Global) -> Result<Command<'a>, AllocError>
     ensures serve { IfOk result (λ c. app_of c ≡ serve) }
 {
     let about =
         "Serve clients by a configuration, until a number of sessions or a stop file ends it";
     let command = config_command(alloc, "serve", about, ABOUT_SERVE, CONFIG_FILE)?;
-    with_stop_file(alloc, command)
+    let command = with_stop_file(alloc, command)?;
+    with_patience(alloc, command)
 }
 
 fn top_command<'a>(alloc: Global, name: &'a str, about: &'a str) -> Result<Command<'a>, AllocError>

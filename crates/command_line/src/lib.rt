@@ -6,7 +6,7 @@
 //! ftpd check-config CONFIG
 //! ftpd migrate CONFIG
 //! ftpd script CONFIG
-//! ftpd serve CONFIG [--stop-file PATH]
+//! ftpd serve CONFIG [--stop-file PATH] [--login-timeout SECONDS] [--idle-timeout SECONDS] [--login-delay SECONDS]
 //!
 //! sheets share SHEET
 //! sheets check SHEET GRANTS
@@ -14,6 +14,8 @@
 #![tactic(auto)]
 
 mod grammar;
+mod patience;
 mod words;
 
+pub use patience::{IDLE_TIMEOUT, LOGIN_DELAY, LOGIN_TIMEOUT, MAX_SECONDS, Patience};
 pub use words::{SheetWords, Words, WordsFault, read_sheet_words, read_words};

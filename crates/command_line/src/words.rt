@@ -3,9 +3,11 @@
 ghost use Rattle.std.specs.Prelude.{◌≡◌, ◌↔◌, ◌∷◌, [], ℕ, List, None, Some, IfOk, IfErr, IfSome, IsTrue, map, codes, option_map, true};
 ghost use Rattle.clap.specs.Words.{app_of, fault_of, first_of, found_of, is_simple, is_simple_and_free, kind_of, rows_of, subcommand_of, subcommand_rows_of, takes};
 ghost use Rattle.command_line.specs.Commands.{ftpd, sheets};
-ghost use Rattle.command_line.specs.Given.{GivesOneOrMemory, GivesOrMemory, IsCheck, IsCheckConfig, IsFound, IsHelp, IsMigrate, IsOfSheets, IsPlainWord, IsRefusal, IsRefusedAs, IsScript, IsServe, IsSheetFound, IsShare, entered_rows};
+ghost use Rattle.command_line.specs.Given.{GivesOneOrMemory, GivesOrMemory, IsCheck, IsCheckConfig, IsFound, IsHelp, IsMigrate, IsOfSheets, IsPlainWord, IsRefusal, IsRefusedAs, IsScript, IsServe, IsSheetFound, IsShare, IsRefusedFor, IsTaken, entered_rows};
+ghost use Rattle.command_line.specs.Timed.{IsSeconds, IsTimedBy, timed_words, usual_patience};
 
 use crate::grammar::{ftpd_command, sheets_command};
+use crate::patience::{Patience, stated_patience};
 use clap::error::ErrorKind;
 use clap::{ArgMatches, Command, Error};
 use std::alloc::Global;
@@ -36,11 +38,12 @@ pub enum Words<'a> {
     Script {
         config: &'a str,
     },
-    /// Serve clients by a configuration; its path, and that of the stop file, if any: the server ends once that file
-    /// appears.
+    /// Serve clients by a configuration; its path, that of the stop file, if any, and the server's patience. The server
+    /// ends once the stop file appears.
     Serve {
         config: &'a str,
         stop_file: Option<&'a str>,
+        patience: Patience,
     },
 }
 
@@ -78,14 +81,14 @@ fn refused(alloc: Global, error: &Error) -> WordsFault
 }
 
 /// The command that the parser entered: its name, and its arguments.
-fn entered<'m, 'a>(matches: &'m ArgMatches<'a>) -> Option<(&'a str, &'m ArgMatches<'a>)>
+pub(crate) fn entered<'m, 'a>(matches: &'m ArgMatches<'a>) -> Option<(&'a str, &'m ArgMatches<'a>)>
     ensures entered { option_map entered_rows result ≡ subcommand_rows_of matches.now }
 {
     matches.subcommand()
 }
 
 /// The argument `id` of the command that was entered.
-fn word_of<'a>(inner: &ArgMatches<'a>, id: &str) -> Option<&'a str>
+pub(crate) fn word_of<'a>(inner: &ArgMatches<'a>, id: &str) -> Option<&'a str>
     ensures word { option_map (λ w. w.now) result ≡ first_of id.now (rows_of (found_of inner.now)) }
 {
     inner.get_str(id)
@@ -120,8 +123,9 @@ fn sheet_words<'a>(matches: &ArgMatches<'a>) -> Option<SheetWords<'a>>
     sheet_given(name, inner)
 }
 
-/// The command of that name, with its words.
-fn given<'a>(name: &str, inner: &ArgMatches<'a>) -> Option<Words<'a>>
+/// The command of that name, with its words, which state that patience.
+fn given<'a>(name: &str, inner: &ArgMatches<'a>, patience: Patience) -> Option<Words<'a>>
+    requires patience { IsTimedBy (Some (name.now, rows_of (found_of inner.now))) patience }
     ensures found { IfSome result (IsFound (Some (name.now, rows_of (found_of inner.now)))) }
     ensures none { result ≡ None → (words : Words)
         → IsFound (Some (name.now, rows_of (found_of inner.now))) words → ⊥ }
@@ -139,19 +143,21 @@ fn given<'a>(name: &str, inner: &ArgMatches<'a>) -> Option<Words<'a>>
         "serve" => Some(Words::Serve {
             config: word_of(inner, "CONFIG")?,
             stop_file: word_of(inner, "PATH"),
+            patience,
         }),
         _ => Some(Words::Sheet(sheet_given(name, inner)?)),
     }
 }
 
-/// The command that the parser entered.
-fn words_of<'a>(matches: &ArgMatches<'a>) -> Option<Words<'a>>
+/// The command that the parser entered, whose words state that patience.
+fn words_of<'a>(matches: &ArgMatches<'a>, patience: Patience) -> Option<Words<'a>>
+    requires patience { IsTimedBy (subcommand_rows_of matches.now) patience }
     ensures found { IfSome result (IsFound (subcommand_rows_of matches.now)) }
     ensures none { result ≡ None → (words : Words)
         → IsFound (subcommand_rows_of matches.now) words → ⊥ }
 {
     let (name, inner) = entered(matches)?;
-    given(name, inner)
+    given(name, inner, patience)
 }
 
 /// Parses the words, which do not include the program's name.
@@ -211,8 +217,9 @@ pub fn read_sheet_words<'a>(
 
 /// Reads the command in the words of `ftpd`, which do not include the program's name.
 ///
-/// Returns the command of words that the parser accepts. `Refused`: the parser refuses the words, or they ask for help
-/// or the version. `Memory`: memory ran out.
+/// Returns the command of words that the parser accepts, if each number of seconds among them is one. `Refused`: the
+/// parser refuses the words, or they ask for help or the version, or a value is no number of seconds. `Memory`: memory
+/// ran out.
 pub fn read_words<'a>(alloc: Global, words: &'a [&'a str]) -> Result<Words<'a>, WordsFault>
     ensures share { (word : List ℕ) → IsPlainWord word
         → map (λ s. s.now) words.now ≡ codes "share" ∷ word ∷ []
@@ -231,14 +238,19 @@ pub fn read_words<'a>(alloc: Global, words: &'a [&'a str]) -> Result<Words<'a>, 
         → GivesOrMemory (IsScript word) result }
     ensures serve { (word : List ℕ) → IsPlainWord word
         → map (λ s. s.now) words.now ≡ codes "serve" ∷ word ∷ []
-        → GivesOrMemory (IsServe word None) result }
+        → GivesOrMemory (IsServe word None usual_patience) result }
     ensures serve_until { (word path : List ℕ) → IsPlainWord word → IsPlainWord path
         → map (λ s. s.now) words.now ≡ codes "serve" ∷ word ∷ codes "--stop-file" ∷ path ∷ []
-        → GivesOrMemory (IsServe word (Some path)) result }
-    ensures taken { fault_of ftpd (map (λ s. s.now) words.now) ≡ [] → GivesOneOrMemory
+        → GivesOrMemory (IsServe word (Some path) usual_patience) result }
+    ensures serve_timed { (word first second third : List ℕ) (p : Patience) → IsPlainWord word
+        → IsSeconds first p.login_timeout → IsSeconds second p.idle_timeout
+        → IsSeconds third p.login_delay
+        → map (λ s. s.now) words.now ≡ timed_words word first second third
+        → GivesOrMemory (IsServe word None p) result }
+    ensures taken { IsTaken (map (λ s. s.now) words.now) → GivesOneOrMemory
         (IsFound (subcommand_of ftpd (map (λ s. s.now) words.now))) result }
-    ensures refused { IfErr result (IsRefusal (fault_of ftpd (map (λ s. s.now) words.now))) }
-    ensures given { IfOk result (λ _. fault_of ftpd (map (λ s. s.now) words.now) ≡ []) }
+    ensures refused { IfErr result (IsRefusedFor (map (λ s. s.now) words.now)) }
+    ensures given { IfOk result (λ _. IsTaken (map (λ s. s.now) words.now)) }
     ensures found { IfOk result (IsFound (subcommand_of ftpd (map (λ s. s.now) words.now))) }
 {
     let Ok(command) = ftpd_command(alloc) else {
@@ -248,7 +260,11 @@ pub fn read_words<'a>(alloc: Global, words: &'a [&'a str]) -> Result<Words<'a>, 
         Ok(matches) => matches,
         Err(fault) => return Err(fault),
     };
-    match words_of(&matches) {
+    let patience = match stated_patience(alloc, &matches) {
+        Ok(patience) => patience,
+        Err(fault) => return Err(fault),
+    };
+    match words_of(&matches, patience) {
         Some(words) => Ok(words),
         None => unreachable!("words that the parser takes give a command"),
     }

@@ -19,7 +19,7 @@ mod settling;
 mod watching;
 mod works;
 
-pub use ftpd_program::{ScriptFault, ServeFault, run_script};
+pub use ftpd_program::{Patience, ScriptFault, ServeFault, run_script};
 pub use grant_certificate::Verdict;
 pub use opening::Service;
 pub use script_session::SessionFault;

@@ -10,7 +10,7 @@ ghost use Rattle.lane_desk.specs.Turns.{back, turns, IsRoundOf};
 use authorizer::Authorizer;
 use data_sockets::TransferCell;
 use event_word::micros;
-use ftpd_program::ServeFault;
+use ftpd_program::{Patience, ServeFault};
 use grant_ledger::{Book, Settled, Tally, settle};
 use handler_hooks::Hooks;
 use lane_desk::{Desk, LaneSeat, RoundDesk, Worked, open_desk};
@@ -42,6 +42,8 @@ pub struct Service<S: Drop, H: Hooks, P: Drop> {
     pub handler: H,
     /// The stop sign, if there is one.
     pub stop: Option<P>,
+    /// The times that the server waits for a client.
+    pub patience: Patience,
 }
 
 /// The parts that the threads will share, except desk and board.
@@ -125,6 +127,7 @@ where
         own_stores,
         handler,
         stop,
+        patience: _,
     } = service;
     let most = usize::from(numbers.max_cons);
     let floors = Floors::of(alloc, &limits)?;

@@ -6,7 +6,7 @@
 //! type parameter for their permission.
 
 use folder_store::DirStore;
-use ftp_daemon::{ServeFault, Service, StopSign, serve};
+use ftp_daemon::{Patience, ServeFault, Service, StopSign, serve};
 use ftpd_program::{FtpdExit, Server};
 use log::sink::Console;
 use log::{Level, Logged};
@@ -22,10 +22,19 @@ use std::time::Clock;
 use text_io::TextWriter;
 use virtual_tree::StoreFault;
 
+/// What the words of a command line ask a server for.
+#[derive(Drop)]
+pub(crate) struct AskedService {
+    config: Config,
+    /// The path of the stop file, if any.
+    stop_file: Option<String>,
+    patience: Patience,
+}
+
 /// The service that the words of a command line ask for, if any.
 #[derive(Drop)]
 pub(crate) struct Asked {
-    service: Option<(Config, Option<String>)>,
+    service: Option<AskedService>,
 }
 
 impl Asked {
@@ -34,8 +43,8 @@ impl Asked {
         Asked { service: None }
     }
 
-    /// Returns the configuration, and the path of the stop file, if a server was asked for.
-    pub fn into_service(self) -> Option<(Config, Option<String>)> {
+    /// Returns the service, if a server was asked for.
+    pub fn into_service(self) -> Option<AskedService> {
         self.service
     }
 }
@@ -56,11 +65,16 @@ impl<W: TextWriter> Server<W> for Asked {
         alloc: Global,
         config: Config,
         stop_file: Option<&str>,
+        patience: Patience,
         _output: &mut W,
     ) -> Result<(), ServeFault> {
         match copied(alloc, stop_file) {
-            Ok(path) => {
-                self.service = Some((config, path));
+            Ok(stop_file) => {
+                self.service = Some(AskedService {
+                    config,
+                    stop_file,
+                    patience,
+                });
                 Ok(())
             }
             Err(AllocError) => Err(ServeFault::Memory),
@@ -111,6 +125,7 @@ fn serve_config<R, W>(
     machine: &HostRuntime,
     config: Config,
     stop: Option<StopFile>,
+    patience: Patience,
     output: &mut W,
 ) -> Result<(), ServeFault>
 where
@@ -143,6 +158,7 @@ where
                 own_stores: Vec::new(rt.alloc()),
                 handler,
                 stop,
+                patience,
             };
             serve(rt, service, output)?;
         }
@@ -158,6 +174,7 @@ where
                 own_stores,
                 handler,
                 stop,
+                patience,
             };
             serve(rt, service, output)?;
         }
@@ -169,7 +186,7 @@ where
 pub(crate) fn serve_asked<'w, R, W>(
     rt: &R,
     machine: &HostRuntime,
-    service: (Config, Option<String>),
+    service: AskedService,
     output: &mut W,
 ) -> FtpdExit<'w>
 where
@@ -183,15 +200,19 @@ where
         + Sync,
     W: TextWriter,
 {
-    let (config, path) = service;
-    let stop = match path {
+    let AskedService {
+        config,
+        stop_file,
+        patience,
+    } = service;
+    let stop = match stop_file {
         Some(path) => Some(StopFile {
             machine: *machine,
             path,
         }),
         None => None,
     };
-    match serve_config(rt, machine, config, stop, output) {
+    match serve_config(rt, machine, config, stop, patience, output) {
         Ok(()) => FtpdExit::Common(Common::Done),
         Err(fault) => FtpdExit::Server(fault),
     }

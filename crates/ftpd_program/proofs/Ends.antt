@@ -1,6 +1,7 @@
 -- The ends of commands, for the words that name them.
 use Rattle.std.proofs.Common.{◌≡◌, ℕ, List, Option, option_map, subst}
 use Rattle.command_line.specs.Given.{IsCheck, IsCheckConfig, IsMigrate, IsOfSheets, IsScript, IsServe, IsShare}
+use Rattle.command_line.specs.declared.patience.Patience.{Patience}
 use Rattle.command_line.specs.declared.words.SheetWords.TheVariants.{Share, Check}
 use Rattle.command_line.specs.declared.words.Words.{Words}
 use Rattle.command_line.specs.declared.words.Words.TheVariants.{Sheet, CheckConfig, Migrate, Script, Serve}
@@ -26,7 +27,7 @@ share_end gives serves Refuses (Sheet (Check path other)) sheet old new ending i
 share_end gives serves Refuses (CheckConfig path) sheet old new ending is end = absurd is
 share_end gives serves Refuses (Migrate path) sheet old new ending is end = absurd is
 share_end gives serves Refuses (Script path) sheet old new ending is end = absurd is
-share_end gives serves Refuses (Serve path stop_file) sheet old new ending is end = absurd is
+share_end gives serves Refuses (Serve path stop_file patience) sheet old new ending is end = absurd is
 
 pub check_end : (gives : List ℕ → Octets) (serves : Service) (Refuses : List ℕ → Type 0) (words : Words) (sheet grants : List ℕ) (old new : Option (List ℕ)) (ending : FtpdExit)
     → IsOfSheets (IsCheck sheet grants) words → IsCommandEnd gives serves Refuses words old new ending → IsCommon (IsCheckEnd gives sheet grants old new) ending
@@ -40,7 +41,7 @@ check_end gives serves Refuses (Sheet (Share path)) sheet grants old new ending 
 check_end gives serves Refuses (CheckConfig path) sheet grants old new ending is end = absurd is
 check_end gives serves Refuses (Migrate path) sheet grants old new ending is end = absurd is
 check_end gives serves Refuses (Script path) sheet grants old new ending is end = absurd is
-check_end gives serves Refuses (Serve path stop_file) sheet grants old new ending is end = absurd is
+check_end gives serves Refuses (Serve path stop_file patience) sheet grants old new ending is end = absurd is
 
 pub report_end : (gives : List ℕ → Octets) (serves : Service) (Refuses : List ℕ → Type 0) (words : Words) (config : List ℕ) (old new : Option (List ℕ)) (ending : FtpdExit)
     → IsCheckConfig config words → IsCommandEnd gives serves Refuses words old new ending → IsPrintEnd Report (gives config) Refuses old new ending
@@ -48,7 +49,7 @@ report_end gives serves Refuses (CheckConfig path) config old new ending is end 
 report_end gives serves Refuses (Sheet words) config old new ending is end = absurd is
 report_end gives serves Refuses (Migrate path) config old new ending is end = absurd is
 report_end gives serves Refuses (Script path) config old new ending is end = absurd is
-report_end gives serves Refuses (Serve path stop_file) config old new ending is end = absurd is
+report_end gives serves Refuses (Serve path stop_file patience) config old new ending is end = absurd is
 
 pub migrate_end : (gives : List ℕ → Octets) (serves : Service) (Refuses : List ℕ → Type 0) (words : Words) (config : List ℕ) (old new : Option (List ℕ)) (ending : FtpdExit)
     → IsMigrate config words → IsCommandEnd gives serves Refuses words old new ending → IsPrintEnd Latest (gives config) Refuses old new ending
@@ -56,7 +57,7 @@ migrate_end gives serves Refuses (Migrate path) config old new ending is end = s
 migrate_end gives serves Refuses (Sheet words) config old new ending is end = absurd is
 migrate_end gives serves Refuses (CheckConfig path) config old new ending is end = absurd is
 migrate_end gives serves Refuses (Script path) config old new ending is end = absurd is
-migrate_end gives serves Refuses (Serve path stop_file) config old new ending is end = absurd is
+migrate_end gives serves Refuses (Serve path stop_file patience) config old new ending is end = absurd is
 
 pub script_end : (gives : List ℕ → Octets) (serves : Service) (Refuses : List ℕ → Type 0) (words : Words) (config : List ℕ) (old new : Option (List ℕ)) (ending : FtpdExit)
     → IsScript config words → IsCommandEnd gives serves Refuses words old new ending → IsScriptEnd gives config old new ending
@@ -64,17 +65,18 @@ script_end gives serves Refuses (Script path) config old new ending is end = sub
 script_end gives serves Refuses (Sheet words) config old new ending is end = absurd is
 script_end gives serves Refuses (CheckConfig path) config old new ending is end = absurd is
 script_end gives serves Refuses (Migrate path) config old new ending is end = absurd is
-script_end gives serves Refuses (Serve path stop_file) config old new ending is end = absurd is
+script_end gives serves Refuses (Serve path stop_file patience) config old new ending is end = absurd is
 
-pub serve_end : (gives : List ℕ → Octets) (serves : Service) (Refuses : List ℕ → Type 0) (words : Words) (config : List ℕ) (path : Option (List ℕ)) (old new : Option (List ℕ)) (ending : FtpdExit)
-    → IsServe config path words → IsCommandEnd gives serves Refuses words old new ending → IsServeEnd (gives config) serves path old new ending
-serve_end gives serves Refuses (Serve word stop_file) config path old new ending is end =
-    let first = subst (λ (p : List ℕ). IsServeEnd (gives p) serves (option_map (λ w. w.now) stop_file) old new ending) is.0 end in
-    subst (λ (p : Option (List ℕ)). IsServeEnd (gives config) serves p old new ending) is.1 first
-serve_end gives serves Refuses (Sheet words) config path old new ending is end = absurd is
-serve_end gives serves Refuses (CheckConfig word) config path old new ending is end = absurd is
-serve_end gives serves Refuses (Migrate word) config path old new ending is end = absurd is
-serve_end gives serves Refuses (Script word) config path old new ending is end = absurd is
+pub serve_end : (gives : List ℕ → Octets) (serves : Service) (Refuses : List ℕ → Type 0) (words : Words) (config : List ℕ) (path : Option (List ℕ)) (p : Patience) (old new : Option (List ℕ)) (ending : FtpdExit)
+    → IsServe config path p words → IsCommandEnd gives serves Refuses words old new ending → IsServeEnd (gives config) serves path p old new ending
+serve_end gives serves Refuses (Serve word stop_file patience) config path p old new ending is end =
+    let first = subst (λ (c : List ℕ). IsServeEnd (gives c) serves (option_map (λ w. w.now) stop_file) patience old new ending) is.0 end in
+    let second = subst (λ (f : Option (List ℕ)). IsServeEnd (gives config) serves f patience old new ending) is.1 first in
+    subst (λ (q : Patience). IsServeEnd (gives config) serves path q old new ending) is.2 second
+serve_end gives serves Refuses (Sheet words) config path p old new ending is end = absurd is
+serve_end gives serves Refuses (CheckConfig word) config path p old new ending is end = absurd is
+serve_end gives serves Refuses (Migrate word) config path p old new ending is end = absurd is
+serve_end gives serves Refuses (Script word) config path p old new ending is end = absurd is
 
 pub unserved : (text before after old new : Option (List ℕ)) (fault : ScriptFault) (why : SessionFault)
     → IsUnscripted text before after old new fault → fault ≡ Unserved why → IsUnscripted text before after old new (Unserved why)

@@ -58,5 +58,5 @@ IsCommandEnd gives serves Refuses (Migrate config) old new ending =
     IsPrintEnd Latest (gives config.now) Refuses old new ending
 IsCommandEnd gives serves Refuses (Script config) old new ending =
     IsScriptEnd gives config.now old new ending
-IsCommandEnd gives serves Refuses (Serve config stop_file) old new ending =
-    IsServeEnd (gives config.now) serves (option_map (λ w. w.now) stop_file) old new ending
+IsCommandEnd gives serves Refuses (Serve config stop_file patience) old new ending =
+    IsServeEnd (gives config.now) serves (option_map (λ w. w.now) stop_file) patience old new ending

@@ -19,6 +19,7 @@ mod scripting;
 mod server;
 mod serving;
 
+pub use command_line::Patience;
 pub use ending::{FtpdErrorText, FtpdExit};
 pub use printing::{Print, PrintFault, run_print};
 pub use run::run_words;

@@ -1,9 +1,11 @@
 //! Running the command of a line's words.
 
-ghost use Rattle.std.specs.Prelude.{◌≡◌, ◌≢◌, ◌⊎◌, ◌∷◌, [], ℕ, List, None, Some, codes, map};
-ghost use Rattle.clap.specs.Words.{fault_of, subcommand_of};
+ghost use Rattle.std.specs.Prelude.{◌≡◌, ◌⊎◌, ◌∷◌, [], ℕ, List, None, Some, codes, map};
+ghost use Rattle.clap.specs.Words.{subcommand_of};
 ghost use Rattle.command_line.specs.Commands.{ftpd};
-ghost use Rattle.command_line.specs.Given.{IsFound, IsPlainWord, IsRefusal};
+ghost use Rattle.command_line.specs.Given.{IsFound, IsPlainWord, IsRefusedFor, IsTaken};
+ghost use Rattle.command_line.specs.Timed.{IsSeconds, timed_words, usual_patience};
+ghost use Rattle.command_line.specs.declared.patience.Patience.{Patience};
 ghost use Rattle.command_line.specs.declared.words.Words.{Words};
 ghost use Rattle.command_line.specs.declared.words.WordsFault.{WordsFault};
 ghost use Rattle.script_session.specs.Breaks.{MayBreakWriting};
@@ -125,9 +127,11 @@ fn run_command<'w, O: Opener, W: TextWriter, V: Server<W>>(
         Words::CheckConfig { config } => { print_text(alloc, Print::Report, config, files, output) }
         Words::Migrate { config } => print_text(alloc, Print::Latest, config, files, output),
         Words::Script { config } => script(alloc, config, files, output),
-        Words::Serve { config, stop_file } => {
-            serve(alloc, config, stop_file, files, server, output)
-        }
+        Words::Serve {
+            config,
+            stop_file,
+            patience,
+        } => serve(alloc, config, stop_file, patience, files, server, output),
     }
 }
 
@@ -163,13 +167,19 @@ pub fn run_words<'w, O: Opener, W: TextWriter, V: Server<W>>(
         (W.contents output.old) (W.contents output.new) result }
     ensures serve { (config : List ℕ) → IsPlainWord config
         → map (λ s. s.now) words.now ≡ codes "serve" ∷ config ∷ []
-        → IsServeEnd (O.Gives files.old config) V.Serves None
+        → IsServeEnd (O.Gives files.old config) V.Serves None usual_patience
         (W.contents output.old) (W.contents output.new) result }
     ensures serve_until { (config path : List ℕ) → IsPlainWord config → IsPlainWord path
         → map (λ s. s.now) words.now ≡ codes "serve" ∷ config ∷ codes "--stop-file" ∷ path ∷ []
-        → IsServeEnd (O.Gives files.old config) V.Serves (Some path)
+        → IsServeEnd (O.Gives files.old config) V.Serves (Some path) usual_patience
         (W.contents output.old) (W.contents output.new) result }
-    ensures command { fault_of ftpd (map (λ s. s.now) words.now) ≡ []
+    ensures serve_timed { (config first second third : List ℕ) (p : Patience) → IsPlainWord config
+        → IsSeconds first p.login_timeout → IsSeconds second p.idle_timeout
+        → IsSeconds third p.login_delay
+        → map (λ s. s.now) words.now ≡ timed_words config first second third
+        → IsServeEnd (O.Gives files.old config) V.Serves None p
+        (W.contents output.old) (W.contents output.new) result }
+    ensures command { IsTaken (map (λ s. s.now) words.now)
         → IsCommon IsOutOfMemory result ⊎ ((command : Words)
         × IsFound (subcommand_of ftpd (map (λ s. s.now) words.now)) command
         × IsCommandEnd (O.Gives files.old) V.Serves (W.may_refuse output.old) command
@@ -178,8 +188,8 @@ pub fn run_words<'w, O: Opener, W: TextWriter, V: Server<W>>(
         (O.MayFail files.old) (W.may_refuse output.old)
         (MayBreakWriting W.contents W.may_refuse output.old) command result
         × AreCommandOpened O.Opens files.old files.new (O.MayRefuse files.old) command result) }
-    ensures told { fault_of ftpd (map (λ s. s.now) words.now) ≢ [] → (fault : WordsFault)
-        × IsRefusal (fault_of ftpd (map (λ s. s.now) words.now)) fault
+    ensures told { (IsTaken (map (λ s. s.now) words.now) → ⊥) → (fault : WordsFault)
+        × IsRefusedFor (map (λ s. s.now) words.now) fault
         × IsCommon (IsToldEnd fault (W.contents output.old) (W.contents output.new)) result
         × (files.new ≡ files.old) }
     ensures unwritten { IsUnwritten result → output.new ≡ output.old }

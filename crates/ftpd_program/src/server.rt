@@ -3,6 +3,7 @@
 ghost use Rattle.std.specs.Prelude.{option_map};
 ghost use Rattle.ftpd_program.specs.Serving.{Service};
 
+use command_line::Patience;
 use server_config::Config;
 use std::alloc::{AllocError, Global};
 use text_io::TextWriter;
@@ -44,19 +45,20 @@ impl From<AllocError> for ServeFault {
 
 /// A server of clients. It writes a message to an output when it is ready, and the settled counts at its end.
 pub trait Server<W: TextWriter> {
-    /// The possible calls: the configuration, the stop file, the contents of the output before and after, and the
-    /// result.
-    ghost Serves: { Service } = { λ _ _ _ _ _. Unit {0} };
+    /// The possible calls: the configuration, the stop file, the patience, the contents of the output before and after,
+    /// and the result.
+    ghost Serves: { Service } = { λ _ _ _ _ _ _. Unit {0} };
 
     /// Serves clients by a configuration, until it has had its number of sessions, or until a file exists at the path
-    /// of the stop file.
+    /// of the stop file. It waits for a client as the patience says.
     fn serve(
         &mut self,
         alloc: Global,
         config: Config,
         stop_file: Option<&str>,
+        patience: Patience,
         output: &mut W,
     ) -> Result<(), ServeFault>
-        ensures served { Serves config (option_map (λ w. w.now) stop_file.entry)
+        ensures served { Serves config (option_map (λ w. w.now) stop_file.entry) patience
             (W.contents output.old) (W.contents output.new) result };
 }

@@ -8,6 +8,7 @@ ghost use Rattle.ftpd_program.specs.Serving.{IsConfigIn, IsServeEnd, IsUnconfigu
 use crate::ending::FtpdExit;
 use crate::scripting::{ScriptFault, read_config};
 use crate::server::{ServeFault, Server};
+use command_line::Patience;
 use server_config::Config;
 use sheets_program::{Exit as Common, Opener, text_cause};
 use std::alloc::Global;
@@ -57,12 +58,13 @@ pub(crate) fn serve<'w, O: Opener, W: TextWriter, V: Server<W>>(
     alloc: Global,
     config: &'w str,
     stop_file: Option<&str>,
+    patience: Patience,
     files: &mut O,
     server: &mut V,
     output: &mut W,
 ) -> FtpdExit<'w>
     ensures end { IsServeEnd (O.Gives files.old config.now) V.Serves
-        (option_map (λ w. w.now) stop_file.entry)
+        (option_map (λ w. w.now) stop_file.entry) patience
         (W.contents output.old) (W.contents output.new) result }
     ensures why { IsReadWhy config.now
         (O.MayRefuse files.old config.now ⊎ O.MayFail files.old config.now) result }
@@ -70,7 +72,7 @@ pub(crate) fn serve<'w, O: Opener, W: TextWriter, V: Server<W>>(
     ensures unwritten { IsUnwritten result → output.new ≡ output.old }
 {
     match config_at(alloc, config, files) {
-        Ok(config) => ended(server.serve(alloc, config, stop_file, output)),
+        Ok(config) => ended(server.serve(alloc, config, stop_file, patience, output)),
         Err(ending) => ending,
     }
 }

@@ -3,7 +3,7 @@
 use crate::ends::{Files, Given};
 use crate::expect::{holds, same, tells};
 use crate::texts::SMALL;
-use ftpd_program::{FtpdErrorText, FtpdExit, ServeFault, Server, run_words};
+use ftpd_program::{FtpdErrorText, FtpdExit, Patience, ServeFault, Server, run_words};
 use server_config::Config;
 use std::alloc::Global;
 use std::process::Abort;
@@ -18,6 +18,8 @@ pub(crate) struct Noting {
     port: u16,
     /// The last stop file.
     stop_file: Option<String>,
+    /// The last patience.
+    patience: Option<Patience>,
     fault: Option<ServeFault>,
 }
 
@@ -27,6 +29,7 @@ impl Noting {
             calls: 0,
             port: 0,
             stop_file: None,
+            patience: None,
             fault: None,
         }
     }
@@ -38,6 +41,7 @@ impl<W: TextWriter> Server<W> for Noting {
         alloc: Global,
         config: Config,
         stop_file: Option<&str>,
+        patience: Patience,
         output: &mut W,
     ) -> Result<(), ServeFault> {
         self.calls = self.calls.saturating_add(1);
@@ -46,6 +50,7 @@ impl<W: TextWriter> Server<W> for Noting {
             Some(path) => String::from_str(alloc, path).ok(),
             None => None,
         };
+        self.patience = Some(patience);
         if output.write_text(b"ready\n").is_err() {
             return Err(ServeFault::WriteFault);
         }
@@ -89,6 +94,12 @@ fn a_server_is_called(rt: HostRuntime) {
     holds(&rt, server.calls == 1 && server.port == 2121);
     holds(&rt, server.stop_file.is_none());
     same(&rt, &output, "ready\n");
+    let usual = Patience {
+        login_timeout: 60,
+        idle_timeout: 0,
+        login_delay: 1,
+    };
+    holds(&rt, server.patience == Some(usual));
     let words = ["serve", "file", "--stop-file", "stop"];
     let ending = served(&rt, &words, SMALL, &mut server, &mut output);
     holds(&rt, ending.status() == 0);

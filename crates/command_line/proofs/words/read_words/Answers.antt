@@ -1,9 +1,12 @@
-use Rattle.std.proofs.Common.{refl, sym, [], ◌≡◌, ◌∙◌, ap, ap₂, subst, map, ℕ, List, Option, true}
+use Rattle.std.proofs.Common.{codes, inl, inr, refl, sym, [], ◌≡◌, ◌∙◌, ap, ap₂, subst, map, ℕ, List, Option, true}
 use Rattle.std.specs.Borrow.{Bor}
 use Rattle.command_line.specs.Commands.{ftpd}
 use Rattle.command_line.specs.Given.{IsFound, IsRefusal, IsServe}
+use Rattle.command_line.specs.Timed.{IsTimedBy, IsUntimed, usual_patience}
 use Rattle.clap.specs.Words.{App, Row, Text, app_of, fault_of, is_simple, is_simple_and_free, subcommand_of, takes}
-use Rattle.command_line.proofs.Taken.{refused_by_none, ftpd_is_free, ftpd_is_simple, ftpd_checks, ftpd_shares, checks_config, migrates, scripts, serves, serves_until}
+use Rattle.command_line.proofs.Taken.{refused_by_none, ftpd_is_free, ftpd_is_simple, ftpd_checks, ftpd_shares, checks_config, migrates, scripts, serves}
+use Rattle.command_line.proofs.Seconds.{patient, refused_other, refused_timed, seconds_plain, timed_by, usual}
+use Rattle.command_line.proofs.ServeWords.{serves_timed, serves_until}
 use Rattle.command_line.proofs.GivenCommand.{check_config_is, check_of_sheets, ftpd_found, migrate_is, script_is, serve_is, share_of_sheets}
 use Rattle.command_line.proofs.words.read_words.Goals as goal
 
@@ -35,23 +38,107 @@ pub returns-in-Err-clause-serve_until : goal.returns-in-Err-clause-serve_until
 returns-in-Err-clause-serve_until c = λ word path plain also are.
     c.in-Err.ensures.takes (ap₂ takes c.in-Ok.ensures.ftpd are ∙ (serves_until word path plain also).taken)
 
+pub returns-in-Err-clause-serve_timed : goal.returns-in-Err-clause-serve_timed
+returns-in-Err-clause-serve_timed c = λ word first second third p plain one two three are.
+    let held = serves_timed word first second third plain (seconds_plain first _ one) (seconds_plain second _ two) (seconds_plain third _ three) in
+    c.in-Err.ensures.takes (ap₂ takes c.in-Ok.ensures.ftpd are ∙ held.taken)
+
 pub returns-in-Err-clause-refused : goal.returns-in-Err-clause-refused
 returns-in-Err-clause-refused c =
     let texts = map (λ (s : Bor (List ℕ)). s.now) c.args.words.now in
     let refused = c.in-Err.ensures.refused (ap is_simple_and_free c.in-Ok.ensures.ftpd ∙ ftpd_is_free) in
-    subst (λ (a : App). IsRefusal (fault_of a texts) c.in-Err.fault) c.in-Ok.ensures.ftpd refused
+    inl (subst (λ (a : App). IsRefusal (fault_of a texts) c.in-Err.fault) c.in-Ok.ensures.ftpd refused)
 
 pub returns-in_default-clause-taken : goal.returns-in_default-clause-taken
-returns-in_default-clause-taken c = λ none.
+returns-in_default-clause-taken c = λ is.
     let texts = map (λ (s : Bor (List ℕ)). s.now) c.args.words.now in
-    let found = ftpd_found c.args.words texts none in
+    let found = ftpd_found c.args.words texts is.1.0 is.0 is.1.1 in
     (found.0, found.1, refl)
 
 pub returns-in-Err-clause-taken : goal.returns-in-Err-clause-taken
-returns-in-Err-clause-taken c = λ none.
+returns-in-Err-clause-taken c = λ is.
     let texts = map (λ (s : Bor (List ℕ)). s.now) c.args.words.now in
-    let found = ftpd_found c.args.words texts none in
-    (found.0, found.1, refused_by_none (fault_of ftpd texts) c.in-Err.fault none (returns-in-Err-clause-refused c))
+    let found = ftpd_found c.args.words texts is.1.0 is.0 is.1.1 in
+    let refused = c.in-Err.ensures.refused (ap is_simple_and_free c.in-Ok.ensures.ftpd ∙ ftpd_is_free) in
+    let by_parser = subst (λ (a : App). IsRefusal (fault_of a texts) c.in-Err.fault) c.in-Ok.ensures.ftpd refused in
+    (found.0, found.1, refused_by_none (fault_of ftpd texts) c.in-Err.fault is.0 by_parser)
+
+-- ---- where a number of seconds is refused
+
+pub returns-in-Err-stated_patience-clause-share : goal.returns-in-Err-stated_patience-clause-share
+returns-in-Err-stated_patience-clause-share c = λ word plain are.
+    let held = ftpd_shares word plain in
+    let simple : is_simple (app_of c.in-Ok.command) ≡ true = ap is_simple c.in-Ok.ensures.ftpd ∙ ftpd_is_simple in
+    let entered = c.in-Ok-parsed.ensures.found simple ∙ ap₂ subcommand_of c.in-Ok.ensures.ftpd are ∙ held.entered in
+    refused_other _ (codes "share") held.rows _ refl entered c.in-Err-stated_patience.ensures.refused
+
+pub returns-in-Err-stated_patience-clause-check : goal.returns-in-Err-stated_patience-clause-check
+returns-in-Err-stated_patience-clause-check c = λ first second plain also are.
+    let held = ftpd_checks first second plain also in
+    let simple : is_simple (app_of c.in-Ok.command) ≡ true = ap is_simple c.in-Ok.ensures.ftpd ∙ ftpd_is_simple in
+    let entered = c.in-Ok-parsed.ensures.found simple ∙ ap₂ subcommand_of c.in-Ok.ensures.ftpd are ∙ held.entered in
+    refused_other _ (codes "check") held.rows _ refl entered c.in-Err-stated_patience.ensures.refused
+
+pub returns-in-Err-stated_patience-clause-check_config : goal.returns-in-Err-stated_patience-clause-check_config
+returns-in-Err-stated_patience-clause-check_config c = λ word plain are.
+    let held = checks_config word plain in
+    let simple : is_simple (app_of c.in-Ok.command) ≡ true = ap is_simple c.in-Ok.ensures.ftpd ∙ ftpd_is_simple in
+    let entered = c.in-Ok-parsed.ensures.found simple ∙ ap₂ subcommand_of c.in-Ok.ensures.ftpd are ∙ held.entered in
+    refused_other _ (codes "check-config") held.rows _ refl entered c.in-Err-stated_patience.ensures.refused
+
+pub returns-in-Err-stated_patience-clause-migrate : goal.returns-in-Err-stated_patience-clause-migrate
+returns-in-Err-stated_patience-clause-migrate c = λ word plain are.
+    let held = migrates word plain in
+    let simple : is_simple (app_of c.in-Ok.command) ≡ true = ap is_simple c.in-Ok.ensures.ftpd ∙ ftpd_is_simple in
+    let entered = c.in-Ok-parsed.ensures.found simple ∙ ap₂ subcommand_of c.in-Ok.ensures.ftpd are ∙ held.entered in
+    refused_other _ (codes "migrate") held.rows _ refl entered c.in-Err-stated_patience.ensures.refused
+
+pub returns-in-Err-stated_patience-clause-script : goal.returns-in-Err-stated_patience-clause-script
+returns-in-Err-stated_patience-clause-script c = λ word plain are.
+    let held = scripts word plain in
+    let simple : is_simple (app_of c.in-Ok.command) ≡ true = ap is_simple c.in-Ok.ensures.ftpd ∙ ftpd_is_simple in
+    let entered = c.in-Ok-parsed.ensures.found simple ∙ ap₂ subcommand_of c.in-Ok.ensures.ftpd are ∙ held.entered in
+    refused_other _ (codes "script") held.rows _ refl entered c.in-Err-stated_patience.ensures.refused
+
+pub returns-in-Err-stated_patience-clause-serve : goal.returns-in-Err-stated_patience-clause-serve
+returns-in-Err-stated_patience-clause-serve c = λ word plain are.
+    let held = serves word plain in
+    let simple : is_simple (app_of c.in-Ok.command) ≡ true = ap is_simple c.in-Ok.ensures.ftpd ∙ ftpd_is_simple in
+    let entered = c.in-Ok-parsed.ensures.found simple ∙ ap₂ subcommand_of c.in-Ok.ensures.ftpd are ∙ held.entered in
+    refused_timed _ _ _ (timed_by _ _ held.rows entered (usual held.rows held.usual)) c.in-Err-stated_patience.ensures.refused
+
+pub returns-in-Err-stated_patience-clause-serve_until : goal.returns-in-Err-stated_patience-clause-serve_until
+returns-in-Err-stated_patience-clause-serve_until c = λ word path plain also are.
+    let held = serves_until word path plain also in
+    let simple : is_simple (app_of c.in-Ok.command) ≡ true = ap is_simple c.in-Ok.ensures.ftpd ∙ ftpd_is_simple in
+    let entered = c.in-Ok-parsed.ensures.found simple ∙ ap₂ subcommand_of c.in-Ok.ensures.ftpd are ∙ held.entered in
+    refused_timed _ _ _ (timed_by _ _ held.rows entered (usual held.rows held.usual)) c.in-Err-stated_patience.ensures.refused
+
+pub returns-in-Err-stated_patience-clause-serve_timed : goal.returns-in-Err-stated_patience-clause-serve_timed
+returns-in-Err-stated_patience-clause-serve_timed c = λ word first second third p plain one two three are.
+    let held = serves_timed word first second third plain (seconds_plain first _ one) (seconds_plain second _ two) (seconds_plain third _ three) in
+    let simple : is_simple (app_of c.in-Ok.command) ≡ true = ap is_simple c.in-Ok.ensures.ftpd ∙ ftpd_is_simple in
+    let entered = c.in-Ok-parsed.ensures.found simple ∙ ap₂ subcommand_of c.in-Ok.ensures.ftpd are ∙ held.entered in
+    let states = patient held.rows p first second third held.first held.second held.third one two three in
+    refused_timed _ p _ (timed_by _ p held.rows entered states) c.in-Err-stated_patience.ensures.refused
+
+pub returns-in-Err-stated_patience-clause-refused : goal.returns-in-Err-stated_patience-clause-refused
+returns-in-Err-stated_patience-clause-refused c =
+    let texts = map (λ (s : Bor (List ℕ)). s.now) c.args.words.now in
+    let simple : is_simple (app_of c.in-Ok.command) ≡ true = ap is_simple c.in-Ok.ensures.ftpd ∙ ftpd_is_simple in
+    let entered = c.in-Ok-parsed.ensures.found simple ∙ ap (λ (a : App). subcommand_of a texts) c.in-Ok.ensures.ftpd in
+    inr (subst (λ (found : Option (Text × List Row)). IsUntimed found c.in-Err-stated_patience.fault) entered c.in-Err-stated_patience.ensures.refused)
+
+pub returns-in-Err-stated_patience-clause-taken : goal.returns-in-Err-stated_patience-clause-taken
+returns-in-Err-stated_patience-clause-taken c = λ is.
+    let texts = map (λ (s : Bor (List ℕ)). s.now) c.args.words.now in
+    let simple : is_simple (app_of c.in-Ok.command) ≡ true = ap is_simple c.in-Ok.ensures.ftpd ∙ ftpd_is_simple in
+    let entered = c.in-Ok-parsed.ensures.found simple ∙ ap (λ (a : App). subcommand_of a texts) c.in-Ok.ensures.ftpd in
+    let found = ftpd_found c.args.words texts is.1.0 is.0 is.1.1 in
+    let untimed = subst (λ (found : Option (Text × List Row)). IsUntimed found c.in-Err-stated_patience.fault) entered c.in-Err-stated_patience.ensures.refused in
+    (found.0, found.1, refused_timed _ is.1.0 _ is.1.1 untimed)
+
+-- ---- where there is a command
 
 pub unreachable-requires : goal.unreachable-requires
 unreachable-requires c =
@@ -60,7 +147,8 @@ unreachable-requires c =
     let simple : is_simple (app_of c.in-Ok.command) ≡ true = ap is_simple c.in-Ok.ensures.ftpd ∙ ftpd_is_simple in
     let none : fault_of ftpd texts ≡ [] = subst (λ (a : App). fault_of a texts ≡ []) c.in-Ok.ensures.ftpd (c.in-Ok-parsed.ensures.given free) in
     let entered = c.in-Ok-parsed.ensures.found simple ∙ ap (λ (a : App). subcommand_of a texts) c.in-Ok.ensures.ftpd in
-    let found = ftpd_found c.args.words texts none in
+    let timed = subst (λ (o : Option (Text × List Row)). IsTimedBy o c.in-Ok-stated_patience.patience) entered c.in-Ok-stated_patience.ensures.timed in
+    let found = ftpd_found c.args.words texts c.in-Ok-stated_patience.patience none timed in
     let held = subst (λ (o : Option (Text × List Row)). IsFound o found.0) (sym entered) found.1 in
     c.in-None.ensures.none refl found.0 held
 
@@ -104,14 +192,34 @@ returns-clause-serve c = λ word plain are.
     let held = serves word plain in
     let simple : is_simple (app_of c.in-Ok.command) ≡ true = ap is_simple c.in-Ok.ensures.ftpd ∙ ftpd_is_simple in
     let entered = c.in-Ok-parsed.ensures.found simple ∙ ap₂ subcommand_of c.in-Ok.ensures.ftpd are ∙ held.entered in
-    subst (λ (path : Option Text). IsServe word path c.in-Some.words) held.no_path (serve_is _ _ held.rows word entered held.config c.in-Some.ensures.found)
+    subst (λ (path : Option Text). IsServe word path usual_patience c.in-Some.words) held.no_path
+    (serve_is _ _ held.rows word usual_patience entered held.config (usual held.rows held.usual) c.in-Some.ensures.found)
 
 pub returns-clause-serve_until : goal.returns-clause-serve_until
 returns-clause-serve_until c = λ word path plain also are.
     let held = serves_until word path plain also in
     let simple : is_simple (app_of c.in-Ok.command) ≡ true = ap is_simple c.in-Ok.ensures.ftpd ∙ ftpd_is_simple in
     let entered = c.in-Ok-parsed.ensures.found simple ∙ ap₂ subcommand_of c.in-Ok.ensures.ftpd are ∙ held.entered in
-    subst (λ (path : Option Text). IsServe word path c.in-Some.words) held.stop_file (serve_is _ _ held.rows word entered held.config c.in-Some.ensures.found)
+    subst (λ (path : Option Text). IsServe word path usual_patience c.in-Some.words) held.stop_file
+    (serve_is _ _ held.rows word usual_patience entered held.of (usual held.rows held.usual) c.in-Some.ensures.found)
+
+pub returns-clause-serve_timed : goal.returns-clause-serve_timed
+returns-clause-serve_timed c = λ word first second third p plain one two three are.
+    let held = serves_timed word first second third plain (seconds_plain first _ one) (seconds_plain second _ two) (seconds_plain third _ three) in
+    let simple : is_simple (app_of c.in-Ok.command) ≡ true = ap is_simple c.in-Ok.ensures.ftpd ∙ ftpd_is_simple in
+    let entered = c.in-Ok-parsed.ensures.found simple ∙ ap₂ subcommand_of c.in-Ok.ensures.ftpd are ∙ held.entered in
+    let states = patient held.rows p first second third held.first held.second held.third one two three in
+    subst (λ (path : Option Text). IsServe word path p c.in-Some.words) held.no_path
+    (serve_is _ _ held.rows word p entered held.of states c.in-Some.ensures.found)
+
+pub returns-clause-given : goal.returns-clause-given
+returns-clause-given c =
+    let texts = map (λ (s : Bor (List ℕ)). s.now) c.args.words.now in
+    let free : is_simple_and_free (app_of c.in-Ok.command) ≡ true = ap is_simple_and_free c.in-Ok.ensures.ftpd ∙ ftpd_is_free in
+    let simple : is_simple (app_of c.in-Ok.command) ≡ true = ap is_simple c.in-Ok.ensures.ftpd ∙ ftpd_is_simple in
+    let none : fault_of ftpd texts ≡ [] = subst (λ (a : App). fault_of a texts ≡ []) c.in-Ok.ensures.ftpd (c.in-Ok-parsed.ensures.given free) in
+    let entered = c.in-Ok-parsed.ensures.found simple ∙ ap (λ (a : App). subcommand_of a texts) c.in-Ok.ensures.ftpd in
+    (none, (c.in-Ok-stated_patience.patience, subst (λ (o : Option (Text × List Row)). IsTimedBy o c.in-Ok-stated_patience.patience) entered c.in-Ok-stated_patience.ensures.timed))
 
 pub returns-clause-found : goal.returns-clause-found
 returns-clause-found c =
@@ -119,3 +227,6 @@ returns-clause-found c =
     let simple : is_simple (app_of c.in-Ok.command) ≡ true = ap is_simple c.in-Ok.ensures.ftpd ∙ ftpd_is_simple in
     let entered = c.in-Ok-parsed.ensures.found simple ∙ ap (λ (a : App). subcommand_of a texts) c.in-Ok.ensures.ftpd in
     subst (λ (found : Option (Text × List Row)). IsFound found c.in-Some.words) entered c.in-Some.ensures.found
+
+pub returns-clause-taken : goal.returns-clause-taken
+returns-clause-taken c = λ is. (c.in-Some.words, returns-clause-found c, refl)

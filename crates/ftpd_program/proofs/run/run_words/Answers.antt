@@ -35,10 +35,16 @@ pub returns-in-Ok-clause-serve : goal.returns-in-Ok-clause-serve
 returns-in-Ok-clause-serve g c = λ config plain are.
     let old = g.W.TextWriter.contents c.args.output.now in
     let new = g.W.TextWriter.contents c.run_command.new.output in
-    serve_end _ g.V.Server.Serves _ _ _ _ old new _ (c.in-Ok.ensures.serve config plain are) c.run_command.ensures.end
+    serve_end _ g.V.Server.Serves _ _ _ _ _ old new _ (c.in-Ok.ensures.serve config plain are) c.run_command.ensures.end
 
 pub returns-in-Ok-clause-serve_until : goal.returns-in-Ok-clause-serve_until
 returns-in-Ok-clause-serve_until g c = λ config path plain also are.
     let old = g.W.TextWriter.contents c.args.output.now in
     let new = g.W.TextWriter.contents c.run_command.new.output in
-    serve_end _ g.V.Server.Serves _ _ _ _ old new _ (c.in-Ok.ensures.serve_until config path plain also are) c.run_command.ensures.end
+    serve_end _ g.V.Server.Serves _ _ _ _ _ old new _ (c.in-Ok.ensures.serve_until config path plain also are) c.run_command.ensures.end
+
+pub returns-in-Ok-clause-serve_timed : goal.returns-in-Ok-clause-serve_timed
+returns-in-Ok-clause-serve_timed g c = λ config first second third p plain one two three are.
+    let old = g.W.TextWriter.contents c.args.output.now in
+    let new = g.W.TextWriter.contents c.run_command.new.output in
+    serve_end _ g.V.Server.Serves _ _ _ _ _ old new _ (c.in-Ok.ensures.serve_timed config first second third p plain one two three are) c.run_command.ensures.end

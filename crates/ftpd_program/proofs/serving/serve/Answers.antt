@@ -8,4 +8,4 @@ returns-in-Ok-clause-end g c =
     let path = option_map (λ w. w.now) c.args.stop_file in
     let old = g.W.TextWriter.contents c.args.output.now in
     let new = g.W.TextWriter.contents c.serve.new.output in
-    rw c.ended.ensures.end (answered gives g.V.Server.Serves path old new _ _ c.in-Ok.ensures.config c.serve.ensures.served)
+    rw c.ended.ensures.end (answered gives g.V.Server.Serves path c.args.patience old new _ _ c.in-Ok.ensures.config c.serve.ensures.served)

@@ -1,0 +1,348 @@
+-- The words of `serve` with options are taken, and what the parser then holds of them: the walk over them, word by word.
+use Rattle.std.proofs.Common.{◌&&◌, ◌∙◌, ap, refl, codes, sym, subst, true, false, Bool, ◌≡◌, ◌==◌, ℕ, List, [], ◌∷◌, None, Some}
+use Rattle.std.specs.Prelude.{unwrap_or}
+use Rattle.std.specs.List.{find, fold, list_all}
+use Rattle.std.proofs.lemmas.Bool.{ne_eqb}
+use Rattle.clap.specs.Takes.{built_takes, default_passes, is_valid, level_passes, settle_passes, turn_passes, walk_passes}
+use Rattle.clap.specs.Walk.{Row, Rule, Text, Walk, answers_to, finished, first_of, idle, nothing_held, option, rows_after, walk, walk_from, walked}
+use Rattle.clap.specs.Simple.{App, Shape, built, label_of, names_of, new_shape}
+use Rattle.clap.specs.Words.{is_simple, subcommand_of, takes}
+use Rattle.clap.specs.declared.builder.value_parser.Reading.TheVariants.{AsWritten}
+use Rattle.clap.specs.declared.parser.matches.ValueSource.TheVariants.{CommandLine}
+use Rattle.clap.proofs.OnLiterals.{clap_on_literals}
+use Rattle.command_line.specs.Commands.{ftpd}
+use Rattle.command_line.specs.Given.{IsPlainWord}
+use Rattle.command_line.specs.Timed.{timed_words}
+
+-- `serve`, as the parser completes it, and its rules
+abbrev serving : Shape
+serving = unwrap_or (find (λ s. answers_to (codes "serve") (label_of s)) (built ftpd).subs) (new_shape [])
+
+abbrev rules : List Rule
+rules = serving.rules
+
+abbrev row : Text → Text → Row
+row id value = record { id = id; values = value ∷ []; count = None; source = Some CommandLine; reading = AsWritten }
+
+-- the walk after a value of that argument, before which it held those rows
+abbrev valued : List Row → Text → Text → Walk
+valued rows id value = record {
+  held = record { rows = rows; pending = Some (id, value ∷ []); skip = 0 };
+  waiting = idle;
+  position = 2;
+  is_trailing = false;
+  stopped = None;
+}
+
+-- the walk after that option, which waits for its value
+abbrev waiting_for : List Row → Text → Walk
+waiting_for rows id = record {
+  held = record { rows = rows; pending = Some (id, []); skip = 0 };
+  waiting = option id;
+  position = 2;
+  is_trailing = false;
+  stopped = None;
+}
+
+-- ---- steps of a walk
+
+-- a word passes from one place of a walk to the next
+pub record Turns (w after : Walk) (word : Text) : Type 0 where
+  pub passes : turn_passes serving [] w word ≡ true
+  pub leads : walked rules [] w word ≡ after
+
+config_passes : (b : ℕ) (bs : List ℕ) → (b == 45) ≡ false → turn_passes serving [] (walk_from nothing_held) (b ∷ bs) ≡ true
+unfolding clap_on_literals
+config_passes b bs ne = simp ne refl
+
+config_leads : (b : ℕ) (bs : List ℕ) → (b == 45) ≡ false → walked rules [] (walk_from nothing_held) (b ∷ bs) ≡ valued [] (codes "CONFIG") (b ∷ bs)
+unfolding clap_on_literals
+config_leads b bs ne = simp ne refl
+
+config_turns : (word : Text) → IsPlainWord word → Turns (walk_from nothing_held) (valued [] (codes "CONFIG") word) word
+config_turns [] plain = absurd plain
+config_turns (b ∷ bs) plain = record { passes = config_passes b bs (ne_eqb _ _ plain); leads = config_leads b bs (ne_eqb _ _ plain) }
+
+stop_flag_passes : (config : Text) → turn_passes serving [] (valued [] (codes "CONFIG") config) (codes "--stop-file") ≡ true
+unfolding clap_on_literals
+stop_flag_passes config = refl
+
+stop_flag_leads : (config : Text) → walked rules [] (valued [] (codes "CONFIG") config) (codes "--stop-file") ≡ waiting_for (row (codes "CONFIG") config ∷ []) (codes "PATH")
+unfolding clap_on_literals
+stop_flag_leads config = refl
+
+stop_value_passes : (rows : List Row) (b : ℕ) (bs : List ℕ) → (b == 45) ≡ false → turn_passes serving [] (waiting_for rows (codes "PATH")) (b ∷ bs) ≡ true
+unfolding clap_on_literals
+stop_value_passes rows b bs ne = simp ne refl
+
+stop_value_leads : (rows : List Row) (b : ℕ) (bs : List ℕ) → (b == 45) ≡ false → walked rules [] (waiting_for rows (codes "PATH")) (b ∷ bs) ≡ valued rows (codes "PATH") (b ∷ bs)
+unfolding clap_on_literals
+stop_value_leads rows b bs ne = simp ne refl
+
+stop_turns : (rows : List Row) (word : Text) → IsPlainWord word → Turns (waiting_for rows (codes "PATH")) (valued rows (codes "PATH") word) word
+stop_turns rows [] plain = absurd plain
+stop_turns rows (b ∷ bs) plain = record { passes = stop_value_passes rows b bs (ne_eqb _ _ plain); leads = stop_value_leads rows b bs (ne_eqb _ _ plain) }
+
+login_flag_passes : (config : Text) → turn_passes serving [] (valued [] (codes "CONFIG") config) (codes "--login-timeout") ≡ true
+unfolding clap_on_literals
+login_flag_passes config = refl
+
+login_flag_leads : (config : Text) → walked rules [] (valued [] (codes "CONFIG") config) (codes "--login-timeout") ≡ waiting_for (row (codes "CONFIG") config ∷ []) (codes "login-timeout")
+unfolding clap_on_literals
+login_flag_leads config = refl
+
+login_value_passes : (rows : List Row) (b : ℕ) (bs : List ℕ) → (b == 45) ≡ false → turn_passes serving [] (waiting_for rows (codes "login-timeout")) (b ∷ bs) ≡ true
+unfolding clap_on_literals
+login_value_passes rows b bs ne = simp ne refl
+
+login_value_leads : (rows : List Row) (b : ℕ) (bs : List ℕ) → (b == 45) ≡ false → walked rules [] (waiting_for rows (codes "login-timeout")) (b ∷ bs) ≡ valued rows (codes "login-timeout") (b ∷ bs)
+unfolding clap_on_literals
+login_value_leads rows b bs ne = simp ne refl
+
+login_turns : (rows : List Row) (word : Text) → IsPlainWord word → Turns (waiting_for rows (codes "login-timeout")) (valued rows (codes "login-timeout") word) word
+login_turns rows [] plain = absurd plain
+login_turns rows (b ∷ bs) plain = record { passes = login_value_passes rows b bs (ne_eqb _ _ plain); leads = login_value_leads rows b bs (ne_eqb _ _ plain) }
+
+idle_flag_passes : (config login : Text) → turn_passes serving [] (valued (row (codes "CONFIG") config ∷ []) (codes "login-timeout") login) (codes "--idle-timeout") ≡ true
+unfolding clap_on_literals
+idle_flag_passes config login = refl
+
+idle_flag_leads : (config login : Text) → walked rules [] (valued (row (codes "CONFIG") config ∷ []) (codes "login-timeout") login) (codes "--idle-timeout") ≡ waiting_for (row (codes "CONFIG") config ∷ row (codes "login-timeout") login ∷ []) (codes "idle-timeout")
+unfolding clap_on_literals
+idle_flag_leads config login = refl
+
+idle_value_passes : (rows : List Row) (b : ℕ) (bs : List ℕ) → (b == 45) ≡ false → turn_passes serving [] (waiting_for rows (codes "idle-timeout")) (b ∷ bs) ≡ true
+unfolding clap_on_literals
+idle_value_passes rows b bs ne = simp ne refl
+
+idle_value_leads : (rows : List Row) (b : ℕ) (bs : List ℕ) → (b == 45) ≡ false → walked rules [] (waiting_for rows (codes "idle-timeout")) (b ∷ bs) ≡ valued rows (codes "idle-timeout") (b ∷ bs)
+unfolding clap_on_literals
+idle_value_leads rows b bs ne = simp ne refl
+
+idle_turns : (rows : List Row) (word : Text) → IsPlainWord word → Turns (waiting_for rows (codes "idle-timeout")) (valued rows (codes "idle-timeout") word) word
+idle_turns rows [] plain = absurd plain
+idle_turns rows (b ∷ bs) plain = record { passes = idle_value_passes rows b bs (ne_eqb _ _ plain); leads = idle_value_leads rows b bs (ne_eqb _ _ plain) }
+
+delay_flag_passes : (config login idle_time : Text) → turn_passes serving [] (valued (row (codes "CONFIG") config ∷ row (codes "login-timeout") login ∷ []) (codes "idle-timeout") idle_time) (codes "--login-delay") ≡ true
+unfolding clap_on_literals
+delay_flag_passes config login idle_time = refl
+
+delay_flag_leads : (config login idle_time : Text) → walked rules [] (valued (row (codes "CONFIG") config ∷ row (codes "login-timeout") login ∷ []) (codes "idle-timeout") idle_time) (codes "--login-delay") ≡ waiting_for (row (codes "CONFIG") config ∷ row (codes "login-timeout") login ∷ row (codes "idle-timeout") idle_time ∷ []) (codes "login-delay")
+unfolding clap_on_literals
+delay_flag_leads config login idle_time = refl
+
+delay_value_passes : (rows : List Row) (b : ℕ) (bs : List ℕ) → (b == 45) ≡ false → turn_passes serving [] (waiting_for rows (codes "login-delay")) (b ∷ bs) ≡ true
+unfolding clap_on_literals
+delay_value_passes rows b bs ne = simp ne refl
+
+delay_value_leads : (rows : List Row) (b : ℕ) (bs : List ℕ) → (b == 45) ≡ false → walked rules [] (waiting_for rows (codes "login-delay")) (b ∷ bs) ≡ valued rows (codes "login-delay") (b ∷ bs)
+unfolding clap_on_literals
+delay_value_leads rows b bs ne = simp ne refl
+
+delay_turns : (rows : List Row) (word : Text) → IsPlainWord word → Turns (waiting_for rows (codes "login-delay")) (valued rows (codes "login-delay") word) word
+delay_turns rows [] plain = absurd plain
+delay_turns rows (b ∷ bs) plain = record { passes = delay_value_passes rows b bs (ne_eqb _ _ plain); leads = delay_value_leads rows b bs (ne_eqb _ _ plain) }
+
+-- ---- a walk over words, one after another
+
+-- the words pass from a place of a walk to another
+pub record Walks (w after : Walk) (words : List Text) : Type 0 where
+  pub passes : walk_passes serving [] w words ≡ true
+  pub leads : fold (walked rules []) w words ≡ after
+
+ends : (w : Walk) → Walks w w []
+unfolding walk_passes
+ends w = record { passes = refl; leads = refl }
+
+and_then : (a b : Bool) → a ≡ true → b ≡ true → (a && b) ≡ true
+and_then true true e k = refl
+and_then true false e k = cc
+and_then false b e k = cc
+
+first_passes : (w after : Walk) (word : Text) (words : List Text) → turn_passes serving [] w word ≡ true → walked rules [] w word ≡ after
+    → walk_passes serving [] after words ≡ true → walk_passes serving [] w (word ∷ words) ≡ true
+unfolding walk_passes
+first_passes w after word words passes leads more = and_then _ _ passes (subst (λ (x : Walk). walk_passes serving [] x words ≡ true) (sym leads) more)
+
+first_leads : (w after last : Walk) (word : Text) (words : List Text) → walked rules [] w word ≡ after
+    → fold (walked rules []) after words ≡ last → fold (walked rules []) w (word ∷ words) ≡ last
+first_leads w after last word words leads more = ap (λ (x : Walk). fold (walked rules []) x words) leads ∙ more
+
+turn : (w after last : Walk) (word : Text) (words : List Text) → turn_passes serving [] w word ≡ true → walked rules [] w word ≡ after → Walks after last words → Walks w last (word ∷ words)
+turn w after last word words passes leads more = record { passes = first_passes w after word words passes leads more.passes; leads = first_leads w after last word words leads more.leads }
+
+until_walks : (config path : Text) → IsPlainWord config → IsPlainWord path
+    → Walks (walk_from nothing_held) (valued (row (codes "CONFIG") config ∷ []) (codes "PATH") path) (config ∷ codes "--stop-file" ∷ path ∷ [])
+until_walks config path plain also =
+    let first = config_turns config plain in
+    let last = stop_turns (row (codes "CONFIG") config ∷ []) path also in
+    turn _ _ _ _ _ first.passes first.leads
+    (turn _ _ _ _ _ (stop_flag_passes config) (stop_flag_leads config)
+    (turn _ _ _ _ _ last.passes last.leads (ends _)))
+
+timed_walks : (config login idle_time delay : Text) → IsPlainWord config → IsPlainWord login → IsPlainWord idle_time → IsPlainWord delay
+    → Walks (walk_from nothing_held) (valued (row (codes "CONFIG") config ∷ row (codes "login-timeout") login ∷ row (codes "idle-timeout") idle_time ∷ []) (codes "login-delay") delay)
+    (config ∷ codes "--login-timeout" ∷ login ∷ codes "--idle-timeout" ∷ idle_time ∷ codes "--login-delay" ∷ delay ∷ [])
+timed_walks config login idle_time delay plain second third fourth =
+    let first = config_turns config plain in
+    let one = login_turns (row (codes "CONFIG") config ∷ []) login second in
+    let two = idle_turns (row (codes "CONFIG") config ∷ row (codes "login-timeout") login ∷ []) idle_time third in
+    let three = delay_turns (row (codes "CONFIG") config ∷ row (codes "login-timeout") login ∷ row (codes "idle-timeout") idle_time ∷ []) delay fourth in
+    turn _ _ _ _ _ first.passes first.leads
+    (turn _ _ _ _ _ (login_flag_passes config) (login_flag_leads config)
+    (turn _ _ _ _ _ one.passes one.leads
+    (turn _ _ _ _ _ (idle_flag_passes config login) (idle_flag_leads config login)
+    (turn _ _ _ _ _ two.passes two.leads
+    (turn _ _ _ _ _ (delay_flag_passes config login idle_time) (delay_flag_leads config login idle_time)
+    (turn _ _ _ _ _ three.passes three.leads (ends _)))))))
+
+-- ---- the words are taken
+
+level : (words : List Text) (end : Walk) → Walks (walk_from nothing_held) end words → settle_passes rules serving.args_override_self end.held ≡ true
+    → list_all default_passes rules ≡ true → is_valid serving (finished rules end.held) false ≡ true → level_passes serving [] nothing_held words false ≡ true
+level words end walks settles defaults valid =
+    let is : walk rules [] nothing_held words ≡ end = walks.leads in
+    and_then _ _ walks.passes
+    (and_then _ _ (subst (λ (x : Walk). settle_passes rules serving.args_override_self x.held ≡ true) (sym is) settles)
+    (and_then _ _ defaults (subst (λ (x : Walk). is_valid serving (finished rules x.held) false ≡ true) (sym is) valid)))
+
+by_level : (a : App) (words : List Text) (name : Text) (rest : List Text) (s : Shape) → (walk a.top.rules (names_of a) nothing_held words).stopped ≡ Some (name, rest)
+    → find (λ t. answers_to name (label_of t)) a.subs ≡ Some s → level_passes s [] nothing_held rest false ≡ true
+    → level_passes a.top (names_of a) nothing_held words true ≡ true → built_takes a nothing_held words ≡ true
+by_level a words name rest s stops found below above = rw stops (rw found (and_then _ _ below above))
+
+found_is : find (λ t. answers_to (codes "serve") (label_of t)) (built ftpd).subs ≡ Some serving
+unfolding clap_on_literals
+found_is = refl
+
+simple : is_simple ftpd ≡ true
+unfolding clap_on_literals
+simple = refl
+
+until_settles : (config path : Text) → settle_passes rules serving.args_override_self (valued (row (codes "CONFIG") config ∷ []) (codes "PATH") path).held ≡ true
+unfolding clap_on_literals
+until_settles config path = refl
+
+defaults_pass : list_all default_passes rules ≡ true
+unfolding clap_on_literals
+defaults_pass = refl
+
+until_valid : (config path : Text) → is_valid serving (finished rules (valued (row (codes "CONFIG") config ∷ []) (codes "PATH") path).held) false ≡ true
+unfolding clap_on_literals
+until_valid config path = refl
+
+until_stops : (config path : Text) → (walk (built ftpd).top.rules (names_of (built ftpd)) nothing_held (codes "serve" ∷ config ∷ codes "--stop-file" ∷ path ∷ [])).stopped ≡ Some (codes "serve", config ∷ codes "--stop-file" ∷ path ∷ [])
+unfolding clap_on_literals
+until_stops config path = refl
+
+until_above : (config path : Text) → level_passes (built ftpd).top (names_of (built ftpd)) nothing_held (codes "serve" ∷ config ∷ codes "--stop-file" ∷ path ∷ []) true ≡ true
+unfolding clap_on_literals
+until_above config path = refl
+
+until_taken : (config path : Text) → IsPlainWord config → IsPlainWord path → takes ftpd (codes "serve" ∷ config ∷ codes "--stop-file" ∷ path ∷ []) ≡ true
+until_taken config path plain also =
+    let below = level _ _ (until_walks config path plain also) (until_settles config path) defaults_pass (until_valid config path) in
+    and_then _ _ simple (by_level (built ftpd) _ _ _ serving (until_stops config path) found_is below (until_above config path))
+
+timed_settles : (config login idle_time delay : Text) → settle_passes rules serving.args_override_self (valued (row (codes "CONFIG") config ∷ row (codes "login-timeout") login ∷ row (codes "idle-timeout") idle_time ∷ []) (codes "login-delay") delay).held ≡ true
+unfolding clap_on_literals
+timed_settles config login idle_time delay = refl
+
+timed_valid : (config login idle_time delay : Text) → is_valid serving (finished rules (valued (row (codes "CONFIG") config ∷ row (codes "login-timeout") login ∷ row (codes "idle-timeout") idle_time ∷ []) (codes "login-delay") delay).held) false ≡ true
+unfolding clap_on_literals
+timed_valid config login idle_time delay = refl
+
+timed_stops : (config login idle_time delay : Text)
+    → (walk (built ftpd).top.rules (names_of (built ftpd)) nothing_held (timed_words config login idle_time delay)).stopped ≡ Some (codes "serve", config ∷ codes "--login-timeout" ∷ login ∷ codes "--idle-timeout" ∷ idle_time ∷ codes "--login-delay" ∷ delay ∷ [])
+unfolding clap_on_literals
+timed_stops config login idle_time delay = refl
+
+timed_above : (config login idle_time delay : Text) → level_passes (built ftpd).top (names_of (built ftpd)) nothing_held (timed_words config login idle_time delay) true ≡ true
+unfolding clap_on_literals
+timed_above config login idle_time delay = refl
+
+timed_taken : (config login idle_time delay : Text) → IsPlainWord config → IsPlainWord login → IsPlainWord idle_time → IsPlainWord delay
+    → takes ftpd (timed_words config login idle_time delay) ≡ true
+timed_taken config login idle_time delay plain second third fourth =
+    let below = level _ _ (timed_walks config login idle_time delay plain second third fourth) (timed_settles config login idle_time delay) defaults_pass (timed_valid config login idle_time delay) in
+    and_then _ _ simple (by_level (built ftpd) _ _ _ serving (timed_stops config login idle_time delay) found_is below (timed_above config login idle_time delay))
+
+-- ---- what the parser then holds of them
+
+-- no number of seconds is stated
+abbrev pub AreUnstated : List Row → Type 0
+AreUnstated rows =
+    (first_of (codes "login-timeout") rows ≡ None)
+    × (first_of (codes "idle-timeout") rows ≡ None) × (first_of (codes "login-delay") rows ≡ None)
+
+-- what the parser makes of the words of `serve` with each option in seconds
+pub record ServesTimed (config login idle_time delay : Text) : Type 0 where
+  pub rows : List Row
+  pub taken : takes ftpd (timed_words config login idle_time delay) ≡ true
+  pub entered : subcommand_of ftpd (timed_words config login idle_time delay) ≡ Some (codes "serve", rows)
+  pub of : first_of (codes "CONFIG") rows ≡ Some config
+  pub no_path : first_of (codes "PATH") rows ≡ None
+  pub first : first_of (codes "login-timeout") rows ≡ Some login
+  pub second : first_of (codes "idle-timeout") rows ≡ Some idle_time
+  pub third : first_of (codes "login-delay") rows ≡ Some delay
+
+timed_entered : (config login idle_time delay : Text) → subcommand_of ftpd (timed_words config login idle_time delay)
+    ≡ Some (codes "serve", rows_after rules [] (config ∷ codes "--login-timeout" ∷ login ∷ codes "--idle-timeout" ∷ idle_time ∷ codes "--login-delay" ∷ delay ∷ []))
+unfolding clap_on_literals
+timed_entered config login idle_time delay = refl
+
+timed_rows : (config login idle_time delay : Text) → finished rules (valued (row (codes "CONFIG") config ∷ row (codes "login-timeout") login ∷ row (codes "idle-timeout") idle_time ∷ []) (codes "login-delay") delay).held
+    ≡ row (codes "CONFIG") config ∷ row (codes "login-timeout") login ∷ row (codes "idle-timeout") idle_time ∷ row (codes "login-delay") delay ∷ []
+unfolding clap_on_literals
+timed_rows config login idle_time delay = refl
+
+pub serves_timed : (config login idle_time delay : Text) → IsPlainWord config → IsPlainWord login → IsPlainWord idle_time → IsPlainWord delay → ServesTimed config login idle_time delay
+serves_timed config login idle_time delay plain second third fourth =
+    let walks = timed_walks config login idle_time delay plain second third fourth in
+    let end : rows_after rules [] (config ∷ codes "--login-timeout" ∷ login ∷ codes "--idle-timeout" ∷ idle_time ∷ codes "--login-delay" ∷ delay ∷ []) ≡ row (codes "CONFIG") config ∷ row (codes "login-timeout") login ∷ row (codes "idle-timeout") idle_time ∷ row (codes "login-delay") delay ∷ []
+    = ap (λ (w : Walk). finished rules w.held) walks.leads ∙ timed_rows config login idle_time delay in
+    record {
+      rows = row (codes "CONFIG") config ∷ row (codes "login-timeout") login ∷ row (codes "idle-timeout") idle_time ∷ row (codes "login-delay") delay ∷ [];
+      taken = timed_taken config login idle_time delay plain second third fourth;
+      entered = timed_entered config login idle_time delay ∙ ap (λ (rows : List Row). Some (codes "serve", rows)) end;
+      of = refl;
+      no_path = refl;
+      first = refl;
+      second = refl;
+      third = refl;
+    }
+
+-- the words of `serve` with a stop file
+abbrev pub until : Text → Text → List Text
+until config path = codes "serve" ∷ config ∷ codes "--stop-file" ∷ path ∷ []
+
+-- what the parser makes of those words
+pub record ServesUntil (config path : Text) : Type 0 where
+  pub rows : List Row
+  pub taken : takes ftpd (until config path) ≡ true
+  pub entered : subcommand_of ftpd (until config path) ≡ Some (codes "serve", rows)
+  pub of : first_of (codes "CONFIG") rows ≡ Some config
+  pub stop_file : first_of (codes "PATH") rows ≡ Some path
+  pub usual : AreUnstated rows
+
+until_entered : (config path : Text) → subcommand_of ftpd (until config path) ≡ Some (codes "serve", rows_after rules [] (config ∷ codes "--stop-file" ∷ path ∷ []))
+unfolding clap_on_literals
+until_entered config path = refl
+
+until_rows : (config path : Text) → finished rules (valued (row (codes "CONFIG") config ∷ []) (codes "PATH") path).held ≡ row (codes "CONFIG") config ∷ row (codes "PATH") path ∷ []
+unfolding clap_on_literals
+until_rows config path = refl
+
+pub serves_until : (config path : Text) → IsPlainWord config → IsPlainWord path → ServesUntil config path
+serves_until config path plain also =
+    let walks = until_walks config path plain also in
+    let end : rows_after rules [] (config ∷ codes "--stop-file" ∷ path ∷ []) ≡ row (codes "CONFIG") config ∷ row (codes "PATH") path ∷ []
+    = ap (λ (w : Walk). finished rules w.held) walks.leads ∙ until_rows config path in
+    record {
+      rows = row (codes "CONFIG") config ∷ row (codes "PATH") path ∷ [];
+      taken = until_taken config path plain also;
+      entered = until_entered config path ∙ ap (λ (rows : List Row). Some (codes "serve", rows)) end;
+      of = refl;
+      stop_file = refl;
+      usual = (refl, refl, refl);
+    }

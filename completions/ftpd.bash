@@ -19,7 +19,7 @@ _ftpd_words() {
 }
 
 _ftpd() {
-    _ftpd_words 'share check check-config migrate script serve help' '--stop-file'
+    _ftpd_words 'share check check-config migrate script serve plan help' '--stop-file'
 }
 
 _sheets() {

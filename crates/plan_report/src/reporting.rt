@@ -1,5 +1,8 @@
 //! The plan of a configuration, from its text.
 
+ghost use Rattle.std.specs.Prelude.{IfErr, IfOk};
+ghost use Rattle.plan_report.specs.Reports.{HasShares, IsNoPlan, IsNoPlanOf, IsPlanReport};
+
 use crate::fault::NoPlan;
 use crate::lines::{Named, lines_of, user_name, way_text, write_held};
 use crate::wishes::{too_many, transfers_of};
@@ -53,7 +56,9 @@ fn no_plan(
     limits: &Limits,
     transfers: &[Transfer],
     fault: Unplanned,
-) -> NoPlan {
+) -> NoPlan
+    ensures of { IsNoPlanOf result }
+{
     let told = match fault {
         Unplanned::TooManySessions => {
             let most = named.server.max_cons as usize;
@@ -84,7 +89,10 @@ fn told_of(
     tables: &Tables,
     limits: &Limits,
     wishes: &str,
-) -> Result<String, NoPlan> {
+) -> Result<String, NoPlan>
+    ensures shares { IfOk result (λ _. HasShares limits.now) }
+    ensures fault { IfErr result IsNoPlanOf }
+{
     let named = Named {
         server: &tables.server,
         groups: tables.groups.as_slice(),
@@ -103,7 +111,10 @@ fn told_of(
 
 /// The plan of the transfers that a word states, by a configuration's text: who gets how much of a second, and which
 /// limit holds each back.
-pub fn plan_report(alloc: Global, octets: &[u8], wishes: &str) -> Result<String, NoPlan> {
+pub fn plan_report(alloc: Global, octets: &[u8], wishes: &str) -> Result<String, NoPlan>
+    ensures planned { IfOk result (λ _. IsPlanReport octets.now) }
+    ensures fault { IfErr result (IsNoPlan octets.now) }
+{
     let config = match Config::read(alloc, octets) {
         Ok(config) => config,
         Err(ConfigFault::Memory) => return Err(NoPlan::Memory),

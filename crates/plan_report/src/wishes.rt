@@ -1,5 +1,8 @@
 //! The transfers that a word states, as `ann=1,bob:up=2`.
 
+ghost use Rattle.std.specs.Prelude.{IfErr};
+ghost use Rattle.plan_report.specs.Reports.{IsNoPlanOf};
+
 use crate::fault::NoPlan;
 use config_file::UserTable;
 use line_rates::Way;
@@ -47,7 +50,9 @@ fn name_of(word: &str) -> (&str, Way) {
     }
 }
 
-fn no_user(alloc: Global, name: &str) -> NoPlan {
+fn no_user(alloc: Global, name: &str) -> NoPlan
+    ensures of { IsNoPlanOf result }
+{
     match format!(in alloc; "{name}: no such user") {
         Ok(told) => NoPlan::Transfers {
             name: "NoSuchUser",
@@ -57,7 +62,9 @@ fn no_user(alloc: Global, name: &str) -> NoPlan {
     }
 }
 
-fn bad_count(alloc: Global, word: &str) -> NoPlan {
+fn bad_count(alloc: Global, word: &str) -> NoPlan
+    ensures of { IsNoPlanOf result }
+{
     let told = format!(in alloc;
         "{word}: it must be NAME=N, NAME:down=N or NAME:up=N with a number of transfers from 1, in digits"
     );
@@ -70,7 +77,9 @@ fn bad_count(alloc: Global, word: &str) -> NoPlan {
     }
 }
 
-fn twice(alloc: Global, word: &str) -> NoPlan {
+fn twice(alloc: Global, word: &str) -> NoPlan
+    ensures of { IsNoPlanOf result }
+{
     match format!(in alloc; "{word}: the user was stated for this direction before") {
         Ok(told) => NoPlan::Transfers { name: "Twice", told },
         Err(_) => NoPlan::Memory,
@@ -78,14 +87,18 @@ fn twice(alloc: Global, word: &str) -> NoPlan {
 }
 
 /// The refusal of more transfers than there can be.
-pub(crate) fn too_many(alloc: Global, name: &'static str, most: usize, key: &str) -> NoPlan {
+pub(crate) fn too_many(alloc: Global, name: &'static str, most: usize, key: &str) -> NoPlan
+    ensures of { IsNoPlanOf result }
+{
     match format!(in alloc; "more transfers than {key} = {most} lets in at once") {
         Ok(told) => NoPlan::Transfers { name, told },
         Err(_) => NoPlan::Memory,
     }
 }
 
-fn wish_of(alloc: Global, users: &[UserTable<'_>], word: &str) -> Result<Wish, NoPlan> {
+fn wish_of(alloc: Global, users: &[UserTable<'_>], word: &str) -> Result<Wish, NoPlan>
+    ensures fault { IfErr result IsNoPlanOf }
+{
     let Some((who, digits)) = word.rsplit_once('=') else {
         return Err(bad_count(alloc, word));
     };
@@ -126,7 +139,9 @@ pub(crate) fn transfers_of(
     alloc: Global,
     users: &[UserTable<'_>],
     word: &str,
-) -> Result<Vec<Transfer>, NoPlan> {
+) -> Result<Vec<Transfer>, NoPlan>
+    ensures fault { IfErr result IsNoPlanOf }
+{
     let mut transfers = Vec::new(alloc);
     for part in word.split(',') {
         let wish = wish_of(alloc, users, part)?;

@@ -21,7 +21,7 @@ _ftpd_words() {
 }
 
 _ftpd() {
-    _ftpd_words 'share check check-config migrate script serve help' '--stop-file --login-timeout --idle-timeout --login-delay'
+    _ftpd_words 'share check check-config migrate script serve plan help' '--stop-file --login-timeout --idle-timeout --login-delay'
 }
 
 _sheets() {

@@ -6,6 +6,7 @@ complete -c ftpd -n __fish_use_subcommand -f -a check-config -d 'Judge a configu
 complete -c ftpd -n __fish_use_subcommand -f -a migrate -d 'Print a configuration in its latest version'
 complete -c ftpd -n __fish_use_subcommand -f -a script -d 'Serve the control session on standard input'
 complete -c ftpd -n __fish_use_subcommand -f -a serve -d 'Serve clients by a configuration'
+complete -c ftpd -n __fish_use_subcommand -f -a plan -d 'Plan transfers by a configuration'
 complete -c ftpd -n __fish_use_subcommand -f -a help -d 'Print help'
 complete -c ftpd -n __fish_use_subcommand -s V -l version -d 'Print version'
 complete -c ftpd -s h -l help -d 'Print help'
@@ -13,4 +14,4 @@ complete -c ftpd -n '__fish_seen_subcommand_from serve' -l stop-file -r -F -d 'O
 complete -c ftpd -n '__fish_seen_subcommand_from serve' -l login-timeout -x -d 'Seconds in which a client has to log in'
 complete -c ftpd -n '__fish_seen_subcommand_from serve' -l idle-timeout -x -d 'Seconds without a command after which a client goes'
 complete -c ftpd -n '__fish_seen_subcommand_from serve' -l login-delay -x -d 'Seconds before a wrong password is answered'
-complete -c ftpd -n '__fish_seen_subcommand_from help' -f -a 'share check check-config migrate script serve help'
+complete -c ftpd -n '__fish_seen_subcommand_from help' -f -a 'share check check-config migrate script serve plan help'

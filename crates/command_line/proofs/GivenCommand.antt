@@ -9,11 +9,11 @@ use Rattle.clap.specs.Faults.{level_fault}
 use Rattle.clap.specs.Simple.{App, Shape, built, entered, label_of, rows_at}
 use Rattle.clap.specs.Words.{fault_of, subcommand_of}
 use Rattle.command_line.specs.Commands.{ftpd, sheets}
-use Rattle.command_line.specs.Given.{IsCheck, IsCheckConfig, IsFound, IsMigrate, IsOfSheets, IsScript, IsServe, IsShare, IsSheetFound}
+use Rattle.command_line.specs.Given.{IsCheck, IsCheckConfig, IsFound, IsMigrate, IsOfSheets, IsPlanWords, IsScript, IsServe, IsShare, IsSheetFound}
 use Rattle.command_line.specs.declared.words.SheetWords.{SheetWords}
 use Rattle.command_line.specs.declared.words.SheetWords.TheVariants.{Share, Check}
 use Rattle.command_line.specs.declared.words.Words.{Words}
-use Rattle.command_line.specs.declared.words.Words.TheVariants.{Sheet, CheckConfig, Migrate, Script, Serve}
+use Rattle.command_line.specs.declared.words.Words.TheVariants.{Sheet, CheckConfig, Migrate, Script, Serve, Plan}
 use Rattle.command_line.specs.Timed.{IsPatienceIn, IsTimedBy}
 use Rattle.client_patience.specs.declared.patience.Patience.{Patience}
 use Rattle.command_line.proofs.EnteredCommand.{Entered, enters}
@@ -131,7 +131,12 @@ ftpd_found any words p none timed =
                       Serve (at_place any found.0) (option_map (at_place any) path) p,
                       (found.1, found.2, found.3, if_any any path, timed found.1 found.2),
                     ),
-                (λ help _. absurd (not_help _ _ e help), tt),
+                (
+                  λ _ is.
+                      let found = two_found _ _ e _ is (codes "CONFIG") (codes "TRANSFERS") refl refl refl in
+                      (Plan (at_place any found.0) (at_place any found.1), (found.2, found.3, found.4, found.5)),
+                  (λ help _. absurd (not_help _ _ e help), tt),
+                ),
               ),
             ),
           ),
@@ -194,6 +199,7 @@ check_config_is found (CheckConfig config) rows word named first (other, same, g
 check_config_is found (Migrate config) rows word named first (other, same, given) = absurd (different _ _ _ _ _ refl named same)
 check_config_is found (Script config) rows word named first (other, same, given) = absurd (different _ _ _ _ _ refl named same)
 check_config_is found (Serve config stop_file patience) rows word named first (other, same, given, path, also) = absurd (different _ _ _ _ _ refl named same)
+check_config_is found (Plan config transfers) rows word named first (other, same, given, also) = absurd (different _ _ _ _ _ refl named same)
 
 pub migrate_is : (found : Option (Text × List Row)) (command : Words) (rows : List Row) (word : Text) → found ≡ Some (codes "migrate", rows) → first_of (codes "CONFIG") rows ≡ Some word
     → IsFound found command → IsMigrate word command
@@ -203,6 +209,7 @@ migrate_is found (CheckConfig config) rows word named first (other, same, given)
 migrate_is found (Migrate config) rows word named first (other, same, given) = let are = same_rows _ _ _ _ _ named same in cc
 migrate_is found (Script config) rows word named first (other, same, given) = absurd (different _ _ _ _ _ refl named same)
 migrate_is found (Serve config stop_file patience) rows word named first (other, same, given, path, also) = absurd (different _ _ _ _ _ refl named same)
+migrate_is found (Plan config transfers) rows word named first (other, same, given, also) = absurd (different _ _ _ _ _ refl named same)
 
 pub script_is : (found : Option (Text × List Row)) (command : Words) (rows : List Row) (word : Text) → found ≡ Some (codes "script", rows) → first_of (codes "CONFIG") rows ≡ Some word
     → IsFound found command → IsScript word command
@@ -212,6 +219,7 @@ script_is found (CheckConfig config) rows word named first (other, same, given) 
 script_is found (Migrate config) rows word named first (other, same, given) = absurd (different _ _ _ _ _ refl named same)
 script_is found (Script config) rows word named first (other, same, given) = let are = same_rows _ _ _ _ _ named same in cc
 script_is found (Serve config stop_file patience) rows word named first (other, same, given, path, also) = absurd (different _ _ _ _ _ refl named same)
+script_is found (Plan config transfers) rows word named first (other, same, given, also) = absurd (different _ _ _ _ _ refl named same)
 
 pub serve_is : (found : Option (Text × List Row)) (command : Words) (rows : List Row) (word : Text) (p : Patience) → found ≡ Some (codes "serve", rows) → first_of (codes "CONFIG") rows ≡ Some word
     → IsPatienceIn rows p → IsFound found command → IsServe word (first_of (codes "PATH") rows) p command
@@ -223,3 +231,16 @@ serve_is found (Script config) rows word p named first states (other, same, give
 serve_is found (Serve config stop_file patience) rows word p named first states (other, same, given, path, also) =
     let are = same_rows _ _ _ _ _ named same in
     (cc, cc, one_patience rows patience p (subst (λ (r : List Row). IsPatienceIn r patience) (sym are) also) states)
+serve_is found (Plan config transfers) rows word p named first states (other, same, given, also) = absurd (different _ _ _ _ _ refl named same)
+
+pub plan_is : (found : Option (Text × List Row)) (command : Words) (rows : List Row) (word stated : Text) → found ≡ Some (codes "plan", rows) → first_of (codes "CONFIG") rows ≡ Some word
+    → first_of (codes "TRANSFERS") rows ≡ Some stated → IsFound found command → IsPlanWords word stated command
+plan_is found (Sheet (Share sheet)) rows word stated named first second (other, same, given) = absurd (different _ _ _ _ _ refl named same)
+plan_is found (Sheet (Check sheet grants)) rows word stated named first second (other, same, given, also) = absurd (different _ _ _ _ _ refl named same)
+plan_is found (CheckConfig config) rows word stated named first second (other, same, given) = absurd (different _ _ _ _ _ refl named same)
+plan_is found (Migrate config) rows word stated named first second (other, same, given) = absurd (different _ _ _ _ _ refl named same)
+plan_is found (Script config) rows word stated named first second (other, same, given) = absurd (different _ _ _ _ _ refl named same)
+plan_is found (Serve config stop_file patience) rows word stated named first second (other, same, given, path, also) = absurd (different _ _ _ _ _ refl named same)
+plan_is found (Plan config transfers) rows word stated named first second (other, same, given, also) =
+    let are = same_rows _ _ _ _ _ named same in
+    (cc, cc)

@@ -220,6 +220,42 @@ serves (b ∷ bs) plain =
     let ne = ne_eqb _ _ plain in
     record { rows = _; taken = serve_taken b bs ne; entered = serve_entered b bs ne; config = serve_first b bs ne; no_path = serve_no_path b bs ne; usual = serve_usual b bs ne }
 
+plan_taken : (b d : ℕ) (bs ds : List ℕ) → (b == 45) ≡ false → (d == 45) ≡ false → takes ftpd (codes "plan" ∷ (b ∷ bs) ∷ (d ∷ ds) ∷ []) ≡ true
+unfolding clap_on_literals
+plan_taken b d bs ds ne nf = simp (ne, nf) refl
+
+plan_entered : (b d : ℕ) (bs ds : List ℕ) → (b == 45) ≡ false → (d == 45) ≡ false
+    → subcommand_of ftpd (codes "plan" ∷ (b ∷ bs) ∷ (d ∷ ds) ∷ [])
+    ≡ Some (codes "plan", rows_in (subcommand_of ftpd (codes "plan" ∷ (b ∷ bs) ∷ (d ∷ ds) ∷ [])))
+unfolding clap_on_literals
+plan_entered b d bs ds ne nf = simp (ne, nf) refl
+
+plan_first : (b d : ℕ) (bs ds : List ℕ) → (b == 45) ≡ false → (d == 45) ≡ false
+    → first_of (codes "CONFIG") (rows_in (subcommand_of ftpd (codes "plan" ∷ (b ∷ bs) ∷ (d ∷ ds) ∷ []))) ≡ Some (b ∷ bs)
+unfolding clap_on_literals
+plan_first b d bs ds ne nf = simp (ne, nf) refl
+
+plan_second : (b d : ℕ) (bs ds : List ℕ) → (b == 45) ≡ false → (d == 45) ≡ false
+    → first_of (codes "TRANSFERS") (rows_in (subcommand_of ftpd (codes "plan" ∷ (b ∷ bs) ∷ (d ∷ ds) ∷ []))) ≡ Some (d ∷ ds)
+unfolding clap_on_literals
+plan_second b d bs ds ne nf = simp (ne, nf) refl
+
+-- what the parser makes of the words of `plan`
+pub record Plans (first second : List ℕ) : Type 0 where
+  pub rows : List Row
+  pub taken : takes ftpd (codes "plan" ∷ first ∷ second ∷ []) ≡ true
+  pub entered : subcommand_of ftpd (codes "plan" ∷ first ∷ second ∷ []) ≡ Some (codes "plan", rows)
+  pub config : first_of (codes "CONFIG") rows ≡ Some first
+  pub transfers : first_of (codes "TRANSFERS") rows ≡ Some second
+
+pub plans : (first second : List ℕ) → IsPlainWord first → IsPlainWord second → Plans first second
+plans [] second plain also = absurd plain
+plans (b ∷ bs) [] plain also = absurd also
+plans (b ∷ bs) (d ∷ ds) plain also =
+    let ne = ne_eqb _ _ plain in
+    let nf = ne_eqb _ _ also in
+    record { rows = _; taken = plan_taken b d bs ds ne nf; entered = plan_entered b d bs ds ne nf; config = plan_first b d bs ds ne nf; transfers = plan_second b d bs ds ne nf }
+
 -- ---- of `sheets`
 
 pub sheets_is_simple : is_simple sheets ≡ true

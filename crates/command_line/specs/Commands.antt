@@ -58,6 +58,12 @@ serve =
     with_patience (with_rule (with_rule (bare (codes "serve")) (file_rule (codes "CONFIG")))
     (option_rule (codes "PATH") (codes "stop-file")))
 
+-- `plan CONFIG TRANSFERS`
+abbrev pub plan : App
+plan =
+    with_rule (with_rule (bare (codes "plan")) (file_rule (codes "CONFIG")))
+    (file_rule (codes "TRANSFERS"))
+
 -- the program of that name without commands; its words do not include a program's name
 abbrev pub top : Text → App
 top name =
@@ -85,5 +91,6 @@ ftpd =
     (with_subcommand
     (with_subcommand
     (with_subcommand
+    (with_subcommand
     (with_sheets
-    (codes "ftpd")) check_config.top) migrate.top) script.top) serve.top
+    (codes "ftpd")) check_config.top) migrate.top) script.top) serve.top) plan.top

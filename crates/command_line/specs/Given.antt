@@ -11,7 +11,7 @@ use Rattle.client_patience.specs.declared.patience.Patience.{Patience}
 use Rattle.command_line.specs.declared.words.SheetWords.{SheetWords}
 use Rattle.command_line.specs.declared.words.SheetWords.TheVariants.{Share, Check}
 use Rattle.command_line.specs.declared.words.Words.{Words}
-use Rattle.command_line.specs.declared.words.Words.TheVariants.{Sheet, CheckConfig, Migrate, Script, Serve}
+use Rattle.command_line.specs.declared.words.Words.TheVariants.{Sheet, CheckConfig, Migrate, Script, Serve, Plan}
 use Rattle.command_line.specs.declared.words.WordsFault.{WordsFault}
 use Rattle.command_line.specs.declared.words.WordsFault.TheVariants.{Refused, Memory}
 
@@ -37,6 +37,7 @@ IsOfSheets P (CheckConfig config) = ⊥
 IsOfSheets P (Migrate config) = ⊥
 IsOfSheets P (Script config) = ⊥
 IsOfSheets P (Serve config stop_file patience) = ⊥
+IsOfSheets P (Plan config transfers) = ⊥
 
 -- the command `check-config` of that configuration
 abbrev pub IsCheckConfig : List ℕ → Words → Type 0
@@ -45,6 +46,7 @@ IsCheckConfig word (CheckConfig config) = config.now ≡ word
 IsCheckConfig word (Migrate config) = ⊥
 IsCheckConfig word (Script config) = ⊥
 IsCheckConfig word (Serve config stop_file patience) = ⊥
+IsCheckConfig word (Plan config transfers) = ⊥
 
 -- the command `migrate` of that configuration
 abbrev pub IsMigrate : List ℕ → Words → Type 0
@@ -53,6 +55,7 @@ IsMigrate word (CheckConfig config) = ⊥
 IsMigrate word (Migrate config) = config.now ≡ word
 IsMigrate word (Script config) = ⊥
 IsMigrate word (Serve config stop_file patience) = ⊥
+IsMigrate word (Plan config transfers) = ⊥
 
 -- the command `script` of that configuration
 abbrev pub IsScript : List ℕ → Words → Type 0
@@ -61,6 +64,7 @@ IsScript word (CheckConfig config) = ⊥
 IsScript word (Migrate config) = ⊥
 IsScript word (Script config) = config.now ≡ word
 IsScript word (Serve config stop_file patience) = ⊥
+IsScript word (Plan config transfers) = ⊥
 
 -- the command `serve` of that configuration, with that stop file, if any, and that patience
 abbrev pub IsServe : List ℕ → Option (List ℕ) → Patience → Words → Type 0
@@ -70,6 +74,16 @@ IsServe word path p (Migrate config) = ⊥
 IsServe word path p (Script config) = ⊥
 IsServe word path p (Serve config stop_file patience) =
     (config.now ≡ word) × (option_map (λ w. w.now) stop_file ≡ path) × (patience ≡ p)
+IsServe word path p (Plan config transfers) = ⊥
+
+-- the command `plan` of that configuration and those transfers
+abbrev pub IsPlanWords : List ℕ → List ℕ → Words → Type 0
+IsPlanWords word stated (Sheet words) = ⊥
+IsPlanWords word stated (CheckConfig config) = ⊥
+IsPlanWords word stated (Migrate config) = ⊥
+IsPlanWords word stated (Script config) = ⊥
+IsPlanWords word stated (Serve config stop_file patience) = ⊥
+IsPlanWords word stated (Plan config transfers) = (config.now ≡ word) × (transfers.now ≡ stated)
 
 -- the name of a command that the parser entered, and its arguments
 abbrev pub entered_rows : Bor Text × Bor ArgMatches → Text × List Row
@@ -102,6 +116,10 @@ IsFound found (Serve config stop_file patience) =
     × (first_of (codes "CONFIG") rows ≡ Some config.now)
     × (first_of (codes "PATH") rows ≡ option_map (λ w. w.now) stop_file)
     × IsPatienceIn rows patience
+IsFound found (Plan config transfers) =
+    (rows : List Row) × (found ≡ Some (codes "plan", rows))
+    × (first_of (codes "CONFIG") rows ≡ Some config.now)
+    × (first_of (codes "TRANSFERS") rows ≡ Some transfers.now)
 
 -- the words give that command, or memory ran out
 abbrev pub GivesOrMemory : {T : Type 0} → (T → Type 0) → Result T WordsFault → Type 0

@@ -2,7 +2,7 @@
 
 ghost use Rattle.std.specs.Prelude.{◌≡◌, IfOk, codes, false};
 ghost use Rattle.clap.specs.Words.{app_of, rule_of, with_rule};
-ghost use Rattle.command_line.specs.Commands.{bare, check, check_config, file_rule, ftpd, migrate, option_rule, script, seconds_rule, serve, share, sheets, top, with_patience, with_sheets};
+ghost use Rattle.command_line.specs.Commands.{bare, check, check_config, file_rule, ftpd, migrate, option_rule, plan, script, seconds_rule, serve, share, sheets, top, with_patience, with_sheets};
 
 use clap::{Arg, ArgAction, Command};
 use std::alloc::{AllocError, Global};
@@ -59,6 +59,9 @@ const ABOUT_SCRIPT: &str =
 
 const ABOUT_SERVE: &str =
     "CONFIG is read whole. `ready` goes to standard output once clients may connect, and at the end what was settled.\n\nExample: ftpd serve office.toml --stop-file /run/ftpd.stop\n\nStatus: 0 done, or yes; 1 a fault; 2 refused words; 3 no";
+
+const ABOUT_PLAN: &str =
+    "CONFIG is read whole. A line for each user, direction and share goes to standard output: how many transfers get how\nmuch of a second, what is guaranteed to each, and the limit that holds each back; last the totals. TRANSFERS has parts\nNAME=N, NAME:down=N or NAME:up=N, joined by commas: N transfers of that user that want all they can get.\n\nExample: ftpd plan office.toml ann=1,bob=1,carol:up=5\n\nStatus: 0 done, or yes; 1 a fault; 2 refused words; 3 no";
 
 /// A command without words; `below` is the text below its help.
 fn bare_command<'a>(alloc: Global, name: &'a str, about: &'a str, below: &'a str) -> Command<'a>
@@ -199,6 +202,15 @@ fn serve_command<'a>(alloc: Global) -> Result<Command<'a>, AllocError>
     with_patience(alloc, command)
 }
 
+fn plan_command<'a>(alloc: Global) -> Result<Command<'a>, AllocError>
+    ensures plan { IfOk result (λ c. app_of c ≡ plan) }
+{
+    let about = "Plan transfers by a configuration: who would get how much, and which limit holds whom back";
+    let transfers = "Transfers of users, as `ann=1,bob:up=2`";
+    let command = config_command(alloc, "plan", about, ABOUT_PLAN, CONFIG_FILE)?;
+    with_file(alloc, command, "TRANSFERS", transfers)
+}
+
 fn top_command<'a>(alloc: Global, name: &'a str, about: &'a str) -> Result<Command<'a>, AllocError>
     ensures top { IfOk result (λ c. app_of c ≡ top name.entry.now) }
 {
@@ -241,6 +253,7 @@ pub(crate) fn ftpd_command<'a>(alloc: Global) -> Result<Command<'a>, AllocError>
     let with_check = with_sheets.subcommand(check_config_command(alloc)?)?;
     let with_migrate = with_check.subcommand(migrate_command(alloc)?)?;
     let with_script = with_migrate.subcommand(script_command(alloc)?)?;
-    let command = with_script.subcommand(serve_command(alloc)?)?;
+    let with_serve = with_script.subcommand(serve_command(alloc)?)?;
+    let command = with_serve.subcommand(plan_command(alloc)?)?;
     Ok(command)
 }

@@ -6,6 +6,7 @@
 //! ftpd check-config CONFIG
 //! ftpd migrate CONFIG
 //! ftpd script CONFIG
+//! ftpd plan CONFIG TRANSFERS
 //! ftpd serve CONFIG [--stop-file PATH] [--login-timeout SECONDS] [--idle-timeout SECONDS] [--login-delay SECONDS]
 //!
 //! sheets share SHEET

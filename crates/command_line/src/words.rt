@@ -3,7 +3,7 @@
 ghost use Rattle.std.specs.Prelude.{◌≡◌, ◌↔◌, ◌∷◌, [], ℕ, List, None, Some, IfOk, IfErr, IfSome, IsTrue, map, codes, option_map, true};
 ghost use Rattle.clap.specs.Words.{app_of, fault_of, first_of, found_of, is_simple, is_simple_and_free, kind_of, rows_of, subcommand_of, subcommand_rows_of, takes};
 ghost use Rattle.command_line.specs.Commands.{ftpd, sheets};
-ghost use Rattle.command_line.specs.Given.{GivesOneOrMemory, GivesOrMemory, IsCheck, IsCheckConfig, IsFound, IsHelp, IsMigrate, IsOfSheets, IsPlainWord, IsRefusal, IsRefusedAs, IsScript, IsServe, IsSheetFound, IsShare, IsRefusedFor, IsTaken, entered_rows};
+ghost use Rattle.command_line.specs.Given.{GivesOneOrMemory, GivesOrMemory, IsCheck, IsCheckConfig, IsFound, IsHelp, IsMigrate, IsOfSheets, IsPlainWord, IsPlanWords, IsRefusal, IsRefusedAs, IsScript, IsServe, IsSheetFound, IsShare, IsRefusedFor, IsTaken, entered_rows};
 ghost use Rattle.command_line.specs.Timed.{IsSeconds, IsTimedBy, timed_words, usual_patience};
 
 use crate::grammar::{ftpd_command, sheets_command};
@@ -45,6 +45,11 @@ pub enum Words<'a> {
         config: &'a str,
         stop_file: Option<&'a str>,
         patience: Patience,
+    },
+    /// Plan transfers by the configuration at this path; the word that states them.
+    Plan {
+        config: &'a str,
+        transfers: &'a str,
     },
 }
 
@@ -145,6 +150,10 @@ fn given<'a>(name: &str, inner: &ArgMatches<'a>, patience: Patience) -> Option<W
             config: word_of(inner, "CONFIG")?,
             stop_file: word_of(inner, "PATH"),
             patience,
+        }),
+        "plan" => Some(Words::Plan {
+            config: word_of(inner, "CONFIG")?,
+            transfers: word_of(inner, "TRANSFERS")?,
         }),
         _ => Some(Words::Sheet(sheet_given(name, inner)?)),
     }
@@ -248,6 +257,9 @@ pub fn read_words<'a>(alloc: Global, words: &'a [&'a str]) -> Result<Words<'a>, 
         → IsSeconds third p.login_delay
         → map (λ s. s.now) words.now ≡ timed_words word first second third
         → GivesOrMemory (IsServe word None p) result }
+    ensures plan { (word transfers : List ℕ) → IsPlainWord word → IsPlainWord transfers
+        → map (λ s. s.now) words.now ≡ codes "plan" ∷ word ∷ transfers ∷ []
+        → GivesOrMemory (IsPlanWords word transfers) result }
     ensures taken { IsTaken (map (λ s. s.now) words.now) → GivesOneOrMemory
         (IsFound (subcommand_of ftpd (map (λ s. s.now) words.now))) result }
     ensures refused { IfErr result (IsRefusedFor (map (λ s. s.now) words.now)) }

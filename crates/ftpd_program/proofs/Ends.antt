@@ -1,19 +1,19 @@
 -- The ends of commands, for the words that name them.
 use Rattle.std.proofs.Common.{◌≡◌, ℕ, List, Option, option_map, subst}
-use Rattle.command_line.specs.Given.{IsCheck, IsCheckConfig, IsMigrate, IsOfSheets, IsScript, IsServe, IsShare}
+use Rattle.command_line.specs.Given.{IsCheck, IsCheckConfig, IsMigrate, IsOfSheets, IsPlanWords, IsScript, IsServe, IsShare}
 use Rattle.client_patience.specs.declared.patience.Patience.{Patience}
 use Rattle.command_line.specs.declared.words.SheetWords.TheVariants.{Share, Check}
 use Rattle.command_line.specs.declared.words.Words.{Words}
-use Rattle.command_line.specs.declared.words.Words.TheVariants.{Sheet, CheckConfig, Migrate, Script, Serve}
+use Rattle.command_line.specs.declared.words.Words.TheVariants.{Sheet, CheckConfig, Migrate, Script, Serve, Plan}
 use Rattle.script_session.specs.declared.fault.SessionFault.{SessionFault}
 use Rattle.sheets_program.specs.Runs.{IsCheckEnd, IsShareEnd, Octets}
 use Rattle.ftpd_program.specs.Endings.{IsCommon}
-use Rattle.ftpd_program.specs.Runs.{IsCommandEnd, IsPrintEnd, IsScriptEnd}
+use Rattle.ftpd_program.specs.Runs.{IsCommandEnd, IsPlanEnd, IsPrintEnd, IsScriptEnd}
 use Rattle.ftpd_program.specs.Scripting.{IsUnscripted}
 use Rattle.ftpd_program.specs.Serving.{IsServeEnd, Service}
 use Rattle.ftpd_program.specs.declared.ending.FtpdExit.{FtpdExit}
-use Rattle.ftpd_program.specs.declared.ending.FtpdExit.TheVariants.{Common, Config, Session, Server}
-use Rattle.ftpd_program.specs.declared.printing.Print.TheVariants.{Report, Latest}
+use Rattle.ftpd_program.specs.declared.ending.FtpdExit.TheVariants.{Common, Config, Transfers, Session, Server}
+use Rattle.ftpd_program.specs.declared.printing.Print.TheVariants.{Report, Latest, Plan as PlanOf}
 use Rattle.ftpd_program.specs.declared.scripting.ScriptFault.{ScriptFault}
 use Rattle.ftpd_program.specs.declared.scripting.ScriptFault.TheVariants.{Session as Unserved}
 
@@ -21,6 +21,7 @@ pub share_end : (gives : List ℕ → Octets) (serves : Service) (Refuses : List
     → IsOfSheets (IsShare sheet) words → IsCommandEnd gives serves Refuses words old new ending → IsCommon (IsShareEnd gives sheet old new) ending
 share_end gives serves Refuses (Sheet (Share path)) sheet old new (Common ending) is end = subst (λ (p : List ℕ). IsShareEnd gives p old new ending) is end
 share_end gives serves Refuses (Sheet (Share path)) sheet old new (Config fault) is end = absurd end
+share_end gives serves Refuses (Sheet (Share path)) sheet old new (Transfers name told) is end = absurd end
 share_end gives serves Refuses (Sheet (Share path)) sheet old new (Session fault) is end = absurd end
 share_end gives serves Refuses (Sheet (Share path)) sheet old new (Server fault) is end = absurd end
 share_end gives serves Refuses (Sheet (Check path other)) sheet old new ending is end = absurd is
@@ -28,6 +29,7 @@ share_end gives serves Refuses (CheckConfig path) sheet old new ending is end = 
 share_end gives serves Refuses (Migrate path) sheet old new ending is end = absurd is
 share_end gives serves Refuses (Script path) sheet old new ending is end = absurd is
 share_end gives serves Refuses (Serve path stop_file patience) sheet old new ending is end = absurd is
+share_end gives serves Refuses (Plan path stated) sheet old new ending is end = absurd is
 
 pub check_end : (gives : List ℕ → Octets) (serves : Service) (Refuses : List ℕ → Type 0) (words : Words) (sheet grants : List ℕ) (old new : Option (List ℕ)) (ending : FtpdExit)
     → IsOfSheets (IsCheck sheet grants) words → IsCommandEnd gives serves Refuses words old new ending → IsCommon (IsCheckEnd gives sheet grants old new) ending
@@ -35,6 +37,7 @@ check_end gives serves Refuses (Sheet (Check path other)) sheet grants old new (
     let first = subst (λ (p : List ℕ). IsCheckEnd gives p other.now old new ending) is.0 end in
     subst (λ (p : List ℕ). IsCheckEnd gives sheet p old new ending) is.1 first
 check_end gives serves Refuses (Sheet (Check path other)) sheet grants old new (Config fault) is end = absurd end
+check_end gives serves Refuses (Sheet (Check path other)) sheet grants old new (Transfers name told) is end = absurd end
 check_end gives serves Refuses (Sheet (Check path other)) sheet grants old new (Session fault) is end = absurd end
 check_end gives serves Refuses (Sheet (Check path other)) sheet grants old new (Server fault) is end = absurd end
 check_end gives serves Refuses (Sheet (Share path)) sheet grants old new ending is end = absurd is
@@ -42,6 +45,7 @@ check_end gives serves Refuses (CheckConfig path) sheet grants old new ending is
 check_end gives serves Refuses (Migrate path) sheet grants old new ending is end = absurd is
 check_end gives serves Refuses (Script path) sheet grants old new ending is end = absurd is
 check_end gives serves Refuses (Serve path stop_file patience) sheet grants old new ending is end = absurd is
+check_end gives serves Refuses (Plan path stated) sheet grants old new ending is end = absurd is
 
 pub report_end : (gives : List ℕ → Octets) (serves : Service) (Refuses : List ℕ → Type 0) (words : Words) (config : List ℕ) (old new : Option (List ℕ)) (ending : FtpdExit)
     → IsCheckConfig config words → IsCommandEnd gives serves Refuses words old new ending → IsPrintEnd Report (gives config) Refuses old new ending
@@ -50,6 +54,7 @@ report_end gives serves Refuses (Sheet words) config old new ending is end = abs
 report_end gives serves Refuses (Migrate path) config old new ending is end = absurd is
 report_end gives serves Refuses (Script path) config old new ending is end = absurd is
 report_end gives serves Refuses (Serve path stop_file patience) config old new ending is end = absurd is
+report_end gives serves Refuses (Plan path stated) config old new ending is end = absurd is
 
 pub migrate_end : (gives : List ℕ → Octets) (serves : Service) (Refuses : List ℕ → Type 0) (words : Words) (config : List ℕ) (old new : Option (List ℕ)) (ending : FtpdExit)
     → IsMigrate config words → IsCommandEnd gives serves Refuses words old new ending → IsPrintEnd Latest (gives config) Refuses old new ending
@@ -58,6 +63,7 @@ migrate_end gives serves Refuses (Sheet words) config old new ending is end = ab
 migrate_end gives serves Refuses (CheckConfig path) config old new ending is end = absurd is
 migrate_end gives serves Refuses (Script path) config old new ending is end = absurd is
 migrate_end gives serves Refuses (Serve path stop_file patience) config old new ending is end = absurd is
+migrate_end gives serves Refuses (Plan path stated) config old new ending is end = absurd is
 
 pub script_end : (gives : List ℕ → Octets) (serves : Service) (Refuses : List ℕ → Type 0) (words : Words) (config : List ℕ) (old new : Option (List ℕ)) (ending : FtpdExit)
     → IsScript config words → IsCommandEnd gives serves Refuses words old new ending → IsScriptEnd gives config old new ending
@@ -66,6 +72,7 @@ script_end gives serves Refuses (Sheet words) config old new ending is end = abs
 script_end gives serves Refuses (CheckConfig path) config old new ending is end = absurd is
 script_end gives serves Refuses (Migrate path) config old new ending is end = absurd is
 script_end gives serves Refuses (Serve path stop_file patience) config old new ending is end = absurd is
+script_end gives serves Refuses (Plan path stated) config old new ending is end = absurd is
 
 pub serve_end : (gives : List ℕ → Octets) (serves : Service) (Refuses : List ℕ → Type 0) (words : Words) (config : List ℕ) (path : Option (List ℕ)) (p : Patience) (old new : Option (List ℕ)) (ending : FtpdExit)
     → IsServe config path p words → IsCommandEnd gives serves Refuses words old new ending → IsServeEnd (gives config) serves path p old new ending
@@ -77,6 +84,16 @@ serve_end gives serves Refuses (Sheet words) config path p old new ending is end
 serve_end gives serves Refuses (CheckConfig word) config path p old new ending is end = absurd is
 serve_end gives serves Refuses (Migrate word) config path p old new ending is end = absurd is
 serve_end gives serves Refuses (Script word) config path p old new ending is end = absurd is
+serve_end gives serves Refuses (Plan word stated) config path p old new ending is end = absurd is
+
+pub plan_end : (gives : List ℕ → Octets) (serves : Service) (Refuses : List ℕ → Type 0) (words : Words) (config transfers : List ℕ) (old new : Option (List ℕ)) (ending : FtpdExit)
+    → IsPlanWords config transfers words → IsCommandEnd gives serves Refuses words old new ending → IsPlanEnd (gives config) transfers Refuses old new ending
+plan_end gives serves Refuses (Plan path stated) config transfers old new ending is end = (stated, is.1, subst (λ (p : List ℕ). IsPrintEnd (PlanOf stated) (gives p) Refuses old new ending) is.0 end)
+plan_end gives serves Refuses (Sheet words) config transfers old new ending is end = absurd is
+plan_end gives serves Refuses (CheckConfig path) config transfers old new ending is end = absurd is
+plan_end gives serves Refuses (Migrate path) config transfers old new ending is end = absurd is
+plan_end gives serves Refuses (Script path) config transfers old new ending is end = absurd is
+plan_end gives serves Refuses (Serve path stop_file patience) config transfers old new ending is end = absurd is
 
 pub unserved : (text before after old new : Option (List ℕ)) (fault : ScriptFault) (why : SessionFault)
     → IsUnscripted text before after old new fault → fault ≡ Unserved why → IsUnscripted text before after old new (Unserved why)

@@ -5,7 +5,7 @@ use Rattle.text_io.specs.Texts.{IsTextOf}
 use Rattle.ftpd_program.specs.Printing.{AppendsPrint, IsPrintFault, IsPrintOf, IsPrintRefusal}
 use Rattle.ftpd_program.specs.declared.printing.Print.{Print}
 use Rattle.ftpd_program.specs.declared.printing.PrintFault.{PrintFault}
-use Rattle.ftpd_program.specs.declared.printing.PrintFault.TheVariants.{Config, Text}
+use Rattle.ftpd_program.specs.declared.printing.PrintFault.TheVariants.{Config, Text, Transfers}
 
 pub whole : (text rest items : List ℕ) → Consumes (Some text) (Some rest) items → IsAtEnd (Some rest) → items ≡ text
 whole text rest items taken end = sym (append-nil items) ∙ ap (λ (r : List ℕ). items ++ r) (sym end) ∙ sym taken
@@ -22,3 +22,4 @@ told print (Some text) (Some rest) items read printed before after taken end sam
 pub refused_at : (print : Print) (left : Option (List ℕ)) (text : List ℕ) (fault : PrintFault) → IsTextOf text left → IsPrintRefusal print text fault → IsPrintFault print left fault
 refused_at print left text (Text why) of is = tt
 refused_at print left text (Config why) of is = (text, of, is)
+refused_at print left text (Transfers name told) of is = is

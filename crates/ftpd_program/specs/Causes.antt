@@ -3,7 +3,7 @@
 -- reading it may fail.
 use Rattle.std.specs.Prelude.{◌≡◌, ◌≤◌, ◌+◌, ◌⊎◌, ℕ, List, Option, Some, IfSome, length}
 use Rattle.command_line.specs.declared.words.Words.{Words}
-use Rattle.command_line.specs.declared.words.Words.TheVariants.{Sheet, CheckConfig, Migrate, Script, Serve}
+use Rattle.command_line.specs.declared.words.Words.TheVariants.{Sheet, CheckConfig, Migrate, Script, Serve, Plan}
 use Rattle.script_session.specs.Served.{IsSessionBreak, most_reads}
 use Rattle.sheets_program.specs.Causes.{AreOpened, IsSheetWhy}
 use Rattle.sheets_program.specs.Runs.{IsInput, Octets, file_of}
@@ -69,6 +69,8 @@ IsCommandWhy gives refused fails refuses breaks (Script config) ending =
     IsScriptWhy gives refused fails breaks config.now ending
 IsCommandWhy gives refused fails refuses breaks (Serve config stop_file patience) ending =
     IsReadWhy config.now (refused config.now ⊎ fails config.now) ending
+IsCommandWhy gives refused fails refuses breaks (Plan config transfers) ending =
+    IsReadWhy config.now (refused config.now ⊎ fails config.now) ending
 
 -- the files that a command opens, in the order of its words
 abbrev pub AreCommandOpened : {O : Type 0} → (O → List ℕ → O → Type 0) → O → O → (List ℕ → Type 0)
@@ -80,3 +82,4 @@ AreCommandOpened opens old new refused (Migrate config) ending = opens old confi
 AreCommandOpened opens old new refused (Script config) ending =
     AreScriptOpened opens old new refused config.now ending
 AreCommandOpened opens old new refused (Serve config stop_file patience) ending = opens old config.now new
+AreCommandOpened opens old new refused (Plan config transfers) ending = opens old config.now new

@@ -4,11 +4,12 @@ use Rattle.script_session.specs.declared.fault.SessionFault.TheVariants.{Control
 use Rattle.sheets_program.specs.Endings as common
 use Rattle.sheets_program.specs.declared.ending.Exit.{Exit as CommonExit}
 use Rattle.ftpd_program.specs.declared.ending.FtpdExit.{FtpdExit}
-use Rattle.ftpd_program.specs.declared.ending.FtpdExit.TheVariants.{Common, Config, Session, Server}
+use Rattle.ftpd_program.specs.declared.ending.FtpdExit.TheVariants.{Common, Config, Transfers, Session, Server}
 
 abbrev pub status_of : FtpdExit → ℕ
 status_of (Common ending) = common.status_of ending
 status_of (Config fault) = 1
+status_of (Transfers name told) = 1
 status_of (Session fault) = 1
 status_of (Server fault) = 1
 
@@ -18,6 +19,7 @@ status_of (Server fault) = 1
 abbrev pub IsUnwritten : FtpdExit → Type 0
 IsUnwritten (Common ending) = common.IsUnwritten ending
 IsUnwritten (Config fault) = Unit {0}
+IsUnwritten (Transfers name told) = Unit {0}
 IsUnwritten (Session Folder) = Unit {0}
 IsUnwritten (Session (Control why)) = ⊥
 IsUnwritten (Server fault) = ⊥
@@ -26,5 +28,6 @@ IsUnwritten (Server fault) = ⊥
 abbrev pub IsCommon : (CommonExit → Type 0) → FtpdExit → Type 0
 IsCommon P (Common ending) = P ending
 IsCommon P (Config fault) = ⊥
+IsCommon P (Transfers name told) = ⊥
 IsCommon P (Session fault) = ⊥
 IsCommon P (Server fault) = ⊥

@@ -5,27 +5,43 @@ use Rattle.config_report.specs.Reports.{IsReportOf}
 use Rattle.server_config.specs.Migrated.{IsMigrated, IsUnmigrated}
 use Rattle.server_config.specs.Refused.{IsFaultOfText}
 use Rattle.server_config.specs.declared.fault.ConfigFault.{ConfigFault}
+use Rattle.plan_report.specs.Reports.{IsPlanReport}
 use Rattle.text_io.specs.Texts.{IsTextOf}
 use Rattle.text_io.specs.declared.fault.TextFault.TheVariants.{Memory}
 use Rattle.ftpd_program.specs.declared.printing.Print.{Print}
-use Rattle.ftpd_program.specs.declared.printing.Print.TheVariants.{Report, Latest}
+use Rattle.ftpd_program.specs.declared.printing.Print.TheVariants.{Report, Latest, Plan}
 use Rattle.ftpd_program.specs.declared.printing.PrintFault.{PrintFault}
-use Rattle.ftpd_program.specs.declared.printing.PrintFault.TheVariants.{Config, Text}
+use Rattle.ftpd_program.specs.declared.printing.PrintFault.TheVariants.{Config, Text, Transfers}
 
--- the report on the configuration of a text, or a text that has the same configuration in version 2
+-- the report on the configuration of a text, or a text that has the same configuration in version 2;
+-- of a plan only that transfers are planned by the configuration's rates
 abbrev pub IsPrintOf : Print → List ℕ → List ℕ → Type 0
 IsPrintOf Report text printed = IsReportOf text printed
 IsPrintOf Latest text printed = IsMigrated text printed
+IsPrintOf (Plan transfers) text printed = IsPlanReport text
 
 -- the text is refused for that fault; or, in version 2, it has no print that is read back
 abbrev pub IsUnprinted : Print → List ℕ → ConfigFault → Type 0
 IsUnprinted Report text fault = IsFaultOfText text fault
 IsUnprinted Latest text fault = IsUnmigrated text fault
+IsUnprinted (Plan transfers) text fault = IsFaultOfText text fault
+
+-- the text is the plan of transfers
+abbrev pub IsOfPlan : Print → Type 0
+IsOfPlan (Plan transfers) = Unit {0}
+IsOfPlan print = ⊥
+
+-- memory ran out, or the text or the transfers are refused
+abbrev pub IsPlanRefusal : List ℕ → PrintFault → Type 0
+IsPlanRefusal text (Text why) = why ≡ Memory
+IsPlanRefusal text (Config fault) = IsFaultOfText text fault
+IsPlanRefusal text (Transfers name told) = Unit {0}
 
 -- memory ran out, or the text is refused for that fault
 abbrev pub IsPrintRefusal : Print → List ℕ → PrintFault → Type 0
 IsPrintRefusal print text (Text why) = why ≡ Memory
 IsPrintRefusal print text (Config fault) = IsUnprinted print text fault
+IsPrintRefusal print text (Transfers name told) = IsOfPlan print
 
 -- a text about the configuration of the octets that were read is appended
 abbrev pub AppendsPrint : Print → Option (List ℕ) → Option (List ℕ) → Option (List ℕ) → Type 0
@@ -41,3 +57,4 @@ IsUnprintedAt print left fault = (text : List ℕ) × IsTextOf text left × IsUn
 abbrev pub IsPrintFault : Print → Option (List ℕ) → PrintFault → Type 0
 IsPrintFault print left (Text why) = Unit {0}
 IsPrintFault print left (Config fault) = IsUnprintedAt print left fault
+IsPrintFault print left (Transfers name told) = IsOfPlan print

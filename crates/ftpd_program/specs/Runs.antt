@@ -1,21 +1,22 @@
 -- The endings of the commands. A file is given by a test of the octets that it may contain, as for
 -- the commands on sheets. Old and new are the contents of the output before and after, and Refuses
 -- is the test of the octets that it may refuse.
-use Rattle.std.specs.Prelude.{ℕ, List, Option, option_map}
+use Rattle.std.specs.Borrow.{Bor}
+use Rattle.std.specs.Prelude.{◌≡◌, ℕ, List, Option, option_map}
 use Rattle.command_line.specs.declared.words.Words.{Words}
-use Rattle.command_line.specs.declared.words.Words.TheVariants.{Sheet, CheckConfig, Migrate, Script, Serve}
+use Rattle.command_line.specs.declared.words.Words.TheVariants.{Sheet, CheckConfig, Migrate, Script, Serve, Plan}
 use Rattle.sheets_program.specs.Runs.{IsInput, IsSheetEnd, Octets}
 use Rattle.sheets_program.specs.declared.ending.Exit.TheVariants.{Done, Refused, Text}
 use Rattle.sheets_program.specs.declared.files.TheConstants.{STANDARD_INPUT}
 use Rattle.ftpd_program.specs.Endings.{IsCommon}
 use Rattle.ftpd_program.specs.Faults.{IsPrintingFaultOf, IsReadingFaultOf}
-use Rattle.ftpd_program.specs.Printing.{AppendsPrint, IsPrintOf, IsUnprintedAt}
+use Rattle.ftpd_program.specs.Printing.{AppendsPrint, IsOfPlan, IsPrintOf, IsUnprintedAt}
 use Rattle.ftpd_program.specs.Scripting.{IsRefusalOf, IsScripted, IsUnscripted}
 use Rattle.ftpd_program.specs.Serving.{IsServeEnd, Service}
 use Rattle.ftpd_program.specs.declared.ending.FtpdExit.{FtpdExit}
-use Rattle.ftpd_program.specs.declared.ending.FtpdExit.TheVariants.{Common, Config, Session}
+use Rattle.ftpd_program.specs.declared.ending.FtpdExit.TheVariants.{Common, Config, Transfers, Session}
 use Rattle.ftpd_program.specs.declared.printing.Print.{Print}
-use Rattle.ftpd_program.specs.declared.printing.Print.TheVariants.{Report, Latest}
+use Rattle.ftpd_program.specs.declared.printing.Print.TheVariants.{Report, Latest, Plan as PlanOf}
 use Rattle.ftpd_program.specs.declared.scripting.ScriptFault.TheVariants.{Session as Unserved}
 
 -- the ending of a command that prints a text about a configuration, by the contents that its file
@@ -28,7 +29,15 @@ IsPrintEnd print gives Refuses old new (Common (Text fault cause)) =
     IsPrintingFaultOf gives (IsPrintOf print) Refuses fault
 IsPrintEnd print gives Refuses old new (Config fault) =
     (text : Option (List ℕ)) × gives text × IsUnprintedAt print text fault
+IsPrintEnd print gives Refuses old new (Transfers name told) = IsOfPlan print
 IsPrintEnd print gives Refuses old new _ = ⊥
+
+-- the ending of `plan` for the text of those transfers
+abbrev pub IsPlanEnd : Octets → List ℕ → (List ℕ → Type 0) → Option (List ℕ) → Option (List ℕ)
+    → FtpdExit → Type 0
+IsPlanEnd gives transfers Refuses old new ending =
+    (stated : Bor (List ℕ)) × (stated.now ≡ transfers)
+    × IsPrintEnd (PlanOf stated) gives Refuses old new ending
 
 -- the ending of `script` for the path of a configuration; the control text is that of standard
 -- input
@@ -60,3 +69,5 @@ IsCommandEnd gives serves Refuses (Script config) old new ending =
     IsScriptEnd gives config.now old new ending
 IsCommandEnd gives serves Refuses (Serve config stop_file patience) old new ending =
     IsServeEnd (gives config.now) serves (option_map (λ w. w.now) stop_file) patience old new ending
+IsCommandEnd gives serves Refuses (Plan config transfers) old new ending =
+    IsPrintEnd (PlanOf transfers) (gives config.now) Refuses old new ending

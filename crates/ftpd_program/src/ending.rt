@@ -21,6 +21,8 @@ pub enum FtpdExit<'w> {
     Common(Common<'w>),
     /// The configuration is refused.
     Config(ConfigFault),
+    /// Transfers are refused: the name of the fault, and what is wrong with them.
+    Transfers { name: &'static str, told: String },
     /// A folder is configured, but the store has to be in memory; or the control session broke off.
     Session(SessionFault),
     /// The server did not start, or did not end as its configuration says.
@@ -34,7 +36,10 @@ impl<'w> FtpdExit<'w> {
     {
         match self {
             FtpdExit::Common(ending) => ending.status(),
-            FtpdExit::Config(_) | FtpdExit::Session(_) | FtpdExit::Server(_) => 1,
+            FtpdExit::Config(_)
+            | FtpdExit::Transfers { .. }
+            | FtpdExit::Session(_)
+            | FtpdExit::Server(_) => 1,
         }
     }
 }
@@ -63,6 +68,10 @@ impl fmt::Display for FtpdErrorText<'_, '_> {
             FtpdExit::Config(fault) => {
                 writeln!(f, "{fault}")?;
                 writeln!(f, "{NAME}: {}", fault.name())
+            }
+            FtpdExit::Transfers { name, told } => {
+                writeln!(f, "{told}")?;
+                writeln!(f, "{NAME}: {name}")
             }
             FtpdExit::Session(fault) => {
                 if *fault == SessionFault::Folder {

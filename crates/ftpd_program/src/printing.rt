@@ -2,20 +2,24 @@
 
 ghost use Rattle.std.specs.Prelude.{◌≡◌, ◌≢◌, ◌<◌, ℕ, List, true, IfErr, IfOk, IfSome, IsErrOf, OnOk, length, string_bytes};
 ghost use Rattle.text_io.specs.Texts.{IsTextOf};
-ghost use Rattle.ftpd_program.specs.Printing.{AppendsPrint, IsPrintFault, IsPrintOf, IsPrintRefusal};
+ghost use Rattle.ftpd_program.specs.Printing.{AppendsPrint, IsPlanRefusal, IsPrintFault, IsPrintOf, IsPrintRefusal};
+ghost use Rattle.plan_report.specs.Reports.{IsPlanReport};
 
 use config_report::report;
+use plan_report::{NoPlan, plan_report};
 use server_config::{ConfigFault, migrate};
 use std::alloc::Global;
 use text_io::{MAX_TEXT, TextFault, TextReader, TextWriter, read_whole, write_whole};
 
 /// A text about a configuration.
 #[derive(Clone, Copy, Debug, PartialEq, Eq)]
-pub enum Print {
+pub enum Print<'w> {
     /// The report on it, with its warnings.
     Report,
     /// Its text in version 2.
     Latest,
+    /// The plan of the transfers that a word states.
+    Plan(&'w str),
 }
 
 /// The reason for which no text about a configuration is printed.
@@ -25,16 +29,32 @@ pub enum PrintFault {
     Text(TextFault),
     /// The configuration is refused, or its text in version 2 could not be read back.
     Config(ConfigFault),
+    /// Transfers are refused: the name of the fault, and what is wrong with them.
+    Transfers { name: &'static str, told: String },
+}
+
+/// Returns the plan of transfers by the configuration of these octets.
+fn plan_about(alloc: Global, transfers: &str, octets: &[u8]) -> Result<String, PrintFault>
+    ensures prints { IfOk result (λ _. IsPlanReport octets.now) }
+    ensures refused { IfErr result (IsPlanRefusal octets.now) }
+{
+    match plan_report(alloc, octets, transfers) {
+        Ok(text) => Ok(text),
+        Err(NoPlan::Config(fault)) => Err(PrintFault::Config(fault)),
+        Err(NoPlan::Transfers { name, told }) => Err(PrintFault::Transfers { name, told }),
+        Err(NoPlan::Memory) => Err(PrintFault::Text(TextFault::Memory)),
+    }
 }
 
 /// Returns the text about the configuration of these octets.
-fn text_about(alloc: Global, print: Print, octets: &[u8]) -> Result<String, PrintFault>
+fn text_about(alloc: Global, print: Print<'_>, octets: &[u8]) -> Result<String, PrintFault>
     ensures prints { IfOk result (λ text. IsPrintOf print octets.now (string_bytes text)) }
     ensures refused { IfErr result (IsPrintRefusal print octets.now) }
 {
     let text = match print {
         Print::Report => report(alloc, octets),
         Print::Latest => migrate(alloc, octets),
+        Print::Plan(transfers) => return plan_about(alloc, transfers, octets),
     };
     match text {
         Ok(text) => Ok(text),
@@ -50,7 +70,7 @@ fn text_about(alloc: Global, print: Print, octets: &[u8]) -> Result<String, Prin
 /// writer refuses this text.
 pub fn run_print<R: TextReader, W: TextWriter>(
     alloc: Global,
-    print: Print,
+    print: Print<'_>,
     reader: &mut R,
     writer: &mut W,
 ) -> Result<(), PrintFault>

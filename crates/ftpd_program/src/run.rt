@@ -13,7 +13,7 @@ ghost use Rattle.sheets_program.specs.Endings.{IsOutOfMemory, IsToldEnd};
 ghost use Rattle.sheets_program.specs.Runs.{IsCheckEnd, IsShareEnd};
 ghost use Rattle.ftpd_program.specs.Causes.{AreCommandOpened, AreScriptOpened, IsCommandWhy, IsReadWhy, IsScriptWhy};
 ghost use Rattle.ftpd_program.specs.Endings.{IsCommon, IsUnwritten};
-ghost use Rattle.ftpd_program.specs.Runs.{IsCommandEnd, IsPrintEnd, IsScriptEnd};
+ghost use Rattle.ftpd_program.specs.Runs.{IsCommandEnd, IsPlanEnd, IsPrintEnd, IsScriptEnd};
 ghost use Rattle.ftpd_program.specs.Serving.{IsServeEnd};
 
 use super::ending::FtpdExit;
@@ -34,7 +34,7 @@ const NO_TEXT_LEFT: &str =
 /// Prints a text about a configuration.
 fn print_text<'w, O: Opener, W: TextWriter>(
     alloc: Global,
-    print: Print,
+    print: Print<'_>,
     config: &'w str,
     files: &mut O,
     output: &mut W,
@@ -56,6 +56,7 @@ fn print_text<'w, O: Opener, W: TextWriter>(
     match run_print(alloc, print, &mut file, output) {
         Ok(()) => FtpdExit::Common(Common::Done),
         Err(PrintFault::Config(fault)) => FtpdExit::Config(fault),
+        Err(PrintFault::Transfers { name, told }) => FtpdExit::Transfers { name, told },
         Err(PrintFault::Text(fault)) => {
             let cause = text_cause(fault, config, O::reason(&file));
             FtpdExit::Common(Common::Text(fault, cause))
@@ -127,6 +128,9 @@ fn run_command<'w, O: Opener, W: TextWriter, V: Server<W>>(
         Words::CheckConfig { config } => { print_text(alloc, Print::Report, config, files, output) }
         Words::Migrate { config } => print_text(alloc, Print::Latest, config, files, output),
         Words::Script { config } => script(alloc, config, files, output),
+        Words::Plan { config, transfers } => {
+            print_text(alloc, Print::Plan(transfers), config, files, output)
+        }
         Words::Serve {
             config,
             stop_file,
@@ -178,6 +182,10 @@ pub fn run_words<'w, O: Opener, W: TextWriter, V: Server<W>>(
         → IsSeconds third p.login_delay
         → map (λ s. s.now) words.now ≡ timed_words config first second third
         → IsServeEnd (O.Gives files.old config) V.Serves None p
+        (W.contents output.old) (W.contents output.new) result }
+    ensures plan { (config transfers : List ℕ) → IsPlainWord config → IsPlainWord transfers
+        → map (λ s. s.now) words.now ≡ codes "plan" ∷ config ∷ transfers ∷ []
+        → IsPlanEnd (O.Gives files.old config) transfers (W.may_refuse output.old)
         (W.contents output.old) (W.contents output.new) result }
     ensures command { IsTaken (map (λ s. s.now) words.now)
         → IsCommon IsOutOfMemory result ⊎ ((command : Words)

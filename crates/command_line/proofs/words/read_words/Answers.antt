@@ -4,10 +4,10 @@ use Rattle.command_line.specs.Commands.{ftpd}
 use Rattle.command_line.specs.Given.{IsFound, IsRefusal, IsServe}
 use Rattle.command_line.specs.Timed.{IsTimedBy, IsUntimed, usual_patience}
 use Rattle.clap.specs.Words.{App, Row, Text, app_of, fault_of, is_simple, is_simple_and_free, subcommand_of, takes}
-use Rattle.command_line.proofs.Taken.{refused_by_none, ftpd_is_free, ftpd_is_simple, ftpd_checks, ftpd_shares, checks_config, migrates, scripts, serves}
+use Rattle.command_line.proofs.Taken.{refused_by_none, ftpd_is_free, ftpd_is_simple, ftpd_checks, ftpd_shares, checks_config, migrates, plans, scripts, serves}
 use Rattle.command_line.proofs.Seconds.{patient, refused_other, refused_timed, seconds_plain, timed_by, usual}
 use Rattle.command_line.proofs.ServeWords.{serves_timed, serves_until}
-use Rattle.command_line.proofs.GivenCommand.{check_config_is, check_of_sheets, ftpd_found, migrate_is, script_is, serve_is, share_of_sheets}
+use Rattle.command_line.proofs.GivenCommand.{check_config_is, check_of_sheets, ftpd_found, migrate_is, plan_is, script_is, serve_is, share_of_sheets}
 use Rattle.command_line.proofs.words.read_words.Goals as goal
 
 pub returns-in-Err-clause-share : goal.returns-in-Err-clause-share
@@ -42,6 +42,10 @@ pub returns-in-Err-clause-serve_timed : goal.returns-in-Err-clause-serve_timed
 returns-in-Err-clause-serve_timed c = λ word first second third p plain one two three are.
     let held = serves_timed word first second third plain (seconds_plain first _ one) (seconds_plain second _ two) (seconds_plain third _ three) in
     c.in-Err.ensures.takes (ap₂ takes c.in-Ok.ensures.ftpd are ∙ held.taken)
+
+pub returns-in-Err-clause-plan : goal.returns-in-Err-clause-plan
+returns-in-Err-clause-plan c = λ word stated plain also are.
+    c.in-Err.ensures.takes (ap₂ takes c.in-Ok.ensures.ftpd are ∙ (plans word stated plain also).taken)
 
 pub returns-in-Err-clause-refused : goal.returns-in-Err-clause-refused
 returns-in-Err-clause-refused c =
@@ -121,6 +125,13 @@ returns-in-Err-stated_patience-clause-serve_timed c = λ word first second third
     let entered = c.in-Ok-parsed.ensures.found simple ∙ ap₂ subcommand_of c.in-Ok.ensures.ftpd are ∙ held.entered in
     let states = patient held.rows p first second third held.first held.second held.third one two three in
     refused_timed _ p _ (timed_by _ p held.rows entered states) c.in-Err-stated_patience.ensures.refused
+
+pub returns-in-Err-stated_patience-clause-plan : goal.returns-in-Err-stated_patience-clause-plan
+returns-in-Err-stated_patience-clause-plan c = λ word stated plain also are.
+    let held = plans word stated plain also in
+    let simple : is_simple (app_of c.in-Ok.command) ≡ true = ap is_simple c.in-Ok.ensures.ftpd ∙ ftpd_is_simple in
+    let entered = c.in-Ok-parsed.ensures.found simple ∙ ap₂ subcommand_of c.in-Ok.ensures.ftpd are ∙ held.entered in
+    refused_other _ (codes "plan") held.rows _ refl entered c.in-Err-stated_patience.ensures.refused
 
 pub returns-in-Err-stated_patience-clause-refused : goal.returns-in-Err-stated_patience-clause-refused
 returns-in-Err-stated_patience-clause-refused c =
@@ -211,6 +222,13 @@ returns-clause-serve_timed c = λ word first second third p plain one two three 
     let states = patient held.rows p first second third held.first held.second held.third one two three in
     subst (λ (path : Option Text). IsServe word path p c.in-Some.words) held.no_path
     (serve_is _ _ held.rows word p entered held.of states c.in-Some.ensures.found)
+
+pub returns-clause-plan : goal.returns-clause-plan
+returns-clause-plan c = λ word stated plain also are.
+    let held = plans word stated plain also in
+    let simple : is_simple (app_of c.in-Ok.command) ≡ true = ap is_simple c.in-Ok.ensures.ftpd ∙ ftpd_is_simple in
+    let entered = c.in-Ok-parsed.ensures.found simple ∙ ap₂ subcommand_of c.in-Ok.ensures.ftpd are ∙ held.entered in
+    plan_is _ _ held.rows word stated entered held.config held.transfers c.in-Some.ensures.found
 
 pub returns-clause-given : goal.returns-clause-given
 returns-clause-given c =

@@ -1,4 +1,4 @@
-use Rattle.ftpd_program.proofs.Ends.{check_end, migrate_end, report_end, script_end, serve_end, share_end}
+use Rattle.ftpd_program.proofs.Ends.{check_end, migrate_end, plan_end, report_end, script_end, serve_end, share_end}
 use Rattle.ftpd_program.proofs.run.run_words.Goals as goal
 
 pub returns-in-Ok-clause-share : goal.returns-in-Ok-clause-share
@@ -48,3 +48,9 @@ returns-in-Ok-clause-serve_timed g c = λ config first second third p plain one 
     let old = g.W.TextWriter.contents c.args.output.now in
     let new = g.W.TextWriter.contents c.run_command.new.output in
     serve_end _ g.V.Server.Serves _ _ _ _ _ old new _ (c.in-Ok.ensures.serve_timed config first second third p plain one two three are) c.run_command.ensures.end
+
+pub returns-in-Ok-clause-plan : goal.returns-in-Ok-clause-plan
+returns-in-Ok-clause-plan g c = λ config transfers plain also are.
+    let old = g.W.TextWriter.contents c.args.output.now in
+    let new = g.W.TextWriter.contents c.run_command.new.output in
+    plan_end _ g.V.Server.Serves _ _ _ _ old new _ (c.in-Ok.ensures.plan config transfers plain also are) c.run_command.ensures.end

@@ -1,0 +1,16 @@
+//! Who would get how much of a second by a configuration, and which limit holds each back: as lines, or as JSON.
+//!
+//! ```text
+//! let text = plan_report(rt.alloc(), SMALL.as_bytes(), "ann=1")?; // a server and the user `ann`
+//! holds(rt, text.as_str().contains("held by"));
+//! ```
+#![tactic(auto)]
+
+mod fault;
+mod lines;
+mod parts;
+mod reporting;
+mod wishes;
+
+pub use fault::NoPlan;
+pub use reporting::plan_report;

@@ -1,0 +1,130 @@
+//! The plan of a configuration, from its text.
+
+ghost use Rattle.std.specs.Prelude.{IfErr, IfOk};
+ghost use Rattle.plan_report.specs.Reports.{HasShares, IsNoPlan, IsNoPlanOf, IsPlanReport};
+
+use crate::fault::NoPlan;
+use crate::lines::{Named, lines_of, user_name, way_text, write_held};
+use crate::wishes::{too_many, transfers_of};
+use config_file::{Tables, read_tables};
+use line_rates::{Limits, Name};
+use rate_plan::{Share, Transfer, Unplanned, plan_of};
+use server_config::{Config, ConfigFault};
+use std::alloc::{AllocError, Global};
+
+// The number of the session at a place among those of its user and direction, from 1.
+fn number_of(transfers: &[Transfer], place: usize) -> usize {
+    let mut count: usize = 0;
+    for at in 0..transfers.len() {
+        if at <= place && place < transfers.len() && transfers[at] == transfers[place] {
+            count = count.saturating_add(1);
+        }
+    }
+    count
+}
+
+fn not_guaranteed(
+    alloc: Global,
+    named: Named<'_, '_>,
+    limits: &Limits,
+    transfers: &[Transfer],
+    place: usize,
+    name: Option<Name>,
+) -> Result<String, AllocError> {
+    let mut text = String::new(alloc);
+    if place < transfers.len() {
+        let Transfer { user, way } = transfers[place];
+        let number = number_of(transfers, place);
+        write!(
+            &mut text,
+            "session {number} of {} {}: its guarantees do not fit",
+            user_name(named, user),
+            way_text(way)
+        )?;
+    }
+    if let Some(name) = name {
+        text.push_str(" within ")?;
+        write_held(&mut text, named, Some(name))?;
+        write!(&mut text, " of {}", limits.rate(name))?;
+    }
+    Ok(text)
+}
+
+fn no_plan(
+    alloc: Global,
+    named: Named<'_, '_>,
+    limits: &Limits,
+    transfers: &[Transfer],
+    fault: Unplanned,
+) -> NoPlan
+    ensures of { IsNoPlanOf result }
+{
+    let told = match fault {
+        Unplanned::TooManySessions => {
+            let most = named.server.max_cons as usize;
+            return too_many(alloc, "TooManySessions", most, "max_cons");
+        }
+        Unplanned::TooManyTransfers => {
+            let most = named.server.lanes as usize;
+            return too_many(alloc, "TooManyTransfers", most, "lanes");
+        }
+        Unplanned::NotGuaranteed(place, name) => {
+            not_guaranteed(alloc, named, limits, transfers, place, name)
+        }
+        Unplanned::Memory => return NoPlan::Memory,
+        _ => String::from_str(alloc, "a rate is too large for so many transfers"),
+    };
+    let name = match fault {
+        Unplanned::NotGuaranteed(_, _) => "NotGuaranteed",
+        _ => "RateTooLarge",
+    };
+    match told {
+        Ok(told) => NoPlan::Transfers { name, told },
+        Err(_) => NoPlan::Memory,
+    }
+}
+
+fn told_of(
+    alloc: Global,
+    tables: &Tables,
+    limits: &Limits,
+    wishes: &str,
+) -> Result<String, NoPlan>
+    ensures shares { IfOk result (λ _. HasShares limits.now) }
+    ensures fault { IfErr result IsNoPlanOf }
+{
+    let named = Named {
+        server: &tables.server,
+        groups: tables.groups.as_slice(),
+        users: tables.users.as_slice(),
+    };
+    let transfers = transfers_of(alloc, named.users, wishes)?;
+    let (sessions, lanes) = (named.server.max_cons as usize, named.server.lanes as usize);
+    match plan_of(alloc, limits, sessions, lanes.min(256), &transfers) {
+        Ok(shares) => {
+            let text = lines_of(alloc, named, &shares)?;
+            Ok(text)
+        }
+        Err(fault) => Err(no_plan(alloc, named, limits, &transfers, fault)),
+    }
+}
+
+/// The plan of the transfers that a word states, by a configuration's text: who gets how much of a second, and which
+/// limit holds each back.
+pub fn plan_report(alloc: Global, octets: &[u8], wishes: &str) -> Result<String, NoPlan>
+    ensures planned { IfOk result (λ _. IsPlanReport octets.now) }
+    ensures fault { IfErr result (IsNoPlan octets.now) }
+{
+    let config = match Config::read(alloc, octets) {
+        Ok(config) => config,
+        Err(ConfigFault::Memory) => return Err(NoPlan::Memory),
+        Err(fault) => return Err(NoPlan::Config(fault)),
+    };
+    let Ok(document) = toml::table_from_slice(alloc, octets) else {
+        return Err(NoPlan::Memory);
+    };
+    let Ok(tables) = read_tables(alloc, &document) else {
+        return Err(NoPlan::Memory);
+    };
+    told_of(alloc, &tables, &config.limits, wishes)
+}

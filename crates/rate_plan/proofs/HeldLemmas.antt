@@ -1,0 +1,148 @@
+-- The names of the branches that hold leaves back.
+use Rattle.std.proofs.Common.{◌≡◌, ◌≤◌, ◌<◌, ◌+◌, ℕ, inl, inr, Bool, true, false, List, length, map, get_or, refl, ap, ◌∙◌, sym, subst, arith, Option, Some, None}
+use Rattle.std.specs.Prelude.{◌⊎◌, IsTrue, slice_get, slice_index, nat_le, nat_lt, ◌&&◌}
+use Rattle.std.specs.Option.{option_and_then, option_map}
+use Rattle.std.proofs.lemmas.Bool.{and_parts, cases_lt, eqb-true}
+use Rattle.std.proofs.lemmas.List.{length-map}
+use Rattle.limit_tree.proofs.Looks.{branch_number}
+use Rattle.line_rates.specs.Names.{want_of}
+use Rattle.std.proofs.lemmas.Option.{slice_get-map, slice_get-get_or, slice_get_past}
+use Rattle.limit_tree.specs.Outline.{branch_of, leaf_range, limits}
+use Rattle.limit_tree.specs.Sharing.{Branch, LimitTree, IsBackedBy, IsBottleneck, IsBranch, IsUnmet}
+use Rattle.limit_tree.specs.declared.place.NodeKind.TheVariants.{Branch as Split}
+use Rattle.limit_tree.specs.declared.place.Place.{Place}
+use Rattle.round_allocator.specs.Rounds.{IsEntry, IsNamed as AreEntries}
+use Rattle.line_rates.specs.declared.ask.Ask.{Ask}
+use Rattle.line_rates.specs.declared.ask.Name.{Name}
+use Rattle.line_rates.specs.declared.ask.Name.TheVariants.{Server, Direction, Group, User, Session}
+use Rattle.line_rates.specs.declared.ask.Way.{Way}
+use Rattle.line_rates.specs.declared.ask.Way.TheVariants.{Down, Up}
+use Rattle.line_rates.specs.Names.{bears, is_number, same_way}
+use Rattle.line_rates.specs.Rates.{Rates, group_of, rate_of}
+use Rattle.line_rates.specs.Ticks.{rate_limit}
+use Rattle.line_rates.specs.TickTree.{AreNamed, Asker, IsNamed, IsTickTree, ask_in, bears_at, bears_in}
+use Rattle.line_rates.proofs.MarkLemmas.{bool_same}
+use Rattle.rate_plan.specs.Named.{HasNameOf, IsNameOf}
+use Rattle.rate_plan.specs.Shared.{IsTickHeld}
+
+pub alike_at : (r : Rates) (n : Name) (order : List Asker) (i : ℕ) (d : Asker) → i < length order → bears_at r n (map ask_in order) i ≡ bears r n (get_or order i d).1
+alike_at r n order i d less = ap (bears_in r n) (slice_get-map ask_in order i ∙ ap (option_map ask_in) (slice_get-get_or order i d less))
+
+pub branch_is : (outline : List Place) (k : ℕ) (p : Place) (limit : Option ℕ) → slice_get outline k ≡ Some p → p.kind ≡ Split limit → (limits outline).branch k ≡ Some (record { limit = limit; holds = leaf_range p.first p.leaves })
+branch_is outline k p limit at kind = ap (option_and_then (λ q. branch_of q.kind q.first q.leaves)) at ∙ ap (λ q. branch_of q p.first p.leaves) kind
+
+past_range : (first leaves i : ℕ) → first + leaves ≤ i → leaf_range first leaves i ≡ false
+past_range first leaves i past = grind arith
+
+past_bears : (r : Rates) (n : Name) (asks : List Ask) (i : ℕ) → length asks ≤ i → bears_at r n asks i ≡ false
+past_bears r n asks i past = ap (bears_in r n) (slice_get_past asks i past)
+
+some_same : {X : Type 0} (x y : X) → Some x ≡ Some y → x ≡ y
+some_same x y e = cc
+
+pub same_branch : (t : LimitTree) (k : ℕ) (a b : Branch) → IsBranch t k a → IsBranch t k b → a ≡ b
+same_branch t k a b ea eb = some_same a b (sym ea ∙ eb)
+
+-- a node's branch is that of a name, from what is compared
+pub is_name : (r : Rates) (order : List Asker) (outline : List Place) (k : ℕ) (p : Place) (limit : Option ℕ) (n : Name) → slice_get outline k ≡ Some p → p.kind ≡ Split limit → p.first + p.leaves ≤ length (limits outline).wants
+    → length (limits outline).wants ≡ length order → limit ≡ rate_limit (rate_of r n) 0 → ((i : ℕ) → i < length order → leaf_range p.first p.leaves i ≡ bears_at r n (map ask_in order) i) → IsNameOf r (map ask_in order) (limits outline) k n
+is_name r order outline k p limit n at kind inside leaves same alike b is =
+    subst (λ x. IsNamed r 0 (map ask_in order) n x) (same_branch (limits outline) k (record { limit = limit; holds = leaf_range p.first p.leaves }) b (branch_is outline k p limit at kind) is) (record {
+      limit = same;
+      holds = λ i. elim (cases_lt i (length order)) [
+        | inl less ↦ alike i less
+        | inr past ↦ past_range p.first p.leaves i (omega arith) ∙ sym (past_bears r n (map ask_in order) i (omega (arith, length-map order ask_in)))
+      ];
+    })
+
+pub not_name : (r : Rates) (order : List Asker) (outline : List Place) (k : ℕ) (p : Place) (limit : Option ℕ) (n : Name) → slice_get outline k ≡ Some p → p.kind ≡ Split limit → IsNameOf r (map ask_in order) (limits outline) k n
+    → (limit ≡ rate_limit (rate_of r n) 0) × ((i : ℕ) → i < length order → leaf_range p.first p.leaves i ≡ bears_at r n (map ask_in order) i)
+not_name r order outline k p limit n at kind is =
+    let named = is (record { limit = limit; holds = leaf_range p.first p.leaves }) (branch_is outline k p limit at kind) in
+    (named.limit, λ i less. named.holds i)
+
+way_is : (v w : Way) → same_way v w ≡ true → w ≡ v
+way_is Down Down e = refl
+way_is Up Up e = refl
+way_is Down Up e = absurd (cc)
+way_is Up Down e = absurd (cc)
+
+number_is : (o : Option ℕ) (g : ℕ) → is_number o g ≡ true → o ≡ Some g
+number_is None g e = absurd (cc)
+number_is (Some m) g e = ap (λ (n : ℕ). Some n) (eqb-true m g e)
+
+-- the names under which an ask counts
+abbrev pub IsCandidate : Rates → Ask → Name → Type 0
+IsCandidate r a n = (n ≡ Server) ⊎ ((n ≡ Direction a.way) ⊎ (((g : ℕ) × (group_of r a.user ≡ Some g) × (n ≡ Group a.way g)) ⊎ ((n ≡ User a.way a.user) ⊎ (n ≡ Session a.way a.user a.session))))
+
+candidate_by : (r : Rates) (a : Ask) (n : Name) → bears r n a ≡ true → IsCandidate r a n
+candidate_by r a Server is = inl refl
+candidate_by r a (Direction w) is = inr (inl (ap (λ v. Direction v) (way_is a.way w is)))
+candidate_by r a (Group w g) is =
+    let parts = and_parts _ _ is in
+    inr (inr (inl (g, number_is (group_of r a.user) g parts.1, ap (λ v. Group v g) (way_is a.way w parts.0))))
+candidate_by r a (User w u) is =
+    let parts = and_parts _ _ is in
+    let way = way_is a.way w parts.0 in
+    let user = eqb-true a.user u parts.1 in
+    inr (inr (inr (inl (cc))))
+candidate_by r a (Session w u s) is =
+    let parts = and_parts _ _ is in
+    let more = and_parts _ _ parts.1 in
+    let way = way_is a.way w parts.0 in
+    let user = eqb-true a.user u more.0 in
+    let session = eqb-true a.session s more.1 in
+    inr (inr (inr (inr (cc))))
+
+pub candidate : (r : Rates) (a : Ask) (n : Name) → IsTrue (bears r n a) → IsCandidate r a n
+candidate r a n is = candidate_by r a n is
+
+-- the entry of a leaf
+pub entry_unmet : (t : LimitTree) (g : List ℕ) (c : List (Option ℕ)) (leaf node : ℕ) → AreEntries t g c → leaf < length g → slice_get c leaf ≡ Some (Some node) → IsUnmet t g leaf
+entry_unmet t g c leaf node named less is = elim (cases_lt (slice_index g leaf) (slice_index t.wants leaf)) [
+  | inl unmet ↦ unmet
+  | inr met ↦ let found = named.entries leaf less in let none = found.2.met (λ (unmet : IsUnmet t g leaf). absurd (omega arith)) in absurd (cc)
+]
+
+pub entry_met : (t : LimitTree) (g : List ℕ) (c : List (Option ℕ)) (leaf : ℕ) → IsBackedBy t g c → leaf < length g → slice_get c leaf ≡ Some None → slice_index t.wants leaf ≤ slice_index g leaf
+entry_met t g c leaf backed less is = elim (cases_lt (slice_index g leaf) (slice_index t.wants leaf)) [
+  | inl unmet ↦ let found = backed.backed leaf less unmet in let at = found.2 in absurd (cc)
+  | inr met ↦ met
+]
+
+pub entry_bottleneck : (t : LimitTree) (g : List ℕ) (c : List (Option ℕ)) (leaf node : ℕ) → AreEntries t g c → IsBackedBy t g c → leaf < length g → slice_get c leaf ≡ Some (Some node) → (b : Branch) × IsBranch t node b × IsBottleneck t b g leaf
+entry_bottleneck t g c leaf node named backed less is =
+    let found = backed.backed leaf less (entry_unmet t g c leaf node named less is) in
+    let at = found.2 in
+    let same : found.0 ≡ node = cc in
+    (found.1, subst (λ (k : ℕ). IsBranch t k found.1) same found.3, found.4)
+
+name_by : (r : Rates) (asks : List Ask) (o : Option Name) (b : Option Branch) (x : Branch) → AreNamed r 0 asks o b → b ≡ Some x → (n : Name) × IsNamed r 0 asks n x
+name_by r asks None None x is e = absurd (cc)
+name_by r asks (Some n) (Some b) x is e = (n, subst (λ y. IsNamed r 0 asks n y) (some_same b x e) is)
+name_by r asks None (Some b) x is e = absurd is
+name_by r asks (Some n) None x is e = absurd is
+
+pub has_name : (r : Rates) (order : List Asker) (t : LimitTree) (k i : ℕ) (b : Branch) (d : Asker) → IsTickTree r 0 (map ask_in order) t → IsBranch t k b → IsTrue (b.holds i) → i < length order → HasNameOf r (map ask_in order) t k (get_or order i d).1
+has_name r order t k i b d tree is holds less =
+    let named = name_by r (map ask_in order) (tree.name k) (t.branch k) b (tree.named k) is in (
+      named.0,
+      subst IsTrue (named.1.holds i ∙ alike_at r named.0 order i d less) holds,
+      λ x isx. subst (λ y. IsNamed r 0 (map ask_in order) named.0 y) (same_branch t k b x is isx) named.1,
+    )
+
+pub leaves_are : (r : Rates) (order : List Asker) (t : LimitTree) → IsTickTree r 0 (map ask_in order) t → length t.wants ≡ length order
+leaves_are r order t tree = ap length tree.wants ∙ (length-map (map ask_in order) want_of ∙ length-map order ask_in)
+
+-- a name that is no other is that of the group
+pub group_name : (r : Rates) (a : Ask) (asks : List Ask) (t : LimitTree) (k : ℕ) (n : Name) (group : ℕ) → IsCandidate r a n → IsNameOf r asks t k n → ¬ IsNameOf r asks t k Server → ¬ IsNameOf r asks t k (Direction a.way) → ¬ IsNameOf r asks t k (User a.way a.user)
+    → ¬ IsNameOf r asks t k (Session a.way a.user a.session) → group_of r a.user ≡ Some group → IsNameOf r asks t k (Group a.way group)
+group_name r a asks t k n group (inl e) is s d u x g = absurd (s (subst (IsNameOf r asks t k) e is))
+group_name r a asks t k n group (inr (inl e)) is s d u x g = absurd (d (subst (IsNameOf r asks t k) e is))
+group_name r a asks t k n group (inr (inr (inl e))) is s d u x g =
+    subst (IsNameOf r asks t k) (e.2 ∙ ap (λ (h : ℕ). Group a.way h) (some_same e.0 group (sym e.1 ∙ g))) is
+group_name r a asks t k n group (inr (inr (inr (inl e)))) is s d u x g = absurd (u (subst (IsNameOf r asks t k) e is))
+group_name r a asks t k n group (inr (inr (inr (inr e)))) is s d u x g = absurd (x (subst (IsNameOf r asks t k) e is))
+
+pub entry_at : (c : List (Option ℕ)) (leaf count : ℕ) (o : Option ℕ) → length c ≡ count → leaf < count → get_or c leaf None ≡ o → slice_get c leaf ≡ Some o
+entry_at c leaf count o same less is = slice_get-get_or c leaf None (omega arith) ∙ ap (λ (x : Option ℕ). Some x) is

@@ -1,0 +1,7 @@
+pub mod AdmitLemmas
+pub mod HeldLemmas
+pub mod OrderLemmas
+pub mod Pushed
+pub mod SecondTree
+pub mod ShareLemmas
+pub mod TenLemmas

@@ -1,0 +1,6 @@
+use Rattle.std.proofs.Common.{◌≡◌, map, take}
+use Rattle.rate_plan.specs.Tens.{ten_group}
+use Rattle.rate_plan.proofs.tens.ten_groups.Given as goal
+
+abbrev pub invariant-loop-row : goal.invariant-loop-row
+invariant-loop-row g l = l.tens.items ≡ map ten_group (take l.row-index l.rows)

@@ -1,0 +1,120 @@
+//! The name of the branch that holds back a transfer.
+
+ghost use Rattle.std.specs.Prelude.{◌≡◌, ◌<◌, ◌↔◌, ℕ, IsTrue, length, map};
+ghost use Rattle.limit_tree.specs.Outline.{leaf_range, limits as seen};
+ghost use Rattle.line_rates.specs.Names.{bears as counts};
+ghost use Rattle.line_rates.specs.TickTree.{ask_in, bears_at};
+ghost use Rattle.rate_plan.specs.Named.{HasNameOf, IsNameOf};
+
+use limit_tree::{NodeKind, Place, Tree};
+use line_rates::{Ask, Limits, Name, rate_limit};
+use std::alloc::Allocator;
+
+/// Returns whether an ask counts under a name.
+pub(crate) fn bears<L: Allocator>(limits: &Limits<L>, name: Name, ask: Ask) -> bool
+    ensures bears { result ≡ counts limits.now name ask }
+{
+    match name {
+        Name::Server => true,
+        Name::Direction(way) => ask.way == way,
+        Name::Group(way, group) => ask.way == way && limits.group_of(ask.user) == Some(group),
+        Name::User(way, user) => ask.way == way && ask.user == user,
+        Name::Session(way, user, session) => {
+            ask.way == way && (ask.user == user && ask.session == session)
+        }
+    }
+}
+
+fn is_same(one: bool, other: bool) -> bool
+    ensures same { IsTrue result ↔ (one ≡ other) }
+{
+    one == other
+}
+
+fn is_limit(limit: Option<u64>, other: Option<u64>) -> bool
+    ensures same { IsTrue result ↔ (limit ≡ other) }
+{
+    limit == other
+}
+
+// Returns whether the leaves of a node are those that count under a name.
+fn holds_alike<L: Allocator>(
+    limits: &Limits<L>,
+    order: &[(u8, Ask)],
+    place: Place,
+    name: Name,
+) -> bool
+    ensures alike { IsTrue result ↔ ((i : ℕ) → i < length order.now
+        → leaf_range place.first place.leaves i
+        ≡ bears_at limits.now name (map ask_in order.now) i) }
+{
+    for leaf in 0..order.len() {
+        if !is_same(place.holds(leaf), bears(limits, name, order[leaf].1)) {
+            return false;
+        }
+    }
+    true
+}
+
+// Returns whether the branch of a node is that of a name.
+fn is_name_of<L: Allocator, A: Allocator>(
+    limits: &Limits<L>,
+    order: &[(u8, Ask)],
+    tree: &Tree<A>,
+    node: usize,
+    name: Name,
+) -> bool
+    requires node { node < length tree.now }
+    requires leaves { length (seen tree.now).wants ≡ length order.now }
+    ensures yes { IsTrue result
+        → IsNameOf limits.now (map ask_in order.now) (seen tree.now) node name }
+    ensures no { IsNameOf limits.now (map ask_in order.now) (seen tree.now) node name
+        → IsTrue result }
+{
+    let place = tree.place(node);
+    match place.kind {
+        NodeKind::Branch { limit } => {
+            is_limit(limit, rate_limit(limits.rate(name), 0))
+                && holds_alike(limits, order, place, name)
+        }
+        NodeKind::Leaf { .. } => true,
+    }
+}
+
+/// The name of the branch of a node above the leaf of an ask. Of several names with the same limit and the same leaves
+/// it is the innermost.
+pub(crate) fn name_of<L: Allocator, A: Allocator>(
+    limits: &Limits<L>,
+    order: &[(u8, Ask)],
+    tree: &Tree<A>,
+    node: usize,
+    ask: Ask,
+) -> Name
+    requires node { node < length tree.now }
+    requires leaves { length (seen tree.now).wants ≡ length order.now }
+    requires named { HasNameOf limits.now (map ask_in order.now) (seen tree.now) node ask }
+    ensures name { IsNameOf limits.now (map ask_in order.now) (seen tree.now) node result }
+{
+    let Ask {
+        user,
+        session,
+        way,
+        ..
+    } = ask;
+    if is_name_of(limits, order, tree, node, Name::Session(way, user, session)) {
+        return Name::Session(way, user, session);
+    }
+    if is_name_of(limits, order, tree, node, Name::User(way, user)) {
+        return Name::User(way, user);
+    }
+    if is_name_of(limits, order, tree, node, Name::Direction(way)) {
+        return Name::Direction(way);
+    }
+    if is_name_of(limits, order, tree, node, Name::Server) {
+        return Name::Server;
+    }
+    match limits.group_of(user) {
+        Some(group) => Name::Group(way, group),
+        None => unreachable!(),
+    }
+}

@@ -1,4 +1,4 @@
-//! How long a server waits for its clients.
+//! Limits of the time that a server waits for its clients.
 //!
 //! [`Patience`] has the limits that the words of a command line state. A session keeps [`Waits`], and asks them whether
 //! its client has passed a limit.

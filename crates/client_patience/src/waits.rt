@@ -1,4 +1,4 @@
-//! How long a client has kept its session waiting.
+//! The time that a client has kept its session waiting.
 
 ghost use Rattle.std.specs.Prelude.{◌≡◌, false, true};
 ghost use Rattle.client_patience.specs.Waits.{IsTimeOut, is_over};
@@ -27,7 +27,7 @@ pub struct Waits {
     heard: u64,
 }
 
-// Returns whether more than a limit of so many seconds has passed; 0 is no limit.
+// Returns whether more than this number of seconds has passed; 0 is no limit.
 fn is_over(since: u64, now: u64, seconds: u32) -> bool
     ensures over { result ≡ is_over since now seconds }
 {

@@ -1,7 +1,7 @@
 //! A machine's error in one word, which one thread writes and another reads.
 
-ghost use Rattle.std.specs.Prelude.{◌≡◌, ◌<ℤ◌, ◌^◌, IfNone, IfSome, None, Option, Some, ℤ, pos};
-ghost use Rattle.std.specs.IoError.{error_kind, raw_os_error};
+ghost use Rattle.std.specs.Prelude.{◌≡◌, ◌<◌, ◌^◌, ℕ, IsSome, None, Some, pos};
+ghost use Rattle.std.specs.IoError.{raw_os_error};
 ghost use Rattle.std.specs.declared.io.Error.{Error};
 
 use std::io;
@@ -12,6 +12,8 @@ const UNNUMBERED: u64 = 1 << 32;
 
 /// The word of an error: its number (errno), or `UNNUMBERED`. 0 is no error's.
 pub(crate) fn fault_word(error: io::Error) -> u64
+    ensures numbered { (n : ℕ) → 0 < n → raw_os_error error ≡ Some (pos n) → result ≡ n }
+    ensures some { 0 < result }
 {
     match error.raw_os_error() {
         Some(code) => match u64::try_from(code) {
@@ -24,6 +26,10 @@ pub(crate) fn fault_word(error: io::Error) -> u64
 
 /// The error of a word; none for 0.
 pub(crate) fn fault_of(word: u64) -> Option<io::Error>
+    ensures none { word ≡ 0 → result ≡ None }
+    ensures numbered { 0 < word → word < 2 ^ 31
+        → (error : Error) × (result ≡ Some error) × (raw_os_error error ≡ Some (pos word)) }
+    ensures some { 0 < word → IsSome result }
 {
     if word == 0 {
         return None;

@@ -10,13 +10,12 @@ use passive_ports::AdmitFault;
 use server_house::{House, NotServed, ServerEvent, ServerHooks, ShutdownStage};
 use socket_host::serve_session;
 use std::alloc::Global;
-use std::io;
 use std::io::{ErrorKind, Write};
 use std::net::{Net, Shutdown, SocketAddr, TcpListener, TcpStream};
 use std::sync::Wait;
-use std::thread;
 use std::thread::{Builder, Threads};
 use std::time::{Clock, Duration};
+use std::{io, thread};
 use virtual_tree::Store;
 
 /// The stack of a session's thread, in octets.
@@ -152,13 +151,16 @@ where
     let now = micros(rt);
     let is_due = is_reported(&error, reported, now);
     if is_due {
-        house.handler.lock(rt).on_server(ServerEvent::NotAccepted(error));
+        house
+            .handler
+            .lock(rt)
+            .on_server(ServerEvent::NotAccepted(error));
     }
     thread::sleep(rt, Duration::from_millis(PAUSE));
     if is_due { Some(now) } else { reported }
 }
 
-// Admits a connection, or tells its client why it is not served.
+// Admits a connection, or refuses it with the reason.
 fn admit<R, S, H, B>(
     rt: &R,
     house: &House<S, H, B>,

@@ -4,7 +4,8 @@ use Rattle.std.specs.declared.alloc.Global.{Global}
 use Rattle.ftp_terms.specs.LineText.{text_of}
 use Rattle.session_table.specs.declared.settings.Settings.{Settings}
 
--- the address that a client is told: the stated one, or that at which it arrived if 0.0.0.0 is stated
+-- the address of replies to PASV: the stated one, or that at which the client arrived if it is
+-- 0.0.0.0
 abbrev pub announced : List ℕ → List ℕ → List ℕ
 announced (zero ∷ zero ∷ zero ∷ zero ∷ []) arrived = arrived
 announced stated arrived = stated

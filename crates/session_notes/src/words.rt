@@ -114,7 +114,9 @@ impl fmt::Display for CauseText {
         match error_of(self.0) {
             None => Ok(()),
             Some(error) => match error.kind() {
-                ErrorKind::WouldBlock | ErrorKind::TimedOut => f.write_str(": no octet moved in time"),
+                ErrorKind::WouldBlock | ErrorKind::TimedOut => f.write_str(
+                    ": no octet moved in time",
+                ),
                 _ => write!(f, ": {error}"),
             },
         }

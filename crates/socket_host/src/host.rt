@@ -25,23 +25,20 @@ use handler_hooks::{Hooks, tell};
 use lent_parts::PartsName;
 use line_rates::Limits;
 use rate_floors::Floors;
-use server_house::{
-    EndCause, House, ServerHooks, SessionEvent, ShutdownStage, copy_settings,
-};
+use server_house::{EndCause, House, ServerHooks, SessionEvent, ShutdownStage, copy_settings};
 use session_table::{Action, End, HookCall, Input, Job, Settings, Text};
 use socket_side::SocketSide;
 use std::alloc::{AllocError, Global};
-use std::io;
 use std::net::{Net, TcpListener, TcpStream};
 use std::sync::Wait;
-use std::thread;
 use std::time::{Clock, Duration};
+use std::{io, thread};
 use virtual_tree::Store;
 
 /// The reply to a client whose session the server ends.
 const ENDING: &[u8] = b"421 Server is ending\r\n";
 
-/// How often a session that delays a reply looks whether the server ends, in milliseconds.
+/// Interval between two looks, of a session that delays a reply, whether the server ends, in milliseconds.
 const LOOK: u64 = 50;
 
 // The last reply to a client that has passed a limit of time.
@@ -170,7 +167,9 @@ where
     fn delay(&self, seconds: u32) {
         let since = micros(self.rt);
         for _ in self.rt.forever() {
-            if self.is_ending() || has_passed(since, micros(self.rt), u64::from(seconds) * 1_000_000) {
+            if self.is_ending()
+                || has_passed(since, micros(self.rt), u64::from(seconds) * 1_000_000)
+            {
                 return;
             }
             thread::sleep(self.rt, Duration::from_millis(LOOK));

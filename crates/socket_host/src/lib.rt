@@ -3,7 +3,7 @@
 //! A [`SocketHost`] is what `control_session` runs a session over: it lends the store and the floors of the house for
 //! each step, behind their locks, reads and writes the control connection, and has the data side of the session.
 //! [`serve_session`] runs a client's whole session, from the greeting to the end. A read waits at most 200 ms, or until
-//! a running transfer has ended. A client that passes a limit of time is told so and is gone for the session (`waits`).
+//! a running transfer has ended. A client that passes a limit of time is told so, and is gone for the session (`client_patience`).
 #![tactic(auto)]
 
 mod control;

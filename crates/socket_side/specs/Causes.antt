@@ -1,4 +1,4 @@
--- Why a transfer ended.
+-- Reasons for the ends of transfers.
 use Rattle.std.specs.Prelude.{◌≡◌, ⊤, Bool, true, false, IsTrue, Option, Some, None}
 use Rattle.std.specs.declared.io.Error.{Error}
 use Rattle.data_sockets.specs.declared.cell.TransferEnd.{TransferEnd}
@@ -52,7 +52,7 @@ module _ {R K : Type 0} where
 
   -- the reason for the end that is taken
   abbrev pub TakenCause
-    : Running R K → Option (TransferEnd K) → Option EndCause → Option EndCause → Type 0
+      : Running R K → Option (TransferEnd K) → Option EndCause → Option EndCause → Type 0
   TakenCause running.Nothing end old new = new ≡ old
   TakenCause (running.Awaited listener port job since) end old new = new ≡ old
   TakenCause (running.Moving connection is_aborted) None old new = new ≡ old
@@ -62,7 +62,7 @@ module _ {R K : Type 0} where
 
   -- the reason for the end that a look reports
   abbrev pub LookCause
-    : Running R K → Option (DataEvent K) → Option EndCause → Option EndCause → Type 0
+      : Running R K → Option (DataEvent K) → Option EndCause → Option EndCause → Type 0
   LookCause running.Nothing event old new = new ≡ old
   LookCause (running.Awaited listener port job since) event old new = ⊤
   LookCause (running.Moving connection is_aborted) None old new = new ≡ old

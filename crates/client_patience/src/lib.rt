@@ -10,12 +10,14 @@
 //!     login_delay: 1,
 //! };
 //! let mut waits = Waits::new(0); // a client has connected; moments are microseconds
-//! holds(rt, waits.time_out(patience, 60_000_000).is_none());
-//! holds(rt, waits.time_out(patience, 60_000_001) == Some(TimeOut::Login));
+//! holds(&rt, waits.time_out(patience, 60_000_000).is_none());
+//! let late = waits.time_out(patience, 60_000_001);
+//! holds(&rt, late == Some(TimeOut::Login));
 //! waits.log_in();
 //! waits.hear(60_000_001); // its lines came
-//! holds(rt, waits.time_out(patience, 960_000_001).is_none());
-//! holds(rt, waits.time_out(patience, 960_000_002) == Some(TimeOut::Idle));
+//! holds(&rt, waits.time_out(patience, 960_000_001).is_none());
+//! let late = waits.time_out(patience, 960_000_002);
+//! holds(&rt, late == Some(TimeOut::Idle));
 //! ```
 #![tactic(auto)]
 

@@ -1,5 +1,5 @@
 //! Tests of the parts of the server that need no desk and no session: counts that threads wait on, the mender of
-//! control text, the pace of rounds, and ports that rest. They call only public functions.
+//! control text, the pace of rounds, limits of time, and ports that rest. They call only public functions.
 #![tactic(auto)]
 
 #[cfg(test)]
@@ -14,3 +14,5 @@ mod ports;
 mod sockets;
 #[cfg(test)]
 mod texts;
+#[cfg(test)]
+mod waits;

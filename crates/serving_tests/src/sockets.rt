@@ -68,6 +68,9 @@ where
     holds(rt, near.read(&mut buffer).ok() == Some(0)); // nothing more is sent
     other.abort();
     holds(rt, connection.read(&mut buffer).ok() == Some(0));
+    holds(rt, other.fault().is_none());
+    holds(rt, connection.write(b"abc").is_err());
+    holds(rt, other.fault().is_some()); // each handle has the error
 }
 
 #[test]

@@ -4,9 +4,10 @@ import re
 import resource
 import signal
 import socket
+import subprocess
 import time
 
-from serving_kit import SECONDS, Client, Server, same, until, want
+from serving_kit import SECONDS, SERVER, Client, Server, is_free, same, until, want
 
 MUCH = 24_000_000
 # A time limit of the server in these rows, in seconds.
@@ -265,6 +266,29 @@ def reasons_are_noted():
             same(sum(bool(re.fullmatch(one, it)) for it in notes), 1, f"notes of {one!r} among {notes}")
 
 
+def streams_that_are_closed():
+    """A server that is started with its three streams closed writes no note into a file of a client."""
+    server = Server(sessions=1, root="folder", files={"f": b"a\nb"})
+    server.configure()
+    words = ["/bin/sh", "-c", 'exec "$@" 0<&- 1>&- 2>&-', "sh", SERVER, "serve", "ftpd.toml"]
+    with open(f"{server.place}/notes", "wb+") as server.notes, open(f"{server.place}/output", "wb+") as server.output:
+        server.process = subprocess.Popen(words, cwd=server.place, env={})
+        try:
+            until(lambda: not is_free(server.port), "the port")
+            client = Client(server)
+            same(client.retrieve("f"), b"a\nb", "the file")
+            for number in range(3):
+                client.store(f"up{number}", b"u" * 1000)
+            client.says("CWD nowhere", "550 No such file or directory")
+            client.quit()
+            until(lambda: server.process.poll() is not None, "the server's end")
+            same(server.process.returncode, 0, "its status")
+            for number in range(3):
+                same(server.get(f"up{number}"), b"u" * 1000, "an upload")
+        finally:
+            server.__exit__(None, None, None)
+
+
 def a_start_that_fails_says_why():
     """A port that is taken or not to be had: the line above the fault's name has the address, and the machine's reason."""
     server = Server()
@@ -289,5 +313,6 @@ ROWS = [
     a_wrong_password_takes_time,
     the_address_of_a_port,
     reasons_are_noted,
+    streams_that_are_closed,
     a_start_that_fails_says_why,
 ]

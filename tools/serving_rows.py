@@ -503,8 +503,12 @@ def active_connections():
                 with data, data.makefile("rb") as text:
                     same(text.read(), b"a\nb", "the file")
                 client.says(None, "226 Transfer complete")
-            client.says(line, "200 OK")
-            client.says("RETR f", "150 Opening data connection", "425 No data connection")
+            with socket.socket() as nobody:
+                # (held, so that no other row listens there meanwhile)
+                nobody.setsockopt(socket.SOL_SOCKET, socket.SO_REUSEADDR, 1)
+                nobody.bind(("127.0.0.1", port))
+                client.says(line, "200 OK")
+                client.says("RETR f", "150 Opening data connection", "425 No data connection")
         client.says("PORT 127,0,0,2,200,0", "501 Foreign address")
         client.says("PORT 127,0,0,1,0,22", "501 Privileged port")
         client.says("RETR f", "425 Use PASV, EPSV, PORT or EPRT first")

@@ -42,9 +42,11 @@ impl<K: Drop> TransferCell<K> {
         &self.name
     }
 
-    /// Reports an end, and wakes the session.
+    /// Reports an end, and wakes the session. It is counted before anybody can take it, so a count that is read after an
+    /// end was taken includes it, and the session's next wait is for the next end.
     pub fn tell<R: Wait>(&self, rt: &R, end: End, sink: Option<K>) {
-        *self.told.lock(rt) = Some(TransferEnd { end, sink });
+        let mut told = self.told.lock(rt);
+        *told = Some(TransferEnd { end, sink });
         self.count.signal();
     }
 

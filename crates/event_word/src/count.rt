@@ -40,10 +40,12 @@ impl EventCount {
     /// Increases the count and wakes the waiter.
     ///
     /// The waiter announces that it sleeps and then compares the count; this increases the count and then checks
-    /// whether the waiter sleeps. So one of the two sees the other.
+    /// whether the waiter sleeps. So one of the two sees the other. Only the waiter takes its announcement back:
+    /// otherwise that of its next wait could be taken back by a signal of the wait before, and the signal after that
+    /// would wake nobody (`tools/wake-model`).
     pub fn signal(&self) {
         self.raise();
-        if self.parked.load(Ordering::SeqCst) != 0 && self.parked.swap(0, Ordering::SeqCst) != 0 {
+        if self.parked.load(Ordering::SeqCst) != 0 {
             self.word.wake_one();
         }
     }

@@ -121,7 +121,7 @@ ordered letters =
     ++ (word_if letters 100 (codes "d") ++ (word_if letters 102 (codes "f")
     ++ (word_if letters 109 (codes "m") ++ word_if letters 119 (codes "w")))))))
 
--- what the letters permit
+-- the words of all that the letters permit, each followed by a comma and a blank
 unfoldable pub permitted : List ℕ → List ℕ
 permitted letters =
     word_if letters 101 (codes "change directory, ") ++ (word_if letters 108 (codes "list, ")
@@ -154,18 +154,22 @@ warning_text (FewPorts first last connections) =
 warning_text (NoPassword user) =
     codes "user " ++ user.now ++ codes ": the password is empty, and anybody may log in"
 warning_text (Unbrowsed user letters) =
-    codes "user " ++ user.now ++ codes ": clients need the letters e and l; permitted: "
-    ++ permitted letters.now ++ codes "nothing else"
+    codes "user " ++ (user.now ++ (codes ": clients need the letters e and l; permitted: "
+    ++ (permitted letters.now ++ codes "nothing else")))
 warning_text (NoFirstSession user) =
     codes "user " ++ user.now
     ++ codes ": not even the first session can be guaranteed what each is, and no login is accepted"
 warning_text (NoSecondSession user) =
     codes "user " ++ user.now ++ codes ": a second session cannot be guaranteed what each is"
 warning_text (NoHome user home) =
-    home.now ++ codes ", the home of user " ++ user.now ++ codes ", is no directory"
+    home.now ++ (codes ", the home of user " ++ (user.now ++ codes ", is no directory"))
 
 abbrev pub warning_line : Warning → List ℕ
 warning_line warning = codes "warning: " ++ warning_text warning ++ 10 ∷ []
+
+-- the texts of warnings, a line each
+abbrev pub warning_row : Warning → List ℕ
+warning_row warning = warning_text warning ++ 10 ∷ []
 
 -- ---- all
 

@@ -124,7 +124,8 @@ is_single server groups user =
 
 -- the password is empty; that of `anonymous` is of no account
 abbrev pub is_open : UserTable → Bool
-is_open user = nat_eq (length user.password.now) 0 && not (bytes_eq user.name.now (codes "anonymous"))
+is_open user =
+    nat_eq (length user.password.now) 0 && not (bytes_eq user.name.now (codes "anonymous"))
 
 -- the letters permit to change directories and to list them
 abbrev pub may_browse : List ℕ → Bool

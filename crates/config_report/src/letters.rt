@@ -33,8 +33,7 @@ pub(crate) fn may_browse(letters: &str) -> bool
 pub(crate) fn ordered(alloc: Global, letters: &str) -> Result<String, AllocError>
     ensures ordered { IfOk result (λ text. string_bytes text ≡ ordered letters.now) }
 {
-    format!(
-        in alloc;
+    format!(in alloc;
         "{}{}{}{}{}{}{}{}",
         word_if(letters, b'e', "e"),
         word_if(letters, b'l', "l"),

@@ -16,7 +16,7 @@ mod roots;
 mod warning;
 mod warnings;
 
-pub use reporting::report;
+pub use reporting::{report, warning_texts};
 pub use roots::is_nearly_memory;
 pub use warning::Warning;
 pub use warnings::warnings_of;

@@ -4,7 +4,7 @@ ghost use Rattle.std.specs.Prelude.{◌≡◌, ◌++◌, IfOk, OnOk, string_byte
 ghost use Rattle.std.specs.List.{flat_map};
 ghost use Rattle.std.specs.Net.Addr.{ipv4_octets};
 ghost use Rattle.std.specs.Net.Text.{ipv4_text};
-ghost use Rattle.config_report.specs.Lines.{both_line, group_rates, listens_line, part_line, port_text, ports_text, rate_column, rate_columns, rates_head, report_text, server_lines, server_rates, serves_line, takes_line, tells_line, user_line, user_rates, users_head, warning_line, ways_line};
+ghost use Rattle.config_report.specs.Lines.{both_line, group_rates, listens_line, part_line, port_text, ports_text, rate_column, rate_columns, rates_head, report_text, server_lines, server_rates, serves_line, takes_line, tells_line, user_line, user_rates, users_head, warning_line, warning_row, ways_line};
 
 use crate::letters::ordered;
 use crate::warning::Warning;
@@ -247,6 +247,18 @@ fn write_warnings(text: &mut String, warnings: &[Warning]) -> Result<(), AllocEr
         writeln!(text, "warning: {warning}")?;
     }
     Ok(())
+}
+
+/// Returns the texts of warnings, a line each.
+pub(crate) fn warning_rows(alloc: Global, warnings: &[Warning]) -> Result<String, AllocError>
+    ensures rows { IfOk result
+        (λ text. string_bytes text ≡ flat_map warning_row warnings.now) }
+{
+    let mut text = String::new(alloc);
+    for warning in warnings {
+        writeln!(&mut text, "{warning}")?;
+    }
+    Ok(text)
 }
 
 /// Returns all lines: of the server, of rates, of users, and the warnings.

@@ -85,7 +85,10 @@ impl fmt::Display for Warning<'_> {
                 "{connections} connections have fewer passive ports, {first} to {last}"
             ),
             Warning::NoPassword { user } => {
-                write!(f, "user {user}: the password is empty, and anybody may log in")
+                write!(
+                    f,
+                    "user {user}: the password is empty, and anybody may log in"
+                )
             }
             Warning::Unbrowsed { user, letters } => write!(
                 f,

@@ -2,7 +2,7 @@
 
 use crate::expect::holds;
 use config_file::{Fault, KeyFault, TableName, Tables, read_tables, rows_of};
-use config_report::{Warning, report, warnings_of};
+use config_report::{Warning, is_nearly_memory, report, warning_texts, warnings_of};
 use server_config::{Config, ConfigFault, ServedStore, migrate};
 use std::process::Abort;
 use toml::Table;
@@ -65,12 +65,30 @@ fn warnings(rt: &(impl Abort + AllocGlobal), tables: &Tables<'_>) {
     );
 }
 
+const TWO_PORTS: &str =
+    "the machine takes ports 32768 to 60999 for its own connections; passive ones are 40000 to 40001
+64 connections have fewer passive ports, 40000 to 40001
+";
+
+/// Checks the texts of the same warnings.
+fn texts_of_warnings(rt: &(impl Abort + AllocGlobal)) {
+    let texts = warning_texts(rt.alloc(), SMALL.as_bytes()).expect(rt, "a configuration");
+    holds(rt, texts.as_str() == TWO_PORTS);
+}
+
+#[test]
+fn words_nearly_memory(rt: HostRuntime) {
+    holds(&rt, is_nearly_memory("Memory") && is_nearly_memory("MEMORY"));
+    holds(&rt, !is_nearly_memory("memory") && !is_nearly_memory("memory2"));
+}
+
 #[test]
 fn examples(rt: HostRuntime) {
     let document = toml::table_from_str(rt.alloc(), SMALL).expect(&rt, "a document");
     config_file(&rt, &document).expect(&rt, "tables");
     let tables = read_tables(rt.alloc(), &document).expect(&rt, "tables");
     warnings(&rt, &tables);
+    texts_of_warnings(&rt);
     server_config(&rt).expect(&rt, "a configuration");
     config_report(&rt).expect(&rt, "a report");
 }

@@ -22,7 +22,7 @@ use std::time::Clock;
 use text_io::TextWriter;
 use virtual_tree::StoreFault;
 
-/// What the words of a command line ask a server for.
+/// A service that the words of a command line ask for.
 #[derive(Drop)]
 pub(crate) struct AskedService {
     config: Config,

@@ -81,5 +81,6 @@ AreCommandOpened opens old new refused (CheckConfig config) ending = opens old c
 AreCommandOpened opens old new refused (Migrate config) ending = opens old config.now new
 AreCommandOpened opens old new refused (Script config) ending =
     AreScriptOpened opens old new refused config.now ending
-AreCommandOpened opens old new refused (Serve config stop_file patience) ending = opens old config.now new
+AreCommandOpened opens old new refused (Serve config stop_file patience) ending =
+    opens old config.now new
 AreCommandOpened opens old new refused (Plan config transfers) ending = opens old config.now new

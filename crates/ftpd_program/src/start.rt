@@ -4,7 +4,7 @@ use config_report::is_nearly_memory;
 use std::net::Ipv4Addr;
 use std::{fmt, io};
 
-/// What a server could not have at its start. It prints as the line above the name of its [`crate::ServeFault`]; paths
+/// Something that a server could not have at its start. It prints as the line above the name of its [`crate::ServeFault`]; paths
 /// are those of the command line and of the configuration.
 #[derive(Debug, Drop)]
 pub enum StartFault {

@@ -111,7 +111,7 @@ fn told_of(
 
 /// The plan of the transfers that a word states, by a configuration's text: who gets how much of a second, and which
 /// limit holds each back.
-pub fn plan_report(alloc: Global, octets: &[u8], wishes: &str) -> Result<String, NoPlan>
+pub fn plan_lines(alloc: Global, octets: &[u8], wishes: &str) -> Result<String, NoPlan>
     ensures planned { IfOk result (λ _. IsPlanReport octets.now) }
     ensures fault { IfErr result (IsNoPlan octets.now) }
 {

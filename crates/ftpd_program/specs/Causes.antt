@@ -82,4 +82,5 @@ AreCommandOpened opens old new refused (Migrate config) ending = opens old confi
 AreCommandOpened opens old new refused (Script config) ending =
     AreScriptOpened opens old new refused config.now ending
 AreCommandOpened opens old new refused (Serve config stop_file patience) ending = opens old config.now new
-AreCommandOpened opens old new refused (Plan config transfers) ending = opens old config.now new
+AreCommandOpened opens old new refused (Plan config transfers) ending =
+    opens old config.now new

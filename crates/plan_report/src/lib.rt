@@ -1,4 +1,4 @@
-//! Who would get how much of a second by a configuration, and which limit holds each back: as lines, or as JSON.
+//! Plans of a configuration, as lines: the shares of a second, and the limit that holds each transfer back.
 //!
 //! ```text
 //! let text = plan_lines(rt.alloc(), SMALL.as_bytes(), "ann=1")?; // a server and the user `ann`

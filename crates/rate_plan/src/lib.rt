@@ -1,4 +1,4 @@
-//! Who would get how much of a second, and which limit holds each back, of transfers that want all they can get.
+//! Plans: the shares of a second of transfers that want all they can get, and the limit that holds each back.
 //!
 //! `plan_of` makes the tree of a second by the rates of a line (`tens`: that of a tick by ten times the rates), after the
 //! sessions were admitted one after the other (`admission`), shares it (`shares`), and finds the name of each transfer's
@@ -26,5 +26,5 @@ mod tens;
 pub use asks::Transfer;
 pub use fault::Unplanned;
 pub use plan::{MAX_EXACT, plan_of};
-pub use shares::Share;
+pub use shares::TransferShare;
 pub use tens::MAX_PLANNED;

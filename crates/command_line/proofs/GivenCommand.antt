@@ -173,23 +173,24 @@ check_is found (Check sheet grants) rows word also named first second (other, sa
 
 -- a command of one of the names on sheets is one on a sheet
 sheet_named : (P : SheetWords → Type 0) (found : Option (Text × List Row)) (command : Words) (rows : List Row) (name : Text) → found ≡ Some (name, rows)
-    → bytes_eq name (codes "check-config") ≡ false → bytes_eq name (codes "migrate") ≡ false → bytes_eq name (codes "script") ≡ false → bytes_eq name (codes "serve") ≡ false
+    → bytes_eq name (codes "check-config") ≡ false → bytes_eq name (codes "migrate") ≡ false → bytes_eq name (codes "script") ≡ false → bytes_eq name (codes "serve") ≡ false → bytes_eq name (codes "plan") ≡ false
     → ((words : SheetWords) → IsSheetFound found words → P words) → IsFound found command → IsOfSheets P command
-sheet_named P found (Sheet words) rows name named config migrate script serve holds is = holds words is
-sheet_named P found (CheckConfig config) rows name named config_apart migrate_apart script_apart serve_apart holds (other, same, given) = absurd (different _ _ _ _ _ config_apart named same)
-sheet_named P found (Migrate config) rows name named config_apart migrate_apart script_apart serve_apart holds (other, same, given) = absurd (different _ _ _ _ _ migrate_apart named same)
-sheet_named P found (Script config) rows name named config_apart migrate_apart script_apart serve_apart holds (other, same, given) = absurd (different _ _ _ _ _ script_apart named same)
-sheet_named P found (Serve config stop_file patience) rows name named config_apart migrate_apart script_apart serve_apart holds (other, same, given, path, also) = absurd (different _ _ _ _ _ serve_apart named same)
+sheet_named P found (Sheet words) rows name named config migrate script serve plan holds is = holds words is
+sheet_named P found (CheckConfig config) rows name named config_apart migrate_apart script_apart serve_apart plan_apart holds (other, same, given) = absurd (different _ _ _ _ _ config_apart named same)
+sheet_named P found (Migrate config) rows name named config_apart migrate_apart script_apart serve_apart plan_apart holds (other, same, given) = absurd (different _ _ _ _ _ migrate_apart named same)
+sheet_named P found (Script config) rows name named config_apart migrate_apart script_apart serve_apart plan_apart holds (other, same, given) = absurd (different _ _ _ _ _ script_apart named same)
+sheet_named P found (Serve config stop_file patience) rows name named config_apart migrate_apart script_apart serve_apart plan_apart holds (other, same, given, path, also) = absurd (different _ _ _ _ _ serve_apart named same)
+sheet_named P found (Plan config transfers) rows name named config_apart migrate_apart script_apart serve_apart plan_apart holds (other, same, given, also) = absurd (different _ _ _ _ _ plan_apart named same)
 
 pub share_of_sheets : (found : Option (Text × List Row)) (command : Words) (rows : List Row) (word : Text) → found ≡ Some (codes "share", rows) → first_of (codes "SHEET") rows ≡ Some word
     → IsFound found command → IsOfSheets (IsShare word) command
 share_of_sheets found command rows word named first is =
-    sheet_named (IsShare word) found command rows (codes "share") named refl refl refl refl (λ words held. share_is found words rows word named first held) is
+    sheet_named (IsShare word) found command rows (codes "share") named refl refl refl refl refl (λ words held. share_is found words rows word named first held) is
 
 pub check_of_sheets : (found : Option (Text × List Row)) (command : Words) (rows : List Row) (word also : Text) → found ≡ Some (codes "check", rows) → first_of (codes "SHEET") rows ≡ Some word
     → first_of (codes "GRANTS") rows ≡ Some also → IsFound found command → IsOfSheets (IsCheck word also) command
 check_of_sheets found command rows word also named first second is =
-    sheet_named (IsCheck word also) found command rows (codes "check") named refl refl refl refl (λ words held. check_is found words rows word also named first second held) is
+    sheet_named (IsCheck word also) found command rows (codes "check") named refl refl refl refl refl (λ words held. check_is found words rows word also named first second held) is
 
 pub check_config_is : (found : Option (Text × List Row)) (command : Words) (rows : List Row) (word : Text) → found ≡ Some (codes "check-config", rows) → first_of (codes "CONFIG") rows ≡ Some word
     → IsFound found command → IsCheckConfig word command

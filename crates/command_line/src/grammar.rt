@@ -205,7 +205,8 @@ fn serve_command<'a>(alloc: Global) -> Result<Command<'a>, AllocError>
 fn plan_command<'a>(alloc: Global) -> Result<Command<'a>, AllocError>
     ensures plan { IfOk result (λ c. app_of c ≡ plan) }
 {
-    let about = "Plan transfers by a configuration: who would get how much, and which limit holds whom back";
+    let about =
+        "Plan transfers by a configuration: who would get how much, and which limit holds whom back";
     let transfers = "Transfers of users, as `ann=1,bob:up=2`";
     let command = config_command(alloc, "plan", about, ABOUT_PLAN, CONFIG_FILE)?;
     with_file(alloc, command, "TRANSFERS", transfers)

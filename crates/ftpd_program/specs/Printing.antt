@@ -13,8 +13,8 @@ use Rattle.ftpd_program.specs.declared.printing.Print.TheVariants.{Report, Lates
 use Rattle.ftpd_program.specs.declared.printing.PrintFault.{PrintFault}
 use Rattle.ftpd_program.specs.declared.printing.PrintFault.TheVariants.{Config, Text, Transfers}
 
--- the report on the configuration of a text, or a text that has the same configuration in version 2;
--- of a plan only that transfers are planned by the configuration's rates
+-- the report on the configuration of a text; or a text that has the same configuration in version
+-- 2; of a plan only that transfers are planned by the rates of the configuration
 abbrev pub IsPrintOf : Print → List ℕ → List ℕ → Type 0
 IsPrintOf Report text printed = IsReportOf text printed
 IsPrintOf Latest text printed = IsMigrated text printed

@@ -6,7 +6,7 @@ ghost use Rattle.ftpd_program.specs.Printing.{AppendsPrint, IsPlanRefusal, IsPri
 ghost use Rattle.plan_report.specs.Reports.{IsPlanReport};
 
 use config_report::report;
-use plan_report::{NoPlan, plan_report};
+use plan_report::{NoPlan, plan_lines};
 use server_config::{ConfigFault, migrate};
 use std::alloc::Global;
 use text_io::{MAX_TEXT, TextFault, TextReader, TextWriter, read_whole, write_whole};
@@ -38,7 +38,7 @@ fn plan_about(alloc: Global, transfers: &str, octets: &[u8]) -> Result<String, P
     ensures prints { IfOk result (λ _. IsPlanReport octets.now) }
     ensures refused { IfErr result (IsPlanRefusal octets.now) }
 {
-    match plan_report(alloc, octets, transfers) {
+    match plan_lines(alloc, octets, transfers) {
         Ok(text) => Ok(text),
         Err(NoPlan::Config(fault)) => Err(PrintFault::Config(fault)),
         Err(NoPlan::Transfers { name, told }) => Err(PrintFault::Transfers { name, told }),

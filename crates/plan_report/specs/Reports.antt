@@ -3,7 +3,7 @@
 use Rattle.std.specs.Prelude.{ℕ, List, min}
 use Rattle.rate_plan.specs.Plan.{IsPlanned}
 use Rattle.rate_plan.specs.declared.asks.Transfer.{Transfer}
-use Rattle.rate_plan.specs.declared.shares.Share.{Share}
+use Rattle.rate_plan.specs.declared.shares.TransferShare.{TransferShare}
 use Rattle.line_rates.specs.Rates.{Rates}
 use Rattle.server_config.specs.Configs.{IsConfigText}
 use Rattle.server_config.specs.Refused.{IsFaultOfText}
@@ -16,7 +16,7 @@ pub record HasShares (rates : Rates) : Type 0 where
   pub sessions : ℕ
   pub lanes : ℕ
   pub transfers : List Transfer
-  pub shares : List Share
+  pub shares : List TransferShare
   pub planned : IsPlanned rates sessions lanes transfers shares
 
 -- the text has a configuration, by whose rates transfers are planned

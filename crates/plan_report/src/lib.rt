@@ -1,7 +1,7 @@
-//! Who would get how much of a second by a configuration, and which limit holds each back: as lines, or as JSON.
+//! Plans of a configuration, as lines: the shares of a second, and the limit that holds each transfer back.
 //!
 //! ```text
-//! let text = plan_report(rt.alloc(), SMALL.as_bytes(), "ann=1")?; // a server and the user `ann`
+//! let text = plan_lines(rt.alloc(), SMALL.as_bytes(), "ann=1")?; // a server and the user `ann`
 //! holds(rt, text.as_str().contains("held by"));
 //! ```
 #![tactic(auto)]
@@ -13,4 +13,4 @@ mod reporting;
 mod wishes;
 
 pub use fault::NoPlan;
-pub use reporting::plan_report;
+pub use reporting::plan_lines;

@@ -3,7 +3,7 @@
 use crate::parts::{Part, parts_of, total_of};
 use config_file::{GroupTable, ServerTable, UserTable};
 use line_rates::{Name, Way};
-use rate_plan::Share;
+use rate_plan::TransferShare;
 use std::alloc::{AllocError, Global};
 
 /// The tables of a configuration that name who is planned for.
@@ -88,7 +88,7 @@ fn write_total(text: &mut String, way: &str, total: u64, rate: u64) -> Result<()
 fn write_way(
     text: &mut String,
     way: Way,
-    shares: &[Share],
+    shares: &[TransferShare],
     rate: u64,
 ) -> Result<(), AllocError> {
     for share in shares {
@@ -99,7 +99,7 @@ fn write_way(
     Ok(())
 }
 
-fn write_both(text: &mut String, shares: &[Share], rate: u64) -> Result<(), AllocError> {
+fn write_both(text: &mut String, shares: &[TransferShare], rate: u64) -> Result<(), AllocError> {
     if rate == 0 {
         return Ok(());
     }
@@ -111,7 +111,7 @@ fn write_both(text: &mut String, shares: &[Share], rate: u64) -> Result<(), Allo
 pub(crate) fn lines_of(
     alloc: Global,
     named: Named<'_, '_>,
-    shares: &[Share],
+    shares: &[TransferShare],
 ) -> Result<String, AllocError> {
     let parts = parts_of(alloc, shares)?;
     let mut text = String::new(alloc);

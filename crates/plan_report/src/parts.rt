@@ -1,7 +1,7 @@
 //! Transfers of one user that get the same, as one part.
 
 use line_rates::{Name, Way};
-use rate_plan::Share;
+use rate_plan::TransferShare;
 use std::alloc::{AllocError, Global};
 
 /// Transfers of a user one way that get the same and are held back by the same limit.
@@ -11,9 +11,9 @@ pub struct Part {
     pub way: Way,
     /// Number of the transfers.
     pub count: usize,
-    /// What is guaranteed to each, in octets a second.
+    /// Guarantee of each, in octets a second.
     pub floor: u64,
-    /// What each gets, in octets a second.
+    /// Share of each, in octets a second.
     pub grant: u64,
     /// The limit that holds each back; of a session the first one's. None if each has all that it wants.
     pub held: Option<Name>,
@@ -26,7 +26,7 @@ fn is_alike(one: Option<Name>, other: Option<Name>) -> bool {
     }
 }
 
-fn is_of(part: Part, share: &Share) -> bool {
+fn is_of(part: Part, share: &TransferShare) -> bool {
     part.user == share.ask.user
         && part.way == share.ask.way
         && part.floor == share.floor
@@ -34,7 +34,7 @@ fn is_of(part: Part, share: &Share) -> bool {
         && is_alike(part.held, share.held)
 }
 
-fn part_of(share: &Share) -> Part {
+fn part_of(share: &TransferShare) -> Part {
     Part {
         user: share.ask.user,
         way: share.ask.way,
@@ -46,7 +46,7 @@ fn part_of(share: &Share) -> Part {
 }
 
 // The last part with one transfer more, if the share is of that part; otherwise a part of its own.
-fn add(parts: &mut Vec<Part>, share: &Share) -> Result<(), AllocError> {
+fn add(parts: &mut Vec<Part>, share: &TransferShare) -> Result<(), AllocError> {
     match parts.last().copied() {
         Some(part) if is_of(part, share) => {
             let _last = parts.pop();
@@ -59,7 +59,7 @@ fn add(parts: &mut Vec<Part>, share: &Share) -> Result<(), AllocError> {
 }
 
 /// The parts of shares, in their order.
-pub(crate) fn parts_of(alloc: Global, shares: &[Share]) -> Result<Vec<Part>, AllocError> {
+pub(crate) fn parts_of(alloc: Global, shares: &[TransferShare]) -> Result<Vec<Part>, AllocError> {
     let mut parts = Vec::new(alloc);
     for share in shares {
         add(&mut parts, share)?;
@@ -68,7 +68,7 @@ pub(crate) fn parts_of(alloc: Global, shares: &[Share]) -> Result<Vec<Part>, All
 }
 
 /// The sum of what shares of one way get, in octets a second.
-pub(crate) fn total_of(shares: &[Share], way: Way) -> u64 {
+pub(crate) fn total_of(shares: &[TransferShare], way: Way) -> u64 {
     let mut total: u64 = 0;
     for share in shares {
         if share.ask.way == way {

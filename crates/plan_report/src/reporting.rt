@@ -8,7 +8,7 @@ use crate::lines::{Named, lines_of, user_name, way_text, write_held};
 use crate::wishes::{too_many, transfers_of};
 use config_file::{Tables, read_tables};
 use line_rates::{Limits, Name};
-use rate_plan::{Share, Transfer, Unplanned, plan_of};
+use rate_plan::{Transfer, TransferShare, Unplanned, plan_of};
 use server_config::{Config, ConfigFault};
 use std::alloc::{AllocError, Global};
 
@@ -84,12 +84,7 @@ fn no_plan(
     }
 }
 
-fn told_of(
-    alloc: Global,
-    tables: &Tables,
-    limits: &Limits,
-    wishes: &str,
-) -> Result<String, NoPlan>
+fn told_of(alloc: Global, tables: &Tables, limits: &Limits, wishes: &str) -> Result<String, NoPlan>
     ensures shares { IfOk result (λ _. HasShares limits.now) }
     ensures fault { IfErr result IsNoPlanOf }
 {
@@ -111,7 +106,7 @@ fn told_of(
 
 /// The plan of the transfers that a word states, by a configuration's text: who gets how much of a second, and which
 /// limit holds each back.
-pub fn plan_report(alloc: Global, octets: &[u8], wishes: &str) -> Result<String, NoPlan>
+pub fn plan_lines(alloc: Global, octets: &[u8], wishes: &str) -> Result<String, NoPlan>
     ensures planned { IfOk result (λ _. IsPlanReport octets.now) }
     ensures fault { IfErr result (IsNoPlan octets.now) }
 {

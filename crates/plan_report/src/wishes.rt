@@ -81,7 +81,10 @@ fn twice(alloc: Global, word: &str) -> NoPlan
     ensures of { IsNoPlanOf result }
 {
     match format!(in alloc; "{word}: the user was stated for this direction before") {
-        Ok(told) => NoPlan::Transfers { name: "Twice", told },
+        Ok(told) => NoPlan::Transfers {
+            name: "Twice",
+            told,
+        },
         Err(_) => NoPlan::Memory,
     }
 }

@@ -18,7 +18,7 @@ use Rattle.rate_plan.specs.Second.{name_branch, second_limit}
 use Rattle.rate_plan.specs.Shared.{AreGrantedShares, AreTickShares, IsShareOf, IsTickHeld}
 use Rattle.rate_plan.specs.Tens.{AreTens, ten_rate}
 use Rattle.rate_plan.specs.declared.asks.Transfer.{Transfer}
-use Rattle.rate_plan.specs.declared.shares.Share.{Share}
+use Rattle.rate_plan.specs.declared.shares.TransferShare.{TransferShare}
 use Rattle.rate_plan.specs.declared.tens.TheConstants.{MAX_PLANNED}
 use Rattle.rate_plan.proofs.OrderLemmas.{IsInPlace, in_place, same_order}
 use Rattle.rate_plan.proofs.SecondTree.{at_same, limit_same, second_tree}
@@ -32,11 +32,11 @@ mapped_is f (x ∷ xs) (y ∷ ys) same each =
     let one : f x ≡ y = cc in
     ap (λ z. z ∷ map f xs) one ∙ ap (λ zs. y ∷ zs) (mapped_is f xs ys (omega arith) (λ i z e. each (suc i) z e))
 
-asks_are : (xs : List Share) → map ask_in (map share_asker xs) ≡ map share_ask xs
+asks_are : (xs : List TransferShare) → map ask_in (map share_asker xs) ≡ map share_ask xs
 asks_are [] = refl
 asks_are (x ∷ xs) = ap (λ rest. x.ask ∷ rest) (asks_are xs)
 
-floors_are : (tens : Rates) (xs : List Share) → ((i : ℕ) (s : Share) → slice_get xs i ≡ Some s → s.floor ≡ floor_of tens s.ask) → map (floor_of tens) (map share_ask xs) ≡ map share_floor xs
+floors_are : (tens : Rates) (xs : List TransferShare) → ((i : ℕ) (s : TransferShare) → slice_get xs i ≡ Some s → s.floor ≡ floor_of tens s.ask) → map (floor_of tens) (map share_ask xs) ≡ map share_floor xs
 floors_are tens [] each = refl
 floors_are tens (x ∷ xs) each =
     ap (λ (f : ℕ). f ∷ map (floor_of tens) (map share_ask xs)) (sym (each 0 x refl)) ∙ ap (λ fs. x.floor ∷ fs) (floors_are tens xs (λ i s e. each (suc i) s e))
@@ -73,7 +73,7 @@ held_same rates tens h asks t g i (Some n) is =
       },
     )
 
-leaf_shares_are : (rates tens : Rates) → AreTens rates tens → (ts : List Transfer) (asks order : List Asker) (t : LimitTree) (g : List ℕ) (leaves : List Share) → AreAsked ts asks → IsPermutation asks order → IsTickTree tens 0 (map ask_in order) t → length order ≡ length g
+leaf_shares_are : (rates tens : Rates) → AreTens rates tens → (ts : List Transfer) (asks order : List Asker) (t : LimitTree) (g : List ℕ) (leaves : List TransferShare) → AreAsked ts asks → IsPermutation asks order → IsTickTree tens 0 (map ask_in order) t → length order ≡ length g
     → IsBest t g → AreTickShares tens order t g leaves → AreLeafShares rates leaves
 leaf_shares_are rates tens h ts asks order t g leaves asked p tree count best are =
     let askers : map share_asker leaves ≡ order = mapped_is share_asker leaves order are.count (λ i s e. (are.each i s e).asker) in
@@ -88,7 +88,7 @@ leaf_shares_are rates tens h ts asks order t g leaves asked p tree count best ar
       held = λ i s e. subst (λ x. IsHeld rates x t (map share_grant leaves) i s.held) same_asks (subst (λ x. IsHeld rates (map ask_in order) t x i s.held) (sym grants) (held_same rates tens h (map ask_in order) t g i s.held (are.each i s e).held));
     }
 
-pub shares_are : (rates tens : Rates) → AreTens rates tens → (ts : List Transfer) (asks made : List Asker) (t : LimitTree) (lanes : List ℕ) (leaves shares : List Share) → AreAsked ts asks → IsPlan tens 0 asks t lanes
+pub shares_are : (rates tens : Rates) → AreTens rates tens → (ts : List Transfer) (asks made : List Asker) (t : LimitTree) (lanes : List ℕ) (leaves shares : List TransferShare) → AreAsked ts asks → IsPlan tens 0 asks t lanes
     → map (λ lane. slice_get asks lane) lanes ≡ map (λ ask. Some ask) made → AreGrantedShares tens made t leaves → IsPermutation leaves shares → IsNonDecreasingBy share_lane shares → AreShares rates ts shares
 shares_are rates tens h ts asks made t lanes leaves shares asked plan found granted same sorted =
     let order : made ≡ plan.order = same_order ts asks plan.order made lanes asked plan.all plan.lanes_are found in

@@ -32,7 +32,7 @@ pub record IsFirstRefused (p : Promises) (ts : List Transfer) (place : ℕ) : Ty
 abbrev pub IsRefusedAt : Rates → List Transfer → ℕ → Type 0
 IsRefusedAt rates ts place = (p : Promises) × AreFresh rates p × IsFirstRefused p ts place
 
--- what the session of an ask is guaranteed under a name, both ways
+-- the guarantee of an ask's session under a name, one way; and both ways
 abbrev pub guaranteed_one : Rates → Name → Way → Ask → ℕ
 guaranteed_one rates n way a =
     if bears rates n (record { user = a.user; session = a.session; way = way; want = a.want })
@@ -41,7 +41,7 @@ guaranteed_one rates n way a =
 abbrev pub guaranteed_to : Rates → Name → Ask → ℕ
 guaranteed_to rates n a = guaranteed_one rates n Down a + guaranteed_one rates n Up a
 
--- what the sessions of asks are guaranteed under a name
+-- the sum of the guarantees of the sessions of asks under a name
 abbrev pub guaranteed : Rates → Name → List Ask → ℕ
 guaranteed rates n asks = sum_by (guaranteed_to rates n) asks
 

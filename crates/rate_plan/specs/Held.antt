@@ -1,4 +1,4 @@
--- What holds back a leaf of the tree of a second.
+-- The bottleneck of a leaf of the tree of a second.
 use Rattle.std.specs.Prelude.{◌≤◌, ℕ, List, slice_index, Option, Some, None}
 use Rattle.limit_tree.specs.Sharing.{LimitTree, IsBottleneck, IsUnmet}
 use Rattle.line_rates.specs.declared.ask.Ask.{Ask}

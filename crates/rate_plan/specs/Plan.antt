@@ -12,47 +12,48 @@ use Rattle.rate_plan.specs.Refused.{AreSmallForAll}
 use Rattle.rate_plan.specs.Second.{IsSecondTree}
 use Rattle.rate_plan.specs.declared.asks.Transfer.{Transfer}
 use Rattle.rate_plan.specs.declared.plan.TheConstants.{MAX_EXACT}
-use Rattle.rate_plan.specs.declared.shares.Share.{Share}
+use Rattle.rate_plan.specs.declared.shares.TransferShare.{TransferShare}
 
-abbrev pub share_asker : Share → Asker
+abbrev pub share_asker : TransferShare → Asker
 share_asker s = (s.lane, s.ask)
 
-abbrev pub share_ask : Share → Ask
+abbrev pub share_ask : TransferShare → Ask
 share_ask s = s.ask
 
-abbrev pub share_floor : Share → ℕ
+abbrev pub share_floor : TransferShare → ℕ
 share_floor s = s.floor
 
-abbrev pub share_grant : Share → ℕ
+abbrev pub share_grant : TransferShare → ℕ
 share_grant s = s.grant
 
-abbrev pub share_lane : Share → ℕ
+abbrev pub share_lane : TransferShare → ℕ
 share_lane s = s.lane
 
 -- Shares in the order of the leaves of the tree of a second: best grants, the floors of the leaves,
 -- and for each leaf with less than it wants the name of a bottleneck.
-pub record AreLeafShares (rates : Rates) (leaves : List Share) : Type 0 where
+pub record AreLeafShares (rates : Rates) (leaves : List TransferShare) : Type 0 where
   pub tree : LimitTree
   pub second : IsSecondTree rates (map share_ask leaves) tree
   pub floors : tree.floors ≡ map share_floor leaves
   pub best : IsBest tree (map share_grant leaves)
-  pub held : (i : ℕ) (s : Share) → slice_get leaves i ≡ Some s
+  pub held : (i : ℕ) (s : TransferShare) → slice_get leaves i ≡ Some s
       → IsHeld rates (map share_ask leaves) tree (map share_grant leaves) i s.held
 
 -- The shares of transfers in a second, in the order of the transfers.
-pub record AreShares (rates : Rates) (transfers : List Transfer) (shares : List Share) : Type 0 where
+pub record AreShares (rates : Rates) (transfers : List Transfer)
+    (shares : List TransferShare) : Type 0 where
   pub asks : List Asker
-  pub leaves : List Share
+  pub leaves : List TransferShare
   pub asked : AreAsked transfers asks
   pub all : IsPermutation asks (map share_asker leaves)
   pub shared : AreLeafShares rates leaves
   pub same : IsPermutation leaves shares
   pub in_order : IsNonDecreasingBy share_lane shares
 
--- A plan of transfers: there are at most so many sessions and lanes, their guarantees are admitted,
--- and no rate above `MAX_PLANNED` could limit them.
+-- A plan of transfers: they are at most as many as sessions and lanes, their guarantees are
+-- admitted, and no rate above `MAX_PLANNED` could limit them.
 pub record IsPlanned (rates : Rates) (sessions lanes : ℕ) (ts : List Transfer)
-    (rows : List Share) : Type 0 where
+    (rows : List TransferShare) : Type 0 where
   pub few_sessions : length ts ≤ sessions
   pub few_lanes : length ts ≤ lanes
   pub admitted : AreAdmitted rates ts

@@ -22,7 +22,8 @@ abbrev pub HasLarge : Rates → Type 0
 HasLarge rates = (n : Name) × (MAX_PLANNED < rate_of rates n)
 
 -- The sessions of transfers up to a place are not admitted; the name is one that they exceed.
-pub record IsRefusedBy (rates : Rates) (ts : List Transfer) (place : ℕ) (name : Option Name) : Type 0 where
+pub record IsRefusedBy (rates : Rates) (ts : List Transfer) (place : ℕ)
+    (name : Option Name) : Type 0 where
   pub asks : List Asker
   pub asked : AreAsked ts asks
   pub at : IsRefusedAt rates ts place

@@ -6,7 +6,7 @@ use Rattle.line_rates.specs.declared.ask.Name.{Name}
 use Rattle.line_rates.specs.Names.{floor_of}
 use Rattle.line_rates.specs.Rates.{Rates}
 use Rattle.line_rates.specs.TickTree.{Asker, IsNamed, ask_in}
-use Rattle.rate_plan.specs.declared.shares.Share.{Share}
+use Rattle.rate_plan.specs.declared.shares.TransferShare.{TransferShare}
 
 -- the name of a bottleneck of the leaf; none if it has all that it wants
 abbrev pub IsTickHeld : Rates → List Ask → LimitTree → List ℕ → ℕ → Option Name → Type 0
@@ -16,7 +16,7 @@ IsTickHeld rates asks t g i (Some n) =
 
 -- the share of a leaf
 pub record IsShareOf (rates : Rates) (order : List Asker) (t : LimitTree) (g : List ℕ) (i : ℕ)
-    (s : Share) : Type 0 where
+    (s : TransferShare) : Type 0 where
   pub asker : slice_get order i ≡ Some (s.lane, s.ask)
   pub floor : s.floor ≡ floor_of rates s.ask
   pub grant : slice_get g i ≡ Some s.grant
@@ -24,13 +24,14 @@ pub record IsShareOf (rates : Rates) (order : List Asker) (t : LimitTree) (g : L
 
 -- one share for each leaf, in their order
 pub record AreTickShares (rates : Rates) (order : List Asker) (t : LimitTree) (g : List ℕ)
-    (shares : List Share) : Type 0 where
+    (shares : List TransferShare) : Type 0 where
   pub count : length shares ≡ length order
-  pub each : (i : ℕ) (s : Share) → slice_get shares i ≡ Some s → IsShareOf rates order t g i s
+  pub each : (i : ℕ) (s : TransferShare) → slice_get shares i ≡ Some s
+      → IsShareOf rates order t g i s
 
 -- shares of best grants
 pub record AreGrantedShares (rates : Rates) (order : List Asker) (t : LimitTree)
-    (shares : List Share) : Type 0 where
+    (shares : List TransferShare) : Type 0 where
   pub grants : List ℕ
   pub count : length order ≡ length grants
   pub best : IsBest t grants

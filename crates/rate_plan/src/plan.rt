@@ -1,4 +1,4 @@
-//! Who gets how much of a second.
+//! The shares of a second, after each test of the transfers.
 
 ghost use Rattle.std.specs.Prelude.{◌≡◌, ◌<◌, ◌≤◌, IfErr, IfOk, IsPermutation, List, length};
 ghost use Rattle.std.specs.List.Sorted.{IsNonDecreasingBy};
@@ -14,7 +14,7 @@ ghost use Rattle.rate_plan.specs.Tens.{AreTens};
 use crate::admission::admit_all;
 use crate::asks::{Transfer, asks_of, in_order};
 use crate::fault::Unplanned;
-use crate::shares::{Share, granted_shares};
+use crate::shares::{TransferShare, granted_shares};
 use crate::small::has_large;
 use crate::tens::tenfold;
 use line_rates::{Ask, Limits, Plan, PlanFault, tree_of};
@@ -24,7 +24,7 @@ use std::alloc::{AllocError, Allocator};
 pub const MAX_EXACT: usize = 25;
 
 // Sorts shares by lane.
-fn sort_by_lane<A: Allocator>(shares: &mut Vec<Share, A>)
+fn sort_by_lane<A: Allocator>(shares: &mut Vec<TransferShare, A>)
     ensures same { IsPermutation shares.old.items shares.new.items }
     ensures sorted { IsNonDecreasingBy share_lane shares.new.items }
 {
@@ -37,7 +37,7 @@ fn shares_in<L: Allocator, P: Allocator, A: Allocator + Clone>(
     tens: &Limits<L>,
     asks: &[(u8, Ask)],
     plan: &Plan<P>,
-) -> Result<Vec<Share, A>, AllocError>
+) -> Result<Vec<TransferShare, A>, AllocError>
     requires asked { (transfers : List Transfer) × AreAsked transfers asks.now }
     requires plan { IsPlan tens.now 0 asks.now (seen plan.now.tree) plan.now.lanes.items }
     ensures shares { IfOk result (λ shares. (rates : Rates) (transfers : List Transfer)
@@ -55,7 +55,7 @@ fn shares_by<L: Allocator, A: Allocator + Clone>(
     alloc: A,
     tens: &Limits<L>,
     asks: &[(u8, Ask)],
-) -> Result<Vec<Share, A>, Unplanned>
+) -> Result<Vec<TransferShare, A>, Unplanned>
     requires asked { (transfers : List Transfer) × AreAsked transfers asks.now }
     ensures shares { IfOk result (λ shares. (rates : Rates) (transfers : List Transfer)
         → AreTens rates tens.now → AreAsked transfers asks.now
@@ -77,7 +77,7 @@ fn shares_of<L: Allocator, A: Allocator + Clone>(
     alloc: A,
     limits: &Limits<L>,
     asks: &[(u8, Ask)],
-) -> Result<Vec<Share, A>, Unplanned>
+) -> Result<Vec<TransferShare, A>, Unplanned>
     requires asked { (transfers : List Transfer) × AreAsked transfers asks.now }
     ensures shares { IfOk result (λ shares. (transfers : List Transfer)
         → AreAsked transfers asks.now
@@ -93,7 +93,7 @@ fn plan_few<L: Allocator, A: Allocator + Clone>(
     alloc: A,
     limits: &Limits<L>,
     transfers: &[Transfer],
-) -> Result<Vec<Share, A>, Unplanned>
+) -> Result<Vec<TransferShare, A>, Unplanned>
     requires few { length transfers.now ≤ 256 }
     ensures shares { IfOk result (λ shares. AreShares limits.now transfers.now shares.items) }
     ensures admitted { IfOk result (λ shares. AreAdmitted limits.now transfers.now) }
@@ -121,7 +121,7 @@ pub fn plan_of<L: Allocator, A: Allocator + Clone>(
     sessions: usize,
     lanes: usize,
     transfers: &[Transfer],
-) -> Result<Vec<Share, A>, Unplanned>
+) -> Result<Vec<TransferShare, A>, Unplanned>
     requires lanes { lanes ≤ 256 }
     ensures planned { IfOk result
         (λ shares. IsPlanned limits.now sessions lanes transfers.now shares.items) }

@@ -16,7 +16,7 @@ use std::alloc::{AllocError, Allocator};
 
 /// The share of a transfer in a second, in octets.
 #[derive(Clone, Copy, Debug, PartialEq, Eq)]
-pub struct Share {
+pub struct TransferShare {
     /// The place of the transfer among those that were asked for.
     pub lane: u8,
     /// Its ask.
@@ -60,7 +60,7 @@ fn leaf_share<L: Allocator, A: Allocator>(
     grants: &[u64],
     entries: &[Option<u32>],
     leaf: usize,
-) -> Share
+) -> TransferShare
     requires tree { IsTickTree limits.now 0 (map ask_in order.now) (seen tree.now) }
     requires grants { IsWanted (seen tree.now) grants.now }
     requires named { AreEntries (seen tree.now) grants.now entries.now }
@@ -69,7 +69,7 @@ fn leaf_share<L: Allocator, A: Allocator>(
     ensures share { IsShareOf limits.now order.now (seen tree.now) grants.now leaf result }
 {
     let (lane, ask) = order[leaf];
-    Share {
+    TransferShare {
         lane,
         ask,
         floor: limits.floor(ask),
@@ -86,7 +86,7 @@ fn leaf_shares<L: Allocator, A: Allocator, B: Allocator>(
     tree: &Tree<A>,
     grants: &[u64],
     entries: &[Option<u32>],
-) -> Result<Vec<Share, B>, AllocError>
+) -> Result<Vec<TransferShare, B>, AllocError>
     requires tree { IsTickTree limits.now 0 (map ask_in order.now) (seen tree.now) }
     requires grants { IsWanted (seen tree.now) grants.now }
     requires named { AreEntries (seen tree.now) grants.now entries.now }
@@ -107,7 +107,7 @@ pub(crate) fn granted_shares<L: Allocator, A: Allocator, B: Allocator + Clone>(
     limits: &Limits<L>,
     order: &[(u8, Ask)],
     tree: &Tree<A>,
-) -> Result<Vec<Share, B>, AllocError>
+) -> Result<Vec<TransferShare, B>, AllocError>
     requires tree { IsTickTree limits.now 0 (map ask_in order.now) (seen tree.now) }
     ensures shares { IfOk result
         (λ shares. AreGrantedShares limits.now order.now (seen tree.now) shares.items) }

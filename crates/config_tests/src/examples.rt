@@ -78,8 +78,14 @@ fn texts_of_warnings(rt: &(impl Abort + AllocGlobal)) {
 
 #[test]
 fn words_nearly_memory(rt: HostRuntime) {
-    holds(&rt, is_nearly_memory("Memory") && is_nearly_memory("MEMORY"));
-    holds(&rt, !is_nearly_memory("memory") && !is_nearly_memory("memory2"));
+    holds(
+        &rt,
+        is_nearly_memory("Memory") && is_nearly_memory("MEMORY"),
+    );
+    holds(
+        &rt,
+        !is_nearly_memory("memory") && !is_nearly_memory("memory2"),
+    );
 }
 
 #[test]

@@ -14,11 +14,11 @@ use server_config::{Config, ServedStore};
 use session_notes::Notes;
 use sheets_program::Exit as Common;
 use std::alloc::{AllocError, Global};
-use std::{fs, io};
 use std::net::{Net, TcpListener, TcpStream};
 use std::sync::Wait;
 use std::thread::Threads;
 use std::time::Clock;
+use std::{fs, io};
 use text_io::TextWriter;
 use virtual_tree::StoreFault;
 

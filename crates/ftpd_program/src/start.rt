@@ -15,11 +15,19 @@ pub enum StartFault {
         reason: io::Error,
     },
     /// The folder of this path cannot be served (`Store`).
-    Folder { path: String, reason: io::Error },
+    Folder {
+        path: String,
+        reason: io::Error,
+    },
     /// There is something at the path of the stop file (`Stopped`).
-    StopFileThere { path: String },
+    StopFileThere {
+        path: String,
+    },
     /// The stop file of this path could not be noticed, because its folder is not there, or is closed (`Stopped`).
-    StopFileUnseen { path: String, reason: io::Error },
+    StopFileUnseen {
+        path: String,
+        reason: io::Error,
+    },
 }
 
 impl fmt::Display for StartFault {

@@ -3,9 +3,7 @@
 use crate::ends::{Files, Given};
 use crate::expect::{holds, same, tells};
 use crate::texts::SMALL;
-use ftpd_program::{
-    FtpdErrorText, FtpdExit, Patience, ServeFault, Server, StartFault, run_words,
-};
+use ftpd_program::{FtpdErrorText, FtpdExit, Patience, ServeFault, Server, StartFault, run_words};
 use server_config::Config;
 use std::alloc::Global;
 use std::io;
@@ -138,7 +136,12 @@ fn faults_are_told(rt: HostRuntime) {
 }
 
 /// Checks that a fault that did not let the server start prints as this line above the fault's name.
-fn starts_not(rt: &(impl Abort + AllocGlobal), fault: ServeFault, start: &StartFault, wanted: &str) {
+fn starts_not(
+    rt: &(impl Abort + AllocGlobal),
+    fault: ServeFault,
+    start: &StartFault,
+    wanted: &str,
+) {
     let ending = FtpdExit::Server(fault);
     let told = FtpdErrorText {
         ending: &ending,

@@ -14,7 +14,7 @@ pub enum Warning<'a> {
     RelativeRoot {
         root: &'a str,
     },
-    /// The address for passive connections is 0.0.0.0.
+    /// No particular address for passive connections is stated, so each client is told the one that it reached.
     NoAddress,
     /// Passive ports, from the first to the last of these, are among those that the machine takes for its own
     /// connections.
@@ -70,7 +70,7 @@ impl fmt::Display for Warning<'_> {
             ),
             Warning::NoAddress => write!(
                 f,
-                "clients are told 0.0.0.0 for passive connections; state masquerade_address"
+                "clients are told the address that they reached; behind address translation state masquerade_address"
             ),
             Warning::OwnPorts { first, last } => write!(
                 f,

@@ -26,6 +26,8 @@ use virtual_tree::StoreFault;
 #[derive(Drop)]
 pub(crate) struct AskedService {
     config: Config,
+    /// The texts of the configuration's warnings, a line each.
+    warnings: String,
     /// The path of the stop file, if any.
     stop_file: Option<String>,
     patience: Patience,
@@ -64,21 +66,20 @@ impl<W: TextWriter> Server<W> for Asked {
         &mut self,
         alloc: Global,
         config: Config,
+        warnings: &str,
         stop_file: Option<&str>,
         patience: Patience,
         _output: &mut W,
     ) -> Result<(), ServeFault> {
-        match copied(alloc, stop_file) {
-            Ok(stop_file) => {
-                self.service = Some(AskedService {
-                    config,
-                    stop_file,
-                    patience,
-                });
-                Ok(())
-            }
-            Err(AllocError) => Err(ServeFault::Memory),
-        }
+        let stop_file = copied(alloc, stop_file)?;
+        let warnings = String::from_str(alloc, warnings)?;
+        self.service = Some(AskedService {
+            config,
+            warnings,
+            stop_file,
+            patience,
+        });
+        Ok(())
     }
 }
 
@@ -119,11 +120,15 @@ fn open_folders(
     Ok(stores)
 }
 
+/// Notes on standard error.
+type MachineNotes = Notes<Logged<HostRuntime, Console<HostRuntime>>>;
+
 /// Serves a configuration: its store is in memory, or a folder of the machine.
 fn serve_config<R, W>(
     rt: &R,
-    machine: &HostRuntime,
     config: Config,
+    handler: MachineNotes,
+    machine: &HostRuntime,
     stop: Option<StopFile>,
     patience: Patience,
     output: &mut W,
@@ -147,7 +152,6 @@ where
         store,
         limits,
     } = config;
-    let handler = Notes::new(Logged::new(*machine, Level::Info, Console(*machine)));
     match store {
         ServedStore::Memory(store) => {
             let service = Service {
@@ -254,6 +258,7 @@ where
 {
     let AskedService {
         config,
+        warnings,
         stop_file,
         patience,
     } = service;
@@ -267,7 +272,9 @@ where
     if let Some(start) = folder_fault(machine, &config.store) {
         return (FtpdExit::Server(ServeFault::Store), Some(start));
     }
-    match serve_config(rt, machine, config, stop, patience, output) {
+    let handler = Notes::new(Logged::new(*machine, Level::Info, Console(*machine)));
+    handler.note_warnings(warnings.as_str());
+    match serve_config(rt, config, handler, machine, stop, patience, output) {
         Ok(()) => (FtpdExit::Common(Common::Done), None),
         Err(fault) => (FtpdExit::Server(fault), None),
     }

@@ -6,6 +6,7 @@ ghost use Rattle.script_session.specs.Served.{most_reads};
 ghost use Rattle.server_config.specs.Configs.{IsConfigText};
 ghost use Rattle.ftpd_program.specs.Scripting.{IsConfigOf, IsJudgement, IsNotBegun, IsScriptBreak, IsScripted, IsUnconfigured, IsUnscripted};
 
+use config_report::warning_texts;
 use script_session::{SessionFault, serve_config};
 use server_config::{Config, ConfigFault};
 use std::alloc::Global;
@@ -33,10 +34,19 @@ fn judged(alloc: Global, octets: &[u8]) -> Result<Config, ScriptFault>
     }
 }
 
-/// Reads the configuration from a reader.
+// The texts of a configuration's warnings, a line each; none if it is refused, or if memory runs out.
+fn warned(alloc: Global, octets: &[u8]) -> String {
+    match warning_texts(alloc, octets) {
+        Ok(texts) => texts,
+        Err(_) => String::new(alloc),
+    }
+}
+
+/// Reads the configuration from a reader, and the texts of its warnings, a line each, if they are wanted.
 pub(crate) fn read_config<C: TextReader>(
     alloc: Global,
     reader: &mut C,
+    warnings: Option<&mut String>,
 ) -> Result<Config, ScriptFault>
     ensures config { IfOk result (IsConfigOf (C.remaining reader.old)) }
     ensures refused { IfErr result (IsUnconfigured (C.remaining reader.old)) }
@@ -46,7 +56,13 @@ pub(crate) fn read_config<C: TextReader>(
         → C.may_fail reader.old ≡ true }
 {
     match read_whole(alloc, reader) {
-        Ok(octets) => judged(alloc, octets.as_slice()),
+        Ok(octets) => {
+            let text = octets.as_slice();
+            if let Some(told) = warnings {
+                *told = warned(alloc, text);
+            }
+            judged(alloc, text)
+        }
         Err(fault) => Err(ScriptFault::Text(fault)),
     }
 }
@@ -80,7 +96,7 @@ pub fn run_script<C: TextReader, R: TextReader, W: TextWriter>(
     ensures read_fault { IsErrOf result (ScriptFault.Text TextFault.ReadFault)
         → C.may_fail config.old ≡ true }
 {
-    let config = read_config(alloc, config)?;
+    let config = read_config(alloc, config, None)?;
     match serve_config(alloc, config, input, writer) {
         Ok(()) => Ok(()),
         Err(fault) => Err(ScriptFault::Session(fault)),

@@ -50,11 +50,13 @@ pub trait Server<W: TextWriter> {
     ghost Serves: { Service } = { λ _ _ _ _ _ _. Unit {0} };
 
     /// Serves clients by a configuration, until it has had its number of sessions, or until a file exists at the path
-    /// of the stop file. It waits for a client as the patience says.
+    /// of the stop file. It waits for a client as the patience says. The warnings of the configuration, a line each, are
+    /// to be noted.
     fn serve(
         &mut self,
         alloc: Global,
         config: Config,
+        warnings: &str,
         stop_file: Option<&str>,
         patience: Patience,
         output: &mut W,

@@ -14,11 +14,13 @@ use sheets_program::{Exit as Common, Opener, text_cause};
 use std::alloc::Global;
 use text_io::{TextFault, TextWriter};
 
-/// Reads the configuration of a file, which is then closed. `Err` is the ending of the command without it.
+/// Reads the configuration of a file, which is then closed, and the texts of its warnings. `Err` is the ending of the
+/// command without it.
 fn config_at<'w, O: Opener>(
     alloc: Global,
     path: &'w str,
     files: &mut O,
+    warnings: &mut String,
 ) -> Result<Config, FtpdExit<'w>>
     ensures config { IfOk result (IsConfigIn (O.Gives files.old path.now)) }
     ensures refused { IfErr result (IsUnconfiguredEnd (O.Gives files.old path.now)) }
@@ -33,7 +35,7 @@ fn config_at<'w, O: Opener>(
             return Err(FtpdExit::Common(Common::Text(TextFault::ReadFault, cause)));
         }
     };
-    match read_config(alloc, &mut file) {
+    match read_config(alloc, &mut file, Some(warnings)) {
         Ok(config) => Ok(config),
         Err(ScriptFault::Config(fault)) => Err(FtpdExit::Config(fault)),
         Err(ScriptFault::Session(fault)) => Err(FtpdExit::Session(fault)),
@@ -71,8 +73,12 @@ pub(crate) fn serve<'w, O: Opener, W: TextWriter, V: Server<W>>(
     ensures opened { O.Opens files.old config.now files.new }
     ensures unwritten { IsUnwritten result → output.new ≡ output.old }
 {
-    match config_at(alloc, config, files) {
-        Ok(config) => ended(server.serve(alloc, config, stop_file, patience, output)),
+    let mut warnings = String::new(alloc);
+    match config_at(alloc, config, files, &mut warnings) {
+        Ok(config) => {
+            let told = warnings.as_str();
+            ended(server.serve(alloc, config, told, stop_file, patience, output))
+        }
         Err(ending) => ending,
     }
 }

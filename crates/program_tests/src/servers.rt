@@ -22,6 +22,8 @@ pub(crate) struct Noting {
     stop_file: Option<String>,
     /// The last patience.
     patience: Option<Patience>,
+    /// Whether the last configuration had warnings.
+    is_warned: bool,
     fault: Option<ServeFault>,
 }
 
@@ -32,6 +34,7 @@ impl Noting {
             port: 0,
             stop_file: None,
             patience: None,
+            is_warned: false,
             fault: None,
         }
     }
@@ -42,10 +45,12 @@ impl<W: TextWriter> Server<W> for Noting {
         &mut self,
         alloc: Global,
         config: Config,
+        warnings: &str,
         stop_file: Option<&str>,
         patience: Patience,
         output: &mut W,
     ) -> Result<(), ServeFault> {
+        self.is_warned = !warnings.is_empty();
         self.calls = self.calls.saturating_add(1);
         self.port = config.numbers.port;
         self.stop_file = match stop_file {

@@ -30,6 +30,14 @@ impl<L: Log + Clock> Notes<L> {
         }
     }
 
+    /// Notes the warnings of a configuration, which are the lines of a text.
+    pub fn note_warnings(&self, texts: &str) {
+        for line in texts.lines() {
+            let time = second_of(self.log.since_1970());
+            warn!(self.log; target: "", "{time} configuration: {line}");
+        }
+    }
+
     fn note(&self, event: Noted, name: Option<&str>) {
         let time = second_of(self.log.since_1970());
         let peer = Ipv4Addr::from(self.peer);

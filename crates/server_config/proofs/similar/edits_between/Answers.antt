@@ -1,6 +1,6 @@
 use Rattle.std.proofs.Common.{◌≡◌, ℕ, ◌<◌, ◌≤◌, length, subst, arith}
 use Rattle.std.specs.Str.{chars}
-use Rattle.server_config.specs.Similar.{edits, IsNear}
+use Rattle.server_config.specs.Similar.{edits}
 use Rattle.server_config.proofs.similar.edits_between.Goals as goal
 
 positive : (n : ℕ) → (n ≡ 0 → ⊥) → 0 < n

@@ -1,4 +1,4 @@
-use Rattle.std.proofs.Common.{◌≡◌, IfSome, option_copied, ℕ, ◌<◌, ◌≤◌, length}
+use Rattle.std.proofs.Common.{IfSome, option_copied}
 use Rattle.server_config.specs.Similar.{IsNear}
 use Rattle.server_config.proofs.similar.similar_to.Given as goal
 

@@ -1,43 +1,24 @@
 //! The reason for which a server did not start, in the machine's words.
 
 use config_report::is_nearly_memory;
-use std::net::Ipv4Addr;
 use std::{fmt, io};
 
-/// Something that a server could not have at its start. It prints as the line above the name of its [`crate::ServeFault`]; paths
-/// are those of the command line and of the configuration.
+/// Something that a server could not have at its start. It prints as the line above the name of its
+/// [`crate::ServeFault`]; paths are those of the command line and of the configuration. The reason for `Bind` is noted by
+/// the server itself.
 #[derive(Debug, Drop)]
 pub enum StartFault {
-    /// The server cannot listen on this address and port (`Bind`).
-    Listen {
-        address: Ipv4Addr,
-        port: u16,
-        reason: io::Error,
-    },
     /// The folder of this path cannot be served (`Store`).
-    Folder {
-        path: String,
-        reason: io::Error,
-    },
+    Folder { path: String, reason: io::Error },
     /// There is something at the path of the stop file (`Stopped`).
-    StopFileThere {
-        path: String,
-    },
+    StopFileThere { path: String },
     /// The stop file of this path could not be noticed, because its folder is not there, or is closed (`Stopped`).
-    StopFileUnseen {
-        path: String,
-        reason: io::Error,
-    },
+    StopFileUnseen { path: String, reason: io::Error },
 }
 
 impl fmt::Display for StartFault {
     fn fmt<W: fmt::Write>(&self, f: &mut fmt::Formatter<W>) -> fmt::Result {
         match self {
-            StartFault::Listen {
-                address,
-                port,
-                reason,
-            } => write!(f, "cannot listen on {address}:{port}: {reason}"),
             StartFault::Folder { path, reason } => {
                 write!(f, "{path}: {reason}")?;
                 if is_nearly_memory(path.as_str()) {

@@ -7,7 +7,6 @@ use ftpd_program::{FtpdErrorText, FtpdExit, Patience, ServeFault, Server, StartF
 use server_config::Config;
 use std::alloc::Global;
 use std::io;
-use std::net::Ipv4Addr;
 use std::process::Abort;
 use text_io::TextWriter;
 
@@ -100,6 +99,7 @@ fn a_server_is_called(rt: HostRuntime) {
     let ending = served(&rt, &["serve", "file"], SMALL, &mut server, &mut output);
     holds(&rt, ending.status() == 0);
     holds(&rt, server.calls == 1 && server.port == 2121);
+    holds(&rt, server.is_warned); // of its passive ports
     holds(&rt, server.stop_file.is_none());
     same(&rt, &output, "ready\n");
     let usual = Patience {
@@ -162,17 +162,6 @@ fn text(rt: &(impl Abort + AllocGlobal), word: &str) -> String {
 
 #[test]
 fn starts_are_explained(rt: HostRuntime) {
-    let listen = StartFault::Listen {
-        address: Ipv4Addr::new(127, 0, 0, 1),
-        port: 2121,
-        reason: io::Error::from_raw_os_error(98),
-    };
-    starts_not(
-        &rt,
-        ServeFault::Bind,
-        &listen,
-        "cannot listen on 127.0.0.1:2121: Address already in use (os error 98)\nftpd: Bind\n",
-    );
     let folder = StartFault::Folder {
         path: text(&rt, "/srv/ftp"),
         reason: io::Error::from_raw_os_error(2),

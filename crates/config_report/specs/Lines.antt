@@ -144,7 +144,7 @@ warning_text (RelativeRoot root) =
     codes "the folder " ++ root.now
     ++ codes " is sought where the program is started; state a path that begins with /"
 warning_text NoAddress =
-    codes "clients are told the address that they reached; behind address translation state masquerade_address"
+    codes "clients are told the address that they reached; behind a router state masquerade_address"
 warning_text (OwnPorts first last) =
     codes "the machine takes ports 32768 to 60999 for its own connections; passive ones are "
     ++ decimal first ++ codes " to " ++ decimal last

@@ -70,7 +70,7 @@ impl fmt::Display for Warning<'_> {
             ),
             Warning::NoAddress => write!(
                 f,
-                "clients are told the address that they reached; behind address translation state masquerade_address"
+                "clients are told the address that they reached; behind a router state masquerade_address"
             ),
             Warning::OwnPorts { first, last } => write!(
                 f,

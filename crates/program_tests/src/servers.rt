@@ -21,7 +21,7 @@ pub(crate) struct Noting {
     stop_file: Option<String>,
     /// The last patience.
     patience: Option<Patience>,
-    /// Whether the last configuration had warnings.
+    /// The last configuration had warnings.
     is_warned: bool,
     fault: Option<ServeFault>,
 }

@@ -134,15 +134,14 @@ has_name r order t k i b d tree is holds less =
 pub leaves_are : (r : Rates) (order : List Asker) (t : LimitTree) → IsTickTree r 0 (map ask_in order) t → length t.wants ≡ length order
 leaves_are r order t tree = ap length tree.wants ∙ (length-map (map ask_in order) want_of ∙ length-map order ask_in)
 
--- a name that is no other is that of the group
-pub group_name : (r : Rates) (a : Ask) (asks : List Ask) (t : LimitTree) (k : ℕ) (n : Name) (group : ℕ) → IsCandidate r a n → IsNameOf r asks t k n → ¬ IsNameOf r asks t k Server → ¬ IsNameOf r asks t k (Direction a.way) → ¬ IsNameOf r asks t k (User a.way a.user)
-    → ¬ IsNameOf r asks t k (Session a.way a.user a.session) → group_of r a.user ≡ Some group → IsNameOf r asks t k (Group a.way group)
-group_name r a asks t k n group (inl e) is s d u x g = absurd (s (subst (IsNameOf r asks t k) e is))
-group_name r a asks t k n group (inr (inl e)) is s d u x g = absurd (d (subst (IsNameOf r asks t k) e is))
-group_name r a asks t k n group (inr (inr (inl e))) is s d u x g =
-    subst (IsNameOf r asks t k) (e.2 ∙ ap (λ (h : ℕ). Group a.way h) (some_same e.0 group (sym e.1 ∙ g))) is
-group_name r a asks t k n group (inr (inr (inr (inl e)))) is s d u x g = absurd (u (subst (IsNameOf r asks t k) e is))
-group_name r a asks t k n group (inr (inr (inr (inr e)))) is s d u x g = absurd (x (subst (IsNameOf r asks t k) e is))
+-- a name that is no other is that of the server
+pub server_name : (r : Rates) (a : Ask) (asks : List Ask) (t : LimitTree) (k : ℕ) (n : Name) → IsCandidate r a n → IsNameOf r asks t k n → ¬ IsNameOf r asks t k (Direction a.way)
+    → ((g : ℕ) → group_of r a.user ≡ Some g → ¬ IsNameOf r asks t k (Group a.way g)) → ¬ IsNameOf r asks t k (User a.way a.user) → ¬ IsNameOf r asks t k (Session a.way a.user a.session) → IsNameOf r asks t k Server
+server_name r a asks t k n (inl e) is d g u x = subst (IsNameOf r asks t k) e is
+server_name r a asks t k n (inr (inl e)) is d g u x = absurd (d (subst (IsNameOf r asks t k) e is))
+server_name r a asks t k n (inr (inr (inl e))) is d g u x = absurd (g e.0 e.1 (subst (IsNameOf r asks t k) e.2 is))
+server_name r a asks t k n (inr (inr (inr (inl e)))) is d g u x = absurd (u (subst (IsNameOf r asks t k) e is))
+server_name r a asks t k n (inr (inr (inr (inr e)))) is d g u x = absurd (x (subst (IsNameOf r asks t k) e is))
 
 pub entry_at : (c : List (Option ℕ)) (leaf count : ℕ) (o : Option ℕ) → length c ≡ count → leaf < count → get_or c leaf None ≡ o → slice_get c leaf ≡ Some o
 entry_at c leaf count o same less is = slice_get-get_or c leaf None (omega arith) ∙ ap (λ (x : Option ℕ). Some x) is

@@ -1,8 +1,9 @@
 //! The name of the branch that holds back a transfer.
 
-ghost use Rattle.std.specs.Prelude.{◌≡◌, ◌<◌, ◌↔◌, ℕ, IsTrue, length, map};
+ghost use Rattle.std.specs.Prelude.{◌≡◌, ◌<◌, ◌↔◌, ℕ, IfNone, IfSome, IsTrue, Some, length, map};
 ghost use Rattle.limit_tree.specs.Outline.{leaf_range, limits as seen};
 ghost use Rattle.line_rates.specs.Names.{bears as counts};
+ghost use Rattle.line_rates.specs.Rates.{group_of};
 ghost use Rattle.line_rates.specs.TickTree.{ask_in, bears_at};
 ghost use Rattle.rate_plan.specs.Named.{HasNameOf, IsNameOf};
 
@@ -81,6 +82,31 @@ fn is_name_of<L: Allocator, A: Allocator>(
     }
 }
 
+// The name of the group of an ask, if the branch of a node is its.
+fn named_by_group<L: Allocator, A: Allocator>(
+    limits: &Limits<L>,
+    order: &[(u8, Ask)],
+    tree: &Tree<A>,
+    node: usize,
+    ask: Ask,
+) -> Option<Name>
+    requires node { node < length tree.now }
+    requires leaves { length (seen tree.now).wants ≡ length order.now }
+    ensures some { IfSome result
+        (IsNameOf limits.now (map ask_in order.now) (seen tree.now) node) }
+    ensures none { IfNone result ((group : ℕ) → group_of limits.now ask.user ≡ Some group
+        → ¬ IsNameOf limits.now (map ask_in order.now) (seen tree.now) node
+        (Name.Group ask.way group)) }
+{
+    let group = limits.group_of(ask.user)?;
+    let name = Name::Group(ask.way, group);
+    if is_name_of(limits, order, tree, node, name) {
+        Some(name)
+    } else {
+        None
+    }
+}
+
 /// The name of the branch of a node above the leaf of an ask. Of several names with the same limit and the same leaves
 /// it is the innermost.
 pub(crate) fn name_of<L: Allocator, A: Allocator>(
@@ -107,14 +133,11 @@ pub(crate) fn name_of<L: Allocator, A: Allocator>(
     if is_name_of(limits, order, tree, node, Name::User(way, user)) {
         return Name::User(way, user);
     }
+    if let Some(name) = named_by_group(limits, order, tree, node, ask) {
+        return name;
+    }
     if is_name_of(limits, order, tree, node, Name::Direction(way)) {
         return Name::Direction(way);
     }
-    if is_name_of(limits, order, tree, node, Name::Server) {
-        return Name::Server;
-    }
-    match limits.group_of(user) {
-        Some(group) => Name::Group(way, group),
-        None => unreachable!(),
-    }
+    Name::Server
 }

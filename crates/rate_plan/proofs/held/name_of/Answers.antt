@@ -1,7 +1,7 @@
-use Rattle.std.proofs.Common.{◌≡◌, ◌∙◌, sym, map, ℕ, Bool, true, false}
+use Rattle.std.proofs.Common.{◌≡◌, map, Bool, true, false}
 use Rattle.limit_tree.specs.Outline.{limits}
 use Rattle.line_rates.specs.TickTree.{ask_in}
-use Rattle.rate_plan.proofs.HeldLemmas.{candidate, group_name}
+use Rattle.rate_plan.proofs.HeldLemmas.{candidate, server_name}
 use Rattle.rate_plan.proofs.held.name_of.Goals as goal
 
 apart : (b : Bool) → b ≡ false → b ≡ true → ⊥
@@ -9,8 +9,7 @@ apart b f t = cc
 
 pub returns : goal.returns
 returns g c = record {
-  name = group_name c.args.limits.now c.args.ask (map ask_in c.args.order.now) (limits c.args.tree.now) c.args.node c.requires.named.0 c.in-Some.group (candidate c.args.limits.now c.args.ask c.requires.named.0 c.requires.named.1) c.requires.named.2
-      (λ is. apart c.is_name_of-4.result c.if-is_name_of-4.false (c.is_name_of-4.ensures.no is)) (λ is. apart c.is_name_of-3.result c.if-is_name_of-3.false (c.is_name_of-3.ensures.no is))
-      (λ is. apart c.is_name_of-2.result c.if-is_name_of-2.false (c.is_name_of-2.ensures.no is)) (λ is. apart c.is_name_of.result c.if-is_name_of.false (c.is_name_of.ensures.no is))
-      (sym c.group_of.ensures.group ∙ c.in-Some.is);
+  name = server_name c.args.limits.now c.args.ask (map ask_in c.args.order.now) (limits c.args.tree.now) c.args.node c.requires.named.0 (candidate c.args.limits.now c.args.ask c.requires.named.0 c.requires.named.1) c.requires.named.2
+      (λ is. apart c.is_name_of-3.result c.if-is_name_of-3.false (c.is_name_of-3.ensures.no is)) c.in_default.ensures.none
+      (λ is. apart c.is_name_of-2.result c.if-is_name_of-2.false (c.is_name_of-2.ensures.no is)) (λ is. apart c.is_name_of.result c.if-is_name_of.false (c.is_name_of.ensures.no is));
 }

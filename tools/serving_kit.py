@@ -21,6 +21,8 @@ SECONDS = STEP * TRIES
 # Below the range from which the machine takes ports for connections that go out.
 PORTS = range(10000, 32000)
 SETTLED = re.compile(r"ready\nsettled issued (\d+) moved (\d+) back (\d+)\n")
+# A note of a warning of the configuration, as a server makes at its start.
+WARNING = re.compile(r"^\[WARN \] \S+Z configuration: (.*)\n", re.MULTILINE)
 # The head of a note: the time, the peer's address, and the number of the session where it is admitted.
 STAMP = re.compile(r"\[INFO \] \d{4}-\d\d-\d\dT\d\d:\d\d:\d\dZ (127\.0\.0\.\d+ (#\d+ )?)")
 
@@ -186,15 +188,23 @@ class Server:
             self.configure()
         words = [SERVER, "serve", "ftpd.toml", *self.words]
         found = subprocess.run(words, cwd=self.place, stdout=stdout, stderr=subprocess.PIPE, env={}, timeout=SECONDS)
-        return found.returncode, found.stdout if found.stdout is None else found.stdout.decode(), found.stderr.decode()
+        return found.returncode, found.stdout if found.stdout is None else found.stdout.decode(), WARNING.sub("", found.stderr.decode())
 
     def told(self):
         with open(f"{self.place}/output", "rb") as it:
             return it.read().decode()
 
     def noted(self):
+        """The notes, but for the warnings of the configuration."""
+        return WARNING.sub("", self.all_noted())
+
+    def all_noted(self):
         with open(f"{self.place}/notes", "rb") as it:
             return it.read().decode(errors="replace")
+
+    def warned(self):
+        """The warnings of the configuration that were noted."""
+        return WARNING.findall(self.all_noted())
 
     def notes_made(self, heads=False):
         """The notes, each without its time, and without its peer and session where they are not asked for."""

@@ -1,0 +1,7 @@
+use Rattle.std.proofs.Common.{subst}
+use Rattle.std.specs.Prelude.{IfOk}
+use Rattle.round_pace.specs.Paced.{IsPacedFrom}
+use Rattle.worker_tests.proofs.parts.Opened.new.Goals as goal
+
+pub new-requires-in-Ok : goal.new-requires-in-Ok
+new-requires-in-Ok g c = record { new = (c.limits.result, subst (λ r. IfOk r (λ p. IsPacedFrom 0 c.limits.result p)) c.expect-pace.ensures c.of.ensures.rates) }

@@ -1,5 +1,6 @@
 pub mod Breaks
 pub mod Ends
+pub mod NoWords
 pub mod Printed
 pub mod Scripts
 pub mod Serves

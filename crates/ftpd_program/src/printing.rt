@@ -48,8 +48,8 @@ fn plan_about(alloc: Global, transfers: &str, octets: &[u8]) -> Result<String, P
 
 /// Returns the text about the configuration of these octets.
 fn text_about(alloc: Global, print: Print<'_>, octets: &[u8]) -> Result<String, PrintFault>
-    ensures prints { IfOk result (λ text. IsPrintOf print octets.now (string_bytes text)) }
-    ensures refused { IfErr result (IsPrintRefusal print octets.now) }
+    ensures prints { IfOk result (λ text. IsPrintOf print.entry octets.now (string_bytes text)) }
+    ensures refused { IfErr result (IsPrintRefusal print.entry octets.now) }
 {
     let text = match print {
         Print::Report => report(alloc, octets),
@@ -74,16 +74,16 @@ pub fn run_print<R: TextReader, W: TextWriter>(
     reader: &mut R,
     writer: &mut W,
 ) -> Result<(), PrintFault>
-    ensures printed { OnOk result (AppendsPrint print (R.remaining reader.old)
+    ensures printed { OnOk result (AppendsPrint print.entry (R.remaining reader.old)
         (W.contents writer.old) (W.contents writer.new)) }
-    ensures refused { IfErr result (IsPrintFault print (R.remaining reader.old)) }
+    ensures refused { IfErr result (IsPrintFault print.entry (R.remaining reader.old)) }
     ensures too_long { IsErrOf result (PrintFault.Text TextFault.TooLong)
         → IfSome (R.remaining reader.old) (λ text. MAX_TEXT < length text) }
     ensures read_fault { IsErrOf result (PrintFault.Text TextFault.ReadFault)
         → R.may_fail reader.old ≡ true }
     ensures write_fault { IsErrOf result (PrintFault.Text TextFault.WriteFault)
         → (text printed : List ℕ) × IsTextOf text (R.remaining reader.old)
-        × IsPrintOf print text printed × W.may_refuse writer.old printed }
+        × IsPrintOf print.entry text printed × W.may_refuse writer.old printed }
     ensures unwritten { IfErr result (λ fault. fault ≢ PrintFault.Text TextFault.WriteFault
         → writer.new ≡ writer.old) }
 {

@@ -39,7 +39,7 @@ fn print_text<'w, O: Opener, W: TextWriter>(
     files: &mut O,
     output: &mut W,
 ) -> FtpdExit<'w>
-    ensures end { IsPrintEnd print (O.Gives files.old config.now) (W.may_refuse output.old)
+    ensures end { IsPrintEnd print.entry (O.Gives files.old config.now) (W.may_refuse output.old)
         (W.contents output.old) (W.contents output.new) result }
     ensures why { IsReadWhy config.now
         (O.MayRefuse files.old config.now ⊎ O.MayFail files.old config.now) result }

@@ -42,6 +42,12 @@ fn warned(alloc: Global, octets: &[u8]) -> String {
     }
 }
 
+fn note_warnings(alloc: Global, octets: &[u8], warnings: Option<&mut String>) {
+    if let Some(told) = warnings {
+        *told = warned(alloc, octets);
+    }
+}
+
 /// Reads the configuration from a reader, and the texts of its warnings, a line each, if they are wanted.
 pub(crate) fn read_config<C: TextReader>(
     alloc: Global,
@@ -58,9 +64,7 @@ pub(crate) fn read_config<C: TextReader>(
     match read_whole(alloc, reader) {
         Ok(octets) => {
             let text = octets.as_slice();
-            if let Some(told) = warnings {
-                *told = warned(alloc, text);
-            }
+            note_warnings(alloc, text, warnings);
             judged(alloc, text)
         }
         Err(fault) => Err(ScriptFault::Text(fault)),

@@ -30,6 +30,11 @@ StartCause prepared.Nothing new = new ≡ Some cause.NothingPrepared
 StartCause (prepared.Listening listener port) new = ⊤
 StartCause (prepared.Target to) new = ⊤
 
+-- the reason for an end of a moving transfer: an abort, or what the end and the error say
+abbrev pub MovedCause : Bool → End → Option EndCause → Type 0
+MovedCause true end new = new ≡ Some cause.Aborted
+MovedCause false end new = (fault : Option Error) × (new ≡ cause_of false end fault)
+
 module _ {R K : Type 0} where
   -- an awaited transfer ends by the abort itself
   abbrev pub AbortCause : Running R K → Option EndCause → Option EndCause → Type 0
@@ -44,11 +49,6 @@ module _ {R K : Type 0} where
   GoesCause (running.Awaited listener port job since) old new = ⊤
   GoesCause (running.Moving connection is_aborted) old new = new ≡ old
   GoesCause (running.Over told) old new = new ≡ old
-
-  -- the reason for an end of a moving transfer: an abort, or what the end and the error say
-  abbrev pub MovedCause : Bool → End → Option EndCause → Type 0
-  MovedCause true end new = new ≡ Some cause.Aborted
-  MovedCause false end new = (fault : Option Error) × (new ≡ cause_of false end fault)
 
   -- the reason for the end that is taken
   abbrev pub TakenCause

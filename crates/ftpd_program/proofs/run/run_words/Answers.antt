@@ -1,4 +1,6 @@
 use Rattle.ftpd_program.proofs.Ends.{check_end, migrate_end, plan_end, report_end, script_end, serve_end, share_end}
+use Rattle.ftpd_program.proofs.NoWords.{no_print, no_serve, third_word}
+use Rattle.ftpd_program.specs.declared.printing.Print.TheVariants.{Plan}
 use Rattle.ftpd_program.proofs.run.run_words.Goals as goal
 
 pub returns-in-Ok-clause-share : goal.returns-in-Ok-clause-share
@@ -54,3 +56,12 @@ returns-in-Ok-clause-plan g c = λ config transfers plain also are.
     let old = g.W.TextWriter.contents c.args.output.now in
     let new = g.W.TextWriter.contents c.run_command.new.output in
     plan_end _ g.V.Server.Serves _ _ _ _ old new _ (c.in-Ok.ensures.plan config transfers plain also are) c.run_command.ensures.end
+
+pub returns-in-Err-clause-serve_timed : goal.returns-in-Err-clause-serve_timed
+returns-in-Err-clause-serve_timed g c = λ config first second third p plain one two three are.
+    no_serve _ g.V.Server.Serves _ _ _ _ _ _ (c.in-Err.ensures.serve_timed config first second third p plain one two three are) c.tell.ensures.told
+
+pub returns-in-Err-clause-plan : goal.returns-in-Err-clause-plan
+returns-in-Err-clause-plan g c = λ config transfers plain also are.
+    let word = third_word c.args.words.now _ _ _ are in
+    (word.0, word.1, no_print (Plan word.0) _ _ _ _ _ _ (c.in-Err.ensures.plan config transfers plain also are) c.tell.ensures.told)

@@ -1,0 +1,44 @@
+-- The ends of words that memory ran out for.
+use Rattle.std.proofs.Common.{◌≡◌, ◌∷◌, [], ℕ, List, Option, map, subst, sym}
+use Rattle.std.specs.Borrow.{Bor}
+use Rattle.client_patience.specs.declared.patience.Patience.{Patience}
+use Rattle.command_line.specs.declared.words.WordsFault.{WordsFault}
+use Rattle.command_line.specs.declared.words.WordsFault.TheVariants.{Memory as NoMemory, Refused as NoCommand}
+use Rattle.sheets_program.specs.Endings.{IsToldEnd}
+use Rattle.sheets_program.specs.Runs.{Octets}
+use Rattle.sheets_program.specs.declared.ending.Exit.{Exit}
+use Rattle.sheets_program.specs.declared.ending.Exit.TheVariants.{Done, Flawed, Refused, Text, Share, Check}
+use Rattle.text_io.specs.declared.fault.TextFault.{TextFault}
+use Rattle.ftpd_program.specs.Faults.{IsPrintingFaultOf, IsReadingFaultOf}
+use Rattle.ftpd_program.specs.Printing.{IsPrintOf}
+use Rattle.ftpd_program.specs.Runs.{IsPrintEnd}
+use Rattle.ftpd_program.specs.Serving.{IsServeEnd, Service}
+use Rattle.ftpd_program.specs.declared.ending.FtpdExit.TheVariants.{Common}
+use Rattle.ftpd_program.specs.declared.printing.Print.{Print}
+
+pub no_serve : (gives : Octets) (serves : Service) (path : Option (List ℕ)) (p : Patience) (old new : Option (List ℕ)) (fault : WordsFault) (exit : Exit) → fault ≡ NoMemory → IsToldEnd fault old new exit
+    → IsServeEnd gives serves path p old new (Common exit)
+no_serve gives serves path p old new NoMemory (Text why cause) is end = subst (λ (w : TextFault). IsReadingFaultOf gives w) (sym end) tt
+no_serve gives serves path p old new NoMemory Done is end = absurd end
+no_serve gives serves path p old new NoMemory Flawed is end = absurd end
+no_serve gives serves path p old new NoMemory (Refused text) is end = absurd end
+no_serve gives serves path p old new NoMemory (Share why cause) is end = absurd end
+no_serve gives serves path p old new NoMemory (Check why cause) is end = absurd end
+no_serve gives serves path p old new (NoCommand text is_help) exit is end = absurd (cc)
+
+pub no_print : (print : Print) (gives : Octets) (Refuses : List ℕ → Type 0) (old new : Option (List ℕ)) (fault : WordsFault) (exit : Exit) → fault ≡ NoMemory → IsToldEnd fault old new exit
+    → IsPrintEnd print gives Refuses old new (Common exit)
+no_print print gives Refuses old new NoMemory (Text why cause) is end = subst (λ (w : TextFault). IsPrintingFaultOf gives (IsPrintOf print) Refuses w) (sym end) tt
+no_print print gives Refuses old new NoMemory Done is end = absurd end
+no_print print gives Refuses old new NoMemory Flawed is end = absurd end
+no_print print gives Refuses old new NoMemory (Refused text) is end = absurd end
+no_print print gives Refuses old new NoMemory (Share why cause) is end = absurd end
+no_print print gives Refuses old new NoMemory (Check why cause) is end = absurd end
+no_print print gives Refuses old new (NoCommand text is_help) exit is end = absurd (cc)
+
+-- the third word of three
+pub third_word : (words : List (Bor (List ℕ))) (first second third : List ℕ) → map (λ w. w.now) words ≡ first ∷ second ∷ third ∷ [] → (word : Bor (List ℕ)) × (word.now ≡ third)
+third_word [] first second third are = absurd (cc)
+third_word (a ∷ []) first second third are = absurd (cc)
+third_word (a ∷ b ∷ []) first second third are = absurd (cc)
+third_word (a ∷ b ∷ c ∷ rest) first second third are = (c, cc)

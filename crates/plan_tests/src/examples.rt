@@ -29,8 +29,13 @@ fn rate_plan(rt: HostRuntime) -> Result<(), Fail> {
     let limits = Limits::of(0, 1_001, 0, Vec::new(alloc), Vec::new(alloc))?;
     let (user, way) = (0, Way::Down);
     let shares = plan_of(alloc, &limits, 64, 16, &[Transfer { user, way }; 2])?; // two downloads
-    assert!(rt; shares[0].grant == 501 && shares[1].grant == 500);
-    assert!(rt; shares[1].held == Some(Name::Direction(way)));
+    match (shares.get(0), shares.get(1)) {
+        (Some(first), Some(second)) => {
+            holds(&rt, first.grant == 501 && second.grant == 500);
+            holds(&rt, second.held == Some(Name::Direction(way)));
+        }
+        _ => holds(&rt, false),
+    }
     Ok(())
 }
 

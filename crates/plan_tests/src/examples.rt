@@ -24,7 +24,7 @@ fn holds(rt: &impl Abort, fact: bool) {
 }
 
 #[test]
-fn rate_plan(rt: HostRuntime) -> Result<(), Fail> {
+fn two_downloads_share(rt: HostRuntime) -> Result<(), Fail> {
     let alloc = rt.alloc();
     let limits = Limits::of(0, 1_001, 0, Vec::new(alloc), Vec::new(alloc))?;
     let (user, way) = (0, Way::Down);

@@ -244,7 +244,8 @@ def resets_at(server, way, moment, whose):
 
 def resets_at_each_moment():
     """Of a download, an upload and a listing: the server goes on, and no thread, port, file or octet is lost."""
-    with Server(sessions=0, root="folder", files={"big": 200_000, "f": b"a\nb"}, passive=4, server="lanes = 2", stop=True) as server:
+    # (the upload's file is there: of two sessions that make one file at the same moment, one is told that it exists)
+    with Server(sessions=0, root="folder", files={"big": 200_000, "f": b"a\nb", "up": b""}, passive=4, server="lanes = 2", stop=True) as server:
         threads, files = server.threads(), server.open_files()
         for way in ("down", "up", "list"):
             together(*(lambda moment=moment: [resets_at(server, way, moment, whose) for whose in ("control", "data", "both")] for moment in MOMENTS[:4]))

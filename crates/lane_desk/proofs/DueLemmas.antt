@@ -91,9 +91,9 @@ pub at_most_one : (f : Find) → mark_of f ≤ 1
 at_most_one None = omega arith
 at_most_one (Some a) = omega arith
 
-found_due : (f : Find) (t : TurnView) → mark_of f ≡ 1 → length t.collected ≡ length t.posted → is_due (tried_by f t) ≡ true
-found_due None t m e = absurd (omega (arith, m))
-found_due (Some a) t m e = collected_due a t e
+found_due : (given : Bool) (f : Find) (t : TurnView) → mark_of f ≡ 1 → length t.collected ≡ length t.posted → is_due (tried_by given f t) ≡ true
+found_due given None t m e = absurd (omega (arith, m))
+found_due given (Some a) t m e = collected_due a t e
 
 found_within : (fs : List Find) (k : ℕ) → mark_of (get_or fs k None) ≡ 1 → k < length fs
 found_within [] zero m = absurd (omega (arith, m))
@@ -102,11 +102,11 @@ found_within (f ∷ fs) zero m = omega arith
 found_within (f ∷ fs) (suc k) m = let h = found_within fs k m in omega (arith, h)
 
 -- what was collected is due on each lane that any order of the asks names
-pub due_of : (fs : List Find) (ts : List TurnView) (order : List Asker) → length fs ≡ length ts → AllAnswered ts → IsPermutation (asks_from 0 fs) order → AreDue (map lane_in order) (tried fs ts)
-due_of fs ts order wide old p =
+pub due_of : (given : ℕ → Bool) (fs : List Find) (ts : List TurnView) (order : List Asker) → length fs ≡ length ts → AllAnswered ts → IsPermutation (asks_from 0 fs) order → AreDue (map lane_in order) (tried given fs ts)
+due_of given fs ts order wide old p =
     let marks : (k : ℕ) → many k order ≡ mark_of (get_or fs k None) = λ k. many_moved k (asks_from 0 fs) order p ∙ many_at fs k in
-    all_due order (tried fs ts) (λ k. omega (arith, marks k, at_most_one (get_or fs k None)))
+    all_due order (tried given fs ts) (λ k. omega (arith, marks k, at_most_one (get_or fs k None)))
     (λ k e.
     let m : mark_of (get_or fs k None) ≡ 1 = sym (marks k) ∙ e in
     let near : k < length ts = omega (arith, found_within fs k m, wide) in
-    (omega (arith, near, length-tried fs ts), ap is_due (tried_at fs ts k wide near) ∙ found_due (get_or fs k None) (turn_at ts k) m (old k near)))
+    (omega (arith, near, length-tried given fs ts), ap is_due (tried_at given fs ts k wide near) ∙ found_due (given k) (get_or fs k None) (turn_at ts k) m (old k near)))

@@ -1,5 +1,5 @@
 -- Lanes that were tried.
-use Rattle.std.proofs.Common.{◌≡◌, ◌≢◌, ℕ, zero, suc, ◌+◌, ◌<◌, ◌^◌, List, [], ◌∷◌, ◌++◌, length, get_or, set, sum, sym, refl, ap, ◌∙◌, arith, bit_or, Option, Some, None, append-nil}
+use Rattle.std.proofs.Common.{◌≡◌, ◌≢◌, ℕ, zero, suc, ◌+◌, ◌<◌, ◌^◌, List, [], ◌∷◌, ◌++◌, length, get_or, set, sum, sym, refl, ap, ◌∙◌, subst, arith, bit_or, Bool, true, false, Option, Some, None, append-nil}
 use mathlib.Core.Logic.{dite}
 use native.Mathlib.Decide.{ℕ_discrete}
 use Rattle.std.specs.Int.{bit_at}
@@ -8,46 +8,49 @@ use Rattle.line_rates.specs.declared.ask.Ask.{Ask}
 use Rattle.line_rates.specs.TickTree.{Asker}
 use Rattle.desk_rule.specs.declared.view.TurnView.{TurnView}
 use Rattle.desk_rule.specs.Lanes.{unturned, posted_in}
-use Rattle.lane_desk.specs.Tried.{tried_by, tried, ask_at, asks_from, mark_of, AreMarks}
+use Rattle.lane_desk.specs.Tried.{tried_by, tried, ask_at, asks_from, mark_of, AreMarks, AreOfGiven}
 
 abbrev Find : Type 0
 Find = Option Ask
 
 -- one lane more is tried
-tried_next : (fs : List Find) (f : Find) (ts : List TurnView) → length fs < length ts → set (tried fs ts) (length fs) (tried_by f (get_or (tried fs ts) (length fs) unturned)) ≡ tried (fs ++ f ∷ []) ts
-tried_next [] f [] h = absurd (omega (arith, h))
-tried_next [] f (t ∷ ts) h = refl
-tried_next (g ∷ gs) f [] h = absurd (omega (arith, h))
-tried_next (g ∷ gs) f (t ∷ ts) h = ap (λ (l : List TurnView). tried_by g t ∷ l) (tried_next gs f ts (omega (arith, h)))
+tried_next : (given : ℕ → Bool) (fs : List Find) (f : Find) (ts : List TurnView) → length fs < length ts → set (tried given fs ts) (length fs) (tried_by (given (length fs)) f (get_or (tried given fs ts) (length fs) unturned)) ≡ tried given (fs ++ f ∷ []) ts
+tried_next given [] f [] h = absurd (omega (arith, h))
+tried_next given [] f (t ∷ ts) h = refl
+tried_next given (g ∷ gs) f [] h = absurd (omega (arith, h))
+tried_next given (g ∷ gs) f (t ∷ ts) h = ap (λ (l : List TurnView). tried_by (given 0) g t ∷ l) (tried_next (λ i. given (suc i)) gs f ts (omega (arith, h)))
 
-pub tried_more : (fs : List Find) (f : Find) (ts us vs : List TurnView) (n : ℕ) → length fs ≡ n → n < length ts → us ≡ tried fs ts → vs ≡ set us n (tried_by f (get_or us n unturned)) → vs ≡ tried (fs ++ f ∷ []) ts
-tried_more fs f ts us vs n e h is next =
-    next ∙ ap (λ (l : List TurnView). set l n (tried_by f (get_or l n unturned))) is
-    ∙ ap (λ (m : ℕ). set (tried fs ts) m (tried_by f (get_or (tried fs ts) m unturned))) (sym e)
-    ∙ tried_next fs f ts (omega (arith, e, h))
+pub tried_more : (given : ℕ → Bool) (fs : List Find) (f : Find) (ts us vs : List TurnView) (n : ℕ) → length fs ≡ n → n < length ts → us ≡ tried given fs ts → vs ≡ set us n (tried_by (given n) f (get_or us n unturned)) → vs ≡ tried given (fs ++ f ∷ []) ts
+tried_more given fs f ts us vs n e h is next =
+    next ∙ ap (λ (l : List TurnView). set l n (tried_by (given n) f (get_or l n unturned))) is
+    ∙ ap (λ (m : ℕ). set (tried given fs ts) m (tried_by (given m) f (get_or (tried given fs ts) m unturned))) (sym e)
+    ∙ tried_next given fs f ts (omega (arith, e, h))
 
--- what each lane is after it was tried
-pub tried_at : (fs : List Find) (ts : List TurnView) (i : ℕ) → length fs ≡ length ts → i < length ts → get_or (tried fs ts) i unturned ≡ tried_by (get_or fs i None) (get_or ts i unturned)
-tried_at [] [] i e h = absurd (omega (arith, h))
-tried_at [] (t ∷ ts) i e h = absurd (omega (arith, e))
-tried_at (f ∷ fs) [] i e h = absurd (omega (arith, h))
-tried_at (f ∷ fs) (t ∷ ts) zero e h = refl
-tried_at (f ∷ fs) (t ∷ ts) (suc i) e h = tried_at fs ts i (omega (arith, e)) (omega (arith, h))
+-- what each lane is after it was tried, if it is given
+pub tried_at : (given : ℕ → Bool) (fs : List Find) (ts : List TurnView) (i : ℕ) → length fs ≡ length ts → i < length ts → get_or (tried given fs ts) i unturned ≡ tried_by (given i) (get_or fs i None) (get_or ts i unturned)
+tried_at given [] [] i e h = absurd (omega (arith, h))
+tried_at given [] (t ∷ ts) i e h = absurd (omega (arith, e))
+tried_at given (f ∷ fs) [] i e h = absurd (omega (arith, h))
+tried_at given (f ∷ fs) (t ∷ ts) zero e h = refl
+tried_at given (f ∷ fs) (t ∷ ts) (suc i) e h = tried_at (λ j. given (suc j)) fs ts i (omega (arith, e)) (omega (arith, h))
 
-pub length-tried : (fs : List Find) (ts : List TurnView) → length (tried fs ts) ≡ length ts
-length-tried [] ts = refl
-length-tried (f ∷ fs) [] = refl
-length-tried (f ∷ fs) (t ∷ ts) = ap suc (length-tried fs ts)
+pub length-tried : (given : ℕ → Bool) (fs : List Find) (ts : List TurnView) → length (tried given fs ts) ≡ length ts
+length-tried given [] ts = refl
+length-tried given (f ∷ fs) [] = refl
+length-tried given (f ∷ fs) (t ∷ ts) = ap suc (length-tried (λ i. given (suc i)) fs ts)
 
-pub posted_same : (f : Find) (t : TurnView) → (tried_by f t).posted ≡ t.posted
-posted_same None t = refl
-posted_same (Some a) t = refl
+pub posted_same : (given : Bool) (f : Find) (t : TurnView) → (tried_by given f t).posted ≡ t.posted
+posted_same true None t = refl
+posted_same false None t = refl
+posted_same given (Some a) t = refl
 
 -- trying posts nothing
-pub posted_in-tried : (fs : List Find) (ts : List TurnView) → posted_in (tried fs ts) ≡ posted_in ts
-posted_in-tried [] ts = refl
-posted_in-tried (f ∷ fs) [] = refl
-posted_in-tried (f ∷ fs) (t ∷ ts) = ap (λ (l : List ℕ). sum l + posted_in (tried fs ts)) (posted_same f t) ∙ ap (λ (n : ℕ). sum t.posted + n) (posted_in-tried fs ts)
+pub posted_in-tried : (given : ℕ → Bool) (fs : List Find) (ts : List TurnView) → posted_in (tried given fs ts) ≡ posted_in ts
+posted_in-tried given [] ts = refl
+posted_in-tried given (f ∷ fs) [] = refl
+posted_in-tried given (f ∷ fs) (t ∷ ts) =
+    ap (λ (l : List ℕ). sum l + posted_in (tried (λ i. given (suc i)) fs ts)) (posted_same (given 0) f t)
+    ∙ ap (λ (n : ℕ). sum t.posted + n) (posted_in-tried (λ i. given (suc i)) fs ts)
 
 asks_next : (fs : List Find) (f : Find) (k : ℕ) → asks_from k (fs ++ f ∷ []) ≡ asks_from k fs ++ ask_at (k + length fs) f
 asks_next [] None k = refl
@@ -80,6 +83,24 @@ get_none [] zero = refl
 get_none [] (suc i) = refl
 get_none (g ∷ gs) zero = refl
 get_none (g ∷ gs) (suc i) = get_none gs i
+
+-- no ask was found yet
+pub none_given : (given : ℕ → Bool) → AreOfGiven given []
+none_given given zero h = refl
+none_given given (suc i) h = refl
+
+-- one lane more, and nothing was found there
+pub given_missed : (given : ℕ → Bool) (fs : List Find) → AreOfGiven given fs → AreOfGiven given (fs ++ None ∷ [])
+given_missed given fs only i h = get_none fs i ∙ only i h
+
+-- one given lane more
+pub given_found : (given : ℕ → Bool) (fs : List Find) (a : Ask) (k : ℕ) → length fs ≡ k → given k ≡ true → AreOfGiven given fs → AreOfGiven given (fs ++ Some a ∷ [])
+given_found given fs a k e is only i h = dite (ℕ_discrete i (length fs))
+    (λ same. absurd (differ (sym is ∙ ap given (sym (same ∙ e)) ∙ h)))
+    (λ ne. get_other fs (Some a) i ne ∙ only i h)
+  where
+    differ : true ≡ false → ⊥
+    differ q = cc
 
 pub no_marks : AreMarks [] 0
 no_marks i = Rattle.std.proofs.lemmas.Nat.Bits.bit_at-zero i ∙ nothing i

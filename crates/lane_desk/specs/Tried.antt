@@ -1,21 +1,33 @@
--- Trying each lane once.
-use Rattle.std.specs.Prelude.{◌≡◌, ℕ, ◌+◌, List, [], ◌∷◌, length, slice_index_or, Option, Some, None}
+-- Trying each of the given lanes once.
+use Rattle.std.specs.Prelude.{◌≡◌, ℕ, suc, ◌+◌, List, [], ◌∷◌, length, slice_index_or, Option, Some, None, Bool, true, false, cond}
 use Rattle.std.specs.Int.{bit_at}
 use Rattle.line_rates.specs.declared.ask.Ask.{Ask}
 use Rattle.line_rates.specs.TickTree.{Asker}
 use Rattle.desk_rule.specs.declared.view.TurnView.{TurnView}
 use Rattle.desk_rule.specs.Lanes.{has_missed, has_collected}
 
--- a lane after it was tried, with the ask found there, if any
-abbrev pub tried_by : Option Ask → TurnView → TurnView
-tried_by None t = has_missed t
-tried_by (Some a) t = has_collected a t
+-- whether a lane is given, by a list of what holds of each
+abbrev pub is_given : List Bool → ℕ → Bool
+is_given given i = slice_index_or given i false
 
--- the first lanes, each after it was tried
-abbrev pub tried : List (Option Ask) → List TurnView → List TurnView
-tried [] ts = ts
-tried (f ∷ fs) [] = []
-tried (f ∷ fs) (t ∷ ts) = tried_by f t ∷ tried fs ts
+-- all lanes are given
+abbrev pub every : ℕ → Bool
+every i = true
+
+-- a lane after it was tried if it is given, with the ask found there, if any
+abbrev pub tried_by : Bool → Option Ask → TurnView → TurnView
+tried_by given None t = cond given (has_missed t) t
+tried_by given (Some a) t = has_collected a t
+
+-- the first lanes, each after it was tried if it is given
+abbrev pub tried : (ℕ → Bool) → List (Option Ask) → List TurnView → List TurnView
+tried given [] ts = ts
+tried given (f ∷ fs) [] = []
+tried given (f ∷ fs) (t ∷ ts) = tried_by (given 0) f t ∷ tried (λ i. given (suc i)) fs ts
+
+-- asks were found on given lanes only
+abbrev pub AreOfGiven : (ℕ → Bool) → List (Option Ask) → Type 0
+AreOfGiven given found = (i : ℕ) → given i ≡ false → slice_index_or found i None ≡ None
 
 abbrev pub ask_at : ℕ → Option Ask → List Asker
 ask_at k None = []
@@ -36,10 +48,11 @@ mark_of (Some a) = 1
 abbrev pub AreMarks : List (Option Ask) → ℕ → Type 0
 AreMarks found n = (i : ℕ) → bit_at n i ≡ mark_of (slice_index_or found i None)
 
--- each lane was tried once, with these results
-pub record AreTried (found : List (Option Ask)) (old new : List TurnView) (asks : List Asker)
-    (answered : ℕ) : Type 0 where
+-- each given lane was tried once, with these results, and no other
+pub record AreTried (given : ℕ → Bool) (found : List (Option Ask)) (old new : List TurnView)
+    (asks : List Asker) (answered : ℕ) : Type 0 where
   pub wide : length found ≡ length old
-  pub turns : new ≡ tried found old
+  pub only : AreOfGiven given found
+  pub turns : new ≡ tried given found old
   pub asks_are : asks ≡ asks_from 0 found
   pub marks : AreMarks found answered

@@ -1,25 +1,55 @@
 //! Collecting.
 
-ghost use Rattle.std.specs.Prelude.{◌<◌, List, Option};
+ghost use Rattle.std.specs.Prelude.{◌≡◌, ◌<◌, List, Option, None, true, slice_set, slice_index_or, IfSome, IfNone, OnSome};
+ghost use Rattle.desk_rule.specs.Lanes.{unturned, has_collected};
 ghost use Rattle.line_rates.specs.declared.ask.Ask.{Ask};
 ghost use Rattle.lane_desk.specs.Turns.{turns, IsRoundOf, IsSameRound};
-ghost use Rattle.lane_desk.specs.Tried.{AreTried};
+ghost use Rattle.lane_desk.specs.Tried.{is_given, tried_by, AreTried};
 
 use crate::asks::Asks;
 use crate::desk::Desk;
 use crate::round::RoundDesk;
+use grant_ledger::MAX_LANES;
+use line_rates::Ask;
 use std::alloc::Allocator;
 
-/// Tries each lane once, in rising order.
-pub(crate) fn collect_all<N, A: Allocator>(round: &mut RoundDesk<N>, desk: &Desk<N, A>) -> Asks
+// Tries a lane if it is given.
+fn collect_if<N, A: Allocator>(
+    round: &mut RoundDesk<N>,
+    desk: &Desk<N, A>,
+    lane: usize,
+    is_given: bool,
+) -> Option<Ask>
+    requires desk { IsRoundOf desk.now round.old }
+    requires lane { lane < round.old.lanes }
+    ensures same { IsSameRound round.old round.new }
+    ensures some { IfSome result (λ a. turns round.new ≡ slice_set (turns round.old) lane
+        (has_collected a (slice_index_or (turns round.old) lane unturned))) }
+    ensures none { IfNone result (turns round.new ≡ slice_set (turns round.old) lane
+        (tried_by is_given None (slice_index_or (turns round.old) lane unturned))) }
+    ensures only { OnSome result (is_given ≡ true) }
+{
+    if is_given {
+        return round.collect(desk, lane);
+    }
+    None
+}
+
+/// Tries each of the given lanes once, in rising order, and no other.
+pub(crate) fn collect_all<N, A: Allocator>(
+    round: &mut RoundDesk<N>,
+    desk: &Desk<N, A>,
+    given: &[bool; MAX_LANES],
+) -> Asks
     requires desk { IsRoundOf desk.now round.old }
     ensures same { IsSameRound round.old round.new }
     ensures tried { (found : List (Option Ask))
-        × AreTried found (turns round.old) (turns round.new) result.asks result.answered }
+        × AreTried (is_given given.now) found (turns round.old) (turns round.new) result.asks
+        result.answered }
 {
     let mut asks = Asks::new();
     for lane in 0..round.lanes() {
-        match round.collect(desk, lane) {
+        match collect_if(round, desk, lane, given[lane]) {
             Some(ask) => asks.push(lane as u8, ask),
             None => {}
         }

@@ -6,7 +6,8 @@ ghost use Rattle.limit_tree.specs.Sharing.{IsBest};
 ghost use Rattle.desk_rule.specs.Lanes.{posted_in};
 ghost use Rattle.lane_desk.specs.Turns.{turns, IsRoundOf, IsSameRound};
 ghost use Rattle.lane_desk.specs.Posted.{AllAnswered};
-ghost use Rattle.lane_desk.specs.Rounded.{IsRound, IsRefusedRound};
+ghost use Rattle.lane_desk.specs.Tried.{is_given};
+ghost use Rattle.lane_desk.specs.Rounded.{IsRound, IsRefusedRound, IsRoundOver, IsRefusedRoundOver};
 
 use crate::collect::collect_all;
 use crate::decision::{Decision, decide};
@@ -15,7 +16,7 @@ use crate::post::{post_all, refuse_all};
 use crate::refusal::RoundRefusal;
 use crate::round::RoundDesk;
 use grant_certificate::Sealed;
-use grant_ledger::Book;
+use grant_ledger::{Book, MAX_LANES};
 use line_rates::{Ask, Limits};
 use std::alloc::{Allocator, Global};
 
@@ -43,12 +44,71 @@ pub struct RoundFault {
 }
 
 impl<N> RoundDesk<N> {
-    /// Tries each lane once in rising order, decides for the asks found at a moment in milliseconds, enters the
-    /// decision into the book, and answers each ask. A refused round answers each with 0 octets, and leaves the book
-    /// unchanged.
+    /// Tries each of the given lanes once in rising order, and no other: those whose place in `given` is true. Decides
+    /// for the asks found at a moment in milliseconds, enters the decision into the book, and answers each ask. A refused
+    /// round answers each with 0 octets, and leaves the book unchanged.
     ///
     /// Returns `NotYet` if the tick is not above that of the book's last entry; otherwise `Plan` if the limit tree of
     /// the tick has a fault, `Memory`, or `BookFull` if the book would issue too much.
+    pub fn round_of<L: Allocator, A: Allocator + Clone, D: Allocator>(
+        &mut self,
+        alloc: A,
+        desk: &Desk<N, D>,
+        limits: &Limits<L>,
+        moment: u64,
+        book: &mut Book<N>,
+        given: &[bool; MAX_LANES],
+    ) -> Result<RoundRecord<A>, RoundFault>
+        requires desk { IsRoundOf desk.now self.old }
+        requires answered { AllAnswered (turns self.old) }
+        requires issued { posted_in (turns self.old) ≤ book.old.issued }
+        ensures same { IsSameRound self.old self.new }
+        ensures answered { AllAnswered (turns self.new) }
+        ensures tick { IfOk result (λ r. r.tick ≡ moment / 100) }
+        ensures round { IfOk result (λ r. IsRoundOver (is_given given.now) limits.now (moment / 100)
+            (turns self.old) (turns self.new) r.answered (seen r.sealed.tree) r.lanes.items r.asks.items
+            r.sealed.grants) }
+        ensures best { IfOk result (λ r. IsBest (seen r.sealed.tree) r.sealed.grants) }
+        ensures issued { IfOk result
+            (λ r. book.new.issued ≡ book.old.issued + sum r.sealed.grants) }
+        ensures total { IfOk result (λ r. posted_in (turns self.new)
+            ≡ posted_in (turns self.old) + sum r.sealed.grants) }
+        ensures last_tick { OnOk result (book.new.last_tick ≡ Some (moment / 100)) }
+        ensures undrawn { book.new.undrawn ≡ book.old.undrawn }
+        ensures refused { IfErr result (λ f. IsRefusedRoundOver A (is_given given.now) limits.now
+            (moment / 100) book.old (turns self.old) (turns self.new) f.answered f.reason) }
+        ensures unposted { OnErr result (posted_in (turns self.new) ≡ posted_in (turns self.old)) }
+        ensures unchanged { OnErr result (book.new ≡ book.old) }
+    {
+        let tick = moment / 100;
+        let asks = collect_all(self, desk, given);
+        let answered = asks.answered();
+        match decide(alloc, limits, tick, asks.as_slice(), book) {
+            Ok(decision) => {
+                let Decision {
+                    lanes,
+                    asks: leaf_asks,
+                    sealed,
+                    purse,
+                } = decision;
+                post_all(self, desk, &lanes, sealed.grants(), purse);
+                Ok(RoundRecord {
+                    tick,
+                    answered,
+                    lanes,
+                    asks: leaf_asks,
+                    sealed,
+                })
+            }
+            Err(reason) => {
+                refuse_all(self, desk, asks.as_slice(), tick);
+                Err(RoundFault { reason, answered })
+            }
+        }
+    }
+
+    /// A round of all lanes, as `round_of`: tries each lane once in rising order, decides for the asks found at a moment
+    /// in milliseconds, enters the decision into the book, and answers each ask.
     pub fn round<L: Allocator, A: Allocator + Clone, D: Allocator>(
         &mut self,
         alloc: A,
@@ -78,30 +138,6 @@ impl<N> RoundDesk<N> {
         ensures unposted { OnErr result (posted_in (turns self.new) ≡ posted_in (turns self.old)) }
         ensures unchanged { OnErr result (book.new ≡ book.old) }
     {
-        let tick = moment / 100;
-        let asks = collect_all(self, desk);
-        let answered = asks.answered();
-        match decide(alloc, limits, tick, asks.as_slice(), book) {
-            Ok(decision) => {
-                let Decision {
-                    lanes,
-                    asks: leaf_asks,
-                    sealed,
-                    purse,
-                } = decision;
-                post_all(self, desk, &lanes, sealed.grants(), purse);
-                Ok(RoundRecord {
-                    tick,
-                    answered,
-                    lanes,
-                    asks: leaf_asks,
-                    sealed,
-                })
-            }
-            Err(reason) => {
-                refuse_all(self, desk, asks.as_slice(), tick);
-                Err(RoundFault { reason, answered })
-            }
-        }
+        self.round_of(alloc, desk, limits, moment, book, &[true; MAX_LANES])
     }
 }

@@ -6,12 +6,13 @@ ghost use Rattle.limit_tree.specs.Sharing.{IsBest};
 ghost use Rattle.desk_rule.specs.Lanes.{posted_in};
 ghost use Rattle.lane_desk.specs.Turns.{turns, IsRoundOf, IsSameRound};
 ghost use Rattle.lane_desk.specs.Posted.{AllAnswered};
-ghost use Rattle.lane_desk.specs.Rounded.{IsRound, IsRefusedRound};
+ghost use Rattle.lane_desk.specs.Tried.{is_given};
+ghost use Rattle.lane_desk.specs.Rounded.{IsRoundOver, IsRefusedRoundOver};
 
 use crate::desk::Desk;
 use crate::record::{RoundFault, RoundRecord};
 use crate::round::RoundDesk;
-use grant_ledger::{Book, Tally};
+use grant_ledger::{Book, MAX_LANES, Tally};
 use line_rates::Limits;
 use std::alloc::Allocator;
 
@@ -50,30 +51,33 @@ impl<N> Rounds<N> {
         self.book.last_tick()
     }
 
-    /// A round of the desk, which may be refused: tries each lane once, decides for the asks found at a moment in
-    /// milliseconds, and answers each.
-    pub fn round<L: Allocator, A: Allocator + Clone, D: Allocator>(
+    /// A round of the given lanes, which may be refused: tries each of them once and no other, decides for the asks found
+    /// at a moment in milliseconds, and answers each. Lanes are given by `true` in their place.
+    pub fn round_of<L: Allocator, A: Allocator + Clone, D: Allocator>(
         &mut self,
         alloc: A,
         desk: &Desk<N, D>,
         limits: &Limits<L>,
         moment: u64,
+        given: &[bool; MAX_LANES],
     ) -> Result<RoundRecord<A>, RoundFault>
         requires desk { IsRoundOf desk.now self.old.desk }
         ensures same { IsSameRound self.old.desk self.new.desk }
         ensures tally { self.new.tally ≡ self.old.tally }
         ensures tick { IfOk result (λ r. r.tick ≡ moment / 100) }
-        ensures round { IfOk result (λ r. IsRound limits.now (moment / 100) (turns self.old.desk)
-            (turns self.new.desk) r.answered (seen r.sealed.tree) r.lanes.items r.asks.items
-            r.sealed.grants) }
+        ensures round { IfOk result (λ r. IsRoundOver (is_given given.now) limits.now (moment / 100)
+            (turns self.old.desk) (turns self.new.desk) r.answered (seen r.sealed.tree)
+            r.lanes.items r.asks.items r.sealed.grants) }
         ensures best { IfOk result (λ r. IsBest (seen r.sealed.tree) r.sealed.grants) }
         ensures issued { IfOk result
             (λ r. self.new.book.issued ≡ self.old.book.issued + sum r.sealed.grants) }
         ensures last_tick { OnOk result (self.new.book.last_tick ≡ Some (moment / 100)) }
-        ensures refused { IfErr result (λ f. IsRefusedRound A limits.now (moment / 100)
-            self.old.book (turns self.old.desk) (turns self.new.desk) f.answered f.reason) }
+        ensures refused { IfErr result (λ f. IsRefusedRoundOver A (is_given given.now) limits.now
+            (moment / 100) self.old.book (turns self.old.desk) (turns self.new.desk) f.answered
+            f.reason) }
         ensures unchanged { OnErr result (self.new.book ≡ self.old.book) }
     {
-        self.desk.round(alloc, desk, limits, moment, &mut self.book)
+        self.desk
+            .round_of(alloc, desk, limits, moment, &mut self.book, given)
     }
 }

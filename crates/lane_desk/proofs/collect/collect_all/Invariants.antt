@@ -1,7 +1,7 @@
 use Rattle.std.proofs.Common.{◌≡◌, ◌≤◌, List, length, Option}
 use Rattle.line_rates.specs.declared.ask.Ask.{Ask}
 use Rattle.lane_desk.specs.Turns.{turns, IsSameRound}
-use Rattle.lane_desk.specs.Tried.{tried, asks_from, AreMarks}
+use Rattle.lane_desk.specs.Tried.{is_given, tried, asks_from, AreMarks, AreOfGiven}
 use Rattle.lane_desk.proofs.collect.collect_all.Given as goal
 
 abbrev pub invariant-loop-lane : goal.invariant-loop-lane
@@ -10,7 +10,8 @@ invariant-loop-lane g l =
       found : List (Option Ask);
       count : length found ≡ l.lane;
       same : IsSameRound l.fn.round l.round;
-      turned : turns l.round ≡ tried found (turns l.fn.round);
+      only : AreOfGiven (is_given l.fn.given) found;
+      turned : turns l.round ≡ tried (is_given l.fn.given) found (turns l.fn.round);
       room : length l.asks.asks ≤ l.lane;
       asks_are : l.asks.asks ≡ asks_from 0 found;
       marks : AreMarks found l.asks.answered;

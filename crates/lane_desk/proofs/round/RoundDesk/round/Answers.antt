@@ -1,143 +1,28 @@
-use Rattle.std.proofs.Common.{◌≡◌, ◌/◌, sum, ℕ, List, map, ap, ◌∙◌, sym, subst, arith}
+use Rattle.std.proofs.Common.{◌≡◌, ◌<◌, ◌/◌, ℕ, Bool, true, false, List, length, replicate, arith}
+use Rattle.std.proofs.lemmas.List.{get_or-replicate}
+use Rattle.std.proofs.lemmas.Result.{IfOk-weaker, IfErr-weaker}
 use Rattle.limit_tree.specs.Outline.{limits as seen}
-use Rattle.line_rates.specs.TickTree.{Asker, lane_in}
-use Rattle.lane_desk.specs.Asked.{AreApart, IsAskedPlan}
-use Rattle.lane_desk.specs.Refusals.{IsRefused}
 use Rattle.lane_desk.specs.Turns.{turns}
-use Rattle.lane_desk.specs.Posted.{AreDue, posted_all, nothing_for}
-use Rattle.lane_desk.specs.Rounded.{IsRound, IsRefusedRound}
-use Rattle.lane_desk.proofs.AskedLemmas.{found_apart}
-use Rattle.lane_desk.proofs.RoundLemmas.{due_plan, due_asks, posted_mid, rounded, round_total, answered_round, refused, refused_total, answered_refused}
+use Rattle.lane_desk.specs.Tried.{is_given}
+use Rattle.lane_desk.proofs.RoundLemmas.{whole_round, whole_refusal}
 use Rattle.lane_desk.proofs.round.RoundDesk.round.Goals as goal
 
-pub decide-requires : goal.decide-requires
-decide-requires g c =
-    let t = c.collect_all-asks.ensures.tried in
-    record { apart = subst AreApart (sym c.as_slice.ensures.asks) (found_apart t.0 c.collect_all-asks.result.asks t.1.asks_are) }
-
-pub post_all-requires-clause-due : goal.post_all-requires-clause-due
-post_all-requires-clause-due g c =
-    let t = c.collect_all-asks.ensures.tried in
+pub returns-clause-round : goal.returns-clause-round
+returns-clause-round g c =
+    let given : ℕ → Bool = is_given (replicate 64 true) in
     let old = turns c.args.self.now in
-    let mid = turns c.collect_all-asks.new.round in
-    let asks = c.collect_all-asks.result.asks in
-    let marks = c.collect_all-asks.result.answered in
-    let rates = c.args.limits.now in
-    let tick : ℕ = c.args.moment / 100 in
-    let d = c.in-Ok.decision in
-    let tree = seen d.sealed.tree in
-    let own = subst (λ (xs : List Asker). IsAskedPlan rates tick xs tree d.lanes.items d.asks.items) c.as_slice.ensures.asks c.in-Ok.ensures.plan in
-    subst (λ (ls : List ℕ). AreDue ls mid) (sym c.deref.ensures.value) (due_plan rates tick tree d.lanes.items t.0 old mid asks marks t.1 c.requires.answered own.plan)
+    let new = turns c.round_of.new.self in
+    let alike : (i : ℕ) → i < length old → given i ≡ true = λ i near. get_or-replicate 64 i true false (omega (arith, near, c.args.self.now.few, c.args.self.now.knows.wide)) in
+    IfOk-weaker c.round_of.result _ _
+    (λ r w. whole_round given c.args.limits.now (c.args.moment / 100) old new r.answered alike (seen r.sealed.tree) r.lanes.items r.asks.items r.sealed.grants w)
+    c.round_of.ensures.round
 
-pub post_all-requires-clause-most : goal.post_all-requires-clause-most
-post_all-requires-clause-most g c =
-    let t = c.collect_all-asks.ensures.tried in
+pub returns-clause-refused : goal.returns-clause-refused
+returns-clause-refused g c =
+    let given : ℕ → Bool = is_given (replicate 64 true) in
     let old = turns c.args.self.now in
-    let mid = turns c.collect_all-asks.new.round in
-    let asks = c.collect_all-asks.result.asks in
-    let marks = c.collect_all-asks.result.answered in
-    let rates = c.args.limits.now in
-    let tick : ℕ = c.args.moment / 100 in
-    omega (arith, posted_mid t.0 old mid asks marks t.1, c.requires.issued, c.in-Ok.ensures.most, ap sum c.grants.ensures.grants)
-
-pub refuse_all-requires-clause-due : goal.refuse_all-requires-clause-due
-refuse_all-requires-clause-due g c =
-    let t = c.collect_all-asks.ensures.tried in
-    let old = turns c.args.self.now in
-    let mid = turns c.collect_all-asks.new.round in
-    let asks = c.collect_all-asks.result.asks in
-    let marks = c.collect_all-asks.result.answered in
-    let rates = c.args.limits.now in
-    let tick : ℕ = c.args.moment / 100 in
-    subst (λ (xs : List Asker). AreDue (map lane_in xs) mid) (sym c.as_slice-in-Err.ensures.asks) (due_asks t.0 old mid asks marks t.1 c.requires.answered)
-
-pub returns-in-Ok-clause-round : goal.returns-in-Ok-clause-round
-returns-in-Ok-clause-round g c =
-    let t = c.collect_all-asks.ensures.tried in
-    let old = turns c.args.self.now in
-    let mid = turns c.collect_all-asks.new.round in
-    let asks = c.collect_all-asks.result.asks in
-    let marks = c.collect_all-asks.result.answered in
-    let rates = c.args.limits.now in
-    let tick : ℕ = c.args.moment / 100 in
-    let d = c.in-Ok.decision in
-    let tree = seen d.sealed.tree in
-    let own = subst (λ (xs : List Asker). IsAskedPlan rates tick xs tree d.lanes.items d.asks.items) c.as_slice.ensures.asks c.in-Ok.ensures.plan in
-    let new = turns c.post_all.new.round in
-    let is : new ≡ posted_all d.lanes.items d.sealed.grants mid = c.post_all.ensures.posted ∙ (λ q. posted_all (c.deref.ensures.value q) (c.grants.ensures.grants q) mid) in
-    subst (λ (n : ℕ). IsRound rates tick old new n tree d.lanes.items d.asks.items d.sealed.grants) (sym c.answered-answered.ensures.answered)
-    (rounded rates tick tree d.lanes.items d.asks.items d.sealed.grants t.0 old mid new asks marks t.1 c.requires.answered own c.in-Ok.ensures.each is)
-
-pub returns-in-Ok-clause-answered : goal.returns-in-Ok-clause-answered
-returns-in-Ok-clause-answered g c =
-    let t = c.collect_all-asks.ensures.tried in
-    let old = turns c.args.self.now in
-    let mid = turns c.collect_all-asks.new.round in
-    let asks = c.collect_all-asks.result.asks in
-    let marks = c.collect_all-asks.result.answered in
-    let rates = c.args.limits.now in
-    let tick : ℕ = c.args.moment / 100 in
-    let d = c.in-Ok.decision in
-    let tree = seen d.sealed.tree in
-    let own = subst (λ (xs : List Asker). IsAskedPlan rates tick xs tree d.lanes.items d.asks.items) c.as_slice.ensures.asks c.in-Ok.ensures.plan in
-    let new = turns c.post_all.new.round in
-    let is : new ≡ posted_all d.lanes.items d.sealed.grants mid = c.post_all.ensures.posted ∙ (λ q. posted_all (c.deref.ensures.value q) (c.grants.ensures.grants q) mid) in
-    answered_round rates tick tree d.lanes.items d.asks.items d.sealed.grants old new marks (rounded rates tick tree d.lanes.items d.asks.items d.sealed.grants t.0 old mid new asks marks t.1 c.requires.answered own c.in-Ok.ensures.each is) c.requires.answered
-
-pub returns-in-Ok-clause-total : goal.returns-in-Ok-clause-total
-returns-in-Ok-clause-total g c =
-    let t = c.collect_all-asks.ensures.tried in
-    let old = turns c.args.self.now in
-    let mid = turns c.collect_all-asks.new.round in
-    let asks = c.collect_all-asks.result.asks in
-    let marks = c.collect_all-asks.result.answered in
-    let rates = c.args.limits.now in
-    let tick : ℕ = c.args.moment / 100 in
-    let d = c.in-Ok.decision in
-    let tree = seen d.sealed.tree in
-    let own = subst (λ (xs : List Asker). IsAskedPlan rates tick xs tree d.lanes.items d.asks.items) c.as_slice.ensures.asks c.in-Ok.ensures.plan in
-    let new = turns c.post_all.new.round in
-    let is : new ≡ posted_all d.lanes.items d.sealed.grants mid = c.post_all.ensures.posted ∙ (λ q. posted_all (c.deref.ensures.value q) (c.grants.ensures.grants q) mid) in
-    round_total rates tick tree d.lanes.items d.sealed.grants t.0 old mid new asks marks t.1 c.requires.answered own.plan c.in-Ok.ensures.each is
-
-pub returns-in-Err-clause-refused : goal.returns-in-Err-clause-refused
-returns-in-Err-clause-refused g c =
-    let t = c.collect_all-asks.ensures.tried in
-    let old = turns c.args.self.now in
-    let mid = turns c.collect_all-asks.new.round in
-    let asks = c.collect_all-asks.result.asks in
-    let marks = c.collect_all-asks.result.answered in
-    let rates = c.args.limits.now in
-    let tick : ℕ = c.args.moment / 100 in
-    let new = turns c.refuse_all.new.round in
-    let is : new ≡ posted_all (map lane_in asks) (map nothing_for asks) mid = c.refuse_all.ensures.posted ∙ ap (λ (xs : List Asker). posted_all (map lane_in xs) (map nothing_for xs) mid) c.as_slice-in-Err.ensures.asks in
-    let why = subst (λ (xs : List Asker). IsRefused g.row.A.Denot rates tick xs c.args.book.now c.in-Err.reason) c.as_slice.ensures.asks c.in-Err.ensures.refused in
-    subst (λ (n : ℕ). IsRefusedRound g.row.A.Denot rates tick c.args.book.now old new n c.in-Err.reason) (sym c.answered-answered.ensures.answered)
-    (refused g.row.A.Denot rates tick c.args.book.now c.in-Err.reason t.0 old mid new asks marks t.1 c.requires.answered why is)
-
-pub returns-in-Err-clause-answered : goal.returns-in-Err-clause-answered
-returns-in-Err-clause-answered g c =
-    let t = c.collect_all-asks.ensures.tried in
-    let old = turns c.args.self.now in
-    let mid = turns c.collect_all-asks.new.round in
-    let asks = c.collect_all-asks.result.asks in
-    let marks = c.collect_all-asks.result.answered in
-    let rates = c.args.limits.now in
-    let tick : ℕ = c.args.moment / 100 in
-    let new = turns c.refuse_all.new.round in
-    let is : new ≡ posted_all (map lane_in asks) (map nothing_for asks) mid = c.refuse_all.ensures.posted ∙ ap (λ (xs : List Asker). posted_all (map lane_in xs) (map nothing_for xs) mid) c.as_slice-in-Err.ensures.asks in
-    let why = subst (λ (xs : List Asker). IsRefused g.row.A.Denot rates tick xs c.args.book.now c.in-Err.reason) c.as_slice.ensures.asks c.in-Err.ensures.refused in
-    answered_refused g.row.A.Denot rates tick c.args.book.now c.in-Err.reason old new marks (refused g.row.A.Denot rates tick c.args.book.now c.in-Err.reason t.0 old mid new asks marks t.1 c.requires.answered why is) c.requires.answered
-
-pub returns-in-Err-clause-unposted : goal.returns-in-Err-clause-unposted
-returns-in-Err-clause-unposted g c =
-    let t = c.collect_all-asks.ensures.tried in
-    let old = turns c.args.self.now in
-    let mid = turns c.collect_all-asks.new.round in
-    let asks = c.collect_all-asks.result.asks in
-    let marks = c.collect_all-asks.result.answered in
-    let rates = c.args.limits.now in
-    let tick : ℕ = c.args.moment / 100 in
-    let new = turns c.refuse_all.new.round in
-    let is : new ≡ posted_all (map lane_in asks) (map nothing_for asks) mid = c.refuse_all.ensures.posted ∙ ap (λ (xs : List Asker). posted_all (map lane_in xs) (map nothing_for xs) mid) c.as_slice-in-Err.ensures.asks in
-    refused_total t.0 old mid new asks marks t.1 c.requires.answered is
+    let new = turns c.round_of.new.self in
+    let alike : (i : ℕ) → i < length old → given i ≡ true = λ i near. get_or-replicate 64 i true false (omega (arith, near, c.args.self.now.few, c.args.self.now.knows.wide)) in
+    IfErr-weaker c.round_of.result _ _
+    (λ f w. whole_refusal given c.args.limits.now (c.args.moment / 100) old new f.answered alike g.row.A.Denot c.args.book.now f.reason w)
+    c.round_of.ensures.refused

@@ -23,7 +23,7 @@ pub struct TransferRows {
     pub user: Credit,
     /// The number of the user's group, if they are in one.
     pub group_number: Option<u32>,
-    /// Whether each session of the user has a rate or a guarantee of this direction: these are earned from one round
+    /// True if each session of the user has a rate or a guarantee of this direction: these are earned from one round
     /// to the next and not kept.
     pub is_timed: bool,
 }

@@ -8,3 +8,4 @@ pub mod Offered
 pub mod Taken
 pub mod Spent
 pub mod Histories
+pub mod Rows

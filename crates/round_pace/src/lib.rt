@@ -21,6 +21,7 @@ mod due;
 mod laws;
 mod pace;
 mod paced;
+mod rows;
 
 pub use credit::{Credit, MOST_OFFERED, TICK_MICROS, TICKS};
 pub use due::Due;
@@ -30,3 +31,4 @@ pub use laws::{
 };
 pub use pace::Pace;
 pub use paced::{GroupPace, UserPace};
+pub use rows::TransferRows;

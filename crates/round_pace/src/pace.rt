@@ -4,6 +4,7 @@ ghost use Rattle.std.specs.Prelude.{◌≡◌, ◌<◌, ◌^◌, IfOk, map};
 ghost use Rattle.round_pace.specs.Earned.{tick_of};
 ghost use Rattle.round_pace.specs.Offered.{refill_all, offer_all, with_offered, offer_round, left_rates, due_in};
 ghost use Rattle.round_pace.specs.Paced.{Paced, new_group, new_user, IsPacedFrom};
+ghost use Rattle.round_pace.specs.Rows.{rows_of};
 ghost use Rattle.round_pace.specs.Spent.{due_for_in};
 ghost use Rattle.round_pace.specs.Taken.{take_octets};
 
@@ -14,6 +15,7 @@ use crate::paced::{
     put_groups, put_users, refill_groups, refill_users, take_groups, take_if_down, take_if_up,
     take_users,
 };
+use crate::rows::{TransferRows, group_credit, is_timed, user_credit};
 use line_rates::{GroupRate, Limits, Name, UserRate, Way};
 use std::alloc::{AllocError, Allocator, Global};
 use std::marker::Model;
@@ -220,5 +222,20 @@ impl<A: Allocator> Pace<A> {
             return Due::At(next);
         }
         Due::Now
+    }
+
+    /// The credits of the rates that a user's transfer is within, as they are now.
+    pub fn rows_of(&self, way: Way, user: u32) -> TransferRows
+        ensures rows { result ≡ rows_of way user self.now }
+    {
+        let group_number = group_of(&self.users, user);
+        TransferRows {
+            server: self.server,
+            way: credit_of(self.down, self.up, way),
+            group: group_credit(&self.groups, group_number, way),
+            user: user_credit(&self.users, user, way),
+            group_number,
+            is_timed: is_timed(&self.users, user, way),
+        }
     }
 }

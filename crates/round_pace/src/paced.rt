@@ -222,8 +222,8 @@ fn take_user(user: UserPace, way: Way, octets: u64) -> UserPace
     }
 }
 
-// The index of a user's row, by binary search.
-fn find_user(users: &[UserPace], user: u32) -> Option<usize>
+/// The index of a user's row, by binary search.
+pub(crate) fn find_user(users: &[UserPace], user: u32) -> Option<usize>
     requires rising { IsRising pace_number users.now }
     ensures place { FindsPlace pace_number users.now user result }
 {
@@ -233,8 +233,8 @@ fn find_user(users: &[UserPace], user: u32) -> Option<usize>
     }
 }
 
-// The index of a group's row, by binary search.
-fn find_group(groups: &[GroupPace], group: u32) -> Option<usize>
+/// The index of a group's row, by binary search.
+pub(crate) fn find_group(groups: &[GroupPace], group: u32) -> Option<usize>
     requires rising { IsRising group_key groups.now }
     ensures place { FindsPlace group_key groups.now group result }
 {
@@ -313,7 +313,8 @@ pub(crate) fn credit_of(down: Credit, up: Credit, way: Way) -> Credit
     }
 }
 
-fn session_of(row: UserRate, way: Way) -> u64
+/// The rate of each session of a user.
+pub(crate) fn session_of(row: UserRate, way: Way) -> u64
     ensures session { result ≡ session_of way row }
 {
     match way {

@@ -1,0 +1,101 @@
+-- The beat of a row: when it is open, and what its last round granted.
+use Rattle.core.specs.Int.{div_ceil}
+use Rattle.std.specs.Prelude.{ℕ, ◌+◌, ◌-◌, ◌/◌, ◌^◌, min, max, Bool, true, false, ◌&&◌, ◌||◌, not, nat_eq, nat_le, if◌then◌else◌, refl}
+use Rattle.std.specs.Coded.{Coded, code_by, coded×, coded_ℕ, coded_bool}
+use Rattle.line_rates.specs.declared.ask.Way.{Way}
+use Rattle.line_rates.specs.declared.ask.Way.TheVariants.{Down, Up}
+use Rattle.round_pace.specs.declared.credit.Credit.{Credit}
+use Rattle.round_cadence.specs.declared.beat.Beat.{Beat}
+use Rattle.round_cadence.specs.declared.beat.WayBeats.{WayBeats}
+use Rattle.round_cadence.specs.declared.interval.TheConstants.{WORTH}
+use Rattle.round_cadence.specs.Intervals.{interval_of, next_opening}
+
+-- a row that has had no round
+abbrev pub new_beat : Beat
+new_beat = record {
+  opens = 0;
+  sharers = 1;
+  granted = 0;
+  greatest = 0;
+  is_timed = false;
+  is_asked = false;
+}
+
+-- a beat after a grant of the current round; sums stop at the greatest number of 64 bits
+abbrev pub added : ℕ → Bool → Beat → Beat
+added grant is_timed b = record {
+  opens = b.opens;
+  sharers = b.sharers;
+  granted = min (b.granted + grant) (2 ^ 64 - 1);
+  greatest = max b.greatest grant;
+  is_timed = b.is_timed || is_timed;
+  is_asked = true;
+}
+
+-- how many grants as great as the greatest are all that was granted: with equal grants, as many as
+-- there are; small ones beside great ones count little
+abbrev pub parts_of : Beat → ℕ
+parts_of b = max (div_ceil b.granted (max b.greatest 1)) 1
+
+-- the sharers after a round: an eighth fewer than before, or as many as shared in it
+abbrev pub sharers_after : Beat → ℕ
+sharers_after b = max (parts_of b) (b.sharers - div_ceil b.sharers 8)
+
+-- a rate of which at most a hundredth of a second is left, and at most what is worth sending once
+abbrev pub is_drained : Credit → Bool
+is_drained c = not (nat_eq c.rate 0) && nat_le c.left (min (c.rate / 100) WORTH)
+
+-- the interval after a round: one tick if something is earned from one round to the next
+abbrev pub interval_after : Credit → Beat → ℕ
+interval_after c b = if b.is_timed then 1 else interval_of c.rate (sharers_after b)
+
+abbrev pub opens_after : ℕ → Credit → Beat → ℕ
+opens_after tick c b =
+    if is_drained c then min (next_opening tick (interval_after c b)) (2 ^ 64 - 1) else 0
+
+-- a beat after a round that was held in a tick and left a credit; nothing changes if the round had
+-- no asks within the row
+abbrev pub settled : ℕ → Credit → Beat → Beat
+settled tick c b = if b.is_asked then record {
+  opens = opens_after tick c b;
+  sharers = sharers_after b;
+  granted = 0;
+  greatest = 0;
+  is_timed = false;
+  is_asked = false;
+} else b
+
+-- Beats of the two directions.
+
+abbrev pub new_beats : WayBeats
+new_beats = record { down = new_beat; up = new_beat }
+
+abbrev pub in_way : Way → WayBeats → Beat
+in_way Down b = b.down
+in_way Up b = b.up
+
+-- one direction's beat is changed
+abbrev pub change : Way → (Beat → Beat) → WayBeats → WayBeats
+change Down f b = record { down = f b.down; up = b.up }
+change Up f b = record { down = b.down; up = f b.up }
+
+-- codes, by which proofs distinguish values
+abbrev pub beat_code : Coded Beat
+beat_code =
+    code_by ((ℕ × ℕ) × ((ℕ × ℕ) × (Bool × Bool)))
+    (coded× (coded× coded_ℕ coded_ℕ)
+    (coded× (coded× coded_ℕ coded_ℕ) (coded× coded_bool coded_bool)))
+    (λ b. ((b.opens, b.sharers), ((b.granted, b.greatest), (b.is_timed, b.is_asked))))
+    (λ p. record {
+      opens = p.0.0;
+      sharers = p.0.1;
+      granted = p.1.0.0;
+      greatest = p.1.0.1;
+      is_timed = p.1.1.0;
+      is_asked = p.1.1.1;
+    })
+    (λ _. refl)
+
+abbrev pub beats_code : Coded WayBeats
+beats_code = code_by (Beat × Beat) (coded× beat_code beat_code) (λ b. (b.down, b.up))
+    (λ p. record { down = p.0; up = p.1 }) (λ _. refl)

@@ -1,0 +1,73 @@
+-- The beats of all rows of a line.
+use Rattle.std.specs.Prelude.{ℕ, max, Bool, List, slice_index_or, slice_set, replicate, Option, Some, None, refl}
+use Rattle.std.specs.Coded.{Coded, code_by, coded×, coded_list}
+use Rattle.line_rates.specs.declared.ask.Way.{Way}
+use Rattle.round_pace.specs.declared.rows.TransferRows.{TransferRows}
+use Rattle.round_cadence.specs.declared.beat.Beat.{Beat}
+use Rattle.round_cadence.specs.declared.beat.WayBeats.{WayBeats}
+use Rattle.round_cadence.specs.Beats.{new_beat, new_beats, added, settled, in_way, change, beat_code, beats_code as way_beats_code}
+
+-- the beats of the server and the directions, and those of groups and users by their numbers
+pub record Beats : Type 0 where
+  pub server : Beat
+  pub ways : WayBeats
+  pub groups : List WayBeats
+  pub users : List WayBeats
+
+abbrev pub new_cadence : ℕ → ℕ → Beats
+new_cadence users groups = record {
+  server = new_beat;
+  ways = new_beats;
+  groups = replicate groups new_beats;
+  users = replicate users new_beats;
+}
+
+-- the first tick in which the row of a number is open; a number without a beat is never closed
+abbrev pub opens_at : Way → List WayBeats → ℕ → ℕ
+opens_at way beats number = (in_way way (slice_index_or beats number new_beats)).opens
+
+abbrev pub opens_for : Way → List WayBeats → Option ℕ → ℕ
+opens_for way beats None = 0
+opens_for way beats (Some number) = opens_at way beats number
+
+-- the first tick in which all rows that a user's transfer is within are open
+abbrev pub opens_of : Way → ℕ → TransferRows → Beats → ℕ
+opens_of way user rows c =
+    max (max (max c.server.opens (in_way way c.ways).opens) (opens_for way c.groups rows.group_number))
+    (opens_at way c.users user)
+
+-- the beat of a number and a direction is changed, and no other; that of a greater number is none
+abbrev pub change_at : Way → (Beat → Beat) → ℕ → List WayBeats → List WayBeats
+change_at way f number beats =
+    slice_set beats number (change way f (slice_index_or beats number new_beats))
+
+abbrev pub change_for : Way → (Beat → Beat) → Option ℕ → List WayBeats → List WayBeats
+change_for way f None beats = beats
+change_for way f (Some number) beats = change_at way f number beats
+
+-- the beats after a grant of the current round to a user's transfer
+abbrev pub add_to : Way → ℕ → TransferRows → ℕ → Beats → Beats
+add_to way user rows grant c = record {
+  server = added grant rows.is_timed c.server;
+  ways = change way (added grant rows.is_timed) c.ways;
+  groups = change_for way (added grant rows.is_timed) rows.group_number c.groups;
+  users = change_at way (added grant rows.is_timed) user c.users;
+}
+
+-- the beats after a round in a tick that left these credits, for a user's transfer
+abbrev pub settle_of : Way → ℕ → TransferRows → ℕ → Beats → Beats
+settle_of way user rows tick c = record {
+  server = settled tick rows.server c.server;
+  ways = change way (settled tick rows.way) c.ways;
+  groups = change_for way (settled tick rows.group) rows.group_number c.groups;
+  users = change_at way (settled tick rows.user) user c.users;
+}
+
+-- a code, by which proofs distinguish values
+abbrev pub beats_code : Coded Beats
+beats_code =
+    code_by ((Beat × WayBeats) × (List WayBeats × List WayBeats))
+    (coded× (coded× beat_code way_beats_code)
+    (coded× (coded_list way_beats_code) (coded_list way_beats_code)))
+    (λ c. ((c.server, c.ways), (c.groups, c.users)))
+    (λ p. record { server = p.0.0; ways = p.0.1; groups = p.1.0; users = p.1.1 }) (λ _. refl)

@@ -1,0 +1,167 @@
+//! The beat of a row: when it is open, and what its last round granted.
+
+ghost use Rattle.std.specs.Prelude.{◌≡◌, false};
+ghost use Rattle.line_rates.specs.declared.ask.Way.{Way};
+ghost use Rattle.round_cadence.specs.Beats.{new_beat, new_beats, added, parts_of, sharers_after, is_drained, opens_after, settled, in_way, change};
+
+use crate::interval::{WORTH, interval, next_opening};
+use line_rates::Way;
+use round_pace::Credit;
+
+/// The beat of a row.
+#[derive(Clone, Copy, Debug, PartialEq, Eq)]
+pub struct Beat {
+    /// The first tick in which the row is open; 0 if it is open now.
+    pub opens: u64,
+    /// Number of transfers that share the row: in its last rounds, how many grants as great as the greatest would have
+    /// been all that was granted.
+    pub sharers: u64,
+    /// Octets granted within the row in the current round.
+    pub granted: u64,
+    /// The greatest of these grants.
+    pub greatest: u64,
+    /// True if one of these grants is earned from one round to the next.
+    pub is_timed: bool,
+    /// True if the current round has asks within the row.
+    pub is_asked: bool,
+}
+
+/// The beats of the two directions of a row.
+#[derive(Clone, Copy, Debug, PartialEq, Eq)]
+pub struct WayBeats {
+    /// The beat of downloads.
+    pub down: Beat,
+    /// The beat of uploads.
+    pub up: Beat,
+}
+
+// Returns whether too little is left under a rate to be worth a round.
+fn is_drained(credit: Credit) -> bool
+    ensures drained { result ≡ is_drained credit }
+{
+    credit.rate != 0 && credit.left <= (credit.rate / 100).min(WORTH)
+}
+
+impl Beat {
+    /// The beat of a row that has had no round: it is open.
+    pub fn new() -> Beat
+        ensures new { result ≡ new_beat }
+    {
+        Beat {
+            opens: 0,
+            sharers: 1,
+            granted: 0,
+            greatest: 0,
+            is_timed: false,
+            is_asked: false,
+        }
+    }
+
+    /// Adds a grant of the current round. It is timed if its session has a rate or a guarantee.
+    pub fn add(self, grant: u64, is_timed: bool) -> Beat
+        ensures added { result ≡ added grant is_timed self }
+    {
+        Beat {
+            opens: self.opens,
+            sharers: self.sharers,
+            granted: self.granted.saturating_add(grant),
+            greatest: self.greatest.max(grant),
+            is_timed: self.is_timed || is_timed,
+            is_asked: true,
+        }
+    }
+
+    // Number of sharers after the current round: at once as many as shared in it, or an eighth fewer than before.
+    fn sharers_after(self) -> u64
+        ensures sharers { result ≡ sharers_after self }
+    {
+        let parts = self.granted.div_ceil(self.greatest.max(1)).max(1);
+        parts.max(self.sharers.saturating_sub(self.sharers.div_ceil(8)))
+    }
+
+    // The first tick in which the row is open after the current round.
+    fn opens_after(self, credit: Credit, tick: u64) -> u64
+        ensures opens { result ≡ opens_after tick credit self }
+    {
+        if !is_drained(credit) {
+            return 0;
+        }
+        if self.is_timed {
+            return next_opening(tick, 1);
+        }
+        next_opening(tick, interval(credit.rate, self.sharers_after()))
+    }
+
+    /// The beat after the current round, which was held in `tick` and left this credit. If nothing was added in it,
+    /// nothing changes. If it drained the row, this is closed to the next tick of its interval; otherwise it is open.
+    pub fn settle(self, credit: Credit, tick: u64) -> Beat
+        ensures settled { result ≡ settled tick credit self }
+        ensures done { result.is_asked ≡ false }
+    {
+        if !self.is_asked {
+            return self;
+        }
+        Beat {
+            opens: self.opens_after(credit, tick),
+            sharers: self.sharers_after(),
+            granted: 0,
+            greatest: 0,
+            is_timed: false,
+            is_asked: false,
+        }
+    }
+}
+
+impl WayBeats {
+    /// The beats of a row that has had no round.
+    pub fn new() -> WayBeats
+        ensures new { result ≡ new_beats }
+    {
+        WayBeats {
+            down: Beat::new(),
+            up: Beat::new(),
+        }
+    }
+
+    /// The beat of a direction.
+    pub fn beat(self, way: Way) -> Beat
+        ensures beat { result ≡ in_way way self }
+    {
+        match way {
+            Way::Down => self.down,
+            Way::Up => self.up,
+        }
+    }
+
+    /// Adds a grant of the current round to the beat of a direction.
+    pub fn add(self, way: Way, grant: u64, is_timed: bool) -> WayBeats
+        ensures added { result ≡ change way (added grant is_timed) self }
+    {
+        match way {
+            Way::Down => WayBeats {
+                down: self.down.add(grant, is_timed),
+                up: self.up,
+            },
+            Way::Up => WayBeats {
+                down: self.down,
+                up: self.up.add(grant, is_timed),
+            },
+        }
+    }
+
+    /// The beats after the current round, which was held in `tick` and left the direction this credit.
+    pub fn settle(self, way: Way, credit: Credit, tick: u64) -> WayBeats
+        ensures settled { result ≡ change way (settled tick credit) self }
+    {
+        match way {
+            Way::Down => WayBeats {
+                down: self.down.settle(credit, tick),
+                up: self.up,
+            },
+            Way::Up => WayBeats {
+                down: self.down,
+                up: self.up.settle(credit, tick),
+            },
+        }
+    }
+}

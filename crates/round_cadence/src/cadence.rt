@@ -1,0 +1,142 @@
+//! The beats of all rows of a line.
+
+ghost use Rattle.std.specs.Prelude.{◌≡◌, replicate, IfOk};
+ghost use Rattle.round_cadence.specs.Beats.{new_beats, added, settled};
+ghost use Rattle.round_cadence.specs.Cadences.{new_cadence, opens_at, opens_for, change_at, change_for, opens_of, add_to, settle_of};
+
+use crate::beat::{Beat, WayBeats};
+use line_rates::Way;
+use round_pace::{Credit, TransferRows};
+use std::alloc::{AllocError, Allocator, Global};
+use std::marker::Model;
+
+/// The beats of the server, of each direction, and of each group and each user, by their numbers.
+///
+/// In a round, the caller adds each ask with its grant, and then settles each ask: the first settles its rows, and
+/// others within the same rows change nothing.
+#[derive(Drop)]
+pub struct Cadence<A: Allocator = Global> {
+    server: Beat,
+    ways: WayBeats,
+    groups: Vec<WayBeats, A>,
+    users: Vec<WayBeats, A>,
+}
+
+impl<A: Allocator> Model for Cadence<A> {
+    ghost use Rattle.round_cadence.specs.Cadences.{Beats, beats_code};
+
+    ghost Value = { Beats };
+
+    ghost coded = { beats_code };
+
+    ghost view = { λ c. record {
+      server = c.server;
+      ways = c.ways;
+      groups = c.groups.items;
+      users = c.users.items;
+    } };
+}
+
+fn open_beats<A: Allocator>(alloc: A, count: usize) -> Result<Vec<WayBeats, A>, AllocError>
+    ensures beats { IfOk result (λ beats. beats.items ≡ replicate count new_beats) }
+{
+    vec![in alloc; WayBeats::new(); count]
+}
+
+fn opens_at(beats: &[WayBeats], number: u32, way: Way) -> u64
+    ensures opens { result ≡ opens_at way beats.now number }
+{
+    let place = number as usize;
+    if place < beats.len() {
+        beats[place].beat(way).opens
+    } else {
+        0
+    }
+}
+
+fn add_at<A: Allocator>(
+    beats: &mut Vec<WayBeats, A>,
+    number: u32,
+    way: Way,
+    grant: u64,
+    is_timed: bool,
+)
+    ensures added { beats.new.items ≡ change_at way (added grant is_timed) number beats.old.items }
+{
+    let place = number as usize;
+    if place < beats.len() {
+        beats[place] = beats[place].add(way, grant, is_timed);
+    }
+}
+
+fn settle_at<A: Allocator>(
+    beats: &mut Vec<WayBeats, A>,
+    number: u32,
+    way: Way,
+    credit: Credit,
+    tick: u64,
+)
+    ensures settled { beats.new.items ≡ change_at way (settled tick credit) number beats.old.items }
+{
+    let place = number as usize;
+    if place < beats.len() {
+        beats[place] = beats[place].settle(way, credit, tick);
+    }
+}
+
+impl<A: Allocator + Clone> Cadence<A> {
+    /// Beats of the server, the directions, and the users and groups with numbers below these. All rows are open. A
+    /// group or a user with a greater number has no beat, and is never closed.
+    pub fn new(alloc: A, users: usize, groups: usize) -> Result<Cadence<A>, AllocError>
+        ensures new { IfOk result (λ c. c ≡ new_cadence users groups) }
+    {
+        let of_groups = open_beats(alloc.clone()?, groups)?;
+        let of_users = open_beats(alloc, users)?;
+        Ok(Cadence {
+            server: Beat::new(),
+            ways: WayBeats::new(),
+            groups: of_groups,
+            users: of_users,
+        })
+    }
+}
+
+impl<A: Allocator> Cadence<A> {
+    /// The first tick in which all rows that a user's transfer is within are open; 0 if they are open now.
+    pub fn opens(&self, way: Way, user: u32, rows: &TransferRows) -> u64
+        ensures opens { result ≡ opens_of way user rows.now self.now }
+    {
+        let line = self.server.opens.max(self.ways.beat(way).opens);
+        let group = match rows.group_number {
+            Some(group) => opens_at(&self.groups, group, way),
+            None => 0,
+        };
+        line.max(group).max(opens_at(&self.users, user, way))
+    }
+
+    /// Adds a grant of the current round to the rows that a user's transfer is within. No memory.
+    pub fn add(&mut self, way: Way, user: u32, rows: &TransferRows, grant: u64)
+        ensures added { self.new ≡ add_to way user rows.now grant self.old }
+    {
+        let is_timed = rows.is_timed;
+        self.server = self.server.add(grant, is_timed);
+        self.ways = self.ways.add(way, grant, is_timed);
+        if let Some(group) = rows.group_number {
+            add_at(&mut self.groups, group, way, grant, is_timed);
+        }
+        add_at(&mut self.users, user, way, grant, is_timed);
+    }
+
+    /// Settles the rows that a user's transfer is within, after a round that was held in `tick` and left these credits.
+    /// No memory.
+    pub fn settle(&mut self, way: Way, user: u32, rows: &TransferRows, tick: u64)
+        ensures settled { self.new ≡ settle_of way user rows.now tick self.old }
+    {
+        self.server = self.server.settle(rows.server, tick);
+        self.ways = self.ways.settle(way, rows.way, tick);
+        if let Some(group) = rows.group_number {
+            settle_at(&mut self.groups, group, way, rows.group, tick);
+        }
+        settle_at(&mut self.users, user, way, rows.user, tick);
+    }
+}

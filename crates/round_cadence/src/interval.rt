@@ -1,0 +1,51 @@
+//! Intervals of rows, and the ticks in which a closed row opens.
+
+ghost use Rattle.std.specs.Prelude.{◌≡◌, ◌-◌, ◌^◌, ◌<◌, ◌≤◌, min};
+ghost use Rattle.round_cadence.specs.Intervals.{earns, interval_of, IsInterval, next_opening, IsNextOpening};
+
+use round_pace::TICKS;
+
+/// Octets that are worth sending, for each sharer of a row.
+pub const WORTH: u64 = 4_096;
+
+/// The longest interval, in ticks of 2 ms.
+pub const LONGEST: u64 = 32;
+
+/// The last tick but ten of a second, from 0. Each row opens in it, and in the last: if the last has no round, what is
+/// lost with the second is that of ten ticks, and not of an interval.
+pub const LAST_BUT_TEN: u64 = 489;
+
+// Returns whether a rate earns what is worth sending in this number of ticks.
+fn earns(rate: u64, sharers: u64, ticks: u64) -> bool
+    ensures earns { result ≡ earns rate sharers ticks }
+{
+    u128::from(WORTH) * u128::from(sharers) * u128::from(TICKS)
+        <= u128::from(rate) * u128::from(ticks)
+}
+
+/// The least power of two of ticks in which `rate` octets per second earn [`WORTH`] octets for each sharer, and at most
+/// [`LONGEST`].
+pub fn interval(rate: u64, sharers: u64) -> u64
+    ensures interval { result ≡ interval_of rate sharers }
+    ensures least { IsInterval rate sharers result }
+{
+    for ticks in [1, 2, 4, 8, 16] {
+        if earns(rate, sharers, ticks) {
+            return ticks;
+        }
+    }
+    LONGEST
+}
+
+/// The first tick after `tick` in which a row of this interval opens: one that ends a multiple of the interval since
+/// its second began, or the last of its second, or the last but ten. At most `u64::MAX`.
+pub fn next_opening(tick: u64, interval: u64) -> u64
+    requires some { 0 < interval }
+    ensures next { result ≡ min (next_opening tick interval) (2 ^ 64 - 1) }
+    ensures first { IsNextOpening tick interval (next_opening tick interval) }
+{
+    let place = (tick % TICKS + 1) % TICKS;
+    let end = if place <= LAST_BUT_TEN { LAST_BUT_TEN } else { TICKS - 1 };
+    let wait = (interval - 1 - place % interval).min(end - place);
+    tick.saturating_add(1).saturating_add(wait)
+}

@@ -1,0 +1,19 @@
+//! The ticks in which transfers are in a round.
+//!
+//! In each tick of 2 ms a rate earns little, which many transfers would share in tiny parts. So a row (the server, a
+//! direction, a group or a user) that a round has drained is closed until it has earned something worth sending:
+//! [`WORTH`] octets for each transfer that shares it, in at most [`LONGEST`] ticks. A transfer is in a round only if
+//! each row that it is within is open. What the rows earn, and the laws of their rates, are those of `round_pace`.
+//!
+//! ```text
+//! EXAMPLE
+//! ```
+#![tactic(auto)]
+
+mod beat;
+mod cadence;
+mod interval;
+
+pub use beat::{Beat, WayBeats};
+pub use cadence::Cadence;
+pub use interval::{LAST_BUT_TEN, LONGEST, WORTH, interval, next_opening};

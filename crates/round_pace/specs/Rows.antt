@@ -1,0 +1,57 @@
+-- The rows of a transfer: the credits of the rates that it is within.
+use Rattle.std.specs.Prelude.{ℕ, Bool, false, ◌||◌, not, nat_eq, List, Option, Some, None}
+use Rattle.std.specs.FinMap as finite
+use Rattle.line_rates.specs.declared.ask.Way.{Way}
+use Rattle.line_rates.specs.declared.ask.Way.TheVariants.{Down, Up}
+use Rattle.line_rates.specs.declared.row.UserRate.{UserRate}
+use Rattle.line_rates.specs.Stated.{by_number}
+use Rattle.round_pace.specs.declared.credit.Credit.{Credit}
+use Rattle.round_pace.specs.declared.paced.GroupPace.{GroupPace}
+use Rattle.round_pace.specs.declared.paced.UserPace.{UserPace}
+use Rattle.round_pace.specs.declared.rows.TransferRows.{TransferRows}
+use Rattle.round_pace.specs.Paced.{Paced, group_key, pace_number, no_credit}
+use Rattle.round_pace.specs.Spent.{credit_of, session_of}
+use Rattle.round_pace.specs.Taken.{group_of}
+
+-- the credit of a user and a way; without a row it has a rate of 0, which is no limit
+abbrev pub user_row_credit : Way → Option UserPace → Credit
+user_row_credit way None = no_credit 0
+user_row_credit way (Some u) = credit_of way u.down u.up
+
+abbrev pub user_credit : Way → List UserPace → ℕ → Credit
+user_credit way users user = user_row_credit way (finite.get (by_number pace_number users) user)
+
+-- the credit of a group and a way, likewise
+abbrev pub group_row_credit : Way → Option GroupPace → Credit
+group_row_credit way None = no_credit 0
+group_row_credit way (Some g) = credit_of way g.down g.up
+
+abbrev pub group_credit : Way → List GroupPace → Option ℕ → Credit
+group_credit way groups None = no_credit 0
+group_credit way groups (Some group) =
+    group_row_credit way (finite.get (by_number group_key groups) group)
+
+-- the guarantee of each session of a user
+abbrev pub floor_of : Way → UserRate → ℕ
+floor_of Down row = row.session_down_floor
+floor_of Up row = row.session_up_floor
+
+-- each session of the user has a rate or a guarantee, which are earned from one round to the next
+abbrev pub is_row_timed : Way → Option UserPace → Bool
+is_row_timed way None = false
+is_row_timed way (Some u) =
+    not (nat_eq (session_of way u.row) 0) || not (nat_eq (floor_of way u.row) 0)
+
+abbrev pub is_timed : Way → List UserPace → ℕ → Bool
+is_timed way users user = is_row_timed way (finite.get (by_number pace_number users) user)
+
+-- the credits that a user's transfer is within
+abbrev pub rows_of : Way → ℕ → Paced → TransferRows
+rows_of way user p = record {
+  server = p.server;
+  way = credit_of way p.down p.up;
+  group = group_credit way p.groups (group_of p.users user);
+  user = user_credit way p.users user;
+  group_number = group_of p.users user;
+  is_timed = is_timed way p.users user;
+}

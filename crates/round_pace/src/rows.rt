@@ -1,0 +1,83 @@
+//! The rows of a transfer: the credits of the rates that it is within.
+
+ghost use Rattle.std.specs.Prelude.{◌≡◌};
+ghost use Rattle.line_rates.specs.Stated.{IsRising};
+ghost use Rattle.round_pace.specs.Paced.{group_key, pace_number, no_credit};
+ghost use Rattle.round_pace.specs.Rows.{floor_of, user_credit, group_credit, is_timed};
+
+use crate::credit::Credit;
+use crate::paced::{GroupPace, UserPace, credit_of, find_group, find_user, session_of};
+use line_rates::{UserRate, Way};
+
+/// The credits of the rates that a transfer is within. If there is no such rate, the credit has a rate of 0, which is
+/// no limit.
+#[derive(Clone, Copy, Debug, PartialEq, Eq)]
+pub struct TransferRows {
+    /// The credit of the server.
+    pub server: Credit,
+    /// The credit of the direction.
+    pub way: Credit,
+    /// The credit of the user's group and the direction.
+    pub group: Credit,
+    /// The credit of the user and the direction.
+    pub user: Credit,
+    /// The number of the user's group, if they are in one.
+    pub group_number: Option<u32>,
+    /// True if each session of the user has a rate or a guarantee of this direction: these are earned from one round
+    /// to the next and not kept.
+    pub is_timed: bool,
+}
+
+// The credit of a name without a rate.
+fn no_limit() -> Credit
+    ensures credit { result ≡ no_credit 0 }
+{
+    Credit { rate: 0, left: 0 }
+}
+
+fn floor_of(row: UserRate, way: Way) -> u64
+    ensures floor { result ≡ floor_of way row }
+{
+    match way {
+        Way::Down => row.session_down_floor,
+        Way::Up => row.session_up_floor,
+    }
+}
+
+/// The credit of a user's transfers of one way.
+pub(crate) fn user_credit(users: &[UserPace], user: u32, way: Way) -> Credit
+    requires rising { IsRising pace_number users.now }
+    ensures credit { result ≡ user_credit way users.now user }
+{
+    match find_user(users, user) {
+        Some(place) => credit_of(users[place].down, users[place].up, way),
+        None => no_limit(),
+    }
+}
+
+/// The credit of a group's transfers of one way.
+pub(crate) fn group_credit(groups: &[GroupPace], group: Option<u32>, way: Way) -> Credit
+    requires rising { IsRising group_key groups.now }
+    ensures credit { result ≡ group_credit way groups.now group }
+{
+    match group {
+        Some(group) => match find_group(groups, group) {
+            Some(place) => credit_of(groups[place].down, groups[place].up, way),
+            None => no_limit(),
+        },
+        None => no_limit(),
+    }
+}
+
+/// Returns whether each session of a user has a rate or a guarantee of one way.
+pub(crate) fn is_timed(users: &[UserPace], user: u32, way: Way) -> bool
+    requires rising { IsRising pace_number users.now }
+    ensures timed { result ≡ is_timed way users.now user }
+{
+    match find_user(users, user) {
+        Some(place) => {
+            session_of(users[place].row, way) != 0 || floor_of(users[place].row, way) != 0
+        }
+        None => false,
+    }
+}

@@ -1,5 +1,5 @@
 -- Steps of a history.
-use Rattle.std.proofs.Common.{◌≡◌, ◌≢◌, ℕ, zero, suc, ◌+◌, ◌/◌, ◌<◌, ◌≤◌, List, [], ◌∷◌, ◌++◌, map, drop, length, get_or, sum, sym, refl, ap, ◌∙◌, subst, arith, Some, Option, Result, Ok, Err}
+use Rattle.std.proofs.Common.{◌≡◌, ◌≢◌, ℕ, zero, suc, ◌+◌, ◌/◌, ◌<◌, ◌≤◌, List, [], ◌∷◌, ◌++◌, map, drop, length, get_or, sum, sym, refl, ap, ◌∙◌, subst, arith, Bool, Some, Option, Result, Ok, Err}
 use Rattle.std.specs.Prelude.{sum_by, IfOk, OnErr}
 use Rattle.std.proofs.Math.Logic.{∥∥₁_map, ∥∥₁_elim}
 use Rattle.std.proofs.Props.{props}
@@ -16,7 +16,7 @@ use Rattle.line_rates.specs.TickTree.{ask_in, IsTickTree}
 use Rattle.desk_rule.specs.declared.view.TurnView.{TurnView}
 use Rattle.lane_desk.specs.declared.record.RoundRecord.{RoundRecord}
 use Rattle.lane_desk.specs.declared.record.RoundFault.{RoundFault}
-use Rattle.lane_desk.specs.Rounded.{IsRound}
+use Rattle.lane_desk.specs.Rounded.{IsRoundOver}
 use Rattle.lane_desk.proofs.PostedLemmas.{drops}
 use Rattle.round_pace.specs.Earned.{tick_of}
 use Rattle.round_pace.specs.Offered.{offer_round}
@@ -86,9 +86,9 @@ taken_next xs ns d i old new h e is =
     ∙ (λ k. map granted_in old ++ leaves (sym (drops xs d i h) k) (sym (drops ns 0 i (omega (arith, h, e))) k))
 
 -- what a round grants keeps the limits
-pub keeps : GrantsKeepNames → (rates : Rates) (tick : ℕ) (old new : List TurnView) (marks : ℕ) (tree : LimitTree) (lanes : List ℕ) (asks : List Ask) (grants : List ℕ) → IsRound rates tick old new marks tree lanes asks grants → IsBest tree grants
+pub keeps : GrantsKeepNames → (given : ℕ → Bool) (rates : Rates) (tick : ℕ) (old new : List TurnView) (marks : ℕ) (tree : LimitTree) (lanes : List ℕ) (asks : List Ask) (grants : List ℕ) → IsRoundOver given rates tick old new marks tree lanes asks grants → IsBest tree grants
     → (length asks ≡ length grants) × KeepsLimits rates tick (leaves asks grants)
-keeps law rates tick old new marks tree lanes asks grants round best =
+keeps law given rates tick old new marks tree lanes asks grants round best =
     let tree_of : IsTickTree rates tick asks tree = subst (λ (xs : List Ask). IsTickTree rates tick xs tree) (sym round.asks_are) round.plan.tree in
     let each : length asks ≡ length grants = sym (best.within.wanted.leaves ∙ ap length tree_of.wants ∙ long want_of asks) in (
       each,
@@ -148,16 +148,16 @@ pub record Leads {A : Type 0} (p q : Paced) (now old new : ℕ) (taken : List (A
   pub log : map granted_in taken ≡ granted_by out
   pub issued : new ≡ old + octets_of (round_at now out)
 
-pub leads_ok : {A : Type 0} → GrantsKeepNames → (p o q : Paced) (now moment before issued : ℕ) (rates : Rates) (taken : List (Ask × ℕ)) (out : Outcome A) (r : RoundRecord A) (old new : List TurnView) (xs : List Ask) (ns : List ℕ) → out ≡ Ok r
+pub leads_ok : {A : Type 0} → GrantsKeepNames → (given : ℕ → Bool) (p o q : Paced) (now moment before issued : ℕ) (rates : Rates) (taken : List (Ask × ℕ)) (out : Outcome A) (r : RoundRecord A) (old new : List TurnView) (xs : List Ask) (ns : List ℕ) → out ≡ Ok r
     → o ≡ offer_round (tick_of now) p → rates ≡ o.offered → moment ≡ o.moment
-    → IfOk out (λ r. IsRound rates (moment / 100) old new r.answered (seen r.sealed.tree) r.lanes.items r.asks.items r.sealed.grants) → IfOk out (λ r. IsBest (seen r.sealed.tree) r.sealed.grants)
+    → IfOk out (λ r. IsRoundOver given rates (moment / 100) old new r.answered (seen r.sealed.tree) r.lanes.items r.asks.items r.sealed.grants) → IfOk out (λ r. IsBest (seen r.sealed.tree) r.sealed.grants)
     → xs ≡ r.asks.items → ns ≡ r.sealed.grants → q ≡ take_all (leaves xs ns) o → map granted_in taken ≡ leaves xs ns → IfOk out (λ r. issued ≡ before + sum r.sealed.grants) → Leads p q now before issued taken out
-leads_ok {A} law p o q now moment before issued rates taken out r old new xs ns is offered limits at rounded bests asks grants charged logged tells =
-    let round : IsRound rates (moment / 100) old new r.answered (seen r.sealed.tree) r.lanes.items r.asks.items r.sealed.grants =
-    subst (λ (x : Outcome A). IfOk x (λ r. IsRound rates (moment / 100) old new r.answered (seen r.sealed.tree) r.lanes.items r.asks.items r.sealed.grants)) is rounded in
+leads_ok {A} law given p o q now moment before issued rates taken out r old new xs ns is offered limits at rounded bests asks grants charged logged tells =
+    let round : IsRoundOver given rates (moment / 100) old new r.answered (seen r.sealed.tree) r.lanes.items r.asks.items r.sealed.grants =
+    subst (λ (x : Outcome A). IfOk x (λ r. IsRoundOver given rates (moment / 100) old new r.answered (seen r.sealed.tree) r.lanes.items r.asks.items r.sealed.grants)) is rounded in
     let best : IsBest (seen r.sealed.tree) r.sealed.grants = subst (λ (x : Outcome A). IfOk x (λ r. IsBest (seen r.sealed.tree) r.sealed.grants)) is bests in
     let told : issued ≡ before + sum r.sealed.grants = subst (λ (x : Outcome A). IfOk x (λ r. issued ≡ before + sum r.sealed.grants)) is tells in
-    let kept = keeps law rates (moment / 100) old new r.answered (seen r.sealed.tree) r.lanes.items r.asks.items r.sealed.grants round best in
+    let kept = keeps law given rates (moment / 100) old new r.answered (seen r.sealed.tree) r.lanes.items r.asks.items r.sealed.grants round best in
     subst (Leads p q now before issued taken) (sym is) (record {
       kept = subst (λ (z : Rates × ℕ). KeepsLimits z.0 (z.1 / 100) (leaves r.asks.items r.sealed.grants)) (λ i. ((limits ∙ ap (λ (x : Paced). x.offered) offered) i, (at ∙ ap (λ (x : Paced). x.moment) offered) i)) kept.1;
       is = charged ∙ (λ i. take_all (leaves (asks i) (grants i)) (offered i));

@@ -5,20 +5,23 @@ ghost use Rattle.limit_tree.specs.Outline.{limits as seen};
 ghost use Rattle.limit_tree.specs.Sharing.{IsBest};
 ghost use Rattle.line_rates.specs.Rates.{Rates};
 ghost use Rattle.lane_desk.specs.Turns.{turns, IsRoundOf, IsSameRound};
-ghost use Rattle.lane_desk.specs.Rounded.{IsRound, IsRefusedRound};
+ghost use Rattle.lane_desk.specs.Tried.{is_given};
+ghost use Rattle.lane_desk.specs.Rounded.{IsRoundOver, IsRefusedRoundOver};
 ghost use Rattle.round_pace.specs.Earned.{tick_of};
 ghost use Rattle.round_pace.specs.Offered.{offer_round, due_in};
 ghost use Rattle.round_pace.specs.Paced.{IsPacedFrom};
-ghost use Rattle.round_pace.specs.Spent.{due_for_in};
 ghost use Rattle.round_pace.specs.Histories.{rates_of, after, KeepsRates};
 ghost use Rattle.paced_rounds.specs.History.{round_at, history, octets_of, IsRun};
+ghost use Rattle.paced_rounds.specs.Beating.{beats_after, is_open, due_open};
 
+use crate::beats::beat;
 use crate::charge::charge;
-use grant_ledger::Tally;
+use grant_ledger::{MAX_LANES, Tally};
 use lane_desk::{Desk, RoundFault, RoundRecord, Rounds};
 use line_rates::{Ask, Way, grants_keep_names};
 use proof_log::ProofLog;
-use round_pace::{Due, Pace, histories_keep_rates};
+use round_cadence::Cadence;
+use round_pace::{Due, Pace, TICK_MICROS, histories_keep_rates};
 use std::alloc::{Allocator, Global};
 
 /// The rounds of a desk with their pace. The log has the moment of each round, and the asks
@@ -30,19 +33,22 @@ pub struct PacedRounds<N, A: Allocator = Global> {
     latest: u64,
     /// The octets issued before the first round.
     carried: u64,
+    /// The ticks in which the rows are open.
+    cadence: Cadence<A>,
     log: ProofLog<u64, ProofLog<Ask, u64>>,
     ghost run: { ∥ IsRun pace latest (history log.items) ∥₁ },
     ghost told: { rounds.book.issued ≡ carried + sum_by octets_of (history log.items) },
 }
 
 impl<N, A: Allocator> PacedRounds<N, A> {
-    /// The rounds of a desk with a new pace, which was made at this moment in microseconds.
-    pub fn new(rounds: Rounds<N>, pace: Pace<A>, now: u64) -> PacedRounds<N, A>
+    /// The rounds of a desk with a new pace, which was made at this moment in microseconds, and the beats of its rows.
+    pub fn new(rounds: Rounds<N>, pace: Pace<A>, cadence: Cadence<A>, now: u64) -> PacedRounds<N, A>
         requires new { (rates : Rates) × IsPacedFrom (tick_of now) rates pace }
         ensures rounds { result.rounds ≡ rounds }
         ensures pace { result.pace ≡ pace }
         ensures latest { result.latest ≡ now }
         ensures carried { result.carried ≡ rounds.book.issued }
+        ensures cadence { result.cadence ≡ cadence }
         ensures none { history result.log.items ≡ [] }
     {
         let carried = rounds.issued();
@@ -51,6 +57,7 @@ impl<N, A: Allocator> PacedRounds<N, A> {
             pace,
             latest: now,
             carried,
+            cadence,
             log: ProofLog::new(),
         }
     }
@@ -69,21 +76,37 @@ impl<N, A: Allocator> PacedRounds<N, A> {
         self.pace.due(now)
     }
 
-    /// The earliest moment of the next round for a transfer of a user, as `Pace::due_for`.
-    pub fn due_for(&self, way: Way, user: u32, now: u64) -> Due
-        ensures due { result ≡ due_for_in way user self.now.pace now }
+    /// Returns whether all rows that a transfer of a user is within are open at a moment in microseconds.
+    pub fn is_open(&self, way: Way, user: u32, now: u64) -> bool
+        ensures open { result ≡ is_open way user self.now.pace self.now.cadence now }
     {
+        let rows = self.pace.rows_of(way, user);
+        self.cadence.opens(way, user, &rows) <= now / TICK_MICROS
+    }
+
+    /// The earliest moment of the next round for a transfer of a user: that at which its rows open; if they are open,
+    /// that of `Pace::due_for`.
+    pub fn due_for(&self, way: Way, user: u32, now: u64) -> Due
+        ensures due { result ≡ due_open way user self.now.pace self.now.cadence now }
+    {
+        let rows = self.pace.rows_of(way, user);
+        let opens = self.cadence.opens(way, user, &rows);
+        if now / TICK_MICROS < opens {
+            return Due::At(opens.saturating_mul(TICK_MICROS));
+        }
         self.pace.due_for(way, user, now)
     }
 
-    /// Holds a round at a moment in microseconds; one before that of the last round counts as that moment. Tries each
-    /// lane once, divides what is left under the rates among the asks found, answers each, and subtracts each grant from
-    /// the rows of its own ask. A refused round answers each ask with 0 octets.
+    /// Holds a round of the given lanes (those with `true` in their place) at a moment in microseconds; one before that
+    /// of the last round counts as that moment. Tries each given lane once, divides what is left under the rates among
+    /// the asks found, answers each, and subtracts each grant from the rows of its own ask. A refused round answers each
+    /// ask with 0 octets.
     pub fn hold<B: Allocator + Clone, D: Allocator>(
         &mut self,
         alloc: B,
         desk: &Desk<N, D>,
         now: u64,
+        given: &[bool; MAX_LANES],
     ) -> Result<RoundRecord<B>, RoundFault>
         requires desk { IsRoundOf desk.now self.old.rounds.desk }
         ensures same { IsSameRound self.old.rounds.desk self.new.rounds.desk }
@@ -91,17 +114,18 @@ impl<N, A: Allocator> PacedRounds<N, A> {
         ensures tick { let p = offer_round (tick_of (max now self.old.latest)) self.old.pace in
             IfOk result (λ r. r.tick ≡ p.moment / 100) }
         ensures round { let p = offer_round (tick_of (max now self.old.latest)) self.old.pace in
-            IfOk result (λ r. IsRound p.offered (p.moment / 100) (turns self.old.rounds.desk)
-            (turns self.new.rounds.desk) r.answered (seen r.sealed.tree) r.lanes.items
-            r.asks.items r.sealed.grants) }
+            IfOk result (λ r. IsRoundOver (is_given given.now) p.offered (p.moment / 100)
+            (turns self.old.rounds.desk) (turns self.new.rounds.desk) r.answered
+            (seen r.sealed.tree) r.lanes.items r.asks.items r.sealed.grants) }
         ensures best { IfOk result (λ r. IsBest (seen r.sealed.tree) r.sealed.grants) }
         ensures issued { IfOk result (λ r.
             self.new.rounds.book.issued ≡ self.old.rounds.book.issued + sum r.sealed.grants) }
         ensures last_tick { let p = offer_round (tick_of (max now self.old.latest)) self.old.pace in
             OnOk result (self.new.rounds.book.last_tick ≡ Some (p.moment / 100)) }
         ensures refused { let p = offer_round (tick_of (max now self.old.latest)) self.old.pace in
-            IfErr result (λ f. IsRefusedRound B p.offered (p.moment / 100) self.old.rounds.book
-            (turns self.old.rounds.desk) (turns self.new.rounds.desk) f.answered f.reason) }
+            IfErr result (λ f. IsRefusedRoundOver B (is_given given.now) p.offered (p.moment / 100)
+            self.old.rounds.book (turns self.old.rounds.desk) (turns self.new.rounds.desk)
+            f.answered f.reason) }
         ensures unchanged { OnErr result (self.new.rounds.book ≡ self.old.rounds.book) }
         ensures latest { self.new.latest ≡ max now self.old.latest }
         ensures carried { self.new.carried ≡ self.old.carried }
@@ -110,16 +134,21 @@ impl<N, A: Allocator> PacedRounds<N, A> {
         ensures left { self.new.pace
             ≡ after self.old.pace (round_at (max now self.old.latest) result) }
         ensures rates { rates_of self.new.pace ≡ rates_of self.old.pace }
+        ensures beats { self.new.cadence ≡ beats_after self.new.pace
+            (tick_of (max now self.old.latest)) result self.old.cadence }
     {
         grants_keep_names();
         histories_keep_rates();
         let now = now.max(self.latest);
         let moment = self.pace.offer(now);
-        let result = self.rounds.round(alloc, desk, self.pace.limits(), moment);
+        let result = self
+            .rounds
+            .round_of(alloc, desk, self.pace.limits(), moment, given);
         let taken = match &result {
             Ok(made) => charge(&mut self.pace, &made.asks, made.sealed.grants()),
             Err(_) => ProofLog::new(),
         };
+        beat(&mut self.cadence, &self.pace, &result, now / TICK_MICROS);
         self.log = self.log.and(&now, &taken);
         self.latest = now;
         result
@@ -148,6 +177,7 @@ impl<N, A: Allocator> PacedRounds<N, A> {
             pace: _,
             latest: _,
             carried: _,
+            cadence: _,
             log: _,
         } = self;
         rounds

@@ -3,6 +3,7 @@ use Rattle.grant_ledger.specs.Books.{BookView}
 use Rattle.round_pace.specs.Histories.{rates_of}
 use Rattle.paced_rounds.specs.History.{granted_in, round_at, history}
 use Rattle.lane_desk.specs.Turns.{turns}
+use Rattle.lane_desk.specs.Tried.{is_given}
 use Rattle.paced_rounds.proofs.RunLemmas.{Leads, leads_ok, leads_err, grown, run_more, told_more}
 use Rattle.paced_rounds.proofs.rounds.PacedRounds.hold.Goals as goal
 use Rattle.paced_rounds.proofs.rounds.PacedRounds.hold.Goals.{in-Ok, in-Err}
@@ -21,7 +22,7 @@ invariant_of-self g c =
     let out = c.round-result.result in
     let leads : Leads old.pace pace now old.rounds.book.issued new.book.issued taken out =
     elim c.match-result.branch [
-      | in-Ok w ↦ leads_ok c.grants_keep_names.ensures.kept old.pace c.offer-moment.new.self pace now c.offer-moment.result old.rounds.book.issued new.book.issued c.limits.result.now taken out w.in-Ok.made
+      | in-Ok w ↦ leads_ok c.grants_keep_names.ensures.kept (is_given c.args.given.now) old.pace c.offer-moment.new.self pace now c.offer-moment.result old.rounds.book.issued new.book.issued c.limits.result.now taken out w.in-Ok.made
           (turns old.rounds.desk) (turns new.desk) w.deref.result.now w.grants.result.now w.in-Ok.is c.offer-moment.ensures.round c.limits.ensures.limits c.offer-moment.ensures.moment
           c.round-result.ensures.round c.round-result.ensures.best w.deref.ensures.value w.grants.ensures.grants (ap (λ s. s.1.1.0) w.self-is ∙ w.charge-taken.ensures.taken)
           (ap (λ l. map granted_in l.items) w.taken-is ∙ w.charge-taken.ensures.log) c.round-result.ensures.issued
@@ -46,7 +47,7 @@ returns-clause-rates g c =
     let out = c.round-result.result in
     let leads : Leads old.pace pace now old.rounds.book.issued new.book.issued taken out =
     elim c.match-result.branch [
-      | in-Ok w ↦ leads_ok c.grants_keep_names.ensures.kept old.pace c.offer-moment.new.self pace now c.offer-moment.result old.rounds.book.issued new.book.issued c.limits.result.now taken out w.in-Ok.made
+      | in-Ok w ↦ leads_ok c.grants_keep_names.ensures.kept (is_given c.args.given.now) old.pace c.offer-moment.new.self pace now c.offer-moment.result old.rounds.book.issued new.book.issued c.limits.result.now taken out w.in-Ok.made
           (turns old.rounds.desk) (turns new.desk) w.deref.result.now w.grants.result.now w.in-Ok.is c.offer-moment.ensures.round c.limits.ensures.limits c.offer-moment.ensures.moment
           c.round-result.ensures.round c.round-result.ensures.best w.deref.ensures.value w.grants.ensures.grants (ap (λ s. s.1.1.0) w.self-is ∙ w.charge-taken.ensures.taken)
           (ap (λ l. map granted_in l.items) w.taken-is ∙ w.charge-taken.ensures.log) c.round-result.ensures.issued

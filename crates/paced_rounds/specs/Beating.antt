@@ -1,0 +1,50 @@
+-- The beats of rows after rounds, and the moments of rounds by them.
+use Rattle.std.specs.Prelude.{ℕ, ◌*◌, ◌-◌, ◌^◌, min, Bool, nat_lt, nat_le, if◌then◌else◌, List, [], ◌∷◌, Result, Ok, Err}
+use Rattle.line_rates.specs.declared.ask.Ask.{Ask}
+use Rattle.line_rates.specs.declared.ask.Way.{Way}
+use Rattle.line_rates.specs.Granted.{Granted}
+use Rattle.lane_desk.specs.declared.record.RoundRecord.{RoundRecord}
+use Rattle.lane_desk.specs.declared.record.RoundFault.{RoundFault}
+use Rattle.round_pace.specs.declared.due.Due.{Due}
+use Rattle.round_pace.specs.declared.due.Due.TheVariants.{At}
+use Rattle.round_pace.specs.Earned.{tick_of}
+use Rattle.round_pace.specs.Paced.{Paced}
+use Rattle.round_pace.specs.Rows.{rows_of}
+use Rattle.round_pace.specs.Spent.{due_for_in}
+use Rattle.round_cadence.specs.Cadences.{Beats, opens_of, add_to, settle_of}
+use Rattle.paced_rounds.specs.History.{leaves}
+
+-- the grants of a round are added, each to the rows of its ask
+abbrev pub add_all : Paced → List Granted → Beats → Beats
+add_all p [] c = c
+add_all p (g ∷ gs) c =
+    add_all p gs (add_to g.ask.way g.ask.user (rows_of g.ask.way g.ask.user p) g.octets c)
+
+-- the rows of these asks are settled, at a tick
+abbrev pub settle_all : Paced → ℕ → List Ask → Beats → Beats
+settle_all p tick [] c = c
+settle_all p tick (x ∷ xs) c =
+    settle_all p tick xs (settle_of x.way x.user (rows_of x.way x.user p) tick c)
+
+-- the beats after a round at a tick that left this pace; a refused one changes none
+abbrev pub beats_after : {A : Type 0} → Paced → ℕ → Result (RoundRecord A) RoundFault → Beats
+    → Beats
+beats_after p tick (Ok r) c =
+    settle_all p tick r.asks.items (add_all p (leaves r.asks.items r.sealed.grants) c)
+beats_after p tick (Err f) c = c
+
+-- the first tick in which a user's transfer may be in a round
+abbrev pub opens_in : Way → ℕ → Paced → Beats → ℕ
+opens_in way user p c = opens_of way user (rows_of way user p) c
+
+-- all rows that a user's transfer is within are open at a moment
+abbrev pub is_open : Way → ℕ → Paced → Beats → ℕ → Bool
+is_open way user p c now = nat_le (opens_in way user p c) (tick_of now)
+
+-- The earliest moment of the next round for a user's transfer: that at which its rows open; if they
+-- are open, that of the pace.
+abbrev pub due_open : Way → ℕ → Paced → Beats → ℕ → Due
+due_open way user p c now =
+    if nat_lt (tick_of now) (opens_in way user p c)
+    then At (min (opens_in way user p c * 2000) (2 ^ 64 - 1))
+    else due_for_in way user p now

@@ -38,13 +38,13 @@ fn settle<A: Allocator>(cadence: &mut Cadence<A>, pace: &Pace<A>, asks: &[Ask], 
 pub(crate) fn beat<A: Allocator, B: Allocator>(
     cadence: &mut Cadence<A>,
     pace: &Pace<A>,
-    result: &Result<RoundRecord<B>, RoundFault>,
+    round: &Result<RoundRecord<B>, RoundFault>,
     tick: u64,
 )
-    requires each { IfOk result.now (λ r. length r.asks.items ≡ length r.sealed.grants) }
-    ensures beats { cadence.new ≡ beats_after pace.now tick result.now cadence.old }
+    requires each { IfOk round.now (λ r. length r.asks.items ≡ length r.sealed.grants) }
+    ensures beats { cadence.new ≡ beats_after pace.now tick round.now cadence.old }
 {
-    match result {
+    match round {
         Ok(made) => {
             add(cadence, pace, &made.asks, made.sealed.grants());
             settle(cadence, pace, &made.asks, tick);

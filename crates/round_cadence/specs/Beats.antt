@@ -1,13 +1,12 @@
 -- The beat of a row: when it is open, and what its last round granted.
-use Rattle.core.specs.Int.{div_ceil}
-use Rattle.std.specs.Prelude.{ℕ, ◌+◌, ◌-◌, ◌/◌, ◌^◌, min, max, Bool, true, false, ◌&&◌, ◌||◌, not, nat_eq, nat_le, if◌then◌else◌, refl}
+use Rattle.std.specs.Prelude.{ℕ, ◌+◌, ◌-◌, ◌/◌, ◌%◌, ◌^◌, min, max, Bool, true, false, ◌&&◌, ◌||◌, not, nat_eq, nat_le, if◌then◌else◌, refl}
 use Rattle.std.specs.Coded.{Coded, code_by, coded×, coded_ℕ, coded_bool}
 use Rattle.line_rates.specs.declared.ask.Way.{Way}
 use Rattle.line_rates.specs.declared.ask.Way.TheVariants.{Down, Up}
 use Rattle.round_pace.specs.declared.credit.Credit.{Credit}
 use Rattle.round_cadence.specs.declared.beat.Beat.{Beat}
 use Rattle.round_cadence.specs.declared.beat.WayBeats.{WayBeats}
-use Rattle.round_cadence.specs.declared.interval.TheConstants.{WORTH}
+use Rattle.round_cadence.specs.declared.intervals.TheConstants.{WORTH}
 use Rattle.round_cadence.specs.Intervals.{interval_of, next_opening}
 
 -- a row that has had no round
@@ -32,14 +31,18 @@ added grant is_timed b = record {
   is_asked = true;
 }
 
+-- a quotient, rounded up
+abbrev pub div_up : ℕ → ℕ → ℕ
+div_up x y = x / y + min 1 (x % y)
+
 -- how many grants as great as the greatest are all that was granted: with equal grants, as many as
 -- there are; small ones beside great ones count little
 abbrev pub parts_of : Beat → ℕ
-parts_of b = max (div_ceil b.granted (max b.greatest 1)) 1
+parts_of b = max (div_up b.granted (max b.greatest 1)) 1
 
 -- the sharers after a round: an eighth fewer than before, or as many as shared in it
 abbrev pub sharers_after : Beat → ℕ
-sharers_after b = max (parts_of b) (b.sharers - div_ceil b.sharers 8)
+sharers_after b = max (parts_of b) (b.sharers - div_up b.sharers 8)
 
 -- a rate of which at most a hundredth of a second is left, and at most what is worth sending once
 abbrev pub is_drained : Credit → Bool

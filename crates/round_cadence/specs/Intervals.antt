@@ -1,7 +1,7 @@
 -- Intervals of rows, and the ticks in which a closed row opens.
 use Rattle.std.specs.Prelude.{◌≡◌, ℕ, ◌+◌, ◌-◌, ◌*◌, ◌%◌, ◌^◌, ◌<◌, ◌≤◌, min, Bool, true, false, ◌||◌, nat_eq, nat_le, if◌then◌else◌, List, [], ◌∷◌}
 use Rattle.round_pace.specs.declared.credit.TheConstants.{TICKS}
-use Rattle.round_cadence.specs.declared.interval.TheConstants.{WORTH, LONGEST, LAST_BUT_TEN}
+use Rattle.round_cadence.specs.declared.intervals.TheConstants.{WORTH, LONGEST, LAST_BUT_TEN}
 
 -- in this number of ticks, a rate earns what is worth sending for each sharer
 abbrev pub earns : ℕ → ℕ → ℕ → Bool

@@ -4,7 +4,7 @@ ghost use Rattle.std.specs.Prelude.{◌≡◌, false};
 ghost use Rattle.line_rates.specs.declared.ask.Way.{Way};
 ghost use Rattle.round_cadence.specs.Beats.{new_beat, new_beats, added, parts_of, sharers_after, is_drained, opens_after, settled, in_way, change};
 
-use crate::interval::{WORTH, interval, next_opening};
+use crate::intervals::{WORTH, interval, next_opening};
 use line_rates::Way;
 use round_pace::Credit;
 

@@ -12,8 +12,8 @@
 
 mod beat;
 mod cadence;
-mod interval;
+mod intervals;
 
 pub use beat::{Beat, WayBeats};
 pub use cadence::Cadence;
-pub use interval::{LAST_BUT_TEN, LONGEST, WORTH, interval, next_opening};
+pub use intervals::{LAST_BUT_TEN, LONGEST, WORTH, interval, next_opening};

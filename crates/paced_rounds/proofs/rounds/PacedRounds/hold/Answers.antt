@@ -16,18 +16,18 @@ pub invariant_of-self : goal.invariant_of-self
 invariant_of-self g c =
     let old = c.args.self.now in
     let now : ℕ = c.max-now.result in
-    let new = c.round-result.new.self in
+    let new = c.round_of-result.new.self in
     let pace = c.match-result.self.1.1.0 in
     let taken = c.match-result.taken.items in
-    let out = c.round-result.result in
+    let out = c.round_of-result.result in
     let leads : Leads old.pace pace now old.rounds.book.issued new.book.issued taken out =
     elim c.match-result.branch [
       | in-Ok w ↦ leads_ok c.grants_keep_names.ensures.kept (is_given c.args.given.now) old.pace c.offer-moment.new.self pace now c.offer-moment.result old.rounds.book.issued new.book.issued c.limits.result.now taken out w.in-Ok.made
           (turns old.rounds.desk) (turns new.desk) w.deref.result.now w.grants.result.now w.in-Ok.is c.offer-moment.ensures.round c.limits.ensures.limits c.offer-moment.ensures.moment
-          c.round-result.ensures.round c.round-result.ensures.best w.deref.ensures.value w.grants.ensures.grants (ap (λ s. s.1.1.0) w.self-is ∙ w.charge-taken.ensures.taken)
-          (ap (λ l. map granted_in l.items) w.taken-is ∙ w.charge-taken.ensures.log) c.round-result.ensures.issued
+          c.round_of-result.ensures.round c.round_of-result.ensures.best w.deref.ensures.value w.grants.ensures.grants (ap (λ s. s.1.1.0) w.self-is ∙ w.charge-taken.ensures.taken)
+          (ap (λ l. map granted_in l.items) w.taken-is ∙ w.charge-taken.ensures.log) c.round_of-result.ensures.issued
       | in-Err w ↦ leads_err old.pace c.offer-moment.new.self pace now old.rounds.book.issued new.book.issued taken out w.in-Err.field-0
-          w.in-Err.is c.offer-moment.ensures.round (ap (λ s. s.1.1.0) w.self-is) (ap (λ l. l.items) w.taken-is ∙ w.new-taken.ensures.none) (on_err old.rounds.book new.book out c.round-result.ensures.unchanged)
+          w.in-Err.is c.offer-moment.ensures.round (ap (λ s. s.1.1.0) w.self-is) (ap (λ l. l.items) w.taken-is ∙ w.new-taken.ensures.none) (on_err old.rounds.book new.book out c.round_of-result.ensures.unchanged)
     ] in
     let later : old.latest ≤ now = omega (arith, c.max-now.ensures) in
     let more : history c.and-self.result.items ≡ history old.log.items ++ round_at now out ∷ [] =
@@ -41,17 +41,17 @@ pub returns-clause-rates : goal.returns-clause-rates
 returns-clause-rates g c =
     let old = c.args.self.now in
     let now : ℕ = c.max-now.result in
-    let new = c.round-result.new.self in
+    let new = c.round_of-result.new.self in
     let pace = c.match-result.self.1.1.0 in
     let taken = c.match-result.taken.items in
-    let out = c.round-result.result in
+    let out = c.round_of-result.result in
     let leads : Leads old.pace pace now old.rounds.book.issued new.book.issued taken out =
     elim c.match-result.branch [
       | in-Ok w ↦ leads_ok c.grants_keep_names.ensures.kept (is_given c.args.given.now) old.pace c.offer-moment.new.self pace now c.offer-moment.result old.rounds.book.issued new.book.issued c.limits.result.now taken out w.in-Ok.made
           (turns old.rounds.desk) (turns new.desk) w.deref.result.now w.grants.result.now w.in-Ok.is c.offer-moment.ensures.round c.limits.ensures.limits c.offer-moment.ensures.moment
-          c.round-result.ensures.round c.round-result.ensures.best w.deref.ensures.value w.grants.ensures.grants (ap (λ s. s.1.1.0) w.self-is ∙ w.charge-taken.ensures.taken)
-          (ap (λ l. map granted_in l.items) w.taken-is ∙ w.charge-taken.ensures.log) c.round-result.ensures.issued
+          c.round_of-result.ensures.round c.round_of-result.ensures.best w.deref.ensures.value w.grants.ensures.grants (ap (λ s. s.1.1.0) w.self-is ∙ w.charge-taken.ensures.taken)
+          (ap (λ l. map granted_in l.items) w.taken-is ∙ w.charge-taken.ensures.log) c.round_of-result.ensures.issued
       | in-Err w ↦ leads_err old.pace c.offer-moment.new.self pace now old.rounds.book.issued new.book.issued taken out w.in-Err.field-0
-          w.in-Err.is c.offer-moment.ensures.round (ap (λ s. s.1.1.0) w.self-is) (ap (λ l. l.items) w.taken-is ∙ w.new-taken.ensures.none) (on_err old.rounds.book new.book out c.round-result.ensures.unchanged)
+          w.in-Err.is c.offer-moment.ensures.round (ap (λ s. s.1.1.0) w.self-is) (ap (λ l. l.items) w.taken-is ∙ w.new-taken.ensures.none) (on_err old.rounds.book new.book out c.round_of-result.ensures.unchanged)
     ] in
     ap rates_of leads.is ∙ c.histories_keep_rates.ensures.stay old.pace (round_at now out)

@@ -20,6 +20,7 @@ use lane_rounds::RoundClock;
 use line_rates::Limits;
 use passive_ports::{PoolFault, Registry, RestingPorts};
 use rate_floors::Floors;
+use round_cadence::Cadence;
 use round_pace::Pace;
 use server_config::ServerNumbers;
 use server_house::LaneSign;
@@ -66,6 +67,8 @@ pub(crate) struct Rooms<S: Store<Global>, H: Hooks, P: Drop> {
     pub(crate) cells: Vec<TransferCell<S::Sink>>,
     pub(crate) lanes: Vec<LaneSign>,
     pub(crate) pace: Pace,
+    /// The beats of the pace's rows.
+    pub(crate) cadence: Cadence,
     /// The moment at which the pace was made, in microseconds.
     pub(crate) begun: u64,
 }
@@ -111,6 +114,22 @@ fn new_ports(alloc: Global, numbers: &ServerNumbers) -> Result<RestingPorts, Ser
     }
 }
 
+/// The greatest number of users, and of groups, that have beats of their own.
+const MOST_BEATS: usize = 65_536;
+
+// Beats for each user and each group with rates: their numbers rise, so the last has the greatest.
+fn new_cadence(alloc: Global, limits: &Limits) -> Result<Cadence, AllocError> {
+    let users = match limits.users().last() {
+        Some(row) => row.user as usize + 1,
+        None => 0,
+    };
+    let groups = match limits.groups().last() {
+        Some(row) => row.group as usize + 1,
+        None => 0,
+    };
+    Cadence::new(alloc, users.min(MOST_BEATS), groups.min(MOST_BEATS))
+}
+
 /// Makes the parts that the threads of a server share. The pace takes the limits.
 pub(crate) fn open_rooms<R, S, H, P>(
     rt: &R,
@@ -144,6 +163,7 @@ where
     let arrivals = new_arrivals(alloc, most)?;
     let cells = new_cells(alloc, most)?;
     let lanes = new_lanes(alloc, usize::from(numbers.lanes))?;
+    let cadence = new_cadence(alloc, &limits)?;
     let begun = rt.moment();
     let pace = Pace::of(alloc, limits, begun)?;
     Ok(Rooms {
@@ -162,6 +182,7 @@ where
         cells,
         lanes,
         pace,
+        cadence,
         begun,
     })
 }

@@ -24,6 +24,7 @@ use handler_hooks::Hooks;
 use lane_rounds::RoundClock;
 use lent_parts::{LentBoard, LentPass, PartsName};
 use paced_rounds::seconds_are_kept;
+use round_cadence::Cadence;
 use round_pace::{Pace, histories_keep_rates};
 use server_house::{House, ServerHooks, ServerShutdown};
 use std::alloc::{AllocError, Global};
@@ -41,7 +42,7 @@ fn furnish<S: Store<Global>, H: Hooks, B: PartsName, P: Drop>(
     rooms: Rooms<S, H, P>,
     board: LentBoard<B, Waiting<S>>,
     pass: LentPass<B, Waiting<S>>,
-) -> (House<S, H, B>, Pace, Option<P>)
+) -> (House<S, H, B>, Pace, Cadence, Option<P>)
     ensures pace { result.1 ≡ rooms.pace }
 {
     let Rooms {
@@ -60,6 +61,7 @@ fn furnish<S: Store<Global>, H: Hooks, B: PartsName, P: Drop>(
         cells,
         lanes,
         pace,
+        cadence,
         begun: _,
     } = rooms;
     let house = House {
@@ -82,7 +84,7 @@ fn furnish<S: Store<Global>, H: Hooks, B: PartsName, P: Drop>(
         bell: EventCount::new(),
         ending: ServerShutdown::new(),
     };
-    (house, pace, stop)
+    (house, pace, cadence, stop)
 }
 
 // Serves with the shared parts, and settles.
@@ -172,8 +174,8 @@ where
     let begun = rooms.begun;
     match passes.pop() {
         Some(pass) => {
-            let (house, pace, stop) = furnish(rooms, board, pass);
-            let (lent, room) = line.paced(pace, begun);
+            let (house, pace, cadence, stop) = furnish(rooms, board, pass);
+            let (lent, room) = line.paced(pace, cadence, begun);
             let works = Works {
                 rt: *rt,
                 house,
@@ -184,8 +186,8 @@ where
             serve_works(works, room, listener, writer)
         }
         None => {
-            let Rooms { pace, .. } = rooms;
-            let (lent, room) = line.paced(pace, begun);
+            let Rooms { pace, cadence, .. } = rooms;
+            let (lent, room) = line.paced(pace, cadence, begun);
             (settle_served(rt, lent, room), Err(ServeFault::NoThread))
         }
     }

@@ -19,6 +19,7 @@ use lane_desk::{LaneSeat, Rounds};
 use lane_rounds::{RoundClock, Turns};
 use lent_parts::{LentDesk, LentPass, LentRounds, LentWorker, PartsName};
 use paced_rounds::PacedRounds;
+use round_cadence::Cadence;
 use round_pace::Pace;
 use server_house::House;
 use std::alloc::{AllocError, Global};
@@ -155,8 +156,9 @@ pub(crate) fn lend_line<B: PartsName>(
 }
 
 impl<B: PartsName> LentLine<B> {
-    /// The parts for the threads, with the pace of their rounds, which was made at this moment; and the room.
-    pub(crate) fn paced(self, pace: Pace, begun: u64) -> (Lent<B>, Room<B>)
+    /// The parts for the threads, with the pace of their rounds, which was made at this moment, and the beats of its rows;
+    /// and the room.
+    pub(crate) fn paced(self, pace: Pace, cadence: Cadence, begun: u64) -> (Lent<B>, Room<B>)
         requires new { (rates : Rates) × IsPacedFrom (tick_of begun) rates pace }
         requires rated { rates_of pace ≡ B.rates }
         requires when { B.when begun ≡ true }
@@ -169,7 +171,7 @@ impl<B: PartsName> LentLine<B> {
             workers,
             room,
         } = self;
-        let rounds = PacedRounds::new(rounds, pace, begun);
+        let rounds = PacedRounds::new(rounds, pace, cadence, begun);
         let lent = Lent {
             desk,
             turns: Mutex::new(Turns::new(LentRounds::new(rounds))),

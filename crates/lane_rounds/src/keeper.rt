@@ -10,12 +10,11 @@ use lent_parts::{LentDesk, PartsName};
 use server_house::{House, ShutdownStage};
 use std::alloc::Global;
 use std::sync::{Mutex, Wait};
-use std::thread;
 use std::time::{Clock, Duration};
 use virtual_tree::Store;
 
-/// The longest wait for the bell before it checks by itself, in milliseconds.
-const BACKSTOP: u64 = 200;
+/// The longest wait for the bell before it checks by itself, in microseconds.
+const BACKSTOP: u64 = 200_000;
 
 /// Holds rounds when no lane does, until the lanes are to end. The moments of the clock pass the test of the name.
 pub fn keep_rounds<R, S, H, B, N>(
@@ -39,12 +38,13 @@ where
         let now = rt.moment();
         match try_one(rt.alloc(), house, desk, turns, None, now) {
             Tried::NotBefore(moment) => {
-                thread::sleep(rt, Duration::from_micros(moment.saturating_sub(now)));
+                let time = moment.saturating_sub(now).min(BACKSTOP);
+                house.bell.wait(rt, seen, 0, Duration::from_micros(time));
             }
             Tried::Held(_) | Tried::ByAnother => {
                 house
                     .bell
-                    .wait(rt, seen, 0, Duration::from_millis(BACKSTOP));
+                    .wait(rt, seen, 0, Duration::from_micros(BACKSTOP));
             }
         }
     }

@@ -1,11 +1,13 @@
 //! Rounds, held by whichever lane needs one.
 
 ghost use Rattle.std.specs.Prelude.{◌≡◌, true};
+ghost use Rattle.lane_rounds.specs.Dues.{sooner};
 
 use crate::turns::Turns;
+use grant_ledger::MAX_LANES;
 use handler_hooks::Hooks;
 use lent_parts::{LentDesk, LentRounds, PartsName};
-use round_pace::Due;
+use round_pace::{Due, TICK_MICROS};
 use server_house::{House, LaneSign};
 use std::alloc::Global;
 use std::sync::Mutex;
@@ -35,7 +37,22 @@ fn tell_lanes(lanes: &[LaneSign], answered: u64) {
     }
 }
 
-// Holds one round. A refused one has answered each lane too, with 0 octets.
+// The lanes that a round is of: those of transfers whose rows are open. The signs are hints, as for `due_by`: a lane
+// whose sign is stale is left out, or asked too early, in one round.
+fn open_lanes<B: PartsName, N>(
+    rounds: &LentRounds<B, N>,
+    lanes: &[LaneSign],
+    now: u64,
+) -> [bool; MAX_LANES] {
+    let mut given = [false; MAX_LANES];
+    for lane in 0..lanes.len().min(MAX_LANES) {
+        let (way, user) = lanes[lane].name.get();
+        given[lane] = rounds.is_open(way, user, now);
+    }
+    given
+}
+
+// Holds one round of the lanes whose transfers' rows are open. A refused one has answered each lane too, with 0 octets.
 fn hold_one<B: PartsName, N>(
     alloc: Global,
     lanes: &[LaneSign],
@@ -45,25 +62,51 @@ fn hold_one<B: PartsName, N>(
 )
     requires when { B.when now ≡ true }
 {
-    match turns.rounds.hold(alloc, desk, now) {
+    let given = open_lanes(&turns.rounds, lanes, now);
+    match turns.rounds.hold(alloc, desk, now, &given) {
         Ok(record) => tell_lanes(lanes, record.answered),
         Err(fault) => tell_lanes(lanes, fault.answered),
     }
 }
 
-// The earliest moment of a round for the worker of a lane, or for anybody. The lane's sign is a hint: it may have the
-// name of the worker's next transfer by now, and then a round is held too early or too late for this one.
-fn due_by<B: PartsName, N>(rounds: &LentRounds<B, N>, sign: Option<&LaneSign>, now: u64) -> Due {
-    match sign {
-        Some(sign) => {
-            let (way, user) = sign.name.get();
-            rounds.due_for(way, user, now)
-        }
-        None => rounds.due(now),
+// The sooner of two moments.
+fn sooner(one: Due, other: Due) -> Due
+    ensures sooner { result ≡ sooner one other }
+{
+    match (one, other) {
+        (Due::At(one), Due::At(other)) => Due::At(one.min(other)),
+        _ => Due::Now,
     }
 }
 
-/// Holds one round at a moment in microseconds, if none is being held and one may be.
+// The earliest moment of a round for the worker of a lane. The lane's sign is a hint: it may have the name of the
+// worker's next transfer by now, and then a round is held too early or too late for this one.
+fn due_at<B: PartsName, N>(rounds: &LentRounds<B, N>, sign: &LaneSign, now: u64) -> Due {
+    let (way, user) = sign.name.get();
+    rounds.due_for(way, user, now)
+}
+
+// The earliest moment of a round for the worker of a lane, or for that of any.
+fn due_by<B: PartsName, N>(
+    rounds: &LentRounds<B, N>,
+    lanes: &[LaneSign],
+    sign: Option<&LaneSign>,
+    now: u64,
+) -> Due {
+    match sign {
+        Some(sign) => due_at(rounds, sign, now),
+        None => {
+            let mut due = Due::At(u64::MAX);
+            for lane in lanes {
+                due = sooner(due, due_at(rounds, lane, now));
+            }
+            due
+        }
+    }
+}
+
+/// Holds one round at a moment in microseconds, if none is being held and one is due: for the worker of the lane with
+/// this sign, or for that of any lane.
 pub(crate) fn try_one<S: Store<Global>, H: Hooks, B: PartsName, N>(
     alloc: Global,
     house: &House<S, H, B>,
@@ -76,7 +119,7 @@ pub(crate) fn try_one<S: Store<Global>, H: Hooks, B: PartsName, N>(
 {
     match turns.try_lock() {
         None => Tried::ByAnother,
-        Some(mut guard) => match due_by(&guard.rounds, sign, now) {
+        Some(mut guard) => match due_by(&guard.rounds, &house.lanes, sign, now) {
             Due::At(moment) => Tried::NotBefore(moment),
             Due::Now => {
                 let seen = house.bell.seen();
@@ -87,10 +130,12 @@ pub(crate) fn try_one<S: Store<Global>, H: Hooks, B: PartsName, N>(
     }
 }
 
-/// Makes sure that a round is held after an ask: here, or by a thread that holds one now. If none may be held yet,
-/// returns the earliest moment.
+/// Makes sure that a round is held after an ask: here, or by a thread that holds one now. Returns the moment at which
+/// the lane is to look again if it has no answer by then; `None` if a round of its ask was held.
 ///
-/// The bell is rung before the try. So if another thread has the lock, it sees the bell after it has released the lock.
+/// The bell is rung before the try. So if another thread has the lock, it sees the bell after it has released the lock,
+/// and holds a round for whoever is due. The lane itself looks again a tick later: its rows may not have been open in
+/// that round.
 pub(crate) fn help<S: Store<Global>, H: Hooks, B: PartsName, N>(
     alloc: Global,
     house: &House<S, H, B>,
@@ -102,15 +147,18 @@ pub(crate) fn help<S: Store<Global>, H: Hooks, B: PartsName, N>(
     requires when { B.when now ≡ true }
 {
     house.bell.raise();
-    for _ in 0..IN_A_ROW {
-        match try_one(alloc, house, desk, turns, Some(sign), now) {
-            Tried::Held(seen) => {
-                if house.bell.seen() == seen {
-                    return None;
-                }
-            }
-            Tried::ByAnother => return None,
-            Tried::NotBefore(moment) => return Some(moment),
+    let mut seen = match try_one(alloc, house, desk, turns, Some(sign), now) {
+        Tried::Held(seen) => seen,
+        Tried::ByAnother => return Some(now.saturating_add(TICK_MICROS)),
+        Tried::NotBefore(moment) => return Some(moment),
+    };
+    for _ in 1..IN_A_ROW {
+        if house.bell.seen() == seen {
+            return None;
+        }
+        match try_one(alloc, house, desk, turns, None, now) {
+            Tried::Held(next) => seen = next,
+            Tried::ByAnother | Tried::NotBefore(_) => return None,
         }
     }
     house.bell.signal();

@@ -6,17 +6,19 @@ ghost use Rattle.limit_tree.specs.Sharing.{IsBest};
 ghost use Rattle.line_rates.specs.Rates.{rates_code};
 ghost use Rattle.lent_parts.specs.Names.{RoundsAt};
 ghost use Rattle.lane_desk.specs.Turns.{turns};
-ghost use Rattle.lane_desk.specs.Rounded.{IsRound, IsRefusedRound};
+ghost use Rattle.lane_desk.specs.Tried.{is_given};
+ghost use Rattle.lane_desk.specs.Rounded.{IsRoundOver, IsRefusedRoundOver};
 ghost use Rattle.round_pace.specs.Earned.{tick_of};
 ghost use Rattle.round_pace.specs.Histories.{rates_of, after};
-ghost use Rattle.round_pace.specs.Offered.{offer_round, due_in};
-ghost use Rattle.round_pace.specs.Spent.{due_for_in};
+ghost use Rattle.round_pace.specs.Offered.{offer_round};
 ghost use Rattle.paced_rounds.specs.History.{round_at, history};
+ghost use Rattle.paced_rounds.specs.Beating.{is_open, due_open};
 ghost use Rattle.paced_rounds.specs.Seconds.{AreAt, HasKept};
 ghost use base.Stored.{Coded-set};
 
 use crate::desk::LentDesk;
 use crate::name::PartsName;
+use grant_ledger::MAX_LANES;
 use lane_desk::{RoundFault, RoundRecord, Rounds};
 use line_rates::Way;
 use paced_rounds::PacedRounds;
@@ -59,35 +61,37 @@ impl<B: PartsName, N> LentRounds<B, N> {
         self.rounds.issued()
     }
 
-    /// The earliest moment of the next round for anybody.
-    pub fn due(&self, now: u64) -> Due
-        ensures due { result ≡ due_in self.now.rounds.pace now }
+    /// Returns whether all rows that a transfer of a user is within are open at a moment in microseconds.
+    pub fn is_open(&self, way: Way, user: u32, now: u64) -> bool
+        ensures open { result ≡ is_open way user self.now.rounds.pace self.now.rounds.cadence now }
     {
-        self.rounds.due(now)
+        self.rounds.is_open(way, user, now)
     }
 
     /// The earliest moment of the next round for a transfer of a user.
     pub fn due_for(&self, way: Way, user: u32, now: u64) -> Due
-        ensures due { result ≡ due_for_in way user self.now.rounds.pace now }
+        ensures due { result ≡ due_open way user self.now.rounds.pace self.now.rounds.cadence now }
     {
         self.rounds.due_for(way, user, now)
     }
 
-    /// A round of the desk, as `PacedRounds::hold`.
+    /// A round of the given lanes of the desk, as `PacedRounds::hold`.
     pub fn hold<A: Allocator + Clone, D: Allocator>(
         &mut self,
         alloc: A,
         desk: &LentDesk<B, N, D>,
         now: u64,
+        given: &[bool; MAX_LANES],
     ) -> Result<RoundRecord<A>, RoundFault>
         requires when { B.when now ≡ true }
         ensures tally { self.new.rounds.rounds.tally ≡ self.old.rounds.rounds.tally }
         ensures tick { let p = offer_round (tick_of (max now self.old.rounds.latest))
             self.old.rounds.pace in IfOk result (λ r. r.tick ≡ p.moment / 100) }
         ensures round { let p = offer_round (tick_of (max now self.old.rounds.latest))
-            self.old.rounds.pace in IfOk result (λ r. IsRound p.offered (p.moment / 100)
-            (turns self.old.rounds.rounds.desk) (turns self.new.rounds.rounds.desk) r.answered
-            (seen r.sealed.tree) r.lanes.items r.asks.items r.sealed.grants) }
+            self.old.rounds.pace in IfOk result (λ r. IsRoundOver (is_given given.now) p.offered
+            (p.moment / 100) (turns self.old.rounds.rounds.desk)
+            (turns self.new.rounds.rounds.desk) r.answered (seen r.sealed.tree) r.lanes.items
+            r.asks.items r.sealed.grants) }
         ensures best { IfOk result (λ r. IsBest (seen r.sealed.tree) r.sealed.grants) }
         ensures issued { IfOk result (λ r. self.new.rounds.rounds.book.issued
             ≡ self.old.rounds.rounds.book.issued + sum r.sealed.grants) }
@@ -95,9 +99,10 @@ impl<B: PartsName, N> LentRounds<B, N> {
             self.old.rounds.pace in OnOk result
             (self.new.rounds.rounds.book.last_tick ≡ Some (p.moment / 100)) }
         ensures refused { let p = offer_round (tick_of (max now self.old.rounds.latest))
-            self.old.rounds.pace in IfErr result (λ f. IsRefusedRound A p.offered (p.moment / 100)
-            self.old.rounds.rounds.book (turns self.old.rounds.rounds.desk)
-            (turns self.new.rounds.rounds.desk) f.answered f.reason) }
+            self.old.rounds.pace in IfErr result (λ f. IsRefusedRoundOver A (is_given given.now)
+            p.offered (p.moment / 100) self.old.rounds.rounds.book
+            (turns self.old.rounds.rounds.desk) (turns self.new.rounds.rounds.desk) f.answered
+            f.reason) }
         ensures unchanged { OnErr result
             (self.new.rounds.rounds.book ≡ self.old.rounds.rounds.book) }
         ensures grows { history self.new.rounds.log.items ≡ history self.old.rounds.log.items
@@ -105,7 +110,7 @@ impl<B: PartsName, N> LentRounds<B, N> {
         ensures left { self.new.rounds.pace
             ≡ after self.old.rounds.pace (round_at (max now self.old.rounds.latest) result) }
     {
-        self.rounds.hold(alloc, desk.desk(), now)
+        self.rounds.hold(alloc, desk.desk(), now, given)
     }
 
     /// Returns the rounds, once no thread has them any more: there is a history of rounds, at moments that pass the test

@@ -8,7 +8,7 @@ ghost use Rattle.lane_desk.specs.Turns.{turns, IsRoundOf, IsSameRound};
 ghost use Rattle.lane_desk.specs.Tried.{is_given};
 ghost use Rattle.lane_desk.specs.Rounded.{IsRoundOver, IsRefusedRoundOver};
 ghost use Rattle.round_pace.specs.Earned.{tick_of};
-ghost use Rattle.round_pace.specs.Offered.{offer_round, due_in};
+ghost use Rattle.round_pace.specs.Offered.{offer_round};
 ghost use Rattle.round_pace.specs.Paced.{IsPacedFrom};
 ghost use Rattle.round_pace.specs.Histories.{rates_of, after, KeepsRates};
 ghost use Rattle.paced_rounds.specs.History.{round_at, history, octets_of, IsRun};
@@ -67,13 +67,6 @@ impl<N, A: Allocator> PacedRounds<N, A> {
         ensures issued { result ≡ self.now.rounds.book.issued }
     {
         self.rounds.issued()
-    }
-
-    /// The earliest moment of the next round for anybody, as `Pace::due`.
-    pub fn due(&self, now: u64) -> Due
-        ensures due { result ≡ due_in self.now.pace now }
-    {
-        self.pace.due(now)
     }
 
     /// Returns whether all rows that a transfer of a user is within are open at a moment in microseconds.

@@ -12,12 +12,14 @@ use std::net::{Shutdown, TcpStream};
 use std::sync::Arc;
 use std::sync::atomic::{AtomicU64, Ordering};
 
-/// A socket, and the last error of a call on it.
+/// A socket, the last error of a call on it, and whether it was aborted.
 #[derive(Drop)]
 struct Socket {
     stream: TcpStream,
     // `fault_word` of the error; 0 before the first
     fault: AtomicU64,
+    // 1 once it was aborted
+    aborted: AtomicU64,
 }
 
 /// A handle of a data connection. The socket is closed once the last handle is dropped.
@@ -31,8 +33,12 @@ impl DataConnection {
     pub fn new(alloc: Global, stream: TcpStream) -> Result<DataConnection, AllocError>
         ensures socket { IfOk result (λ connection. socket_of connection ≡ stream) }
     {
-        let fault = AtomicU64::new(0);
-        let socket = Arc::new(alloc, Socket { stream, fault })?;
+        let socket = Socket {
+            stream,
+            fault: AtomicU64::new(0),
+            aborted: AtomicU64::new(0),
+        };
+        let socket = Arc::new(alloc, socket)?;
         Ok(DataConnection { socket })
     }
 
@@ -67,14 +73,20 @@ impl DataConnection {
         let _ = self.socket.stream.shutdown(Shutdown::Write);
     }
 
-    /// Shuts the socket down in both directions; calls that wait on it return.
+    /// Shuts the socket down in both directions; calls that wait on it return, and nothing is read from it any more: a
+    /// shutdown leaves what the machine has received and nobody has read (shutdown(2)), and an upload at a low rate would
+    /// read that for minutes.
     pub fn abort(&self) {
+        self.socket.aborted.store(1, Ordering::SeqCst);
         let _ = self.socket.stream.shutdown(Shutdown::Both);
     }
 }
 
 impl Read for DataConnection {
     fn read(&mut self, buffer: &mut [u8]) -> io::Result<usize> {
+        if self.socket.aborted.load(Ordering::SeqCst) != 0 {
+            return Ok(0);
+        }
         let mut stream: &TcpStream = &self.socket.stream;
         let answer = read_through(&mut stream, buffer);
         self.noted(answer)

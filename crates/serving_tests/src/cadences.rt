@@ -21,7 +21,7 @@ fn round_cadence(rt: &(impl Abort + AllocGlobal), rows: &TransferRows) -> Result
     Ok(())
 }
 
-/// What is left of the line after 64 transfers got 62 octets each.
+/// The line's 4,000 octets of a tick, less those of 64 transfers with 62 each, leave it drained.
 #[test]
 fn sixty_four_downloads_wait(rt: HostRuntime) {
     let alloc = rt.alloc();

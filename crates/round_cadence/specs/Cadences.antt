@@ -1,5 +1,5 @@
 -- The beats of all rows of a line.
-use Rattle.std.specs.Prelude.{ℕ, max, Bool, List, slice_index_or, slice_set, replicate, Option, Some, None, refl}
+use Rattle.std.specs.Prelude.{ℕ, max, List, slice_index_or, slice_set, replicate, Option, Some, None, refl}
 use Rattle.std.specs.Coded.{Coded, code_by, coded×, coded_list}
 use Rattle.line_rates.specs.declared.ask.Way.{Way}
 use Rattle.round_pace.specs.declared.rows.TransferRows.{TransferRows}

@@ -1,7 +1,7 @@
 -- The least interval that earns enough.
-use Rattle.std.proofs.Common.{◌≡◌, ℕ, zero, suc, ◌+◌, ◌*◌, ◌^◌, ◌<◌, ◌≤◌, Bool, true, false, cond, nat_le, sym, refl, arith}
+use Rattle.std.proofs.Common.{◌≡◌, ℕ, zero, suc, ◌^◌, ◌<◌, ◌≤◌, Bool, true, false, cond, refl, arith}
 use Rattle.std.proofs.Math.Nat.{pow-le-pow_right}
-use Rattle.round_cadence.specs.Intervals.{earns, interval_of, first_earning, IsInterval}
+use Rattle.round_cadence.specs.Intervals.{earns, interval_of, IsInterval}
 
 pow_five : (k : ℕ) → 32 ≤ 2 ^ suc (suc (suc (suc (suc k))))
 pow_five k = pow-le-pow_right {n = 2} (omega arith) {i = 5} {j = suc (suc (suc (suc (suc k))))} (omega arith)

@@ -1,7 +1,6 @@
 -- The first tick in which a row opens.
-use Rattle.std.proofs.Common.{◌≡◌, ℕ, ◌+◌, ◌-◌, ◌*◌, ◌/◌, ◌%◌, ◌<◌, ◌≤◌, ◌⊎◌, min, inl, inr, Bool, true, false, ◌||◌, nat_eq, nat_le, if◌then◌else◌, sym, refl, ap, ◌∙◌, subst, arith}
+use Rattle.std.proofs.Common.{◌≡◌, ℕ, ◌+◌, ◌-◌, ◌%◌, ◌<◌, ◌≤◌, ◌⊎◌, min, inl, inr, Bool, true, false, ◌||◌, nat_eq, sym, refl, ap, ◌∙◌, subst, arith}
 use Rattle.std.proofs.Math.Nat.{mod-add-mod, mod-eq_of_lt, mod_self, mod-lt}
-use Rattle.std.proofs.lemmas.Bool.{ne_eqb}
 use Rattle.round_cadence.specs.Intervals.{is_opening, IsNextOpening, end_from, opening_from, next_opening}
 
 mod_within : (a b m : ℕ) → a % m + b < m → (a + b) % m ≡ a % m + b

@@ -1,5 +1,5 @@
 -- The beats of all rows of a line.
-use Rattle.std.specs.Prelude.{ℕ, max, Bool, List, slice_index_or, slice_set, replicate, Option, Some, None, refl}
+use Rattle.std.specs.Prelude.{ℕ, max, List, slice_index_or, slice_set, replicate, Option, Some, None, refl}
 use Rattle.std.specs.Coded.{Coded, code_by, coded×, coded_list}
 use Rattle.line_rates.specs.declared.ask.Way.{Way}
 use Rattle.round_pace.specs.declared.rows.TransferRows.{TransferRows}
@@ -33,8 +33,8 @@ opens_for way beats (Some number) = opens_at way beats number
 -- the first tick in which all rows that a user's transfer is within are open
 abbrev pub opens_of : Way → ℕ → TransferRows → Beats → ℕ
 opens_of way user rows c =
-    max (max (max c.server.opens (in_way way c.ways).opens) (opens_for way c.groups rows.group_number))
-    (opens_at way c.users user)
+    max (max c.server.opens (in_way way c.ways).opens)
+    (max (opens_for way c.groups rows.group_number) (opens_at way c.users user))
 
 -- the beat of a number and a direction is changed, and no other; that of a greater number is none
 abbrev pub change_at : Way → (Beat → Beat) → ℕ → List WayBeats → List WayBeats

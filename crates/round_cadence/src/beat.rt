@@ -1,7 +1,7 @@
 //! The beat of a row: when it is open, and what its last round granted.
 
-ghost use Rattle.std.specs.Prelude.{◌≡◌, false};
-ghost use Rattle.line_rates.specs.declared.ask.Way.{Way};
+ghost use Rattle.std.specs.Prelude.{◌≡◌, ◌≤◌, ◌+◌, false, true};
+ghost use Rattle.round_cadence.specs.declared.intervals.TheConstants.{LONGEST};
 ghost use Rattle.round_cadence.specs.Beats.{new_beat, new_beats, added, parts_of, sharers_after, is_drained, opens_after, settled, in_way, change};
 
 use crate::intervals::{WORTH, interval, next_opening};
@@ -82,6 +82,7 @@ impl Beat {
     // The first tick in which the row is open after the current round.
     fn opens_after(self, credit: Credit, tick: u64) -> u64
         ensures opens { result ≡ opens_after tick credit self }
+        ensures soon { result ≤ tick + LONGEST }
     {
         if !is_drained(credit) {
             return 0;
@@ -93,10 +94,12 @@ impl Beat {
     }
 
     /// The beat after the current round, which was held in `tick` and left this credit. If nothing was added in it,
-    /// nothing changes. If it drained the row, this is closed to the next tick of its interval; otherwise it is open.
+    /// nothing changes. If it drained the row, this is closed to the next tick of its interval, at most [`LONGEST`] ticks
+    /// later; otherwise it is open.
     pub fn settle(self, credit: Credit, tick: u64) -> Beat
         ensures settled { result ≡ settled tick credit self }
         ensures done { result.is_asked ≡ false }
+        ensures soon { self.is_asked ≡ true → result.opens ≤ tick + LONGEST }
     {
         if !self.is_asked {
             return self;

@@ -111,7 +111,7 @@ impl<A: Allocator> Cadence<A> {
             Some(group) => opens_at(&self.groups, group, way),
             None => 0,
         };
-        line.max(group).max(opens_at(&self.users, user, way))
+        line.max(group.max(opens_at(&self.users, user, way)))
     }
 
     /// Adds a grant of the current round to the rows that a user's transfer is within. No memory.

@@ -45,7 +45,11 @@ pub fn next_opening(tick: u64, interval: u64) -> u64
     ensures first { IsNextOpening tick interval (next_opening tick interval) }
 {
     let place = (tick % TICKS + 1) % TICKS;
-    let end = if place <= LAST_BUT_TEN { LAST_BUT_TEN } else { TICKS - 1 };
+    let end = if place <= LAST_BUT_TEN {
+        LAST_BUT_TEN
+    } else {
+        TICKS - 1
+    };
     let wait = (interval - 1 - place % interval).min(end - place);
     tick.saturating_add(1).saturating_add(wait)
 }

@@ -1,7 +1,10 @@
 //! Tests of the parts of the server that need no desk and no session: counts that threads wait on, the mender of
-//! control text, the pace of rounds, limits of time, and ports that rest. They call only public functions.
+//! control text, the pace of rounds and their cadence, limits of time, and ports that rest. They call only public
+//! functions.
 #![tactic(auto)]
 
+#[cfg(test)]
+mod cadences;
 #[cfg(test)]
 mod counts;
 #[cfg(test)]

@@ -1,0 +1,252 @@
+//! The ticks in which transfers are in a round. The function with the crate's name is the example in its head.
+
+use super::expect::holds;
+use line_rates::{GroupRate, Limits, UserRate, Way};
+use linked_list_allocator::LocalHeap;
+use round_cadence::{Beat, Cadence, LONGEST, WORTH, WayBeats, interval, next_opening};
+use round_pace::{Credit, Pace, TransferRows};
+use std::alloc::AllocError;
+use std::process::Abort;
+use std::test::Fail;
+use test_scarce_memory::{HEAP, leave_hole};
+
+fn round_cadence(rt: &(impl Abort + AllocGlobal), rows: &TransferRows) -> Result<(), AllocError> {
+    let mut cadence = Cadence::new(rt.alloc(), 8, 0)?; // of users with numbers below 8
+    for _ in 0..64 {
+        // the grants of a round in tick 0, which drained the server's rate of 2,000,000 octets a second
+        cadence.add(Way::Down, 7, rows, 62);
+    }
+    cadence.settle(Way::Down, 7, rows, 0);
+    holds(rt, cadence.opens(Way::Down, 7, rows) == 31); // the last tick of the first 32
+    Ok(())
+}
+
+/// The line's 4,000 octets of a tick, less those of 64 transfers with 62 each, leave it drained.
+#[test]
+fn sixty_four_downloads_wait(rt: HostRuntime) {
+    let alloc = rt.alloc();
+    let limits = Limits::of(2_000_000, 0, 0, Vec::new(alloc), Vec::new(alloc));
+    let mut pace = Pace::of(alloc, limits.expect(&rt, "limits"), 0).expect(&rt, "memory");
+    pace.offer(0);
+    pace.took(Way::Down, 7, 3_968);
+    let rows = pace.rows_of(Way::Down, 7);
+    holds(&rt, rows == rows_of(2_000_000, 32, OPEN));
+    round_cadence(&rt, &rows).expect(&rt, "memory");
+}
+
+const OPEN: Credit = Credit { rate: 0, left: 0 };
+
+// The rows of a transfer within a server's rate and a user's.
+fn rows_of(rate: u64, left: u64, user: Credit) -> TransferRows {
+    TransferRows {
+        server: Credit { rate, left },
+        way: OPEN,
+        group: OPEN,
+        user,
+        group_number: None,
+        is_timed: false,
+    }
+}
+
+/// Rates, sharers, and the ticks in which the rate earns 4,096 octets for each of them.
+static INTERVALS: [(u64, u64, u64); 13] = [
+    (2_000_000, 64, 32),
+    (4_194_304, 4, 2),
+    (20_000_000, 1, 1),
+    (10_000, 64, 32),
+    (2_048_000, 1, 1),
+    (2_047_999, 1, 2),
+    (1_024_000, 1, 2),
+    (512_000, 1, 4),
+    (256_000, 1, 8),
+    (128_000, 1, 16),
+    (127_999, 1, 32),
+    (0, 1, 32),
+    (u64::MAX, u64::MAX, 32),
+];
+
+/// Ticks, intervals, and the next ticks in which rows of these open.
+static OPENINGS: [(u64, u64, u64); 10] = [
+    (31, 32, 63),
+    (479, 32, 489),
+    (489, 32, 499),
+    (499, 32, 531),
+    (7, 1, 8),
+    (30, 32, 31),
+    (0, 4, 3),
+    (488, 16, 489),
+    (495, 4, 499),
+    (u64::MAX, 32, u64::MAX),
+];
+
+#[test]
+fn rows_open_in_their_ticks(rt: HostRuntime) {
+    holds(&rt, WORTH == 4_096 && LONGEST == 32);
+    for (rate, sharers, ticks) in &INTERVALS {
+        holds(&rt, interval(*rate, *sharers) == *ticks);
+    }
+    for (tick, ticks, next) in &OPENINGS {
+        holds(&rt, next_opening(*tick, *ticks) == *next);
+    }
+}
+
+// A rate of 2,000,000 octets a second, of which this is left.
+fn left(left: u64) -> Credit {
+    Credit {
+        rate: 2_000_000,
+        left,
+    }
+}
+
+#[test]
+fn beats_count_sharers(rt: HostRuntime) {
+    let mut beat = Beat::new();
+    holds(&rt, beat.settle(left(0), 0) == beat); // no round
+    for _ in 0..8 {
+        beat = beat.add(500, false);
+    }
+    beat = beat.add(1, false);
+    beat = beat.settle(left(4_096), 0);
+    // 4,001 octets are 9 grants of at most 500; 8 ticks earn 32,000, too little for 9
+    holds(&rt, beat.sharers == 9 && beat.opens == 15);
+    beat = beat.add(4_000, false).settle(left(4_097), 15);
+    holds(&rt, beat.sharers == 7 && beat.opens == 0); // more than 4,096 are left
+    beat = beat.add(0, true).settle(left(0), 16);
+    holds(&rt, beat.sharers == 6 && beat.opens == 17); // a session's rate is earned in each tick
+    let beats = WayBeats::new().add(Way::Up, 10, false);
+    let beats = beats.settle(Way::Up, left(0), 0);
+    holds(&rt, beats.beat(Way::Down) == Beat::new());
+    holds(&rt, beats.beat(Way::Up).opens == 1);
+}
+
+// A group with a rate of downloads, and a user in it with a rate of uploads and a guarantee of downloads.
+fn pace_of_a_group(rt: &(impl Abort + AllocGlobal)) -> Pace {
+    let mut groups = Vec::new(rt.alloc());
+    let group = GroupRate {
+        group: 1,
+        down: 5_000,
+        up: 0,
+    };
+    groups.push(group).expect(rt, "memory");
+    let mut users = Vec::new(rt.alloc());
+    let user = UserRate {
+        user: 3,
+        group: Some(1),
+        down: 0,
+        up: 10_000,
+        session_down: 0,
+        session_up: 0,
+        session_down_floor: 500,
+        session_up_floor: 0,
+    };
+    users.push(user).expect(rt, "memory");
+    let limits = Limits::of(0, 7_000, 0, groups, users).expect(rt, "limits");
+    Pace::of(rt.alloc(), limits, 0).expect(rt, "memory")
+}
+
+#[test]
+fn rows_are_those_of_a_transfer(rt: HostRuntime) {
+    let mut pace = pace_of_a_group(&rt);
+    pace.offer(0);
+    let rows = pace.rows_of(Way::Down, 3);
+    holds(&rt, rows.server == OPEN && rows.user == OPEN);
+    holds(
+        &rt,
+        rows.way
+            == Credit {
+                rate: 7_000,
+                left: 14,
+            },
+    );
+    holds(
+        &rt,
+        rows.group
+            == Credit {
+                rate: 5_000,
+                left: 10,
+            },
+    );
+    holds(&rt, rows.group_number == Some(1) && rows.is_timed);
+    let rows = pace.rows_of(Way::Up, 3);
+    holds(&rt, rows.way == OPEN && rows.group == OPEN);
+    holds(
+        &rt,
+        rows.user
+            == Credit {
+                rate: 10_000,
+                left: 20,
+            },
+    );
+    holds(&rt, rows.group_number == Some(1) && !rows.is_timed);
+    let rows = pace.rows_of(Way::Down, 4);
+    holds(&rt, rows.group == OPEN && rows.user == OPEN);
+    holds(&rt, rows.group_number.is_none() && !rows.is_timed);
+}
+
+// The rows of a user in group 1, with this credit of both.
+fn grouped(credit: Credit) -> TransferRows {
+    TransferRows {
+        server: OPEN,
+        way: OPEN,
+        group: credit,
+        user: credit,
+        group_number: Some(1),
+        is_timed: false,
+    }
+}
+
+fn hold_round(cadence: &mut Cadence, user: u32, rows: &TransferRows) {
+    cadence.add(Way::Down, user, rows, 100);
+    cadence.settle(Way::Down, user, rows, 0);
+    cadence.settle(Way::Down, user, rows, 5); // nothing was added
+}
+
+#[test]
+fn rows_close_for_those_within(rt: HostRuntime) {
+    let slow = Credit {
+        rate: 10_000,
+        left: 100,
+    };
+    let alone = rows_of(0, 0, slow);
+    let rest = rows_of(
+        0,
+        0,
+        Credit {
+            rate: 10_000,
+            left: 101,
+        },
+    );
+    let mut cadence = Cadence::new(rt.alloc(), 5, 2).expect(&rt, "memory");
+    hold_round(&mut cadence, 1, &alone);
+    hold_round(&mut cadence, 2, &rest);
+    holds(&rt, cadence.opens(Way::Down, 1, &alone) == 31);
+    holds(&rt, cadence.opens(Way::Up, 1, &alone) == 0);
+    holds(&rt, cadence.opens(Way::Down, 2, &rest) == 0);
+    hold_round(&mut cadence, 3, &grouped(slow));
+    holds(&rt, cadence.opens(Way::Down, 4, &grouped(slow)) == 31); // by the group
+    holds(&rt, cadence.opens(Way::Down, 4, &alone) == 0);
+    hold_round(&mut cadence, 5, &alone); // no beat has this number
+    holds(&rt, cadence.opens(Way::Down, 5, &alone) == 0);
+}
+
+// Returns whether there is memory for beats in this heap.
+fn has_room(heap: &LocalHeap) -> bool {
+    Cadence::new(heap, 3, 2).is_ok()
+}
+
+#[test]
+fn beats_are_made_once_there_is_memory(rt: HostRuntime) -> Result<(), Fail> {
+    let heap = LocalHeap::new(rt.alloc(), HEAP)?;
+    let mut refused = 0usize;
+    for room in 1..64usize {
+        let rest = leave_hole(&rt, &heap, room * 16)?;
+        if has_room(&heap) {
+            break;
+        }
+        refused = room;
+        drop(rest);
+        holds(&rt, has_room(&heap));
+    }
+    holds(&rt, 2 <= refused && refused < 63);
+    Ok(())
+}

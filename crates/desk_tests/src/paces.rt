@@ -5,11 +5,12 @@ ghost use Rattle.lane_desk.specs.Seats.{IsSeatOf};
 ghost use Rattle.lane_desk.specs.Turns.{back, IsRoundOf};
 
 use super::expect::{OfTest, down, holds};
-use grant_ledger::{Book, Settled};
+use grant_ledger::{Book, MAX_LANES, Settled};
 use lane_desk::{Desk, RoundRefusal, Rounds, open_desk};
 use line_rates::{Limits, UserRate, Way};
 use linked_list_allocator::LocalHeap;
 use paced_rounds::PacedRounds;
+use round_cadence::Cadence;
 use round_pace::{Due, Pace};
 use std::process::Abort;
 use test_checked_desk::{OwnSeat, settle_two, two_seats};
@@ -48,6 +49,7 @@ fn limits(rt: &(impl Abort + AllocGlobal)) -> Limits {
 impl PacedDesk {
     fn open(rt: &(impl Abort + AllocGlobal)) -> PacedDesk {
         let pace = Pace::of(rt.alloc(), limits(rt), 0).expect(rt, "a pace");
+        let cadence = Cadence::new(rt.alloc(), 8, 0).expect(rt, "memory");
         let (book, mut tally) = Book::<OfTest>::open(0);
         match open_desk(rt.alloc(), 2, &book) {
             Ok((desk, round, seats)) => {
@@ -61,7 +63,7 @@ impl PacedDesk {
                     desk,
                     first,
                     second,
-                    rounds: PacedRounds::new(Rounds::new(round, book, tally), pace, 0),
+                    rounds: PacedRounds::new(Rounds::new(round, book, tally), pace, cadence, 0),
                 }
             }
             Err(_) => panic!(rt; "no desk"),
@@ -83,7 +85,27 @@ impl PacedDesk {
     // Both ask, a round is held at a moment, and both take their grants. Returns whether they are these.
     fn shares(&mut self, rt: &(impl Abort + AllocGlobal), now: u64, grants: (u64, u64)) -> bool {
         self.ask_both(rt);
-        match self.rounds.hold(rt.alloc(), &self.desk, now) {
+        self.answers(rt, now, grants)
+    }
+
+    // Both ask, and a round of the first lane alone is held. Returns whether that takes this grant, and the other none.
+    fn shares_first(&mut self, rt: &(impl Abort + AllocGlobal), now: u64, grant: u64) -> bool {
+        self.ask_both(rt);
+        let mut given = [false; MAX_LANES];
+        given[0] = true;
+        match self.rounds.hold(rt.alloc(), &self.desk, now, &given) {
+            Ok(record) => holds(rt, record.answered == 1),
+            Err(_) => panic!(rt; "a round was refused"),
+        }
+        self.first.take(&self.desk, 10) == Some(grant) && self.second.take(&self.desk, 10).is_none()
+    }
+
+    // A round is held at a moment, and both take their grants. Returns whether they are these.
+    fn answers(&mut self, rt: &(impl Abort + AllocGlobal), now: u64, grants: (u64, u64)) -> bool {
+        match self
+            .rounds
+            .hold(rt.alloc(), &self.desk, now, &[true; MAX_LANES])
+        {
             Ok(record) => holds(
                 rt,
                 record.asks.as_slice() == [down(7, 10), down(8, 10)].as_slice(),
@@ -98,7 +120,7 @@ impl PacedDesk {
         let heap = LocalHeap::new(rt.alloc(), HEAP).expect(rt, "a heap");
         let _rest = leave_hole(rt, &heap, 0).expect(rt, "no hole");
         self.ask_both(rt);
-        match self.rounds.hold(&heap, &self.desk, now) {
+        match self.rounds.hold(&heap, &self.desk, now, &[true; MAX_LANES]) {
             Ok(_) => panic!(rt; "a round without memory"),
             Err(fault) => holds(
                 rt,
@@ -122,6 +144,17 @@ impl PacedDesk {
 }
 
 #[test]
+fn a_round_is_of_the_given_lanes(rt: HostRuntime) {
+    let mut paced = PacedDesk::open(&rt);
+    // user 7 gets the octet of their tick, and one of the server's two is left
+    holds(&rt, paced.shares_first(&rt, 0, 1));
+    holds(&rt, paced.first.ask(&paced.desk, down(7, 10)));
+    holds(&rt, paced.answers(&rt, 2_000, (1, 2)));
+    let settled = paced.close(&rt);
+    holds(&rt, settled.issued == 4);
+}
+
+#[test]
 fn rounds_keep_the_rates_of_their_pace(rt: HostRuntime) {
     let mut paced = PacedDesk::open(&rt);
     holds(&rt, paced.shares(&rt, 0, (1, 1)));
@@ -130,10 +163,12 @@ fn rounds_keep_the_rates_of_their_pace(rt: HostRuntime) {
     holds(&rt, paced.shares(&rt, 4_000, (2, 2)));
     // an earlier moment counts as the last one
     holds(&rt, paced.shares(&rt, 0, (0, 0)));
-    holds(&rt, paced.rounds.due(4_000) == Due::At(6_000));
+    // what the server earns in an interval is not worth sending: its row opens in tick 31, the last of the longest
+    holds(&rt, !paced.rounds.is_open(Way::Down, 7, 61_999));
+    holds(&rt, paced.rounds.is_open(Way::Down, 7, 62_000));
     holds(
         &rt,
-        paced.rounds.due_for(Way::Down, 7, 4_000) == Due::At(6_000),
+        paced.rounds.due_for(Way::Down, 7, 4_000) == Due::At(62_000),
     );
     // a refused round takes nothing from what is left
     holds(&rt, paced.is_refused(&rt, 6_000));

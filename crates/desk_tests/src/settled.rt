@@ -1,9 +1,12 @@
 //! Two lanes under a rate, from the first ask to the settlement.
 
 use super::expect::{OfTest, down, holds, limits};
-use grant_ledger::Book;
+use grant_ledger::{Book, MAX_LANES};
 use lane_desk::{RoundRefusal, Rounds, open_desk};
 use test_checked_desk::{OwnSeat, settle_two, two_seats};
+
+/// All lanes.
+const ALL: [bool; MAX_LANES] = [true; MAX_LANES];
 
 /// The amounts that a lane took, in order.
 type Taken = Vec<u64>;
@@ -27,7 +30,7 @@ fn two_lanes_share_a_rate(rt: HostRuntime) {
                 &rt,
                 first.ask(desk_ref, down(0, 5)) && second.ask(desk_ref, down(1, 5)),
             );
-            match rounds.round(rt.alloc(), desk_ref, &limits, 0) {
+            match rounds.round_of(rt.alloc(), desk_ref, &limits, 0, &ALL) {
                 Ok(record) => {
                     holds(&rt, record.tick == 0 && record.answered == 3);
                     holds(&rt, record.sealed.grants() == [2, 1].as_slice());
@@ -47,7 +50,7 @@ fn two_lanes_share_a_rate(rt: HostRuntime) {
                 &rt,
                 second.take(desk_ref, 1) == Some(1) && second.ask(desk_ref, down(1, 4)),
             );
-            match rounds.round(rt.alloc(), desk_ref, &limits, 50) {
+            match rounds.round_of(rt.alloc(), desk_ref, &limits, 50, &ALL) {
                 Ok(_) => panic!(&rt; "two rounds in one tick"),
                 Err(fault) => holds(
                     &rt,
@@ -58,7 +61,7 @@ fn two_lanes_share_a_rate(rt: HostRuntime) {
                 &rt,
                 second.take(desk_ref, 0) == Some(0) && second.ask(desk_ref, down(1, 4)),
             );
-            match rounds.round(rt.alloc(), desk_ref, &limits, 100) {
+            match rounds.round_of(rt.alloc(), desk_ref, &limits, 100, &ALL) {
                 Ok(record) => holds(&rt, record.tick == 1 && record.sealed.total() == 3),
                 Err(_) => panic!(&rt; "a later tick was refused"),
             }

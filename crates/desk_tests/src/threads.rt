@@ -5,7 +5,7 @@ ghost use Rattle.lane_desk.specs.Seats.{IsSeatOf, IsSameSeat};
 ghost use Rattle.lane_desk.specs.Turns.{IsRoundOf, IsSameRound};
 
 use super::expect::{OfTest, down, holds, limits};
-use grant_ledger::Book;
+use grant_ledger::{Book, MAX_LANES};
 use lane_desk::{Desk, Rounds, open_desk};
 use line_rates::Limits;
 use std::alloc::Global;
@@ -50,7 +50,7 @@ fn lead(alloc: Global, desk: &Desk<OfTest>, rounds: &mut Rounds<OfTest>, limits:
         if answered >= GRANTS {
             break;
         }
-        match rounds.round(alloc, desk, limits, tick * 100) {
+        match rounds.round_of(alloc, desk, limits, tick * 100, &[true; MAX_LANES]) {
             Ok(record) => answered = if record.answered == 1 {
                 answered + 1
             } else {

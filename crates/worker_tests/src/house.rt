@@ -4,6 +4,7 @@ ghost use Rattle.std.specs.Prelude.{◌≡◌, ◌<◌, ℕ, true};
 
 use super::counted::End;
 use super::expect::OfTest;
+use grant_ledger::MAX_LANES;
 use lent_parts::{LentDesk, LentRounds, PartsName};
 use round_pace::TICK_MICROS;
 use std::alloc::{Allocator, Global};
@@ -37,7 +38,7 @@ impl<B: PartsName> Turns<B> {
         let skipped = ticks.saturating_sub(1).saturating_mul(TICK_MICROS);
         let now = self.next.saturating_add(skipped);
         self.next = now.saturating_add(TICK_MICROS);
-        let _ = self.rounds.hold(alloc, desk, now);
+        let _ = self.rounds.hold(alloc, desk, now, &[true; MAX_LANES]);
     }
 }
 

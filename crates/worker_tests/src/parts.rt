@@ -13,6 +13,7 @@ use grant_ledger::{Book, Settled, Tally};
 use lane_desk::{Desk, LaneSeat, Rounds, Worked, open_desk};
 use lent_parts::{LentDesk, LentRounds, LentWorker, PartsName, settle_lent};
 use paced_rounds::PacedRounds;
+use round_cadence::Cadence;
 use round_pace::Pace;
 use std::process::Abort;
 use std::sync::Wait;
@@ -39,6 +40,7 @@ impl Opened {
     /// A desk whose rounds have this rate of the server; 0 limits nothing.
     pub(crate) fn new(rt: &(impl Abort + AllocGlobal), rate: u64) -> Opened {
         let pace = Pace::of(rt.alloc(), limits(rt, rate), 0).expect(rt, "a pace");
+        let cadence = Cadence::new(rt.alloc(), 0, 0).expect(rt, "memory");
         let (book, mut tally) = Book::<OfTest>::open(0);
         match open_desk(rt.alloc(), 2, &book) {
             Ok((desk, round, seats)) => {
@@ -49,7 +51,7 @@ impl Opened {
                 let second_tally = tally.split();
                 Opened {
                     desk,
-                    rounds: PacedRounds::new(Rounds::new(round, book, tally), pace, 0),
+                    rounds: PacedRounds::new(Rounds::new(round, book, tally), pace, cadence, 0),
                     first,
                     second,
                     first_tally,

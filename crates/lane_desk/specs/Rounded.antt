@@ -12,7 +12,7 @@ use Rattle.lane_desk.specs.Refusals.{IsRefused}
 use Rattle.lane_desk.specs.Tried.{every, AreOfGiven, AreMarks, asks_from}
 use Rattle.lane_desk.specs.Posted.{turn_at}
 
--- the lane was tried once if it is given, otherwise not touched, and an ask found there was answered
+-- the lane was tried once if it is given, otherwise not touched; an ask found there was answered
 -- with one amount
 abbrev pub IsAnswered : Bool → Option Ask → TurnView → TurnView → Type 0
 IsAnswered given None t t' = t' ≡ cond given (has_missed t) t

@@ -1,5 +1,5 @@
 -- The beat of a row: when it is open, and what its last round granted.
-use Rattle.std.specs.Prelude.{ℕ, ◌+◌, ◌-◌, ◌/◌, ◌%◌, ◌^◌, min, max, Bool, true, false, ◌&&◌, ◌||◌, not, nat_eq, nat_le, if◌then◌else◌, refl}
+use Rattle.std.specs.Prelude.{ℕ, ◌+◌, ◌-◌, ◌*◌, ◌/◌, ◌%◌, ◌^◌, min, max, Bool, true, false, ◌&&◌, not, nat_eq, nat_le, if◌then◌else◌, refl}
 use Rattle.std.specs.Coded.{Coded, code_by, coded×, coded_ℕ, coded_bool}
 use Rattle.line_rates.specs.declared.ask.Way.{Way}
 use Rattle.line_rates.specs.declared.ask.Way.TheVariants.{Down, Up}
@@ -16,18 +16,18 @@ new_beat = record {
   sharers = 1;
   granted = 0;
   greatest = 0;
-  is_timed = false;
+  worth = WORTH;
   is_asked = false;
 }
 
 -- a beat after a grant of the current round; sums stop at the greatest number of 64 bits
-abbrev pub added : ℕ → Bool → Beat → Beat
-added grant is_timed b = record {
+abbrev pub added : ℕ → ℕ → Beat → Beat
+added grant worth b = record {
   opens = b.opens;
   sharers = b.sharers;
   granted = min (b.granted + grant) (2 ^ 64 - 1);
   greatest = max b.greatest grant;
-  is_timed = b.is_timed || is_timed;
+  worth = min b.worth worth;
   is_asked = true;
 }
 
@@ -48,9 +48,9 @@ sharers_after b = max (parts_of b) (b.sharers - div_up b.sharers 8)
 abbrev pub is_drained : Credit → Bool
 is_drained c = not (nat_eq c.rate 0) && nat_le c.left (min (c.rate / 100) WORTH)
 
--- the interval after a round: one tick if something is earned from one round to the next
+-- the interval after a round, in which each sharer earns what one of them is to have
 abbrev pub interval_after : Credit → Beat → ℕ
-interval_after c b = if b.is_timed then 1 else interval_of c.rate (sharers_after b)
+interval_after c b = interval_of c.rate (min (b.worth * sharers_after b) (2 ^ 64 - 1))
 
 abbrev pub opens_after : ℕ → Credit → Beat → ℕ
 opens_after tick c b =
@@ -64,7 +64,7 @@ settled tick c b = if b.is_asked then record {
   sharers = sharers_after b;
   granted = 0;
   greatest = 0;
-  is_timed = false;
+  worth = WORTH;
   is_asked = false;
 } else b
 
@@ -85,16 +85,16 @@ change Up f b = record { down = b.down; up = f b.up }
 -- codes, by which proofs distinguish values
 abbrev pub beat_code : Coded Beat
 beat_code =
-    code_by ((ℕ × ℕ) × ((ℕ × ℕ) × (Bool × Bool)))
+    code_by ((ℕ × ℕ) × ((ℕ × ℕ) × (ℕ × Bool)))
     (coded× (coded× coded_ℕ coded_ℕ)
-    (coded× (coded× coded_ℕ coded_ℕ) (coded× coded_bool coded_bool)))
-    (λ b. ((b.opens, b.sharers), ((b.granted, b.greatest), (b.is_timed, b.is_asked))))
+    (coded× (coded× coded_ℕ coded_ℕ) (coded× coded_ℕ coded_bool)))
+    (λ b. ((b.opens, b.sharers), ((b.granted, b.greatest), (b.worth, b.is_asked))))
     (λ p. record {
       opens = p.0.0;
       sharers = p.0.1;
       granted = p.1.0.0;
       greatest = p.1.0.1;
-      is_timed = p.1.1.0;
+      worth = p.1.1.0;
       is_asked = p.1.1.1;
     })
     (λ _. refl)

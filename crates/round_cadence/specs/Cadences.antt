@@ -1,7 +1,9 @@
 -- The beats of all rows of a line.
-use Rattle.std.specs.Prelude.{ℕ, max, List, slice_index_or, slice_set, replicate, Option, Some, None, refl}
+use Rattle.std.specs.Prelude.{ℕ, max, Bool, true, false, List, slice_index_or, slice_set, replicate, Option, Some, None, refl}
 use Rattle.std.specs.Coded.{Coded, code_by, coded×, coded_list}
 use Rattle.line_rates.specs.declared.ask.Way.{Way}
+use Rattle.line_rates.specs.declared.ask.Way.TheVariants.{Down, Up}
+use Rattle.round_cadence.specs.declared.intervals.TheConstants.{WORTH, WORTH_UP}
 use Rattle.round_pace.specs.declared.rows.TransferRows.{TransferRows}
 use Rattle.round_cadence.specs.declared.beat.Beat.{Beat}
 use Rattle.round_cadence.specs.declared.beat.WayBeats.{WayBeats}
@@ -21,6 +23,12 @@ new_cadence users groups = record {
   groups = replicate groups new_beats;
   users = replicate users new_beats;
 }
+
+-- the octets that a transfer is to have in a round: any, if it is timed
+abbrev pub worth_of : Way → Bool → ℕ
+worth_of way true = 0
+worth_of Down false = WORTH
+worth_of Up false = WORTH_UP
 
 -- the first tick in which the row of a number is open; a number without a beat is never closed
 abbrev pub opens_at : Way → List WayBeats → ℕ → ℕ
@@ -48,10 +56,10 @@ change_for way f (Some number) beats = change_at way f number beats
 -- the beats after a grant of the current round to a user's transfer
 abbrev pub add_to : Way → ℕ → TransferRows → ℕ → Beats → Beats
 add_to way user rows grant c = record {
-  server = added grant rows.is_timed c.server;
-  ways = change way (added grant rows.is_timed) c.ways;
-  groups = change_for way (added grant rows.is_timed) rows.group_number c.groups;
-  users = change_at way (added grant rows.is_timed) user c.users;
+  server = added grant (worth_of way rows.is_timed) c.server;
+  ways = change way (added grant (worth_of way rows.is_timed)) c.ways;
+  groups = change_for way (added grant (worth_of way rows.is_timed)) rows.group_number c.groups;
+  users = change_at way (added grant (worth_of way rows.is_timed)) user c.users;
 }
 
 -- the beats after a round in a tick that left these credits, for a user's transfer

@@ -1,30 +1,30 @@
 -- Intervals of rows, and the ticks in which a closed row opens.
 use Rattle.std.specs.Prelude.{◌≡◌, ℕ, ◌+◌, ◌-◌, ◌*◌, ◌%◌, ◌^◌, ◌<◌, ◌≤◌, min, Bool, true, false, ◌||◌, nat_eq, nat_le, if◌then◌else◌, List, [], ◌∷◌}
 use Rattle.round_pace.specs.declared.credit.TheConstants.{TICKS}
-use Rattle.round_cadence.specs.declared.intervals.TheConstants.{WORTH, LONGEST, LAST_BUT_TEN}
+use Rattle.round_cadence.specs.declared.intervals.TheConstants.{LONGEST, LAST_BUT_TEN}
 
--- in this number of ticks, a rate earns what is worth sending for each sharer
+-- in this number of ticks, a rate earns these octets
 abbrev pub earns : ℕ → ℕ → ℕ → Bool
-earns rate sharers ticks = nat_le (WORTH * sharers * TICKS) (rate * ticks)
+earns rate octets ticks = nat_le (octets * TICKS) (rate * ticks)
 
 -- the first of these that does; the longest interval if none does
 abbrev pub first_earning : ℕ → ℕ → List ℕ → ℕ
-first_earning rate sharers [] = LONGEST
-first_earning rate sharers (ticks ∷ rest) =
-    if earns rate sharers ticks then ticks else first_earning rate sharers rest
+first_earning rate octets [] = LONGEST
+first_earning rate octets (ticks ∷ rest) =
+    if earns rate octets ticks then ticks else first_earning rate octets rest
 
 abbrev pub shorter : List ℕ
 shorter = 1 ∷ 2 ∷ 4 ∷ 8 ∷ 16 ∷ []
 
 abbrev pub interval_of : ℕ → ℕ → ℕ
-interval_of rate sharers = first_earning rate sharers shorter
+interval_of rate octets = first_earning rate octets shorter
 
 -- the least power of two of ticks that earns enough, and at most the longest interval
-pub record IsInterval (rate sharers ticks : ℕ) : Type 0 where
+pub record IsInterval (rate octets ticks : ℕ) : Type 0 where
   pub power : (k : ℕ) × (ticks ≡ 2 ^ k)
   pub most : ticks ≤ LONGEST
-  pub enough : ticks < LONGEST → earns rate sharers ticks ≡ true
-  pub least : (k : ℕ) → 2 ^ k < ticks → earns rate sharers (2 ^ k) ≡ false
+  pub enough : ticks < LONGEST → earns rate octets ticks ≡ true
+  pub least : (k : ℕ) → 2 ^ k < ticks → earns rate octets (2 ^ k) ≡ false
 
 -- A row of this interval opens in a tick: in the last of each interval since the second began, and
 -- in the last tick of the second and the last but ten.

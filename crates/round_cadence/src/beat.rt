@@ -20,8 +20,8 @@ pub struct Beat {
     pub granted: u64,
     /// The greatest of these grants.
     pub greatest: u64,
-    /// True if one of these grants is earned from one round to the next.
-    pub is_timed: bool,
+    /// The least number of octets that one of these transfers is to have in a round.
+    pub worth: u64,
     /// True if the current round has asks within the row.
     pub is_asked: bool,
 }
@@ -52,21 +52,21 @@ impl Beat {
             sharers: 1,
             granted: 0,
             greatest: 0,
-            is_timed: false,
+            worth: WORTH,
             is_asked: false,
         }
     }
 
-    /// Adds a grant of the current round. It is timed if its session has a rate or a guarantee.
-    pub fn add(self, grant: u64, is_timed: bool) -> Beat
-        ensures added { result ≡ added grant is_timed self }
+    /// Adds a grant of the current round, to a transfer that is to have `worth` octets in a round.
+    pub fn add(self, grant: u64, worth: u64) -> Beat
+        ensures added { result ≡ added grant worth self }
     {
         Beat {
             opens: self.opens,
             sharers: self.sharers,
             granted: self.granted.saturating_add(grant),
             greatest: self.greatest.max(grant),
-            is_timed: self.is_timed || is_timed,
+            worth: self.worth.min(worth),
             is_asked: true,
         }
     }
@@ -87,10 +87,8 @@ impl Beat {
         if !is_drained(credit) {
             return 0;
         }
-        if self.is_timed {
-            return next_opening(tick, 1);
-        }
-        next_opening(tick, interval(credit.rate, self.sharers_after()))
+        let octets = self.worth.saturating_mul(self.sharers_after());
+        next_opening(tick, interval(credit.rate, octets))
     }
 
     /// The beat after the current round, which was held in `tick` and left this credit. If nothing was added in it,
@@ -109,7 +107,7 @@ impl Beat {
             sharers: self.sharers_after(),
             granted: 0,
             greatest: 0,
-            is_timed: false,
+            worth: WORTH,
             is_asked: false,
         }
     }
@@ -137,17 +135,17 @@ impl WayBeats {
     }
 
     /// Adds a grant of the current round to the beat of a direction.
-    pub fn add(self, way: Way, grant: u64, is_timed: bool) -> WayBeats
-        ensures added { result ≡ change way (added grant is_timed) self }
+    pub fn add(self, way: Way, grant: u64, worth: u64) -> WayBeats
+        ensures added { result ≡ change way (added grant worth) self }
     {
         match way {
             Way::Down => WayBeats {
-                down: self.down.add(grant, is_timed),
+                down: self.down.add(grant, worth),
                 up: self.up,
             },
             Way::Up => WayBeats {
                 down: self.down,
-                up: self.up.add(grant, is_timed),
+                up: self.up.add(grant, worth),
             },
         }
     }

@@ -2,9 +2,10 @@
 
 ghost use Rattle.std.specs.Prelude.{◌≡◌, replicate, IfOk};
 ghost use Rattle.round_cadence.specs.Beats.{new_beats, added, settled};
-ghost use Rattle.round_cadence.specs.Cadences.{new_cadence, opens_at, opens_for, change_at, change_for, opens_of, add_to, settle_of};
+ghost use Rattle.round_cadence.specs.Cadences.{worth_of, new_cadence, opens_at, opens_for, change_at, change_for, opens_of, add_to, settle_of};
 
 use crate::beat::{Beat, WayBeats};
+use crate::intervals::{WORTH, WORTH_UP};
 use line_rates::Way;
 use round_pace::{Credit, TransferRows};
 use std::alloc::{AllocError, Allocator, Global};
@@ -37,6 +38,18 @@ impl<A: Allocator> Model for Cadence<A> {
     } };
 }
 
+// The octets that a transfer is to have in a round: any, if its session's rate or guarantee is earned from one round to
+// the next.
+fn worth_of(way: Way, is_timed: bool) -> u64
+    ensures worth { result ≡ worth_of way is_timed }
+{
+    match way {
+        _ if is_timed => 0,
+        Way::Down => WORTH,
+        Way::Up => WORTH_UP,
+    }
+}
+
 fn open_beats<A: Allocator>(alloc: A, count: usize) -> Result<Vec<WayBeats, A>, AllocError>
     ensures beats { IfOk result (λ beats. beats.items ≡ replicate count new_beats) }
 {
@@ -54,18 +67,12 @@ fn opens_at(beats: &[WayBeats], number: u32, way: Way) -> u64
     }
 }
 
-fn add_at<A: Allocator>(
-    beats: &mut Vec<WayBeats, A>,
-    number: u32,
-    way: Way,
-    grant: u64,
-    is_timed: bool,
-)
-    ensures added { beats.new.items ≡ change_at way (added grant is_timed) number beats.old.items }
+fn add_at<A: Allocator>(beats: &mut Vec<WayBeats, A>, number: u32, way: Way, grant: u64, worth: u64)
+    ensures added { beats.new.items ≡ change_at way (added grant worth) number beats.old.items }
 {
     let place = number as usize;
     if place < beats.len() {
-        beats[place] = beats[place].add(way, grant, is_timed);
+        beats[place] = beats[place].add(way, grant, worth);
     }
 }
 
@@ -118,13 +125,13 @@ impl<A: Allocator> Cadence<A> {
     pub fn add(&mut self, way: Way, user: u32, rows: &TransferRows, grant: u64)
         ensures added { self.new ≡ add_to way user rows.now grant self.old }
     {
-        let is_timed = rows.is_timed;
-        self.server = self.server.add(grant, is_timed);
-        self.ways = self.ways.add(way, grant, is_timed);
+        let worth = worth_of(way, rows.is_timed);
+        self.server = self.server.add(grant, worth);
+        self.ways = self.ways.add(way, grant, worth);
         if let Some(group) = rows.group_number {
-            add_at(&mut self.groups, group, way, grant, is_timed);
+            add_at(&mut self.groups, group, way, grant, worth);
         }
-        add_at(&mut self.users, user, way, grant, is_timed);
+        add_at(&mut self.users, user, way, grant, worth);
     }
 
     /// Settles the rows that a user's transfer is within, after a round that was held in `tick` and left these credits.

@@ -5,8 +5,12 @@ ghost use Rattle.round_cadence.specs.Intervals.{earns, interval_of, IsInterval, 
 
 use round_pace::TICKS;
 
-/// Octets that are worth sending, for each sharer of a row.
+/// Octets of a download that are worth sending, for each sharer of a row: some whole segments.
 pub const WORTH: u64 = 4_096;
+
+/// Octets of an upload that are worth reading. Segments are the client's choice. A read may find less than was granted,
+/// and the rest is lost to the rate, so small grants lose less.
+pub const WORTH_UP: u64 = 1_024;
 
 /// The longest interval, in ticks of 2 ms.
 pub const LONGEST: u64 = 32;
@@ -15,22 +19,20 @@ pub const LONGEST: u64 = 32;
 /// lost with the second is that of ten ticks, and not of an interval.
 pub const LAST_BUT_TEN: u64 = 489;
 
-// Returns whether a rate earns what is worth sending in this number of ticks.
-fn earns(rate: u64, sharers: u64, ticks: u64) -> bool
-    ensures earns { result ≡ earns rate sharers ticks }
+// Returns whether a rate earns these octets in this number of ticks.
+fn earns(rate: u64, octets: u64, ticks: u64) -> bool
+    ensures earns { result ≡ earns rate octets ticks }
 {
-    u128::from(WORTH) * u128::from(sharers) * u128::from(TICKS)
-        <= u128::from(rate) * u128::from(ticks)
+    u128::from(octets) * u128::from(TICKS) <= u128::from(rate) * u128::from(ticks)
 }
 
-/// The least power of two of ticks in which `rate` octets per second earn [`WORTH`] octets for each sharer, and at most
-/// [`LONGEST`].
-pub fn interval(rate: u64, sharers: u64) -> u64
-    ensures interval { result ≡ interval_of rate sharers }
-    ensures least { IsInterval rate sharers result }
+/// The least power of two of ticks in which `rate` octets per second earn these octets, and at most [`LONGEST`].
+pub fn interval(rate: u64, octets: u64) -> u64
+    ensures interval { result ≡ interval_of rate octets }
+    ensures least { IsInterval rate octets result }
 {
     for ticks in [1, 2, 4, 8, 16] {
-        if earns(rate, sharers, ticks) {
+        if earns(rate, octets, ticks) {
             return ticks;
         }
     }

@@ -2,7 +2,7 @@
 //!
 //! In each tick of 2 ms a rate earns little, which many transfers would share in tiny parts. So a row (the server, a
 //! direction, a group or a user) that a round has drained is closed until it has earned something worth sending:
-//! [`WORTH`] octets for each transfer that shares it, in at most [`LONGEST`] ticks. A transfer is in a round only if
+//! [`WORTH`] octets for each download that shares it, [`WORTH_UP`] for uploads, in at most [`LONGEST`] ticks. A transfer is in a round only if
 //! each row that it is within is open. What the rows earn, and the laws of their rates, are those of `round_pace`.
 //!
 //! ```text
@@ -22,4 +22,4 @@ mod intervals;
 
 pub use beat::{Beat, WayBeats};
 pub use cadence::Cadence;
-pub use intervals::{LAST_BUT_TEN, LONGEST, WORTH, interval, next_opening};
+pub use intervals::{LAST_BUT_TEN, LONGEST, WORTH, WORTH_UP, interval, next_opening};

@@ -3,7 +3,7 @@
 use super::expect::holds;
 use line_rates::{GroupRate, Limits, UserRate, Way};
 use linked_list_allocator::LocalHeap;
-use round_cadence::{Beat, Cadence, LONGEST, WORTH, WayBeats, interval, next_opening};
+use round_cadence::{Beat, Cadence, LONGEST, WORTH, WORTH_UP, WayBeats, interval, next_opening};
 use round_pace::{Credit, Pace, TransferRows};
 use std::alloc::AllocError;
 use std::process::Abort;
@@ -81,9 +81,12 @@ static OPENINGS: [(u64, u64, u64); 10] = [
 
 #[test]
 fn rows_open_in_their_ticks(rt: HostRuntime) {
-    holds(&rt, WORTH == 4_096 && LONGEST == 32);
+    holds(&rt, WORTH == 4_096 && WORTH_UP == 1_024 && LONGEST == 32);
     for (rate, sharers, ticks) in &INTERVALS {
-        holds(&rt, interval(*rate, *sharers) == *ticks);
+        holds(
+            &rt,
+            interval(*rate, sharers.saturating_mul(WORTH)) == *ticks,
+        );
     }
     for (tick, ticks, next) in &OPENINGS {
         holds(&rt, next_opening(*tick, *ticks) == *next);
@@ -103,17 +106,17 @@ fn beats_count_sharers(rt: HostRuntime) {
     let mut beat = Beat::new();
     holds(&rt, beat.settle(left(0), 0) == beat); // no round
     for _ in 0..8 {
-        beat = beat.add(500, false);
+        beat = beat.add(500, WORTH);
     }
-    beat = beat.add(1, false);
+    beat = beat.add(1, WORTH);
     beat = beat.settle(left(4_096), 0);
     // 4,001 octets are 9 grants of at most 500; 8 ticks earn 32,000, too little for 9
     holds(&rt, beat.sharers == 9 && beat.opens == 15);
-    beat = beat.add(4_000, false).settle(left(4_097), 15);
+    beat = beat.add(4_000, WORTH).settle(left(4_097), 15);
     holds(&rt, beat.sharers == 7 && beat.opens == 0); // more than 4,096 are left
-    beat = beat.add(0, true).settle(left(0), 16);
+    beat = beat.add(0, 0).settle(left(0), 16);
     holds(&rt, beat.sharers == 6 && beat.opens == 17); // a session's rate is earned in each tick
-    let beats = WayBeats::new().add(Way::Up, 10, false);
+    let beats = WayBeats::new().add(Way::Up, 10, WORTH_UP);
     let beats = beats.settle(Way::Up, left(0), 0);
     holds(&rt, beats.beat(Way::Down) == Beat::new());
     holds(&rt, beats.beat(Way::Up).opens == 1);

@@ -68,7 +68,7 @@ where
     holds(rt, near.read(&mut buffer).ok() == Some(0)); // nothing more is sent
     holds(rt, near.write(b"late").ok() == Some(4));
     other.abort();
-    // what came before and nobody has read is not read any more
+    // octets that came before and were not read are not read any more
     holds(rt, connection.read(&mut buffer).ok() == Some(0));
     holds(rt, other.fault().is_none());
     holds(rt, connection.write(b"abc").is_err());

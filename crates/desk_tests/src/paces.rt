@@ -163,7 +163,7 @@ fn rounds_keep_the_rates_of_their_pace(rt: HostRuntime) {
     holds(&rt, paced.shares(&rt, 4_000, (2, 2)));
     // an earlier moment counts as the last one
     holds(&rt, paced.shares(&rt, 0, (0, 0)));
-    // what the server earns in an interval is not worth sending: its row opens in tick 31, the last of the longest
+    // the server earns too little in a shorter interval: its row opens in tick 31, the last of the longest
     holds(&rt, !paced.rounds.is_open(Way::Down, 7, 61_999));
     holds(&rt, paced.rounds.is_open(Way::Down, 7, 62_000));
     holds(

@@ -1,0 +1,183 @@
+"""Measures how a server divides its rates: segments and what an Ethernet carries, the shares of equal transfers, processor time.
+
+    python3 pace.py FOLDER NAME=FTPD [NAME=FTPD ..]
+
+FOLDER lies in a file system in memory. Each case is made with one server after the other, so that servers are compared in one run. The
+segments are the kernel's count of the server's data connections (`ss -ti`); an Ethernet carries 90 octets beside each (66 of heads, 24
+of preamble, sum and gap). Shares are over what each transfer ought to have; Jain's index of them is 1 if they are equal.
+"""
+
+import os
+import re
+import socket
+import subprocess
+import sys
+import threading
+import time
+
+from clock import tell
+from serve import MEGABYTE, Running
+
+WARM, COUNTED = 2.5, 6
+BESIDE = 90
+BLOCK = bytes(65_536)
+DOWN, UP = "RETR big", "STOR upload"
+
+
+class Transfer:
+    """A transfer of a user. It reads as fast as it can, or `speed` octets a second; it sends as fast, or `piece` octets each `pause` seconds."""
+
+    def __init__(self, server, user, line, speed=0, piece=0, pause=0.0):
+        self.line, self.speed, self.piece, self.pause = line, speed, piece, pause
+        self.control = socket.create_connection(("127.0.0.1", server.port))
+        self.text = self.control.makefile("rb")
+        self.text.readline()
+        for said in (f"USER {user}", "PASS secret", "TYPE I"):
+            self.says(said)
+        numbers = re.search(rb"(\d+),(\d+)\)", self.says("PASV"))
+        self.data = socket.socket()
+        if speed:
+            self.data.setsockopt(socket.SOL_SOCKET, socket.SO_RCVBUF, 8_192)
+        self.data.connect(("127.0.0.1", int(numbers[1]) * 256 + int(numbers[2])))
+        self.got = 0
+        self.file = f"{server.folder}/files/upload{id(self)}"
+        self.says(line if line == DOWN else f"STOR upload{id(self)}")
+
+    def says(self, line):
+        self.control.sendall(f"{line}\r\n".encode())
+        return self.text.readline()
+
+    def moved(self):
+        return self.got if self.line == DOWN else os.path.getsize(self.file)
+
+    def run(self):
+        """Moves octets until the connection is closed."""
+        begun, sent, room = time.monotonic(), 0, bytearray(MEGABYTE)
+        try:
+            while True:
+                if self.line != DOWN and self.piece:
+                    self.data.send(BLOCK[: self.piece])
+                    sent += 1
+                    time.sleep(max(0, begun + sent * self.pause - time.monotonic()))
+                elif self.line != DOWN:
+                    self.data.send(BLOCK)
+                elif self.speed and self.speed * (time.monotonic() - begun) < self.got + 2_000:
+                    time.sleep(0.01)
+                else:
+                    self.got += self.data.recv_into(room, 4_096 if self.speed else 0)
+        except OSError:
+            pass
+
+    def close(self):
+        for it in (self.data, self.control):
+            it.close()
+
+
+def read_all(transfers, is_over):
+    """Reads all fast downloads in one thread, so that the clients cost little."""
+    room = bytearray(MEGABYTE)
+    for it in transfers:
+        it.data.setblocking(False)
+    while not is_over.is_set():
+        for it in transfers:
+            try:
+                while count := it.data.recv_into(room):
+                    it.got += count
+            except OSError:
+                pass
+        time.sleep(0.004)
+
+
+def segments(server):
+    """The octets and the segments that the server's data connections have sent."""
+    listed = subprocess.run(["ss", "-tinOH", "state", "established"], capture_output=True, text=True, check=True).stdout
+    octets = count = 0
+    for line in listed.splitlines():
+        words = line.split()
+        if len(words) > 3 and server.port < int(words[2].rpartition(":")[2]) < server.port + 1_000:
+            for name in ("bytes_sent", "data_segs_out"):
+                found = re.search(rf"\b{name}:(\d+)", line)
+                octets += int(found[1]) if found and name == "bytes_sent" else 0
+                count += int(found[1]) if found and name == "data_segs_out" else 0
+    return octets, count
+
+
+def measured(folder, program, case):
+    """The octets a second of each transfer, the segments a second, their octets a second, and the server's share of a core."""
+    rates, users, clients = case[:3]
+    with Running(folder, program, False, rates, users) as server:
+        transfers = [Transfer(server, *it) for it in clients]
+        fast = [it for it in transfers if it.line == DOWN and not it.speed]
+        is_over = threading.Event()
+        threads = [threading.Thread(target=read_all, args=(fast, is_over))]
+        threads += [threading.Thread(target=it.run) for it in transfers if it not in fast]
+        for it in threads:
+            it.start()
+        time.sleep(WARM)
+        begun, used, sent = time.monotonic(), server.seconds(), segments(server)
+        before = [it.moved() for it in transfers]
+        time.sleep(COUNTED)
+        took = time.monotonic() - begun
+        shares = [(it.moved() - had) / took for it, had in zip(transfers, before)]
+        octets, count = (now - then for now, then in zip(segments(server), sent))
+        share = (server.seconds() - used) / took
+        is_over.set()
+        for it in transfers:
+            it.close()
+        for it in threads:
+            it.join()
+    return shares, count / took, octets / took, share
+
+
+def equal(rate, number, line):
+    """So many transfers of one user under the server's rate."""
+    return f"rate = {rate}", (("ann", ""),), [("ann", line)] * number, [rate / number] * number
+
+
+LINE = 4 * MEGABYTE
+DRIBBLES = [("ann", UP, 0, 1_400, 0.014)] * 5
+# case: lines of the server's table, users, transfers (user, command, and how it reads or sends), and what each ought to have
+CASES = {
+    "64 downloads at 2,000,000": equal(2_000_000, 64, DOWN),
+    "64 downloads at 200,000": equal(200_000, 64, DOWN),
+    "64 downloads at 10,000": equal(10_000, 64, DOWN),
+    "8 downloads at 1,000": equal(1_000, 8, DOWN),
+    "100 a second: two of a user with 40, and another": ("rate = 100", (("ann", "down_rate = 40"), ("bob", "")), [("ann", DOWN), ("ann", DOWN), ("bob", DOWN)], [20, 20, 60]),
+    "1 download at 2,000,000": equal(2_000_000, 1, DOWN),
+    "16 downloads at 20,000,000": equal(20_000_000, 16, DOWN),
+    "16 uploads at 2,000,000": equal(2_000_000, 16, UP),
+    "1 upload at 4 MiB": equal(LINE, 1, UP),
+    "4 MiB: three fast readers and a slow one": (f"rate = {LINE}", (("ann", ""),), [("ann", DOWN)] * 3 + [("ann", DOWN, LINE // 16)], [LINE * 5 / 16] * 3 + [LINE / 16]),
+    "8 of a user with 1,000, beside one of a user with 4 MiB": ("", (("ann", "down_rate = 1000"), ("bob", f"down_rate = {LINE}")), [("ann", DOWN)] * 8 + [("bob", DOWN)], [125] * 8 + [LINE]),
+    "4 MiB: 60 of a user with 10,000, and two others": (f"rate = {LINE}", (("ann", "down_rate = 10000"), ("bob", "")), [("ann", DOWN)] * 60 + [("bob", DOWN)] * 2, [10_000 / 60] * 60 + [(LINE - 10_000) / 2] * 2),
+    "a session's rate of 2 MB alone": ("", (("ann", "session_down_rate = 2000000"),), [("ann", DOWN)], [2_000_000]),
+    "a guarantee of 1 MiB in 4 MiB, under 12 others": (f"rate = {LINE}", (("ann", f"session_down_floor = {MEGABYTE}"), ("bob", "")), [("ann", DOWN)] + [("bob", DOWN)] * 12, [MEGABYTE] + [MEGABYTE / 4] * 12),
+    "1 MB: a download beside five uploads that dribble": ("rate = 1000000", (("ann", ""), ("bob", "")), [("bob", DOWN), *DRIBBLES], [500_000] + [100_000] * 5),
+    "a user without a limit beside 60 of a user with 10,000": ("", (("ann", "down_rate = 10000"), ("bob", "")), [("ann", DOWN)] * 60 + [("bob", DOWN)], [10_000 / 60] * 60 + [None]),
+}
+
+
+def rows(folder, servers):
+    for name, case in CASES.items():
+        for server, program in servers:
+            shares, count, octets, used = measured(folder, program, case)
+            parts = [had / due for had, due in zip(shares, case[3]) if due]
+            jain = sum(parts) ** 2 / (len(parts) * sum(it * it for it in parts)) if any(parts) else 0
+            wire = f"{(octets + count * BESIDE) / octets:.2f}" if octets else "-"
+            due = sum(it for it in case[3] if it)
+            total = f"{sum(had for had, it in zip(shares, case[3]) if it) / due:.3f}"
+            free = [f", {had / 1e6:.0f} MB/s" for had, it in zip(shares, case[3]) if not it]
+            each = f"{octets / count:.0f}" if count else "-"
+            yield [name, server, f"{count:,.0f} of {each}", wire, f"{jain:.4f}", f"{min(parts):.3f} to {max(parts):.3f}", total + "".join(free), f"{used * 100:.1f} %"]
+
+
+def main(folder, *servers):
+    os.makedirs(f"{folder}/files")
+    with open(f"{folder}/files/big", "wb") as it:
+        it.truncate(1 << 40)
+    named = [it.split("=", 1) for it in servers]
+    tell(["case", "server", "segments a second, of octets", "on an Ethernet", "Jain's index", "shares", "of the rates", "processor"], rows(folder, named))
+
+
+if __name__ == "__main__":
+    main(*sys.argv[1:])

@@ -3,7 +3,7 @@
 ghost use Rattle.lane_rounds.specs.Clocks.{IsTestOf};
 
 use crate::clock::RoundClock;
-use crate::rounds::{Tried, try_one};
+use crate::rounds::try_one;
 use crate::turns::Turns;
 use handler_hooks::Hooks;
 use lent_parts::{LentDesk, PartsName};
@@ -13,8 +13,9 @@ use std::sync::{Mutex, Wait};
 use std::time::{Clock, Duration};
 use virtual_tree::Store;
 
-/// The longest wait for the bell before it checks by itself, in microseconds.
-const BACKSTOP: u64 = 200_000;
+/// The longest wait for the bell before it checks by itself, in milliseconds. A lane that waits for a later round looks
+/// again by itself.
+const BACKSTOP: u64 = 200;
 
 /// Holds rounds when no lane does, until the lanes are to end. The moments of the clock pass the test of the name.
 pub fn keep_rounds<R, S, H, B, N>(
@@ -36,17 +37,10 @@ where
             return;
         }
         let now = rt.moment();
-        match try_one(rt.alloc(), house, desk, turns, None, now) {
-            Tried::NotBefore(moment) => {
-                let time = moment.saturating_sub(now).min(BACKSTOP);
-                house.bell.wait(rt, seen, 0, Duration::from_micros(time));
-            }
-            Tried::Held(_) | Tried::ByAnother => {
-                house
-                    .bell
-                    .wait(rt, seen, 0, Duration::from_micros(BACKSTOP));
-            }
-        }
+        let _ = try_one(rt.alloc(), house, desk, turns, None, now);
+        house
+            .bell
+            .wait(rt, seen, 0, Duration::from_millis(BACKSTOP));
     }
     unreachable!()
 }

@@ -98,6 +98,44 @@ def what_is_stored_comes_back():
             server.ended()
 
 
+def three_hundred_megabytes():
+    """A file of 300,000,000 octets, stored, read back, and continued from its middle: no octet is lost, added or moved."""
+    size, step = 300_000_000, 65_521
+    # (no two pieces are alike, so that one in another's place shows)
+    piece = lambda number: number.to_bytes(8, "big") * (step // 8) + bytes(step % 8)
+
+    def written(data):
+        for number in range(size // step + 1):
+            data.socket.sendall(piece(number)[: size - number * step])
+        data.close()
+
+    def read(data, begin):
+        at = begin
+        while octets := data.read():
+            number, skip = divmod(at, step)
+            wanted = (piece(number) + piece(number + 1) + piece(number + 2))[skip : skip + len(octets)]
+            want(octets == wanted, f"octets from {at} on")
+            at += len(octets)
+        data.close()
+        same(at, size, "the octets")
+
+    with Server(root="folder") as server:
+        client = Client(server)
+        client.says("TYPE I", "200 Type is I")
+        for verb, begin in (("STOR", 0), ("RETR", 0), ("RETR", size // 2)):
+            if begin:
+                client.says(f"REST {begin}", f"350 Restart at {begin}")
+            data = client.passive()
+            client.says(f"{verb} large", "150 Opening data connection")
+            if verb == "STOR":
+                written(data)
+            else:
+                read(data, begin)
+            client.says(None, "226 Transfer complete")
+        client.quit()
+        same(server.ended()[1], size * 5 // 2, "octets moved")
+
+
 def a_folder_has_what_was_stored():
     """Files and directories that clients make are those of the machine."""
     with Server(root="folder") as server:
@@ -729,6 +767,7 @@ ROWS = [
     two_downloads,
     an_upload_that_brings_nothing,
     what_is_stored_comes_back,
+    three_hundred_megabytes,
     a_folder_has_what_was_stored,
     a_file_is_opened_for_reading_alone,
     a_store_that_is_full,

@@ -17,6 +17,7 @@ use virtual_tree::Store;
 const IN_A_ROW: usize = 4;
 
 /// The result of trying to hold a round.
+#[derive(Drop)]
 pub(crate) enum Tried {
     /// It was held; the value is the bell's count before.
     Held(u64),

@@ -3,6 +3,7 @@
 use crate::name::TransferName;
 use event_word::EventCount;
 use session_table::End;
+use std::sync::atomic::{AtomicU64, Ordering};
 use std::sync::{Mutex, Wait};
 use std::time::{Clock, Duration};
 
@@ -19,6 +20,8 @@ pub struct TransferCell<K> {
     told: Mutex<Option<TransferEnd<K>>>,
     count: EventCount,
     name: TransferName,
+    // 1 while the session wants its transfer to end
+    aborted: AtomicU64,
 }
 
 impl<K: Drop> TransferCell<K> {
@@ -28,6 +31,7 @@ impl<K: Drop> TransferCell<K> {
             told: Mutex::new(None),
             count: EventCount::new(),
             name: TransferName::new(),
+            aborted: AtomicU64::new(0),
         }
     }
 
@@ -40,6 +44,22 @@ impl<K: Drop> TransferCell<K> {
     /// lane reads it.
     pub fn name(&self) -> &TransferName {
         &self.name
+    }
+
+    /// Records that the session hands over another transfer, which it has not aborted.
+    pub fn begin(&self) {
+        self.aborted.store(0, Ordering::SeqCst);
+    }
+
+    /// Records that the session wants its transfer to end. The lane sees it before its next ask, so a transfer whose
+    /// rate has nothing left ends too.
+    pub fn abort(&self) {
+        self.aborted.store(1, Ordering::SeqCst);
+    }
+
+    /// Returns whether the session wants its transfer to end.
+    pub fn is_aborted(&self) -> bool {
+        self.aborted.load(Ordering::SeqCst) != 0
     }
 
     /// Reports an end, and wakes the session. It is counted before anybody can take it, so a count that is read after an

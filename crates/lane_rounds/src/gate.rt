@@ -1,6 +1,8 @@
 //! The gate of a lane.
 
+ghost use Rattle.std.specs.Prelude.{◌≡◌};
 ghost use Rattle.lane_rounds.specs.Clocks.{IsTestOf};
+ghost use Rattle.lane_rounds.specs.Gates.{answer};
 
 use crate::clock::RoundClock;
 use crate::ends::told_of;
@@ -12,12 +14,13 @@ use lent_parts::{LentDesk, PartsName};
 use server_house::{House, LaneSign, ShutdownStage};
 use std::alloc::Global;
 use std::sync::{Mutex, Wait};
-use std::thread;
 use std::time::{Clock, Duration};
+use std::{mem, thread};
 use transfer_worker::{Gate, Go, JobEnd, Ran};
 use virtual_tree::Store;
 
-/// The longest wait of a lane for an answer before it checks by itself, in milliseconds. Each answer wakes it.
+/// The longest wait of a lane for an answer before it checks by itself, in milliseconds. Each answer wakes it. An abort
+/// does not, and is seen by then.
 const BACKSTOP: u64 = 200;
 
 /// The time that it yields to other threads before it sleeps, in microseconds.
@@ -26,7 +29,8 @@ const PATIENCE: u64 = 20;
 /// The wait after a grant of 0 octets, in microseconds: half a tick of the pace.
 const PAUSE: u64 = 1_000;
 
-/// The gate of a lane for one transfer. It waits for answers, and holds rounds.
+/// The gate of a lane for one transfer. It waits for answers, and holds rounds. It stops the transfer before an ask once
+/// its session has aborted it: the lane is free then for the next.
 #[derive(Drop)]
 pub(crate) struct LaneGate<
     'r,
@@ -45,12 +49,12 @@ pub(crate) struct LaneGate<
     turns: &'t Mutex<Turns<B, N>>,
     lane: usize,
     last: Go,
-    // the number of answers at the last call, and the number of calls since the last answer
+    // whether an ask is next
+    is_before_ask: bool,
+    // the number of answers seen
     seen: u64,
-    calls: u32,
-    // the octets moved at the last answer, and whether that was no more than at the one before
-    moved: u64,
-    is_empty: bool,
+    // the octets moved before the last ask; none before the first
+    asked_at: Option<u64>,
     ghost clock: { IsTestOf R.when B.when },
 }
 
@@ -71,10 +75,6 @@ where
     ) -> Self
         requires clock { IsTestOf R.when B.when }
     {
-        let seen = match house.lanes.get(lane) {
-            Some(sign) => sign.answered.seen(),
-            None => 0,
-        };
         LaneGate {
             rt,
             house,
@@ -82,25 +82,28 @@ where
             turns,
             lane,
             last: Go::On,
-            seen,
-            calls: 0,
-            moved: 0,
-            is_empty: false,
+            is_before_ask: true,
+            seen: 0,
+            asked_at: None,
         }
     }
 
-    // Records that an answer has come since the last call: an ask is next. If it granted nothing, the rates have
-    // nothing left, and this waits a moment.
-    fn take_answer(&mut self, seen: u64, moved: u64) {
-        self.seen = seen;
-        self.calls = 1;
-        self.is_empty = moved == self.moved;
-        self.moved = moved;
+    // Before an ask. If the last one was granted nothing, the rates have nothing left, and this waits a moment.
+    fn begin(&mut self, sign: &LaneSign, moved: u64) {
+        self.seen = sign.answered.seen();
+        if self.asked_at == Some(moved) {
+            thread::sleep(self.rt, Duration::from_micros(PAUSE));
+        }
+        self.asked_at = Some(moved);
     }
 
-    // Waits for an answer to the ask, if one was made. Of two calls since the last answer, the first may have been
-    // before the ask.
-    fn await_answer(&self, sign: &LaneSign) {
+    // Waits until a round has answered the ask, or holds one. It may return before.
+    fn await_answer(&mut self, sign: &LaneSign) {
+        let seen = sign.answered.seen();
+        if seen != self.seen {
+            self.seen = seen;
+            return;
+        }
         let now = self.rt.moment();
         let due = help(
             self.rt.alloc(),
@@ -110,36 +113,36 @@ where
             sign,
             now,
         );
-        if self.calls <= 2 {
-            return;
-        }
         let limit = match due {
             Some(moment) => Duration::from_micros(moment.saturating_sub(now)),
             None => Duration::from_millis(BACKSTOP),
         };
-        sign.answered.wait(self.rt, self.seen, PATIENCE, limit);
+        sign.answered.wait(self.rt, seen, PATIENCE, limit);
     }
 
-    fn wait(&mut self, moved: u64) {
+    fn wait(&mut self, is_before_ask: bool, moved: u64) {
         let house = self.house;
         match house.lanes.get(self.lane) {
             Some(sign) => {
-                let seen = sign.answered.seen();
-                if seen != self.seen {
-                    self.take_answer(seen, moved);
-                    return;
-                }
-                self.calls = self.calls.saturating_add(1);
-                if self.calls == 2 && self.is_empty && moved == self.moved {
-                    thread::sleep(self.rt, Duration::from_micros(PAUSE));
-                }
-                if self.calls > 1 {
+                if is_before_ask {
+                    self.begin(sign, moved);
+                } else {
                     self.await_answer(sign);
                 }
             }
             None => {}
         }
     }
+}
+
+// The answer to a transfer: the server's end stops it anywhere, and its session's abort before an ask.
+fn answer(is_ending: bool, is_before_ask: bool, is_aborted: bool) -> Go
+    ensures answer { result ≡ answer is_ending is_before_ask is_aborted }
+{
+    if is_ending || is_before_ask && is_aborted {
+        return Go::Stop;
+    }
+    Go::On
 }
 
 impl<'r, 'h, 'd, 't, R, S, H, B, N> Gate<
@@ -159,14 +162,19 @@ where
 
     ghost passed = { λ _. None };
 
-    fn pass(&mut self, _session: u32, moved: u64) -> Go {
-        if self.house.ending.has_begun(ShutdownStage::Lanes) {
-            self.last = Go::Stop;
-            return Go::Stop;
+    fn pass(&mut self, session: u32, moved: u64) -> Go {
+        let is_before_ask = mem::replace(&mut self.is_before_ask, false);
+        let is_ending = self.house.ending.has_begun(ShutdownStage::Lanes);
+        let is_aborted = self.house.is_aborted(u64::from(session));
+        self.last = answer(is_ending, is_before_ask, is_aborted);
+        if self.last == Go::On {
+            self.wait(is_before_ask, moved);
         }
-        self.wait(moved);
-        self.last = Go::On;
-        Go::On
+        self.last
+    }
+
+    fn ask_is_next(&mut self) {
+        self.is_before_ask = true;
     }
 
     fn last(&self) -> Go {

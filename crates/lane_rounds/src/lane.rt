@@ -20,16 +20,23 @@ use virtual_tree::{Sink, Source, Store};
 /// The longest wait of an idle lane before it checks by itself, in milliseconds. Each transfer pushed wakes one.
 const IDLE: u64 = 1_000;
 
-// Records the user and direction that the lane works for.
+// Records the user, the direction and the session that the lane works for.
 fn sign<R: Source, K: Sink, C: Read + Write + Drop>(sign: &LaneSign, job: &LaneJob<R, K, C>) {
     match job {
-        LaneJob::Send { user, .. } => sign.name.set(Way::Down, *user),
-        LaneJob::Take { user, .. } => sign.name.set(Way::Up, *user),
+        LaneJob::Send { user, session, .. } => {
+            sign.name.set(Way::Down, *user);
+            sign.set_session(Some(*session));
+        }
+        LaneJob::Take { user, session, .. } => {
+            sign.name.set(Way::Up, *user);
+            sign.set_session(Some(*session));
+        }
     }
 }
 
-/// Takes transfers from the board and runs each to its end, until the lanes are to end. The moments of the clock pass the
-/// test of the name.
+/// Takes transfers from the board and runs each to its end, until the lanes are to end. A transfer that its session has
+/// aborted is stopped before its next ask, and the lane takes the next one. The moments of the clock pass the test of
+/// the name.
 pub fn work_lane<R, S, H, B, N>(
     rt: &R,
     house: &House<S, H, B>,
@@ -58,7 +65,12 @@ where
                     None => {}
                 }
                 let mut gate = LaneGate::new(rt, house, desk, turns, lane);
-                if worker.work(rt, rt.alloc(), desk, job, &mut gate) {
+                let is_stopped = worker.work(rt, rt.alloc(), desk, job, &mut gate);
+                match house.lanes.get(lane) {
+                    Some(own) => own.set_session(None),
+                    None => {}
+                }
+                if is_stopped && house.ending.has_begun(ShutdownStage::Lanes) {
                     return;
                 }
             }

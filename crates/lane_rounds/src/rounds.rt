@@ -38,35 +38,47 @@ fn tell_lanes(lanes: &[LaneSign], answered: u64) {
     }
 }
 
-// The lanes that a round is of: those of transfers whose rows are open. The signs are hints, as for `due_by`: a lane
-// whose sign is stale is left out, or asked too early, in one round.
-fn open_lanes<B: PartsName, N>(
+// Returns whether the transfer of a lane was aborted: its ask is to be answered, so that the lane can leave it.
+fn is_stopping<S: Store<Global>, H: Hooks, B: PartsName>(
+    house: &House<S, H, B>,
+    sign: &LaneSign,
+) -> bool {
+    match sign.session() {
+        Some(session) => house.is_aborted(session),
+        None => false,
+    }
+}
+
+// The lanes that a round is of: those of transfers whose rows are open, or that were aborted. The signs are hints, as
+// for `due_by`: a lane whose sign is stale is left out, or asked too early, in one round.
+fn open_lanes<S: Store<Global>, H: Hooks, B: PartsName, N>(
+    house: &House<S, H, B>,
     rounds: &LentRounds<B, N>,
-    lanes: &[LaneSign],
     now: u64,
 ) -> [bool; MAX_LANES] {
     let mut given = [false; MAX_LANES];
-    for lane in 0..lanes.len().min(MAX_LANES) {
-        let (way, user) = lanes[lane].name.get();
-        given[lane] = rounds.is_open(way, user, now);
+    for lane in 0..house.lanes.len().min(MAX_LANES) {
+        let sign = &house.lanes[lane];
+        let (way, user) = sign.name.get();
+        given[lane] = rounds.is_open(way, user, now) || is_stopping(house, sign);
     }
     given
 }
 
 // Holds one round of the lanes whose transfers' rows are open. A refused one has answered each lane too, with 0 octets.
-fn hold_one<B: PartsName, N>(
+fn hold_one<S: Store<Global>, H: Hooks, B: PartsName, N>(
     alloc: Global,
-    lanes: &[LaneSign],
+    house: &House<S, H, B>,
     desk: &LentDesk<B, N>,
     turns: &mut Turns<B, N>,
     now: u64,
 )
     requires when { B.when now ≡ true }
 {
-    let given = open_lanes(&turns.rounds, lanes, now);
+    let given = open_lanes(house, &turns.rounds, now);
     match turns.rounds.hold(alloc, desk, now, &given) {
-        Ok(record) => tell_lanes(lanes, record.answered),
-        Err(fault) => tell_lanes(lanes, fault.answered),
+        Ok(record) => tell_lanes(&house.lanes, record.answered),
+        Err(fault) => tell_lanes(&house.lanes, fault.answered),
     }
 }
 
@@ -80,26 +92,35 @@ fn sooner(one: Due, other: Due) -> Due
     }
 }
 
-// The earliest moment of a round for the worker of a lane. The lane's sign is a hint: it may have the name of the
-// worker's next transfer by now, and then a round is held too early or too late for this one.
-fn due_at<B: PartsName, N>(rounds: &LentRounds<B, N>, sign: &LaneSign, now: u64) -> Due {
+// The earliest moment of a round for the worker of a lane: at once, if its transfer was aborted. The lane's sign is a
+// hint: it may have the name of the worker's next transfer by now, and then a round is held too early or too late for
+// this one.
+fn due_at<S: Store<Global>, H: Hooks, B: PartsName, N>(
+    house: &House<S, H, B>,
+    rounds: &LentRounds<B, N>,
+    sign: &LaneSign,
+    now: u64,
+) -> Due {
+    if is_stopping(house, sign) {
+        return Due::Now;
+    }
     let (way, user) = sign.name.get();
     rounds.due_for(way, user, now)
 }
 
 // The earliest moment of a round for the worker of a lane, or for that of any.
-fn due_by<B: PartsName, N>(
+fn due_by<S: Store<Global>, H: Hooks, B: PartsName, N>(
+    house: &House<S, H, B>,
     rounds: &LentRounds<B, N>,
-    lanes: &[LaneSign],
     sign: Option<&LaneSign>,
     now: u64,
 ) -> Due {
     match sign {
-        Some(sign) => due_at(rounds, sign, now),
+        Some(sign) => due_at(house, rounds, sign, now),
         None => {
             let mut due = Due::At(u64::MAX);
-            for lane in lanes {
-                due = sooner(due, due_at(rounds, lane, now));
+            for lane in &house.lanes {
+                due = sooner(due, due_at(house, rounds, lane, now));
             }
             due
         }
@@ -120,11 +141,11 @@ pub(crate) fn try_one<S: Store<Global>, H: Hooks, B: PartsName, N>(
 {
     match turns.try_lock() {
         None => Tried::ByAnother,
-        Some(mut guard) => match due_by(&guard.rounds, &house.lanes, sign, now) {
+        Some(mut guard) => match due_by(house, &guard.rounds, sign, now) {
             Due::At(moment) => Tried::NotBefore(moment),
             Due::Now => {
                 let seen = house.bell.seen();
-                hold_one(alloc, &house.lanes, desk, &mut *guard, now);
+                hold_one(alloc, house, desk, &mut *guard, now);
                 Tried::Held(seen)
             }
         },

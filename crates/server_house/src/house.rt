@@ -58,6 +58,14 @@ pub struct House<S: Store<Global>, H: Hooks, B: PartsName> {
 }
 
 impl<S: Store<Global>, H: Hooks, B: PartsName> House<S, H, B> {
+    /// Returns whether the session that a lane works for wants its transfer to end.
+    pub fn is_aborted(&self, session: u64) -> bool {
+        match self.cells.get(session as usize) {
+            Some(cell) => cell.is_aborted(),
+            None => false,
+        }
+    }
+
     /// The store of the session of a connection.
     pub fn store_of(&self, key: usize) -> &Mutex<S> {
         match self.own_stores.get(key) {

@@ -227,6 +227,10 @@ where
             let _ = stream.set_read_timeout(Some(Duration::from_millis(3 * STANDSTILL)));
         }
         self.seen = self.told_so_far();
+        match self.house.cells.get(self.key) {
+            Some(cell) => cell.begin(),
+            None => {}
+        }
         self.running = match DataConnection::new(self.rt.alloc(), stream) {
             Ok(own) => match own.another() {
                 Ok(theirs) => self.push(own, theirs, job, user),
@@ -387,6 +391,10 @@ where
                 connection,
                 is_aborted: _,
             } => {
+                match self.house.cells.get(self.key) {
+                    Some(cell) => cell.abort(),
+                    None => {}
+                }
                 connection.abort();
                 Running::Moving {
                     connection,

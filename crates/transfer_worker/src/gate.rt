@@ -42,6 +42,15 @@ pub trait Gate<Q: Remnant> {
         ensures passed { Passes (passed self.old) (passed self.new)
             (pass_call session moved result ∷ []) };
 
+    /// Says that an ask is next: the calls of `pass` up to the first that is not answered by `Later` are before it, and
+    /// after `Stop` the seat is free. All other calls are for an ask that no grant has answered. A gate that stops one
+    /// transfer, and not the worker, stops it before an ask.
+    fn ask_is_next(&mut self)
+        ensures last { last_go self.new ≡ last_go self.old }
+        ensures heard { heard self.new ≡ heard self.old }
+        ensures passed { passed self.new ≡ passed self.old }
+    {}
+
     /// The answer of the last `pass`; `On` before the first.
     fn last(&self) -> Go
         ensures last { result ≡ last_go self.now };

@@ -51,6 +51,28 @@ where
     unreachable!()
 }
 
+/// Returns whether the gate lets a transfer ask, as `may_go_on`. The gate knows that an ask is next.
+pub(crate) fn may_ask<R, K, C, A, G, W>(
+    rt: &W,
+    gate: &mut G,
+    transfer: &Transfer<R, K, C, A>,
+) -> bool
+where
+    R: Source,
+    K: Sink,
+    C: Read + Write + Drop,
+    A: Allocator,
+    G: Gate<Ran<R, K, C, A>>,
+    W: Wait,
+    ensures heard { G.heard gate.new ≡ G.heard gate.old }
+    ensures stop { result ≡ false → G.last_go gate.new ≡ Stop }
+    ensures passed { (laters : ℕ) × Passes (G.passed gate.old) (G.passed gate.new)
+        (calls_until transfer.now.session transfer.now.moved (go_of result) laters) }
+{
+    gate.ask_is_next();
+    may_go_on(rt, gate, transfer)
+}
+
 /// Pumps the grant that answers the last ask, once it is there. `None` if the gate says `Stop` first.
 pub(crate) fn pump_next<R, K, C, A, G, W, N, D>(
     rt: &W,

@@ -11,7 +11,7 @@ ghost use Rattle.transfer_worker.specs.Works.{RunsTransfer, RunsJob};
 
 use crate::end::{JobEnd, job_end, open_end};
 use crate::gate::Gate;
-use crate::grants::{may_go_on, pump_next};
+use crate::grants::{may_ask, pump_next};
 use crate::job::{LaneJob, Ran};
 use crate::running::{Running, Transfer};
 use data_pump::{DataIn, DataOut};
@@ -57,7 +57,7 @@ where
     let mut transfer = transfer;
     seat.sit(desk);
     for _ in rt.forever() {
-        if !may_go_on(rt, gate, &transfer) {
+        if !may_ask(rt, gate, &transfer) {
             seat.rise(desk);
             gate.done(session, JobEnd::Stopped, transfer.into_ran());
             return true;

@@ -33,26 +33,26 @@ loop-init g c =
 pub done-requires : goal.done-requires
 done-requires g c = record { condition = c.into_ran.ensures.ends _ _ (inr (refl, c.loop.invariant.5, search rules)) }
 
-pub returns-then-not-may_go_on-clause-run : goal.returns-then-not-may_go_on-clause-run
-returns-then-not-may_go_on-clause-run g c =
+pub returns-then-not-may_ask-clause-run : goal.returns-then-not-may_ask-clause-run
+returns-then-not-may_ask-clause-run g c =
     let k = known g.R.Source.remaining g.K.Sink.collected g.K.Sink.target g.C.Read.remaining g.C.Write.contents in
     let user = c.args.transfer.user in let session = c.args.transfer.session in let start = flow_of c.args.transfer.running in
     let v = worker (seat_view c.args.seat.now) c.args.tally.now (g.G.Gate.heard c.args.gate.now) (g.G.Gate.passed c.args.gate.now) in
     let i = c.loop.invariant in
     let now = flow_of c.loop.transfer.running in
     let moved = c.loop.transfer.moved in
-    let m = c.if-not-may_go_on.ensures.passed in
+    let m = c.if-not-may_ask.ensures.passed in
     let e = c.rise.ensures.view in
     let q = g.G.Gate.passed c.loop.gate in
-    let r = g.G.Gate.passed c.may_go_on.new.gate in
+    let r = g.G.Gate.passed c.may_ask.new.gate in
     let x = seat_view c.loop.seat in
     let w = worker x c.loop.tally (g.G.Gate.heard c.loop.gate) q in
-    let u = worker x c.loop.tally (g.G.Gate.heard c.may_go_on.new.gate) r in
+    let u = worker x c.loop.tally (g.G.Gate.heard c.may_ask.new.gate) r in
     let z = worker (seat_view c.rise.new.self) c.loop.tally (g.G.Gate.heard c.done.new.self) (g.G.Gate.passed c.done.new.self) in
     let p = passes_are q r (calls_until c.loop.transfer.session moved Stop m.0) (calls_until session moved Stop m.0) (ap (λ (n : ℕ). calls_until n moved Stop m.0) i.4) m.1 in
     stopped k user session start v now moved w z (BeforeAsk m.0) i.9 (refl, i.5, tt) (All-nil (Bears user session (way_in now))) (ap (λ l. l.sittings) e)
     (adds_still [] [] 0 [] (calls_until session moved Stop m.0) w u z (adds_stop session moved m.0 x c.loop.tally w.heard u.heard q r p) (ap (λ l. l.asks) e) (ap (λ l. l.taken) e) (ap (λ l. l.looks) e) refl c.done.ensures.passed)
-    (λ before f. c.done.ensures.heard before (c.may_go_on.ensures.heard ∙ i.7 ∙ f))
+    (λ before f. c.done.ensures.heard before (c.may_ask.ensures.heard ∙ i.7 ∙ f))
 
 pub done-requires-in-None-pump_next : goal.done-requires-in-None-pump_next
 done-requires-in-None-pump_next g c =
@@ -67,25 +67,25 @@ returns-in-None-pump_next-clause-run g c =
     let i = c.loop.invariant in
     let now = flow_of c.loop.transfer.running in
     let moved = c.loop.transfer.moved in
-    let m = c.if-not-may_go_on.ensures.passed in
+    let m = c.if-not-may_ask.ensures.passed in
     let n = c.in-None-pump_next.ensures.none.0 in
     let a = c.ask.result in
     let q = g.G.Gate.passed c.loop.gate in
-    let r = g.G.Gate.passed c.may_go_on.new.gate in
+    let r = g.G.Gate.passed c.may_ask.new.gate in
     let x = seat_view c.loop.seat in
     let y = seat_view c.ask-in-loop.new.self in
     let w = worker x c.loop.tally (g.G.Gate.heard c.loop.gate) q in
     let u = worker (seat_view c.pump_next.new.seat) c.pump_next.new.tally (g.G.Gate.heard c.pump_next.new.gate) (g.G.Gate.passed c.pump_next.new.gate) in
     let z = worker (seat_view c.pump_next.new.seat) c.pump_next.new.tally (g.G.Gate.heard c.done-in-None-pump_next.new.self) (g.G.Gate.passed c.done-in-None-pump_next.new.self) in
     let halt : Halt = AfterAsk m.0 a n.between n.laters in
-    let adds = adds_open c.loop.transfer.session moved m.0 a n.between n.laters x y c.loop.tally (g.G.Gate.heard c.may_go_on.new.gate) w.heard q r u m.1 c.ask-in-loop.ensures.view n.adds in
+    let adds = adds_open c.loop.transfer.session moved m.0 a n.between n.laters x y c.loop.tally (g.G.Gate.heard c.may_ask.new.gate) w.heard q r u m.1 c.ask-in-loop.ensures.view n.adds in
     stopped k user session start v now moved w z halt i.9 (refl, i.5, c.ask.ensures.want)
     (All-push (Bears user session (way_in now)) [] a (All-nil (Bears user session (way_in now))) (c.ask.ensures.user ∙ i.3, c.ask.ensures.session ∙ i.4, c.ask.ensures.way))
     (n.sittings_are ∙ ap (λ l. l.sittings) c.ask-in-loop.ensures.view)
     (adds_still (a ∷ []) [] (looks_at (Some halt)) [] (calls_at session moved (Some halt)) w u z
     (subst (λ (s : ℕ). Adds (a ∷ []) [] (looks_at (Some halt)) [] (calls_at s moved (Some halt)) w u) i.4 adds)
     refl refl refl refl c.done-in-None-pump_next.ensures.passed)
-    (λ before f. c.done-in-None-pump_next.ensures.heard before (c.pump_next.ensures.heard ∙ c.may_go_on.ensures.heard ∙ i.7 ∙ f))
+    (λ before f. c.done-in-None-pump_next.ensures.heard before (c.pump_next.ensures.heard ∙ c.may_ask.ensures.heard ∙ i.7 ∙ f))
 
 pub done-requires-in-Some-job_end : goal.done-requires-in-Some-job_end
 done-requires-in-Some-job_end g c =
@@ -102,11 +102,11 @@ returns-in-Some-job_end-clause-run g c =
     let now = flow_of c.loop.transfer.running in
     let next = flow_of c.pump_next.new.transfer.running in
     let moved = c.loop.transfer.moved in
-    let m = c.if-not-may_go_on.ensures.passed in
+    let m = c.if-not-may_ask.ensures.passed in
     let p = c.in-Some-pump_next.ensures.some.0 in
     let a = c.ask.result in
     let q = g.G.Gate.passed c.loop.gate in
-    let r = g.G.Gate.passed c.may_go_on.new.gate in
+    let r = g.G.Gate.passed c.may_ask.new.gate in
     let x = seat_view c.loop.seat in
     let y = seat_view c.ask-in-loop.new.self in
     let w = worker x c.loop.tally (g.G.Gate.heard c.loop.gate) q in
@@ -114,7 +114,7 @@ returns-in-Some-job_end-clause-run g c =
     let z = worker (seat_view c.rise-in-Some-job_end.new.self) c.pump_next.new.tally (g.G.Gate.heard c.done-in-Some-job_end.new.self) (g.G.Gate.passed c.done-in-Some-job_end.new.self) in
     let e = c.rise-in-Some-job_end.ensures.view in
     let t : Turn = record { before = m.0; ask = a; between = p.between; octets = p.octets; pumped = c.in-Some-pump_next.pumped } in
-    let adds = adds_turn c.loop.transfer.session moved m.0 a p.between p.octets t.pumped x y c.loop.tally (g.G.Gate.heard c.may_go_on.new.gate) w.heard q r u m.1 c.ask-in-loop.ensures.view p.adds in
+    let adds = adds_turn c.loop.transfer.session moved m.0 a p.between p.octets t.pumped x y c.loop.tally (g.G.Gate.heard c.may_ask.new.gate) w.heard q r u m.1 c.ask-in-loop.ensures.view p.adds in
     let s = turn_more k user session start v now next moved w u t i.9 (record { more = i.5; want = c.ask.ensures.want; pumps = p.pumps })
     (c.ask.ensures.user ∙ i.3, c.ask.ensures.session ∙ i.4, c.ask.ensures.way)
     (p.sittings_are ∙ ap (λ l. l.sittings) c.ask-in-loop.ensures.view)
@@ -122,7 +122,7 @@ returns-in-Some-job_end-clause-run g c =
     ended k user session start v next _ u z c.in-Some-job_end.end s
     (ap end_of (pumps_last k p.octets now next t.pumped p.pumps) ∙ sym c.in-Some-job_end.ensures.end)
     (ap (λ l. l.sittings) e) (ap (λ l. l.asks) e) (ap (λ l. l.taken) e) (ap (λ l. l.looks) e) refl c.done-in-Some-job_end.ensures.passed
-    (λ before f. c.done-in-Some-job_end.ensures.heard before (c.pump_next.ensures.heard ∙ c.may_go_on.ensures.heard ∙ i.7 ∙ f))
+    (λ before f. c.done-in-Some-job_end.ensures.heard before (c.pump_next.ensures.heard ∙ c.may_ask.ensures.heard ∙ i.7 ∙ f))
 
 pub loop-preserved : goal.loop-preserved
 loop-preserved g c =
@@ -133,19 +133,19 @@ loop-preserved g c =
     let now = flow_of c.loop.transfer.running in
     let next = flow_of c.pump_next.new.transfer.running in
     let moved = c.loop.transfer.moved in
-    let m = c.if-not-may_go_on.ensures.passed in
+    let m = c.if-not-may_ask.ensures.passed in
     let some = c.in-Some-pump_next.ensures.some in
     let p = some.0 in
     let n = c.pump_next.ensures in
     let a = c.ask.result in
     let q = g.G.Gate.passed c.loop.gate in
-    let r = g.G.Gate.passed c.may_go_on.new.gate in
+    let r = g.G.Gate.passed c.may_ask.new.gate in
     let x = seat_view c.loop.seat in
     let y = seat_view c.ask-in-loop.new.self in
     let w = worker x c.loop.tally (g.G.Gate.heard c.loop.gate) q in
     let u = worker (seat_view c.pump_next.new.seat) c.pump_next.new.tally (g.G.Gate.heard c.pump_next.new.gate) (g.G.Gate.passed c.pump_next.new.gate) in
     let t : Turn = record { before = m.0; ask = a; between = p.between; octets = p.octets; pumped = c.in-Some-pump_next.pumped } in
-    let adds = adds_turn c.loop.transfer.session moved m.0 a p.between p.octets t.pumped x y c.loop.tally (g.G.Gate.heard c.may_go_on.new.gate) w.heard q r u m.1 c.ask-in-loop.ensures.view p.adds in
+    let adds = adds_turn c.loop.transfer.session moved m.0 a p.between p.octets t.pumped x y c.loop.tally (g.G.Gate.heard c.may_ask.new.gate) w.heard q r u m.1 c.ask-in-loop.ensures.view p.adds in
     let s = turn_more k user session start v now next moved w u t i.9 (record { more = i.5; want = c.ask.ensures.want; pumps = p.pumps })
     (c.ask.ensures.user ∙ i.3, c.ask.ensures.session ∙ i.4, c.ask.ensures.way)
     (p.sittings_are ∙ ap (λ l. l.sittings) c.ask-in-loop.ensures.view)
@@ -157,7 +157,7 @@ loop-preserved g c =
       n.session ∙ i.4,
       pumps_last k p.octets now next t.pumped p.pumps ∙ only_more t.pumped.end (sym c.in-None-job_end.ensures.end),
       n.told,
-      n.heard ∙ c.may_go_on.ensures.heard ∙ i.7,
+      n.heard ∙ c.may_ask.ensures.heard ∙ i.7,
       p.state_is,
       subst (λ (j : ℕ). Sits k user session start v next j u) (sym some.1) s,
     )

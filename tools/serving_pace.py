@@ -92,9 +92,35 @@ def an_upload_at_a_low_rate_is_aborted():
             it.close()
 
 
+def an_abort_at_a_rate_that_is_used_up():
+    """Twelve downloads under ten octets a second are aborted: the line behind each ABOR is answered, and each lane takes another."""
+    with Server(sessions=12, root="folder", files={"big": MUCH}, server="rate = 10\nlanes = 12", passive=24, stop=True) as server:
+        clients, datas = started(server, 12)
+        for client in clients:
+            begun = time.monotonic()
+            client.says("ABOR", "426 Transfer aborted", "226 Abort done")
+            client.says("NOOP", "200 OK")
+            want(time.monotonic() - begun < SOON, f"the abort took {time.monotonic() - begun:.1f} seconds")
+        for it in datas:
+            it.close()
+        again = [client.passive() for client in clients]
+        for client in clients:
+            client.says("RETR big", "150 Opening data connection")
+        read_until(again, 12)
+        for it in clients:
+            it.close()
+        begun = time.monotonic()
+        server.stop()
+        server.ended()
+        want(time.monotonic() - begun < SOON, f"the stop took {time.monotonic() - begun:.1f} seconds")
+        for it in again:
+            it.close()
+
+
 ROWS = [
     three_transfers_under_a_hundred,
     a_low_rate_is_divided_evenly,
     segments_are_whole,
     an_upload_at_a_low_rate_is_aborted,
+    an_abort_at_a_rate_that_is_used_up,
 ]

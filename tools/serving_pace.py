@@ -93,27 +93,25 @@ def an_upload_at_a_low_rate_is_aborted():
 
 
 def an_abort_at_a_rate_that_is_used_up():
-    """Twelve downloads under ten octets a second are aborted: the line behind each ABOR is answered, and each lane takes another."""
-    with Server(sessions=12, root="folder", files={"big": MUCH}, server="rate = 10\nlanes = 12", passive=24, stop=True) as server:
+    """Twelve downloads under an octet a second are aborted: the line behind each ABOR is answered, and each lane takes another."""
+    with Server(sessions=12, root="folder", files={"big": MUCH}, server="rate = 1\nlanes = 12", passive=24, stop=True) as server:
         clients, datas = started(server, 12)
+        begun = time.monotonic()
         for client in clients:
-            begun = time.monotonic()
             client.says("ABOR", "426 Transfer aborted", "226 Abort done")
             client.says("NOOP", "200 OK")
-            want(time.monotonic() - begun < SOON, f"the abort took {time.monotonic() - begun:.1f} seconds")
+        want(time.monotonic() - begun < SOON, f"the aborts took {time.monotonic() - begun:.1f} seconds")
         for it in datas:
             it.close()
-        again = [client.passive() for client in clients]
+        datas = [client.passive() for client in clients]
         for client in clients:
             client.says("RETR big", "150 Opening data connection")
-        read_until(again, 12)
-        for it in clients:
-            it.close()
+        read_until(datas, 2)
         begun = time.monotonic()
         server.stop()
         server.ended()
         want(time.monotonic() - begun < SOON, f"the stop took {time.monotonic() - begun:.1f} seconds")
-        for it in again:
+        for it in [*datas, *clients]:
             it.close()
 
 

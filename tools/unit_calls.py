@@ -40,7 +40,8 @@ def faults(unit, trace, folder):
     for family in sorted(set(re.findall(r"\bsocket\((AF_\w+)", trace)) - families):
         yield f"a socket of {family}"
     for path, flags in sorted(set(re.findall(r'\bopen(?:at)?\([^"]*"([^"]*)", ([A-Z_|]+)', trace))):
-        if re.search("O_WRONLY|O_RDWR|O_CREAT", flags) and path.startswith("/") and not path.startswith((f"{folder}/", "/proc/self/fd/")):
+        is_there = path in DEVICES or not path.startswith("/") or path.startswith((f"{folder}/", "/proc/self/fd/"))
+        if re.search("O_WRONLY|O_RDWR|O_CREAT", flags) and not is_there:
             yield f"opened for writing: {path}"
         if path.startswith("/dev/") and path not in DEVICES or re.match(r"/proc/(?!self/|\d+/)", path):
             yield f"opened: {path}"

@@ -1,37 +1,48 @@
-# Installs the programs that the gate built: `make install`, with PREFIX, SYSCONFDIR and DESTDIR as usual.
+# Installs the programs that the gate built: `make install`, with PREFIX, SYSCONFDIR, DOCDIR, ZSHDIR and DESTDIR.
 # The proofs and the programs themselves are made by `rt` (README.md); `make package` makes a Debian package.
 PREFIX ?= /usr/local
 SYSCONFDIR ?= /etc
+DOCDIR ?= $(PREFIX)/share/doc/ftpd
+ZSHDIR ?= $(PREFIX)/share/zsh/site-functions
 DESTDIR ?=
 FTPD ?= crates/ftpd/out/ftpd
 SHEETS ?= crates/sheets/out/sheets
 
+SBIN = $(DESTDIR)$(PREFIX)/sbin
 BIN = $(DESTDIR)$(PREFIX)/bin
 SHARE = $(DESTDIR)$(PREFIX)/share
+DOCS = $(DESTDIR)$(DOCDIR)
 UNITS = $(DESTDIR)$(PREFIX)/lib/systemd/system
 CONFIG = $(DESTDIR)$(SYSCONFDIR)/ftpd.toml
 
 .PHONY: install uninstall package
 
 install:
-	install -D -m 755 $(FTPD) $(BIN)/ftpd
+	install -D -m 755 $(FTPD) $(SBIN)/ftpd
 	install -D -m 755 $(SHEETS) $(BIN)/sheets
-	install -D -m 644 -t $(SHARE)/man/man1 man/ftpd.1 man/sheets.1
+	install -D -m 644 -t $(SHARE)/man/man1 man/sheets.1
+	install -D -m 644 -t $(SHARE)/man/man5 man/ftpd.toml.5
+	install -D -m 644 -t $(SHARE)/man/man8 man/ftpd.8
 	install -D -m 644 completions/ftpd.bash $(SHARE)/bash-completion/completions/ftpd
 	ln -sf ftpd $(SHARE)/bash-completion/completions/sheets
-	install -D -m 644 -t $(SHARE)/zsh/site-functions completions/_ftpd completions/_sheets
+	install -D -m 644 -t $(DESTDIR)$(ZSHDIR) completions/_ftpd completions/_sheets
 	install -D -m 644 -t $(SHARE)/fish/vendor_completions.d completions/ftpd.fish completions/sheets.fish
+	install -D -m 644 -t $(DOCS) README.md
+	install -D -m 644 -t $(DOCS)/docs docs/*.md
+	install -D -m 644 -t $(DOCS)/examples examples/*
 	install -d $(UNITS)
-	sed 's|/usr/local/bin|$(PREFIX)/bin|; s|/etc/ftpd.toml|$(SYSCONFDIR)/ftpd.toml|' examples/ftpd.service >$(UNITS)/ftpd.service
+	sed 's|/usr/local/sbin|$(PREFIX)/sbin|g; s|/etc/ftpd.toml|$(SYSCONFDIR)/ftpd.toml|g' examples/ftpd.service >$(UNITS)/ftpd.service
 	chmod 644 $(UNITS)/ftpd.service
 	# A configuration that is there is kept.
 	[ -e $(CONFIG) ] || install -D -m 640 examples/installed.toml $(CONFIG)
 
 uninstall:
-	rm -f $(BIN)/ftpd $(BIN)/sheets $(SHARE)/man/man1/ftpd.1 $(SHARE)/man/man1/sheets.1 $(UNITS)/ftpd.service
+	rm -f $(SBIN)/ftpd $(BIN)/sheets $(UNITS)/ftpd.service
+	rm -f $(SHARE)/man/man1/sheets.1 $(SHARE)/man/man5/ftpd.toml.5 $(SHARE)/man/man8/ftpd.8
 	rm -f $(SHARE)/bash-completion/completions/ftpd $(SHARE)/bash-completion/completions/sheets
-	rm -f $(SHARE)/zsh/site-functions/_ftpd $(SHARE)/zsh/site-functions/_sheets
+	rm -f $(DESTDIR)$(ZSHDIR)/_ftpd $(DESTDIR)$(ZSHDIR)/_sheets
 	rm -f $(SHARE)/fish/vendor_completions.d/ftpd.fish $(SHARE)/fish/vendor_completions.d/sheets.fish
+	rm -rf $(DOCS)
 
 package:
 	FTPD=$(FTPD) SHEETS=$(SHEETS) tools/package

@@ -23,7 +23,7 @@ def text_of(name):
 def served(name):
     """A server of an example as it stands; it never ends, so whoever leaves it kills it."""
     server = Server(root="folder", files=ARCHIVE, text=text_of(name), port=2121)
-    server.first = 40000
+    server.first = 30000
     return server
 
 
@@ -32,7 +32,7 @@ def moved(name):
     first = PORTS_TO_HAND_OUT.take(257)
     server = Server(root="folder", files=ARCHIVE, port=first)
     text = text_of(name).replace("port = 2121", f"port = {first}").replace('root = "/srv/ftp"', f'root = "{server.folder}"')
-    text = re.sub(r"passive_first = 40000\npassive_last = 40(\d+)", lambda it: f"passive_first = {first + 1}\npassive_last = {first + 1 + int(it[1])}", text)
+    text = re.sub(r"passive_first = 30000\npassive_last = 30(\d+)", lambda it: f"passive_first = {first + 1}\npassive_last = {first + 1 + int(it[1])}", text)
     server.text, server.first = text, first + 1
     return server
 

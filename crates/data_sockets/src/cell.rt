@@ -1,6 +1,5 @@
 //! Reports of a transfer's end, from its lane to its session.
 
-use crate::name::TransferName;
 use event_word::EventCount;
 use session_table::End;
 use std::sync::atomic::{AtomicU64, Ordering};
@@ -19,7 +18,6 @@ pub struct TransferEnd<K> {
 pub struct TransferCell<K> {
     told: Mutex<Option<TransferEnd<K>>>,
     count: EventCount,
-    name: TransferName,
     // 1 while the session wants its transfer to end
     aborted: AtomicU64,
 }
@@ -30,7 +28,6 @@ impl<K: Drop> TransferCell<K> {
         TransferCell {
             told: Mutex::new(None),
             count: EventCount::new(),
-            name: TransferName::new(),
             aborted: AtomicU64::new(0),
         }
     }
@@ -38,12 +35,6 @@ impl<K: Drop> TransferCell<K> {
     /// Number of ends reported. Read it before a transfer is handed over.
     pub fn seen(&self) -> u64 {
         self.count.seen()
-    }
-
-    /// The user and direction of its transfer: the session writes it before a transfer is handed over, and a
-    /// lane reads it.
-    pub fn name(&self) -> &TransferName {
-        &self.name
     }
 
     /// Records that the session hands over another transfer, which it has not aborted.

@@ -68,11 +68,6 @@ impl DataConnection {
         }
     }
 
-    /// Shuts down the sending direction, so that the client reads the end of a download.
-    pub fn finish(&self) {
-        let _ = self.socket.stream.shutdown(Shutdown::Write);
-    }
-
     /// Shuts the socket down in both directions; calls that wait on it return, and nothing is read from it any more: a
     /// shutdown leaves what the machine has received and nobody has read (shutdown(2)), and an upload at a low rate would
     /// read that for minutes.

@@ -7,7 +7,11 @@
 //!
 //! ```text
 //! let cell = TransferCell::<u32>::new();
-//! cell.name().set(Way::Up, 7);
+//! cell.begin();
+//! cell.abort();
+//! holds(&rt, cell.is_aborted());
+//! cell.begin(); // another transfer
+//! holds(&rt, !cell.is_aborted());
 //! let seen = cell.seen(); // before the transfer is handed over
 //! cell.tell(&rt, End::Done, Some(3)); // by the lane
 //! cell.wait(&rt, seen, 0, Duration::from_secs(60)); // returns at once
@@ -23,7 +27,6 @@
 //!     ),
 //! );
 //! holds(&rt, cell.take(&rt).is_none()); // told once
-//! holds(&rt, cell.name().get() == (Way::Up, 7));
 //! ```
 #![tactic(auto)]
 

@@ -51,14 +51,6 @@ impl<B: PartsName, J> LentBoard<B, J> {
         }
     }
 
-    /// The board, for calls with its passes.
-    pub fn board(&self) -> &JobBoard<J>
-        ensures board { result.now ≡ self.now.board }
-        ensures named { IsBoardOf B.board result.now }
-    {
-        &self.board
-    }
-
     /// Appends a job to those that wait, as `JobBoard::push`.
     pub fn push<R: Wait>(&self, rt: &R, pass: &mut LentPass<B, J>, job: J) -> Result<(), J>
         ensures pushed { MatchResult result

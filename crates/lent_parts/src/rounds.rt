@@ -54,13 +54,6 @@ impl<B: PartsName, N> LentRounds<B, N> {
         }
     }
 
-    /// The octets issued so far.
-    pub fn issued(&self) -> u64
-        ensures issued { result ≡ self.now.rounds.rounds.book.issued }
-    {
-        self.rounds.issued()
-    }
-
     /// Returns whether all rows that a transfer of a user is within are open at a moment in microseconds.
     pub fn is_open(&self, way: Way, user: u32, now: u64) -> bool
         ensures open { result ≡ is_open way user self.now.rounds.pace self.now.rounds.cadence now }

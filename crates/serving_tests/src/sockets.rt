@@ -2,7 +2,8 @@
 
 use crate::expect::holds;
 use data_sockets::{
-    DataConnection, Listing, Served, TransferCell, TransferEnd, accept_from, listen, socket_address,
+    DataConnection, Listing, Served, TransferCell, TransferEnd, TransferName, accept_from, listen,
+    socket_address,
 };
 use line_rates::Way;
 use session_table::{End, Octets};
@@ -18,7 +19,11 @@ const LOOPBACK: [u8; 4] = [127, 0, 0, 1];
 #[test]
 fn data_sockets(rt: HostRuntime) {
     let cell = TransferCell::<u32>::new();
-    cell.name().set(Way::Up, 7);
+    cell.begin();
+    cell.abort();
+    holds(&rt, cell.is_aborted());
+    cell.begin(); // another transfer
+    holds(&rt, !cell.is_aborted());
     let seen = cell.seen(); // before the transfer is handed over
     cell.tell(&rt, End::Done, Some(3)); // by the lane
     cell.wait(&rt, seen, 0, Duration::from_secs(60)); // returns at once
@@ -34,7 +39,14 @@ fn data_sockets(rt: HostRuntime) {
         ),
     );
     holds(&rt, cell.take(&rt).is_none()); // told once
-    holds(&rt, cell.name().get() == (Way::Up, 7));
+}
+
+#[test]
+fn a_name_is_read_as_it_was_set(rt: HostRuntime) {
+    let name = TransferName::new();
+    holds(&rt, name.get() == (Way::Down, 0));
+    name.set(Way::Up, 7);
+    holds(&rt, name.get() == (Way::Up, 7));
 }
 
 /// A connection to a listener of this machine, and the other end of it.
@@ -61,11 +73,9 @@ where
     let mut connection = DataConnection::new(rt.alloc(), far).expect(rt, "memory");
     let other = connection.another().expect(rt, "memory");
     holds(rt, connection.write(b"abc").ok() == Some(3));
-    other.finish();
     let mut near = near;
     let mut buffer = [0u8; 8];
     holds(rt, near.read(&mut buffer).ok() == Some(3));
-    holds(rt, near.read(&mut buffer).ok() == Some(0)); // nothing more is sent
     holds(rt, near.write(b"late").ok() == Some(4));
     other.abort();
     // octets that came before and were not read are not read any more

@@ -1,6 +1,6 @@
 # Completions of bash for ftpd and sheets.
 
-# _ftpd_words COMMANDS OPTIONS: the commands of the program, and the options of the command `serve`
+# _ftpd_words COMMANDS SERVE PLAN: the commands of the program, and the options of `serve` and of `plan`
 _ftpd_words() {
     local word=${COMP_WORDS[COMP_CWORD]} before=${COMP_WORDS[COMP_CWORD - 1]} options='-h --help'
     COMPREPLY=()
@@ -9,11 +9,12 @@ _ftpd_words() {
         return
     fi
     [[ ${COMP_WORDS[1]} == serve ]] && options="$2 $options"
+    [[ ${COMP_WORDS[1]} == plan ]] && options="$3 $options"
     if [[ ${COMP_WORDS[1]} == help ]]; then
         [[ $COMP_CWORD -gt 2 ]] || mapfile -t COMPREPLY < <(compgen -W "$1" -- "$word")
     elif [[ $before == --*-timeout || $before == --*-delay ]]; then
         return # a number
-    elif [[ $word == -* && $before != --stop-file ]]; then
+    elif [[ $word == -* && $before != --*-file ]]; then
         mapfile -t COMPREPLY < <(compgen -W "$options" -- "$word")
     else
         mapfile -t COMPREPLY < <(compgen -f -- "$word")
@@ -21,11 +22,11 @@ _ftpd_words() {
 }
 
 _ftpd() {
-    _ftpd_words 'share check check-config migrate script serve plan help' '--stop-file --login-timeout --idle-timeout --login-delay'
+    _ftpd_words 'share check check-config migrate script serve plan help' '--stop-file --ready-file --login-timeout --idle-timeout --login-delay' '--json'
 }
 
 _sheets() {
-    _ftpd_words 'share check help' ''
+    _ftpd_words 'share check help' '' ''
 }
 
 complete -o filenames -F _ftpd ftpd

@@ -1,8 +1,10 @@
 """A second reading of plans: docs/plan.md, docs/rates.md and the remainder rule of docs/sharing.md, octet by octet.
 
 `plan` answers what `ftpd plan` is wanted to end with for a configuration, given as groups, users and rates, and a word: its
-status, and what it prints to either output. Nothing here knows how the program goes about it.
+status, and what it prints to either output, in lines or as JSON. Nothing here knows how the program goes about it.
 """
+import json
+
 DONE, FAULTY = 0, 1
 LARGEST_WANT = 2 ** 32 - 1
 LARGEST_PLANNED, MOST_EXACT = 2 ** 40 // 10, 25
@@ -181,11 +183,32 @@ def lines(server, transfers):
         yield f"{'total':<16} {way:<5} {total:>19}" + (f" of {server.rates[key]}" if server.rates.get(key, 0) else "")
 
 
-def plan(server, word):
-    """The status, standard output and standard error of `plan`."""
+def as_json(server, transfers):
+    """The plan as one line of JSON, with members in the order of their names."""
+    rows, totals = [], {"down": 0, "up": 0}
+    for place, ((user, way), (grant, floor, held)) in enumerate(zip(transfers, shares(server, transfers))):
+        totals[way] += grant
+        rows.append({
+            "user": server.users[user].name,
+            "direction": way,
+            "number": transfers[:place + 1].count((user, way)),
+            "octets": grant,
+            "guaranteed": floor or None,
+            "held_by": server.told(held) if held else "want",
+        })
+    limits = {name: server.rates.get(key, 0) or None for name, key in (("down", "down_rate"), ("up", "up_rate"), ("both", "rate"))}
+    totals["both"] = sum(totals.values())
+    plan = {"version": 1, "unit": "octets a second", "limits": limits, "totals": totals, "transfers": rows}
+    return json.dumps(plan, ensure_ascii=False, separators=(",", ":"), sort_keys=True) + "\n"
+
+
+def plan(server, word, is_json=False):
+    """The status, standard output and standard error of `plan`, with `--json` or without."""
     try:
         transfers = stated(server, word)
         judge(server, transfers)
     except Fault as fault:
         return FAULTY, "", str(fault)
+    if is_json:
+        return DONE, as_json(server, transfers), ""
     return DONE, "".join(line + "\n" for line in lines(server, transfers)), ""

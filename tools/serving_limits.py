@@ -1,5 +1,6 @@
 """What bounds a client, and what the machine refuses: rows of `tools/serving`, each with servers of its own."""
 import contextlib
+import os
 import re
 import resource
 import signal
@@ -303,6 +304,24 @@ def a_start_that_fails_says_why():
     same((status, output), (1, ""), "its end")
 
 
+def a_ready_file_is_there_while_it_serves():
+    """It is made once clients may connect, empty, and is gone at the end; a start that fails makes none."""
+    with Server(sessions=0, root="folder", files={"f": b"a\nb"}, stop=True, words=["--ready-file", "ready"]) as server:
+        ready = f"{server.place}/ready"
+        same(os.stat(ready).st_size, 0, "the ready file's size")
+        want(is_served(server), "a client is served")
+        want(os.path.exists(ready), "the ready file is there")
+        server.stop()
+        server.ended()
+        want(not os.path.exists(ready), "the ready file is gone")
+    server = Server(words=["--ready-file", "ready"])
+    server.configure()
+    with socket.create_server(("127.0.0.1", server.port)):
+        status, output, noted = server.run()
+    same((status, output, noted.splitlines()[-1]), (1, "", "ftpd: Bind"), "the end of a start at a port that is taken")
+    want(not os.path.exists(f"{server.place}/ready"), "no ready file was made")
+
+
 ROWS = [
     places_bound_threads_and_files,
     a_stopped_process_goes_on,
@@ -315,4 +334,5 @@ ROWS = [
     reasons_are_noted,
     streams_that_are_closed,
     a_start_that_fails_says_why,
+    a_ready_file_is_there_while_it_serves,
 ]

@@ -637,7 +637,23 @@ def what_cannot_be_served():
     server = Server()
     server.words = ["--stop-file", "gone/stop"]
     same(server.run(), (1, "", "the stop file gone/stop could not be noticed: No such file or directory (os error 2)\nftpd: Stopped\n"), "a stop file without its folder")
+    server.words = ["--ready-file", "ready"]
+    with open(f"{server.place}/ready", "wb") as ready:
+        ready.write(b"mine")
+    same(server.run(), (1, "", "ready is there already: remove it\nftpd: ReadyFile\n"), "a ready file that is there before")
+    with open(f"{server.place}/ready", "rb") as ready:
+        same(ready.read(), b"mine", "the file that was there before")
+    server.words = ["--ready-file", "gone/ready"]
+    same(server.run(), (1, "", "the ready file gone/ready could not be made: No such file or directory (os error 2)\nftpd: ReadyFile\n"), "a ready file without its folder")
+    server.words = ["--ready-file", "/proc/ready"]
+    status, output, noted = server.run()
+    same((status, output, noted.splitlines()[-1]), (1, "", "ftpd: ReadyFile"), "a ready file that cannot be made")
+    want(noted.startswith("the ready file /proc/ready could not be made: "), f"what it noted: {noted!r}")
     with open("/dev/full", "wb") as full:
+        server = Server()
+        server.words = ["--ready-file", "ready"]
+        same(server.run(stdout=full), (1, None, "ftpd: WriteFault\n"), "an output that takes nothing, with a ready file")
+        want(not os.path.exists(f"{server.place}/ready"), "the ready file is gone")
         same(Server().run(stdout=full), (1, None, "ftpd: WriteFault\n"), "an output that takes nothing")
     same(Server(text="version = 3\n").run(), (1, "", "top: version: out of range; it must be a number from 1 to 2\nftpd: OutOfRange\n"), "a configuration of a later version")
 

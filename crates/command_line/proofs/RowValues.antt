@@ -73,9 +73,14 @@ left_values id rows h = at_row_values id (λ _. []) [] (λ row has. tt) tt rows 
 
 -- ---- one use of an argument
 
+-- a value stands for a use of the argument without one
+abbrev pub has_missing : Rule → Bool
+has_missing a = is_some (slice_get a.missing 0)
+
 -- each use of the argument has a value, or asks for help or the version
 abbrev pub wants_value : Rule → Bool
-wants_value a = nat_lt 0 (unwrap_or_range a.range).start_inclusive || is_request (action_of a)
+wants_value a =
+    nat_lt 0 (unwrap_or_range a.range).start_inclusive || (has_missing a || is_request (action_of a))
 
 some_used : (x : ArgAction) (id : Text) (how : Reading) (v : Text) (vs : List Text) (rows : List Row) → HaveValues rows → HaveValues (used_as x id how (v ∷ vs) rows)
 some_used action.Set id how v vs rows h = added_values id how _ v vs (without id rows) (left_values id rows h)
@@ -99,6 +104,15 @@ request_used action.HelpShort id how values rows e h = h
 request_used action.HelpLong id how values rows e h = h
 request_used action.Version id how values rows e h = h
 
+-- a use without a value
+used_with : (missing : List Text) (x : ArgAction) (id : Text) (how : Reading) (rows : List Row) → (is_some (slice_get missing 0) || is_request x) ≡ true → HaveValues rows
+    → HaveValues (used_as x id how missing rows)
+used_with [] x id how rows asks h = request_used x id how [] rows asks h
+used_with (v ∷ vs) x id how rows asks h = some_used x id how v vs rows h
+
+used_without : (a : Rule) (rows : List Row) → (has_missing a || is_request (action_of a)) ≡ true → HaveValues rows → HaveValues (used a [] rows)
+used_without a rows asks h = used_with a.missing (action_of a) a.id (reading_by a) rows asks h
+
 used_values : (again : Bool) (a : Rule) (values : List Text) (rows : List Row) → wants_value a ≡ true → use_fault again a values rows ≡ []
     → HaveValues rows → HaveValues (used a values rows)
 used_values again a (v ∷ vs) rows wants none h = some_used (action_of a) a.id (reading_by a) v vs rows h
@@ -110,8 +124,8 @@ used_values again a [] rows wants none h = go (nat_lt 0 (unwrap_or_range a.range
         let bad = rw t at range in
         cc
     go false t =
-        let asks : is_request (action_of a) ≡ true = rw t at wants in
-        request_used (action_of a) a.id (reading_by a) a.missing rows asks h
+        let asks : (has_missing a || is_request (action_of a)) ≡ true = rw t at wants in
+        used_without a rows asks h
 
 -- ---- the walk
 

@@ -11,7 +11,7 @@ use Rattle.clap.specs.declared.builder.value_parser.Reading.TheVariants.{AsWritt
 use Rattle.clap.specs.declared.parser.matches.ValueSource.TheVariants.{CommandLine}
 use Rattle.clap.proofs.OnLiterals.{clap_on_literals}
 use Rattle.command_line.specs.Commands.{ftpd}
-use Rattle.command_line.specs.Given.{IsPlainWord}
+use Rattle.command_line.specs.Given.{IsPlainWord, ready_words}
 use Rattle.command_line.specs.Timed.{timed_words}
 
 -- `serve`, as the parser completes it, and its rules
@@ -67,21 +67,41 @@ stop_flag_passes : (config : Text) → turn_passes serving [] (valued [] (codes 
 unfolding clap_on_literals
 stop_flag_passes config = refl
 
-stop_flag_leads : (config : Text) → walked rules [] (valued [] (codes "CONFIG") config) (codes "--stop-file") ≡ waiting_for (row (codes "CONFIG") config ∷ []) (codes "PATH")
+stop_flag_leads : (config : Text) → walked rules [] (valued [] (codes "CONFIG") config) (codes "--stop-file") ≡ waiting_for (row (codes "CONFIG") config ∷ []) (codes "stop-file")
 unfolding clap_on_literals
 stop_flag_leads config = refl
 
-stop_value_passes : (rows : List Row) (b : ℕ) (bs : List ℕ) → (b == 45) ≡ false → turn_passes serving [] (waiting_for rows (codes "PATH")) (b ∷ bs) ≡ true
+stop_value_passes : (rows : List Row) (b : ℕ) (bs : List ℕ) → (b == 45) ≡ false → turn_passes serving [] (waiting_for rows (codes "stop-file")) (b ∷ bs) ≡ true
 unfolding clap_on_literals
 stop_value_passes rows b bs ne = simp ne refl
 
-stop_value_leads : (rows : List Row) (b : ℕ) (bs : List ℕ) → (b == 45) ≡ false → walked rules [] (waiting_for rows (codes "PATH")) (b ∷ bs) ≡ valued rows (codes "PATH") (b ∷ bs)
+stop_value_leads : (rows : List Row) (b : ℕ) (bs : List ℕ) → (b == 45) ≡ false → walked rules [] (waiting_for rows (codes "stop-file")) (b ∷ bs) ≡ valued rows (codes "stop-file") (b ∷ bs)
 unfolding clap_on_literals
 stop_value_leads rows b bs ne = simp ne refl
 
-stop_turns : (rows : List Row) (word : Text) → IsPlainWord word → Turns (waiting_for rows (codes "PATH")) (valued rows (codes "PATH") word) word
+stop_turns : (rows : List Row) (word : Text) → IsPlainWord word → Turns (waiting_for rows (codes "stop-file")) (valued rows (codes "stop-file") word) word
 stop_turns rows [] plain = absurd plain
 stop_turns rows (b ∷ bs) plain = record { passes = stop_value_passes rows b bs (ne_eqb _ _ plain); leads = stop_value_leads rows b bs (ne_eqb _ _ plain) }
+
+ready_flag_passes : (config path : Text) → turn_passes serving [] (valued (row (codes "CONFIG") config ∷ []) (codes "stop-file") path) (codes "--ready-file") ≡ true
+unfolding clap_on_literals
+ready_flag_passes config path = refl
+
+ready_flag_leads : (config path : Text) → walked rules [] (valued (row (codes "CONFIG") config ∷ []) (codes "stop-file") path) (codes "--ready-file") ≡ waiting_for (row (codes "CONFIG") config ∷ row (codes "stop-file") path ∷ []) (codes "ready-file")
+unfolding clap_on_literals
+ready_flag_leads config path = refl
+
+ready_value_passes : (rows : List Row) (b : ℕ) (bs : List ℕ) → (b == 45) ≡ false → turn_passes serving [] (waiting_for rows (codes "ready-file")) (b ∷ bs) ≡ true
+unfolding clap_on_literals
+ready_value_passes rows b bs ne = simp ne refl
+
+ready_value_leads : (rows : List Row) (b : ℕ) (bs : List ℕ) → (b == 45) ≡ false → walked rules [] (waiting_for rows (codes "ready-file")) (b ∷ bs) ≡ valued rows (codes "ready-file") (b ∷ bs)
+unfolding clap_on_literals
+ready_value_leads rows b bs ne = simp ne refl
+
+ready_turns : (rows : List Row) (word : Text) → IsPlainWord word → Turns (waiting_for rows (codes "ready-file")) (valued rows (codes "ready-file") word) word
+ready_turns rows [] plain = absurd plain
+ready_turns rows (b ∷ bs) plain = record { passes = ready_value_passes rows b bs (ne_eqb _ _ plain); leads = ready_value_leads rows b bs (ne_eqb _ _ plain) }
 
 login_flag_passes : (config : Text) → turn_passes serving [] (valued [] (codes "CONFIG") config) (codes "--login-timeout") ≡ true
 unfolding clap_on_literals
@@ -172,13 +192,26 @@ turn : (w after last : Walk) (word : Text) (words : List Text) → turn_passes s
 turn w after last word words passes leads more = record { passes = first_passes w after word words passes leads more.passes; leads = first_leads w after last word words leads more.leads }
 
 until_walks : (config path : Text) → IsPlainWord config → IsPlainWord path
-    → Walks (walk_from nothing_held) (valued (row (codes "CONFIG") config ∷ []) (codes "PATH") path) (config ∷ codes "--stop-file" ∷ path ∷ [])
+    → Walks (walk_from nothing_held) (valued (row (codes "CONFIG") config ∷ []) (codes "stop-file") path) (config ∷ codes "--stop-file" ∷ path ∷ [])
 until_walks config path plain also =
     let first = config_turns config plain in
     let last = stop_turns (row (codes "CONFIG") config ∷ []) path also in
     turn _ _ _ _ _ first.passes first.leads
     (turn _ _ _ _ _ (stop_flag_passes config) (stop_flag_leads config)
     (turn _ _ _ _ _ last.passes last.leads (ends _)))
+
+ready_walks : (config path ready : Text) → IsPlainWord config → IsPlainWord path → IsPlainWord ready
+    → Walks (walk_from nothing_held) (valued (row (codes "CONFIG") config ∷ row (codes "stop-file") path ∷ []) (codes "ready-file") ready)
+    (config ∷ codes "--stop-file" ∷ path ∷ codes "--ready-file" ∷ ready ∷ [])
+ready_walks config path ready plain also third =
+    let first = config_turns config plain in
+    let one = stop_turns (row (codes "CONFIG") config ∷ []) path also in
+    let two = ready_turns (row (codes "CONFIG") config ∷ row (codes "stop-file") path ∷ []) ready third in
+    turn _ _ _ _ _ first.passes first.leads
+    (turn _ _ _ _ _ (stop_flag_passes config) (stop_flag_leads config)
+    (turn _ _ _ _ _ one.passes one.leads
+    (turn _ _ _ _ _ (ready_flag_passes config path) (ready_flag_leads config path)
+    (turn _ _ _ _ _ two.passes two.leads (ends _)))))
 
 timed_walks : (config login idle_time delay : Text) → IsPlainWord config → IsPlainWord login → IsPlainWord idle_time → IsPlainWord delay
     → Walks (walk_from nothing_held) (valued (row (codes "CONFIG") config ∷ row (codes "login-timeout") login ∷ row (codes "idle-timeout") idle_time ∷ []) (codes "login-delay") delay)
@@ -219,7 +252,7 @@ simple : is_simple ftpd ≡ true
 unfolding clap_on_literals
 simple = refl
 
-until_settles : (config path : Text) → settle_passes rules serving.args_override_self (valued (row (codes "CONFIG") config ∷ []) (codes "PATH") path).held ≡ true
+until_settles : (config path : Text) → settle_passes rules serving.args_override_self (valued (row (codes "CONFIG") config ∷ []) (codes "stop-file") path).held ≡ true
 unfolding clap_on_literals
 until_settles config path = refl
 
@@ -227,7 +260,7 @@ defaults_pass : list_all default_passes rules ≡ true
 unfolding clap_on_literals
 defaults_pass = refl
 
-until_valid : (config path : Text) → is_valid serving (finished rules (valued (row (codes "CONFIG") config ∷ []) (codes "PATH") path).held) false ≡ true
+until_valid : (config path : Text) → is_valid serving (finished rules (valued (row (codes "CONFIG") config ∷ []) (codes "stop-file") path).held) false ≡ true
 unfolding clap_on_literals
 until_valid config path = refl
 
@@ -243,6 +276,28 @@ until_taken : (config path : Text) → IsPlainWord config → IsPlainWord path �
 until_taken config path plain also =
     let below = level _ _ (until_walks config path plain also) (until_settles config path) defaults_pass (until_valid config path) in
     and_then _ _ simple (by_level (built ftpd) _ _ _ serving (until_stops config path) found_is below (until_above config path))
+
+ready_settles : (config path ready : Text) → settle_passes rules serving.args_override_self (valued (row (codes "CONFIG") config ∷ row (codes "stop-file") path ∷ []) (codes "ready-file") ready).held ≡ true
+unfolding clap_on_literals
+ready_settles config path ready = refl
+
+ready_valid : (config path ready : Text) → is_valid serving (finished rules (valued (row (codes "CONFIG") config ∷ row (codes "stop-file") path ∷ []) (codes "ready-file") ready).held) false ≡ true
+unfolding clap_on_literals
+ready_valid config path ready = refl
+
+ready_stops : (config path ready : Text)
+    → (walk (built ftpd).top.rules (names_of (built ftpd)) nothing_held (ready_words config path ready)).stopped ≡ Some (codes "serve", config ∷ codes "--stop-file" ∷ path ∷ codes "--ready-file" ∷ ready ∷ [])
+unfolding clap_on_literals
+ready_stops config path ready = refl
+
+ready_above : (config path ready : Text) → level_passes (built ftpd).top (names_of (built ftpd)) nothing_held (ready_words config path ready) true ≡ true
+unfolding clap_on_literals
+ready_above config path ready = refl
+
+ready_taken : (config path ready : Text) → IsPlainWord config → IsPlainWord path → IsPlainWord ready → takes ftpd (ready_words config path ready) ≡ true
+ready_taken config path ready plain also third =
+    let below = level _ _ (ready_walks config path ready plain also third) (ready_settles config path ready) defaults_pass (ready_valid config path ready) in
+    and_then _ _ simple (by_level (built ftpd) _ _ _ serving (ready_stops config path ready) found_is below (ready_above config path ready))
 
 timed_settles : (config login idle_time delay : Text) → settle_passes rules serving.args_override_self (valued (row (codes "CONFIG") config ∷ row (codes "login-timeout") login ∷ row (codes "idle-timeout") idle_time ∷ []) (codes "login-delay") delay).held ≡ true
 unfolding clap_on_literals
@@ -281,7 +336,8 @@ pub record ServesTimed (config login idle_time delay : Text) : Type 0 where
   pub taken : takes ftpd (timed_words config login idle_time delay) ≡ true
   pub entered : subcommand_of ftpd (timed_words config login idle_time delay) ≡ Some (codes "serve", rows)
   pub of : first_of (codes "CONFIG") rows ≡ Some config
-  pub no_path : first_of (codes "PATH") rows ≡ None
+  pub no_path : first_of (codes "stop-file") rows ≡ None
+  pub no_ready : first_of (codes "ready-file") rows ≡ None
   pub first : first_of (codes "login-timeout") rows ≡ Some login
   pub second : first_of (codes "idle-timeout") rows ≡ Some idle_time
   pub third : first_of (codes "login-delay") rows ≡ Some delay
@@ -307,6 +363,7 @@ serves_timed config login idle_time delay plain second third fourth =
       entered = timed_entered config login idle_time delay ∙ ap (λ (rows : List Row). Some (codes "serve", rows)) end;
       of = refl;
       no_path = refl;
+      no_ready = refl;
       first = refl;
       second = refl;
       third = refl;
@@ -322,27 +379,63 @@ pub record ServesUntil (config path : Text) : Type 0 where
   pub taken : takes ftpd (until config path) ≡ true
   pub entered : subcommand_of ftpd (until config path) ≡ Some (codes "serve", rows)
   pub of : first_of (codes "CONFIG") rows ≡ Some config
-  pub stop_file : first_of (codes "PATH") rows ≡ Some path
+  pub stop_file : first_of (codes "stop-file") rows ≡ Some path
+  pub no_ready : first_of (codes "ready-file") rows ≡ None
   pub usual : AreUnstated rows
 
 until_entered : (config path : Text) → subcommand_of ftpd (until config path) ≡ Some (codes "serve", rows_after rules [] (config ∷ codes "--stop-file" ∷ path ∷ []))
 unfolding clap_on_literals
 until_entered config path = refl
 
-until_rows : (config path : Text) → finished rules (valued (row (codes "CONFIG") config ∷ []) (codes "PATH") path).held ≡ row (codes "CONFIG") config ∷ row (codes "PATH") path ∷ []
+until_rows : (config path : Text) → finished rules (valued (row (codes "CONFIG") config ∷ []) (codes "stop-file") path).held ≡ row (codes "CONFIG") config ∷ row (codes "stop-file") path ∷ []
 unfolding clap_on_literals
 until_rows config path = refl
 
 pub serves_until : (config path : Text) → IsPlainWord config → IsPlainWord path → ServesUntil config path
 serves_until config path plain also =
     let walks = until_walks config path plain also in
-    let end : rows_after rules [] (config ∷ codes "--stop-file" ∷ path ∷ []) ≡ row (codes "CONFIG") config ∷ row (codes "PATH") path ∷ []
+    let end : rows_after rules [] (config ∷ codes "--stop-file" ∷ path ∷ []) ≡ row (codes "CONFIG") config ∷ row (codes "stop-file") path ∷ []
     = ap (λ (w : Walk). finished rules w.held) walks.leads ∙ until_rows config path in
     record {
-      rows = row (codes "CONFIG") config ∷ row (codes "PATH") path ∷ [];
+      rows = row (codes "CONFIG") config ∷ row (codes "stop-file") path ∷ [];
       taken = until_taken config path plain also;
       entered = until_entered config path ∙ ap (λ (rows : List Row). Some (codes "serve", rows)) end;
       of = refl;
       stop_file = refl;
+      no_ready = refl;
+      usual = (refl, refl, refl);
+    }
+
+-- what the parser makes of the words of `serve` with a stop file and a ready file
+pub record ServesReady (config path ready : Text) : Type 0 where
+  pub rows : List Row
+  pub taken : takes ftpd (ready_words config path ready) ≡ true
+  pub entered : subcommand_of ftpd (ready_words config path ready) ≡ Some (codes "serve", rows)
+  pub of : first_of (codes "CONFIG") rows ≡ Some config
+  pub stop_file : first_of (codes "stop-file") rows ≡ Some path
+  pub ready_file : first_of (codes "ready-file") rows ≡ Some ready
+  pub usual : AreUnstated rows
+
+ready_entered : (config path ready : Text) → subcommand_of ftpd (ready_words config path ready) ≡ Some (codes "serve", rows_after rules [] (config ∷ codes "--stop-file" ∷ path ∷ codes "--ready-file" ∷ ready ∷ []))
+unfolding clap_on_literals
+ready_entered config path ready = refl
+
+ready_rows : (config path ready : Text) → finished rules (valued (row (codes "CONFIG") config ∷ row (codes "stop-file") path ∷ []) (codes "ready-file") ready).held
+    ≡ row (codes "CONFIG") config ∷ row (codes "stop-file") path ∷ row (codes "ready-file") ready ∷ []
+unfolding clap_on_literals
+ready_rows config path ready = refl
+
+pub serves_ready : (config path ready : Text) → IsPlainWord config → IsPlainWord path → IsPlainWord ready → ServesReady config path ready
+serves_ready config path ready plain also third =
+    let walks = ready_walks config path ready plain also third in
+    let end : rows_after rules [] (config ∷ codes "--stop-file" ∷ path ∷ codes "--ready-file" ∷ ready ∷ []) ≡ row (codes "CONFIG") config ∷ row (codes "stop-file") path ∷ row (codes "ready-file") ready ∷ []
+    = ap (λ (w : Walk). finished rules w.held) walks.leads ∙ ready_rows config path ready in
+    record {
+      rows = row (codes "CONFIG") config ∷ row (codes "stop-file") path ∷ row (codes "ready-file") ready ∷ [];
+      taken = ready_taken config path ready plain also third;
+      entered = ready_entered config path ready ∙ ap (λ (rows : List Row). Some (codes "serve", rows)) end;
+      of = refl;
+      stop_file = refl;
+      ready_file = refl;
       usual = (refl, refl, refl);
     }

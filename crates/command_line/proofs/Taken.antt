@@ -10,7 +10,7 @@ use Rattle.clap.specs.declared.error.kind.ErrorKind.{ErrorKind}
 use Rattle.clap.specs.declared.error.kind.ErrorKind.TheVariants.{OutOfMemory}
 use Rattle.command_line.specs.declared.words.WordsFault.{WordsFault}
 use Rattle.command_line.specs.declared.words.WordsFault.TheVariants.{Memory, Refused}
-use Rattle.command_line.specs.Given.{IsPlainWord, IsRefusal, IsRefusedAs}
+use Rattle.command_line.specs.Given.{IsPlainWord, IsRefusal, IsRefusedAs, is_flagged}
 use Rattle.command_line.proofs.ServeWords.{AreUnstated}
 
 -- a plain command has no global argument
@@ -197,28 +197,34 @@ unfolding clap_on_literals
 serve_first b bs ne = simp ne refl
 
 serve_no_path : (b : ℕ) (bs : List ℕ) → (b == 45) ≡ false
-    → first_of (codes "PATH") (rows_in (subcommand_of ftpd (codes "serve" ∷ (b ∷ bs) ∷ []))) ≡ None
+    → first_of (codes "stop-file") (rows_in (subcommand_of ftpd (codes "serve" ∷ (b ∷ bs) ∷ []))) ≡ None
 unfolding clap_on_literals
 serve_no_path b bs ne = simp ne refl
+
+serve_no_ready : (b : ℕ) (bs : List ℕ) → (b == 45) ≡ false
+    → first_of (codes "ready-file") (rows_in (subcommand_of ftpd (codes "serve" ∷ (b ∷ bs) ∷ []))) ≡ None
+unfolding clap_on_literals
+serve_no_ready b bs ne = simp ne refl
 
 serve_usual : (b : ℕ) (bs : List ℕ) → (b == 45) ≡ false → AreUnstated (rows_in (subcommand_of ftpd (codes "serve" ∷ (b ∷ bs) ∷ [])))
 unfolding clap_on_literals
 serve_usual b bs ne = simp ne (refl, refl, refl)
 
--- what the parser makes of the words of `serve` with no stop file
+-- what the parser makes of the words of `serve` with no option
 pub record Serves (word : List ℕ) : Type 0 where
   pub rows : List Row
   pub taken : takes ftpd (codes "serve" ∷ word ∷ []) ≡ true
   pub entered : subcommand_of ftpd (codes "serve" ∷ word ∷ []) ≡ Some (codes "serve", rows)
   pub config : first_of (codes "CONFIG") rows ≡ Some word
-  pub no_path : first_of (codes "PATH") rows ≡ None
+  pub no_path : first_of (codes "stop-file") rows ≡ None
+  pub no_ready : first_of (codes "ready-file") rows ≡ None
   pub usual : AreUnstated rows
 
 pub serves : (word : List ℕ) → IsPlainWord word → Serves word
 serves [] plain = absurd plain
 serves (b ∷ bs) plain =
     let ne = ne_eqb _ _ plain in
-    record { rows = _; taken = serve_taken b bs ne; entered = serve_entered b bs ne; config = serve_first b bs ne; no_path = serve_no_path b bs ne; usual = serve_usual b bs ne }
+    record { rows = _; taken = serve_taken b bs ne; entered = serve_entered b bs ne; config = serve_first b bs ne; no_path = serve_no_path b bs ne; no_ready = serve_no_ready b bs ne; usual = serve_usual b bs ne }
 
 plan_taken : (b d : ℕ) (bs ds : List ℕ) → (b == 45) ≡ false → (d == 45) ≡ false → takes ftpd (codes "plan" ∷ (b ∷ bs) ∷ (d ∷ ds) ∷ []) ≡ true
 unfolding clap_on_literals
@@ -240,6 +246,11 @@ plan_second : (b d : ℕ) (bs ds : List ℕ) → (b == 45) ≡ false → (d == 4
 unfolding clap_on_literals
 plan_second b d bs ds ne nf = simp (ne, nf) refl
 
+plan_unflagged : (b d : ℕ) (bs ds : List ℕ) → (b == 45) ≡ false → (d == 45) ≡ false
+    → is_flagged (codes "json") (rows_in (subcommand_of ftpd (codes "plan" ∷ (b ∷ bs) ∷ (d ∷ ds) ∷ []))) ≡ false
+unfolding clap_on_literals
+plan_unflagged b d bs ds ne nf = simp (ne, nf) refl
+
 -- what the parser makes of the words of `plan`
 pub record Plans (first second : List ℕ) : Type 0 where
   pub rows : List Row
@@ -247,6 +258,7 @@ pub record Plans (first second : List ℕ) : Type 0 where
   pub entered : subcommand_of ftpd (codes "plan" ∷ first ∷ second ∷ []) ≡ Some (codes "plan", rows)
   pub config : first_of (codes "CONFIG") rows ≡ Some first
   pub transfers : first_of (codes "TRANSFERS") rows ≡ Some second
+  pub unflagged : is_flagged (codes "json") rows ≡ false
 
 pub plans : (first second : List ℕ) → IsPlainWord first → IsPlainWord second → Plans first second
 plans [] second plain also = absurd plain
@@ -254,7 +266,59 @@ plans (b ∷ bs) [] plain also = absurd also
 plans (b ∷ bs) (d ∷ ds) plain also =
     let ne = ne_eqb _ _ plain in
     let nf = ne_eqb _ _ also in
-    record { rows = _; taken = plan_taken b d bs ds ne nf; entered = plan_entered b d bs ds ne nf; config = plan_first b d bs ds ne nf; transfers = plan_second b d bs ds ne nf }
+    record { rows = _; taken = plan_taken b d bs ds ne nf; entered = plan_entered b d bs ds ne nf; config = plan_first b d bs ds ne nf; transfers = plan_second b d bs ds ne nf; unflagged = plan_unflagged b d bs ds ne nf }
+
+-- the words of `plan` that ask for JSON
+abbrev pub json_words : Text → Text → List Text
+json_words first second = codes "plan" ∷ first ∷ second ∷ codes "--json" ∷ []
+
+json_taken : (b d : ℕ) (bs ds : List ℕ) → (b == 45) ≡ false → (d == 45) ≡ false → takes ftpd (json_words (b ∷ bs) (d ∷ ds)) ≡ true
+unfolding clap_on_literals
+json_taken b d bs ds ne nf = simp (ne, nf) refl
+
+json_entered : (b d : ℕ) (bs ds : List ℕ) → (b == 45) ≡ false → (d == 45) ≡ false
+    → subcommand_of ftpd (json_words (b ∷ bs) (d ∷ ds)) ≡ Some (codes "plan", rows_in (subcommand_of ftpd (json_words (b ∷ bs) (d ∷ ds))))
+unfolding clap_on_literals
+json_entered b d bs ds ne nf = simp (ne, nf) refl
+
+json_first : (b d : ℕ) (bs ds : List ℕ) → (b == 45) ≡ false → (d == 45) ≡ false
+    → first_of (codes "CONFIG") (rows_in (subcommand_of ftpd (json_words (b ∷ bs) (d ∷ ds)))) ≡ Some (b ∷ bs)
+unfolding clap_on_literals
+json_first b d bs ds ne nf = simp (ne, nf) refl
+
+json_second : (b d : ℕ) (bs ds : List ℕ) → (b == 45) ≡ false → (d == 45) ≡ false
+    → first_of (codes "TRANSFERS") (rows_in (subcommand_of ftpd (json_words (b ∷ bs) (d ∷ ds)))) ≡ Some (d ∷ ds)
+unfolding clap_on_literals
+json_second b d bs ds ne nf = simp (ne, nf) refl
+
+json_flagged : (b d : ℕ) (bs ds : List ℕ) → (b == 45) ≡ false → (d == 45) ≡ false
+    → is_flagged (codes "json") (rows_in (subcommand_of ftpd (json_words (b ∷ bs) (d ∷ ds)))) ≡ true
+unfolding clap_on_literals
+json_flagged b d bs ds ne nf = simp (ne, nf) refl
+
+-- what the parser makes of those words
+pub record PlansJson (first second : List ℕ) : Type 0 where
+  pub rows : List Row
+  pub taken : takes ftpd (json_words first second) ≡ true
+  pub entered : subcommand_of ftpd (json_words first second) ≡ Some (codes "plan", rows)
+  pub config : first_of (codes "CONFIG") rows ≡ Some first
+  pub transfers : first_of (codes "TRANSFERS") rows ≡ Some second
+  pub flagged : is_flagged (codes "json") rows ≡ true
+
+pub plans_json : (first second : List ℕ) → IsPlainWord first → IsPlainWord second → PlansJson first second
+plans_json [] second plain also = absurd plain
+plans_json (b ∷ bs) [] plain also = absurd also
+plans_json (b ∷ bs) (d ∷ ds) plain also =
+    let ne = ne_eqb _ _ plain in
+    let nf = ne_eqb _ _ also in
+    record {
+      rows = _;
+      taken = json_taken b d bs ds ne nf;
+      entered = json_entered b d bs ds ne nf;
+      config = json_first b d bs ds ne nf;
+      transfers = json_second b d bs ds ne nf;
+      flagged = json_flagged b d bs ds ne nf;
+    }
 
 -- ---- of `sheets`
 

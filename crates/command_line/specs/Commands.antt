@@ -1,19 +1,19 @@
 -- The commands of the programs, as the parser of command lines sees them.
 use Rattle.std.specs.Prelude.{true, codes, Some}
 use Rattle.clap.specs.Words.{App, Rule, Text, new_app, new_rule, with_rule, with_subcommand}
-use Rattle.clap.specs.declared.builder.ArgAction.TheVariants.{Set}
+use Rattle.clap.specs.declared.builder.ArgAction.TheVariants.{Set, SetTrue}
 
 -- a required word: the path of a file
 abbrev pub file_rule : Text → Rule
 file_rule id = record (new_rule id) { required = true; action = Some Set }
 
--- an optional option `--LONG ID`, with one value
-abbrev pub option_rule : Text → Text → Rule
-option_rule id long = record (new_rule id) { long = Some long; action = Some Set }
+-- an optional option `--ID NAME`, with one value
+abbrev pub value_rule : Text → Rule
+value_rule id = record (new_rule id) { long = Some id; value_names = 1; action = Some Set }
 
--- an optional option `--ID SECONDS`, with one value
-abbrev pub seconds_rule : Text → Rule
-seconds_rule id = record (new_rule id) { long = Some id; value_names = 1; action = Some Set }
+-- an optional flag `--ID`
+abbrev pub flag_rule : Text → Rule
+flag_rule id = record (new_rule id) { long = Some id; action = Some SetTrue }
 
 -- a command without words
 abbrev pub bare : Text → App
@@ -47,22 +47,29 @@ with_patience app =
     with_rule
     (with_rule
     (with_rule app
-    (seconds_rule (codes "login-timeout")))
-    (seconds_rule (codes "idle-timeout")))
-    (seconds_rule (codes "login-delay"))
+    (value_rule (codes "login-timeout")))
+    (value_rule (codes "idle-timeout")))
+    (value_rule (codes "login-delay"))
 
--- `serve CONFIG [--stop-file PATH] [--login-timeout SECONDS] [--idle-timeout SECONDS]
--- [--login-delay SECONDS]`
+-- the command with the options `--stop-file` and `--ready-file`
+abbrev pub with_files : App → App
+with_files app =
+    with_rule (with_rule app (value_rule (codes "stop-file"))) (value_rule (codes "ready-file"))
+
+-- `serve CONFIG [--stop-file PATH] [--ready-file PATH] [--login-timeout SECONDS]
+-- [--idle-timeout SECONDS] [--login-delay SECONDS]`
 abbrev pub serve : App
-serve =
-    with_patience (with_rule (with_rule (bare (codes "serve")) (file_rule (codes "CONFIG")))
-    (option_rule (codes "PATH") (codes "stop-file")))
+serve = with_patience (with_files (with_rule (bare (codes "serve")) (file_rule (codes "CONFIG"))))
 
--- `plan CONFIG TRANSFERS`
+-- `plan CONFIG TRANSFERS [--json]`
 abbrev pub plan : App
 plan =
-    with_rule (with_rule (bare (codes "plan")) (file_rule (codes "CONFIG")))
-    (file_rule (codes "TRANSFERS"))
+    with_rule
+    (with_rule
+    (with_rule
+    (bare
+    (codes "plan")) (file_rule (codes "CONFIG"))) (file_rule (codes "TRANSFERS")))
+    (flag_rule (codes "json"))
 
 -- the program of that name without commands; its words do not include a program's name
 abbrev pub top : Text → App

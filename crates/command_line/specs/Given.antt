@@ -1,5 +1,6 @@
 -- The commands that words give, and the refusals of words.
-use Rattle.std.specs.Prelude.{◌≡◌, ◌≢◌, ◌↔◌, ◌⊎◌, ℕ, List, [], ◌∷◌, IsTrue, MatchResult, Option, Result, Some, codes, option_map}
+use Rattle.std.specs.Prelude.{◌≡◌, ◌≢◌, ◌↔◌, ◌⊎◌, ℕ, Bool, List, [], ◌∷◌, IsTrue, MatchResult, None, Option, Result, Some, codes, false, option_map}
+use Rattle.std.specs.Str.{bytes_eq}
 use Rattle.std.specs.Borrow.{Bor}
 use Rattle.clap.specs.declared.parser.matches.ArgMatches.{ArgMatches}
 use Rattle.clap.specs.Words.{IsAmong, Kinds, Row, Text, fault_of, first_of, found_of, rows_of, subcommand_of}
@@ -36,8 +37,8 @@ IsOfSheets P (Sheet words) = P words
 IsOfSheets P (CheckConfig config) = ⊥
 IsOfSheets P (Migrate config) = ⊥
 IsOfSheets P (Script config) = ⊥
-IsOfSheets P (Serve config stop_file patience) = ⊥
-IsOfSheets P (Plan config transfers) = ⊥
+IsOfSheets P (Serve config files patience) = ⊥
+IsOfSheets P (Plan config transfers json) = ⊥
 
 -- the command `check-config` of that configuration
 abbrev pub IsCheckConfig : List ℕ → Words → Type 0
@@ -45,8 +46,8 @@ IsCheckConfig word (Sheet words) = ⊥
 IsCheckConfig word (CheckConfig config) = config.now ≡ word
 IsCheckConfig word (Migrate config) = ⊥
 IsCheckConfig word (Script config) = ⊥
-IsCheckConfig word (Serve config stop_file patience) = ⊥
-IsCheckConfig word (Plan config transfers) = ⊥
+IsCheckConfig word (Serve config files patience) = ⊥
+IsCheckConfig word (Plan config transfers json) = ⊥
 
 -- the command `migrate` of that configuration
 abbrev pub IsMigrate : List ℕ → Words → Type 0
@@ -54,8 +55,8 @@ IsMigrate word (Sheet words) = ⊥
 IsMigrate word (CheckConfig config) = ⊥
 IsMigrate word (Migrate config) = config.now ≡ word
 IsMigrate word (Script config) = ⊥
-IsMigrate word (Serve config stop_file patience) = ⊥
-IsMigrate word (Plan config transfers) = ⊥
+IsMigrate word (Serve config files patience) = ⊥
+IsMigrate word (Plan config transfers json) = ⊥
 
 -- the command `script` of that configuration
 abbrev pub IsScript : List ℕ → Words → Type 0
@@ -63,31 +64,47 @@ IsScript word (Sheet words) = ⊥
 IsScript word (CheckConfig config) = ⊥
 IsScript word (Migrate config) = ⊥
 IsScript word (Script config) = config.now ≡ word
-IsScript word (Serve config stop_file patience) = ⊥
-IsScript word (Plan config transfers) = ⊥
+IsScript word (Serve config files patience) = ⊥
+IsScript word (Plan config transfers json) = ⊥
 
--- the command `serve` of that configuration, with that stop file, if any, and that patience
-abbrev pub IsServe : List ℕ → Option (List ℕ) → Patience → Words → Type 0
-IsServe word path p (Sheet words) = ⊥
-IsServe word path p (CheckConfig config) = ⊥
-IsServe word path p (Migrate config) = ⊥
-IsServe word path p (Script config) = ⊥
-IsServe word path p (Serve config stop_file patience) =
-    (config.now ≡ word) × (option_map (λ w. w.now) stop_file ≡ path) × (patience ≡ p)
-IsServe word path p (Plan config transfers) = ⊥
+-- the command `serve` of that configuration, with that stop file and that ready file, if any, and
+-- that patience
+abbrev pub IsServe : List ℕ → Option (List ℕ) → Option (List ℕ) → Patience → Words → Type 0
+IsServe word stop ready p (Sheet words) = ⊥
+IsServe word stop ready p (CheckConfig config) = ⊥
+IsServe word stop ready p (Migrate config) = ⊥
+IsServe word stop ready p (Script config) = ⊥
+IsServe word stop ready p (Serve config files patience) =
+    (config.now ≡ word) × (option_map (λ w. w.now) files.stop_file ≡ stop)
+    × (option_map (λ w. w.now) files.ready_file ≡ ready) × (patience ≡ p)
+IsServe word stop ready p (Plan config transfers json) = ⊥
 
--- the command `plan` of that configuration and those transfers
-abbrev pub IsPlanWords : List ℕ → List ℕ → Words → Type 0
-IsPlanWords word stated (Sheet words) = ⊥
-IsPlanWords word stated (CheckConfig config) = ⊥
-IsPlanWords word stated (Migrate config) = ⊥
-IsPlanWords word stated (Script config) = ⊥
-IsPlanWords word stated (Serve config stop_file patience) = ⊥
-IsPlanWords word stated (Plan config transfers) = (config.now ≡ word) × (transfers.now ≡ stated)
+-- the words of `serve` with a stop file and a ready file
+abbrev pub ready_words : List ℕ → List ℕ → List ℕ → List Text
+ready_words config stop ready =
+    codes "serve" ∷ config ∷ codes "--stop-file" ∷ stop ∷ codes "--ready-file" ∷ ready ∷ []
+
+-- the command `plan` of that configuration and those transfers, as JSON or not
+abbrev pub IsPlanWords : List ℕ → List ℕ → Bool → Words → Type 0
+IsPlanWords word stated as_json (Sheet words) = ⊥
+IsPlanWords word stated as_json (CheckConfig config) = ⊥
+IsPlanWords word stated as_json (Migrate config) = ⊥
+IsPlanWords word stated as_json (Script config) = ⊥
+IsPlanWords word stated as_json (Serve config files patience) = ⊥
+IsPlanWords word stated as_json (Plan config transfers json) =
+    (config.now ≡ word) × (transfers.now ≡ stated) × (json ≡ as_json)
 
 -- the name of a command that the parser entered, and its arguments
 abbrev pub entered_rows : Bor Text × Bor ArgMatches → Text × List Row
 entered_rows found = (found.0.now, rows_of (found_of found.1.now))
+
+abbrev pub is_true : Option Text → Bool
+is_true None = false
+is_true (Some word) = bytes_eq word (codes "true")
+
+-- the words have that flag: the parser holds `true` for it
+abbrev pub is_flagged : Text → List Row → Bool
+is_flagged id rows = is_true (first_of id rows)
 
 -- the parser found the command on a sheet, and the words after it
 abbrev pub IsSheetFound : Option (Text × List Row) → SheetWords → Type 0
@@ -111,15 +128,17 @@ IsFound found (Migrate config) =
 IsFound found (Script config) =
     (rows : List Row) × (found ≡ Some (codes "script", rows))
     × (first_of (codes "CONFIG") rows ≡ Some config.now)
-IsFound found (Serve config stop_file patience) =
+IsFound found (Serve config files patience) =
     (rows : List Row) × (found ≡ Some (codes "serve", rows))
     × (first_of (codes "CONFIG") rows ≡ Some config.now)
-    × (first_of (codes "PATH") rows ≡ option_map (λ w. w.now) stop_file)
+    × (first_of (codes "stop-file") rows ≡ option_map (λ w. w.now) files.stop_file)
+    × (first_of (codes "ready-file") rows ≡ option_map (λ w. w.now) files.ready_file)
     × IsPatienceIn rows patience
-IsFound found (Plan config transfers) =
+IsFound found (Plan config transfers json) =
     (rows : List Row) × (found ≡ Some (codes "plan", rows))
     × (first_of (codes "CONFIG") rows ≡ Some config.now)
     × (first_of (codes "TRANSFERS") rows ≡ Some transfers.now)
+    × (json ≡ is_flagged (codes "json") rows)
 
 -- the words give that command, or memory ran out
 abbrev pub GivesOrMemory : {T : Type 0} → (T → Type 0) → Result T WordsFault → Type 0

@@ -2,7 +2,7 @@
 
 ghost use Rattle.std.specs.Prelude.{◌≡◌, IfOk, codes, false};
 ghost use Rattle.clap.specs.Words.{app_of, rule_of, with_rule};
-ghost use Rattle.command_line.specs.Commands.{bare, check, check_config, file_rule, ftpd, migrate, option_rule, plan, script, seconds_rule, serve, share, sheets, top, with_patience, with_sheets};
+ghost use Rattle.command_line.specs.Commands.{bare, check, check_config, file_rule, flag_rule, ftpd, migrate, plan, script, serve, share, sheets, top, value_rule, with_files, with_patience, with_sheets};
 
 use clap::{Arg, ArgAction, Command};
 use std::alloc::{AllocError, Global};
@@ -17,26 +17,26 @@ fn file<'a>(alloc: Global, id: &'a str, help: &'a str) -> Arg<'a>
         .help(help)
 }
 
-/// An optional option `--LONG ID`.
-fn option<'a>(alloc: Global, id: &'a str, long: &'a str, help: &'a str) -> Arg<'a>
-    ensures rule { rule_of result ≡ option_rule id.entry.now long.entry.now }
-    ensures local { result.global ≡ false }
-{
-    Arg::new(alloc, id)
-        .long(long)
-        .action(ArgAction::Set)
-        .help(help)
-}
-
-/// An optional option `--ID SECONDS`.
-fn seconds<'a>(alloc: Global, id: &'a str, help: &'a str) -> Arg<'a>
-    ensures rule { rule_of result ≡ seconds_rule id.entry.now }
+/// An optional option `--ID NAME`.
+fn option<'a>(alloc: Global, id: &'a str, name: &'a str, help: &'a str) -> Arg<'a>
+    ensures rule { rule_of result ≡ value_rule id.entry.now }
     ensures local { result.global ≡ false }
 {
     Arg::new(alloc, id)
         .long(id)
-        .value_name("SECONDS")
+        .value_name(name)
         .action(ArgAction::Set)
+        .help(help)
+}
+
+/// An optional flag `--ID`.
+fn flag<'a>(alloc: Global, id: &'a str, help: &'a str) -> Arg<'a>
+    ensures rule { rule_of result ≡ flag_rule id.entry.now }
+    ensures local { result.global ≡ false }
+{
+    Arg::new(alloc, id)
+        .long(id)
+        .action(ArgAction::SetTrue)
         .help(help)
 }
 
@@ -152,28 +152,45 @@ fn script_command<'a>(alloc: Global) -> Result<Command<'a>, AllocError>
     config_command(alloc, "script", about, ABOUT_SCRIPT, file)
 }
 
-/// The command with an optional stop file, given by its path.
-fn with_stop_file<'a>(alloc: Global, command: Command<'a>) -> Result<Command<'a>, AllocError>
-    ensures rule { IfOk result (λ c. app_of c
-        ≡ with_rule (app_of command.entry) (option_rule (codes "PATH") (codes "stop-file"))) }
+/// The command with an optional value, given by an option of that name.
+fn with_value<'a>(
+    alloc: Global,
+    command: Command<'a>,
+    id: &'a str,
+    name: &'a str,
+    help: &'a str,
+) -> Result<Command<'a>, AllocError>
+    ensures rule { IfOk result
+        (λ c. app_of c ≡ with_rule (app_of command.entry) (value_rule id.entry.now)) }
 {
-    let help =
-        "File that is not there yet: once it appears, sessions are told 421 and the server ends";
-    let command = command.arg(option(alloc, "PATH", "stop-file", help))?;
+    let command = command.arg(option(alloc, id, name, help))?;
     Ok(command)
 }
 
-/// The command with an optional number of seconds, given by an option of that name.
-fn with_seconds<'a>(
+/// The command with an optional flag.
+fn with_flag<'a>(
     alloc: Global,
     command: Command<'a>,
     id: &'a str,
     help: &'a str,
 ) -> Result<Command<'a>, AllocError>
     ensures rule { IfOk result
-        (λ c. app_of c ≡ with_rule (app_of command.entry) (seconds_rule id.entry.now)) }
+        (λ c. app_of c ≡ with_rule (app_of command.entry) (flag_rule id.entry.now)) }
 {
-    let command = command.arg(seconds(alloc, id, help))?;
+    let command = command.arg(flag(alloc, id, help))?;
+    Ok(command)
+}
+
+/// The command with an optional stop file and an optional ready file, given by their paths.
+fn with_files<'a>(alloc: Global, command: Command<'a>) -> Result<Command<'a>, AllocError>
+    ensures rules { IfOk result (λ c. app_of c ≡ with_files (app_of command.entry)) }
+{
+    let stop =
+        "File that is not there yet: once it appears, sessions are told 421 and the server ends";
+    let ready =
+        "File that is not there yet: the server makes it once clients may connect, and removes it at its end";
+    let with_stop = with_value(alloc, command, "stop-file", "PATH", stop)?;
+    let command = with_value(alloc, with_stop, "ready-file", "PATH", ready)?;
     Ok(command)
 }
 
@@ -186,9 +203,9 @@ fn with_patience<'a>(alloc: Global, command: Command<'a>) -> Result<Command<'a>,
     let idle =
         "Seconds without a command or a transfer, after which a client is told 421; 0 is no limit [default: 0]";
     let delay = "Seconds before a wrong password is answered [default: 1]";
-    let with_login = with_seconds(alloc, command, "login-timeout", login)?;
-    let with_idle = with_seconds(alloc, with_login, "idle-timeout", idle)?;
-    let command = with_seconds(alloc, with_idle, "login-delay", delay)?;
+    let with_login = with_value(alloc, command, "login-timeout", "SECONDS", login)?;
+    let with_idle = with_value(alloc, with_login, "idle-timeout", "SECONDS", idle)?;
+    let command = with_value(alloc, with_idle, "login-delay", "SECONDS", delay)?;
     Ok(command)
 }
 
@@ -198,7 +215,7 @@ fn serve_command<'a>(alloc: Global) -> Result<Command<'a>, AllocError>
     let about =
         "Serve clients by a configuration, until a number of sessions or a stop file ends it";
     let command = config_command(alloc, "serve", about, ABOUT_SERVE, CONFIG_FILE)?;
-    let command = with_stop_file(alloc, command)?;
+    let command = with_files(alloc, command)?;
     with_patience(alloc, command)
 }
 
@@ -208,8 +225,10 @@ fn plan_command<'a>(alloc: Global) -> Result<Command<'a>, AllocError>
     let about =
         "Plan transfers by a configuration: who would get how much, and which limit holds whom back";
     let transfers = "Transfers of users, as `ann=1,bob:up=2`";
+    let json = "Print the plan as JSON, for programs";
     let command = config_command(alloc, "plan", about, ABOUT_PLAN, CONFIG_FILE)?;
-    with_file(alloc, command, "TRANSFERS", transfers)
+    let command = with_file(alloc, command, "TRANSFERS", transfers)?;
+    with_flag(alloc, command, "json", json)
 }
 
 fn top_command<'a>(alloc: Global, name: &'a str, about: &'a str) -> Result<Command<'a>, AllocError>

@@ -6,8 +6,9 @@
 //! ftpd check-config CONFIG
 //! ftpd migrate CONFIG
 //! ftpd script CONFIG
-//! ftpd plan CONFIG TRANSFERS
-//! ftpd serve CONFIG [--stop-file PATH] [--login-timeout SECONDS] [--idle-timeout SECONDS] [--login-delay SECONDS]
+//! ftpd plan CONFIG TRANSFERS [--json]
+//! ftpd serve CONFIG [--stop-file PATH] [--ready-file PATH] [--login-timeout SECONDS] [--idle-timeout SECONDS]
+//!     [--login-delay SECONDS]
 //!
 //! sheets share SHEET
 //! sheets check SHEET GRANTS
@@ -20,4 +21,4 @@ mod words;
 
 pub use client_patience::Patience;
 pub use patience::{IDLE_TIMEOUT, LOGIN_DELAY, LOGIN_TIMEOUT, MAX_SECONDS};
-pub use words::{SheetWords, Words, WordsFault, read_sheet_words, read_words};
+pub use words::{ServeFiles, SheetWords, Words, WordsFault, read_sheet_words, read_words};

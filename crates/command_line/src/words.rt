@@ -1,9 +1,9 @@
 //! The words of a command line.
 
-ghost use Rattle.std.specs.Prelude.{◌≡◌, ◌↔◌, ◌∷◌, [], ℕ, List, None, Some, IfOk, IfErr, IfSome, IsTrue, map, codes, option_map, true};
+ghost use Rattle.std.specs.Prelude.{◌≡◌, ◌↔◌, ◌∷◌, [], ℕ, List, None, Some, IfOk, IfErr, IfSome, IsTrue, map, codes, false, option_map, true};
 ghost use Rattle.clap.specs.Words.{app_of, fault_of, first_of, found_of, is_simple, is_simple_and_free, kind_of, rows_of, subcommand_of, subcommand_rows_of, takes};
 ghost use Rattle.command_line.specs.Commands.{ftpd, sheets};
-ghost use Rattle.command_line.specs.Given.{GivesOneOrMemory, GivesOrMemory, IsCheck, IsCheckConfig, IsFound, IsHelp, IsMigrate, IsOfSheets, IsPlainWord, IsPlanWords, IsRefusal, IsRefusedAs, IsScript, IsServe, IsSheetFound, IsShare, IsRefusedFor, IsTaken, entered_rows};
+ghost use Rattle.command_line.specs.Given.{GivesOneOrMemory, GivesOrMemory, IsCheck, IsCheckConfig, IsFound, IsHelp, IsMigrate, IsOfSheets, IsPlainWord, IsPlanWords, IsRefusal, IsRefusedAs, IsScript, IsServe, IsSheetFound, IsShare, IsRefusedFor, IsTaken, entered_rows, is_flagged, ready_words};
 ghost use Rattle.command_line.specs.Timed.{IsSeconds, IsTimedBy, timed_words, usual_patience};
 
 use crate::grammar::{ftpd_command, sheets_command};
@@ -20,6 +20,15 @@ pub enum SheetWords<'a> {
     Share { sheet: &'a str },
     /// Check the grants of a file within the limits of a sheet; the paths of both.
     Check { sheet: &'a str, grants: &'a str },
+}
+
+/// The paths of the files that end a server, and that show that it is ready.
+#[derive(Clone, Copy, Debug, PartialEq, Eq)]
+pub struct ServeFiles<'a> {
+    /// The server ends once there is a file at this path.
+    pub stop_file: Option<&'a str>,
+    /// The server makes a file at this path once clients may connect, and removes it at its end.
+    pub ready_file: Option<&'a str>,
 }
 
 /// A command of `ftpd`, with the words after it.
@@ -39,17 +48,18 @@ pub enum Words<'a> {
     Script {
         config: &'a str,
     },
-    /// Serve clients by a configuration; its path, that of the stop file, if any, and the server's patience. The server
-    /// ends once the stop file appears.
+    /// Serve clients by a configuration; its path, those of its files, and the server's patience.
     Serve {
         config: &'a str,
-        stop_file: Option<&'a str>,
+        files: ServeFiles<'a>,
         patience: Patience,
     },
-    /// Plan transfers by the configuration at this path; the word that states them.
+    /// Plan transfers by the configuration at this path; the word that states them, and whether the plan is to be
+    /// printed as JSON.
     Plan {
         config: &'a str,
         transfers: &'a str,
+        json: bool,
     },
 }
 
@@ -100,6 +110,16 @@ pub(crate) fn word_of<'a>(inner: &ArgMatches<'a>, id: &str) -> Option<&'a str>
     inner.get_str(id)
 }
 
+/// Returns whether the words of the command that was entered have the flag `id`.
+fn has_flag(inner: &ArgMatches<'_>, id: &str) -> bool
+    ensures flag { result ≡ is_flagged id.now (rows_of (found_of inner.now)) }
+{
+    match word_of(inner, id) {
+        Some(word) => word == "true",
+        None => false,
+    }
+}
+
 /// The command on a sheet of that name, with its words.
 fn sheet_given<'a>(name: &str, inner: &ArgMatches<'a>) -> Option<SheetWords<'a>>
     ensures found { IfSome result
@@ -148,12 +168,16 @@ fn given<'a>(name: &str, inner: &ArgMatches<'a>, patience: Patience) -> Option<W
         }),
         "serve" => Some(Words::Serve {
             config: word_of(inner, "CONFIG")?,
-            stop_file: word_of(inner, "PATH"),
+            files: ServeFiles {
+                stop_file: word_of(inner, "stop-file"),
+                ready_file: word_of(inner, "ready-file"),
+            },
             patience,
         }),
         "plan" => Some(Words::Plan {
             config: word_of(inner, "CONFIG")?,
             transfers: word_of(inner, "TRANSFERS")?,
+            json: has_flag(inner, "json"),
         }),
         _ => Some(Words::Sheet(sheet_given(name, inner)?)),
     }
@@ -248,18 +272,25 @@ pub fn read_words<'a>(alloc: Global, words: &'a [&'a str]) -> Result<Words<'a>, 
         → GivesOrMemory (IsScript word) result }
     ensures serve { (word : List ℕ) → IsPlainWord word
         → map (λ s. s.now) words.now ≡ codes "serve" ∷ word ∷ []
-        → GivesOrMemory (IsServe word None usual_patience) result }
+        → GivesOrMemory (IsServe word None None usual_patience) result }
     ensures serve_until { (word path : List ℕ) → IsPlainWord word → IsPlainWord path
         → map (λ s. s.now) words.now ≡ codes "serve" ∷ word ∷ codes "--stop-file" ∷ path ∷ []
-        → GivesOrMemory (IsServe word (Some path) usual_patience) result }
+        → GivesOrMemory (IsServe word (Some path) None usual_patience) result }
+    ensures serve_ready { (word path ready : List ℕ) → IsPlainWord word → IsPlainWord path
+        → IsPlainWord ready
+        → map (λ s. s.now) words.now ≡ ready_words word path ready
+        → GivesOrMemory (IsServe word (Some path) (Some ready) usual_patience) result }
     ensures serve_timed { (word first second third : List ℕ) (p : Patience) → IsPlainWord word
         → IsSeconds first p.login_timeout → IsSeconds second p.idle_timeout
         → IsSeconds third p.login_delay
         → map (λ s. s.now) words.now ≡ timed_words word first second third
-        → GivesOrMemory (IsServe word None p) result }
+        → GivesOrMemory (IsServe word None None p) result }
     ensures plan { (word transfers : List ℕ) → IsPlainWord word → IsPlainWord transfers
         → map (λ s. s.now) words.now ≡ codes "plan" ∷ word ∷ transfers ∷ []
-        → GivesOrMemory (IsPlanWords word transfers) result }
+        → GivesOrMemory (IsPlanWords word transfers false) result }
+    ensures plan_json { (word transfers : List ℕ) → IsPlainWord word → IsPlainWord transfers
+        → map (λ s. s.now) words.now ≡ codes "plan" ∷ word ∷ transfers ∷ codes "--json" ∷ []
+        → GivesOrMemory (IsPlanWords word transfers true) result }
     ensures taken { IsTaken (map (λ s. s.now) words.now) → GivesOneOrMemory
         (IsFound (subcommand_of ftpd (map (λ s. s.now) words.now))) result }
     ensures refused { IfErr result (IsRefusedFor (map (λ s. s.now) words.now)) }

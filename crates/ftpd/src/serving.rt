@@ -7,19 +7,21 @@
 
 use folder_store::DirStore;
 use ftp_daemon::{Patience, RoundClock, ServeFault, Service, StopSign, serve};
-use ftpd_program::{FtpdExit, Server, StartFault};
+use ftpd_program::{FtpdExit, ReadyFile, ReadyOutput, ServeFiles, Server, StartFault};
 use log::sink::Console;
 use log::{Level, Logged};
 use server_config::{Config, ServedStore};
 use session_notes::Notes;
 use sheets_program::Exit as Common;
 use std::alloc::{AllocError, Global};
+use std::fs::OpenOptions;
+use std::io::Write;
 use std::net::{Net, TcpListener, TcpStream};
 use std::sync::Wait;
 use std::thread::Threads;
 use std::time::Clock;
 use std::{fs, io};
-use text_io::TextWriter;
+use text_io::{FallibleIo, TextWriter};
 use virtual_tree::StoreFault;
 
 /// A service that the words of a command line ask for.
@@ -30,6 +32,8 @@ pub(crate) struct AskedService {
     warnings: String,
     /// The path of the stop file, if any.
     stop_file: Option<String>,
+    /// The path of the ready file, if any.
+    ready_file: Option<String>,
     patience: Patience,
 }
 
@@ -67,16 +71,18 @@ impl<W: TextWriter> Server<W> for Asked {
         alloc: Global,
         config: Config,
         warnings: &str,
-        stop_file: Option<&str>,
+        files: ServeFiles<'_>,
         patience: Patience,
         _output: &mut W,
     ) -> Result<(), ServeFault> {
-        let stop_file = copied(alloc, stop_file)?;
+        let stop_file = copied(alloc, files.stop_file)?;
+        let ready_file = copied(alloc, files.ready_file)?;
         let warnings = String::from_str(alloc, warnings)?;
         self.service = Some(AskedService {
             config,
             warnings,
             stop_file,
+            ready_file,
             patience,
         });
         Ok(())
@@ -93,6 +99,42 @@ struct StopFile {
 impl StopSign for StopFile {
     fn is_up(&self) -> bool {
         fs::metadata(&self.machine, self.path.as_str()).is_ok()
+    }
+}
+
+/// A file of the machine that is there while a server is ready.
+#[derive(Drop)]
+struct MachineReadyFile {
+    machine: HostRuntime,
+    path: String,
+    is_there: bool,
+}
+
+impl ReadyFile for MachineReadyFile {
+    ghost is_there = { λ f. f.is_there };
+
+    fn is_there(&self) -> bool {
+        self.is_there
+    }
+
+    // A file that exists is not opened: it is somebody else's.
+    fn make(&mut self) -> io::Result<()> {
+        let made = OpenOptions::new()
+            .write(true)
+            .create_new(true)
+            .open(&self.machine, self.path.as_str());
+        match made {
+            Ok(_) => {
+                self.is_there = true;
+                Ok(())
+            }
+            Err(reason) => Err(reason),
+        }
+    }
+
+    fn remove(&mut self) {
+        self.is_there = false;
+        let _ = fs::remove_file(&self.machine, self.path.as_str());
     }
 }
 
@@ -208,18 +250,49 @@ fn folder_of(path: &str) -> &str {
     }
 }
 
-/// Returns the stop file at a path. `Err` if there is something at the path, or if a file there could not be noticed.
-fn stop_at(machine: &HostRuntime, path: String) -> Result<StopFile, StartFault> {
-    let reason = match fs::metadata(machine, path.as_str()) {
-        Ok(_) => return Err(StartFault::StopFileThere { path }),
+/// The reason for which no file can appear at a path.
+#[derive(Clone, Copy)]
+enum Hindrance {
+    /// There is something at the path.
+    There,
+    /// The machine's reason.
+    Told(io::Error),
+}
+
+/// Returns the reason for which no file can appear at a path, if there is one.
+fn hindrance_at(machine: &HostRuntime, path: &str) -> Option<Hindrance> {
+    let reason = match fs::metadata(machine, path) {
+        Ok(_) => return Some(Hindrance::There),
         Err(reason) if reason.kind() != io::ErrorKind::NotFound => Some(reason),
-        Err(_) => no_folder(machine, folder_of(path.as_str())),
+        Err(_) => no_folder(machine, folder_of(path)),
     };
     match reason {
-        Some(reason) => Err(StartFault::StopFileUnseen { path, reason }),
+        Some(reason) => Some(Hindrance::Told(reason)),
+        None => None,
+    }
+}
+
+/// Returns the stop file at a path. `Err` if there is something at the path, or if a file there could not be noticed.
+fn stop_at(machine: &HostRuntime, path: String) -> Result<StopFile, StartFault> {
+    match hindrance_at(machine, path.as_str()) {
+        Some(Hindrance::There) => Err(StartFault::StopFileThere { path }),
+        Some(Hindrance::Told(reason)) => Err(StartFault::StopFileUnseen { path, reason }),
         None => Ok(StopFile {
             machine: *machine,
             path,
+        }),
+    }
+}
+
+/// Returns the ready file at a path. `Err` if there is something at the path, or if no file could be made there.
+fn ready_at(machine: &HostRuntime, path: String) -> Result<MachineReadyFile, StartFault> {
+    match hindrance_at(machine, path.as_str()) {
+        Some(Hindrance::There) => Err(StartFault::ReadyFileThere { path }),
+        Some(Hindrance::Told(reason)) => Err(StartFault::ReadyFileUnmade { path, reason }),
+        None => Ok(MachineReadyFile {
+            machine: *machine,
+            path,
+            is_there: false,
         }),
     }
 }
@@ -236,13 +309,32 @@ fn folder_fault(machine: &HostRuntime, store: &ServedStore) -> Option<StartFault
     }
 }
 
-/// Serves as asked. Returns the ending of the program, and the reason for which the server did not start, if it is
-/// known.
+/// Returns the ending of a server with a fault, and the reason for which it did not start, if it is known.
+fn faulty<'w, W>(
+    fault: ServeFault,
+    output: ReadyOutput<W, MachineReadyFile>,
+) -> (FtpdExit<'w>, Option<StartFault>)
+where
+    W: Drop,
+{
+    let ending = FtpdExit::Server(output.cause(fault));
+    let ReadyOutput { file, fault, .. } = output;
+    let start = match (file, fault) {
+        (Some(MachineReadyFile { path, .. }), Some(reason)) => {
+            Some(StartFault::ReadyFileUnmade { path, reason })
+        }
+        _ => None,
+    };
+    (ending, start)
+}
+
+/// Serves as asked. The ready file, if any, is made before `ready` is written, and removed at the end. Returns the ending
+/// of the program, and the reason for which the server did not start, if it is known.
 pub(crate) fn serve_asked<'w, R, W>(
     rt: &R,
     machine: &HostRuntime,
     service: AskedService,
-    output: &mut W,
+    output: &mut FallibleIo<W>,
 ) -> (FtpdExit<'w>, Option<StartFault>)
 where
     R: Threads
@@ -254,12 +346,13 @@ where
         + Copy
         + Send
         + Sync,
-    W: TextWriter,
+    W: Write,
 {
     let AskedService {
         config,
         warnings,
         stop_file,
+        ready_file,
         patience,
     } = service;
     let stop = match stop_file {
@@ -269,13 +362,23 @@ where
         },
         None => None,
     };
+    let ready = match ready_file {
+        Some(path) => match ready_at(machine, path) {
+            Ok(ready) => Some(ready),
+            Err(start) => return (FtpdExit::Server(ServeFault::ReadyFile), Some(start)),
+        },
+        None => None,
+    };
     if let Some(start) = folder_fault(machine, &config.store) {
         return (FtpdExit::Server(ServeFault::Store), Some(start));
     }
     let handler = Notes::new(Logged::new(*machine, Level::Info, Console(*machine)));
     handler.note_warnings(warnings.as_str());
-    match serve_config(rt, config, handler, machine, stop, patience, output) {
+    let mut output = ReadyOutput::new(FallibleIo(&mut output.0), ready);
+    let served = serve_config(rt, config, handler, machine, stop, patience, &mut output);
+    output.remove_file();
+    match served {
         Ok(()) => (FtpdExit::Common(Common::Done), None),
-        Err(fault) => (FtpdExit::Server(fault), None),
+        Err(fault) => faulty(fault, output),
     }
 }

@@ -1,5 +1,5 @@
 -- The ends of commands, for the words that name them.
-use Rattle.std.proofs.Common.{◌≡◌, ℕ, List, Option, option_map, subst}
+use Rattle.std.proofs.Common.{◌≡◌, ℕ, Bool, List, Option, option_map, subst}
 use Rattle.command_line.specs.Given.{IsCheck, IsCheckConfig, IsMigrate, IsOfSheets, IsPlanWords, IsScript, IsServe, IsShare}
 use Rattle.client_patience.specs.declared.patience.Patience.{Patience}
 use Rattle.command_line.specs.declared.words.SheetWords.TheVariants.{Share, Check}
@@ -8,12 +8,12 @@ use Rattle.command_line.specs.declared.words.Words.TheVariants.{Sheet, CheckConf
 use Rattle.script_session.specs.declared.fault.SessionFault.{SessionFault}
 use Rattle.sheets_program.specs.Runs.{IsCheckEnd, IsShareEnd, Octets}
 use Rattle.ftpd_program.specs.Endings.{IsCommon}
-use Rattle.ftpd_program.specs.Runs.{IsCommandEnd, IsPlanEnd, IsPrintEnd, IsScriptEnd}
+use Rattle.ftpd_program.specs.Runs.{IsCommandEnd, IsPlanEnd, IsPrintEnd, IsScriptEnd, plan_print}
 use Rattle.ftpd_program.specs.Scripting.{IsUnscripted}
 use Rattle.ftpd_program.specs.Serving.{IsServeEnd, Service}
 use Rattle.ftpd_program.specs.declared.ending.FtpdExit.{FtpdExit}
 use Rattle.ftpd_program.specs.declared.ending.FtpdExit.TheVariants.{Common, Config, Transfers, Session, Server}
-use Rattle.ftpd_program.specs.declared.printing.Print.TheVariants.{Report, Latest, Plan as PlanOf}
+use Rattle.ftpd_program.specs.declared.printing.Print.TheVariants.{Report, Latest}
 use Rattle.ftpd_program.specs.declared.scripting.ScriptFault.{ScriptFault}
 use Rattle.ftpd_program.specs.declared.scripting.ScriptFault.TheVariants.{Session as Unserved}
 
@@ -28,8 +28,8 @@ share_end gives serves Refuses (Sheet (Check path other)) sheet old new ending i
 share_end gives serves Refuses (CheckConfig path) sheet old new ending is end = absurd is
 share_end gives serves Refuses (Migrate path) sheet old new ending is end = absurd is
 share_end gives serves Refuses (Script path) sheet old new ending is end = absurd is
-share_end gives serves Refuses (Serve path stop_file patience) sheet old new ending is end = absurd is
-share_end gives serves Refuses (Plan path stated) sheet old new ending is end = absurd is
+share_end gives serves Refuses (Serve path files patience) sheet old new ending is end = absurd is
+share_end gives serves Refuses (Plan path stated json) sheet old new ending is end = absurd is
 
 pub check_end : (gives : List ℕ → Octets) (serves : Service) (Refuses : List ℕ → Type 0) (words : Words) (sheet grants : List ℕ) (old new : Option (List ℕ)) (ending : FtpdExit)
     → IsOfSheets (IsCheck sheet grants) words → IsCommandEnd gives serves Refuses words old new ending → IsCommon (IsCheckEnd gives sheet grants old new) ending
@@ -44,8 +44,8 @@ check_end gives serves Refuses (Sheet (Share path)) sheet grants old new ending 
 check_end gives serves Refuses (CheckConfig path) sheet grants old new ending is end = absurd is
 check_end gives serves Refuses (Migrate path) sheet grants old new ending is end = absurd is
 check_end gives serves Refuses (Script path) sheet grants old new ending is end = absurd is
-check_end gives serves Refuses (Serve path stop_file patience) sheet grants old new ending is end = absurd is
-check_end gives serves Refuses (Plan path stated) sheet grants old new ending is end = absurd is
+check_end gives serves Refuses (Serve path files patience) sheet grants old new ending is end = absurd is
+check_end gives serves Refuses (Plan path stated json) sheet grants old new ending is end = absurd is
 
 pub report_end : (gives : List ℕ → Octets) (serves : Service) (Refuses : List ℕ → Type 0) (words : Words) (config : List ℕ) (old new : Option (List ℕ)) (ending : FtpdExit)
     → IsCheckConfig config words → IsCommandEnd gives serves Refuses words old new ending → IsPrintEnd Report (gives config) Refuses old new ending
@@ -53,8 +53,8 @@ report_end gives serves Refuses (CheckConfig path) config old new ending is end 
 report_end gives serves Refuses (Sheet words) config old new ending is end = absurd is
 report_end gives serves Refuses (Migrate path) config old new ending is end = absurd is
 report_end gives serves Refuses (Script path) config old new ending is end = absurd is
-report_end gives serves Refuses (Serve path stop_file patience) config old new ending is end = absurd is
-report_end gives serves Refuses (Plan path stated) config old new ending is end = absurd is
+report_end gives serves Refuses (Serve path files patience) config old new ending is end = absurd is
+report_end gives serves Refuses (Plan path stated json) config old new ending is end = absurd is
 
 pub migrate_end : (gives : List ℕ → Octets) (serves : Service) (Refuses : List ℕ → Type 0) (words : Words) (config : List ℕ) (old new : Option (List ℕ)) (ending : FtpdExit)
     → IsMigrate config words → IsCommandEnd gives serves Refuses words old new ending → IsPrintEnd Latest (gives config) Refuses old new ending
@@ -62,8 +62,8 @@ migrate_end gives serves Refuses (Migrate path) config old new ending is end = s
 migrate_end gives serves Refuses (Sheet words) config old new ending is end = absurd is
 migrate_end gives serves Refuses (CheckConfig path) config old new ending is end = absurd is
 migrate_end gives serves Refuses (Script path) config old new ending is end = absurd is
-migrate_end gives serves Refuses (Serve path stop_file patience) config old new ending is end = absurd is
-migrate_end gives serves Refuses (Plan path stated) config old new ending is end = absurd is
+migrate_end gives serves Refuses (Serve path files patience) config old new ending is end = absurd is
+migrate_end gives serves Refuses (Plan path stated json) config old new ending is end = absurd is
 
 pub script_end : (gives : List ℕ → Octets) (serves : Service) (Refuses : List ℕ → Type 0) (words : Words) (config : List ℕ) (old new : Option (List ℕ)) (ending : FtpdExit)
     → IsScript config words → IsCommandEnd gives serves Refuses words old new ending → IsScriptEnd gives config old new ending
@@ -71,29 +71,34 @@ script_end gives serves Refuses (Script path) config old new ending is end = sub
 script_end gives serves Refuses (Sheet words) config old new ending is end = absurd is
 script_end gives serves Refuses (CheckConfig path) config old new ending is end = absurd is
 script_end gives serves Refuses (Migrate path) config old new ending is end = absurd is
-script_end gives serves Refuses (Serve path stop_file patience) config old new ending is end = absurd is
-script_end gives serves Refuses (Plan path stated) config old new ending is end = absurd is
+script_end gives serves Refuses (Serve path files patience) config old new ending is end = absurd is
+script_end gives serves Refuses (Plan path stated json) config old new ending is end = absurd is
 
-pub serve_end : (gives : List ℕ → Octets) (serves : Service) (Refuses : List ℕ → Type 0) (words : Words) (config : List ℕ) (path : Option (List ℕ)) (p : Patience) (old new : Option (List ℕ)) (ending : FtpdExit)
-    → IsServe config path p words → IsCommandEnd gives serves Refuses words old new ending → IsServeEnd (gives config) serves path p old new ending
-serve_end gives serves Refuses (Serve word stop_file patience) config path p old new ending is end =
-    let first = subst (λ (c : List ℕ). IsServeEnd (gives c) serves (option_map (λ w. w.now) stop_file) patience old new ending) is.0 end in
-    let second = subst (λ (f : Option (List ℕ)). IsServeEnd (gives config) serves f patience old new ending) is.1 first in
-    subst (λ (q : Patience). IsServeEnd (gives config) serves path q old new ending) is.2 second
-serve_end gives serves Refuses (Sheet words) config path p old new ending is end = absurd is
-serve_end gives serves Refuses (CheckConfig word) config path p old new ending is end = absurd is
-serve_end gives serves Refuses (Migrate word) config path p old new ending is end = absurd is
-serve_end gives serves Refuses (Script word) config path p old new ending is end = absurd is
-serve_end gives serves Refuses (Plan word stated) config path p old new ending is end = absurd is
+pub serve_end : (gives : List ℕ → Octets) (serves : Service) (Refuses : List ℕ → Type 0) (words : Words) (config : List ℕ) (path ready : Option (List ℕ)) (p : Patience) (old new : Option (List ℕ)) (ending : FtpdExit)
+    → IsServe config path ready p words → IsCommandEnd gives serves Refuses words old new ending → IsServeEnd (gives config) serves path ready p old new ending
+serve_end gives serves Refuses (Serve word files patience) config path ready p old new ending is end =
+    let stop = option_map (λ w. w.now) files.stop_file in
+    let sign = option_map (λ w. w.now) files.ready_file in
+    let first = subst (λ (c : List ℕ). IsServeEnd (gives c) serves stop sign patience old new ending) is.0 end in
+    let second = subst (λ (f : Option (List ℕ)). IsServeEnd (gives config) serves f sign patience old new ending) is.1 first in
+    let third = subst (λ (f : Option (List ℕ)). IsServeEnd (gives config) serves path f patience old new ending) is.2 second in
+    subst (λ (q : Patience). IsServeEnd (gives config) serves path ready q old new ending) is.3 third
+serve_end gives serves Refuses (Sheet words) config path ready p old new ending is end = absurd is
+serve_end gives serves Refuses (CheckConfig word) config path ready p old new ending is end = absurd is
+serve_end gives serves Refuses (Migrate word) config path ready p old new ending is end = absurd is
+serve_end gives serves Refuses (Script word) config path ready p old new ending is end = absurd is
+serve_end gives serves Refuses (Plan word stated json) config path ready p old new ending is end = absurd is
 
-pub plan_end : (gives : List ℕ → Octets) (serves : Service) (Refuses : List ℕ → Type 0) (words : Words) (config transfers : List ℕ) (old new : Option (List ℕ)) (ending : FtpdExit)
-    → IsPlanWords config transfers words → IsCommandEnd gives serves Refuses words old new ending → IsPlanEnd (gives config) transfers Refuses old new ending
-plan_end gives serves Refuses (Plan path stated) config transfers old new ending is end = (stated, is.1, subst (λ (p : List ℕ). IsPrintEnd (PlanOf stated) (gives p) Refuses old new ending) is.0 end)
-plan_end gives serves Refuses (Sheet words) config transfers old new ending is end = absurd is
-plan_end gives serves Refuses (CheckConfig path) config transfers old new ending is end = absurd is
-plan_end gives serves Refuses (Migrate path) config transfers old new ending is end = absurd is
-plan_end gives serves Refuses (Script path) config transfers old new ending is end = absurd is
-plan_end gives serves Refuses (Serve path stop_file patience) config transfers old new ending is end = absurd is
+pub plan_end : (gives : List ℕ → Octets) (serves : Service) (Refuses : List ℕ → Type 0) (words : Words) (config transfers : List ℕ) (as_json : Bool) (old new : Option (List ℕ)) (ending : FtpdExit)
+    → IsPlanWords config transfers as_json words → IsCommandEnd gives serves Refuses words old new ending → IsPlanEnd as_json (gives config) transfers Refuses old new ending
+plan_end gives serves Refuses (Plan path stated json) config transfers as_json old new ending is end =
+    let first = subst (λ (p : List ℕ). IsPrintEnd (plan_print json stated) (gives p) Refuses old new ending) is.0 end in
+    (stated, is.1, subst (λ (b : Bool). IsPrintEnd (plan_print b stated) (gives config) Refuses old new ending) is.2 first)
+plan_end gives serves Refuses (Sheet words) config transfers as_json old new ending is end = absurd is
+plan_end gives serves Refuses (CheckConfig path) config transfers as_json old new ending is end = absurd is
+plan_end gives serves Refuses (Migrate path) config transfers as_json old new ending is end = absurd is
+plan_end gives serves Refuses (Script path) config transfers as_json old new ending is end = absurd is
+plan_end gives serves Refuses (Serve path files patience) config transfers as_json old new ending is end = absurd is
 
 pub unserved : (text before after old new : Option (List ℕ)) (fault : ScriptFault) (why : SessionFault)
     → IsUnscripted text before after old new fault → fault ≡ Unserved why → IsUnscripted text before after old new (Unserved why)

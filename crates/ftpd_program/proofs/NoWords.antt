@@ -16,15 +16,15 @@ use Rattle.ftpd_program.specs.Serving.{IsServeEnd, Service}
 use Rattle.ftpd_program.specs.declared.ending.FtpdExit.TheVariants.{Common}
 use Rattle.ftpd_program.specs.declared.printing.Print.{Print}
 
-pub no_serve : (gives : Octets) (serves : Service) (path : Option (List ℕ)) (p : Patience) (old new : Option (List ℕ)) (fault : WordsFault) (exit : Exit) → fault ≡ NoMemory → IsToldEnd fault old new exit
-    → IsServeEnd gives serves path p old new (Common exit)
-no_serve gives serves path p old new NoMemory (Text why cause) is end = subst (λ (w : TextFault). IsReadingFaultOf gives w) (sym end) tt
-no_serve gives serves path p old new NoMemory Done is end = absurd end
-no_serve gives serves path p old new NoMemory Flawed is end = absurd end
-no_serve gives serves path p old new NoMemory (Refused text) is end = absurd end
-no_serve gives serves path p old new NoMemory (Share why cause) is end = absurd end
-no_serve gives serves path p old new NoMemory (Check why cause) is end = absurd end
-no_serve gives serves path p old new (NoCommand text is_help) exit is end = absurd (cc)
+pub no_serve : (gives : Octets) (serves : Service) (path ready : Option (List ℕ)) (p : Patience) (old new : Option (List ℕ)) (fault : WordsFault) (exit : Exit) → fault ≡ NoMemory → IsToldEnd fault old new exit
+    → IsServeEnd gives serves path ready p old new (Common exit)
+no_serve gives serves path ready p old new NoMemory (Text why cause) is end = subst (λ (w : TextFault). IsReadingFaultOf gives w) (sym end) tt
+no_serve gives serves path ready p old new NoMemory Done is end = absurd end
+no_serve gives serves path ready p old new NoMemory Flawed is end = absurd end
+no_serve gives serves path ready p old new NoMemory (Refused text) is end = absurd end
+no_serve gives serves path ready p old new NoMemory (Share why cause) is end = absurd end
+no_serve gives serves path ready p old new NoMemory (Check why cause) is end = absurd end
+no_serve gives serves path ready p old new (NoCommand text is_help) exit is end = absurd (cc)
 
 pub no_print : (print : Print) (gives : Octets) (Refuses : List ℕ → Type 0) (old new : Option (List ℕ)) (fault : WordsFault) (exit : Exit) → fault ≡ NoMemory → IsToldEnd fault old new exit
     → IsPrintEnd print gives Refuses old new (Common exit)
@@ -42,3 +42,10 @@ third_word [] first second third are = absurd (cc)
 third_word (a ∷ []) first second third are = absurd (cc)
 third_word (a ∷ b ∷ []) first second third are = absurd (cc)
 third_word (a ∷ b ∷ c ∷ rest) first second third are = (c, cc)
+
+-- the third word of four
+pub third_of_four : (words : List (Bor (List ℕ))) (first second third fourth : List ℕ) → map (λ w. w.now) words ≡ first ∷ second ∷ third ∷ fourth ∷ [] → (word : Bor (List ℕ)) × (word.now ≡ third)
+third_of_four [] first second third fourth are = absurd (cc)
+third_of_four (a ∷ []) first second third fourth are = absurd (cc)
+third_of_four (a ∷ b ∷ []) first second third fourth are = absurd (cc)
+third_of_four (a ∷ b ∷ c ∷ rest) first second third fourth are = (c, cc)

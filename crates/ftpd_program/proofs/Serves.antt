@@ -6,7 +6,7 @@ use Rattle.sheets_program.specs.Runs.{Octets}
 use Rattle.ftpd_program.specs.Serving.{Answer, IsConfigIn, IsServeEnd, Service, end_of}
 
 -- what the server answered
-pub answered : (gives : Octets) (serves : Service) (path : Option (List ℕ)) (p : Patience) (old new : Option (List ℕ)) (config : Config) (answer : Answer) → IsConfigIn gives config
-    → serves config path p old new answer → IsServeEnd gives serves path p old new (end_of answer)
-answered gives serves path p old new config (Ok tt) read is = (config, read, is)
-answered gives serves path p old new config (Err why) read is = (config, read, is)
+pub answered : (gives : Octets) (serves : Service) (path ready : Option (List ℕ)) (p : Patience) (old new : Option (List ℕ)) (config : Config) (answer : Answer) → IsConfigIn gives config
+    → serves config path ready p old new answer → IsServeEnd gives serves path ready p old new (end_of answer)
+answered gives serves path ready p old new config (Ok tt) read is = (config, read, is)
+answered gives serves path ready p old new config (Err why) read is = (config, read, is)

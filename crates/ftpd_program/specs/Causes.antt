@@ -67,9 +67,9 @@ IsCommandWhy gives refused fails refuses breaks (Migrate config) ending =
     IsReadWhy config.now (refused config.now ⊎ fails config.now) ending
 IsCommandWhy gives refused fails refuses breaks (Script config) ending =
     IsScriptWhy gives refused fails breaks config.now ending
-IsCommandWhy gives refused fails refuses breaks (Serve config stop_file patience) ending =
+IsCommandWhy gives refused fails refuses breaks (Serve config files patience) ending =
     IsReadWhy config.now (refused config.now ⊎ fails config.now) ending
-IsCommandWhy gives refused fails refuses breaks (Plan config transfers) ending =
+IsCommandWhy gives refused fails refuses breaks (Plan config transfers json) ending =
     IsReadWhy config.now (refused config.now ⊎ fails config.now) ending
 
 -- the files that a command opens, in the order of its words
@@ -81,6 +81,7 @@ AreCommandOpened opens old new refused (CheckConfig config) ending = opens old c
 AreCommandOpened opens old new refused (Migrate config) ending = opens old config.now new
 AreCommandOpened opens old new refused (Script config) ending =
     AreScriptOpened opens old new refused config.now ending
-AreCommandOpened opens old new refused (Serve config stop_file patience) ending =
+AreCommandOpened opens old new refused (Serve config files patience) ending =
     opens old config.now new
-AreCommandOpened opens old new refused (Plan config transfers) ending = opens old config.now new
+AreCommandOpened opens old new refused (Plan config transfers json) ending =
+    opens old config.now new

@@ -1,5 +1,6 @@
 pub mod Causes
 pub mod Printing
+pub mod Ready
 pub mod Endings
 pub mod Faults
 pub mod Runs

@@ -5,30 +5,34 @@ use Rattle.config_report.specs.Reports.{IsReportOf}
 use Rattle.server_config.specs.Migrated.{IsMigrated, IsUnmigrated}
 use Rattle.server_config.specs.Refused.{IsFaultOfText}
 use Rattle.server_config.specs.declared.fault.ConfigFault.{ConfigFault}
-use Rattle.plan_report.specs.Reports.{IsPlanReport}
+use Rattle.plan_report.specs.Reports.{IsPlanJson, IsPlanReport}
 use Rattle.text_io.specs.Texts.{IsTextOf}
 use Rattle.text_io.specs.declared.fault.TextFault.TheVariants.{Memory}
 use Rattle.ftpd_program.specs.declared.printing.Print.{Print}
-use Rattle.ftpd_program.specs.declared.printing.Print.TheVariants.{Report, Latest, Plan}
+use Rattle.ftpd_program.specs.declared.printing.Print.TheVariants.{Report, Latest, Plan, PlanJson}
 use Rattle.ftpd_program.specs.declared.printing.PrintFault.{PrintFault}
 use Rattle.ftpd_program.specs.declared.printing.PrintFault.TheVariants.{Config, Text, Transfers}
 
 -- the report on the configuration of a text; or a text that has the same configuration in version
--- 2; of a plan only that transfers are planned by the rates of the configuration
+-- 2; of a plan in lines only that transfers are planned by the rates of the configuration; of one
+-- as JSON also that the text has their shares
 abbrev pub IsPrintOf : Print → List ℕ → List ℕ → Type 0
 IsPrintOf Report text printed = IsReportOf text printed
 IsPrintOf Latest text printed = IsMigrated text printed
 IsPrintOf (Plan transfers) text printed = IsPlanReport text
+IsPrintOf (PlanJson transfers) text printed = IsPlanJson text printed
 
 -- the text is refused for that fault; or, in version 2, it has no print that is read back
 abbrev pub IsUnprinted : Print → List ℕ → ConfigFault → Type 0
 IsUnprinted Report text fault = IsFaultOfText text fault
 IsUnprinted Latest text fault = IsUnmigrated text fault
 IsUnprinted (Plan transfers) text fault = IsFaultOfText text fault
+IsUnprinted (PlanJson transfers) text fault = IsFaultOfText text fault
 
 -- the text is the plan of transfers
 abbrev pub IsOfPlan : Print → Type 0
 IsOfPlan (Plan transfers) = Unit {0}
+IsOfPlan (PlanJson transfers) = Unit {0}
 IsOfPlan print = ⊥
 
 -- memory ran out, or the text or the transfers are refused

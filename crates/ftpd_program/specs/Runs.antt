@@ -2,7 +2,7 @@
 -- the commands on sheets. Old and new are the contents of the output before and after, and Refuses
 -- is the test of the octets that it may refuse.
 use Rattle.std.specs.Borrow.{Bor}
-use Rattle.std.specs.Prelude.{◌≡◌, ℕ, List, Option, option_map}
+use Rattle.std.specs.Prelude.{◌≡◌, ℕ, Bool, List, Option, false, option_map, true}
 use Rattle.command_line.specs.declared.words.Words.{Words}
 use Rattle.command_line.specs.declared.words.Words.TheVariants.{Sheet, CheckConfig, Migrate, Script, Serve, Plan}
 use Rattle.sheets_program.specs.Runs.{IsInput, IsSheetEnd, Octets}
@@ -16,7 +16,7 @@ use Rattle.ftpd_program.specs.Serving.{IsServeEnd, Service}
 use Rattle.ftpd_program.specs.declared.ending.FtpdExit.{FtpdExit}
 use Rattle.ftpd_program.specs.declared.ending.FtpdExit.TheVariants.{Common, Config, Transfers, Session}
 use Rattle.ftpd_program.specs.declared.printing.Print.{Print}
-use Rattle.ftpd_program.specs.declared.printing.Print.TheVariants.{Report, Latest, Plan as PlanOf}
+use Rattle.ftpd_program.specs.declared.printing.Print.TheVariants.{Report, Latest, Plan as PlanOf, PlanJson}
 use Rattle.ftpd_program.specs.declared.scripting.ScriptFault.TheVariants.{Session as Unserved}
 
 -- the ending of a command that prints a text about a configuration, by the contents that its file
@@ -32,12 +32,17 @@ IsPrintEnd print gives Refuses old new (Config fault) =
 IsPrintEnd print gives Refuses old new (Transfers name told) = IsOfPlan print
 IsPrintEnd print gives Refuses old new _ = ⊥
 
+-- the plan of the transfers that a word states, as JSON or in lines
+abbrev pub plan_print : Bool → Bor (List ℕ) → Print
+plan_print false transfers = PlanOf transfers
+plan_print true transfers = PlanJson transfers
+
 -- the ending of `plan` for the text of those transfers
-abbrev pub IsPlanEnd : Octets → List ℕ → (List ℕ → Type 0) → Option (List ℕ) → Option (List ℕ)
-    → FtpdExit → Type 0
-IsPlanEnd gives transfers Refuses old new ending =
+abbrev pub IsPlanEnd : Bool → Octets → List ℕ → (List ℕ → Type 0) → Option (List ℕ)
+    → Option (List ℕ) → FtpdExit → Type 0
+IsPlanEnd json gives transfers Refuses old new ending =
     (stated : Bor (List ℕ)) × (stated.now ≡ transfers)
-    × IsPrintEnd (PlanOf stated) gives Refuses old new ending
+    × IsPrintEnd (plan_print json stated) gives Refuses old new ending
 
 -- the ending of `script` for the path of a configuration; the control text is that of standard
 -- input
@@ -67,7 +72,8 @@ IsCommandEnd gives serves Refuses (Migrate config) old new ending =
     IsPrintEnd Latest (gives config.now) Refuses old new ending
 IsCommandEnd gives serves Refuses (Script config) old new ending =
     IsScriptEnd gives config.now old new ending
-IsCommandEnd gives serves Refuses (Serve config stop_file patience) old new ending =
-    IsServeEnd (gives config.now) serves (option_map (λ w. w.now) stop_file) patience old new ending
-IsCommandEnd gives serves Refuses (Plan config transfers) old new ending =
-    IsPrintEnd (PlanOf transfers) (gives config.now) Refuses old new ending
+IsCommandEnd gives serves Refuses (Serve config files patience) old new ending =
+    IsServeEnd (gives config.now) serves (option_map (λ w. w.now) files.stop_file)
+    (option_map (λ w. w.now) files.ready_file) patience old new ending
+IsCommandEnd gives serves Refuses (Plan config transfers json) old new ending =
+    IsPrintEnd (plan_print json transfers) (gives config.now) Refuses old new ending

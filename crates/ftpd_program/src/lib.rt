@@ -14,15 +14,17 @@
 
 mod ending;
 mod printing;
+mod ready;
 mod run;
 mod scripting;
 mod server;
 mod serving;
 mod start;
 
-pub use command_line::Patience;
+pub use command_line::{Patience, ServeFiles};
 pub use ending::{FtpdErrorText, FtpdExit};
 pub use printing::{Print, PrintFault, run_print};
+pub use ready::{ReadyFile, ReadyOutput};
 pub use run::run_words;
 pub use scripting::{ScriptFault, run_script};
 pub use server::{ServeFault, Server};

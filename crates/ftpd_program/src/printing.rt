@@ -3,10 +3,10 @@
 ghost use Rattle.std.specs.Prelude.{◌≡◌, ◌≢◌, ◌<◌, ℕ, List, true, IfErr, IfOk, IfSome, IsErrOf, OnOk, length, string_bytes};
 ghost use Rattle.text_io.specs.Texts.{IsTextOf};
 ghost use Rattle.ftpd_program.specs.Printing.{AppendsPrint, IsPlanRefusal, IsPrintFault, IsPrintOf, IsPrintRefusal};
-ghost use Rattle.plan_report.specs.Reports.{IsPlanReport};
+ghost use Rattle.plan_report.specs.Reports.{IsNoPlan, IsPlanJson, IsPlanReport};
 
 use config_report::report;
-use plan_report::{NoPlan, plan_lines};
+use plan_report::{NoPlan, plan_json, plan_lines};
 use server_config::{ConfigFault, migrate};
 use std::alloc::Global;
 use text_io::{MAX_TEXT, TextFault, TextReader, TextWriter, read_whole, write_whole};
@@ -18,8 +18,10 @@ pub enum Print<'w> {
     Report,
     /// Its text in version 2.
     Latest,
-    /// The plan of the transfers that a word states.
+    /// The plan of the transfers that a word states, in lines.
     Plan(&'w str),
+    /// The same plan as JSON.
+    PlanJson(&'w str),
 }
 
 /// The reason for which no text about a configuration is printed.
@@ -33,16 +35,35 @@ pub enum PrintFault {
     Transfers { name: &'static str, told: String },
 }
 
-/// Returns the plan of transfers by the configuration of these octets.
+fn unplanned(fault: NoPlan) -> PrintFault
+    ensures refused { (text : List ℕ) → IsNoPlan text fault → IsPlanRefusal text result }
+{
+    match fault {
+        NoPlan::Config(fault) => PrintFault::Config(fault),
+        NoPlan::Transfers { name, told } => PrintFault::Transfers { name, told },
+        NoPlan::Memory => PrintFault::Text(TextFault::Memory),
+    }
+}
+
+/// Returns the plan of transfers by the configuration of these octets, in lines.
 fn plan_about(alloc: Global, transfers: &str, octets: &[u8]) -> Result<String, PrintFault>
     ensures prints { IfOk result (λ _. IsPlanReport octets.now) }
     ensures refused { IfErr result (IsPlanRefusal octets.now) }
 {
     match plan_lines(alloc, octets, transfers) {
         Ok(text) => Ok(text),
-        Err(NoPlan::Config(fault)) => Err(PrintFault::Config(fault)),
-        Err(NoPlan::Transfers { name, told }) => Err(PrintFault::Transfers { name, told }),
-        Err(NoPlan::Memory) => Err(PrintFault::Text(TextFault::Memory)),
+        Err(fault) => Err(unplanned(fault)),
+    }
+}
+
+/// Returns the same plan as JSON.
+fn plan_json_about(alloc: Global, transfers: &str, octets: &[u8]) -> Result<String, PrintFault>
+    ensures prints { IfOk result (λ text. IsPlanJson octets.now (string_bytes text)) }
+    ensures refused { IfErr result (IsPlanRefusal octets.now) }
+{
+    match plan_json(alloc, octets, transfers) {
+        Ok(text) => Ok(text),
+        Err(fault) => Err(unplanned(fault)),
     }
 }
 
@@ -55,6 +76,7 @@ fn text_about(alloc: Global, print: Print<'_>, octets: &[u8]) -> Result<String, 
         Print::Report => report(alloc, octets),
         Print::Latest => migrate(alloc, octets),
         Print::Plan(transfers) => return plan_about(alloc, transfers, octets),
+        Print::PlanJson(transfers) => return plan_json_about(alloc, transfers, octets),
     };
     match text {
         Ok(text) => Ok(text),

@@ -1,9 +1,9 @@
 //! Running the command of a line's words.
 
-ghost use Rattle.std.specs.Prelude.{◌≡◌, ◌⊎◌, ◌∷◌, [], ℕ, List, None, Some, codes, map};
+ghost use Rattle.std.specs.Prelude.{◌≡◌, ◌⊎◌, ◌∷◌, [], ℕ, List, None, Some, codes, false, map, true};
 ghost use Rattle.clap.specs.Words.{subcommand_of};
 ghost use Rattle.command_line.specs.Commands.{ftpd};
-ghost use Rattle.command_line.specs.Given.{IsFound, IsPlainWord, IsRefusedFor, IsTaken};
+ghost use Rattle.command_line.specs.Given.{IsFound, IsPlainWord, IsRefusedFor, IsTaken, ready_words};
 ghost use Rattle.command_line.specs.Timed.{IsSeconds, timed_words, usual_patience};
 ghost use Rattle.client_patience.specs.declared.patience.Patience.{Patience};
 ghost use Rattle.command_line.specs.declared.words.Words.{Words};
@@ -13,7 +13,7 @@ ghost use Rattle.sheets_program.specs.Endings.{IsOutOfMemory, IsToldEnd};
 ghost use Rattle.sheets_program.specs.Runs.{IsCheckEnd, IsShareEnd};
 ghost use Rattle.ftpd_program.specs.Causes.{AreCommandOpened, AreScriptOpened, IsCommandWhy, IsReadWhy, IsScriptWhy};
 ghost use Rattle.ftpd_program.specs.Endings.{IsCommon, IsUnwritten};
-ghost use Rattle.ftpd_program.specs.Runs.{IsCommandEnd, IsPlanEnd, IsPrintEnd, IsScriptEnd};
+ghost use Rattle.ftpd_program.specs.Runs.{IsCommandEnd, IsPlanEnd, IsPrintEnd, IsScriptEnd, plan_print};
 ghost use Rattle.ftpd_program.specs.Serving.{IsServeEnd};
 
 use super::ending::FtpdExit;
@@ -61,6 +61,17 @@ fn print_text<'w, O: Opener, W: TextWriter>(
             let cause = text_cause(fault, config, O::reason(&file));
             FtpdExit::Common(Common::Text(fault, cause))
         }
+    }
+}
+
+/// The plan of transfers, as JSON or in lines.
+fn plan_print(transfers: &str, json: bool) -> Print<'_>
+    ensures print { result ≡ plan_print json transfers.entry }
+{
+    if json {
+        Print::PlanJson(transfers)
+    } else {
+        Print::Plan(transfers)
     }
 }
 
@@ -128,14 +139,16 @@ fn run_command<'w, O: Opener, W: TextWriter, V: Server<W>>(
         Words::CheckConfig { config } => { print_text(alloc, Print::Report, config, files, output) }
         Words::Migrate { config } => print_text(alloc, Print::Latest, config, files, output),
         Words::Script { config } => script(alloc, config, files, output),
-        Words::Plan { config, transfers } => {
-            print_text(alloc, Print::Plan(transfers), config, files, output)
-        }
+        Words::Plan {
+            config,
+            transfers,
+            json,
+        } => print_text(alloc, plan_print(transfers, json), config, files, output),
         Words::Serve {
             config,
-            stop_file,
+            files: signs,
             patience,
-        } => serve(alloc, config, stop_file, patience, files, server, output),
+        } => serve(alloc, config, signs, patience, files, server, output),
     }
 }
 
@@ -171,21 +184,30 @@ pub fn run_words<'w, O: Opener, W: TextWriter, V: Server<W>>(
         (W.contents output.old) (W.contents output.new) result }
     ensures serve { (config : List ℕ) → IsPlainWord config
         → map (λ s. s.now) words.now ≡ codes "serve" ∷ config ∷ []
-        → IsServeEnd (O.Gives files.old config) V.Serves None usual_patience
+        → IsServeEnd (O.Gives files.old config) V.Serves None None usual_patience
         (W.contents output.old) (W.contents output.new) result }
     ensures serve_until { (config path : List ℕ) → IsPlainWord config → IsPlainWord path
         → map (λ s. s.now) words.now ≡ codes "serve" ∷ config ∷ codes "--stop-file" ∷ path ∷ []
-        → IsServeEnd (O.Gives files.old config) V.Serves (Some path) usual_patience
+        → IsServeEnd (O.Gives files.old config) V.Serves (Some path) None usual_patience
+        (W.contents output.old) (W.contents output.new) result }
+    ensures serve_ready { (config path ready : List ℕ) → IsPlainWord config → IsPlainWord path
+        → IsPlainWord ready
+        → map (λ s. s.now) words.now ≡ ready_words config path ready
+        → IsServeEnd (O.Gives files.old config) V.Serves (Some path) (Some ready) usual_patience
         (W.contents output.old) (W.contents output.new) result }
     ensures serve_timed { (config first second third : List ℕ) (p : Patience) → IsPlainWord config
         → IsSeconds first p.login_timeout → IsSeconds second p.idle_timeout
         → IsSeconds third p.login_delay
         → map (λ s. s.now) words.now ≡ timed_words config first second third
-        → IsServeEnd (O.Gives files.old config) V.Serves None p
+        → IsServeEnd (O.Gives files.old config) V.Serves None None p
         (W.contents output.old) (W.contents output.new) result }
     ensures plan { (config transfers : List ℕ) → IsPlainWord config → IsPlainWord transfers
         → map (λ s. s.now) words.now ≡ codes "plan" ∷ config ∷ transfers ∷ []
-        → IsPlanEnd (O.Gives files.old config) transfers (W.may_refuse output.old)
+        → IsPlanEnd false (O.Gives files.old config) transfers (W.may_refuse output.old)
+        (W.contents output.old) (W.contents output.new) result }
+    ensures plan_json { (config transfers : List ℕ) → IsPlainWord config → IsPlainWord transfers
+        → map (λ s. s.now) words.now ≡ codes "plan" ∷ config ∷ transfers ∷ codes "--json" ∷ []
+        → IsPlanEnd true (O.Gives files.old config) transfers (W.may_refuse output.old)
         (W.contents output.old) (W.contents output.new) result }
     ensures command { IsTaken (map (λ s. s.now) words.now)
         → IsCommon IsOutOfMemory result ⊎ ((command : Words)

@@ -3,7 +3,7 @@
 ghost use Rattle.std.specs.Prelude.{option_map};
 ghost use Rattle.ftpd_program.specs.Serving.{Service};
 
-use command_line::Patience;
+use command_line::{Patience, ServeFiles};
 use server_config::Config;
 use std::alloc::{AllocError, Global};
 use text_io::TextWriter;
@@ -30,6 +30,9 @@ pub enum ServeFault {
     /// The stop file was there at the start, or could never be noticed: its folder is not there.
     #[error("Stopped")]
     Stopped,
+    /// The ready file could not be made: it is there already, or the machine reports an error.
+    #[error("ReadyFile")]
+    ReadyFile,
 }
 
 impl From<AllocError> for ServeFault {
@@ -45,22 +48,23 @@ impl From<AllocError> for ServeFault {
 
 /// A server of clients. It writes a message to an output when it is ready, and the settled counts at its end.
 pub trait Server<W: TextWriter> {
-    /// The possible calls: the configuration, the stop file, the patience, the contents of the output before and after,
-    /// and the result.
-    ghost Serves: { Service } = { λ _ _ _ _ _ _. Unit {0} };
+    /// The possible calls: the configuration, the stop file, the ready file, the patience, the contents of the output
+    /// before and after, and the result.
+    ghost Serves: { Service } = { λ _ _ _ _ _ _ _. Unit {0} };
 
     /// Serves clients by a configuration, until it has had its number of sessions, or until a file exists at the path
-    /// of the stop file. It waits for a client as the patience says. The warnings of the configuration, a line each, are
-    /// to be noted.
+    /// of the stop file. The ready file is made once clients may connect, and removed at the end. It waits for a client
+    /// as the patience says. The warnings of the configuration, a line each, are to be noted.
     fn serve(
         &mut self,
         alloc: Global,
         config: Config,
         warnings: &str,
-        stop_file: Option<&str>,
+        files: ServeFiles<'_>,
         patience: Patience,
         output: &mut W,
     ) -> Result<(), ServeFault>
-        ensures served { Serves config (option_map (λ w. w.now) stop_file.entry) patience
+        ensures served { Serves config (option_map (λ w. w.now) files.entry.stop_file)
+            (option_map (λ w. w.now) files.entry.ready_file) patience
             (W.contents output.old) (W.contents output.new) result };
 }

@@ -8,7 +8,7 @@ ghost use Rattle.ftpd_program.specs.Serving.{IsConfigIn, IsServeEnd, IsUnconfigu
 use crate::ending::FtpdExit;
 use crate::scripting::{ScriptFault, read_config};
 use crate::server::{ServeFault, Server};
-use command_line::Patience;
+use command_line::{Patience, ServeFiles};
 use server_config::Config;
 use sheets_program::{Exit as Common, Opener, text_cause};
 use std::alloc::Global;
@@ -59,14 +59,15 @@ fn ended<'w>(answer: Result<(), ServeFault>) -> FtpdExit<'w>
 pub(crate) fn serve<'w, O: Opener, W: TextWriter, V: Server<W>>(
     alloc: Global,
     config: &'w str,
-    stop_file: Option<&str>,
+    signs: ServeFiles<'_>,
     patience: Patience,
     files: &mut O,
     server: &mut V,
     output: &mut W,
 ) -> FtpdExit<'w>
     ensures end { IsServeEnd (O.Gives files.old config.now) V.Serves
-        (option_map (λ w. w.now) stop_file.entry) patience
+        (option_map (λ w. w.now) signs.entry.stop_file)
+        (option_map (λ w. w.now) signs.entry.ready_file) patience
         (W.contents output.old) (W.contents output.new) result }
     ensures why { IsReadWhy config.now
         (O.MayRefuse files.old config.now ⊎ O.MayFail files.old config.now) result }
@@ -77,7 +78,7 @@ pub(crate) fn serve<'w, O: Opener, W: TextWriter, V: Server<W>>(
     match config_at(alloc, config, files, &mut warnings) {
         Ok(config) => {
             let told = warnings.as_str();
-            ended(server.serve(alloc, config, told, stop_file, patience, output))
+            ended(server.serve(alloc, config, told, signs, patience, output))
         }
         Err(ending) => ending,
     }

@@ -1,9 +1,20 @@
 -- Transfers are planned by the rates of the configuration that was read.
-use Rattle.std.proofs.Common.{IfOk, List, ℕ, Result, Ok, Err}
+use Rattle.std.proofs.Common.{◌≡◌, IfOk, List, ℕ, Some, Result, Ok, Err}
+use Rattle.toml.specs.Data.{Members}
+use Rattle.toml.specs.Parse.{parse_document}
+use Rattle.config_file.specs.Tables.{IsTables}
+use Rattle.config_file.specs.declared.tables.Tables.{Tables}
 use Rattle.server_config.specs.Configs.{IsConfigText}
 use Rattle.server_config.specs.declared.config.Config.{Config}
-use Rattle.plan_report.specs.Reports.{HasShares, IsPlanReport}
+use Rattle.plan_report.specs.Reports.{HasShares, IsPlanJson, IsPlanReport, IsPlanText}
 
 pub reported : {T E : Type 0} (r : Result T E) (octets : List ℕ) (config : Config) → IsConfigText octets config → IfOk r (λ _. HasShares config.limits) → IfOk r (λ _. IsPlanReport octets)
 reported (Ok x) octets config read shares = record { config = config; read = read; shares = shares }
 reported (Err e) octets config read shares = shares
+
+-- The JSON has the plan by the tables of the document that was read.
+pub told : {T E : Type 0} (bytes : T → List ℕ) (r : Result T E) (octets : List ℕ) (config : Config) (document : Members) (tables : Tables) → IsConfigText octets config → parse_document octets ≡ Some document
+    → IsTables document tables → IfOk r (λ text. IsPlanText tables config.limits (bytes text)) → IfOk r (λ text. IsPlanJson octets (bytes text))
+told bytes (Ok x) octets config document tables read parsed stated plan =
+    record { config = config; configured = read; document = document; parsed = parsed; tables = tables; stated = stated; plan = plan }
+told bytes (Err e) octets config document tables read parsed stated plan = plan

@@ -1,1 +1,2 @@
+pub mod PlanData
 pub mod Reports

@@ -1,6 +1,13 @@
 -- The plan of a configuration. It is proved that a plan of some transfers is printed from shares
--- that are best; which transfers a word states, and the lines, are only tested.
-use Rattle.std.specs.Prelude.{ℕ, List, min}
+-- that are best, and that the JSON has these shares; which transfers a word states, and the lines,
+-- are only tested.
+use Rattle.std.specs.Prelude.{◌≡◌, ◌++◌, ℕ, List, [], ◌∷◌, Some}
+use Rattle.serde_json.specs.Data.{Data}
+use Rattle.serde_json.specs.Read.{read}
+use Rattle.toml.specs.Data.{Members}
+use Rattle.toml.specs.Parse.{parse_document}
+use Rattle.config_file.specs.Tables.{IsTables}
+use Rattle.config_file.specs.declared.tables.Tables.{Tables}
 use Rattle.rate_plan.specs.Plan.{IsPlanned}
 use Rattle.rate_plan.specs.declared.asks.Transfer.{Transfer}
 use Rattle.rate_plan.specs.declared.shares.TransferShare.{TransferShare}
@@ -8,6 +15,7 @@ use Rattle.line_rates.specs.Rates.{Rates}
 use Rattle.server_config.specs.Configs.{IsConfigText}
 use Rattle.server_config.specs.Refused.{IsFaultOfText}
 use Rattle.server_config.specs.declared.config.Config.{Config}
+use Rattle.plan_report.specs.PlanData.{IsPlanData}
 use Rattle.plan_report.specs.declared.fault.NoPlan.{NoPlan}
 use Rattle.plan_report.specs.declared.fault.NoPlan.TheVariants.{Config as Unread, Transfers, Memory}
 
@@ -24,6 +32,34 @@ pub record IsPlanReport (octets : List ℕ) : Type 0 where
   pub config : Config
   pub read : IsConfigText octets config
   pub shares : HasShares config.limits
+
+-- these are the shares of some transfers, planned by these rates
+abbrev pub ArePlanned : Rates → List TransferShare → Type 0
+ArePlanned rates shares =
+    (sessions lanes : ℕ) × (transfers : List Transfer)
+    × IsPlanned rates sessions lanes transfers shares
+
+-- a text of JSON and a line feed; the JSON has the plan of some transfers by these rates, with the
+-- names of these tables
+pub record IsPlanText (tables : Tables) (rates : Rates) (text : List ℕ) : Type 0 where
+  pub shares : List TransferShare
+  pub planned : ArePlanned rates shares
+  pub json : List ℕ
+  pub ends : text ≡ json ++ 10 ∷ []
+  pub value : Data
+  pub reads : read json ≡ Some value
+  pub has : IsPlanData tables shares value
+
+-- the octets have a configuration, and the text has the plan of some transfers by its rates, with
+-- the names that its tables state
+pub record IsPlanJson (octets text : List ℕ) : Type 0 where
+  pub config : Config
+  pub configured : IsConfigText octets config
+  pub document : Members
+  pub parsed : parse_document octets ≡ Some document
+  pub tables : Tables
+  pub stated : IsTables document tables
+  pub plan : IsPlanText tables config.limits text
 
 -- the configuration is refused for that fault
 abbrev pub IsNoPlan : List ℕ → NoPlan → Type 0

@@ -1,5 +1,8 @@
 //! The lines of a plan.
 
+ghost use Rattle.std.specs.Prelude.{◌≡◌, ◌++◌, OnOk, string_bytes};
+ghost use Rattle.plan_report.specs.PlanData.{group_text, held_text, user_text, way_text};
+
 use crate::parts::{Part, parts_of, total_of};
 use config_file::{GroupTable, ServerTable, UserTable};
 use line_rates::{Name, Way};
@@ -14,21 +17,27 @@ pub(crate) struct Named<'t, 'a> {
     pub users: &'t [UserTable<'a>],
 }
 
-pub(crate) fn way_text(way: Way) -> &'static str {
+pub(crate) fn way_text(way: Way) -> &'static str
+    ensures text { result.now ≡ way_text way }
+{
     match way {
         Way::Down => "down",
         Way::Up => "up",
     }
 }
 
-pub(crate) fn user_name<'a>(named: Named<'_, 'a>, user: u32) -> &'a str {
+pub(crate) fn user_name<'a>(named: Named<'_, 'a>, user: u32) -> &'a str
+    ensures name { result.now ≡ user_text named.entry.users.now user }
+{
     match named.users.get(user as usize) {
         Some(table) => table.name,
         None => "?",
     }
 }
 
-fn group_name<'a>(named: Named<'_, 'a>, group: u32) -> &'a str {
+fn group_name<'a>(named: Named<'_, 'a>, group: u32) -> &'a str
+    ensures name { result.now ≡ group_text named.entry.groups.now group }
+{
     match named.groups.get(group as usize) {
         Some(table) => table.name,
         None => "?",
@@ -40,7 +49,10 @@ pub(crate) fn write_held(
     text: &mut String,
     named: Named<'_, '_>,
     held: Option<Name>,
-) -> Result<(), AllocError> {
+) -> Result<(), AllocError>
+    ensures held { OnOk result (string_bytes text.new
+        ≡ string_bytes text.old ++ held_text named.entry.groups.now named.entry.users.now held) }
+{
     match held {
         None => text.push_str("want"),
         Some(Name::Server) => text.push_str("server"),

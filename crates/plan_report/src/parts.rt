@@ -1,5 +1,8 @@
 //! Transfers of one user that get the same, as one part.
 
+ghost use Rattle.std.specs.Prelude.{◌≡◌};
+ghost use Rattle.plan_report.specs.PlanData.{total};
+
 use line_rates::{Name, Way};
 use rate_plan::TransferShare;
 use std::alloc::{AllocError, Global};
@@ -68,7 +71,9 @@ pub(crate) fn parts_of(alloc: Global, shares: &[TransferShare]) -> Result<Vec<Pa
 }
 
 /// The sum of what shares of one way get, in octets a second.
-pub(crate) fn total_of(shares: &[TransferShare], way: Way) -> u64 {
+pub(crate) fn total_of(shares: &[TransferShare], way: Way) -> u64
+    ensures total { result ≡ total way shares.now }
+{
     let mut total: u64 = 0;
     for share in shares {
         if share.ask.way == way {

@@ -1,10 +1,12 @@
 //! The plan of a configuration, from its text.
 
-ghost use Rattle.std.specs.Prelude.{IfErr, IfOk};
-ghost use Rattle.plan_report.specs.Reports.{HasShares, IsNoPlan, IsNoPlanOf, IsPlanReport};
+ghost use Rattle.std.specs.Prelude.{◌≡◌, IfErr, IfOk, string_bytes};
+ghost use Rattle.server_config.specs.Configs.{IsConfigText};
+ghost use Rattle.plan_report.specs.Reports.{ArePlanned, HasShares, IsNoPlan, IsNoPlanOf, IsPlanJson, IsPlanReport, IsPlanText};
 
 use crate::fault::NoPlan;
 use crate::lines::{Named, lines_of, user_name, way_text, write_held};
+use crate::values::json_text;
 use crate::wishes::{too_many, transfers_of};
 use config_file::{Tables, read_tables};
 use line_rates::{Limits, Name};
@@ -84,37 +86,75 @@ fn no_plan(
     }
 }
 
-fn told_of(alloc: Global, tables: &Tables, limits: &Limits, wishes: &str) -> Result<String, NoPlan>
-    ensures shares { IfOk result (λ _. HasShares limits.now) }
-    ensures fault { IfErr result IsNoPlanOf }
+fn named_of<'t, 'a>(tables: &'t Tables<'a>) -> Named<'t, 'a>
+    ensures server { result.server.now ≡ tables.now.server }
+    ensures groups { result.groups.now ≡ tables.now.groups.items }
+    ensures users { result.users.now ≡ tables.now.users.items }
 {
-    let named = Named {
+    Named {
         server: &tables.server,
         groups: tables.groups.as_slice(),
         users: tables.users.as_slice(),
-    };
+    }
+}
+
+/// The shares of the transfers that a word states.
+fn shares_of(
+    alloc: Global,
+    named: Named<'_, '_>,
+    limits: &Limits,
+    wishes: &str,
+) -> Result<Vec<TransferShare>, NoPlan>
+    ensures planned { IfOk result (λ shares. ArePlanned limits.now shares.items) }
+    ensures fault { IfErr result IsNoPlanOf }
+{
     let transfers = transfers_of(alloc, named.users, wishes)?;
     let (sessions, lanes) = (named.server.max_cons as usize, named.server.lanes as usize);
     match plan_of(alloc, limits, sessions, lanes.min(256), &transfers) {
-        Ok(shares) => {
-            let text = lines_of(alloc, named, &shares)?;
-            Ok(text)
-        }
+        Ok(shares) => Ok(shares),
         Err(fault) => Err(no_plan(alloc, named, limits, &transfers, fault)),
     }
 }
 
-/// The plan of the transfers that a word states, by a configuration's text: who gets how much of a second, and which
-/// limit holds each back.
+fn told_of(alloc: Global, tables: &Tables, limits: &Limits, wishes: &str) -> Result<String, NoPlan>
+    ensures shares { IfOk result (λ _. HasShares limits.now) }
+    ensures fault { IfErr result IsNoPlanOf }
+{
+    let named = named_of(tables);
+    let shares = shares_of(alloc, named, limits, wishes)?;
+    let text = lines_of(alloc, named, &shares)?;
+    Ok(text)
+}
+
+fn json_of(alloc: Global, tables: &Tables, limits: &Limits, wishes: &str) -> Result<String, NoPlan>
+    ensures plan { IfOk result (λ text. IsPlanText tables.now limits.now (string_bytes text)) }
+    ensures fault { IfErr result IsNoPlanOf }
+{
+    let named = named_of(tables);
+    let shares = shares_of(alloc, named, limits, wishes)?;
+    let text = json_text(alloc, named, &shares)?;
+    Ok(text)
+}
+
+/// The configuration of a text.
+fn config_of(alloc: Global, octets: &[u8]) -> Result<Config, NoPlan>
+    ensures config { IfOk result (IsConfigText octets.now) }
+    ensures fault { IfErr result (IsNoPlan octets.now) }
+{
+    match Config::read(alloc, octets) {
+        Ok(config) => Ok(config),
+        Err(ConfigFault::Memory) => Err(NoPlan::Memory),
+        Err(fault) => Err(NoPlan::Config(fault)),
+    }
+}
+
+/// The plan of the transfers that a word states, by a configuration's text, in lines: who gets how much of a second, and
+/// which limit holds each back.
 pub fn plan_lines(alloc: Global, octets: &[u8], wishes: &str) -> Result<String, NoPlan>
     ensures planned { IfOk result (λ _. IsPlanReport octets.now) }
     ensures fault { IfErr result (IsNoPlan octets.now) }
 {
-    let config = match Config::read(alloc, octets) {
-        Ok(config) => config,
-        Err(ConfigFault::Memory) => return Err(NoPlan::Memory),
-        Err(fault) => return Err(NoPlan::Config(fault)),
-    };
+    let config = config_of(alloc, octets)?;
     let Ok(document) = toml::table_from_slice(alloc, octets) else {
         return Err(NoPlan::Memory);
     };
@@ -122,4 +162,19 @@ pub fn plan_lines(alloc: Global, octets: &[u8], wishes: &str) -> Result<String, 
         return Err(NoPlan::Memory);
     };
     told_of(alloc, &tables, &config.limits, wishes)
+}
+
+/// The same plan as JSON, with a row for each transfer, and a line feed.
+pub fn plan_json(alloc: Global, octets: &[u8], wishes: &str) -> Result<String, NoPlan>
+    ensures planned { IfOk result (λ text. IsPlanJson octets.now (string_bytes text)) }
+    ensures fault { IfErr result (IsNoPlan octets.now) }
+{
+    let config = config_of(alloc, octets)?;
+    let Ok(document) = toml::table_from_slice(alloc, octets) else {
+        return Err(NoPlan::Memory);
+    };
+    let Ok(tables) = read_tables(alloc, &document) else {
+        return Err(NoPlan::Memory);
+    };
+    json_of(alloc, &tables, &config.limits, wishes)
 }

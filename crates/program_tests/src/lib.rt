@@ -11,6 +11,8 @@ mod examples;
 #[cfg(test)]
 mod expect;
 #[cfg(test)]
+mod ready;
+#[cfg(test)]
 mod runs;
 #[cfg(test)]
 mod servers;

@@ -3,7 +3,9 @@
 use crate::ends::{Files, Given};
 use crate::expect::{holds, same, tells};
 use crate::texts::SMALL;
-use ftpd_program::{FtpdErrorText, FtpdExit, Patience, ServeFault, Server, StartFault, run_words};
+use ftpd_program::{
+    FtpdErrorText, FtpdExit, Patience, ServeFault, ServeFiles, Server, StartFault, run_words,
+};
 use server_config::Config;
 use std::alloc::Global;
 use std::io;
@@ -19,6 +21,8 @@ pub(crate) struct Noting {
     port: u16,
     /// The last stop file.
     stop_file: Option<String>,
+    /// The last ready file.
+    ready_file: Option<String>,
     /// The last patience.
     patience: Option<Patience>,
     /// The last configuration had warnings.
@@ -32,10 +36,19 @@ impl Noting {
             calls: 0,
             port: 0,
             stop_file: None,
+            ready_file: None,
             patience: None,
             is_warned: false,
             fault: None,
         }
+    }
+}
+
+/// A copy of a path.
+fn copied(alloc: Global, path: Option<&str>) -> Option<String> {
+    match path {
+        Some(path) => String::from_str(alloc, path).ok(),
+        None => None,
     }
 }
 
@@ -45,17 +58,15 @@ impl<W: TextWriter> Server<W> for Noting {
         alloc: Global,
         config: Config,
         warnings: &str,
-        stop_file: Option<&str>,
+        files: ServeFiles<'_>,
         patience: Patience,
         output: &mut W,
     ) -> Result<(), ServeFault> {
         self.is_warned = !warnings.is_empty();
         self.calls = self.calls.saturating_add(1);
         self.port = config.numbers.port;
-        self.stop_file = match stop_file {
-            Some(path) => String::from_str(alloc, path).ok(),
-            None => None,
-        };
+        self.stop_file = copied(alloc, files.stop_file);
+        self.ready_file = copied(alloc, files.ready_file);
         self.patience = Some(patience);
         if output.write_text(b"ready\n").is_err() {
             return Err(ServeFault::WriteFault);
@@ -100,7 +111,10 @@ fn a_server_is_called(rt: HostRuntime) {
     holds(&rt, ending.status() == 0);
     holds(&rt, server.calls == 1 && server.port == 2121);
     holds(&rt, server.is_warned); // of its passive ports
-    holds(&rt, server.stop_file.is_none());
+    holds(
+        &rt,
+        server.stop_file.is_none() && server.ready_file.is_none(),
+    );
     same(&rt, &output, "ready\n");
     let usual = Patience {
         login_timeout: 60,
@@ -108,24 +122,44 @@ fn a_server_is_called(rt: HostRuntime) {
         login_delay: 1,
     };
     holds(&rt, server.patience == Some(usual));
-    let words = ["serve", "file", "--stop-file", "stop"];
-    let ending = served(&rt, &words, SMALL, &mut server, &mut output);
-    holds(&rt, ending.status() == 0);
-    holds(&rt, server.calls == 2);
-    match &server.stop_file {
-        Some(path) => same(&rt, path.as_str().as_bytes(), "stop"),
-        None => holds(&rt, false),
+}
+
+/// Checks that a server was given this path.
+fn is_path(rt: &impl Abort, given: &Option<String>, wanted: &str) {
+    match given {
+        Some(path) => same(rt, path.as_str().as_bytes(), wanted),
+        None => holds(rt, false),
     }
 }
 
+#[test]
+fn a_server_is_given_its_files(rt: HostRuntime) {
+    let mut output = Vec::new(rt.alloc());
+    let mut server = Noting::new();
+    let words = [
+        "serve",
+        "file",
+        "--stop-file",
+        "stop",
+        "--ready-file",
+        "ready",
+    ];
+    let ending = served(&rt, &words, SMALL, &mut server, &mut output);
+    holds(&rt, ending.status() == 0);
+    holds(&rt, server.calls == 1);
+    is_path(&rt, &server.stop_file, "stop");
+    is_path(&rt, &server.ready_file, "ready");
+}
+
 /// Faults of a server, and their names.
-static FAULTS: [(ServeFault, &str); 6] = [
+static FAULTS: [(ServeFault, &str); 7] = [
     (ServeFault::Bind, "ftpd: Bind\n"),
     (ServeFault::NoThread, "ftpd: NoThread\n"),
     (ServeFault::WriteFault, "ftpd: WriteFault\n"),
     (ServeFault::Store, "ftpd: Store\n"),
     (ServeFault::Memory, "ftpd: Memory\n"),
     (ServeFault::Stopped, "ftpd: Stopped\n"),
+    (ServeFault::ReadyFile, "ftpd: ReadyFile\n"),
 ];
 
 #[test]
@@ -204,6 +238,29 @@ fn stop_files_are_explained(rt: HostRuntime) {
         ServeFault::Stopped,
         &unseen,
         "the stop file /gone/stop could not be noticed: No such file or directory (os error 2)\nftpd: Stopped\n",
+    );
+}
+
+#[test]
+fn ready_files_are_explained(rt: HostRuntime) {
+    let there = StartFault::ReadyFileThere {
+        path: text(&rt, "/run/ftpd/ready"),
+    };
+    starts_not(
+        &rt,
+        ServeFault::ReadyFile,
+        &there,
+        "/run/ftpd/ready is there already: remove it\nftpd: ReadyFile\n",
+    );
+    let unmade = StartFault::ReadyFileUnmade {
+        path: text(&rt, "/gone/ready"),
+        reason: io::Error::from_raw_os_error(2),
+    };
+    starts_not(
+        &rt,
+        ServeFault::ReadyFile,
+        &unmade,
+        "the ready file /gone/ready could not be made: No such file or directory (os error 2)\nftpd: ReadyFile\n",
     );
 }
 

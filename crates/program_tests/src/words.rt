@@ -1,7 +1,7 @@
 //! The commands that words of command lines are read as.
 
 use crate::expect::holds;
-use command_line::{Patience, SheetWords, Words, read_sheet_words, read_words};
+use command_line::{Patience, ServeFiles, SheetWords, Words, read_sheet_words, read_words};
 use std::process::Abort;
 
 #[test]
@@ -18,18 +18,24 @@ fn words_on_a_configuration(rt: HostRuntime) {
     holds(&rt, command == Words::Script { config });
 }
 
-/// Checks that these words are those of `serve` for `office.toml`, with that stop file and that patience.
+/// The files of words that name none.
+const NO_FILES: ServeFiles<'static> = ServeFiles {
+    stop_file: None,
+    ready_file: None,
+};
+
+/// Checks that these words are those of `serve` for `office.toml`, with those files and that patience.
 fn serves(
     rt: &(impl Abort + AllocGlobal),
     words: &[&str],
-    stop_file: Option<&str>,
+    files: ServeFiles<'_>,
     patience: Patience,
 ) {
     let command = read_words(rt.alloc(), words).expect(rt, "a command");
     let config = "office.toml";
     let wanted = Words::Serve {
         config,
-        stop_file,
+        files,
         patience,
     };
     holds(rt, command == wanted);
@@ -43,16 +49,41 @@ fn words_on_a_server(rt: HostRuntime) {
         idle_timeout: 0,
         login_delay: 1,
     };
-    serves(&rt, &["serve", config], None, usual);
-    let stop_file = Some("/run/ftpd.stop");
+    serves(&rt, &["serve", config], NO_FILES, usual);
+    let stopped = ServeFiles {
+        stop_file: Some("/run/ftpd.stop"),
+        ready_file: None,
+    };
     for words in [
         ["serve", config, "--stop-file", "/run/ftpd.stop"],
         ["serve", "--stop-file", "/run/ftpd.stop", config],
     ] {
-        serves(&rt, &words, stop_file, usual);
+        serves(&rt, &words, stopped, usual);
     }
     let words = ["serve", "--stop-file=/run/ftpd.stop", config];
-    serves(&rt, &words, stop_file, usual);
+    serves(&rt, &words, stopped, usual);
+    let ready = ServeFiles {
+        stop_file: None,
+        ready_file: Some("/run/ftpd.ready"),
+    };
+    let words = ["serve", config, "--ready-file", "/run/ftpd.ready"];
+    serves(&rt, &words, ready, usual);
+}
+
+#[test]
+fn words_on_a_plan(rt: HostRuntime) {
+    let (config, transfers) = ("office.toml", "ann=1");
+    for json in [false, true] {
+        let words = ["plan", config, transfers, "--json"];
+        let words = if json { &words[..] } else { &words[..3] };
+        let command = read_words(rt.alloc(), words).expect(&rt, "a command");
+        let wanted = Words::Plan {
+            config,
+            transfers,
+            json,
+        };
+        holds(&rt, command == wanted);
+    }
 }
 
 #[test]
@@ -72,7 +103,7 @@ fn words_on_patience(rt: HostRuntime) {
         "--login-timeout",
         "0",
     ];
-    serves(&rt, &words, None, stated);
+    serves(&rt, &words, NO_FILES, stated);
 }
 
 /// Checks that both programs read the words as that command.

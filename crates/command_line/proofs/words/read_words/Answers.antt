@@ -1,12 +1,12 @@
-use Rattle.std.proofs.Common.{codes, inl, inr, refl, sym, [], ◌≡◌, ◌∙◌, ap, ap₂, subst, map, ℕ, List, Option, true}
+use Rattle.std.proofs.Common.{None, Some, Bool, codes, inl, inr, refl, sym, [], ◌≡◌, ◌∙◌, ap, ap₂, subst, map, ℕ, List, Option, true}
 use Rattle.std.specs.Borrow.{Bor}
 use Rattle.command_line.specs.Commands.{ftpd}
-use Rattle.command_line.specs.Given.{IsFound, IsRefusal, IsServe}
+use Rattle.command_line.specs.Given.{IsFound, IsPlanWords, IsRefusal, IsServe}
 use Rattle.command_line.specs.Timed.{IsTimedBy, IsUntimed, usual_patience}
-use Rattle.clap.specs.Words.{App, Row, Text, app_of, fault_of, is_simple, is_simple_and_free, subcommand_of, takes}
-use Rattle.command_line.proofs.Taken.{refused_by_none, ftpd_is_free, ftpd_is_simple, ftpd_checks, ftpd_shares, checks_config, migrates, plans, scripts, serves}
+use Rattle.clap.specs.Words.{App, Row, Text, app_of, fault_of, is_simple, is_simple_and_free, first_of, subcommand_of, takes}
+use Rattle.command_line.proofs.Taken.{refused_by_none, ftpd_is_free, ftpd_is_simple, ftpd_checks, ftpd_shares, checks_config, migrates, plans, plans_json, scripts, serves}
 use Rattle.command_line.proofs.Seconds.{patient, refused_other, refused_timed, seconds_plain, timed_by, usual}
-use Rattle.command_line.proofs.ServeWords.{serves_timed, serves_until}
+use Rattle.command_line.proofs.ServeWords.{serves_ready, serves_timed, serves_until}
 use Rattle.command_line.proofs.GivenCommand.{check_config_is, check_of_sheets, ftpd_found, migrate_is, plan_is, script_is, serve_is, share_of_sheets}
 use Rattle.command_line.proofs.words.read_words.Goals as goal
 
@@ -38,6 +38,10 @@ pub returns-in-Err-clause-serve_until : goal.returns-in-Err-clause-serve_until
 returns-in-Err-clause-serve_until c = λ word path plain also are.
     c.in-Err.ensures.takes (ap₂ takes c.in-Ok.ensures.ftpd are ∙ (serves_until word path plain also).taken)
 
+pub returns-in-Err-clause-serve_ready : goal.returns-in-Err-clause-serve_ready
+returns-in-Err-clause-serve_ready c = λ word path ready plain also third are.
+    c.in-Err.ensures.takes (ap₂ takes c.in-Ok.ensures.ftpd are ∙ (serves_ready word path ready plain also third).taken)
+
 pub returns-in-Err-clause-serve_timed : goal.returns-in-Err-clause-serve_timed
 returns-in-Err-clause-serve_timed c = λ word first second third p plain one two three are.
     let held = serves_timed word first second third plain (seconds_plain first _ one) (seconds_plain second _ two) (seconds_plain third _ three) in
@@ -46,6 +50,10 @@ returns-in-Err-clause-serve_timed c = λ word first second third p plain one two
 pub returns-in-Err-clause-plan : goal.returns-in-Err-clause-plan
 returns-in-Err-clause-plan c = λ word stated plain also are.
     c.in-Err.ensures.takes (ap₂ takes c.in-Ok.ensures.ftpd are ∙ (plans word stated plain also).taken)
+
+pub returns-in-Err-clause-plan_json : goal.returns-in-Err-clause-plan_json
+returns-in-Err-clause-plan_json c = λ word stated plain also are.
+    c.in-Err.ensures.takes (ap₂ takes c.in-Ok.ensures.ftpd are ∙ (plans_json word stated plain also).taken)
 
 pub returns-in-Err-clause-refused : goal.returns-in-Err-clause-refused
 returns-in-Err-clause-refused c =
@@ -118,6 +126,13 @@ returns-in-Err-stated_patience-clause-serve_until c = λ word path plain also ar
     let entered = c.in-Ok-parsed.ensures.found simple ∙ ap₂ subcommand_of c.in-Ok.ensures.ftpd are ∙ held.entered in
     refused_timed _ _ _ (timed_by _ _ held.rows entered (usual held.rows held.usual)) c.in-Err-stated_patience.ensures.refused
 
+pub returns-in-Err-stated_patience-clause-serve_ready : goal.returns-in-Err-stated_patience-clause-serve_ready
+returns-in-Err-stated_patience-clause-serve_ready c = λ word path ready plain also third are.
+    let held = serves_ready word path ready plain also third in
+    let simple : is_simple (app_of c.in-Ok.command) ≡ true = ap is_simple c.in-Ok.ensures.ftpd ∙ ftpd_is_simple in
+    let entered = c.in-Ok-parsed.ensures.found simple ∙ ap₂ subcommand_of c.in-Ok.ensures.ftpd are ∙ held.entered in
+    refused_timed _ _ _ (timed_by _ _ held.rows entered (usual held.rows held.usual)) c.in-Err-stated_patience.ensures.refused
+
 pub returns-in-Err-stated_patience-clause-serve_timed : goal.returns-in-Err-stated_patience-clause-serve_timed
 returns-in-Err-stated_patience-clause-serve_timed c = λ word first second third p plain one two three are.
     let held = serves_timed word first second third plain (seconds_plain first _ one) (seconds_plain second _ two) (seconds_plain third _ three) in
@@ -129,6 +144,13 @@ returns-in-Err-stated_patience-clause-serve_timed c = λ word first second third
 pub returns-in-Err-stated_patience-clause-plan : goal.returns-in-Err-stated_patience-clause-plan
 returns-in-Err-stated_patience-clause-plan c = λ word stated plain also are.
     let held = plans word stated plain also in
+    let simple : is_simple (app_of c.in-Ok.command) ≡ true = ap is_simple c.in-Ok.ensures.ftpd ∙ ftpd_is_simple in
+    let entered = c.in-Ok-parsed.ensures.found simple ∙ ap₂ subcommand_of c.in-Ok.ensures.ftpd are ∙ held.entered in
+    refused_other _ (codes "plan") held.rows _ refl entered c.in-Err-stated_patience.ensures.refused
+
+pub returns-in-Err-stated_patience-clause-plan_json : goal.returns-in-Err-stated_patience-clause-plan_json
+returns-in-Err-stated_patience-clause-plan_json c = λ word stated plain also are.
+    let held = plans_json word stated plain also in
     let simple : is_simple (app_of c.in-Ok.command) ≡ true = ap is_simple c.in-Ok.ensures.ftpd ∙ ftpd_is_simple in
     let entered = c.in-Ok-parsed.ensures.found simple ∙ ap₂ subcommand_of c.in-Ok.ensures.ftpd are ∙ held.entered in
     refused_other _ (codes "plan") held.rows _ refl entered c.in-Err-stated_patience.ensures.refused
@@ -203,16 +225,27 @@ returns-clause-serve c = λ word plain are.
     let held = serves word plain in
     let simple : is_simple (app_of c.in-Ok.command) ≡ true = ap is_simple c.in-Ok.ensures.ftpd ∙ ftpd_is_simple in
     let entered = c.in-Ok-parsed.ensures.found simple ∙ ap₂ subcommand_of c.in-Ok.ensures.ftpd are ∙ held.entered in
-    subst (λ (path : Option Text). IsServe word path usual_patience c.in-Some.words) held.no_path
-    (serve_is _ _ held.rows word usual_patience entered held.config (usual held.rows held.usual) c.in-Some.ensures.found)
+    subst (λ (ready : Option Text). IsServe word None ready usual_patience c.in-Some.words) held.no_ready
+    (subst (λ (path : Option Text). IsServe word path (first_of (codes "ready-file") held.rows) usual_patience c.in-Some.words) held.no_path
+    (serve_is _ _ held.rows word usual_patience entered held.config (usual held.rows held.usual) c.in-Some.ensures.found))
 
 pub returns-clause-serve_until : goal.returns-clause-serve_until
 returns-clause-serve_until c = λ word path plain also are.
     let held = serves_until word path plain also in
     let simple : is_simple (app_of c.in-Ok.command) ≡ true = ap is_simple c.in-Ok.ensures.ftpd ∙ ftpd_is_simple in
     let entered = c.in-Ok-parsed.ensures.found simple ∙ ap₂ subcommand_of c.in-Ok.ensures.ftpd are ∙ held.entered in
-    subst (λ (path : Option Text). IsServe word path usual_patience c.in-Some.words) held.stop_file
-    (serve_is _ _ held.rows word usual_patience entered held.of (usual held.rows held.usual) c.in-Some.ensures.found)
+    subst (λ (ready : Option Text). IsServe word (Some path) ready usual_patience c.in-Some.words) held.no_ready
+    (subst (λ (stop : Option Text). IsServe word stop (first_of (codes "ready-file") held.rows) usual_patience c.in-Some.words) held.stop_file
+    (serve_is _ _ held.rows word usual_patience entered held.of (usual held.rows held.usual) c.in-Some.ensures.found))
+
+pub returns-clause-serve_ready : goal.returns-clause-serve_ready
+returns-clause-serve_ready c = λ word path ready plain also third are.
+    let held = serves_ready word path ready plain also third in
+    let simple : is_simple (app_of c.in-Ok.command) ≡ true = ap is_simple c.in-Ok.ensures.ftpd ∙ ftpd_is_simple in
+    let entered = c.in-Ok-parsed.ensures.found simple ∙ ap₂ subcommand_of c.in-Ok.ensures.ftpd are ∙ held.entered in
+    subst (λ (file : Option Text). IsServe word (Some path) file usual_patience c.in-Some.words) held.ready_file
+    (subst (λ (stop : Option Text). IsServe word stop (first_of (codes "ready-file") held.rows) usual_patience c.in-Some.words) held.stop_file
+    (serve_is _ _ held.rows word usual_patience entered held.of (usual held.rows held.usual) c.in-Some.ensures.found))
 
 pub returns-clause-serve_timed : goal.returns-clause-serve_timed
 returns-clause-serve_timed c = λ word first second third p plain one two three are.
@@ -220,15 +253,25 @@ returns-clause-serve_timed c = λ word first second third p plain one two three 
     let simple : is_simple (app_of c.in-Ok.command) ≡ true = ap is_simple c.in-Ok.ensures.ftpd ∙ ftpd_is_simple in
     let entered = c.in-Ok-parsed.ensures.found simple ∙ ap₂ subcommand_of c.in-Ok.ensures.ftpd are ∙ held.entered in
     let states = patient held.rows p first second third held.first held.second held.third one two three in
-    subst (λ (path : Option Text). IsServe word path p c.in-Some.words) held.no_path
-    (serve_is _ _ held.rows word p entered held.of states c.in-Some.ensures.found)
+    subst (λ (ready : Option Text). IsServe word None ready p c.in-Some.words) held.no_ready
+    (subst (λ (path : Option Text). IsServe word path (first_of (codes "ready-file") held.rows) p c.in-Some.words) held.no_path
+    (serve_is _ _ held.rows word p entered held.of states c.in-Some.ensures.found))
 
 pub returns-clause-plan : goal.returns-clause-plan
 returns-clause-plan c = λ word stated plain also are.
     let held = plans word stated plain also in
     let simple : is_simple (app_of c.in-Ok.command) ≡ true = ap is_simple c.in-Ok.ensures.ftpd ∙ ftpd_is_simple in
     let entered = c.in-Ok-parsed.ensures.found simple ∙ ap₂ subcommand_of c.in-Ok.ensures.ftpd are ∙ held.entered in
-    plan_is _ _ held.rows word stated entered held.config held.transfers c.in-Some.ensures.found
+    subst (λ (flag : Bool). IsPlanWords word stated flag c.in-Some.words) held.unflagged
+    (plan_is _ _ held.rows word stated entered held.config held.transfers c.in-Some.ensures.found)
+
+pub returns-clause-plan_json : goal.returns-clause-plan_json
+returns-clause-plan_json c = λ word stated plain also are.
+    let held = plans_json word stated plain also in
+    let simple : is_simple (app_of c.in-Ok.command) ≡ true = ap is_simple c.in-Ok.ensures.ftpd ∙ ftpd_is_simple in
+    let entered = c.in-Ok-parsed.ensures.found simple ∙ ap₂ subcommand_of c.in-Ok.ensures.ftpd are ∙ held.entered in
+    subst (λ (flag : Bool). IsPlanWords word stated flag c.in-Some.words) held.flagged
+    (plan_is _ _ held.rows word stated entered held.config held.transfers c.in-Some.ensures.found)
 
 pub returns-clause-given : goal.returns-clause-given
 returns-clause-given c =

@@ -1,6 +1,6 @@
 use Rattle.ftpd_program.proofs.Ends.{check_end, migrate_end, plan_end, report_end, script_end, serve_end, share_end}
-use Rattle.ftpd_program.proofs.NoWords.{no_print, no_serve, third_word}
-use Rattle.ftpd_program.specs.declared.printing.Print.TheVariants.{Plan}
+use Rattle.ftpd_program.proofs.NoWords.{no_print, no_serve, third_of_four, third_word}
+use Rattle.ftpd_program.specs.declared.printing.Print.TheVariants.{Plan, PlanJson}
 use Rattle.ftpd_program.proofs.run.run_words.Goals as goal
 
 pub returns-in-Ok-clause-share : goal.returns-in-Ok-clause-share
@@ -37,31 +37,52 @@ pub returns-in-Ok-clause-serve : goal.returns-in-Ok-clause-serve
 returns-in-Ok-clause-serve g c = λ config plain are.
     let old = g.W.TextWriter.contents c.args.output.now in
     let new = g.W.TextWriter.contents c.run_command.new.output in
-    serve_end _ g.V.Server.Serves _ _ _ _ _ old new _ (c.in-Ok.ensures.serve config plain are) c.run_command.ensures.end
+    serve_end _ g.V.Server.Serves _ _ _ _ _ _ old new _ (c.in-Ok.ensures.serve config plain are) c.run_command.ensures.end
 
 pub returns-in-Ok-clause-serve_until : goal.returns-in-Ok-clause-serve_until
 returns-in-Ok-clause-serve_until g c = λ config path plain also are.
     let old = g.W.TextWriter.contents c.args.output.now in
     let new = g.W.TextWriter.contents c.run_command.new.output in
-    serve_end _ g.V.Server.Serves _ _ _ _ _ old new _ (c.in-Ok.ensures.serve_until config path plain also are) c.run_command.ensures.end
+    serve_end _ g.V.Server.Serves _ _ _ _ _ _ old new _ (c.in-Ok.ensures.serve_until config path plain also are) c.run_command.ensures.end
+
+pub returns-in-Ok-clause-serve_ready : goal.returns-in-Ok-clause-serve_ready
+returns-in-Ok-clause-serve_ready g c = λ config path ready plain also third are.
+    let old = g.W.TextWriter.contents c.args.output.now in
+    let new = g.W.TextWriter.contents c.run_command.new.output in
+    serve_end _ g.V.Server.Serves _ _ _ _ _ _ old new _ (c.in-Ok.ensures.serve_ready config path ready plain also third are) c.run_command.ensures.end
 
 pub returns-in-Ok-clause-serve_timed : goal.returns-in-Ok-clause-serve_timed
 returns-in-Ok-clause-serve_timed g c = λ config first second third p plain one two three are.
     let old = g.W.TextWriter.contents c.args.output.now in
     let new = g.W.TextWriter.contents c.run_command.new.output in
-    serve_end _ g.V.Server.Serves _ _ _ _ _ old new _ (c.in-Ok.ensures.serve_timed config first second third p plain one two three are) c.run_command.ensures.end
+    serve_end _ g.V.Server.Serves _ _ _ _ _ _ old new _ (c.in-Ok.ensures.serve_timed config first second third p plain one two three are) c.run_command.ensures.end
 
 pub returns-in-Ok-clause-plan : goal.returns-in-Ok-clause-plan
 returns-in-Ok-clause-plan g c = λ config transfers plain also are.
     let old = g.W.TextWriter.contents c.args.output.now in
     let new = g.W.TextWriter.contents c.run_command.new.output in
-    plan_end _ g.V.Server.Serves _ _ _ _ old new _ (c.in-Ok.ensures.plan config transfers plain also are) c.run_command.ensures.end
+    plan_end _ g.V.Server.Serves _ _ _ _ _ old new _ (c.in-Ok.ensures.plan config transfers plain also are) c.run_command.ensures.end
+
+pub returns-in-Ok-clause-plan_json : goal.returns-in-Ok-clause-plan_json
+returns-in-Ok-clause-plan_json g c = λ config transfers plain also are.
+    let old = g.W.TextWriter.contents c.args.output.now in
+    let new = g.W.TextWriter.contents c.run_command.new.output in
+    plan_end _ g.V.Server.Serves _ _ _ _ _ old new _ (c.in-Ok.ensures.plan_json config transfers plain also are) c.run_command.ensures.end
+
+pub returns-in-Err-clause-serve_ready : goal.returns-in-Err-clause-serve_ready
+returns-in-Err-clause-serve_ready g c = λ config path ready plain also third are.
+    no_serve _ g.V.Server.Serves _ _ _ _ _ _ _ (c.in-Err.ensures.serve_ready config path ready plain also third are) c.tell.ensures.told
 
 pub returns-in-Err-clause-serve_timed : goal.returns-in-Err-clause-serve_timed
 returns-in-Err-clause-serve_timed g c = λ config first second third p plain one two three are.
-    no_serve _ g.V.Server.Serves _ _ _ _ _ _ (c.in-Err.ensures.serve_timed config first second third p plain one two three are) c.tell.ensures.told
+    no_serve _ g.V.Server.Serves _ _ _ _ _ _ _ (c.in-Err.ensures.serve_timed config first second third p plain one two three are) c.tell.ensures.told
 
 pub returns-in-Err-clause-plan : goal.returns-in-Err-clause-plan
 returns-in-Err-clause-plan g c = λ config transfers plain also are.
     let word = third_word c.args.words.now _ _ _ are in
     (word.0, word.1, no_print (Plan word.0) _ _ _ _ _ _ (c.in-Err.ensures.plan config transfers plain also are) c.tell.ensures.told)
+
+pub returns-in-Err-clause-plan_json : goal.returns-in-Err-clause-plan_json
+returns-in-Err-clause-plan_json g c = λ config transfers plain also are.
+    let word = third_of_four c.args.words.now _ _ _ _ are in
+    (word.0, word.1, no_print (PlanJson word.0) _ _ _ _ _ _ (c.in-Err.ensures.plan_json config transfers plain also are) c.tell.ensures.told)

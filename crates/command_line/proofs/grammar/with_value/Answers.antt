@@ -1,6 +1,6 @@
 use Rattle.std.proofs.Common.{ap, ◌∙◌}
 use Rattle.clap.specs.Words.{with_rule, app_of}
-use Rattle.command_line.proofs.grammar.with_stop_file.Goals as goal
+use Rattle.command_line.proofs.grammar.with_value.Goals as goal
 
 pub returns : goal.returns
 returns c = record {

@@ -70,9 +70,14 @@ impl PacedDesk {
         }
     }
 
+    // User 7 asks.
+    fn ask_first(&mut self, rt: &impl Abort) {
+        holds(rt, self.first.ask(&self.desk, down(7, 10)));
+    }
+
     // Users 7 and 8 ask.
     fn ask_both(&mut self, rt: &impl Abort) {
-        holds(rt, self.first.ask(&self.desk, down(7, 10)));
+        self.ask_first(rt);
         holds(rt, self.second.ask(&self.desk, down(8, 10)));
     }
 
@@ -148,7 +153,7 @@ fn a_round_is_of_the_given_lanes(rt: HostRuntime) {
     let mut paced = PacedDesk::open(&rt);
     // user 7 gets the octet of their tick, and one of the server's two is left
     holds(&rt, paced.shares_first(&rt, 0, 1));
-    holds(&rt, paced.first.ask(&paced.desk, down(7, 10)));
+    paced.ask_first(&rt);
     holds(&rt, paced.answers(&rt, 2_000, (1, 2)));
     let settled = paced.close(&rt);
     holds(&rt, settled.issued == 4);

@@ -70,20 +70,21 @@ fn words_on_a_server(rt: HostRuntime) {
     serves(&rt, &words, ready, usual);
 }
 
+// Words that ask for a plan of one transfer, in lines or as JSON.
+fn plans(rt: &(impl Abort + AllocGlobal), words: &[&str], json: bool) {
+    let command = read_words(rt.alloc(), words).expect(rt, "a command");
+    let wanted = Words::Plan {
+        config: "office.toml",
+        transfers: "ann=1",
+        json,
+    };
+    holds(rt, command == wanted);
+}
+
 #[test]
 fn words_on_a_plan(rt: HostRuntime) {
-    let (config, transfers) = ("office.toml", "ann=1");
-    for json in [false, true] {
-        let words = ["plan", config, transfers, "--json"];
-        let words = if json { &words[..] } else { &words[..3] };
-        let command = read_words(rt.alloc(), words).expect(&rt, "a command");
-        let wanted = Words::Plan {
-            config,
-            transfers,
-            json,
-        };
-        holds(&rt, command == wanted);
-    }
+    plans(&rt, &["plan", "office.toml", "ann=1"], false);
+    plans(&rt, &["plan", "office.toml", "ann=1", "--json"], true);
 }
 
 #[test]

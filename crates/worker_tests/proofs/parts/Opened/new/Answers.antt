@@ -3,5 +3,5 @@ use Rattle.std.specs.Prelude.{IfOk}
 use Rattle.round_pace.specs.Paced.{IsPacedFrom}
 use Rattle.worker_tests.proofs.parts.Opened.new.Goals as goal
 
-pub new-requires-in-Ok : goal.new-requires-in-Ok
-new-requires-in-Ok g c = record { new = (c.limits.result, subst (λ r. IfOk r (λ p. IsPacedFrom 0 c.limits.result p)) c.expect-pace.ensures c.of.ensures.rates) }
+pub new-requires-in-Ok-2 : goal.new-requires-in-Ok-2
+new-requires-in-Ok-2 g c = record { new = (c.limits.result, subst (λ r. IfOk r (λ p. IsPacedFrom 0 c.limits.result p)) c.expect-pace.ensures c.of.ensures.rates) }

@@ -10,7 +10,7 @@ pub const WORTH: u64 = 4_096;
 
 /// Octets of an upload that are worth reading. Segments are the client's choice. A read may find less than was granted,
 /// and the rest is lost to the rate, so small grants lose less.
-pub const WORTH_UP: u64 = 1_024;
+pub const WORTH_UP: u64 = 256;
 
 /// The longest interval, in ticks of 2 ms.
 pub const LONGEST: u64 = 32;

@@ -81,7 +81,7 @@ static OPENINGS: [(u64, u64, u64); 10] = [
 
 #[test]
 fn rows_open_in_their_ticks(rt: HostRuntime) {
-    holds(&rt, WORTH == 4_096 && WORTH_UP == 1_024 && LONGEST == 32);
+    holds(&rt, WORTH == 4_096 && WORTH_UP == 256 && LONGEST == 32);
     for (rate, sharers, ticks) in &INTERVALS {
         holds(
             &rt,

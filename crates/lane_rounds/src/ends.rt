@@ -68,7 +68,7 @@ fn bound_end(end: End, has_stopped: bool, lacks_sink: bool) -> End
 
 /// The report of an end to a session. `has_stopped` is whether its lane saw that it was to stop, and `is_upload` whether
 /// octets were received.
-pub(crate) fn report_of<K>(
+pub(crate) fn report_of<K: Drop>(
     end: End,
     sink: Option<K>,
     is_upload: bool,

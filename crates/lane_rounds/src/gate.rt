@@ -127,11 +127,19 @@ where
     /// was not begun.
     pub(crate) fn report(self, moved: u64) {
         let LaneGate {
+            rt: _,
+            house: _,
+            desk: _,
+            turns: _,
+            lane: _,
             run,
             is_upload,
             has_stopped,
             ended,
-            ..
+            last: _,
+            is_before_ask: _,
+            seen: _,
+            asked_at: _,
         } = self;
         let (end, sink) = match ended {
             Some(ended) => ended,

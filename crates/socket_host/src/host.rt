@@ -154,7 +154,18 @@ where
 
     /// Leaves its ticket to the next session. A transfer that still runs is ended.
     pub fn leave(self) {
-        let SocketHost { side, .. } = self;
+        let SocketHost {
+            rt: _,
+            house: _,
+            socket: _,
+            side,
+            peer: _,
+            key: _,
+            user: _,
+            waits: _,
+            is_wrong: _,
+            no_floors: _,
+        } = self;
         side.leave();
     }
 

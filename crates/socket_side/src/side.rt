@@ -129,14 +129,15 @@ where
     H: Hooks,
     B: PartsName,
 {
-    /// A data side with nothing prepared and nothing running.
+    /// The data side of the session with this number, at its ticket, with nothing prepared and nothing running.
     pub fn new(
         rt: &'h R,
         house: &'h House<S, H, B>,
         peer: [u8; 4],
-        key: usize,
         session: u32,
+        owner: TicketOwner<'h, SessionJob<S>, SessionEnd<S>, LaneEnds>,
     ) -> Self
+        requires idle { owner_view owner ≡ Idle }
         ensures prepared { result.prepared ≡ Prepared.Nothing }
         ensures running { result.running ≡ Running.Nothing }
         ensures ready { result.ready ≡ None }
@@ -655,7 +656,18 @@ where
         let mut side = self;
         side.drop_data();
         side.clear();
-        let SocketSide { owner, .. } = side;
+        let SocketSide {
+            rt: _,
+            house: _,
+            peer: _,
+            session: _,
+            owner,
+            prepared: _,
+            running: _,
+            cause: _,
+            ready: _,
+            port_fault: _,
+        } = side;
         owner.leave();
     }
 }

@@ -65,7 +65,7 @@ impl LaneSign {
         self.answered.signal();
     }
 
-    /// Returns whether rounds were refused so often in a row that the lane's transfer is to end for lack of memory.
+    /// Returns whether the lane's transfer is to end for lack of memory: [`MOST_REFUSED`] rounds in a row were refused.
     pub fn is_starved(&self) -> bool {
         self.refused.load(Ordering::SeqCst) >= MOST_REFUSED
     }

@@ -20,7 +20,7 @@ cause_of false Done fault = None
 cause_of false Lost fault = Some (cause.Connection fault)
 cause_of false Local fault = Some cause.File
 cause_of false Full fault = Some cause.File
-cause_of false NoConnection fault = Some cause.NoLane
+cause_of false NoConnection fault = Some cause.NoClient
 cause_of false NoMemory fault = Some cause.NoMemory
 cause_of false Aborted fault = Some cause.ServerEnds
 
@@ -44,7 +44,7 @@ module _ {R K : Type 0} where
   AbortedCause (running.Moving connection is_aborted) old new = new ≡ old
   AbortedCause (running.Over told) old new = new ≡ Some cause.Aborted
 
-  -- a transfer without a connection ends by the abort itself, and so does one that no lane has begun
+  -- a transfer without a connection ends by the abort itself, as does one that no lane has begun
   abbrev pub AbortCause
       : Running R K → Running R K → Option EndCause → Option EndCause → Type 0
   AbortCause running.Nothing after old new = new ≡ old

@@ -27,7 +27,7 @@ use std::io::ErrorKind;
 use std::net::{Net, TcpListener, TcpStream};
 use std::sync::Wait;
 use std::time::{Clock, Duration};
-use std::{io, mem};
+use std::{io, mem, thread};
 use transfer_ticket::TicketOwner;
 use virtual_tree::Store;
 
@@ -42,8 +42,15 @@ const PATIENCE: u64 = 60_000_000;
 /// The time for a client's port to answer, in microseconds.
 const CONNECTING: u64 = 5_000_000;
 
-/// The longest wait of one look at the running transfer, in milliseconds.
-const LOOK: u64 = 20;
+/// The longest wait for the end of a moving transfer before the session reads its control connection, in milliseconds.
+/// The end wakes it at once.
+const LOOK: u64 = 50;
+
+/// The time in which a data connection usually comes, in microseconds: the session looks for it each millisecond.
+const USUAL: u64 = 100_000;
+
+/// The time between two looks for one that has not come by then, in milliseconds.
+const SELDOM: u64 = 20;
 
 // The end of a transfer: that which its lane reports, or `Aborted` if it was aborted.
 fn end_of(is_aborted: bool, end: End) -> End
@@ -64,7 +71,7 @@ fn cause_of(is_aborted: bool, end: End, fault: Option<io::Error>) -> Option<EndC
         End::Done => None,
         End::Lost => Some(EndCause::Connection(fault)),
         End::Local | End::Full => Some(EndCause::File),
-        End::NoConnection => Some(EndCause::NoLane),
+        End::NoConnection => Some(EndCause::NoClient),
         End::NoMemory => Some(EndCause::NoMemory),
         End::Aborted => Some(EndCause::ServerEnds),
     }
@@ -600,14 +607,21 @@ where
         !matches!(&self.running, Running::Nothing)
     }
 
-    /// Waits briefly for the end of a moving transfer. Returns whether there is, or may be, something to report.
+    /// Waits briefly for the end of a moving transfer, or for a data connection that is late. Returns whether there is
+    /// something to report.
     pub fn rest(&self) -> bool
         ensures over { RestsOn self.now.running result }
     {
         match &self.running {
             Running::Moving { .. } => self.owner.rest(self.rt, Duration::from_millis(LOOK)),
             Running::Over(_) => true,
-            Running::Nothing | Running::Awaited { .. } | Running::Connecting { .. } => false,
+            Running::Nothing => false,
+            Running::Awaited { since, .. } | Running::Connecting { since, .. } => {
+                if has_passed(*since, micros(self.rt), USUAL) {
+                    thread::sleep(self.rt, Duration::from_millis(SELDOM));
+                }
+                false
+            }
         }
     }
 

@@ -48,7 +48,7 @@ impl<'t, J: Drop, E: Drop, P: EndRule<J, E>, A: Allocator> TicketOwner<'t, J, E,
     }
 
     /// Puts a job, which waits for a lane. Returns whether the ticket's number is to be appended to the board now: it
-    /// stands there at most once.
+    /// is there at most once.
     pub fn put(&mut self, job: J) -> bool
         requires idle { owner_view self.old ≡ Idle }
         ensures busy { owner_view self.new ≡ Busy job false false 0 }
@@ -65,8 +65,8 @@ impl<'t, J: Drop, E: Drop, P: EndRule<J, E>, A: Allocator> TicketOwner<'t, J, E,
     /// Takes the job back, at once. Returns `None` only if a lane has begun it.
     pub fn cancel(&mut self) -> Option<J>
         requires busy { is_busy (owner_view self.old) ≡ true }
-        ensures some { IfSome result (λ job. (n : ℕ) × (owner_view self.old ≡ Busy job false false n)
-            × (owner_view self.new ≡ Idle)) }
+        ensures some { IfSome result (λ job. (n : ℕ)
+            × (owner_view self.old ≡ Busy job false false n) × (owner_view self.new ≡ Idle)) }
         ensures none { IfNone result (owner_view self.new ≡ begun (owner_view self.old)) }
     {
         let shared = self.ticket.shared();

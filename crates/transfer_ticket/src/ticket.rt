@@ -59,8 +59,7 @@ impl<J: Drop, E: Drop, P: EndRule<J, E>, A: Allocator> Ticket<J, E, P, A> {
         self.shared().peek(0) == 4
     }
 
-    /// After a job was put: returns whether the ticket's number is to be appended to the board, where it stands at most
-    /// once.
+    /// After a job was put: returns whether the ticket's number is to be appended to the board. It is there at most once.
     pub(crate) fn list(&self) -> bool {
         self.listed.swap(1, Ordering::SeqCst) == 0
     }

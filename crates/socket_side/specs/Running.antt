@@ -57,10 +57,11 @@ module _ {R K C : Type 0} where
   has_upload (Busy job asked begun tries) = house.is_upload job
   has_upload (Runs job seen looks) = false
 
-module _ {R K : Type 0} where
-  abbrev pub Ticket : Type 0
-  Ticket = TicketView (LaneJob (Served Global R) K DataConnection)
+-- the knowledge of a session of its ticket
+abbrev pub Ticket : (R K : Type 0) → Type 0
+Ticket R K = TicketView (LaneJob (Served Global R) K DataConnection)
 
+module _ {R K : Type 0} where
   -- a transfer that ends before it ran; the sink of an upload comes back
   abbrev pub over : End → Job Global R K → Running R K
   over end job = running.Over (record {
@@ -102,7 +103,7 @@ module _ {R K : Type 0} where
   is_aborted_in (running.Over told) = false
 
   -- only of an aborted transfer was a lane asked to stop it
-  abbrev pub is_marked : Running R K → Ticket → Bool
+  abbrev pub is_marked : Running R K → Ticket R K → Bool
   is_marked run view = not (has_asked view) || is_aborted_in run
 
   -- lanes have the transfer, or it is over since there was no memory for it
@@ -148,7 +149,7 @@ module _ {R K : Type 0} where
 
   -- A transfer on a ticket is taken back if no lane has begun it: then it is over, and its sink
   -- comes back. Otherwise it is marked, and its lane is asked to stop, unless it has ended.
-  abbrev pub Stops : Ticket → DataConnection → Running R K → Ticket → Type 0
+  abbrev pub Stops : Ticket R K → DataConnection → Running R K → Ticket R K → Type 0
   Stops view connection new view' =
       ((job : LaneJob (Served Global R) K DataConnection) × (tries : ℕ)
       × (view ≡ Busy job false false tries) × (new ≡ taken_back job) × (view' ≡ Idle))
@@ -157,12 +158,12 @@ module _ {R K : Type 0} where
 
   -- a transfer without a connection ends at once, as does one that no lane has begun; one that a
   -- lane runs is marked
-  abbrev pub Aborts : Ticket → Running R K → Running R K → Type 0
+  abbrev pub Aborts : Ticket R K → Running R K → Running R K → Type 0
   Aborts view running.Nothing new = new ≡ running.Nothing
   Aborts view (running.Awaited listener port job since) new = new ≡ over Aborted job
   Aborts view (running.Connecting outgoing job since) new = new ≡ over Aborted job
   Aborts view (running.Moving connection is_aborted) new =
-      (view' : Ticket) × Stops view connection new view'
+      (view' : Ticket R K) × Stops view connection new view'
   Aborts view (running.Over told) new = new ≡ running.Over told
 
   -- only a transfer without a connection goes on by itself
@@ -175,13 +176,14 @@ module _ {R K : Type 0} where
 
   -- The end of a transfer on the ticket is Aborted exactly if it was aborted. The sink of an upload
   -- comes back, unless there was no memory to begin it.
-  abbrev pub IsEndOf : Ticket → Bool → TransferEnd K → Type 0
+  abbrev pub IsEndOf : Ticket R K → Bool → TransferEnd K → Type 0
   IsEndOf view is_aborted told =
       (is_aborted ≡ true → told.end ≡ Aborted) × (told.end ≡ Aborted → is_aborted ≡ true)
       × (is_aborted ≡ false → HasSinkOf (has_upload view) told)
 
   -- an end is taken once, and then nothing runs
-  abbrev pub TakesEnd : Ticket → Running R K → Option (TransferEnd K) → Running R K → Type 0
+  abbrev pub TakesEnd
+      : Ticket R K → Running R K → Option (TransferEnd K) → Running R K → Type 0
   TakesEnd view running.Nothing end new = (end ≡ None) × (new ≡ running.Nothing)
   TakesEnd view (running.Awaited listener port job since) end new =
       (end ≡ None) × (new ≡ running.Awaited listener port job since)
@@ -194,9 +196,10 @@ module _ {R K : Type 0} where
   TakesEnd view (running.Over told) end new = (end ≡ Some told) × (new ≡ running.Nothing)
 
   -- a look: the transfer goes on, and its end is taken; what was on the ticket before stays there
-  abbrev pub Looks : Ticket → Running R K → Option (DataEvent K) → Running R K → Type 0
+  abbrev pub Looks
+      : Ticket R K → Running R K → Option (DataEvent K) → Running R K → Type 0
   Looks before old event new =
-      (mid : Running R K) × (end : Option (TransferEnd K)) × (view : Ticket)
+      (mid : Running R K) × (end : Option (TransferEnd K)) × (view : Ticket R K)
       × (is_moving old ≡ true → view ≡ before) × GoesOn old mid × TakesEnd view mid end new
       × (event ≡ event_of end)
 

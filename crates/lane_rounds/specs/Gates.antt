@@ -1,5 +1,5 @@
--- A lane's gate: its answers, and the right with which it reports.
-use Rattle.std.specs.Prelude.{◌≡◌, ℕ, Bool, true, false, ◌&&◌, ◌||◌, if◌then◌else◌}
+-- A lane's gate: its answers, and the knowledge of the lane that runs a transfer.
+use Rattle.std.specs.Prelude.{Bool, true, false, ◌&&◌, ◌||◌, if◌then◌else◌}
 use Rattle.server_house.specs.Tickets.{is_upload}
 use Rattle.transfer_ticket.specs.declared.view.TicketView.{TicketView}
 use Rattle.transfer_ticket.specs.declared.view.TicketView.TheVariants.{Away, Missed, Idle, Busy, Runs}
@@ -14,11 +14,18 @@ answer is_before_ask is_to_stop is_starved =
     if is_before_ask && (is_to_stop || is_starved) then Stop else On
 
 module _ {R K C : Type 0} where
-  -- the right of a lane that runs an upload, or a download, and that saw that it was to stop if so
-  abbrev pub IsRunOf : Bool → Bool → TicketView (LaneJob R K C) → Type 0
-  IsRunOf upload has_stopped Away = ⊥
-  IsRunOf upload has_stopped Missed = ⊥
-  IsRunOf upload has_stopped Idle = ⊥
-  IsRunOf upload has_stopped (Busy job asked begun tries) = ⊥
-  IsRunOf upload has_stopped (Runs job seen looks) =
-      (is_upload job ≡ upload) × (has_stopped ≡ true → seen ≡ true)
+  -- the transfer that a lane runs is an upload
+  abbrev pub runs_upload : TicketView (LaneJob R K C) → Bool
+  runs_upload Away = false
+  runs_upload Missed = false
+  runs_upload Idle = false
+  runs_upload (Busy job asked begun tries) = false
+  runs_upload (Runs job seen looks) = is_upload job
+
+  -- it saw that it is to stop
+  abbrev pub has_seen : TicketView (LaneJob R K C) → Bool
+  has_seen Away = false
+  has_seen Missed = false
+  has_seen Idle = false
+  has_seen (Busy job asked begun tries) = false
+  has_seen (Runs job seen looks) = seen

@@ -1,8 +1,9 @@
 //! The gate of a lane.
 
-ghost use Rattle.std.specs.Prelude.{◌≡◌, false};
+ghost use Rattle.std.specs.Prelude.{◌≡◌, ◌||◌, not, true};
 ghost use Rattle.lane_rounds.specs.Clocks.{IsTestOf};
-ghost use Rattle.lane_rounds.specs.Gates.{IsRunOf, answer};
+ghost use Rattle.lane_rounds.specs.Gates.{answer, has_seen, runs_upload};
+ghost use Rattle.transfer_ticket.specs.Tickets.{is_runner};
 ghost use Rattle.transfer_ticket.specs.Views.{run_view};
 
 use crate::clock::RoundClock;
@@ -65,7 +66,9 @@ pub(crate) struct LaneGate<
     // the octets moved before the last ask; none before the first
     asked_at: Option<u64>,
     ghost clock: { IsTestOf R.when B.when },
-    ghost runs: { IsRunOf is_upload has_stopped (run_view run) },
+    ghost runs: { is_runner (run_view run) ≡ true },
+    ghost way: { runs_upload (run_view run) ≡ is_upload },
+    ghost stops: { (not has_stopped || has_seen (run_view run)) ≡ true },
 }
 
 impl<'r, 'h, 'd, 't, R, S, H, B, N> LaneGate<'r, 'h, 'd, 't, R, S, H, B, N>
@@ -86,7 +89,8 @@ where
         is_upload: bool,
     ) -> Self
         requires clock { IsTestOf R.when B.when }
-        requires runs { IsRunOf is_upload false (run_view run) }
+        requires runs { is_runner (run_view run) ≡ true }
+        requires way { runs_upload (run_view run) ≡ is_upload }
     {
         LaneGate {
             rt,

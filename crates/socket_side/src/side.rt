@@ -464,7 +464,12 @@ where
                 self.cause = Some(EndCause::Aborted);
                 over(End::Aborted, job)
             }
-            Running::Connecting { job, .. } => {
+            Running::Connecting {
+                outgoing,
+                job,
+                since: _,
+            } => {
+                drop(outgoing);
                 self.cause = Some(EndCause::Aborted);
                 over(End::Aborted, job)
             }

@@ -8,6 +8,7 @@
 #![tactic(auto)]
 
 mod ports;
+mod run;
 mod running;
 mod side;
 

@@ -5,13 +5,13 @@ ghost use Rattle.session_core.specs.declared.events.DataEvent.TheVariants.{Ready
 ghost use Rattle.server_house.specs.declared.cause.EndCause.TheVariants as cause;
 ghost use Rattle.session_table.specs.declared.inputs.End.TheVariants.{Aborted, NoConnection, NoMemory};
 ghost use Rattle.socket_side.specs.Causes.{AbortCause, GoesCause, LookCause, StartCause, TakenCause, cause_of};
-ghost use Rattle.socket_side.specs.Running.{Aborts, GoesOn, IsAwaited, IsConnecting, IsHandedOver, IsNoTarget, Looks, RestsOn, Settles, Starts, Stops, TakesEnd, event_of, is_busy, is_marked, is_moving, over, port_in};
-ghost use Rattle.transfer_ticket.specs.Tickets.{is_owner};
+ghost use Rattle.socket_side.specs.Running.{Aborts, GoesOn, IsAwaited, IsConnecting, IsHandedOver, IsNoTarget, Looks, RestsOn, Settles, Starts, Stops, TakesEnd, event_of, is_busy, is_moving, over, port_in};
 ghost use Rattle.transfer_ticket.specs.Tickets as ticket;
 ghost use Rattle.transfer_ticket.specs.Views.{owner_view};
 ghost use Rattle.transfer_ticket.specs.declared.view.TicketView.TheVariants.{Idle};
 
 use crate::ports::SharedPorts;
+use crate::run::SessionRun;
 use crate::running::{Prepared, Running, is_upload, lane_job, over, taken_back};
 use data_sockets::{DataConnection, Outgoing, Progress, TransferEnd, accept_from, socket_address};
 use event_word::{has_passed, micros};
@@ -115,18 +115,14 @@ pub struct SocketSide<'h, R, S: Store<Global>, H: Hooks, B: PartsName> {
     peer: [u8; 4],
     // the number of its ticket, and its right to that
     session: u32,
-    owner: TicketOwner<'h, SessionJob<S>, SessionEnd<S>, LaneEnds>,
+    run: SessionRun<'h, S>,
     prepared: Prepared,
-    running: Running<S::Source, S::Sink>,
     // the reason for the last end that was made or taken, unless it is that all was moved
     cause: Option<EndCause>,
     // the result of opening a port, to be reported: the port, or that none was free
     ready: Option<Option<u16>>,
     // the error for which none could be listened on
     port_fault: Option<io::Error>,
-    ghost sits: { is_owner (owner_view owner) ≡ true },
-    ghost tied: { is_moving running ≡ ticket.is_busy (owner_view owner) },
-    ghost marked: { is_marked running (owner_view owner) ≡ true },
 }
 
 impl<'h, R, S, H, B> SocketSide<'h, R, S, H, B>
@@ -146,7 +142,7 @@ where
     ) -> Self
         requires idle { owner_view owner ≡ Idle }
         ensures prepared { result.prepared ≡ Prepared.Nothing }
-        ensures running { result.running ≡ Running.Nothing }
+        ensures running { result.run.running ≡ Running.Nothing }
         ensures ready { result.ready ≡ None }
     {
         SocketSide {
@@ -154,9 +150,8 @@ where
             house,
             peer,
             session,
-            owner,
+            run: SessionRun::new(owner),
             prepared: Prepared::Nothing,
-            running: Running::Nothing,
             cause: None,
             ready: None,
             port_fault: None,
@@ -166,7 +161,7 @@ where
     /// Drops what was prepared; a port then rests.
     pub fn drop_data(&mut self)
         ensures prepared { self.new.prepared ≡ Prepared.Nothing }
-        ensures running { self.new.running ≡ self.old.running }
+        ensures running { self.new.run.running ≡ self.old.run.running }
         ensures ready { self.new.ready ≡ self.old.ready }
         ensures cause { self.new.cause ≡ self.old.cause }
     {
@@ -185,7 +180,7 @@ where
     // Leases a port and listens on it. If none could be listened on, the error of the last is kept.
     fn listening(&mut self) -> Option<(u16, TcpListener)>
         ensures prepared { self.new.prepared ≡ self.old.prepared }
-        ensures running { self.new.running ≡ self.old.running }
+        ensures running { self.new.run.running ≡ self.old.run.running }
         ensures cause { self.new.cause ≡ self.old.cause }
     {
         let mut ports = SharedPorts {
@@ -219,7 +214,7 @@ where
     pub fn open_passive(&mut self)
         ensures ready { self.new.ready ≡ Some (port_in self.new.prepared) }
         ensures prepared { IsNoTarget self.new.prepared }
-        ensures running { self.new.running ≡ self.old.running }
+        ensures running { self.new.run.running ≡ self.old.run.running }
     {
         self.drop_data();
         match self.listening() {
@@ -234,7 +229,7 @@ where
     /// Makes the next transfer connect to this port.
     pub fn connect_to(&mut self, to: HostPort)
         ensures prepared { self.new.prepared ≡ Prepared.Target to }
-        ensures running { self.new.running ≡ self.old.running }
+        ensures running { self.new.run.running ≡ self.old.run.running }
         ensures ready { self.new.ready ≡ self.old.ready }
     {
         self.drop_data();
@@ -243,8 +238,8 @@ where
 
     // Hands a transfer to the lanes.
     fn hand_over(&mut self, stream: TcpStream, job: Job<Global, S::Source, S::Sink>, user: u32)
-        requires nothing { self.old.running ≡ Running.Nothing }
-        ensures running { IsHandedOver job self.new.running }
+        requires nothing { self.old.run.running ≡ Running.Nothing }
+        ensures running { IsHandedOver job self.new.run.running }
         ensures prepared { self.new.prepared ≡ self.old.prepared }
         ensures ready { self.new.ready ≡ self.old.ready }
     {
@@ -264,14 +259,14 @@ where
 
     // Ends a transfer for which there is no memory.
     fn end_unbegun(&mut self, job: Job<Global, S::Source, S::Sink>)
-        requires nothing { self.old.running ≡ Running.Nothing }
-        ensures running { self.new.running ≡ over NoMemory job }
+        requires nothing { self.old.run.running ≡ Running.Nothing }
+        ensures running { self.new.run.running ≡ over NoMemory job }
         ensures cause { self.new.cause ≡ Some cause.NoMemory }
         ensures prepared { self.new.prepared ≡ self.old.prepared }
         ensures ready { self.new.ready ≡ self.old.ready }
     {
         self.cause = Some(EndCause::NoMemory);
-        self.running = over(End::NoMemory, job);
+        self.run.running = over(End::NoMemory, job);
     }
 
     // Puts a transfer on the ticket.
@@ -282,15 +277,15 @@ where
         job: Job<Global, S::Source, S::Sink>,
         user: u32,
     )
-        requires nothing { self.old.running ≡ Running.Nothing }
-        ensures running { self.new.running ≡ Running.Moving own false }
+        requires nothing { self.old.run.running ≡ Running.Nothing }
+        ensures running { self.new.run.running ≡ Running.Moving own false }
         ensures prepared { self.new.prepared ≡ self.old.prepared }
         ensures ready { self.new.ready ≡ self.old.ready }
         ensures cause { self.new.cause ≡ self.old.cause }
     {
         let job = lane_job(job, theirs, user, self.session);
-        let is_to_list = self.owner.put(job);
-        self.running = Running::Moving {
+        let is_to_list = self.run.owner.put(job);
+        self.run.running = Running::Moving {
             connection: own,
             is_aborted: false,
         };
@@ -308,14 +303,14 @@ where
 
     // Ends a transfer that got no data connection.
     fn end_without(&mut self, why: EndCause, job: Job<Global, S::Source, S::Sink>)
-        requires nothing { self.old.running ≡ Running.Nothing }
-        ensures running { self.new.running ≡ over NoConnection job }
+        requires nothing { self.old.run.running ≡ Running.Nothing }
+        ensures running { self.new.run.running ≡ over NoConnection job }
         ensures cause { self.new.cause ≡ Some why }
         ensures prepared { self.new.prepared ≡ self.old.prepared }
         ensures ready { self.new.ready ≡ self.old.ready }
     {
         self.cause = Some(why);
-        self.running = over(End::NoConnection, job);
+        self.run.running = over(End::NoConnection, job);
     }
 
     // The peer whose connections are accepted.
@@ -340,8 +335,8 @@ where
         since: u64,
         user: u32,
     )
-        requires nothing { self.old.running ≡ Running.Nothing }
-        ensures running { IsAwaited listener port job since self.new.running }
+        requires nothing { self.old.run.running ≡ Running.Nothing }
+        ensures running { IsAwaited listener port job since self.new.run.running }
         ensures prepared { self.new.prepared ≡ self.old.prepared }
         ensures ready { self.new.ready ≡ self.old.ready }
     {
@@ -355,7 +350,7 @@ where
                     self.close_port(listener, port);
                     self.end_without(EndCause::NoClient, job);
                 } else {
-                    self.running = Running::Awaited {
+                    self.run.running = Running::Awaited {
                         listener,
                         port,
                         job,
@@ -374,8 +369,8 @@ where
         since: u64,
         user: u32,
     )
-        requires nothing { self.old.running ≡ Running.Nothing }
-        ensures running { IsConnecting job since self.new.running }
+        requires nothing { self.old.run.running ≡ Running.Nothing }
+        ensures running { IsConnecting job since self.new.run.running }
         ensures prepared { self.new.prepared ≡ self.old.prepared }
         ensures ready { self.new.ready ≡ self.old.ready }
     {
@@ -387,7 +382,7 @@ where
                     let error = io::Error::from(ErrorKind::TimedOut);
                     self.end_without(EndCause::NotConnected(error), job);
                 } else {
-                    self.running = Running::Connecting {
+                    self.run.running = Running::Connecting {
                         outgoing,
                         job,
                         since,
@@ -399,8 +394,8 @@ where
 
     // Begins a connection to a client's port.
     fn connect(&mut self, to: HostPort, job: Job<Global, S::Source, S::Sink>, user: u32)
-        requires nothing { self.old.running ≡ Running.Nothing }
-        ensures running { Starts (Prepared.Target to) job self.new.running }
+        requires nothing { self.old.run.running ≡ Running.Nothing }
+        ensures running { Starts (Prepared.Target to) job self.new.run.running }
         ensures prepared { self.new.prepared ≡ self.old.prepared }
         ensures ready { self.new.ready ≡ self.old.ready }
     {
@@ -415,7 +410,7 @@ where
 
     // Ends what runs: a session begins a transfer when the one before has ended.
     fn clear(&mut self)
-        ensures running { self.new.running ≡ Running.Nothing }
+        ensures running { self.new.run.running ≡ Running.Nothing }
         ensures prepared { self.new.prepared ≡ self.old.prepared }
         ensures ready { self.new.ready ≡ self.old.ready }
     {
@@ -425,7 +420,7 @@ where
 
     /// Begins a transfer of a user over the connection that was prepared. One that runs is ended first.
     pub fn start(&mut self, job: Job<Global, S::Source, S::Sink>, user: u32)
-        ensures running { Starts self.old.prepared job self.new.running }
+        ensures running { Starts self.old.prepared job self.new.run.running }
         ensures prepared { self.new.prepared ≡ Prepared.Nothing }
         ensures ready { self.new.ready ≡ self.old.ready }
         ensures cause { StartCause self.old.prepared self.new.cause }
@@ -446,14 +441,14 @@ where
     /// Aborts the running transfer; a later look reports its end. One that waits for a lane is over at once, and one that
     /// a lane runs before its next ask, whatever its rates have left.
     pub fn abort(&mut self)
-        ensures running { Aborts (owner_view self.old.owner) self.old.running self.new.running }
+        ensures running { Aborts (owner_view self.old.run.owner) self.old.run.running self.new.run.running }
         ensures prepared { self.new.prepared ≡ self.old.prepared }
         ensures ready { self.new.ready ≡ self.old.ready }
-        ensures cause { AbortCause self.old.running self.new.running self.old.cause
+        ensures cause { AbortCause self.old.run.running self.new.run.running self.old.cause
             self.new.cause }
     {
-        let before = mem::replace(&mut self.running, Running::Nothing);
-        self.running = match before {
+        let before = mem::replace(&mut self.run.running, Running::Nothing);
+        self.run.running = match before {
             Running::Awaited {
                 listener,
                 port,
@@ -477,7 +472,7 @@ where
                 connection,
                 is_aborted: _,
             } => {
-                let stopped = stop::<S>(&mut self.owner, connection);
+                let stopped = stop::<S>(&mut self.run.owner, connection);
                 if let Running::Over(_) = &stopped {
                     self.cause = Some(EndCause::Aborted);
                 }
@@ -491,13 +486,13 @@ where
     // Takes the end of the running transfer, if it has ended. If it was aborted, the end is `Aborted` whatever the lane
     // reports. The connection is closed first, so that the client reads the end of the data no later than the reply.
     fn take_end(&mut self) -> Option<TransferEnd<S::Sink>>
-        ensures running { TakesEnd (owner_view self.old.owner) self.old.running result
-            self.new.running }
+        ensures running { TakesEnd (owner_view self.old.run.owner) self.old.run.running result
+            self.new.run.running }
         ensures prepared { self.new.prepared ≡ self.old.prepared }
         ensures ready { self.new.ready ≡ self.old.ready }
-        ensures cause { TakenCause self.old.running result self.old.cause self.new.cause }
+        ensures cause { TakenCause self.old.run.running result self.old.cause self.new.cause }
     {
-        let before = mem::replace(&mut self.running, Running::Nothing);
+        let before = mem::replace(&mut self.run.running, Running::Nothing);
         match before {
             Running::Nothing => None,
             Running::Over(told) => Some(told),
@@ -507,7 +502,7 @@ where
                 job,
                 since,
             } => {
-                self.running = Running::Awaited {
+                self.run.running = Running::Awaited {
                     listener,
                     port,
                     job,
@@ -520,7 +515,7 @@ where
                 job,
                 since,
             } => {
-                self.running = Running::Connecting {
+                self.run.running = Running::Connecting {
                     outgoing,
                     job,
                     since,
@@ -530,7 +525,7 @@ where
             Running::Moving {
                 connection,
                 is_aborted,
-            } => match self.owner.take_end() {
+            } => match self.run.owner.take_end() {
                 Some(TransferEnd { end, sink, moved }) => {
                     self.cause = cause_of(is_aborted, end, connection.fault());
                     drop(connection);
@@ -541,7 +536,7 @@ where
                     })
                 }
                 None => {
-                    self.running = Running::Moving {
+                    self.run.running = Running::Moving {
                         connection,
                         is_aborted,
                     };
@@ -553,14 +548,14 @@ where
 
     // Accepts the client's connection, if it has come, or takes that to its port, if it is there.
     fn go_on(&mut self, user: u32)
-        ensures running { GoesOn self.old.running self.new.running }
-        ensures ticket { is_moving self.old.running ≡ true
-            → owner_view self.new.owner ≡ owner_view self.old.owner }
+        ensures running { GoesOn self.old.run.running self.new.run.running }
+        ensures ticket { is_moving self.old.run.running ≡ true
+            → owner_view self.new.run.owner ≡ owner_view self.old.run.owner }
         ensures prepared { self.new.prepared ≡ self.old.prepared }
         ensures ready { self.new.ready ≡ self.old.ready }
-        ensures cause { GoesCause self.old.running self.old.cause self.new.cause }
+        ensures cause { GoesCause self.old.run.running self.old.cause self.new.cause }
     {
-        let before = mem::replace(&mut self.running, Running::Nothing);
+        let before = mem::replace(&mut self.run.running, Running::Nothing);
         match before {
             Running::Awaited {
                 listener,
@@ -578,25 +573,25 @@ where
                 connection,
                 is_aborted,
             } => {
-                self.running = Running::Moving {
+                self.run.running = Running::Moving {
                     connection,
                     is_aborted,
                 };
             }
-            Running::Over(told) => self.running = Running::Over(told),
+            Running::Over(told) => self.run.running = Running::Over(told),
         }
     }
 
     /// Reports a port, or the end of this user's transfer; `None` if there is neither yet. Does not wait.
     pub fn look(&mut self, user: u32) -> Option<DataEvent<S::Sink>>
         ensures port { IfSome self.old.ready (λ port. (result ≡ Some (Ready port))
-            × (self.new.running ≡ self.old.running)) }
-        ensures end { IfNone self.old.ready (Looks (owner_view self.old.owner) self.old.running
-            result self.new.running) }
+            × (self.new.run.running ≡ self.old.run.running)) }
+        ensures end { IfNone self.old.ready (Looks (owner_view self.old.run.owner) self.old.run.running
+            result self.new.run.running) }
         ensures ready { self.new.ready ≡ None }
         ensures prepared { self.new.prepared ≡ self.old.prepared }
         ensures cause { IfNone self.old.ready
-            (LookCause self.old.running result self.old.cause self.new.cause) }
+            (LookCause self.old.run.running result self.old.cause self.new.cause) }
     {
         if let Some(port) = self.ready.take() {
             return Some(DataEvent::Ready(port));
@@ -607,18 +602,18 @@ where
 
     /// Returns whether the end of something begun is not yet reported.
     pub fn is_busy(&self) -> bool
-        ensures busy { result ≡ is_busy self.now.running }
+        ensures busy { result ≡ is_busy self.now.run.running }
     {
-        !matches!(&self.running, Running::Nothing)
+        !matches!(&self.run.running, Running::Nothing)
     }
 
     /// Waits briefly for the end of a moving transfer, or for a data connection that is late. Returns whether there is
     /// something to report.
     pub fn rest(&self) -> bool
-        ensures over { RestsOn self.now.running result }
+        ensures over { RestsOn self.now.run.running result }
     {
-        match &self.running {
-            Running::Moving { .. } => self.owner.rest(self.rt, Duration::from_millis(LOOK)),
+        match &self.run.running {
+            Running::Moving { .. } => self.run.owner.rest(self.rt, Duration::from_millis(LOOK)),
             Running::Over(_) => true,
             Running::Nothing => false,
             Running::Awaited { since, .. } | Running::Connecting { since, .. } => {
@@ -632,8 +627,8 @@ where
 
     // Waits for the end of the running transfer and reports it.
     fn await_end(&mut self) -> Option<DataEvent<S::Sink>>
-        ensures settled { Settles self.old.running result }
-        ensures running { self.new.running ≡ Running.Nothing }
+        ensures settled { Settles self.old.run.running result }
+        ensures running { self.new.run.running ≡ Running.Nothing }
         ensures prepared { self.new.prepared ≡ self.old.prepared }
         ensures ready { self.new.ready ≡ self.old.ready }
     {
@@ -657,14 +652,14 @@ where
     /// Waits for the end of the running transfer and reports it; aborts it if there is no connection yet. Drops what was
     /// prepared.
     pub fn settle(&mut self) -> Option<DataEvent<S::Sink>>
-        ensures settled { Settles self.old.running result }
-        ensures running { self.new.running ≡ Running.Nothing }
+        ensures settled { Settles self.old.run.running result }
+        ensures running { self.new.run.running ≡ Running.Nothing }
         ensures prepared { self.new.prepared ≡ Prepared.Nothing }
         ensures ready { self.new.ready ≡ None }
     {
         self.drop_data();
         self.ready = None;
-        if let Running::Awaited { .. } | Running::Connecting { .. } = &self.running {
+        if let Running::Awaited { .. } | Running::Connecting { .. } = &self.run.running {
             self.abort();
         }
         self.await_end()
@@ -680,13 +675,12 @@ where
             house: _,
             peer: _,
             session: _,
-            owner,
+            run,
             prepared: _,
-            running: _,
             cause: _,
             ready: _,
             port_fault: _,
         } = side;
-        owner.leave();
+        run.leave();
     }
 }

@@ -586,8 +586,8 @@ where
     pub fn look(&mut self, user: u32) -> Option<DataEvent<S::Sink>>
         ensures port { IfSome self.old.ready (λ port. (result ≡ Some (Ready port))
             × (self.new.run.running ≡ self.old.run.running)) }
-        ensures end { IfNone self.old.ready (Looks (owner_view self.old.run.owner) self.old.run.running
-            result self.new.run.running) }
+        ensures end { IfNone self.old.ready (Looks (owner_view self.old.run.owner)
+            self.old.run.running result self.new.run.running) }
         ensures ready { self.new.ready ≡ None }
         ensures prepared { self.new.prepared ≡ self.old.prepared }
         ensures cause { IfNone self.old.ready

@@ -441,7 +441,8 @@ where
     /// Aborts the running transfer; a later look reports its end. One that waits for a lane is over at once, and one that
     /// a lane runs before its next ask, whatever its rates have left.
     pub fn abort(&mut self)
-        ensures running { Aborts (owner_view self.old.run.owner) self.old.run.running self.new.run.running }
+        ensures running { Aborts (owner_view self.old.run.owner) self.old.run.running
+            self.new.run.running }
         ensures prepared { self.new.prepared ≡ self.old.prepared }
         ensures ready { self.new.ready ≡ self.old.ready }
         ensures cause { AbortCause self.old.run.running self.new.run.running self.old.cause

@@ -13,6 +13,8 @@ use Rattle.session_table.specs.declared.actions.Job.{Job}
 use Rattle.session_table.specs.declared.inputs.End.{End}
 use Rattle.session_table.specs.declared.inputs.End.TheVariants.{NoConnection, NoMemory, Aborted}
 use Rattle.socket_side.specs.Jobs.{sink_in, sink_of}
+use Rattle.socket_side.specs.declared.run.Taken.{Taken}
+use Rattle.socket_side.specs.declared.run.Taken.TheVariants as taken
 use Rattle.socket_side.specs.declared.running.Prepared.{Prepared}
 use Rattle.socket_side.specs.declared.running.Prepared.TheVariants as prepared
 use Rattle.socket_side.specs.declared.running.Running.{Running}
@@ -180,6 +182,34 @@ module _ {R K : Type 0} where
   IsEndOf view is_aborted told =
       (is_aborted ≡ true → told.end ≡ Aborted) × (told.end ≡ Aborted → is_aborted ≡ true)
       × (is_aborted ≡ false → HasSinkOf (has_upload view) told)
+
+  -- the port that a client is awaited at
+  abbrev pub port_of : Running R K → Option (TcpListener × ℕ)
+  port_of running.Nothing = None
+  port_of (running.Awaited listener port job since) = Some (listener, port)
+  port_of (running.Connecting outgoing job since) = None
+  port_of (running.Moving connection is_aborted) = None
+  port_of (running.Over told) = None
+
+  -- what a lane reports of a transfer on the ticket
+  abbrev pub IsReported : Ticket R K → Bool → TransferEnd K → Type 0
+  IsReported view is_aborted told =
+      (told.end ≡ Aborted → is_aborted ≡ true) × HasSinkOf (has_upload view) told
+
+  -- an end is taken as it is known to the session, or as a lane reports it
+  abbrev pub Takes : Ticket R K → Running R K → Taken K → Running R K → Type 0
+  Takes view running.Nothing found new = (found ≡ taken.Nothing) × (new ≡ running.Nothing)
+  Takes view (running.Awaited listener port job since) found new =
+      (found ≡ taken.Nothing) × (new ≡ running.Awaited listener port job since)
+  Takes view (running.Connecting outgoing job since) found new =
+      (found ≡ taken.Nothing) × (new ≡ running.Connecting outgoing job since)
+  Takes view (running.Moving connection is_aborted) taken.Nothing new =
+      new ≡ running.Moving connection is_aborted
+  Takes view (running.Moving connection is_aborted) (taken.Unbegun told) new = ⊥
+  Takes view (running.Moving connection is_aborted) (taken.Reported told aborted fault) new =
+      (new ≡ running.Nothing) × (aborted ≡ is_aborted) × IsReported view is_aborted told
+  Takes view (running.Over told) found new =
+      (found ≡ taken.Unbegun told) × (new ≡ running.Nothing)
 
   -- an end is taken once, and then nothing runs
   abbrev pub TakesEnd

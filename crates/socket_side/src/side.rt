@@ -5,14 +5,14 @@ ghost use Rattle.session_core.specs.declared.events.DataEvent.TheVariants.{Ready
 ghost use Rattle.server_house.specs.declared.cause.EndCause.TheVariants as cause;
 ghost use Rattle.session_table.specs.declared.inputs.End.TheVariants.{Aborted, NoConnection, NoMemory};
 ghost use Rattle.socket_side.specs.Causes.{AbortCause, GoesCause, LookCause, StartCause, TakenCause, cause_of};
-ghost use Rattle.socket_side.specs.Running.{Aborts, GoesOn, IsAwaited, IsConnecting, IsHandedOver, IsNoTarget, Looks, RestsOn, Settles, Starts, Stops, TakesEnd, event_of, is_busy, is_moving, over, port_in};
+ghost use Rattle.socket_side.specs.Running.{Aborts, GoesOn, IsAwaited, IsConnecting, IsHandedOver, IsNoTarget, Looks, RestsOn, Settles, Starts, TakesEnd, event_of, is_busy, is_moving, over, port_in};
 ghost use Rattle.transfer_ticket.specs.Tickets as ticket;
 ghost use Rattle.transfer_ticket.specs.Views.{owner_view};
 ghost use Rattle.transfer_ticket.specs.declared.view.TicketView.TheVariants.{Idle};
 
 use crate::ports::SharedPorts;
-use crate::run::SessionRun;
-use crate::running::{Prepared, Running, is_upload, lane_job, over, taken_back};
+use crate::run::{SessionRun, Taken};
+use crate::running::{Prepared, Running, is_upload, lane_job, over};
 use data_sockets::{DataConnection, Outgoing, Progress, TransferEnd, accept_from, socket_address};
 use event_word::{has_passed, micros};
 use ftp_wire::HostPort;
@@ -84,27 +84,6 @@ fn event_of<K: Drop>(end: Option<TransferEnd<K>>) -> Option<DataEvent<K>>
     match end {
         Some(TransferEnd { end, sink, .. }) => Some(DataEvent::Ended { end, sink }),
         None => None,
-    }
-}
-
-// Takes a transfer back from the lanes, or has the lane that runs it stop.
-fn stop<S: Store<Global>>(
-    owner: &mut TicketOwner<'_, SessionJob<S>, SessionEnd<S>, LaneEnds>,
-    connection: DataConnection,
-) -> Running<S::Source, S::Sink>
-    requires busy { ticket.is_busy (owner_view owner.old) ≡ true }
-    ensures stops { Stops (owner_view owner.old) connection result (owner_view owner.new) }
-{
-    match owner.cancel() {
-        Some(job) => taken_back(job),
-        None => {
-            connection.abort();
-            let _ = owner.stop();
-            Running::Moving {
-                connection,
-                is_aborted: true,
-            }
-        }
     }
 }
 
@@ -284,12 +263,7 @@ where
         ensures cause { self.new.cause ≡ self.old.cause }
     {
         let job = lane_job(job, theirs, user, self.session);
-        let is_to_list = self.run.owner.put(job);
-        self.run.running = Running::Moving {
-            connection: own,
-            is_aborted: false,
-        };
-        if is_to_list {
+        if self.run.put(own, job) {
             self.list();
         }
         self.house.jobs.signal_one();
@@ -448,40 +422,13 @@ where
         ensures cause { AbortCause self.old.run.running self.new.run.running self.old.cause
             self.new.cause }
     {
-        let before = mem::replace(&mut self.run.running, Running::Nothing);
-        self.run.running = match before {
-            Running::Awaited {
-                listener,
-                port,
-                job,
-                since: _,
-            } => {
-                self.close_port(listener, port);
-                self.cause = Some(EndCause::Aborted);
-                over(End::Aborted, job)
-            }
-            Running::Connecting {
-                outgoing,
-                job,
-                since: _,
-            } => {
-                drop(outgoing);
-                self.cause = Some(EndCause::Aborted);
-                over(End::Aborted, job)
-            }
-            Running::Moving {
-                connection,
-                is_aborted: _,
-            } => {
-                let stopped = stop::<S>(&mut self.run.owner, connection);
-                if let Running::Over(_) = &stopped {
-                    self.cause = Some(EndCause::Aborted);
-                }
-                stopped
-            }
-            Running::Nothing => Running::Nothing,
-            Running::Over(told) => Running::Over(told),
-        };
+        let is_open = !matches!(&self.run.running, Running::Nothing | Running::Over(_));
+        if let Some((listener, port)) = self.run.abort() {
+            self.close_port(listener, port);
+        }
+        if is_open && matches!(&self.run.running, Running::Over(_)) {
+            self.cause = Some(EndCause::Aborted);
+        }
     }
 
     // Takes the end of the running transfer, if it has ended. If it was aborted, the end is `Aborted` whatever the lane
@@ -493,57 +440,18 @@ where
         ensures ready { self.new.ready ≡ self.old.ready }
         ensures cause { TakenCause self.old.run.running result self.old.cause self.new.cause }
     {
-        let before = mem::replace(&mut self.run.running, Running::Nothing);
-        match before {
-            Running::Nothing => None,
-            Running::Over(told) => Some(told),
-            Running::Awaited {
-                listener,
-                port,
-                job,
-                since,
-            } => {
-                self.run.running = Running::Awaited {
-                    listener,
-                    port,
-                    job,
-                    since,
-                };
-                None
+        match self.run.take_end() {
+            Taken::Nothing => None,
+            Taken::Unbegun(told) => Some(told),
+            Taken::Reported(told, is_aborted, fault) => {
+                let TransferEnd { end, sink, moved } = told;
+                self.cause = cause_of(is_aborted, end, fault);
+                Some(TransferEnd {
+                    end: end_of(is_aborted, end),
+                    sink,
+                    moved,
+                })
             }
-            Running::Connecting {
-                outgoing,
-                job,
-                since,
-            } => {
-                self.run.running = Running::Connecting {
-                    outgoing,
-                    job,
-                    since,
-                };
-                None
-            }
-            Running::Moving {
-                connection,
-                is_aborted,
-            } => match self.run.owner.take_end() {
-                Some(TransferEnd { end, sink, moved }) => {
-                    self.cause = cause_of(is_aborted, end, connection.fault());
-                    drop(connection);
-                    Some(TransferEnd {
-                        end: end_of(is_aborted, end),
-                        sink,
-                        moved,
-                    })
-                }
-                None => {
-                    self.run.running = Running::Moving {
-                        connection,
-                        is_aborted,
-                    };
-                    None
-                }
-            },
         }
     }
 
@@ -556,30 +464,25 @@ where
         ensures ready { self.new.ready ≡ self.old.ready }
         ensures cause { GoesCause self.old.run.running self.old.cause self.new.cause }
     {
-        let before = mem::replace(&mut self.run.running, Running::Nothing);
-        match before {
-            Running::Awaited {
-                listener,
-                port,
-                job,
-                since,
-            } => self.await_client(listener, port, job, since, user),
-            Running::Connecting {
-                outgoing,
-                job,
-                since,
-            } => self.await_answer(outgoing, job, since, user),
-            Running::Nothing => {}
-            Running::Moving {
-                connection,
-                is_aborted,
-            } => {
-                self.run.running = Running::Moving {
-                    connection,
-                    is_aborted,
-                };
-            }
-            Running::Over(told) => self.run.running = Running::Over(told),
+        match self.run.take_out() {
+            Some(
+                Running::Awaited {
+                    listener,
+                    port,
+                    job,
+                    since,
+                },
+            ) => self.await_client(listener, port, job, since, user),
+            Some(
+                Running::Connecting {
+                    outgoing,
+                    job,
+                    since,
+                },
+            ) => self.await_answer(outgoing, job, since, user),
+            Some(Running::Over(told)) => self.run.running = Running::Over(told),
+            Some(Running::Moving { .. }) => unreachable!(),
+            Some(Running::Nothing) | None => {}
         }
     }
 

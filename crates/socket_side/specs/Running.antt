@@ -191,7 +191,7 @@ module _ {R K : Type 0} where
   port_of (running.Moving connection is_aborted) = None
   port_of (running.Over told) = None
 
-  -- what a lane reports of a transfer on the ticket
+  -- the report of a lane on a transfer on the ticket
   abbrev pub IsReported : Ticket R K → Bool → TransferEnd K → Type 0
   IsReported view is_aborted told =
       (told.end ≡ Aborted → is_aborted ≡ true) × HasSinkOf (has_upload view) told

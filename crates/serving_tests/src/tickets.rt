@@ -29,7 +29,9 @@ fn transfer_ticket(rt: HostRuntime) {
         panic!(rt; "nobody sits there")
     };
     let is_to_list = owner.put(7); // its number goes on the board
-    let back = owner.cancel(); // no lane has begun it
+    let Some(back) = owner.cancel() else {
+        panic!(rt; "no lane has begun it")
+    };
     let is_to_list_again = owner.put(8); // it is on the board
     let Ok((number, mut run)) = TicketRun::take(&ticket) else {
         panic!(rt; "a job waits")
@@ -46,7 +48,7 @@ fn transfer_ticket(rt: HostRuntime) {
         panic!(rt; "an end is reported")
     };
     owner.leave();
-    holds(&rt, is_to_list && back == Some(7) && !is_to_list_again);
+    holds(&rt, is_to_list && back == 7 && !is_to_list_again);
     holds(&rt, !is_over && is_asked && is_there);
     holds(&rt, end.number == 8 && end.is_stopped);
 }

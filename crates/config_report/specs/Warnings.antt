@@ -127,13 +127,13 @@ may_browse letters = list_any (nat_eq 101) letters && list_any (nat_eq 108) lett
 
 -- ---- of the root
 
--- there is no folder at the root, so no home is there either
-abbrev pub is_nowhere : Option Sight → Bool
-is_nowhere None = false
-is_nowhere (Some sight.Listed) = false
-is_nowhere (Some sight.Absent) = true
-is_nowhere (Some sight.NoFolder) = true
-is_nowhere (Some sight.Closed) = false
+-- the root is no folder whose entries can be listed, so that nothing is known of homes in it
+abbrev pub is_unlisted : Option Sight → Bool
+is_unlisted None = false
+is_unlisted (Some sight.Listed) = false
+is_unlisted (Some sight.Absent) = true
+is_unlisted (Some sight.NoFolder) = true
+is_unlisted (Some sight.Closed) = true
 
 abbrev pub sight_warnings : Bor (List ℕ) → Option Sight → List Warning
 sight_warnings root None = []
@@ -159,9 +159,9 @@ file_warnings mode rows =
 
 -- ---- of a user's home
 
--- the home is no directory, of a folder or a store that is there
+-- the home is no directory of the store in memory, or of a folder that can be listed
 abbrev pub lacks_home : Option Sight → SeenUser → Bool
-lacks_home root row = not row.has_home && not (is_nowhere root)
+lacks_home root row = not row.has_home && not (is_unlisted root)
 
 -- ---- all
 

@@ -116,5 +116,12 @@ pub fn warning_texts<L: Lookout>(
     ensures refused { IfErr result (IsFaultOfText octets.now) }
 {
     let mut config = Config::read(alloc, octets)?;
-    told_of(alloc, Part::Warnings, path, octets, lookout, &mut config.store)
+    told_of(
+        alloc,
+        Part::Warnings,
+        path,
+        octets,
+        lookout,
+        &mut config.store,
+    )
 }

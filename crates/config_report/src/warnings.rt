@@ -3,7 +3,7 @@
 ghost use Rattle.std.specs.Prelude.{◌≡◌, ◌++◌, IfOk, OnOk};
 ghost use Rattle.server_config.specs.Settings.{told_address};
 ghost use Rattle.std.specs.List.{list_any};
-ghost use Rattle.config_report.specs.Warnings.{access_warnings, file_warnings, floor_warnings, has_few_ports, has_word, is_among_own, is_nowhere, is_open, is_public, is_untold, lacks_home, port_warnings, root_warnings, sight_warnings, user_warnings, warnings};
+ghost use Rattle.config_report.specs.Warnings.{access_warnings, file_warnings, floor_warnings, has_few_ports, has_word, is_among_own, is_open, is_public, is_unlisted, is_untold, lacks_home, port_warnings, root_warnings, sight_warnings, user_warnings, warnings};
 
 use crate::floors::{is_single, is_unmet};
 use crate::letters::may_browse;
@@ -81,18 +81,21 @@ fn has_passwords(rows: &[SeenUser]) -> bool
     false
 }
 
-/// Returns whether there is no folder at the root.
-fn is_nowhere(root: Option<Sight>) -> bool
-    ensures nowhere { result ≡ is_nowhere root }
+/// Returns whether the root is no folder whose entries can be listed, so that nothing is known of homes in it.
+fn is_unlisted(root: Option<Sight>) -> bool
+    ensures unlisted { result ≡ is_unlisted root }
 {
-    matches!(root, Some(Sight::Absent | Sight::NoFolder))
+    match root {
+        None | Some(Sight::Listed) => false,
+        Some(Sight::Absent | Sight::NoFolder | Sight::Closed) => true,
+    }
 }
 
-/// Returns whether a home is no directory, of a folder or a store that is there.
+/// Returns whether a home is no directory of the store in memory, or of a folder that can be listed.
 fn lacks_home(root: Option<Sight>, row: &SeenUser) -> bool
     ensures lacks { result ≡ lacks_home root row.now }
 {
-    !row.has_home && !is_nowhere(root)
+    !row.has_home && !is_unlisted(root)
 }
 
 /// Adds the warnings of the root.
@@ -118,11 +121,12 @@ fn warn_of_sight<'a>(
         (found.new.items ≡ found.old.items ++ sight_warnings root.entry sight) }
 {
     match sight {
-        Some(Sight::Absent) => found.push(Warning::AbsentRoot { root }),
-        Some(Sight::NoFolder) => found.push(Warning::NoFolderRoot { root }),
-        Some(Sight::Closed) => found.push(Warning::ClosedRoot { root }),
-        Some(Sight::Listed) | None => Ok(()),
+        Some(Sight::Absent) => found.push(Warning::AbsentRoot { root })?,
+        Some(Sight::NoFolder) => found.push(Warning::NoFolderRoot { root })?,
+        Some(Sight::Closed) => found.push(Warning::ClosedRoot { root })?,
+        Some(Sight::Listed) | None => {}
     }
+    Ok(())
 }
 
 /// Adds the warning of the configuration's file.

@@ -1,8 +1,6 @@
 -- What a report sees of the machine, and of the store.
-use Rattle.std.specs.Prelude.{◌≡◌, ℕ, Bool, false, List, [], Option, Some, None, Result, Ok, Err, length, string_bytes}
-use Rattle.std.specs.Prelude.{slice_get}
+use Rattle.std.specs.Prelude.{◌≡◌, ℕ, Bool, false, true, List, [], Option, Some, None, Result, Ok, Err, Vec, length, slice_get, string_bytes}
 use Rattle.std.specs.declared.alloc.Global.{Global}
-use Rattle.std.specs.Prelude.{Vec}
 use Rattle.ftp_terms.specs.declared.entries.EntryKind.{EntryKind}
 use Rattle.ftp_terms.specs.declared.entries.EntryKind.TheVariants as kind
 use Rattle.virtual_path.specs.Path.{Path, resolved}
@@ -59,7 +57,7 @@ HasHome shown (served.Folder root) home has =
 
 -- ---- the root
 
--- what is at the root, if it is a folder
+-- this is at the root, if it is a folder
 abbrev pub IsRootSeen : Shown → ServedStore → Option Sight → Type 0
 IsRootSeen shown (served.Memory store) seen = seen ≡ None
 IsRootSeen shown (served.Folder root) None = ⊥
@@ -83,9 +81,9 @@ pub record AreRows (shown : Shown) (store : ServedStore) (users : List UserTable
   pub each : (i : ℕ) (row : SeenUser) → slice_get rows i ≡ Some row
       → IsRowOf shown store users overrides i row
 
--- what is seen for a configuration, whose file has that path
+-- this is seen for a configuration, whose file has that path
 pub record IsSeen (shown : Shown) (path : List ℕ) (store : ServedStore) (users : List UserTable)
     (overrides : List (Vec OverrideTable Global)) (seen : Seen) : Type 0 where
-  pub root : IsRootSeen shown store seen.root
-  pub users : AreRows shown store users overrides seen.users.items
-  pub mode : shown.mode path seen.mode
+  pub at_root : IsRootSeen shown store seen.root
+  pub rows : AreRows shown store users overrides seen.users.items
+  pub bits : shown.mode path seen.mode

@@ -51,7 +51,8 @@ user_line user =
 
 -- the paths that an override covers, from its own
 abbrev pub reach_text : OverrideTable → List ℕ
-reach_text rule = if rule.recursive then codes "and all beneath it" else codes "and the entries in it"
+reach_text rule =
+    if rule.recursive then codes "and all beneath it" else codes "and the entries in it"
 
 abbrev pub override_line : OverrideTable → List ℕ
 override_line rule =

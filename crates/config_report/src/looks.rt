@@ -5,7 +5,7 @@ ghost use Rattle.config_report.specs.Looks.{Shown, anything};
 
 use virtual_path::VPath;
 
-/// What is at the path of a folder.
+/// The thing at the path of a folder.
 #[derive(Clone, Copy, Debug, PartialEq, Eq)]
 pub enum Sight {
     /// A folder whose entries can be listed.

@@ -1,4 +1,4 @@
-//! What is seen for a report: of the machine, and of the store.
+//! The things seen for a report: of the machine, and of the store.
 
 ghost use Rattle.std.specs.Prelude.{◌≡◌, IfOk, length, map};
 ghost use Rattle.config_report.specs.Looks.{AreRows, IsRootSeen, IsSeen};
@@ -18,10 +18,10 @@ pub(crate) struct SeenUser<'t, 'a> {
     pub(crate) has_home: bool,
 }
 
-/// What is seen for a configuration.
+/// The things seen for a configuration.
 #[derive(Drop)]
 pub(crate) struct Seen<'t, 'a> {
-    /// What is at the root; none with a store in memory.
+    /// The thing at the root; none with a store in memory.
     pub(crate) root: Option<Sight>,
     /// The users, in their order.
     pub(crate) users: Vec<SeenUser<'t, 'a>>,

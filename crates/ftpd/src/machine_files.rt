@@ -1,4 +1,4 @@
-//! The files of the machine that the program runs on: they are opened for commands, and looked at for reports.
+//! The files of the machine that the program runs on: they are opened for commands, and examined for reports.
 
 use config_report::{Lookout, Sight};
 use folder_store::DirStore;

@@ -20,8 +20,8 @@ use Rattle.ftpd_program.specs.declared.printing.Print.{Print}
 use Rattle.ftpd_program.specs.declared.printing.Print.TheVariants.{Report, ReportJson, Latest, Plan as PlanOf, PlanJson}
 use Rattle.ftpd_program.specs.declared.scripting.ScriptFault.TheVariants.{Session as Unserved}
 
--- the ending of a command that prints a text about a configuration, by the possible results of looks
--- at the machine, and the contents that its file may have
+-- the ending of a command that prints a text about a configuration, by the possible results of
+-- looks at the machine, and the contents that its file may have
 abbrev pub IsPrintEnd : Print → Shown → Octets → (List ℕ → Type 0) → Option (List ℕ)
     → Option (List ℕ) → FtpdExit → Type 0
 IsPrintEnd print shown gives Refuses old new (Common Done) =

@@ -115,7 +115,8 @@ pub fn run_print<R: TextReader, W: TextWriter, L: Lookout>(
         → R.may_fail reader.old ≡ true }
     ensures write_fault { IsErrOf result (PrintFault.Text TextFault.WriteFault)
         → (text printed : List ℕ) × IsTextOf text (R.remaining reader.old)
-        × IsPrintOf print.entry (L.Shows lookout.now) text printed × W.may_refuse writer.old printed }
+        × IsPrintOf print.entry (L.Shows lookout.now) text printed
+        × W.may_refuse writer.old printed }
     ensures unwritten { IfErr result (λ fault. fault ≢ PrintFault.Text TextFault.WriteFault
         → writer.new ≡ writer.old) }
 {

@@ -1,5 +1,5 @@
 -- The lines of the report on a configuration.
-use Rattle.std.specs.Prelude.{ℕ, ◌&&◌, if◌then◌else◌, nat_eq, List, [], ◌∷◌, ◌++◌, codes, length}
+use Rattle.std.specs.Prelude.{ℕ, ◌&&◌, if◌then◌else◌, nat_eq, List, [], ◌∷◌, ◌++◌, codes}
 use Rattle.std.specs.Fmt.{decimal}
 use Rattle.std.specs.List.{flat_map}
 use Rattle.config_file.specs.declared.stated.ServerTable.{ServerTable}
@@ -95,9 +95,9 @@ warning_row warning = warning_text warning ++ 10 ∷ []
 
 -- ---- all
 
-abbrev pub report_text : Tables → List SeenUser → List Warning → List ℕ
-report_text tables rows warnings =
-    server_lines tables.server (length tables.dirs.items) (length tables.files.items)
-    ++ server_rates tables.server ++ flat_map group_rates tables.groups.items
-    ++ flat_map user_rates tables.users.items
+abbrev pub report_text : Tables → List GroupTable → List UserTable → List SeenUser → List Warning
+    → List ℕ
+report_text tables groups users rows warnings =
+    server_lines tables ++ server_rates tables.server ++ flat_map group_rates groups
+    ++ flat_map user_rates users
     ++ users_head ++ flat_map user_lines rows ++ flat_map warning_line warnings

@@ -75,15 +75,16 @@ IsRowOf shown store users overrides i row =
     × HasHome shown store user.home.now row.has_home
 
 -- a row for each user, in their order
-pub record AreRows (shown : Shown) (store : ServedStore) (users : List UserTable)
-    (overrides : List (Vec OverrideTable Global)) (rows : List SeenUser) : Type 0 where
-  pub count : length rows ≡ length users
-  pub each : (i : ℕ) (row : SeenUser) → slice_get rows i ≡ Some row
-      → IsRowOf shown store users overrides i row
+abbrev pub AreRows : Shown → ServedStore → List UserTable → List (Vec OverrideTable Global)
+    → List SeenUser → Type 0
+AreRows shown store users overrides rows =
+    (length rows ≡ length users)
+    × ((i : ℕ) (row : SeenUser) → slice_get rows i ≡ Some row
+    → IsRowOf shown store users overrides i row)
 
 -- this is seen for a configuration, whose file has that path
-pub record IsSeen (shown : Shown) (path : List ℕ) (store : ServedStore) (users : List UserTable)
-    (overrides : List (Vec OverrideTable Global)) (seen : Seen) : Type 0 where
-  pub at_root : IsRootSeen shown store seen.root
-  pub rows : AreRows shown store users overrides seen.users.items
-  pub bits : shown.mode path seen.mode
+abbrev pub IsSeen : Shown → List ℕ → ServedStore → List UserTable → List (Vec OverrideTable Global)
+    → Seen → Type 0
+IsSeen shown path store users overrides seen =
+    IsRootSeen shown store seen.root
+    × AreRows shown store users overrides seen.users.items × shown.mode path seen.mode

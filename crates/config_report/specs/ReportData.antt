@@ -157,9 +157,9 @@ whole_data tables groups users told =
     (member (codes "version") (count_data 1)
     (member (codes "warnings") told no_members)))))))))))
 
-abbrev pub report_data : Tables → List SeenUser → List Warning → Data
-report_data tables rows warnings =
-    whole_data tables (array (items_of (map group_data tables.groups.items)))
+abbrev pub report_data : Tables → List GroupTable → List SeenUser → List Warning → Data
+report_data tables groups rows warnings =
+    whole_data tables (array (items_of (map group_data groups)))
     (array (items_of (map row_data rows))) (array (items_of (map warning_data warnings)))
 
 -- the text is JSON of that value, and a line feed

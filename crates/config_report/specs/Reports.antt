@@ -19,27 +19,27 @@ use Rattle.config_report.specs.Warnings.{warnings}
 
 -- the warnings of tables, by what is seen for them
 abbrev pub warnings_by : Tables → Seen → List Warning
-warnings_by tables seen = warnings tables.server tables.groups.items seen
+warnings_by tables seen =
+    warnings tables.server tables.groups.items seen.root seen.mode seen.users.items
 
 -- the text is that part of the report on tables, by what is seen for them
 abbrev pub IsToldBy : Part → Tables → Seen → List ℕ → Type 0
 IsToldBy Whole tables seen text =
-    text ≡ report_text tables seen.users.items (warnings_by tables seen)
+    text ≡ report_text tables tables.groups.items tables.users.items seen.users.items
+    (warnings_by tables seen)
 IsToldBy Json tables seen text =
-    IsJsonOf (report_data tables seen.users.items (warnings_by tables seen)) text
+    IsJsonOf
+    (report_data tables tables.groups.items seen.users.items (warnings_by tables seen)) text
 IsToldBy Warnings tables seen text = text ≡ flat_map warning_row (warnings_by tables seen)
 
 -- the same for the tables that the octets of the file of a path state, given the store that is made
 -- of them, and the possible results of looks at the machine
-pub record IsReport (part : Part) (shown : Shown) (path octets : List ℕ) (store : ServedStore)
-    (text : List ℕ) : Type 0 where
-  pub document : Members
-  pub parsed : parse_document octets ≡ Some document
-  pub tables : Tables
-  pub stated : IsTables document tables
-  pub seen : Seen
-  pub looks : IsSeen shown path store tables.users.items tables.overrides.items seen
-  pub told : IsToldBy part tables seen text
+abbrev pub IsReport : Part → Shown → List ℕ → List ℕ → ServedStore → List ℕ → Type 0
+IsReport part shown path octets store text =
+    (document : Members) × (tables : Tables) × (seen : Seen) × (parse_document octets ≡ Some document)
+    × IsTables document tables
+    × IsSeen shown path store tables.users.items tables.overrides.items seen
+    × IsToldBy part tables seen text
 
 -- the same for the store that is made of those tables
 abbrev pub IsPartOf : Part → Shown → List ℕ → List ℕ → List ℕ → Type 0

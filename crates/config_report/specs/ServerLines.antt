@@ -1,9 +1,10 @@
 -- The lines of a report on the server.
-use Rattle.std.specs.Prelude.{ℕ, if◌then◌else◌, nat_eq, List, [], ◌∷◌, ◌++◌, bytes_eq, codes}
+use Rattle.std.specs.Prelude.{ℕ, if◌then◌else◌, nat_eq, List, [], ◌∷◌, ◌++◌, bytes_eq, codes, length}
 use Rattle.std.specs.Fmt.{decimal}
 use Rattle.std.specs.Net.Addr.{ipv4_octets}
 use Rattle.std.specs.Net.Text.{ipv4_text}
 use Rattle.config_file.specs.declared.stated.ServerTable.{ServerTable}
+use Rattle.config_file.specs.declared.tables.Tables.{Tables}
 use Rattle.server_config.specs.Settings.{told_address}
 use Rattle.config_report.specs.Warnings.{is_untold}
 
@@ -88,23 +89,26 @@ sessions_line server =
     else codes "ends after " ++ decimal server.sessions ++ codes " sessions" ++ 10 ∷ []
 
 -- the capacity of a store in memory, and its first directories and files; nothing of a folder
-abbrev pub contents_text : ServerTable → ℕ → ℕ → List ℕ
-contents_text server dirs files =
-    if bytes_eq server.root.now (codes "memory")
-    then codes ", at most " ++ decimal server.capacity ++ codes " octets, at first " ++ decimal dirs
-    ++ codes " directories and " ++ decimal files ++ codes " files"
+abbrev pub contents_text : Tables → List ℕ
+contents_text tables =
+    if bytes_eq tables.server.root.now (codes "memory")
+    then codes ", at most " ++ decimal tables.server.capacity ++ codes " octets, at first "
+    ++ decimal (length tables.dirs.items) ++ codes " directories and "
+    ++ decimal (length tables.files.items) ++ codes " files"
     else []
 
-abbrev pub serves_line : ServerTable → ℕ → ℕ → List ℕ
-serves_line server dirs files =
-    (codes "serves " ++ server.root.now) ++ contents_text server dirs files ++ 10 ∷ []
+abbrev pub root_text : ServerTable → List ℕ
+root_text server = codes "serves " ++ server.root.now
 
-abbrev pub offer_lines : ServerTable → ℕ → ℕ → List ℕ
-offer_lines server dirs files =
-    connects_line server ++ sessions_line server ++ serves_line server dirs files
+abbrev pub serves_line : Tables → List ℕ
+serves_line tables = root_text tables.server ++ contents_text tables ++ 10 ∷ []
+
+abbrev pub offer_lines : Tables → List ℕ
+offer_lines tables =
+    connects_line tables.server ++ sessions_line tables.server ++ serves_line tables
 
 -- ---- all
 
-abbrev pub server_lines : ServerTable → ℕ → ℕ → List ℕ
-server_lines server dirs files =
-    network_lines server ++ bound_lines server ++ offer_lines server dirs files
+abbrev pub server_lines : Tables → List ℕ
+server_lines tables =
+    network_lines tables.server ++ bound_lines tables.server ++ offer_lines tables

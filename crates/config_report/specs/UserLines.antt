@@ -63,8 +63,13 @@ override_line rule =
 abbrev pub text_line : List ℕ → List ℕ → List ℕ → List ℕ
 text_line head usual told = if bytes_eq told usual then [] else head ++ told ++ 10 ∷ []
 
+abbrev pub login_line : UserTable → List ℕ
+login_line user = text_line (codes "  at login: ") (codes "Welcome") user.msg_login.now
+
+abbrev pub quit_line : UserTable → List ℕ
+quit_line user = text_line (codes "  at QUIT: ") (codes "Goodbye") user.msg_quit.now
+
 abbrev pub user_lines : SeenUser → List ℕ
 user_lines row =
-    user_line row.user.now ++ flat_map override_line row.overrides.now
-    ++ text_line (codes "  at login: ") (codes "Welcome") row.user.now.msg_login.now
-    ++ text_line (codes "  at QUIT: ") (codes "Goodbye") row.user.now.msg_quit.now
+    user_line row.user.now ++ flat_map override_line row.overrides.now ++ login_line row.user.now
+    ++ quit_line row.user.now

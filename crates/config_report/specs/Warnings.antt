@@ -10,7 +10,6 @@ use Rattle.config_file.specs.declared.stated.UserTable.{UserTable}
 use Rattle.server_config.specs.Settings.{told_address}
 use Rattle.config_report.specs.declared.looks.Sight.{Sight}
 use Rattle.config_report.specs.declared.looks.Sight.TheVariants as sight
-use Rattle.config_report.specs.declared.seen.Seen.{Seen}
 use Rattle.config_report.specs.declared.seen.SeenUser.{SeenUser}
 use Rattle.config_report.specs.declared.warning.Warning.{Warning}
 use Rattle.config_report.specs.declared.warning.Warning.TheVariants.{NearlyMemory, RelativeRoot, AbsentRoot, NoFolderRoot, ClosedRoot, PublicPasswords, NoAddress, OwnPorts, FewPorts, NoPassword, Unbrowsed, NoFirstSession, NoSecondSession, NoHome}
@@ -165,10 +164,10 @@ lacks_home root row = not row.has_home && not (is_unlisted root)
 
 -- ---- all
 
-abbrev pub server_warnings : ServerTable → Seen → List Warning
-server_warnings server seen =
-    root_warnings server.root ++ sight_warnings server.root seen.root ++ port_warnings server
-    ++ file_warnings seen.mode seen.users.items
+abbrev pub server_warnings : ServerTable → Option Sight → Option ℕ → List SeenUser → List Warning
+server_warnings server root mode rows =
+    root_warnings server.root ++ sight_warnings server.root root ++ port_warnings server
+    ++ file_warnings mode rows
 
 abbrev pub access_warnings : UserTable → List Warning
 access_warnings user =
@@ -186,7 +185,7 @@ user_warnings server groups root row =
     ++ (if lacks_home root row then NoHome row.user.now.name row.user.now.home ∷ [] else [])
 
 -- those of the root, of the server and of the file, and then those of the users in their order
-abbrev pub warnings : ServerTable → List GroupTable → Seen → List Warning
-warnings server groups seen =
-    server_warnings server seen
-    ++ flat_map (user_warnings server groups seen.root) seen.users.items
+abbrev pub warnings : ServerTable → List GroupTable → Option Sight → Option ℕ → List SeenUser
+    → List Warning
+warnings server groups root mode rows =
+    server_warnings server root mode rows ++ flat_map (user_warnings server groups root) rows

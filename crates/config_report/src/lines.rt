@@ -156,18 +156,19 @@ pub(crate) fn warning_rows(alloc: Global, warnings: &[Warning]) -> Result<String
 pub(crate) fn lines_of(
     alloc: Global,
     tables: &Tables,
+    groups: &[GroupTable],
+    users: &[UserTable],
     rows: &[SeenUser],
     warnings: &[Warning],
 ) -> Result<String, AllocError>
     ensures text { IfOk result (λ text. string_bytes text
-        ≡ report_text tables.now rows.now warnings.now) }
+        ≡ report_text tables.now groups.now users.now rows.now warnings.now) }
 {
-    let (dirs, files) = (tables.dirs.len(), tables.files.len());
     let mut text = String::new(alloc);
-    write_server(&mut text, &tables.server, dirs, files)?;
+    write_server(&mut text, tables)?;
     write_server_rates(&mut text, &tables.server)?;
-    write_groups(&mut text, tables.groups.as_slice())?;
-    write_rates_of_users(&mut text, tables.users.as_slice())?;
+    write_groups(&mut text, groups)?;
+    write_rates_of_users(&mut text, users)?;
     write_users_head(&mut text)?;
     write_users(alloc, &mut text, rows)?;
     write_warnings(&mut text, warnings)?;

@@ -1,6 +1,5 @@
 //! Looks at the machine on which a configuration is judged.
 
-ghost use Rattle.std.specs.Prelude.{◌≡◌, ℕ, List, Option, Bool};
 ghost use Rattle.config_report.specs.Looks.{Shown, anything};
 
 use virtual_path::VPath;

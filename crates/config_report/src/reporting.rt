@@ -35,12 +35,14 @@ fn text_of(
     ensures text { IfOk result
         (λ text. IsToldBy part tables.now seen.now (string_bytes text)) }
 {
-    let rows = seen.users.as_slice();
-    let warnings = warnings_of(alloc, &tables.server, tables.groups.as_slice(), seen)?;
+    let (groups, users) = (tables.groups.as_slice(), tables.users.as_slice());
+    let (server, rows) = (&tables.server, seen.users.as_slice());
+    let warnings = warnings_of(alloc, server, groups, seen.root, seen.mode, rows)?;
+    let told = warnings.as_slice();
     match part {
-        Part::Whole => lines_of(alloc, tables, rows, warnings.as_slice()),
-        Part::Json => json_text(alloc, tables, rows, warnings.as_slice()),
-        Part::Warnings => warning_rows(alloc, warnings.as_slice()),
+        Part::Whole => lines_of(alloc, tables, groups, users, rows, told),
+        Part::Json => json_text(alloc, tables, groups, rows, told),
+        Part::Warnings => warning_rows(alloc, told),
     }
 }
 

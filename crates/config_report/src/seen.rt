@@ -1,6 +1,6 @@
 //! The things seen for a report: of the machine, and of the store.
 
-ghost use Rattle.std.specs.Prelude.{◌≡◌, IfOk, length, map};
+ghost use Rattle.std.specs.Prelude.{◌≡◌, IfOk, length};
 ghost use Rattle.config_report.specs.Looks.{AreRows, IsRootSeen, IsSeen};
 
 use crate::homes::has_home;

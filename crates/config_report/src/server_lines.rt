@@ -3,10 +3,10 @@
 ghost use Rattle.std.specs.Prelude.{◌≡◌, ◌++◌, OnOk, string_bytes};
 ghost use Rattle.std.specs.Net.Addr.{ipv4_octets};
 ghost use Rattle.std.specs.Net.Text.{ipv4_text};
-ghost use Rattle.config_report.specs.ServerLines.{attempts_line, bound_lines, connects_line, contents_text, from_one_line, greets_line, listens_line, lowest_port, network_lines, offer_lines, port_text, ports_text, server_lines, serves_line, sessions_line, takes_line, tells_line, told_text, whom_text};
+ghost use Rattle.config_report.specs.ServerLines.{attempts_line, bound_lines, connects_line, contents_text, from_one_line, greets_line, listens_line, lowest_port, network_lines, offer_lines, port_text, ports_text, root_text, server_lines, serves_line, sessions_line, takes_line, tells_line, told_text, whom_text};
 
 use crate::warnings::{is_untold, told_address};
-use config_file::ServerTable;
+use config_file::{ServerTable, Tables};
 use std::alloc::AllocError;
 use std::net::Ipv4Addr;
 
@@ -152,37 +152,35 @@ fn write_sessions(text: &mut String, server: &ServerTable) -> Result<(), AllocEr
     }
 }
 
-/// Writes the capacity of a store in memory, and the numbers of its directories and files; nothing of a folder.
-fn write_contents(
-    text: &mut String,
-    server: &ServerTable,
-    dirs: usize,
-    files: usize,
-) -> Result<(), AllocError>
-    ensures contents { OnOk result
-        (string_bytes text.new ≡ string_bytes text.old ++ contents_text server.now dirs files) }
+fn write_root(text: &mut String, server: &ServerTable) -> Result<(), AllocError>
+    ensures root { OnOk result
+        (string_bytes text.new ≡ string_bytes text.old ++ root_text server.now) }
 {
-    if server.root != MEMORY {
+    write!(text, "serves {}", server.root)
+}
+
+/// Writes the capacity of a store in memory, and the numbers of its directories and files; nothing of a folder.
+fn write_contents(text: &mut String, tables: &Tables) -> Result<(), AllocError>
+    ensures contents { OnOk result
+        (string_bytes text.new ≡ string_bytes text.old ++ contents_text tables.now) }
+{
+    if tables.server.root != MEMORY {
         return Ok(());
     }
-    let most = server.capacity;
+    let most = tables.server.capacity;
+    let (dirs, files) = (tables.dirs.len(), tables.files.len());
     write!(
         text,
         ", at most {most} octets, at first {dirs} directories and {files} files"
     )
 }
 
-fn write_serves(
-    text: &mut String,
-    server: &ServerTable,
-    dirs: usize,
-    files: usize,
-) -> Result<(), AllocError>
+fn write_serves(text: &mut String, tables: &Tables) -> Result<(), AllocError>
     ensures line { OnOk result
-        (string_bytes text.new ≡ string_bytes text.old ++ serves_line server.now dirs files) }
+        (string_bytes text.new ≡ string_bytes text.old ++ serves_line tables.now) }
 {
-    write!(text, "serves {}", server.root)?;
-    write_contents(text, server, dirs, files)?;
+    write_root(text, &tables.server)?;
+    write_contents(text, tables)?;
     write_word(text, "\n")?;
     Ok(())
 }
@@ -207,33 +205,23 @@ fn write_bounds(text: &mut String, server: &ServerTable) -> Result<(), AllocErro
     Ok(())
 }
 
-fn write_offer(
-    text: &mut String,
-    server: &ServerTable,
-    dirs: usize,
-    files: usize,
-) -> Result<(), AllocError>
+fn write_offer(text: &mut String, tables: &Tables) -> Result<(), AllocError>
     ensures lines { OnOk result
-        (string_bytes text.new ≡ string_bytes text.old ++ offer_lines server.now dirs files) }
+        (string_bytes text.new ≡ string_bytes text.old ++ offer_lines tables.now) }
 {
-    write_connects(text, server)?;
-    write_sessions(text, server)?;
-    write_serves(text, server, dirs, files)?;
+    write_connects(text, &tables.server)?;
+    write_sessions(text, &tables.server)?;
+    write_serves(text, tables)?;
     Ok(())
 }
 
-/// Writes the lines of a server, whose store has these numbers of directories and files at first.
-pub(crate) fn write_server(
-    text: &mut String,
-    server: &ServerTable,
-    dirs: usize,
-    files: usize,
-) -> Result<(), AllocError>
+/// Writes the lines of a server.
+pub(crate) fn write_server(text: &mut String, tables: &Tables) -> Result<(), AllocError>
     ensures lines { OnOk result
-        (string_bytes text.new ≡ string_bytes text.old ++ server_lines server.now dirs files) }
+        (string_bytes text.new ≡ string_bytes text.old ++ server_lines tables.now) }
 {
-    write_network(text, server)?;
-    write_bounds(text, server)?;
-    write_offer(text, server, dirs, files)?;
+    write_network(text, &tables.server)?;
+    write_bounds(text, &tables.server)?;
+    write_offer(text, tables)?;
     Ok(())
 }

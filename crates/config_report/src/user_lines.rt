@@ -2,7 +2,7 @@
 
 ghost use Rattle.std.specs.Prelude.{◌≡◌, ◌++◌, OnOk, string_bytes};
 ghost use Rattle.std.specs.List.{flat_map};
-ghost use Rattle.config_report.specs.UserLines.{override_line, reach_text, text_line, user_line, user_lines, users_head};
+ghost use Rattle.config_report.specs.UserLines.{login_line, override_line, quit_line, reach_text, text_line, user_line, user_lines, users_head};
 
 use crate::letters::ordered;
 use crate::seen::SeenUser;
@@ -73,15 +73,28 @@ fn write_text(text: &mut String, head: &str, usual: &str, told: &str) -> Result<
     writeln!(text, "{head}{told}")
 }
 
+fn write_login(text: &mut String, user: &UserTable) -> Result<(), AllocError>
+    ensures line { OnOk result
+        (string_bytes text.new ≡ string_bytes text.old ++ login_line user.now) }
+{
+    write_text(text, "  at login: ", "Welcome", user.msg_login)
+}
+
+fn write_quit(text: &mut String, user: &UserTable) -> Result<(), AllocError>
+    ensures line { OnOk result
+        (string_bytes text.new ≡ string_bytes text.old ++ quit_line user.now) }
+{
+    write_text(text, "  at QUIT: ", "Goodbye", user.msg_quit)
+}
+
 fn write_row(alloc: Global, text: &mut String, row: &SeenUser) -> Result<(), AllocError>
     ensures lines { OnOk result
         (string_bytes text.new ≡ string_bytes text.old ++ user_lines row.now) }
 {
-    let user = row.user;
-    write_user(alloc, text, user)?;
+    write_user(alloc, text, row.user)?;
     write_overrides(alloc, text, row.overrides)?;
-    write_text(text, "  at login: ", "Welcome", user.msg_login)?;
-    write_text(text, "  at QUIT: ", "Goodbye", user.msg_quit)?;
+    write_login(text, row.user)?;
+    write_quit(text, row.user)?;
     Ok(())
 }
 

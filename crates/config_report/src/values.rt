@@ -36,7 +36,7 @@ fn address_value(alloc: Global, address: Ipv4Addr) -> Result<Value, AllocError>
     ensures address { IfOk result (λ v. view v ≡ address_data address) }
 {
     let text = address_text(alloc, address)?;
-    Ok(Value::String(text))
+    Ok(Value::from(text))
 }
 
 /// The address that is announced to clients, or null if it is the one that they reached.
@@ -67,7 +67,7 @@ fn name_value(alloc: Global, name: Option<&str>) -> Result<Value, AllocError>
     match name {
         Some(name) => {
             let text = String::from_str(alloc, name)?;
-            Ok(Value::String(text))
+            Ok(Value::from(text))
         }
         None => Ok(Value::Null),
     }
@@ -207,7 +207,8 @@ fn row_value(alloc: Global, row: &SeenUser<'_, '_>) -> Result<Value, AllocError>
     let group = name_value(alloc, row.user.group)?;
     let overrides = override_values(alloc, row.overrides)?;
     let rates = user_rates_value(alloc, row.user)?;
-    user_members(alloc, row.user, group, Value::Array(overrides), rates)
+    let value = user_members(alloc, row.user, group, Value::Array(overrides), rates)?;
+    Ok(value)
 }
 
 fn row_values(alloc: Global, rows: &[SeenUser<'_, '_>]) -> Result<Vec<Value>, AllocError>
@@ -235,7 +236,7 @@ fn warning_value(alloc: Global, warning: &Warning<'_>) -> Result<Value, AllocErr
     ensures warning { IfOk result (λ v. view v ≡ warning_data warning.now) }
 {
     let text = format!(in alloc; "{warning}")?;
-    Ok(Value::String(text))
+    Ok(Value::from(text))
 }
 
 fn warning_values(alloc: Global, warnings: &[Warning<'_>]) -> Result<Vec<Value>, AllocError>
@@ -279,35 +280,38 @@ fn whole_value(
 fn report_value(
     alloc: Global,
     tables: &Tables<'_>,
+    groups: &[GroupTable<'_>],
     rows: &[SeenUser<'_, '_>],
     warnings: &[Warning<'_>],
 ) -> Result<Value, AllocError>
     ensures report { IfOk result
-        (λ v. view v ≡ report_data tables.now rows.now warnings.now) }
+        (λ v. view v ≡ report_data tables.now groups.now rows.now warnings.now) }
 {
-    let groups = group_values(alloc, tables.groups.as_slice())?;
+    let stated = group_values(alloc, groups)?;
     let users = row_values(alloc, rows)?;
     let told = warning_values(alloc, warnings)?;
-    whole_value(
+    let value = whole_value(
         alloc,
         tables,
-        Value::Array(groups),
+        Value::Array(stated),
         Value::Array(users),
         Value::Array(told),
-    )
+    )?;
+    Ok(value)
 }
 
 /// Returns the report as a text of JSON and a line feed.
 pub(crate) fn json_text(
     alloc: Global,
     tables: &Tables<'_>,
+    groups: &[GroupTable<'_>],
     rows: &[SeenUser<'_, '_>],
     warnings: &[Warning<'_>],
 ) -> Result<String, AllocError>
-    ensures text { IfOk result (λ text.
-        IsJsonOf (report_data tables.now rows.now warnings.now) (string_bytes text)) }
+    ensures text { IfOk result (λ text. IsJsonOf
+        (report_data tables.now groups.now rows.now warnings.now) (string_bytes text)) }
 {
-    let report = report_value(alloc, tables, rows, warnings)?;
+    let report = report_value(alloc, tables, groups, rows, warnings)?;
     let mut text = report.to_string(alloc)?;
     text.push('\n')?;
     Ok(text)

@@ -2,14 +2,14 @@
 
 ghost use Rattle.std.specs.Prelude.{◌≡◌, ◌++◌, IfOk, OnOk};
 ghost use Rattle.server_config.specs.Settings.{told_address};
-ghost use Rattle.std.specs.List.{list_any};
-ghost use Rattle.config_report.specs.Warnings.{access_warnings, file_warnings, floor_warnings, has_few_ports, has_word, is_among_own, is_open, is_public, is_unlisted, is_untold, lacks_home, port_warnings, root_warnings, sight_warnings, user_warnings, warnings};
+ghost use Rattle.std.specs.List.{flat_map, list_any};
+ghost use Rattle.config_report.specs.Warnings.{access_warnings, file_warnings, floor_warnings, has_few_ports, has_word, is_among_own, is_open, is_public, is_unlisted, is_untold, lacks_home, port_warnings, root_warnings, server_warnings, sight_warnings, user_warnings, warnings};
 
 use crate::floors::{is_single, is_unmet};
 use crate::letters::may_browse;
 use crate::looks::Sight;
 use crate::roots::{is_nearly_memory, is_relative};
-use crate::seen::{Seen, SeenUser};
+use crate::seen::SeenUser;
 use crate::warning::Warning;
 use config_file::{GroupTable, ServerTable, UserTable};
 use std::alloc::{AllocError, Global};
@@ -121,12 +121,20 @@ fn warn_of_sight<'a>(
         (found.new.items ≡ found.old.items ++ sight_warnings root.entry sight) }
 {
     match sight {
-        Some(Sight::Absent) => found.push(Warning::AbsentRoot { root })?,
-        Some(Sight::NoFolder) => found.push(Warning::NoFolderRoot { root })?,
-        Some(Sight::Closed) => found.push(Warning::ClosedRoot { root })?,
-        Some(Sight::Listed) | None => {}
+        Some(Sight::Absent) => {
+            found.push(Warning::AbsentRoot { root })?;
+            Ok(())
+        }
+        Some(Sight::NoFolder) => {
+            found.push(Warning::NoFolderRoot { root })?;
+            Ok(())
+        }
+        Some(Sight::Closed) => {
+            found.push(Warning::ClosedRoot { root })?;
+            Ok(())
+        }
+        Some(Sight::Listed) | None => Ok(()),
     }
-    Ok(())
 }
 
 /// Adds the warning of the configuration's file.
@@ -225,24 +233,56 @@ fn warn_of_user<'a>(
     Ok(())
 }
 
+/// Adds the warnings of the root, of the server and of the file.
+fn warn_of_server<'a>(
+    found: &mut Vec<Warning<'a>>,
+    server: &ServerTable<'a>,
+    root: Option<Sight>,
+    mode: Option<u32>,
+    rows: &[SeenUser],
+) -> Result<(), AllocError>
+    ensures warnings { OnOk result
+        (found.new.items ≡ found.old.items ++ server_warnings server.now root mode rows.now) }
+{
+    warn_of_root(found, server.root)?;
+    warn_of_sight(found, server.root, root)?;
+    warn_of_ports(found, server)?;
+    warn_of_file(found, mode, rows)?;
+    Ok(())
+}
+
+/// Adds the warnings of users, in their order.
+fn warn_of_users<'a>(
+    found: &mut Vec<Warning<'a>>,
+    server: &ServerTable,
+    groups: &[GroupTable],
+    root: Option<Sight>,
+    rows: &[SeenUser<'_, 'a>],
+) -> Result<(), AllocError>
+    ensures warnings { OnOk result (found.new.items
+        ≡ found.old.items ++ flat_map (user_warnings server.now groups.now root) rows.now) }
+{
+    for row in rows {
+        warn_of_user(found, server, groups, root, row)?;
+    }
+    Ok(())
+}
+
 /// Returns the warnings of a configuration: those of its root, of its server and of its file, and then those of its users
 /// in their order.
 pub(crate) fn warnings_of<'a>(
     alloc: Global,
     server: &ServerTable<'a>,
     groups: &[GroupTable],
-    seen: &Seen<'_, 'a>,
+    root: Option<Sight>,
+    mode: Option<u32>,
+    rows: &[SeenUser<'_, 'a>],
 ) -> Result<Vec<Warning<'a>>, AllocError>
     ensures warnings { IfOk result
-        (λ found. found.items ≡ warnings server.now groups.now seen.now) }
+        (λ found. found.items ≡ warnings server.now groups.now root mode rows.now) }
 {
     let mut found = Vec::new(alloc);
-    warn_of_root(&mut found, server.root)?;
-    warn_of_sight(&mut found, server.root, seen.root)?;
-    warn_of_ports(&mut found, server)?;
-    warn_of_file(&mut found, seen.mode, seen.users.as_slice())?;
-    for row in &seen.users {
-        warn_of_user(&mut found, server, groups, seen.root, row)?;
-    }
+    warn_of_server(&mut found, server, root, mode, rows)?;
+    warn_of_users(&mut found, server, groups, root, rows)?;
     Ok(found)
 }

@@ -1,4 +1,4 @@
-use Rattle.std.proofs.Common.{length, string_bytes}
+use Rattle.std.proofs.Common.{string_bytes}
 use Rattle.std.specs.List.{flat_map}
 use Rattle.config_report.specs.Lines.{group_rates, server_rates, user_rates, warning_line}
 use Rattle.config_report.specs.ServerLines.{server_lines}
@@ -12,8 +12,8 @@ returns c =
     record {
       text = seven (string_bytes c.new-text.result) (string_bytes c.write_server.new.text) (string_bytes c.write_server_rates.new.text) (string_bytes c.write_groups.new.text)
           (string_bytes c.write_rates_of_users.new.text) (string_bytes c.write_users_head.new.text) (string_bytes c.write_users.new.text) (string_bytes c.write_warnings.new.text)
-          (server_lines tables.server (length tables.dirs.items) (length tables.files.items)) (server_rates tables.server) (flat_map group_rates tables.groups.items)
-          (flat_map user_rates tables.users.items) users_head (flat_map user_lines c.args.rows.now) (flat_map warning_line c.args.warnings.now)
+          (server_lines tables) (server_rates tables.server) (flat_map group_rates c.args.groups.now)
+          (flat_map user_rates c.args.users.now) users_head (flat_map user_lines c.args.rows.now) (flat_map warning_line c.args.warnings.now)
           c.new-text.ensures.bytes
           c.in_ok-write_server.ensures.lines c.in_ok-write_server_rates.ensures.lines c.in_ok-write_groups.ensures.lines c.in_ok-write_rates_of_users.ensures.lines
           c.in_ok-write_users_head.ensures.line c.in_ok-write_users.ensures.lines c.in_ok-write_warnings.ensures.lines;

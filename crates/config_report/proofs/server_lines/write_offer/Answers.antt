@@ -5,9 +5,9 @@ use Rattle.config_report.proofs.server_lines.write_offer.Goals as goal
 
 pub returns : goal.returns
 returns c =
-    let server = c.args.server.now in
+    let tables = c.args.tables.now in
     record {
       lines = three (string_bytes c.args.text.now) (string_bytes c.write_connects.new.text) (string_bytes c.write_sessions.new.text) (string_bytes c.write_serves.new.text)
-          (connects_line server) (sessions_line server) (serves_line server c.args.dirs c.args.files)
+          (connects_line tables.server) (sessions_line tables.server) (serves_line tables)
           c.in_ok-write_connects.ensures.line c.in_ok-write_sessions.ensures.line c.in_ok-write_serves.ensures.line;
     }

@@ -5,9 +5,9 @@ use Rattle.config_report.proofs.server_lines.write_server.Goals as goal
 
 pub returns : goal.returns
 returns c =
-    let server = c.args.server.now in
+    let tables = c.args.tables.now in
     record {
       lines = three (string_bytes c.args.text.now) (string_bytes c.write_network.new.text) (string_bytes c.write_bounds.new.text) (string_bytes c.write_offer.new.text)
-          (network_lines server) (bound_lines server) (offer_lines server c.args.dirs c.args.files)
+          (network_lines tables.server) (bound_lines tables.server) (offer_lines tables)
           c.in_ok-write_network.ensures.lines c.in_ok-write_bounds.ensures.lines c.in_ok-write_offer.ensures.lines;
     }

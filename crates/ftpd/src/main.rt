@@ -2,10 +2,12 @@
 //! with its status.
 #![tactic(auto)]
 
+mod machine_files;
 mod serving;
 
 use ftp_daemon::RoundClock;
 use ftpd_program::{FtpdErrorText, FtpdExit, StartFault, run_words};
+use machine_files::MachineFiles;
 use serving::{Asked, serve_asked};
 use sheets_program::{Machine, NOBODY_READS, Noted, as_words, line_words, null_device};
 use std::io;
@@ -41,7 +43,9 @@ where
     let ending = run_words(
         rt.alloc(),
         words,
-        &mut Machine { rt: machine },
+        &mut MachineFiles {
+            files: Machine { rt: machine },
+        },
         &mut asked,
         output,
     );

@@ -1,7 +1,7 @@
 use Rattle.std.proofs.Common.{codes, string_bytes}
-use Rattle.config_report.specs.Lines.{address_text, port_text}
+use Rattle.config_report.specs.ServerLines.{address_text, port_text}
 use Rattle.config_report.proofs.Joined.{three}
-use Rattle.config_report.proofs.lines.write_listens.Goals as goal
+use Rattle.config_report.proofs.server_lines.write_listens.Goals as goal
 
 pub returns : goal.returns
 returns c =

@@ -6,7 +6,7 @@ use Rattle.std.proofs.Math.Seq.{drop-nil}
 use Rattle.std.proofs.Math.Nat.{min-le_left, min-le_right}
 use Rattle.std.specs.Prelude.{nat_eq, nat_lt, ◌&&◌}
 use Rattle.line_queue.specs.declared.queue.TheConstants.{MAX_WRITE}
-use Rattle.line_queue.specs.Queues.{Queue, empty, has_room, with_line, one_dropped, offered, reported, written, written_of, count_text, next_of, next_octets}
+use Rattle.line_queue.specs.Queues.{Queue, empty, has_report_room, has_room, with_line, one_dropped, offered, reported, written, written_of, count_text, next_of, next_octets}
 use Rattle.line_queue.specs.Laws.{Deed, Offered, Reported, Written, Entry, Line, Count, Accounts, LinesAreAccounted, after_all, all_out, entry_text, joined, offers_of, rest, texts}
 
 texts-append : (entries : List Entry) (entry : Entry) → texts (entries ++ entry ∷ []) ≡ texts entries ++ entry_text entry
@@ -93,7 +93,7 @@ offered-known out lines entries queue line known = go (nat_eq queue.dropped 0 &&
     go false e = (entries, record { whole = known.whole; accounts = lost lines entries queue.dropped line known.accounts; begun = known.begun })
 
 reported-known : (out : List ℕ) (lines : List (List ℕ)) (entries : List Entry) (queue : Queue) (head : List ℕ) → Known out lines entries queue → After out lines (reported queue head)
-reported-known out lines entries queue head known = go (nat_eq queue.dropped 0) (has_room queue (count_text head queue.dropped))
+reported-known out lines entries queue head known = go (nat_eq queue.dropped 0) (has_report_room queue (count_text head queue.dropped))
   where
     go : (a b : Bool) → After out lines (cond a queue (cond b (with_line queue (count_text head queue.dropped)) queue))
     go true b = (entries, known)

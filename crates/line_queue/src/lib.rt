@@ -16,7 +16,17 @@
 #![tactic(auto)]
 
 mod laws;
+mod outlet;
 mod queue;
+mod rounds;
+mod shared;
+mod sink;
+mod writing;
 
 pub use laws::lines_are_accounted;
-pub use queue::{LineQueue, MAX_LINES, MAX_OCTETS, MAX_WRITE};
+pub use outlet::{Outlet, StandardError};
+pub use queue::{LineQueue, MAX_LINES, MAX_OCTETS, MAX_WRITE, REPORT_LINES, REPORT_OCTETS};
+pub use rounds::{LAST_WAIT, Readiness, Round, Step, next_step, readiness_of};
+pub use shared::SharedLines;
+pub use sink::{LogForm, QueuedLog, note_line, priority};
+pub use writing::write_lines;

@@ -1,7 +1,7 @@
 //! The lines that are to be written, in order and within bounds.
 
 ghost use Rattle.std.specs.Prelude.{◌≡◌, ◌<◌, ◌+◌, ◌^◌, IfOk, OnErr, OnOk, string_bytes, length, take, drop, true, IsTrue, ◌↔◌, []};
-ghost use Rattle.line_queue.specs.Queues.{count_text, empty, has_room, next_octets, offered, one_dropped, reported, with_line, written};
+ghost use Rattle.line_queue.specs.Queues.{count_text, empty, has_report_room, has_room, next_octets, offered, one_dropped, reported, with_line, written};
 
 use std::alloc::{AllocError, Allocator, Global};
 use std::collections::VecDeque;
@@ -12,6 +12,12 @@ pub const MAX_LINES: usize = 4_096;
 
 /// The greatest number of octets of all lines in a queue.
 pub const MAX_OCTETS: usize = 1_048_576;
+
+/// A count of dropped lines is taken in if the queue has fewer lines than this, half of [`MAX_LINES`].
+pub const REPORT_LINES: usize = 2_048;
+
+/// A count of dropped lines is taken in if all lines have at most this number of octets, half of [`MAX_OCTETS`].
+pub const REPORT_OCTETS: usize = 524_288;
 
 /// The greatest number of octets of one write. A pipe of Linux that has room takes that many at once (pipe(7)).
 pub const MAX_WRITE: usize = 4_096;
@@ -85,6 +91,13 @@ impl<A: Allocator> LineQueue<A> {
         self.lines.is_empty()
     }
 
+    /// Returns whether a part of the first line is written.
+    pub fn has_begun(&self) -> bool
+        ensures begun { IsTrue result ↔ (0 < self.now.begun) }
+    {
+        self.begun > 0
+    }
+
     /// Number of the lines that are not written yet, a begun one among them.
     pub fn len(&self) -> usize
         ensures lines { result ≡ length self.now.lines }
@@ -113,6 +126,14 @@ impl<A: Allocator> LineQueue<A> {
         ensures room { result ≡ has_room self.now line.now }
     {
         self.lines.len() < MAX_LINES && line.len() <= MAX_OCTETS - self.octets
+    }
+
+    fn has_report_room(&self, line: &str) -> bool
+        ensures room { result ≡ has_report_room self.now line.now }
+    {
+        self.lines.len() < REPORT_LINES
+            && self.octets <= REPORT_OCTETS
+            && line.len() <= REPORT_OCTETS - self.octets
     }
 
     // Adds a line for which there is room.
@@ -172,7 +193,17 @@ impl<A: Allocator> LineQueue<A> {
 }
 
 impl LineQueue {
-    /// Adds the count of dropped lines, under this head, once there is room for its line. Fails if memory runs out, and
+    /// Takes the count of dropped lines, which is reported elsewhere. It is 0 then.
+    pub fn take_dropped(&mut self) -> u64
+        ensures dropped { result ≡ self.old.dropped }
+        ensures rest { self.new ≡ record { lines = self.old.lines; begun = self.old.begun; dropped = 0 } }
+    {
+        let dropped = self.dropped;
+        self.dropped = 0;
+        dropped
+    }
+
+    /// Adds the count of dropped lines, under this head, if there is room for it. Fails if memory runs out, and
     /// changes nothing then.
     pub fn report(&mut self, alloc: Global, head: &str) -> Result<(), AllocError>
         ensures reported { OnOk result (self.new ≡ reported self.old head.now) }
@@ -182,7 +213,7 @@ impl LineQueue {
             return Ok(());
         }
         let line = count_line(alloc, head, self.dropped)?;
-        if self.has_room(line.as_str()) {
+        if self.has_report_room(line.as_str()) {
             self.take(line);
         }
         Ok(())

@@ -162,7 +162,7 @@ impl<A: Allocator> LineQueue<A> {
         if self.dropped == 0 && self.has_room(line.as_str()) {
             self.take(line);
         } else {
-            self.dropped = self.dropped.saturating_add(1);
+            self.miss();
         }
     }
 

@@ -14,7 +14,9 @@ _ftpd_words() {
         [[ $COMP_CWORD -gt 2 ]] || mapfile -t COMPREPLY < <(compgen -W "$1" -- "$word")
     elif [[ $before == --*-timeout || $before == --*-delay ]]; then
         return # a number
-    elif [[ $word == -* && $before != --*-file ]]; then
+    elif [[ $before == --log-form ]]; then
+        mapfile -t COMPREPLY < <(compgen -W 'plain journal' -- "$word")
+    elif [[ $word == -* && $before != --*-file && $before != --transfer-log ]]; then
         mapfile -t COMPREPLY < <(compgen -W "$options" -- "$word")
     else
         mapfile -t COMPREPLY < <(compgen -f -- "$word")
@@ -22,7 +24,7 @@ _ftpd_words() {
 }
 
 _ftpd() {
-    _ftpd_words 'share check check-config migrate script serve plan help' '--stop-file --ready-file --login-timeout --idle-timeout --login-delay' '--json'
+    _ftpd_words 'share check check-config migrate script serve plan help' '--stop-file --ready-file --transfer-log --log-form --login-timeout --idle-timeout --login-delay' '--json'
 }
 
 _sheets() {

@@ -79,6 +79,25 @@ IsServe word stop ready p (Serve config files patience) =
     × (option_map (λ w. w.now) files.ready_file ≡ ready) × (patience ≡ p)
 IsServe word stop ready p (Plan config transfers json) = ⊥
 
+-- the command `serve` of that configuration, with that transfer log and that form of notes, if any
+abbrev pub IsLoggedBy : List ℕ → Option (List ℕ) → Option (List ℕ) → Words → Type 0
+IsLoggedBy word path form (Sheet words) = ⊥
+IsLoggedBy word path form (CheckConfig config) = ⊥
+IsLoggedBy word path form (Migrate config) = ⊥
+IsLoggedBy word path form (Script config) = ⊥
+IsLoggedBy word path form (Serve config files patience) =
+    (config.now ≡ word) × (option_map (λ w. w.now) files.transfer_log ≡ path)
+    × (option_map (λ w. w.now) files.log_form ≡ form)
+IsLoggedBy word path form (Plan config transfers json) = ⊥
+
+abbrev pub IsLogged : List ℕ → List ℕ → List ℕ → Words → Type 0
+IsLogged word path form words = IsLoggedBy word (Some path) (Some form) words
+
+-- the words of `serve` with a transfer log and a form of notes
+abbrev pub logged_words : List ℕ → List ℕ → List ℕ → List Text
+logged_words config path form =
+    codes "serve" ∷ config ∷ codes "--transfer-log" ∷ path ∷ codes "--log-form" ∷ form ∷ []
+
 -- the words of `serve` with a stop file and a ready file
 abbrev pub ready_words : List ℕ → List ℕ → List ℕ → List Text
 ready_words config stop ready =
@@ -134,6 +153,8 @@ IsFound found (Serve config files patience) =
     × (first_of (codes "CONFIG") rows ≡ Some config.now)
     × (first_of (codes "stop-file") rows ≡ option_map (λ w. w.now) files.stop_file)
     × (first_of (codes "ready-file") rows ≡ option_map (λ w. w.now) files.ready_file)
+    × (first_of (codes "transfer-log") rows ≡ option_map (λ w. w.now) files.transfer_log)
+    × (first_of (codes "log-form") rows ≡ option_map (λ w. w.now) files.log_form)
     × IsPatienceIn rows patience
 IsFound found (Plan config transfers json) =
     (rows : List Row) × (found ≡ Some (codes "plan", rows))

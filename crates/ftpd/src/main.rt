@@ -2,11 +2,14 @@
 //! with its status.
 #![tactic(auto)]
 
+mod log_file;
+mod log_thread;
 mod machine_files;
 mod serving;
 
 use ftp_daemon::RoundClock;
 use ftpd_program::{FtpdErrorText, FtpdExit, StartFault, run_words};
+use line_queue::{Outlet, Readiness, StandardError};
 use machine_files::MachineFiles;
 use serving::{Asked, serve_asked};
 use sheets_program::{Machine, NOBODY_READS, Noted, as_words, line_words, null_device};
@@ -55,6 +58,18 @@ where
     }
 }
 
+/// The time that the reader of standard error has to make room for the fault of a server, in milliseconds.
+const LAST_ROOM: u16 = 1_000;
+
+/// Returns whether a fault of this ending can be told: that of a server only if its reader has room for it, since a server
+/// waits for no reader.
+fn can_tell(ending: &FtpdExit<'_>) -> bool {
+    match ending {
+        FtpdExit::Server(_) => StandardError.readiness(LAST_ROOM) == Readiness::Ready,
+        _ => true,
+    }
+}
+
 /// Reports the ending on standard error, and returns its status. If nobody reads the output any more, that is not
 /// reported as a fault, except for a server, which was to go on.
 fn told<W: Write>(
@@ -71,7 +86,9 @@ fn told<W: Write>(
         output: output.0.error(),
         start,
     };
-    let _ = eprint!(machine; "{told}");
+    if can_tell(ending) {
+        let _ = eprint!(machine; "{told}");
+    }
     ending.status()
 }
 

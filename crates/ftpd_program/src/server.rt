@@ -33,6 +33,12 @@ pub enum ServeFault {
     /// The ready file could not be made: it is there already, or the machine reports an error.
     #[error("ReadyFile")]
     ReadyFile,
+    /// The file of the transfer log cannot be opened.
+    #[error("TransferLog")]
+    TransferLog,
+    /// No form of notes has the name that is stated.
+    #[error("LogForm")]
+    LogForm,
 }
 
 impl From<AllocError> for ServeFault {

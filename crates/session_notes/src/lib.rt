@@ -6,13 +6,19 @@
 //! 2026-11-25T15:04:46Z 127.0.0.1 refused: too many connections
 //! ```
 //!
+//! What an administrator should look at is a warning: a refused login or connection, a lack or a fault of the server. In
+//! the form of the journal the lines have no time.
+//!
 //! Names and paths are in quotation marks, with all but plain characters escaped, so that nothing a client sends can
 //! start a line of its own. The number is that of the connection: no two simultaneous connections have the same. No
 //! note contains a password, or the text of a refused line.
 #![tactic(auto)]
 
+mod levels;
 mod moment;
 mod notes;
+mod stamp;
+mod transfers;
 mod words;
 
 pub use notes::Notes;

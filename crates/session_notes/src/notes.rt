@@ -1,17 +1,27 @@
 //! A handler that writes a note of each event.
 
+use crate::levels::{level_of_cause, level_of_event, level_of_session};
 use crate::moment::second_of;
+use crate::stamp::Stamp;
+use crate::transfers::{ChangeText, TransferText, refused_words};
 use crate::words::{CauseText, NoteText, Noted, ServerText, SessionText, refusal_words};
 use handler_hooks::Hooks;
-use log::{Log, info, warn};
-use server_house::{EndCause, NotServed, ServerEvent, ServerHooks, SessionEvent};
+use line_queue::LogForm;
+use log::{Level, Log, log};
+use server_house::{
+    EndCause, LoginRefusal, NotServed, ServerEvent, ServerHooks, SessionEvent, StoreChange,
+    TransferRecord,
+};
+use std::io;
 use std::net::Ipv4Addr;
 use std::time::Clock;
 
-/// Writes each event with its time, in UTC, with the peer's address and the number of the session.
+/// Writes each event with its time, in UTC, with the peer's address and the number of the session. What an administrator
+/// should look at is a warning.
 #[derive(Drop)]
 pub struct Notes<L> {
     log: L,
+    form: LogForm,
     // the peer of the session that the next events are about
     peer: [u8; 4],
     session: usize,
@@ -20,30 +30,35 @@ pub struct Notes<L> {
 }
 
 impl<L: Log + Clock> Notes<L> {
-    /// Notes written to this log.
-    pub fn new(log: L) -> Notes<L> {
+    /// Notes written to this log, whose lines have this form.
+    pub fn new(log: L, form: LogForm) -> Notes<L> {
         Notes {
             log,
+            form,
             peer: [0; 4],
             session: 0,
             cause: None,
         }
     }
 
+    fn stamp(&self) -> Stamp {
+        Stamp::new(self.form, second_of(self.log.since_1970()))
+    }
+
     /// Notes the warnings of a configuration, which are the lines of a text.
     pub fn note_warnings(&self, texts: &str) {
         for line in texts.lines() {
-            let time = second_of(self.log.since_1970());
-            warn!(self.log; target: "", "{time} configuration: {line}");
+            let stamp = self.stamp();
+            log!(self.log; target: "", Level::Warn, "{stamp}configuration: {line}");
         }
     }
 
     fn note(&self, event: Noted, name: Option<&str>) {
-        let time = second_of(self.log.since_1970());
+        let stamp = self.stamp();
         let peer = Ipv4Addr::from(self.peer);
         let session = self.session;
         let text = NoteText { event, name };
-        info!(self.log; target: "", "{time} {peer} #{session} {text}");
+        log!(self.log; target: "", level_of_event(event), "{stamp}{peer} #{session} {text}");
     }
 
     // An incomplete file, with the reason if it is known.
@@ -51,13 +66,14 @@ impl<L: Log + Clock> Notes<L> {
         match self.cause {
             None => self.note(event, Some(path)),
             Some(cause) => {
-                let time = second_of(self.log.since_1970());
+                let stamp = self.stamp();
                 let peer = Ipv4Addr::from(self.peer);
                 let session = self.session;
                 let name = Some(path);
                 let text = NoteText { event, name };
+                let level = level_of_cause(cause);
                 let cause = CauseText(cause);
-                info!(self.log; target: "", "{time} {peer} #{session} {text}: {cause}");
+                log!(self.log; target: "", level, "{stamp}{peer} #{session} {text}: {cause}");
             }
         }
     }
@@ -113,23 +129,62 @@ impl<L: Log + Clock + Drop> ServerHooks for Notes<L> {
     }
 
     fn on_session(&mut self, event: SessionEvent) {
-        let time = second_of(self.log.since_1970());
+        let stamp = self.stamp();
         let peer = Ipv4Addr::from(self.peer);
         let session = self.session;
+        let level = level_of_session(event);
         let text = SessionText(event);
-        info!(self.log; target: "", "{time} {peer} #{session} {text}");
+        log!(self.log; target: "", level, "{stamp}{peer} #{session} {text}");
     }
 
     fn on_refused(&mut self, peer: [u8; 4], why: NotServed) {
-        let time = second_of(self.log.since_1970());
+        let stamp = self.stamp();
         let peer = Ipv4Addr::from(peer);
         let why = refusal_words(why);
-        info!(self.log; target: "", "{time} {peer} refused: {why}");
+        log!(self.log; target: "", Level::Warn, "{stamp}{peer} refused: {why}");
     }
 
     fn on_server(&mut self, event: ServerEvent) {
-        let time = second_of(self.log.since_1970());
+        let stamp = self.stamp();
         let text = ServerText(event);
-        warn!(self.log; target: "", "{time} {text}");
+        log!(self.log; target: "", Level::Warn, "{stamp}{text}");
+    }
+
+    fn on_transfer(&mut self, record: &TransferRecord<'_>) {
+        let stamp = self.stamp();
+        let peer = Ipv4Addr::from(record.peer);
+        let session = record.session;
+        let text = TransferText(*record);
+        match record.cause {
+            None => log!(self.log; target: "", Level::Info, "{stamp}{peer} #{session} {text}"),
+            Some(cause) => {
+                let level = level_of_cause(cause);
+                let cause = CauseText(cause);
+                log!(self.log; target: "", level, "{stamp}{peer} #{session} {text}: {cause}");
+            }
+        }
+    }
+
+    fn on_change(&mut self, change: StoreChange<'_>) {
+        let stamp = self.stamp();
+        let peer = Ipv4Addr::from(self.peer);
+        let session = self.session;
+        let text = ChangeText(change);
+        log!(self.log; target: "", Level::Info, "{stamp}{peer} #{session} {text}");
+    }
+
+    fn on_login_refused(&mut self, user: &str, why: LoginRefusal) {
+        let stamp = self.stamp();
+        let peer = Ipv4Addr::from(self.peer);
+        let session = self.session;
+        let why = refused_words(why);
+        log!(self.log; target: "", Level::Warn, "{stamp}{peer} #{session} login refused {user:?}: {why}");
+    }
+
+    fn on_fault(&mut self, path: &str, reason: io::Error) {
+        let stamp = self.stamp();
+        let peer = Ipv4Addr::from(self.peer);
+        let session = self.session;
+        log!(self.log; target: "", Level::Warn, "{stamp}{peer} #{session} fault {path:?}: {reason}");
     }
 }

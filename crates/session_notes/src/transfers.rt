@@ -1,0 +1,72 @@
+//! The words of transfers, of changes and of refused logins.
+
+ghost use Rattle.std.specs.Prelude.{◌≡◌};
+ghost use Rattle.session_notes.specs.Transfers.{refused_words, transfer_words};
+
+use server_house::{LoginRefusal, StoreChange, TransferKind, TransferRecord};
+use std::fmt;
+
+/// The words for a transfer of this kind, and whether it came to its end.
+fn transfer_words(kind: TransferKind, is_whole: bool) -> &'static str
+    ensures words { result.now ≡ transfer_words kind is_whole }
+{
+    match (kind, is_whole) {
+        (TransferKind::Sent, true) => "sent",
+        (TransferKind::Received, true) => "received",
+        (TransferKind::Listed, true) => "listed",
+        (TransferKind::Sent, false) => "not sent whole",
+        (TransferKind::Received, false) => "not received whole",
+        (TransferKind::Listed, false) => "not listed whole",
+    }
+}
+
+/// A transfer without the reason of its end: its words and its path, its user, the octets that were moved, and the
+/// seconds that it took, with their thousandths.
+#[derive(Clone, Copy)]
+pub(crate) struct TransferText<'a>(pub TransferRecord<'a>);
+
+impl fmt::Display for TransferText<'_> {
+    ghost use Rattle.session_notes.specs.Transfers.{transfer_text};
+
+    ghost output = { λ text. transfer_text text.0 };
+
+    fn fmt<W: fmt::Write>(&self, f: &mut fmt::Formatter<W>) -> fmt::Result {
+        let words = transfer_words(self.0.kind, self.0.cause.is_none());
+        let (path, user, octets) = (self.0.path, self.0.user, self.0.octets);
+        let seconds = self.0.micros / 1_000_000;
+        let tenths = self.0.micros / 100_000 % 10;
+        let hundredths = self.0.micros / 10_000 % 10;
+        let thousandths = self.0.micros / 1_000 % 10;
+        write!(f, "{words} {path:?}: user {user:?}, {octets} octets, ")?;
+        write!(f, "{seconds}.{tenths}{hundredths}{thousandths} s")
+    }
+}
+
+/// A change of the store.
+#[derive(Clone, Copy)]
+pub(crate) struct ChangeText<'a>(pub StoreChange<'a>);
+
+impl fmt::Display for ChangeText<'_> {
+    ghost use Rattle.session_notes.specs.Transfers.{change_text};
+
+    ghost output = { λ text. change_text text.0 };
+
+    fn fmt<W: fmt::Write>(&self, f: &mut fmt::Formatter<W>) -> fmt::Result {
+        match self.0 {
+            StoreChange::Deleted(path) => write!(f, "deleted {path:?}"),
+            StoreChange::Renamed(from, to) => write!(f, "renamed {from:?} to {to:?}"),
+            StoreChange::FolderMade(path) => write!(f, "made the folder {path:?}"),
+            StoreChange::FolderRemoved(path) => write!(f, "removed the folder {path:?}"),
+        }
+    }
+}
+
+/// The reason for which a login was refused, in words.
+pub(crate) fn refused_words(why: LoginRefusal) -> &'static str
+    ensures words { result.now ≡ refused_words why }
+{
+    match why {
+        LoginRefusal::NotGuaranteed => "the guaranteed rate is not available",
+        LoginRefusal::AttemptsUsed => "the attempts are used up",
+    }
+}

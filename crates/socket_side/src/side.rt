@@ -120,6 +120,8 @@ pub struct SocketSide<'h, R, S: Store<Global>, H: Hooks, B: PartsName> {
     running: Running<S::Source, S::Sink>,
     // the reason for the last end that was made or taken, unless it is that all was moved
     cause: Option<EndCause>,
+    // the number of octets moved by the transfer whose end was taken last
+    moved: u64,
     // the result of opening a port, to be reported: the port, or that none was free
     ready: Option<Option<u16>>,
     // the error for which none could be listened on
@@ -158,6 +160,7 @@ where
             prepared: Prepared::Nothing,
             running: Running::Nothing,
             cause: None,
+            moved: 0,
             ready: None,
             port_fault: None,
         }
@@ -213,6 +216,13 @@ where
         ensures cause { result ≡ self.now.cause }
     {
         self.cause
+    }
+
+    /// Number of octets moved by the transfer whose end was reported last.
+    pub fn moved(&self) -> u64
+        ensures moved { result ≡ self.now.moved }
+    {
+        self.moved
     }
 
     /// Listens on a passive port, if one is free. The next look reports it.
@@ -496,11 +506,15 @@ where
         ensures prepared { self.new.prepared ≡ self.old.prepared }
         ensures ready { self.new.ready ≡ self.old.ready }
         ensures cause { TakenCause self.old.running result self.old.cause self.new.cause }
+        ensures moved { IfSome result (λ told. self.new.moved ≡ told.moved) }
     {
         let before = mem::replace(&mut self.running, Running::Nothing);
         match before {
             Running::Nothing => None,
-            Running::Over(told) => Some(told),
+            Running::Over(told) => {
+                self.moved = told.moved;
+                Some(told)
+            }
             Running::Awaited {
                 listener,
                 port,
@@ -533,6 +547,7 @@ where
             } => match self.owner.take_end() {
                 Some(TransferEnd { end, sink, moved }) => {
                     self.cause = cause_of(is_aborted, end, connection.fault());
+                    self.moved = moved;
                     drop(connection);
                     Some(TransferEnd {
                         end: end_of(is_aborted, end),
@@ -684,6 +699,7 @@ where
             prepared: _,
             running: _,
             cause: _,
+            moved: _,
             ready: _,
             port_fault: _,
         } = side;

@@ -130,6 +130,20 @@ def admitted(server):
     raise Refused("no place for a client")
 
 
+def quits_in_each_state():
+    """QUIT waits for the end of the transfer; a client that does not wait for it leaves its place."""
+    for state in STATES:
+        with stuck_server(state, 1) as (server, client, _):
+            client.says("NOOP", "200 OK")
+            client.send("QUIT")
+            time.sleep(0.2)
+            client.close()
+            with promptly(f"the loss of a client that quits while its transfer waits for {state}"):
+                admitted(server).quit()
+            server.stop()
+            server.ended()
+
+
 def ended_in_each_state():
     """The server ends, whatever its transfers wait for."""
     for state in STATES:
@@ -269,6 +283,7 @@ ROWS = [
     rounds_without_memory,
     aborted_in_each_state,
     lost_in_each_state,
+    quits_in_each_state,
     ended_in_each_state,
     a_guarantee_is_given_back,
     aborts_as_transfers_end,

@@ -249,9 +249,23 @@ serve_no_ready : (b : ℕ) (bs : List ℕ) → (b == 45) ≡ false
 unfolding clap_on_literals
 serve_no_ready b bs ne = simp ne refl
 
-serve_usual : (b : ℕ) (bs : List ℕ) → (b == 45) ≡ false → AreUnstated (rows_in (subcommand_of ftpd (codes "serve" ∷ (b ∷ bs) ∷ [])))
+serve_no_login : (b : ℕ) (bs : List ℕ) → (b == 45) ≡ false
+    → first_of (codes "login-timeout") (rows_in (subcommand_of ftpd (codes "serve" ∷ (b ∷ bs) ∷ []))) ≡ None
 unfolding clap_on_literals
-serve_usual b bs ne = simp ne (refl, refl, refl)
+serve_no_login b bs ne = simp ne refl
+
+serve_no_idle : (b : ℕ) (bs : List ℕ) → (b == 45) ≡ false
+    → first_of (codes "idle-timeout") (rows_in (subcommand_of ftpd (codes "serve" ∷ (b ∷ bs) ∷ []))) ≡ None
+unfolding clap_on_literals
+serve_no_idle b bs ne = simp ne refl
+
+serve_no_delay : (b : ℕ) (bs : List ℕ) → (b == 45) ≡ false
+    → first_of (codes "login-delay") (rows_in (subcommand_of ftpd (codes "serve" ∷ (b ∷ bs) ∷ []))) ≡ None
+unfolding clap_on_literals
+serve_no_delay b bs ne = simp ne refl
+
+serve_usual : (b : ℕ) (bs : List ℕ) → (b == 45) ≡ false → AreUnstated (rows_in (subcommand_of ftpd (codes "serve" ∷ (b ∷ bs) ∷ [])))
+serve_usual b bs ne = (serve_no_login b bs ne, serve_no_idle b bs ne, serve_no_delay b bs ne)
 
 -- what the parser makes of the words of `serve` with no option
 pub record Serves (word : List ℕ) : Type 0 where

@@ -1,6 +1,6 @@
 //! The file of the transfer log.
 
-use line_queue::{Outlet, Readiness};
+use line_queue::{LineOutlet, Readiness};
 use std::fs::{File, OpenOptions};
 use std::io::Write;
 use std::os::unix::fs::{MetadataExt, OpenOptionsExt};
@@ -86,7 +86,7 @@ impl LogFile {
     }
 }
 
-impl Outlet for LogFile {
+impl LineOutlet for LogFile {
     fn readiness(&mut self, _millis: u16) -> Readiness {
         match &self.path {
             Some(_) => Readiness::Ready,

@@ -9,7 +9,7 @@ mod serving;
 
 use ftp_daemon::RoundClock;
 use ftpd_program::{FtpdErrorText, FtpdExit, StartFault, run_words};
-use line_queue::{Outlet, Readiness, StandardError};
+use line_queue::{LineOutlet, Readiness, StandardError};
 use machine_files::MachineFiles;
 use serving::{Asked, serve_asked};
 use sheets_program::{Machine, NOBODY_READS, Noted, as_words, line_words, null_device};

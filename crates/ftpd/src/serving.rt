@@ -173,13 +173,13 @@ fn open_folders(
 }
 
 /// Notes on standard error, which a thread of their own writes.
-type MachineNotes = Notes<Logged<HostRuntime, QueuedLog<HostRuntime>>>;
+type MachineNotes<R> = Notes<Logged<HostRuntime, QueuedLog<R>>>;
 
 /// Serves a configuration: its store is in memory, or a folder of the machine.
 fn serve_config<R, W>(
     rt: &R,
     config: Config,
-    handler: MachineNotes,
+    handler: MachineNotes<R>,
     machine: &HostRuntime,
     stop: Option<StopFile>,
     patience: Patience,
@@ -426,7 +426,7 @@ where
         Ok(both) => both,
         Err(_) => return (FtpdExit::Server(ServeFault::Memory), None),
     };
-    let queued = QueuedLog::new(*machine, own, form);
+    let queued = QueuedLog::new(*rt, own, form);
     let handler = Notes::new(Logged::new(*machine, Level::Info, queued), form);
     handler.note_warnings(warnings.as_str());
     let mut output = ReadyOutput::new(FallibleIo(&mut output.0), ready);

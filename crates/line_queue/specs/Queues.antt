@@ -11,6 +11,9 @@ pub record Queue : Type 0 where
   pub begun : ℕ
   pub dropped : ℕ
 
+abbrev pub queue_of : List (List ℕ) → ℕ → ℕ → Queue
+queue_of lines begun dropped = record { lines = lines; begun = begun; dropped = dropped }
+
 abbrev pub empty : Queue
 empty = record { lines = []; begun = 0; dropped = 0 }
 
@@ -100,6 +103,7 @@ written queue count =
 
 -- a code, by which proofs distinguish values
 abbrev pub queue_code : Coded Queue
-queue_code = code_by (List (List ℕ) × (ℕ × ℕ)) (coded× (coded_list (coded_list coded_ℕ)) (coded× coded_ℕ coded_ℕ))
+queue_code = code_by (List (List ℕ) × (ℕ × ℕ))
+    (coded× (coded_list (coded_list coded_ℕ)) (coded× coded_ℕ coded_ℕ))
     (λ q. (q.lines, (q.begun, q.dropped)))
     (λ p. record { lines = p.0; begun = p.1.0; dropped = p.1.1 }) (λ _. refl)

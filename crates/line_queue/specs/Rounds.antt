@@ -1,4 +1,4 @@
--- What the thread that writes does.
+-- The steps of the thread that writes.
 use Rattle.std.specs.Prelude.{ℕ, ℤ, pos, negsuc, Bool, true, false, ◌||◌, nat_eq, nat_lt, if◌then◌else◌, Option, Some, None}
 use Rattle.line_queue.specs.declared.rounds.TheConstants.{LAST_WAIT}
 use Rattle.line_queue.specs.declared.rounds.Readiness.{Readiness}
@@ -42,7 +42,7 @@ open_step first second =
     else if is_idle first then (if is_idle second then Sleep else Pause)
     else Pause
 
--- At the end what is left is written for at most LAST_WAIT, and only as long as a reader is there.
+-- At the end what is left is written for at most LAST_WAIT, and only while there is a reader.
 abbrev pub last_step : Round → Round → ℕ → Step
 last_step first second since =
     if nat_lt LAST_WAIT since then End

@@ -2,7 +2,7 @@
 //!
 //! A [`LineQueue`] keeps lines in order and has an end: a line for which there is no room is dropped and counted, and a
 //! line with the count takes its place as soon as there is room. [`SharedLines`] is such a queue among threads: a thread
-//! that adds a line waits for no reader, and [`write_lines`] is the work of the one thread that writes to an [`Outlet`].
+//! that adds a line waits for no reader, and [`write_lines`] is the work of the one thread that writes to an [`LineOutlet`].
 //!
 //! ```text
 //! let mut queue = LineQueue::new(rt.alloc()).expect(&rt, "memory");
@@ -24,7 +24,7 @@ mod sink;
 mod writing;
 
 pub use laws::lines_are_accounted;
-pub use outlet::{Outlet, StandardError};
+pub use outlet::{LineOutlet, StandardError};
 pub use queue::{LineQueue, MAX_LINES, MAX_OCTETS, MAX_WRITE, REPORT_LINES, REPORT_OCTETS};
 pub use rounds::{LAST_WAIT, Readiness, Round, Step, next_step, readiness_of};
 pub use shared::SharedLines;

@@ -1,10 +1,10 @@
-//! Where lines are written to.
+//! The readers' ends that lines are written to.
 
 use crate::rounds::{Readiness, readiness_of};
 use libc::types::pollfd;
 
 /// A reader's end, such as standard error.
-pub trait Outlet {
+pub trait LineOutlet {
     /// Returns whether octets can be written without waiting for a reader, and waits at most this time for it, in
     /// milliseconds.
     fn readiness(&mut self, millis: u16) -> Readiness;
@@ -16,7 +16,7 @@ pub trait Outlet {
 /// Standard error of the process.
 pub struct StandardError;
 
-impl Outlet for StandardError {
+impl LineOutlet for StandardError {
     fn readiness(&mut self, millis: u16) -> Readiness {
         let mut asked = [pollfd {
             fd: libc::STDERR_FILENO,

@@ -1,7 +1,7 @@
 //! The lines that are to be written, in order and within bounds.
 
 ghost use Rattle.std.specs.Prelude.{◌≡◌, ◌<◌, ◌+◌, ◌^◌, IfOk, OnErr, OnOk, string_bytes, length, take, drop, true, IsTrue, ◌↔◌, []};
-ghost use Rattle.line_queue.specs.Queues.{count_text, empty, has_report_room, has_room, next_octets, offered, one_dropped, reported, with_line, written};
+ghost use Rattle.line_queue.specs.Queues.{count_text, empty, has_report_room, has_room, next_octets, offered, one_dropped, queue_of, reported, with_line, written};
 
 use std::alloc::{AllocError, Allocator, Global};
 use std::collections::VecDeque;
@@ -38,13 +38,13 @@ impl<A: Allocator> Model for LineQueue<A> {
     ghost use Rattle.std.specs.Prelude.{◌≡◌, ◌≤◌, map, string_bytes};
     ghost use Rattle.std.specs.VecDeque.{deque_capacity};
     ghost use Rattle.line_queue.specs.declared.queue.TheConstants.{MAX_LINES, MAX_OCTETS};
-    ghost use Rattle.line_queue.specs.Queues.{Queue, octets_of, queue_code};
+    ghost use Rattle.line_queue.specs.Queues.{Queue, octets_of, queue_code, queue_of};
 
     ghost Value = { Queue };
 
     ghost coded = { queue_code };
 
-    ghost view = { λ q. record { lines = map string_bytes q.lines.items; begun = q.begun; dropped = q.dropped } };
+    ghost view = { λ q. queue_of (map string_bytes q.lines.items) q.begun q.dropped };
 
     ghost invariant = { λ q. (q.octets ≡ octets_of (map string_bytes q.lines.items))
         × (q.octets ≤ MAX_OCTETS) × (MAX_LINES ≤ deque_capacity q.lines) };
@@ -196,7 +196,7 @@ impl LineQueue {
     /// Takes the count of dropped lines, which is reported elsewhere. It is 0 then.
     pub fn take_dropped(&mut self) -> u64
         ensures dropped { result ≡ self.old.dropped }
-        ensures rest { self.new ≡ record { lines = self.old.lines; begun = self.old.begun; dropped = 0 } }
+        ensures rest { self.new ≡ queue_of self.old.lines self.old.begun 0 }
     {
         let dropped = self.dropped;
         self.dropped = 0;

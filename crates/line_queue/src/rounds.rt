@@ -3,7 +3,7 @@
 ghost use Rattle.std.specs.Prelude.{◌≡◌};
 ghost use Rattle.line_queue.specs.Rounds.{last_step, next_step, open_step, readiness_of};
 
-/// What an outlet takes.
+/// The readiness of an outlet for octets.
 #[derive(Clone, Copy, Debug, PartialEq, Eq)]
 pub enum Readiness {
     /// It takes octets now, at least [`MAX_WRITE`](crate::MAX_WRITE) if it is a pipe.
@@ -27,7 +27,7 @@ pub enum Round {
     Lost,
 }
 
-/// What a thread that writes does after a round.
+/// The next act of a thread that writes, after a round.
 #[derive(Clone, Copy, Debug, PartialEq, Eq)]
 pub enum Step {
     /// Another round.

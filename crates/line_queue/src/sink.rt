@@ -39,7 +39,8 @@ fn form_text<D: Display, K: Source, S: Spans>(
     form: LogForm,
     record: &Record<'_, D, K, S>,
 ) -> Result<String, AllocError>
-    ensures text { IfOk result (λ line. IfSome (form_text D.output K.pairs S.scopes form «record».now)
+    ensures text { IfOk result (λ line.
+        IfSome (form_text D.output K.pairs S.scopes form «record».now)
         (λ text. string_bytes line ≡ text)) }
 {
     match form {
@@ -58,7 +59,8 @@ pub fn note_line<D: Display, K: Source, S: Spans>(
     form: LogForm,
     record: &Record<'_, D, K, S>,
 ) -> Result<String, AllocError>
-    ensures line { IfOk result (λ line. IfSome (note_line D.output K.pairs S.scopes form «record».now)
+    ensures line { IfOk result (λ line.
+        IfSome (note_line D.output K.pairs S.scopes form «record».now)
         (λ text. string_bytes line ≡ text)) }
 {
     let mut line = form_text(alloc, form, record)?;

@@ -3,7 +3,7 @@
 ghost use Rattle.std.specs.Prelude.{◌≡◌, ◌<◌, ◌↔◌, IfOk, OnOk, IsTrue};
 ghost use Rattle.line_queue.specs.Queues.{next_octets};
 
-use crate::outlet::Outlet;
+use crate::outlet::LineOutlet;
 use crate::queue::LineQueue;
 use crate::rounds::{Readiness, Round, Step, next_step};
 use crate::shared::SharedLines;
@@ -31,7 +31,7 @@ fn copy_next(queue: &LineQueue, buffer: &mut Vec<u8>) -> Result<bool, AllocError
 
 // One round over a queue: takes the octets of the next write out, writes some of them, and takes those off the queue. The
 // lock is not held while the outlet is asked or written to.
-fn round<R: Wait, O: Outlet>(
+fn round<R: Wait, O: LineOutlet>(
     rt: &R,
     queue: &Mutex<LineQueue>,
     outlet: &mut O,
@@ -78,8 +78,8 @@ pub fn write_lines<R, N, T>(
 ) -> u64
 where
     R: Wait + Clock + AllocGlobal,
-    N: Outlet,
-    T: Outlet,
+    N: LineOutlet,
+    T: LineOutlet,
 {
     let mut buffer = Vec::new(rt.alloc());
     let mut last = None;
@@ -112,7 +112,7 @@ fn time_since<R: Clock>(rt: &R, moment: Option<u64>) -> Option<u64> {
 }
 
 // Gives outlets a while; no longer than the notes' reader takes to make room.
-fn pause<R: Clock, N: Outlet>(rt: &R, first: Round, notes: &mut N) {
+fn pause<R: Clock, N: LineOutlet>(rt: &R, first: Round, notes: &mut N) {
     match first {
         Round::Held => {
             notes.readiness(PAUSE);

@@ -60,7 +60,7 @@ pub struct TransferRecord<'a> {
     pub kind: TransferKind,
     /// The path of the file, or of the folder that was listed.
     pub path: &'a str,
-    /// Whether its type is that of texts (TYPE A).
+    /// Its type is that of texts (TYPE A).
     pub is_text: bool,
     /// The octets that were moved.
     pub octets: u64,

@@ -28,7 +28,8 @@ abbrev pub transfer_text : TransferRecord → Option (List ℕ)
 transfer_text transfer =
     Some (transfer_words transfer.kind (is_none transfer.cause) ++ codes " ")
     ++? debug_str transfer.path.now ++? Some (codes ": user ") ++? debug_str transfer.user.now
-    ++? Some (codes ", " ++ decimal transfer.octets ++ codes " octets, " ++ seconds_text transfer.micros)
+    ++? Some (codes ", " ++ decimal transfer.octets ++ codes " octets, "
+    ++ seconds_text transfer.micros)
 
 abbrev pub change_text : StoreChange → Option (List ℕ)
 change_text (Deleted path) = Some (codes "deleted ") ++? debug_str path.now

@@ -1,4 +1,4 @@
-//! The levels of notes: a warning is what an administrator should look at.
+//! The levels of notes: warnings are for an administrator to look at.
 
 ghost use Rattle.std.specs.Prelude.{◌≡◌};
 ghost use Rattle.session_notes.specs.Levels.{level_of_cause, level_of_event, level_of_session};

@@ -6,8 +6,8 @@
 //! 2026-11-25T15:04:46Z 127.0.0.1 refused: too many connections
 //! ```
 //!
-//! What an administrator should look at is a warning: a refused login or connection, a lack or a fault of the server. In
-//! the form of the journal the lines have no time.
+//! A refused login or connection, and a lack or a fault of the server, are warnings: an administrator should look at
+//! them. In the form of the journal the lines have no time.
 //!
 //! Names and paths are in quotation marks, with all but plain characters escaped, so that nothing a client sends can
 //! start a line of its own. The number is that of the connection: no two simultaneous connections have the same. No

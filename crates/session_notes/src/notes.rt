@@ -16,8 +16,8 @@ use std::io;
 use std::net::Ipv4Addr;
 use std::time::Clock;
 
-/// Writes each event with its time, in UTC, with the peer's address and the number of the session. What an administrator
-/// should look at is a warning.
+/// Writes each event with its time, in UTC, with the peer's address and the number of the session. Refusals and
+/// faults are warnings.
 #[derive(Drop)]
 pub struct Notes<L> {
     log: L,

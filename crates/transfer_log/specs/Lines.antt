@@ -31,7 +31,7 @@ abbrev pub type_text : FileTransfer → List ℕ
 type_text transfer =
     (if transfer.is_text then codes " a _ " else codes " b _ ") ++ direction_text transfer.is_sent
 
--- access-mode: `a` for the users that stand for everybody, otherwise `r`
+-- access-mode: `a` for the users that are for everybody, otherwise `r`
 abbrev pub access_text : List ℕ → List ℕ
 access_text user =
     if bytes_eq user (codes "anonymous") || bytes_eq user (codes "ftp") then codes "a "

@@ -21,12 +21,12 @@ pub struct FileTransfer<'a> {
     /// The octets that were moved.
     pub octets: u64,
     pub path: &'a str,
-    /// Whether its type is that of texts (TYPE A).
+    /// Its type is that of texts (TYPE A).
     pub is_text: bool,
-    /// Whether it was sent to the client; otherwise it was received.
+    /// It was sent to the client; otherwise it was received.
     pub is_sent: bool,
     pub user: &'a str,
-    /// Whether it came to its end.
+    /// It came to its end.
     pub is_whole: bool,
 }
 

@@ -1,0 +1,140 @@
+"""Rows of `tools/serving` on notes and on the transfer log: readers that stop, forms and levels, a file that is moved away."""
+import fcntl
+import os
+import re
+import select
+import subprocess
+import time
+
+from serving_kit import SERVER, Client, Server, same, until, want
+
+COUNT = re.compile(r"\[WARN \] lines dropped: (\d+)")
+# A name that is noted in some 2,400 octets, so that a pipe is full after few lines.
+LONG = "\x01" * 460
+# The most octets of a pipe that the rows make small.
+PIPE = 4096
+
+
+class Piped(Server):
+    """A server whose notes go to a pipe that is read only when a row wants it."""
+
+    def begin_again(self):
+        reader, writer = os.pipe()
+        fcntl.fcntl(writer, fcntl.F_SETPIPE_SZ, PIPE)
+        self.reader, self.text = reader, None
+        self.read = b""
+        self.output = open(f"{self.place}/output", "wb+")
+        self.notes = open(f"{self.place}/notes", "wb+")
+        self.process = subprocess.Popen([SERVER, "serve", "ftpd.toml", *self.words], cwd=self.place, stdin=subprocess.DEVNULL, stdout=self.output, stderr=writer, env={})
+        os.close(writer)
+        until(lambda: self.told().startswith("ready\n") or self.process.poll() is not None, "ready")
+
+    def read_some(self, seconds=0.05):
+        """Reads what there is. Returns whether there may be more."""
+        while select.select([self.reader], [], [], seconds)[0]:
+            piece = os.read(self.reader, 65536)
+            if not piece:
+                return False
+            self.read += piece
+        return True
+
+    def lines(self):
+        want(self.read.endswith(b"\n") or not self.read, "a line was cut")
+        return self.read.decode().splitlines()
+
+    def __exit__(self, kind, fault, trace):
+        os.close(self.reader)
+        super().__exit__(kind, fault, trace)
+
+
+def failed(server, first, count):
+    """Logs in wrongly, so many times, under long names with numbers; returns the number of notes."""
+    made = 0
+    while made < count:
+        client = Client(server, None)
+        client.says(None, "220 Ready")
+        for _ in range(3):
+            client.says(f"USER {first + made}-{LONG}", "331 Password required")
+            client.send("PASS wrong")
+            client.line()
+            made += 1
+        client.socket.close()
+    return made, made + 2 * (made // 3)
+
+
+def numbers_in(lines):
+    return [int(it) for it in re.findall(r'login failed "(\d+)-', "\n".join(lines))]
+
+
+def a_reader_that_stops_for_a_while():
+    """Sessions go on while nobody reads; then each note is there, in its order, or counted."""
+    with Piped(sessions=0, stop=True) as server:
+        made, notes = failed(server, 0, 900)
+        # the sessions went on, and nothing of theirs was waited for
+        while server.read_some(0.5) and not COUNT.search(server.read.decode()):
+            pass
+        more, later = failed(server, made, 30)
+        until(lambda: server.read_some(0.05) and f'"{made + more - 1}-'.encode() in server.read, "the last note")
+        server.stop()
+        while server.read_some(1):
+            pass
+        server.ended()
+        lines = server.lines()
+        counted = [int(it) for it in COUNT.findall("\n".join(lines))]
+        same(len(lines) - len(counted) + sum(counted), notes + later, "notes that were written or counted")
+        want(len(counted) >= 1 and counted[0] > 100, f"the counts: {counted}")
+        found = numbers_in(lines)
+        same(found, sorted(set(found)), "the order of the notes")
+        want(set(range(made, made + more)) <= set(found), "the notes after the reader went on")
+
+
+def a_reader_that_stops_for_good():
+    """The stop file ends a server whose notes nobody reads."""
+    with Piped(sessions=0, stop=True) as server:
+        failed(server, 0, 60)
+        begun = time.monotonic()
+        server.stop()
+        server.ended()
+        want(time.monotonic() - begun < 5, f"it ended after {time.monotonic() - begun:.1f} seconds")
+
+
+def a_reader_that_is_gone():
+    """A server whose notes have no reader any more serves, and ends."""
+    with Piped(sessions=0, stop=True) as server:
+        os.dup2(os.open(os.devnull, os.O_RDONLY), server.reader)
+        failed(server, 0, 30)
+        server.stop()
+        server.ended()
+
+
+def notes_for_the_journal():
+    """Each line begins with its priority and has no time; a name cannot begin a line."""
+    with Server(stop=True, sessions=0, words=["--login-delay", "0", "--log-form", "journal"]) as server:
+        client = Client(server, None)
+        client.says(None, "220 Ready")
+        client.says("USER x\x0b<6>127.0.0.1 #0 login", "331 Password required")
+        client.send("PASS wrong")
+        client.line()
+        client.socket.close()
+        server.stop()
+        server.ended()
+        wanted = ["<6>127.0.0.1 #0 connect", '<4>127.0.0.1 #0 login failed "x\\u{b}<6>127.0.0.1 #0 login"', "<6>127.0.0.1 #0 disconnect"]
+        same(server.noted().splitlines(), wanted, "the notes")
+
+
+def logs_that_cannot_be_had():
+    """A form that is none, and a transfer log whose folder is not there, end a start."""
+    status, output, noted = Server(words=["--log-form", "xml"]).run()
+    same((status, output, noted), (1, "", '"xml" is no form of notes: plain and journal are\nftpd: LogForm\n'), "a form of no name")
+    status, output, noted = Server(words=["--transfer-log", "gone/log"]).run()
+    wanted = "the transfer log gone/log could not be opened: No such file or directory (os error 2)\nftpd: TransferLog\n"
+    same((status, output, noted), (1, "", wanted), "a log without a folder")
+
+
+ROWS = [
+    a_reader_that_stops_for_a_while,
+    a_reader_that_stops_for_good,
+    a_reader_that_is_gone,
+    notes_for_the_journal,
+    logs_that_cannot_be_had,
+]

@@ -1,6 +1,6 @@
 # Completions of bash for ftpd and sheets.
 
-# _ftpd_words COMMANDS SERVE PLAN: the commands of the program, and the options of `serve` and of `plan`
+# _ftpd_words COMMANDS SERVE JSON: the commands of the program, and the options of `serve`, and of `plan` and `check-config`
 _ftpd_words() {
     local word=${COMP_WORDS[COMP_CWORD]} before=${COMP_WORDS[COMP_CWORD - 1]} options='-h --help'
     COMPREPLY=()
@@ -9,7 +9,7 @@ _ftpd_words() {
         return
     fi
     [[ ${COMP_WORDS[1]} == serve ]] && options="$2 $options"
-    [[ ${COMP_WORDS[1]} == plan ]] && options="$3 $options"
+    [[ ${COMP_WORDS[1]} == plan || ${COMP_WORDS[1]} == check-config ]] && options="$3 $options"
     if [[ ${COMP_WORDS[1]} == help ]]; then
         [[ $COMP_CWORD -gt 2 ]] || mapfile -t COMPREPLY < <(compgen -W "$1" -- "$word")
     elif [[ $before == --*-timeout || $before == --*-delay ]]; then

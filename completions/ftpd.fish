@@ -17,5 +17,6 @@ complete -c ftpd -n '__fish_seen_subcommand_from serve' -l log-form -x -a 'plain
 complete -c ftpd -n '__fish_seen_subcommand_from serve' -l login-timeout -x -d 'Seconds in which a client has to log in'
 complete -c ftpd -n '__fish_seen_subcommand_from serve' -l idle-timeout -x -d 'Seconds without a command after which a client goes'
 complete -c ftpd -n '__fish_seen_subcommand_from serve' -l login-delay -x -d 'Seconds before a wrong password is answered'
+complete -c ftpd -n '__fish_seen_subcommand_from check-config' -l json -d 'Print the report as JSON'
 complete -c ftpd -n '__fish_seen_subcommand_from plan' -l json -d 'Print the plan as JSON'
 complete -c ftpd -n '__fish_seen_subcommand_from help' -f -a 'share check check-config migrate script serve plan help'

@@ -116,7 +116,7 @@ ftpd_found any words p none timed =
         (
           λ _ is.
               let found = one_found _ _ e _ is (codes "CONFIG") refl refl in
-              (CheckConfig (at_place any found.0), (found.1, found.2, found.3)),
+              (CheckConfig (at_place any found.0) (is_flagged (codes "json") found.1), (found.1, found.2, found.3, refl)),
           (
             λ _ is.
                 let found = one_found _ _ e _ is (codes "CONFIG") refl refl in
@@ -181,7 +181,7 @@ sheet_named : (P : SheetWords → Type 0) (found : Option (Text × List Row)) (c
     → bytes_eq name (codes "check-config") ≡ false → bytes_eq name (codes "migrate") ≡ false → bytes_eq name (codes "script") ≡ false → bytes_eq name (codes "serve") ≡ false → bytes_eq name (codes "plan") ≡ false
     → ((words : SheetWords) → IsSheetFound found words → P words) → IsFound found command → IsOfSheets P command
 sheet_named P found (Sheet words) rows name named config migrate script serve plan holds is = holds words is
-sheet_named P found (CheckConfig config) rows name named config_apart migrate_apart script_apart serve_apart plan_apart holds (other, same, given) = absurd (different _ _ _ _ _ config_apart named same)
+sheet_named P found (CheckConfig config json) rows name named config_apart migrate_apart script_apart serve_apart plan_apart holds (other, same, given, flag) = absurd (different _ _ _ _ _ config_apart named same)
 sheet_named P found (Migrate config) rows name named config_apart migrate_apart script_apart serve_apart plan_apart holds (other, same, given) = absurd (different _ _ _ _ _ migrate_apart named same)
 sheet_named P found (Script config) rows name named config_apart migrate_apart script_apart serve_apart plan_apart holds (other, same, given) = absurd (different _ _ _ _ _ script_apart named same)
 sheet_named P found (Serve config files patience) rows name named config_apart migrate_apart script_apart serve_apart plan_apart holds (other, same, given, path, ready, log, form, also) = absurd (different _ _ _ _ _ serve_apart named same)
@@ -198,10 +198,12 @@ check_of_sheets found command rows word also named first second is =
     sheet_named (IsCheck word also) found command rows (codes "check") named refl refl refl refl refl (λ words held. check_is found words rows word also named first second held) is
 
 pub check_config_is : (found : Option (Text × List Row)) (command : Words) (rows : List Row) (word : Text) → found ≡ Some (codes "check-config", rows) → first_of (codes "CONFIG") rows ≡ Some word
-    → IsFound found command → IsCheckConfig word command
+    → IsFound found command → IsCheckConfig word (is_flagged (codes "json") rows) command
 check_config_is found (Sheet (Share sheet)) rows word named first (other, same, given) = absurd (different _ _ _ _ _ refl named same)
 check_config_is found (Sheet (Check sheet grants)) rows word named first (other, same, given, also) = absurd (different _ _ _ _ _ refl named same)
-check_config_is found (CheckConfig config) rows word named first (other, same, given) = let are = same_rows _ _ _ _ _ named same in cc
+check_config_is found (CheckConfig config json) rows word named first (other, same, given, flag) =
+    let are = same_rows _ _ _ _ _ named same in
+    (cc, flag ∙ sym (ap (is_flagged (codes "json")) are))
 check_config_is found (Migrate config) rows word named first (other, same, given) = absurd (different _ _ _ _ _ refl named same)
 check_config_is found (Script config) rows word named first (other, same, given) = absurd (different _ _ _ _ _ refl named same)
 check_config_is found (Serve config files patience) rows word named first (other, same, given, path, ready, log, form, also) = absurd (different _ _ _ _ _ refl named same)
@@ -211,7 +213,7 @@ pub migrate_is : (found : Option (Text × List Row)) (command : Words) (rows : L
     → IsFound found command → IsMigrate word command
 migrate_is found (Sheet (Share sheet)) rows word named first (other, same, given) = absurd (different _ _ _ _ _ refl named same)
 migrate_is found (Sheet (Check sheet grants)) rows word named first (other, same, given, also) = absurd (different _ _ _ _ _ refl named same)
-migrate_is found (CheckConfig config) rows word named first (other, same, given) = absurd (different _ _ _ _ _ refl named same)
+migrate_is found (CheckConfig config json) rows word named first (other, same, given, flag) = absurd (different _ _ _ _ _ refl named same)
 migrate_is found (Migrate config) rows word named first (other, same, given) = let are = same_rows _ _ _ _ _ named same in cc
 migrate_is found (Script config) rows word named first (other, same, given) = absurd (different _ _ _ _ _ refl named same)
 migrate_is found (Serve config files patience) rows word named first (other, same, given, path, ready, log, form, also) = absurd (different _ _ _ _ _ refl named same)
@@ -221,7 +223,7 @@ pub script_is : (found : Option (Text × List Row)) (command : Words) (rows : Li
     → IsFound found command → IsScript word command
 script_is found (Sheet (Share sheet)) rows word named first (other, same, given) = absurd (different _ _ _ _ _ refl named same)
 script_is found (Sheet (Check sheet grants)) rows word named first (other, same, given, also) = absurd (different _ _ _ _ _ refl named same)
-script_is found (CheckConfig config) rows word named first (other, same, given) = absurd (different _ _ _ _ _ refl named same)
+script_is found (CheckConfig config json) rows word named first (other, same, given, flag) = absurd (different _ _ _ _ _ refl named same)
 script_is found (Migrate config) rows word named first (other, same, given) = absurd (different _ _ _ _ _ refl named same)
 script_is found (Script config) rows word named first (other, same, given) = let are = same_rows _ _ _ _ _ named same in cc
 script_is found (Serve config files patience) rows word named first (other, same, given, path, ready, log, form, also) = absurd (different _ _ _ _ _ refl named same)
@@ -231,7 +233,7 @@ pub serve_is : (found : Option (Text × List Row)) (command : Words) (rows : Lis
     → IsPatienceIn rows p → IsFound found command → IsServe word (first_of (codes "stop-file") rows) (first_of (codes "ready-file") rows) p command
 serve_is found (Sheet (Share sheet)) rows word p named first states (other, same, given) = absurd (different _ _ _ _ _ refl named same)
 serve_is found (Sheet (Check sheet grants)) rows word p named first states (other, same, given, also) = absurd (different _ _ _ _ _ refl named same)
-serve_is found (CheckConfig config) rows word p named first states (other, same, given) = absurd (different _ _ _ _ _ refl named same)
+serve_is found (CheckConfig config json) rows word p named first states (other, same, given, flag) = absurd (different _ _ _ _ _ refl named same)
 serve_is found (Migrate config) rows word p named first states (other, same, given) = absurd (different _ _ _ _ _ refl named same)
 serve_is found (Script config) rows word p named first states (other, same, given) = absurd (different _ _ _ _ _ refl named same)
 serve_is found (Serve config files patience) rows word p named first states (other, same, given, path, ready, log, form, also) =
@@ -255,7 +257,7 @@ pub plan_is : (found : Option (Text × List Row)) (command : Words) (rows : List
     → first_of (codes "TRANSFERS") rows ≡ Some stated → IsFound found command → IsPlanWords word stated (is_flagged (codes "json") rows) command
 plan_is found (Sheet (Share sheet)) rows word stated named first second (other, same, given) = absurd (different _ _ _ _ _ refl named same)
 plan_is found (Sheet (Check sheet grants)) rows word stated named first second (other, same, given, also) = absurd (different _ _ _ _ _ refl named same)
-plan_is found (CheckConfig config) rows word stated named first second (other, same, given) = absurd (different _ _ _ _ _ refl named same)
+plan_is found (CheckConfig config json) rows word stated named first second (other, same, given, flag) = absurd (different _ _ _ _ _ refl named same)
 plan_is found (Migrate config) rows word stated named first second (other, same, given) = absurd (different _ _ _ _ _ refl named same)
 plan_is found (Script config) rows word stated named first second (other, same, given) = absurd (different _ _ _ _ _ refl named same)
 plan_is found (Serve config files patience) rows word stated named first second (other, same, given, path, ready, log, form, also) = absurd (different _ _ _ _ _ refl named same)

@@ -29,9 +29,11 @@ check =
     with_rule (with_rule (bare (codes "check")) (file_rule (codes "SHEET")))
     (file_rule (codes "GRANTS"))
 
--- `check-config CONFIG`
+-- `check-config CONFIG [--json]`
 abbrev pub check_config : App
-check_config = with_rule (bare (codes "check-config")) (file_rule (codes "CONFIG"))
+check_config =
+    with_rule (with_rule (bare (codes "check-config")) (file_rule (codes "CONFIG")))
+    (flag_rule (codes "json"))
 
 -- `migrate CONFIG`
 abbrev pub migrate : App

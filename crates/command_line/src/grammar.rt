@@ -49,7 +49,7 @@ const ABOUT_CHECK: &str =
     "SHEET is read whole, and then GRANTS. `yes` goes to standard output, or `no` with the number, the name and the\nfields of the first flaw.\n\nExample: sheets check lunch.sheet lunch.grants\n\nStatus: 0 done, or yes; 1 a fault; 2 refused words; 3 no";
 
 const ABOUT_CHECK_CONFIG: &str =
-    "CONFIG is read whole. What it states goes to standard output, in tables, with a warning of what is of no use.\n\nExample: ftpd check-config office.toml\n\nStatus: 0 done, or yes; 1 a fault; 2 refused words; 3 no";
+    "CONFIG is read whole. What it states goes to standard output, in tables, with a warning of what is of no use. Of a\nfolder, its homes and the file CONFIG the machine is asked: whether they are there, and who may read them.\n\nExample: ftpd check-config office.toml\n\nStatus: 0 done, or yes; 1 a fault; 2 refused words; 3 no";
 
 const ABOUT_MIGRATE: &str =
     "CONFIG is read whole. Its text in the latest version goes to standard output; comments are lost.\n\nExample: ftpd migrate office.toml > office2.toml\n\nStatus: 0 done, or yes; 1 a fault; 2 refused words; 3 no";
@@ -127,13 +127,15 @@ fn check_config_command<'a>(alloc: Global) -> Result<Command<'a>, AllocError>
     ensures check_config { IfOk result (λ c. app_of c ≡ check_config) }
 {
     let about = "Judge a configuration: print its users, groups, rates and guarantees, and warn";
-    config_command(
+    let json = "Print the report as JSON, for programs";
+    let command = config_command(
         alloc,
         "check-config",
         about,
         ABOUT_CHECK_CONFIG,
         CONFIG_FILE,
-    )
+    )?;
+    with_flag(alloc, command, "json", json)
 }
 
 fn migrate_command<'a>(alloc: Global) -> Result<Command<'a>, AllocError>

@@ -40,9 +40,10 @@ pub struct ServeFiles<'a> {
 pub enum Words<'a> {
     /// A command on a sheet.
     Sheet(SheetWords<'a>),
-    /// Check the configuration at this path, and print its report.
+    /// Check the configuration at this path, and print its report, as JSON or in lines.
     CheckConfig {
         config: &'a str,
+        json: bool,
     },
     /// Print the configuration at this path in its latest version.
     Migrate {
@@ -163,6 +164,7 @@ fn given<'a>(name: &str, inner: &ArgMatches<'a>, patience: Patience) -> Option<W
     match name {
         "check-config" => Some(Words::CheckConfig {
             config: word_of(inner, "CONFIG")?,
+            json: has_flag(inner, "json"),
         }),
         "migrate" => Some(Words::Migrate {
             config: word_of(inner, "CONFIG")?,
@@ -269,7 +271,10 @@ pub fn read_words<'a>(alloc: Global, words: &'a [&'a str]) -> Result<Words<'a>, 
         → GivesOrMemory (IsOfSheets (IsCheck first second)) result }
     ensures check_config { (word : List ℕ) → IsPlainWord word
         → map (λ s. s.now) words.now ≡ codes "check-config" ∷ word ∷ []
-        → GivesOrMemory (IsCheckConfig word) result }
+        → GivesOrMemory (IsCheckConfig word false) result }
+    ensures check_config_json { (word : List ℕ) → IsPlainWord word
+        → map (λ s. s.now) words.now ≡ codes "check-config" ∷ word ∷ codes "--json" ∷ []
+        → GivesOrMemory (IsCheckConfig word true) result }
     ensures migrate { (word : List ℕ) → IsPlainWord word
         → map (λ s. s.now) words.now ≡ codes "migrate" ∷ word ∷ []
         → GivesOrMemory (IsMigrate word) result }

@@ -4,11 +4,13 @@
 
 mod log_file;
 mod log_thread;
+mod machine_files;
 mod serving;
 
 use ftp_daemon::RoundClock;
 use ftpd_program::{FtpdErrorText, FtpdExit, StartFault, run_words};
 use line_queue::{LineOutlet, Readiness, StandardError};
+use machine_files::MachineFiles;
 use serving::{Asked, serve_asked};
 use sheets_program::{Machine, NOBODY_READS, Noted, as_words, line_words, null_device};
 use std::io;
@@ -44,7 +46,9 @@ where
     let ending = run_words(
         rt.alloc(),
         words,
-        &mut Machine { rt: machine },
+        &mut MachineFiles {
+            files: Machine { rt: machine },
+        },
         &mut asked,
         output,
     );

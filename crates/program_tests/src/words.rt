@@ -9,7 +9,17 @@ fn words_on_a_configuration(rt: HostRuntime) {
     let config = "office.toml";
     let words = ["check-config", config];
     let command = read_words(rt.alloc(), &words).expect(&rt, "a command");
-    holds(&rt, command == Words::CheckConfig { config });
+    holds(
+        &rt,
+        command
+            == Words::CheckConfig {
+                config,
+                json: false,
+            },
+    );
+    let words = ["check-config", config, "--json"];
+    let command = read_words(rt.alloc(), &words).expect(&rt, "a command");
+    holds(&rt, command == Words::CheckConfig { config, json: true });
     let words = ["migrate", config];
     let command = read_words(rt.alloc(), &words).expect(&rt, "a command");
     holds(&rt, command == Words::Migrate { config });

@@ -12,6 +12,7 @@ mod ending;
 mod house;
 mod lane;
 mod server_hooks;
+mod ticket;
 
 pub use cause::EndCause;
 pub use descriptors::descriptors_for;
@@ -22,3 +23,4 @@ pub use server_hooks::{
     LoginRefusal, NotServed, ServerEvent, ServerHooks, SessionEvent, StoreChange, TransferKind,
     TransferRecord,
 };
+pub use ticket::{LaneEnds, SessionEnd, SessionJob, SessionTicket};

@@ -1,10 +1,10 @@
 use Rattle.std.proofs.Common.{None, Some, Bool, codes, inl, inr, refl, sym, [], ◌≡◌, ◌∙◌, ap, ap₂, subst, map, ℕ, List, Option, true}
 use Rattle.std.specs.Borrow.{Bor}
 use Rattle.command_line.specs.Commands.{ftpd}
-use Rattle.command_line.specs.Given.{IsFound, IsLoggedBy, IsPlanWords, IsRefusal, IsServe}
+use Rattle.command_line.specs.Given.{IsCheckConfig, IsFound, IsLoggedBy, IsPlanWords, IsRefusal, IsServe}
 use Rattle.command_line.specs.Timed.{IsTimedBy, IsUntimed, usual_patience}
 use Rattle.clap.specs.Words.{App, Row, Text, app_of, fault_of, is_simple, is_simple_and_free, first_of, subcommand_of, takes}
-use Rattle.command_line.proofs.Taken.{refused_by_none, ftpd_is_free, ftpd_is_simple, ftpd_checks, ftpd_shares, checks_config, migrates, plans, plans_json, scripts, serves}
+use Rattle.command_line.proofs.Taken.{refused_by_none, ftpd_is_free, ftpd_is_simple, ftpd_checks, ftpd_shares, checks_config, migrates, plans, plans_json, reports_json, scripts, serves}
 use Rattle.command_line.proofs.Seconds.{patient, refused_other, refused_timed, seconds_plain, timed_by, usual}
 use Rattle.command_line.proofs.ServeWords.{serves_logged, serves_ready, serves_timed, serves_until}
 use Rattle.command_line.proofs.GivenCommand.{check_config_is, check_of_sheets, ftpd_found, logged_is, migrate_is, plan_is, script_is, serve_is, share_of_sheets}
@@ -21,6 +21,10 @@ returns-in-Err-clause-check c = λ first second plain also are.
 pub returns-in-Err-clause-check_config : goal.returns-in-Err-clause-check_config
 returns-in-Err-clause-check_config c = λ word plain are.
     c.in-Err.ensures.takes (ap₂ takes c.in-Ok.ensures.ftpd are ∙ (checks_config word plain).taken)
+
+pub returns-in-Err-clause-check_config_json : goal.returns-in-Err-clause-check_config_json
+returns-in-Err-clause-check_config_json c = λ word plain are.
+    c.in-Err.ensures.takes (ap₂ takes c.in-Ok.ensures.ftpd are ∙ (reports_json word plain).taken)
 
 pub returns-in-Err-clause-migrate : goal.returns-in-Err-clause-migrate
 returns-in-Err-clause-migrate c = λ word plain are.
@@ -98,6 +102,13 @@ returns-in-Err-stated_patience-clause-check c = λ first second plain also are.
 pub returns-in-Err-stated_patience-clause-check_config : goal.returns-in-Err-stated_patience-clause-check_config
 returns-in-Err-stated_patience-clause-check_config c = λ word plain are.
     let held = checks_config word plain in
+    let simple : is_simple (app_of c.in-Ok.command) ≡ true = ap is_simple c.in-Ok.ensures.ftpd ∙ ftpd_is_simple in
+    let entered = c.in-Ok-parsed.ensures.found simple ∙ ap₂ subcommand_of c.in-Ok.ensures.ftpd are ∙ held.entered in
+    refused_other _ (codes "check-config") held.rows _ refl entered c.in-Err-stated_patience.ensures.refused
+
+pub returns-in-Err-stated_patience-clause-check_config_json : goal.returns-in-Err-stated_patience-clause-check_config_json
+returns-in-Err-stated_patience-clause-check_config_json c = λ word plain are.
+    let held = reports_json word plain in
     let simple : is_simple (app_of c.in-Ok.command) ≡ true = ap is_simple c.in-Ok.ensures.ftpd ∙ ftpd_is_simple in
     let entered = c.in-Ok-parsed.ensures.found simple ∙ ap₂ subcommand_of c.in-Ok.ensures.ftpd are ∙ held.entered in
     refused_other _ (codes "check-config") held.rows _ refl entered c.in-Err-stated_patience.ensures.refused
@@ -215,7 +226,16 @@ returns-clause-check_config c = λ word plain are.
     let held = checks_config word plain in
     let simple : is_simple (app_of c.in-Ok.command) ≡ true = ap is_simple c.in-Ok.ensures.ftpd ∙ ftpd_is_simple in
     let entered = c.in-Ok-parsed.ensures.found simple ∙ ap₂ subcommand_of c.in-Ok.ensures.ftpd are ∙ held.entered in
-    check_config_is _ _ held.rows word entered held.config c.in-Some.ensures.found
+    subst (λ (flag : Bool). IsCheckConfig word flag c.in-Some.words) held.unflagged
+    (check_config_is _ _ held.rows word entered held.config c.in-Some.ensures.found)
+
+pub returns-clause-check_config_json : goal.returns-clause-check_config_json
+returns-clause-check_config_json c = λ word plain are.
+    let held = reports_json word plain in
+    let simple : is_simple (app_of c.in-Ok.command) ≡ true = ap is_simple c.in-Ok.ensures.ftpd ∙ ftpd_is_simple in
+    let entered = c.in-Ok-parsed.ensures.found simple ∙ ap₂ subcommand_of c.in-Ok.ensures.ftpd are ∙ held.entered in
+    subst (λ (flag : Bool). IsCheckConfig word flag c.in-Some.words) held.flagged
+    (check_config_is _ _ held.rows word entered held.config c.in-Some.ensures.found)
 
 pub returns-clause-migrate : goal.returns-clause-migrate
 returns-clause-migrate c = λ word plain are.

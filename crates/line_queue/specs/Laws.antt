@@ -58,7 +58,7 @@ texts [] = []
 texts (entry ∷ entries) = entry_text entry ++ texts entries
 
 -- The entries have the lines in their order; a count is at the place of as many lines that were
--- dropped, and so many were dropped after the last entry.
+-- dropped, and `dropped` is the number of those after the last entry.
 abbrev pub Accounts : List (List ℕ) → List Entry → ℕ → Type 0
 Accounts lines [] dropped = length lines ≡ dropped
 Accounts [] (Line kept ∷ entries) dropped = ⊥

@@ -2,8 +2,8 @@
 use Rattle.std.specs.Prelude.{◌≡◌, ℕ, ◌≤◌, List, [], ◌∷◌, ◌++◌, length, take, drop}
 use Rattle.line_queue.specs.Queues.{Queue, empty, offered, reported, written, next_octets, count_text}
 
--- What happens to a queue: a line is offered, the count of dropped lines is reported under a head,
--- or so many octets of the next write are taken.
+-- An event of a queue: a line is offered, the count of dropped lines is reported under a head, or a
+-- number of octets of the next write is taken.
 pub data Deed : Type 0 where
   Offered : List ℕ → Deed
   Reported : List ℕ → Deed

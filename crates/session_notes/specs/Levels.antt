@@ -6,7 +6,7 @@ use Rattle.server_house.specs.declared.cause.EndCause.TheVariants.{Aborted, Noth
 use Rattle.server_house.specs.declared.server_hooks.SessionEvent.{SessionEvent}
 use Rattle.server_house.specs.declared.server_hooks.SessionEvent.TheVariants.{NoPort, TimedOut, Cut}
 use Rattle.session_notes.specs.declared.words.Noted.{Noted}
-use Rattle.session_notes.specs.declared.words.Noted.TheVariants.{Connect, Disconnect, Login, LoginFailed, Logout, Sent, Received, NotSent, NotReceived}
+use Rattle.session_notes.specs.declared.words.Noted.TheVariants.{Connect, Disconnect, Login, LoginFailed, Logout}
 
 abbrev pub level_of_event : Noted → Level
 level_of_event Connect = Info
@@ -14,10 +14,6 @@ level_of_event Disconnect = Info
 level_of_event Login = Info
 level_of_event LoginFailed = Warn
 level_of_event Logout = Info
-level_of_event Sent = Info
-level_of_event Received = Info
-level_of_event NotSent = Info
-level_of_event NotReceived = Info
 
 -- a lack or a fault of the server
 abbrev pub level_of_cause : EndCause → Level

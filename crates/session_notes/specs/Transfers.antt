@@ -1,5 +1,5 @@
 -- The words of transfers, of changes and of refused logins.
-use Rattle.std.specs.Prelude.{ℕ, ◌/◌, ◌%◌, Bool, true, false, List, ◌++◌, codes, Option, Some, is_none}
+use Rattle.std.specs.Prelude.{◌≡◌, ℕ, ◌/◌, ◌%◌, Bool, true, false, List, ◌++◌, codes, Option, Some, is_none}
 use Rattle.std.specs.Fmt.{◌++?◌, debug_str, decimal}
 use Rattle.server_house.specs.declared.server_hooks.LoginRefusal.{LoginRefusal}
 use Rattle.server_house.specs.declared.server_hooks.LoginRefusal.TheVariants.{NotGuaranteed, AttemptsUsed}
@@ -8,6 +8,7 @@ use Rattle.server_house.specs.declared.server_hooks.StoreChange.TheVariants.{Del
 use Rattle.server_house.specs.declared.server_hooks.TransferKind.{TransferKind}
 use Rattle.server_house.specs.declared.server_hooks.TransferKind.TheVariants.{Sent, Received, Listed}
 use Rattle.server_house.specs.declared.server_hooks.TransferRecord.{TransferRecord}
+use Rattle.transfer_log.specs.declared.line.FileTransfer.{FileTransfer}
 
 abbrev pub transfer_words : TransferKind → Bool → List ℕ
 transfer_words Sent true = codes "sent"
@@ -30,6 +31,20 @@ transfer_text transfer =
     ++? debug_str transfer.path.now ++? Some (codes ": user ") ++? debug_str transfer.user.now
     ++? Some (codes ", " ++ decimal transfer.octets ++ codes " octets, "
     ++ seconds_text transfer.micros)
+
+abbrev pub IsSentOr : TransferKind → Bool → Type 0
+IsSentOr Sent sent = sent ≡ true
+IsSentOr Received sent = sent ≡ false
+IsSentOr Listed sent = ⊥
+
+-- The transfer of a file is that of the record, at this second; a listing has none.
+abbrev pub IsFileTransfer : TransferRecord → ℕ → Option FileTransfer → Type 0
+IsFileTransfer transfer ended None = transfer.kind ≡ Listed
+IsFileTransfer transfer ended (Some file) =
+    (file.ended ≡ ended) × (file.micros ≡ transfer.micros) × (file.peer ≡ transfer.peer)
+    × (file.octets ≡ transfer.octets) × (file.path.now ≡ transfer.path.now)
+    × (file.is_text ≡ transfer.is_text) × IsSentOr transfer.kind file.is_sent
+    × (file.user.now ≡ transfer.user.now) × (file.is_whole ≡ is_none transfer.cause)
 
 abbrev pub change_text : StoreChange → Option (List ℕ)
 change_text (Deleted path) = Some (codes "deleted ") ++? debug_str path.now

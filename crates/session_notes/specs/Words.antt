@@ -13,7 +13,7 @@ use Rattle.server_house.specs.declared.server_hooks.SessionEvent.{SessionEvent}
 use Rattle.server_house.specs.declared.server_hooks.SessionEvent.TheVariants.{NoPort, TimedOut, Cut}
 use Rattle.client_patience.specs.declared.waits.TimeOut.TheVariants as time
 use Rattle.session_notes.specs.declared.words.Noted.{Noted}
-use Rattle.session_notes.specs.declared.words.Noted.TheVariants.{Connect, Disconnect, Login, LoginFailed, Logout, Sent, Received, NotSent, NotReceived}
+use Rattle.session_notes.specs.declared.words.Noted.TheVariants.{Connect, Disconnect, Login, LoginFailed, Logout}
 use Rattle.session_notes.specs.declared.words.NoteText.{NoteText}
 
 abbrev pub event_words : Noted → List ℕ
@@ -22,10 +22,6 @@ event_words Disconnect = codes "disconnect"
 event_words Login = codes "login"
 event_words LoginFailed = codes "login failed"
 event_words Logout = codes "logout"
-event_words Sent = codes "sent"
-event_words Received = codes "received"
-event_words NotSent = codes "not sent whole"
-event_words NotReceived = codes "not received whole"
 
 -- the words, and after a blank the name, if there is one, in quotation marks and escaped
 abbrev pub words_with : List ℕ → Option (Bor (List ℕ)) → Option (List ℕ)

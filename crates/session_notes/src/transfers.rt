@@ -1,10 +1,11 @@
 //! The words of transfers, of changes and of refused logins.
 
 ghost use Rattle.std.specs.Prelude.{◌≡◌};
-ghost use Rattle.session_notes.specs.Transfers.{refused_words, transfer_words};
+ghost use Rattle.session_notes.specs.Transfers.{IsFileTransfer, refused_words, transfer_words};
 
 use server_house::{LoginRefusal, StoreChange, TransferKind, TransferRecord};
 use std::fmt;
+use transfer_log::FileTransfer;
 
 /// The words for a transfer of this kind, and whether it came to its end.
 fn transfer_words(kind: TransferKind, is_whole: bool) -> &'static str
@@ -59,6 +60,28 @@ impl fmt::Display for ChangeText<'_> {
             StoreChange::FolderRemoved(path) => write!(f, "removed the folder {path:?}"),
         }
     }
+}
+
+/// The transfer of a file as a transfer log has it, at the second of its end; none for a listing.
+pub(crate) fn file_transfer<'a>(record: &TransferRecord<'a>, ended: u64) -> Option<FileTransfer<'a>>
+    ensures transfer { IsFileTransfer record.now ended result }
+{
+    let is_sent = match record.kind {
+        TransferKind::Sent => true,
+        TransferKind::Received => false,
+        TransferKind::Listed => return None,
+    };
+    Some(FileTransfer {
+        ended,
+        micros: record.micros,
+        peer: record.peer,
+        octets: record.octets,
+        path: record.path,
+        is_text: record.is_text,
+        is_sent,
+        user: record.user,
+        is_whole: record.cause.is_none(),
+    })
 }
 
 /// The reason for which a login was refused, in words.

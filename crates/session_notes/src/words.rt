@@ -18,10 +18,6 @@ pub(crate) enum Noted {
     Login,
     LoginFailed,
     Logout,
-    Sent,
-    Received,
-    NotSent,
-    NotReceived,
 }
 
 fn event_words(event: Noted) -> &'static str
@@ -33,10 +29,6 @@ fn event_words(event: Noted) -> &'static str
         Noted::Login => "login",
         Noted::LoginFailed => "login failed",
         Noted::Logout => "logout",
-        Noted::Sent => "sent",
-        Noted::Received => "received",
-        Noted::NotSent => "not sent whole",
-        Noted::NotReceived => "not received whole",
     }
 }
 

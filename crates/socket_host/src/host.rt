@@ -11,6 +11,7 @@ ghost use Rattle.session_table.specs.Steps.{asks_floors};
 ghost use Rattle.session_table.specs.Views.{is_closed};
 ghost use Rattle.std.specs.FinMap as map;
 ghost use Rattle.socket_host.specs.Cuts.{cause_of_cut};
+ghost use Rattle.socket_host.specs.Records.{is_text, kind_of};
 ghost use Rattle.socket_host.specs.Texts.{is_without_port, time_out_reply};
 ghost use Rattle.socket_host.specs.Unsaid.{AnyCall};
 
@@ -20,12 +21,16 @@ use authorizer::Authorizer;
 use client_patience::{TimeOut, Waits};
 use control_session::{DataEvent, Host, Leaving, Piece, Session, close_by, end_by, step_by};
 use event_word::{has_passed, micros};
+use ftp_terms::DataType;
 use ftp_wire::HostPort;
 use handler_hooks::{Hooks, tell};
 use lent_parts::PartsName;
 use line_rates::Limits;
 use rate_floors::Floors;
-use server_house::{EndCause, House, ServerHooks, SessionEvent, ShutdownStage, copy_settings};
+use server_house::{
+    EndCause, House, ServerHooks, SessionEvent, ShutdownStage, TransferKind, TransferRecord,
+    copy_settings,
+};
 use session_table::{Action, End, HookCall, Input, Job, Settings, Text};
 use socket_side::SocketSide;
 use std::alloc::{AllocError, Global};
@@ -102,6 +107,37 @@ fn number_of(users: &Authorizer, name: &str) -> u32
     }
 }
 
+// The kind and the path of the file whose end a call reports, if it reports one.
+fn file_of(call: &HookCall<Global>) -> Option<(TransferKind, &str)>
+    ensures kind { option_map (λ file. file.0) result ≡ kind_of call.now }
+{
+    match call {
+        HookCall::FileSent(path) => Some((TransferKind::Sent, path.text())),
+        HookCall::IncompleteFileSent(path) => Some((TransferKind::Sent, path.text())),
+        HookCall::FileReceived(path) => Some((TransferKind::Received, path.text())),
+        HookCall::IncompleteFileReceived(path) => Some((TransferKind::Received, path.text())),
+        _ => None,
+    }
+}
+
+// Returns whether a transfer has the type of texts.
+fn is_text<R, K>(job: &Job<Global, R, K>) -> bool
+    ensures text { result ≡ is_text job.now }
+{
+    match job {
+        Job::Text(_) => true,
+        Job::SendFile(_, data_type) | Job::TakeFile(_, data_type) => *data_type == DataType::Ascii,
+    }
+}
+
+// A copy of a name; empty if memory runs out.
+fn copy_name(alloc: Global, name: &str) -> String {
+    match String::from_str(alloc, name) {
+        Ok(name) => name,
+        Err(_) => String::new(alloc),
+    }
+}
+
 /// The host of the session of one control connection. It cannot be dropped: its data side leaves its ticket.
 pub struct SocketHost<'h, R, S: Store<Global>, H: Hooks, B: PartsName> {
     rt: &'h R,
@@ -114,6 +150,10 @@ pub struct SocketHost<'h, R, S: Store<Global>, H: Hooks, B: PartsName> {
     // the number of the user who is logged in, by which rounds identify them
     user: u32,
     waits: Waits,
+    // the name of the user who was logged in last
+    name: String,
+    // the beginning of the last transfer, in microseconds, and that its type is that of texts
+    begun: (u64, bool),
     // the reply that comes next is to a wrong password
     is_wrong: bool,
     // lent to steps that need no floors
@@ -147,6 +187,8 @@ where
             key,
             user: 0,
             waits: Waits::new(micros(rt)),
+            name: String::new(rt.alloc()),
+            begun: (0, false),
             is_wrong: false,
             no_floors,
         }
@@ -163,6 +205,8 @@ where
             key: _,
             user: _,
             waits: _,
+            name: _,
+            begun: _,
             is_wrong: _,
             no_floors: _,
         } = self;
@@ -197,12 +241,30 @@ where
         match call {
             HookCall::Login(name) => {
                 self.user = number_of(&self.house.users, name.as_str());
+                self.name = copy_name(self.rt.alloc(), name.as_str());
                 self.waits.log_in();
             }
             HookCall::Logout(_) => self.waits.log_out(micros(self.rt)),
             HookCall::LoginFailed(_) => self.is_wrong = true,
             _ => {}
         }
+    }
+
+    // The record of the file whose end a call reports, if it reports one.
+    fn record_of<'c>(&'c self, call: &'c HookCall<Global>) -> Option<TransferRecord<'c>> {
+        let (kind, path) = file_of(call)?;
+        let (since, is_text) = self.begun;
+        Some(TransferRecord {
+            peer: self.peer,
+            session: self.key,
+            user: self.name.as_str(),
+            kind,
+            path,
+            is_text,
+            octets: self.side.moved(),
+            micros: micros(self.rt).saturating_sub(since),
+            cause: self.side.cause(),
+        })
     }
 
     // Reports an event of the session that is none of its steps.
@@ -331,6 +393,9 @@ where
         self.follow(call);
         let mut handler = self.house.handler.lock(self.rt);
         handler.attend(self.peer, self.key, self.side.cause());
+        if let Some(record) = self.record_of(call) {
+            handler.on_transfer(&record);
+        }
         tell(&mut *handler, call);
     }
 
@@ -374,6 +439,7 @@ where
 
     fn start(&mut self, job: &mut Option<Job<Global, S::Source, S::Sink>>) {
         if let Some(job) = job.take() {
+            self.begun = (micros(self.rt), is_text(&job));
             self.side.start(job, self.user);
         }
     }

@@ -2,8 +2,8 @@
 use Rattle.std.specs.Prelude.{◌≡◌, ℕ, ◌≤◌, List, [], ◌∷◌, ◌++◌, length, take, drop}
 use Rattle.line_queue.specs.Queues.{Queue, empty, offered, reported, written, next_octets, count_text}
 
--- What happens to a queue: a line is offered, the count of dropped lines is reported under a head,
--- or so many octets of the next write are taken.
+-- An event of a queue: a line is offered, the count of dropped lines is reported under a head, or a
+-- number of octets of the next write is taken.
 pub data Deed : Type 0 where
   Offered : List ℕ → Deed
   Reported : List ℕ → Deed
@@ -58,7 +58,7 @@ texts [] = []
 texts (entry ∷ entries) = entry_text entry ++ texts entries
 
 -- The entries have the lines in their order; a count is at the place of as many lines that were
--- dropped, and so many were dropped after the last entry.
+-- dropped, and `dropped` is the number of those after the last entry.
 abbrev pub Accounts : List (List ℕ) → List Entry → ℕ → Type 0
 Accounts lines [] dropped = length lines ≡ dropped
 Accounts [] (Line kept ∷ entries) dropped = ⊥

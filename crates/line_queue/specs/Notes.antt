@@ -21,13 +21,15 @@ priority Debug = codes "<7>"
 priority Trace = codes "<7>"
 
 module _ {D K S : Type 0} where
-  -- The text of a record in a form, where the first three arguments are the members of `D`, `K` and
-  -- `S`: the line of the kit's `log`, or the priority and the message.
-  abbrev pub form_text : (D → Option (List ℕ)) → (K → Option (List Pair)) → (S → Option (List Scope)) → LogForm → Record D K S → Option (List ℕ)
+  -- The text of a record in a form: the line of the kit's `log`, or the priority and the message.
+  -- The first three arguments are the members of `D`, `K` and `S`.
+  abbrev pub form_text : (D → Option (List ℕ)) → (K → Option (List Pair))
+      → (S → Option (List Scope)) → LogForm → Record D K S → Option (List ℕ)
   form_text output pairs scopes Plain r = record_line output pairs scopes r
   form_text output pairs scopes Journal r =
       Some (priority (metadata_level (record_metadata r))) ++? output (record_args r)
 
   -- the same with its end
-  abbrev pub note_line : (D → Option (List ℕ)) → (K → Option (List Pair)) → (S → Option (List Scope)) → LogForm → Record D K S → Option (List ℕ)
+  abbrev pub note_line : (D → Option (List ℕ)) → (K → Option (List Pair))
+      → (S → Option (List Scope)) → LogForm → Record D K S → Option (List ℕ)
   note_line output pairs scopes form r = form_text output pairs scopes form r ++? Some (10 ∷ [])

@@ -89,7 +89,7 @@ next_of (line ∷ lines) begun = take MAX_WRITE (drop begun line)
 abbrev pub next_octets : Queue → List ℕ
 next_octets queue = next_of queue.lines queue.begun
 
--- the queue after so many octets of the next write were taken
+-- the queue after `count` octets of the next write were taken
 abbrev pub written_of : List (List ℕ) → ℕ → ℕ → ℕ → Queue
 written_of [] begun dropped count = record { lines = []; begun = begun; dropped = dropped }
 written_of (line ∷ lines) begun dropped count =

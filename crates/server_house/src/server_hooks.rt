@@ -22,8 +22,6 @@ pub enum SessionEvent {
     NoPort(io::Error),
     /// The session ends, since its client has passed a limit of time.
     TimedOut(TimeOut),
-    /// The running transfer was cut by the end of its session.
-    Cut(EndCause),
 }
 
 /// An event of the whole server.
@@ -58,8 +56,9 @@ pub struct TransferRecord<'a> {
     /// The user who was logged in when it began.
     pub user: &'a str,
     pub kind: TransferKind,
-    /// The path of the file, or of the folder that was listed.
-    pub path: &'a str,
+    /// The path of the file, if it is known: it is not for a listing, nor for a transfer that was cut by the end of its
+    /// session.
+    pub path: Option<&'a str>,
     /// Its type is that of texts (TYPE A).
     pub is_text: bool,
     /// The octets that were moved.

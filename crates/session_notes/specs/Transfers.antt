@@ -1,5 +1,6 @@
 -- The words of transfers, of changes and of refused logins.
-use Rattle.std.specs.Prelude.{◌≡◌, ℕ, ◌/◌, ◌%◌, Bool, true, false, List, ◌++◌, codes, Option, Some, is_none}
+use Rattle.std.specs.Prelude.{◌≡◌, ℕ, ◌/◌, ◌%◌, Bool, true, false, List, [], ◌++◌, codes, Option, None, Some, is_none}
+use Rattle.std.specs.Borrow.{Bor}
 use Rattle.std.specs.Fmt.{◌++?◌, debug_str, decimal}
 use Rattle.server_house.specs.declared.server_hooks.LoginRefusal.{LoginRefusal}
 use Rattle.server_house.specs.declared.server_hooks.LoginRefusal.TheVariants.{NotGuaranteed, AttemptsUsed}
@@ -8,6 +9,7 @@ use Rattle.server_house.specs.declared.server_hooks.StoreChange.TheVariants.{Del
 use Rattle.server_house.specs.declared.server_hooks.TransferKind.{TransferKind}
 use Rattle.server_house.specs.declared.server_hooks.TransferKind.TheVariants.{Sent, Received, Listed}
 use Rattle.server_house.specs.declared.server_hooks.TransferRecord.{TransferRecord}
+use Rattle.session_notes.specs.Words.{words_with}
 use Rattle.transfer_log.specs.declared.line.FileTransfer.{FileTransfer}
 
 abbrev pub transfer_words : TransferKind → Bool → List ℕ
@@ -24,13 +26,18 @@ seconds_text micros =
     decimal (micros / 1_000_000) ++ codes "." ++ decimal (micros / 100_000 % 10)
     ++ decimal (micros / 10_000 % 10) ++ decimal (micros / 1_000 % 10) ++ codes " s"
 
--- the words and the path, the user, the octets and the seconds; names in quotation marks, escaped
+-- the words and the path, if it is known, the user, the octets and the seconds; names in quotation marks, escaped
 abbrev pub transfer_text : TransferRecord → Option (List ℕ)
 transfer_text transfer =
-    Some (transfer_words transfer.kind (is_none transfer.cause) ++ codes " ")
-    ++? debug_str transfer.path.now ++? Some (codes ": user ") ++? debug_str transfer.user.now
+    words_with (transfer_words transfer.kind (is_none transfer.cause)) transfer.path
+    ++? Some (codes ": user ") ++? debug_str transfer.user.now
     ++? Some (codes ", " ++ decimal transfer.octets ++ codes " octets, "
     ++ seconds_text transfer.micros)
+
+-- the path, empty if it is not known
+abbrev pub known_path : Option (Bor (List ℕ)) → List ℕ
+known_path None = []
+known_path (Some path) = path.now
 
 abbrev pub IsSentOr : TransferKind → Bool → Type 0
 IsSentOr Sent sent = sent ≡ true
@@ -42,7 +49,7 @@ abbrev pub IsFileTransfer : TransferRecord → ℕ → Option FileTransfer → T
 IsFileTransfer transfer ended None = transfer.kind ≡ Listed
 IsFileTransfer transfer ended (Some file) =
     (file.ended ≡ ended) × (file.micros ≡ transfer.micros) × (file.peer ≡ transfer.peer)
-    × (file.octets ≡ transfer.octets) × (file.path.now ≡ transfer.path.now)
+    × (file.octets ≡ transfer.octets) × (file.path.now ≡ known_path transfer.path)
     × (file.is_text ≡ transfer.is_text) × IsSentOr transfer.kind file.is_sent
     × (file.user.now ≡ transfer.user.now) × (file.is_whole ≡ is_none transfer.cause)
 

@@ -29,11 +29,7 @@ pub(crate) fn second_of(reading: io::Result<Duration>) -> Timestamp
         result.nanosecond ≡ pos 0) }
     ensures unread { OnErr reading (result.nanosecond ≡ pos 0) }
 {
-    let seconds = match reading {
-        Ok(time) => time.as_secs(),
-        Err(_) => 0,
-    };
-    match i64::try_from(seconds) {
+    match i64::try_from(seconds_of(reading)) {
         Ok(seconds) => match Timestamp::from_second(seconds) {
             Ok(time) => time,
             Err(_) => Timestamp::UNIX_EPOCH,

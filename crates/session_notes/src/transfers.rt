@@ -21,7 +21,7 @@ fn transfer_words(kind: TransferKind, is_whole: bool) -> &'static str
     }
 }
 
-/// A transfer without the reason of its end: its words and its path, its user, the octets that were moved, and the
+/// A transfer without the reason of its end: its words and its path, if that is known, its user, the octets that were moved, and the
 /// seconds that it took, with their thousandths.
 #[derive(Clone, Copy)]
 pub(crate) struct TransferText<'a>(pub TransferRecord<'a>);
@@ -33,12 +33,16 @@ impl fmt::Display for TransferText<'_> {
 
     fn fmt<W: fmt::Write>(&self, f: &mut fmt::Formatter<W>) -> fmt::Result {
         let words = transfer_words(self.0.kind, self.0.cause.is_none());
-        let (path, user, octets) = (self.0.path, self.0.user, self.0.octets);
+        let (user, octets) = (self.0.user, self.0.octets);
         let seconds = self.0.micros / 1_000_000;
         let tenths = self.0.micros / 100_000 % 10;
         let hundredths = self.0.micros / 10_000 % 10;
         let thousandths = self.0.micros / 1_000 % 10;
-        write!(f, "{words} {path:?}: user {user:?}, {octets} octets, ")?;
+        f.write_str(words)?;
+        if let Some(path) = self.0.path {
+            write!(f, " {path:?}")?;
+        }
+        write!(f, ": user {user:?}, {octets} octets, ")?;
         write!(f, "{seconds}.{tenths}{hundredths}{thousandths} s")
     }
 }
@@ -76,7 +80,7 @@ pub(crate) fn file_transfer<'a>(record: &TransferRecord<'a>, ended: u64) -> Opti
         micros: record.micros,
         peer: record.peer,
         octets: record.octets,
-        path: record.path,
+        path: record.path.unwrap_or(""),
         is_text: record.is_text,
         is_sent,
         user: record.user,

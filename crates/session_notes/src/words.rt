@@ -121,7 +121,6 @@ fn session_words(event: SessionEvent) -> &'static str
         SessionEvent::NoPort(_) => "no passive port",
         SessionEvent::TimedOut(TimeOut::Login) => "timed out without a login",
         SessionEvent::TimedOut(TimeOut::Idle) => "timed out without a sign of life",
-        SessionEvent::Cut(_) => "transfer cut",
     }
 }
 
@@ -135,10 +134,6 @@ impl fmt::Display for SessionText {
         match self.0 {
             SessionEvent::NoPort(error) => write!(f, "{words}: {error}"),
             SessionEvent::TimedOut(_) => f.write_str(words),
-            SessionEvent::Cut(cause) => {
-                let cause = CauseText(cause);
-                write!(f, "{words}: {cause}")
-            }
         }
     }
 }

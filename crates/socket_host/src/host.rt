@@ -11,7 +11,7 @@ ghost use Rattle.session_table.specs.Steps.{asks_floors};
 ghost use Rattle.session_table.specs.Views.{is_closed};
 ghost use Rattle.std.specs.FinMap as map;
 ghost use Rattle.socket_host.specs.Cuts.{cause_of_cut};
-ghost use Rattle.socket_host.specs.Records.{is_text, kind_of};
+ghost use Rattle.socket_host.specs.Records.{ends_listing, is_end, is_text, job_kind, kind_of};
 ghost use Rattle.socket_host.specs.Texts.{is_without_port, time_out_reply};
 ghost use Rattle.socket_host.specs.Unsaid.{AnyCall};
 
@@ -130,6 +130,43 @@ fn is_text<R, K>(job: &Job<Global, R, K>) -> bool
     }
 }
 
+// The kind of a transfer.
+fn kind_of<R, K>(job: &Job<Global, R, K>) -> TransferKind
+    ensures kind { result ≡ job_kind job.now }
+{
+    match job {
+        Job::Text(_) => TransferKind::Listed,
+        Job::SendFile(_, _) => TransferKind::Sent,
+        Job::TakeFile(_, _) => TransferKind::Received,
+    }
+}
+
+// Returns whether an event is the end of a transfer.
+fn is_end<K>(event: &Option<DataEvent<K>>) -> bool
+    ensures end { result ≡ is_end event.now }
+{
+    matches!(event, Some(DataEvent::Ended { .. }))
+}
+
+// Returns whether an event is the end of a listing, if the last transfer was of this kind.
+fn ends_listing<K>(event: &Option<DataEvent<K>>, kind: TransferKind) -> bool
+    ensures ends { result ≡ ends_listing event.now kind }
+{
+    match (event, kind) {
+        (Some(DataEvent::Ended { .. }), TransferKind::Listed) => true,
+        _ => false,
+    }
+}
+
+// A transfer that was begun, at `since` in microseconds.
+#[derive(Clone, Copy)]
+struct Begun {
+    since: u64,
+    kind: TransferKind,
+    // its type is that of texts
+    is_text: bool,
+}
+
 // A copy of a name; empty if memory runs out.
 fn copy_name(alloc: Global, name: &str) -> String {
     match String::from_str(alloc, name) {
@@ -152,8 +189,8 @@ pub struct SocketHost<'h, R, S: Store<Global>, H: Hooks, B: PartsName> {
     waits: Waits,
     // the name of the user who was logged in last
     name: String,
-    // the beginning of the last transfer, in microseconds, and that its type is that of texts
-    begun: (u64, bool),
+    // the last transfer that was begun
+    begun: Begun,
     // the reply that comes next is to a wrong password
     is_wrong: bool,
     // lent to steps that need no floors
@@ -188,7 +225,11 @@ where
             user: 0,
             waits: Waits::new(micros(rt)),
             name: String::new(rt.alloc()),
-            begun: (0, false),
+            begun: Begun {
+                since: 0,
+                kind: TransferKind::Listed,
+                is_text: true,
+            },
             is_wrong: false,
             no_floors,
         }
@@ -250,21 +291,30 @@ where
         }
     }
 
-    // The record of the file whose end a call reports, if it reports one.
-    fn record_of<'c>(&'c self, call: &'c HookCall<Global>) -> Option<TransferRecord<'c>> {
-        let (kind, path) = file_of(call)?;
-        let (since, is_text) = self.begun;
-        Some(TransferRecord {
+    // The record of the transfer whose end was reported last.
+    fn record<'c>(
+        &'c self,
+        kind: TransferKind,
+        path: Option<&'c str>,
+        cause: Option<EndCause>,
+    ) -> TransferRecord<'c> {
+        TransferRecord {
             peer: self.peer,
             session: self.key,
             user: self.name.as_str(),
             kind,
             path,
-            is_text,
+            is_text: self.begun.is_text,
             octets: self.side.moved(),
-            micros: micros(self.rt).saturating_sub(since),
-            cause: self.side.cause(),
-        })
+            micros: micros(self.rt).saturating_sub(self.begun.since),
+            cause,
+        }
+    }
+
+    // Reports the end of a transfer whose path is not known.
+    fn report_pathless(&self, cause: Option<EndCause>) {
+        let record = self.record(self.begun.kind, None, cause);
+        self.house.handler.lock(self.rt).on_transfer(&record);
     }
 
     // Reports an event of the session that is none of its steps.
@@ -393,8 +443,8 @@ where
         self.follow(call);
         let mut handler = self.house.handler.lock(self.rt);
         handler.attend(self.peer, self.key, self.side.cause());
-        if let Some(record) = self.record_of(call) {
-            handler.on_transfer(&record);
+        if let Some((kind, path)) = file_of(call) {
+            handler.on_transfer(&self.record(kind, Some(path), self.side.cause()));
         }
         tell(&mut *handler, call);
     }
@@ -439,7 +489,11 @@ where
 
     fn start(&mut self, job: &mut Option<Job<Global, S::Source, S::Sink>>) {
         if let Some(job) = job.take() {
-            self.begun = (micros(self.rt), is_text(&job));
+            self.begun = Begun {
+                since: micros(self.rt),
+                kind: kind_of(&job),
+                is_text: is_text(&job),
+            };
             self.side.start(job, self.user);
         }
     }
@@ -455,13 +509,16 @@ where
                 self.report(SessionEvent::NoPort(error));
             }
         }
+        if ends_listing(&event, self.begun.kind) {
+            self.report_pathless(self.side.cause());
+        }
         event
     }
 
     fn settle(&mut self) -> Option<DataEvent<S::Sink>> {
         let last = self.side.settle();
-        if let Some(cause) = cause_of_cut(&last, self.is_ending()) {
-            self.report(SessionEvent::Cut(cause));
+        if is_end(&last) {
+            self.report_pathless(cause_of_cut(&last, self.is_ending()));
         }
         last
     }

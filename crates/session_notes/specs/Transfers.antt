@@ -26,7 +26,8 @@ seconds_text micros =
     decimal (micros / 1_000_000) ++ codes "." ++ decimal (micros / 100_000 % 10)
     ++ decimal (micros / 10_000 % 10) ++ decimal (micros / 1_000 % 10) ++ codes " s"
 
--- the words and the path, if it is known, the user, the octets and the seconds; names in quotation marks, escaped
+-- the words and the path, if it is known, the user, the octets and the seconds; names are in
+-- quotation marks, escaped
 abbrev pub transfer_text : TransferRecord → Option (List ℕ)
 transfer_text transfer =
     words_with (transfer_words transfer.kind (is_none transfer.cause)) transfer.path

@@ -14,6 +14,7 @@ pub trait LineOutlet {
 }
 
 /// Standard error of the process.
+#[derive(Clone, Copy, Debug)]
 pub struct StandardError;
 
 impl LineOutlet for StandardError {

@@ -1,5 +1,4 @@
-use Rattle.std.proofs.Common.{◌≡◌, ◌++◌, refl, string_bytes}
-use Rattle.std.specs.Prelude.{unsigned_abs}
+use Rattle.std.proofs.Common.{◌≡◌, ◌++◌, ℕ, ap}
 use Rattle.transfer_log.specs.Moments.{clock_text, date_text, four_digits}
 use Rattle.transfer_log.proofs.Joins.{on_ok, three}
 use Rattle.transfer_log.proofs.moment.push_moment.Goals as goal
@@ -14,7 +13,7 @@ returns c =
             record {
               date = d;
               falls_on = c.date_of-date.ensures.falls_on;
-              text_is = rw c.unsigned_abs.ensures.value refl;
+              text_is = ap (λ (n : ℕ). date_text d ++ (clock_text c.args.seconds ++ four_digits n)) c.unsigned_abs.ensures.value;
             },
             three _ _ _ _ _ _ _ c.in_ok-push_date.ensures.appended c.in_ok-push_clock.ensures.appended last,
           ))

@@ -245,7 +245,7 @@ pub logged_is : (found : Option (Text × List Row)) (command : Words) (rows : Li
     → IsFound found command → IsLoggedBy word (first_of (codes "transfer-log") rows) (first_of (codes "log-form") rows) command
 logged_is found (Sheet (Share sheet)) rows word named first (other, same, given) = absurd (different _ _ _ _ _ refl named same)
 logged_is found (Sheet (Check sheet grants)) rows word named first (other, same, given, also) = absurd (different _ _ _ _ _ refl named same)
-logged_is found (CheckConfig config) rows word named first (other, same, given) = absurd (different _ _ _ _ _ refl named same)
+logged_is found (CheckConfig config json) rows word named first (other, same, given, flag) = absurd (different _ _ _ _ _ refl named same)
 logged_is found (Migrate config) rows word named first (other, same, given) = absurd (different _ _ _ _ _ refl named same)
 logged_is found (Script config) rows word named first (other, same, given) = absurd (different _ _ _ _ _ refl named same)
 logged_is found (Serve config files patience) rows word named first (other, same, given, path, ready, log, form, also) =

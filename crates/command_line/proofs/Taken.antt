@@ -264,6 +264,9 @@ serve_no_delay : (b : ℕ) (bs : List ℕ) → (b == 45) ≡ false
 unfolding clap_on_literals
 serve_no_delay b bs ne = simp ne refl
 
+serve_usual : (b : ℕ) (bs : List ℕ) → (b == 45) ≡ false → AreUnstated (rows_in (subcommand_of ftpd (codes "serve" ∷ (b ∷ bs) ∷ [])))
+serve_usual b bs ne = (serve_no_login b bs ne, serve_no_idle b bs ne, serve_no_delay b bs ne)
+
 -- what the parser makes of the words of `serve` with no option
 pub record Serves (word : List ℕ) : Type 0 where
   pub rows : List Row
@@ -278,7 +281,7 @@ pub serves : (word : List ℕ) → IsPlainWord word → Serves word
 serves [] plain = absurd plain
 serves (b ∷ bs) plain =
     let ne = ne_eqb _ _ plain in
-    record { rows = _; taken = serve_taken b bs ne; entered = serve_entered b bs ne; config = serve_first b bs ne; no_path = serve_no_path b bs ne; no_ready = serve_no_ready b bs ne; usual = (serve_no_login b bs ne, serve_no_idle b bs ne, serve_no_delay b bs ne) }
+    record { rows = _; taken = serve_taken b bs ne; entered = serve_entered b bs ne; config = serve_first b bs ne; no_path = serve_no_path b bs ne; no_ready = serve_no_ready b bs ne; usual = serve_usual b bs ne }
 
 plan_taken : (b d : ℕ) (bs ds : List ℕ) → (b == 45) ≡ false → (d == 45) ≡ false → takes ftpd (codes "plan" ∷ (b ∷ bs) ∷ (d ∷ ds) ∷ []) ≡ true
 unfolding clap_on_literals

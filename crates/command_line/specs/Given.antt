@@ -82,7 +82,7 @@ IsServe word stop ready p (Plan config transfers json) = ⊥
 -- the command `serve` of that configuration, with that transfer log and that form of notes, if any
 abbrev pub IsLoggedBy : List ℕ → Option (List ℕ) → Option (List ℕ) → Words → Type 0
 IsLoggedBy word path form (Sheet words) = ⊥
-IsLoggedBy word path form (CheckConfig config) = ⊥
+IsLoggedBy word path form (CheckConfig config json) = ⊥
 IsLoggedBy word path form (Migrate config) = ⊥
 IsLoggedBy word path form (Script config) = ⊥
 IsLoggedBy word path form (Serve config files patience) =

@@ -5,13 +5,37 @@ ghost use Rattle.std.specs.Thread.{IsSync};
 use crate::log_file::LogFile;
 use ftpd_program::ServeFault;
 use line_queue::{LogForm, SharedLines, StandardError, write_lines};
+use session_notes::TransferLog;
 use std::sync::{Arc, Wait};
 use std::thread;
 use std::thread::{Builder, Threads};
 use std::time::Clock;
+use transfer_log::{FileTransfer, transfer_line};
 
 /// The stack of the thread, in octets.
 const STACK: usize = 262_144;
+
+/// The transfer log of a server, whose lines the thread writes; none if no file is stated.
+#[derive(Drop)]
+pub(crate) struct QueuedTransfers<R: Wait + AllocGlobal> {
+    rt: R,
+    lines: Option<Arc<SharedLines>>,
+}
+
+impl<R: Wait + AllocGlobal> QueuedTransfers<R> {
+    pub fn new(rt: R, lines: Option<Arc<SharedLines>>) -> QueuedTransfers<R> {
+        QueuedTransfers { rt, lines }
+    }
+}
+
+impl<R: Wait + AllocGlobal> TransferLog for QueuedTransfers<R> {
+    fn append(&self, transfer: &FileTransfer<'_>) {
+        if let Some(lines) = &self.lines {
+            let line = transfer_line(self.rt.alloc(), transfer);
+            lines.transfer(&self.rt, line);
+        }
+    }
+}
 
 /// The head of a note with a count of dropped lines, in a form.
 fn count_head(form: LogForm) -> &'static str {

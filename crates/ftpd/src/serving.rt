@@ -6,7 +6,7 @@
 //! type parameter for their permission.
 
 use crate::log_file::LogFile;
-use crate::log_thread::serve_with_log;
+use crate::log_thread::{QueuedTransfers, serve_with_log};
 use folder_store::DirStore;
 use ftp_daemon::{Patience, RoundClock, ServeFault, Service, StopSign, serve};
 use ftpd_program::{FtpdExit, ReadyFile, ReadyOutput, ServeFiles, Server, StartFault};
@@ -173,7 +173,7 @@ fn open_folders(
 }
 
 /// Notes on standard error, which a thread of their own writes.
-type MachineNotes<R> = Notes<Logged<HostRuntime, QueuedLog<R>>>;
+type MachineNotes<R> = Notes<Logged<HostRuntime, QueuedLog<R>>, QueuedTransfers<R>>;
 
 /// Serves a configuration: its store is in memory, or a folder of the machine.
 fn serve_config<R, W>(
@@ -331,10 +331,11 @@ fn log_at(machine: &HostRuntime, path: Option<String>) -> Result<LogFile, StartF
 }
 
 /// The lines of notes and of the transfer log, for those that offer them and for the thread that writes them.
-fn shared_lines(alloc: Global) -> Result<(Arc<SharedLines>, Arc<SharedLines>), AllocError> {
+fn shared_lines(alloc: Global) -> Result<[Arc<SharedLines>; 3], AllocError> {
     let lines = Arc::new(alloc, SharedLines::new(alloc)?)?;
     let other = Arc::try_clone(&lines)?;
-    Ok((lines, other))
+    let third = Arc::try_clone(&lines)?;
+    Ok([lines, other, third])
 }
 
 /// Returns the fault of a start whose folder is not there, if it is not.
@@ -418,16 +419,18 @@ where
     if let Some(start) = folder_fault(machine, &config.store) {
         return (FtpdExit::Server(ServeFault::Store), Some(start));
     }
+    let is_logged = transfer_log.is_some();
     let file = match log_at(machine, transfer_log) {
         Ok(file) => file,
         Err(start) => return (FtpdExit::Server(ServeFault::TransferLog), Some(start)),
     };
-    let (lines, own) = match shared_lines(rt.alloc()) {
+    let [lines, own, logged] = match shared_lines(rt.alloc()) {
         Ok(both) => both,
         Err(_) => return (FtpdExit::Server(ServeFault::Memory), None),
     };
     let queued = QueuedLog::new(*rt, own, form);
-    let handler = Notes::new(Logged::new(*machine, Level::Info, queued), form);
+    let transfers = QueuedTransfers::new(*rt, if is_logged { Some(logged) } else { None });
+    let handler = Notes::new(Logged::new(*machine, Level::Info, queued), form, transfers);
     handler.note_warnings(warnings.as_str());
     let mut output = ReadyOutput::new(FallibleIo(&mut output.0), ready);
     let served = serve_with_log(rt, &lines, form, file, || {

@@ -1,13 +1,12 @@
--- The words of transfers, of changes and of refused logins.
-use Rattle.std.specs.Prelude.{ℕ, ◌/◌, ◌%◌, Bool, true, false, List, ◌++◌, codes, Option, Some, is_none}
+-- The words of transfers.
+use Rattle.std.specs.Prelude.{◌≡◌, ℕ, ◌/◌, ◌%◌, Bool, true, false, List, [], ◌++◌, codes, Option, None, Some, is_none}
+use Rattle.std.specs.Borrow.{Bor}
 use Rattle.std.specs.Fmt.{◌++?◌, debug_str, decimal}
-use Rattle.server_house.specs.declared.server_hooks.LoginRefusal.{LoginRefusal}
-use Rattle.server_house.specs.declared.server_hooks.LoginRefusal.TheVariants.{NotGuaranteed, AttemptsUsed}
-use Rattle.server_house.specs.declared.server_hooks.StoreChange.{StoreChange}
-use Rattle.server_house.specs.declared.server_hooks.StoreChange.TheVariants.{Deleted, Renamed, FolderMade, FolderRemoved}
 use Rattle.server_house.specs.declared.server_hooks.TransferKind.{TransferKind}
 use Rattle.server_house.specs.declared.server_hooks.TransferKind.TheVariants.{Sent, Received, Listed}
 use Rattle.server_house.specs.declared.server_hooks.TransferRecord.{TransferRecord}
+use Rattle.session_notes.specs.Words.{words_with}
+use Rattle.transfer_log.specs.declared.line.FileTransfer.{FileTransfer}
 
 abbrev pub transfer_words : TransferKind → Bool → List ℕ
 transfer_words Sent true = codes "sent"
@@ -23,21 +22,30 @@ seconds_text micros =
     decimal (micros / 1_000_000) ++ codes "." ++ decimal (micros / 100_000 % 10)
     ++ decimal (micros / 10_000 % 10) ++ decimal (micros / 1_000 % 10) ++ codes " s"
 
--- the words and the path, the user, the octets and the seconds; names in quotation marks, escaped
+-- the words and the path, if it is known, the user, the octets and the seconds; names are in
+-- quotation marks, escaped
 abbrev pub transfer_text : TransferRecord → Option (List ℕ)
 transfer_text transfer =
-    Some (transfer_words transfer.kind (is_none transfer.cause) ++ codes " ")
-    ++? debug_str transfer.path.now ++? Some (codes ": user ") ++? debug_str transfer.user.now
+    words_with (transfer_words transfer.kind (is_none transfer.cause)) transfer.path
+    ++? Some (codes ": user ") ++? debug_str transfer.user.now
     ++? Some (codes ", " ++ decimal transfer.octets ++ codes " octets, "
     ++ seconds_text transfer.micros)
 
-abbrev pub change_text : StoreChange → Option (List ℕ)
-change_text (Deleted path) = Some (codes "deleted ") ++? debug_str path.now
-change_text (Renamed path to) =
-    Some (codes "renamed ") ++? debug_str path.now ++? Some (codes " to ") ++? debug_str to.now
-change_text (FolderMade path) = Some (codes "made the folder ") ++? debug_str path.now
-change_text (FolderRemoved path) = Some (codes "removed the folder ") ++? debug_str path.now
+-- the path, empty if it is not known
+abbrev pub known_path : Option (Bor (List ℕ)) → List ℕ
+known_path None = []
+known_path (Some path) = path.now
 
-abbrev pub refused_words : LoginRefusal → List ℕ
-refused_words NotGuaranteed = codes "the guaranteed rate is not available"
-refused_words AttemptsUsed = codes "the attempts are used up"
+abbrev pub IsSentOr : TransferKind → Bool → Type 0
+IsSentOr Sent sent = sent ≡ true
+IsSentOr Received sent = sent ≡ false
+IsSentOr Listed sent = ⊥
+
+-- The transfer of a file is that of the record, at this second; a listing has none.
+abbrev pub IsFileTransfer : TransferRecord → ℕ → Option FileTransfer → Type 0
+IsFileTransfer transfer ended None = transfer.kind ≡ Listed
+IsFileTransfer transfer ended (Some file) =
+    (file.ended ≡ ended) × (file.micros ≡ transfer.micros) × (file.peer ≡ transfer.peer)
+    × (file.octets ≡ transfer.octets) × (file.path.now ≡ known_path transfer.path)
+    × (file.is_text ≡ transfer.is_text) × IsSentOr transfer.kind file.is_sent
+    × (file.user.now ≡ transfer.user.now) × (file.is_whole ≡ is_none transfer.cause)

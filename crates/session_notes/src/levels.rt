@@ -23,18 +23,17 @@ pub(crate) fn level_of_cause(cause: EndCause) -> Level
     ensures level { result ≡ level_of_cause cause }
 {
     match cause {
-        EndCause::NoLane | EndCause::NoMemory | EndCause::File => Level::Warn,
+        EndCause::NoMemory | EndCause::File => Level::Warn,
         _ => Level::Info,
     }
 }
 
-/// A session without a passive port is a warning; a cut transfer has the level of its cause.
+/// A session without a passive port is a warning.
 pub(crate) fn level_of_session(event: SessionEvent) -> Level
     ensures level { result ≡ level_of_session event }
 {
     match event {
         SessionEvent::NoPort(_) => Level::Warn,
         SessionEvent::TimedOut(_) => Level::Info,
-        SessionEvent::Cut(cause) => level_of_cause(cause),
     }
 }

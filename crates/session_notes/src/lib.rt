@@ -2,7 +2,7 @@
 //!
 //! ```text
 //! 2026-11-25T15:04:44Z 127.0.0.1 #0 login "ann"
-//! 2026-11-25T15:04:45Z 127.0.0.1 #0 sent "/report.txt"
+//! 2026-11-25T15:04:45Z 127.0.0.1 #0 sent "/report.txt": user "ann", 1200 octets, 0.012 s
 //! 2026-11-25T15:04:46Z 127.0.0.1 refused: too many connections
 //! ```
 //!
@@ -21,4 +21,4 @@ mod stamp;
 mod transfers;
 mod words;
 
-pub use notes::Notes;
+pub use notes::{Notes, TransferLog};

@@ -1,10 +1,11 @@
-//! The words of transfers, of changes and of refused logins.
+//! The words of transfers.
 
 ghost use Rattle.std.specs.Prelude.{◌≡◌};
-ghost use Rattle.session_notes.specs.Transfers.{refused_words, transfer_words};
+ghost use Rattle.session_notes.specs.Transfers.{IsFileTransfer, transfer_words};
 
-use server_house::{LoginRefusal, StoreChange, TransferKind, TransferRecord};
+use server_house::{TransferKind, TransferRecord};
 use std::fmt;
+use transfer_log::FileTransfer;
 
 /// The words for a transfer of this kind, and whether it came to its end.
 fn transfer_words(kind: TransferKind, is_whole: bool) -> &'static str
@@ -20,7 +21,7 @@ fn transfer_words(kind: TransferKind, is_whole: bool) -> &'static str
     }
 }
 
-/// A transfer without the reason of its end: its words and its path, its user, the octets that were moved, and the
+/// A transfer without the reason of its end: its words and its path, if that is known, its user, the octets that were moved, and the
 /// seconds that it took, with their thousandths.
 #[derive(Clone, Copy)]
 pub(crate) struct TransferText<'a>(pub TransferRecord<'a>);
@@ -32,41 +33,38 @@ impl fmt::Display for TransferText<'_> {
 
     fn fmt<W: fmt::Write>(&self, f: &mut fmt::Formatter<W>) -> fmt::Result {
         let words = transfer_words(self.0.kind, self.0.cause.is_none());
-        let (path, user, octets) = (self.0.path, self.0.user, self.0.octets);
+        let (user, octets) = (self.0.user, self.0.octets);
         let seconds = self.0.micros / 1_000_000;
         let tenths = self.0.micros / 100_000 % 10;
         let hundredths = self.0.micros / 10_000 % 10;
         let thousandths = self.0.micros / 1_000 % 10;
-        write!(f, "{words} {path:?}: user {user:?}, {octets} octets, ")?;
+        f.write_str(words)?;
+        if let Some(path) = self.0.path {
+            write!(f, " {path:?}")?;
+        }
+        write!(f, ": user {user:?}, {octets} octets, ")?;
         write!(f, "{seconds}.{tenths}{hundredths}{thousandths} s")
     }
 }
 
-/// A change of the store.
-#[derive(Clone, Copy)]
-pub(crate) struct ChangeText<'a>(pub StoreChange<'a>);
-
-impl fmt::Display for ChangeText<'_> {
-    ghost use Rattle.session_notes.specs.Transfers.{change_text};
-
-    ghost output = { λ text. change_text text.0 };
-
-    fn fmt<W: fmt::Write>(&self, f: &mut fmt::Formatter<W>) -> fmt::Result {
-        match self.0 {
-            StoreChange::Deleted(path) => write!(f, "deleted {path:?}"),
-            StoreChange::Renamed(from, to) => write!(f, "renamed {from:?} to {to:?}"),
-            StoreChange::FolderMade(path) => write!(f, "made the folder {path:?}"),
-            StoreChange::FolderRemoved(path) => write!(f, "removed the folder {path:?}"),
-        }
-    }
-}
-
-/// The reason for which a login was refused, in words.
-pub(crate) fn refused_words(why: LoginRefusal) -> &'static str
-    ensures words { result.now ≡ refused_words why }
+/// The transfer of a file as a transfer log has it, at the second of its end; none for a listing.
+pub(crate) fn file_transfer<'a>(record: &TransferRecord<'a>, ended: u64) -> Option<FileTransfer<'a>>
+    ensures transfer { IsFileTransfer record.now ended result }
 {
-    match why {
-        LoginRefusal::NotGuaranteed => "the guaranteed rate is not available",
-        LoginRefusal::AttemptsUsed => "the attempts are used up",
-    }
+    let is_sent = match record.kind {
+        TransferKind::Sent => true,
+        TransferKind::Received => false,
+        TransferKind::Listed => return None,
+    };
+    Some(FileTransfer {
+        ended,
+        micros: record.micros,
+        peer: record.peer,
+        octets: record.octets,
+        path: record.path.unwrap_or(""),
+        is_text: record.is_text,
+        is_sent,
+        user: record.user,
+        is_whole: record.cause.is_none(),
+    })
 }

@@ -25,6 +25,10 @@ SETTLED = re.compile(r"ready\nsettled issued (\d+) moved (\d+) back (\d+)\n")
 WARNING = re.compile(r"^\[WARN \] \S+Z configuration: (.*)\n", re.MULTILINE)
 # The head of a note: the time, the peer's address, and the number of the session where it is admitted.
 STAMP = re.compile(r"\[(?:INFO|WARN) \] \d{4}-\d\d-\d\dT\d\d:\d\d:\d\dZ (127\.0\.0\.\d+ (#\d+ )?)")
+# The user, the octets and the seconds of a transfer.
+AMOUNT = re.compile(r': user "[^"]*", \d+ octets, \d+\.\d{3} s')
+# The note of a listing.
+LISTED = re.compile(r"(127\.0\.0\.\d+ #\d+ )?(not )?listed\b")
 
 USERS = """
 [[user]]
@@ -208,8 +212,9 @@ class Server:
         return WARNING.findall(self.all_noted())
 
     def notes_made(self, heads=False):
-        """The notes, each without its time, and without its peer and session where they are not asked for."""
-        return [STAMP.sub(r"\1" if heads else "", line) for line in self.noted().splitlines()]
+        """The notes, each without its time, without its peer and session where they are not asked for, and without the user and the amounts of a transfer; none of listings."""
+        notes = [AMOUNT.sub("", STAMP.sub(r"\1" if heads else "", line)) for line in self.noted().splitlines()]
+        return [line for line in notes if not LISTED.match(line)]
 
     def stop(self):
         with open(f"{self.place}/stop", "w"):

@@ -6,6 +6,7 @@ import select
 import subprocess
 import time
 
+import xferlog_reading
 from serving_kit import SERVER, Client, Server, same, until, want
 
 COUNT = re.compile(r"\[WARN \] lines dropped: (\d+)")
@@ -131,7 +132,50 @@ def logs_that_cannot_be_had():
     same((status, output, noted), (1, "", wanted), "a log without a folder")
 
 
+def a_transfer_log_that_is_moved():
+    """Each file that was sent or received has a line, whenever the log is moved away, and their octets are those moved."""
+    with Server(sessions=0, root="folder", files={"a b": b"x" * 1000}, stop=True, words=["--login-delay", "0", "--transfer-log", "xferlog"]) as server:
+        first, second = Client(server), Client(server)
+        for turn in range(40):
+            same(len(first.retrieve("a b")), 1000, "the octets of a file")
+            second.store("up", b"y" * 7)
+            if turn % 10 == 5:
+                os.rename(f"{server.place}/xferlog", f"{server.place}/xferlog.{turn}")
+        first.socket.close()
+        second.socket.close()
+        server.stop()
+        _, moved, _ = server.ended()
+        found = []
+        for name in sorted(os.listdir(server.place)):
+            if name.startswith("xferlog"):
+                with open(f"{server.place}/{name}", encoding="utf-8") as log:
+                    found += xferlog_reading.read_text(log.read())
+        same(len(found), 80, "the lines of the log")
+        same(sum(it.octets for it in found), moved, "the octets of all lines")
+        told = {(it.path, it.octets, it.type, it.direction, it.access, it.user, it.host, it.status) for it in found}
+        same(told, {("/a_b", 1000, "b", "o", "r", "ann", "127.0.0.1", "c"), ("/up", 7, "b", "i", "r", "ann", "127.0.0.1", "c")}, "the lines")
+
+
+def transfers_have_their_amounts():
+    """A note of a file has its user, its octets and its seconds, also if it was aborted."""
+    with Server(sessions=0, root="folder", files={"f": b"abc", "big": 100_000_000}, stop=True, rates="session_down_rate = 100_000") as server:
+        client = Client(server)
+        client.retrieve("f")
+        data = client.passive()
+        client.says("RETR big", "150 Opening data connection")
+        want(data.read(), "some octets")
+        client.says("ABOR", "426 Transfer aborted", "226 Abort done")
+        client.socket.close()
+        server.stop()
+        _, moved, _ = server.ended()
+        found = re.findall(r'(sent|not sent whole) "(/\w+)": user "ann", (\d+) octets, \d+\.\d{3} s(.*)', server.noted())
+        same([(it[0], it[1], it[3]) for it in found], [("sent", "/f", ""), ("not sent whole", "/big", ": aborted by the client")], "the notes of files")
+        same(sum(int(it[2]) for it in found), moved, "the octets of all files")
+
+
 ROWS = [
+    a_transfer_log_that_is_moved,
+    transfers_have_their_amounts,
     a_reader_that_stops_for_a_while,
     a_reader_that_stops_for_good,
     a_reader_that_is_gone,

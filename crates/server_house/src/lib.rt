@@ -20,7 +20,6 @@ pub use ending::{ServerShutdown, ShutdownStage, stages_stay_begun};
 pub use house::{House, copy_settings};
 pub use lane::LaneSign;
 pub use server_hooks::{
-    LoginRefusal, NotServed, ServerEvent, ServerHooks, SessionEvent, StoreChange, TransferKind,
-    TransferRecord,
+    NotServed, ServerEvent, ServerHooks, SessionEvent, TransferKind, TransferRecord,
 };
 pub use ticket::{LaneEnds, SessionEnd, SessionJob, SessionTicket};

@@ -69,28 +69,6 @@ pub struct TransferRecord<'a> {
     pub cause: Option<EndCause>,
 }
 
-/// A change of the store that a session has made.
-#[derive(Clone, Copy, Debug, PartialEq, Eq)]
-pub enum StoreChange<'a> {
-    /// The file of this path was deleted.
-    Deleted(&'a str),
-    /// The entry of the first path has the second now.
-    Renamed(&'a str, &'a str),
-    /// The folder of this path was made.
-    FolderMade(&'a str),
-    /// The folder of this path was removed.
-    FolderRemoved(&'a str),
-}
-
-/// The reason for which a login was refused.
-#[derive(Clone, Copy, Debug, PartialEq, Eq)]
-pub enum LoginRefusal {
-    /// The rate that is guaranteed to the user is not available (421).
-    NotGuaranteed,
-    /// The attempts of the connection are used up (421).
-    AttemptsUsed,
-}
-
 /// Tells the handler of the server's owner whose session the calls of [`Hooks`] are about, and what happened to the
 /// server and its clients otherwise.
 pub trait ServerHooks: Hooks {
@@ -109,13 +87,4 @@ pub trait ServerHooks: Hooks {
 
     /// A transfer has ended. It is called also if its session is gone, and about no session that is attended.
     fn on_transfer(&mut self, record: &TransferRecord<'_>);
-
-    /// A change by the session that the calls are about.
-    fn on_change(&mut self, change: StoreChange<'_>);
-
-    /// The session that the calls are about refused a login of this user.
-    fn on_login_refused(&mut self, user: &str, why: LoginRefusal);
-
-    /// A command of the session that the calls are about was refused for a fault of the machine (451), at this path.
-    fn on_fault(&mut self, path: &str, reason: io::Error);
 }

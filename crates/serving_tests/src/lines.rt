@@ -71,7 +71,7 @@ fn steps_of_the_writer(rt: HostRuntime) {
 }
 
 #[test]
-fn transfer_log(rt: HostRuntime) {
+fn lines_of_transfers(rt: HostRuntime) {
     let transfer = FileTransfer {
         ended: 1_795_705_485,
         micros: 2_345_678,

@@ -1,11 +1,7 @@
--- The words of transfers, of changes and of refused logins.
+-- The words of transfers.
 use Rattle.std.specs.Prelude.{◌≡◌, ℕ, ◌/◌, ◌%◌, Bool, true, false, List, [], ◌++◌, codes, Option, None, Some, is_none}
 use Rattle.std.specs.Borrow.{Bor}
 use Rattle.std.specs.Fmt.{◌++?◌, debug_str, decimal}
-use Rattle.server_house.specs.declared.server_hooks.LoginRefusal.{LoginRefusal}
-use Rattle.server_house.specs.declared.server_hooks.LoginRefusal.TheVariants.{NotGuaranteed, AttemptsUsed}
-use Rattle.server_house.specs.declared.server_hooks.StoreChange.{StoreChange}
-use Rattle.server_house.specs.declared.server_hooks.StoreChange.TheVariants.{Deleted, Renamed, FolderMade, FolderRemoved}
 use Rattle.server_house.specs.declared.server_hooks.TransferKind.{TransferKind}
 use Rattle.server_house.specs.declared.server_hooks.TransferKind.TheVariants.{Sent, Received, Listed}
 use Rattle.server_house.specs.declared.server_hooks.TransferRecord.{TransferRecord}
@@ -53,14 +49,3 @@ IsFileTransfer transfer ended (Some file) =
     × (file.octets ≡ transfer.octets) × (file.path.now ≡ known_path transfer.path)
     × (file.is_text ≡ transfer.is_text) × IsSentOr transfer.kind file.is_sent
     × (file.user.now ≡ transfer.user.now) × (file.is_whole ≡ is_none transfer.cause)
-
-abbrev pub change_text : StoreChange → Option (List ℕ)
-change_text (Deleted path) = Some (codes "deleted ") ++? debug_str path.now
-change_text (Renamed path to) =
-    Some (codes "renamed ") ++? debug_str path.now ++? Some (codes " to ") ++? debug_str to.now
-change_text (FolderMade path) = Some (codes "made the folder ") ++? debug_str path.now
-change_text (FolderRemoved path) = Some (codes "removed the folder ") ++? debug_str path.now
-
-abbrev pub refused_words : LoginRefusal → List ℕ
-refused_words NotGuaranteed = codes "the guaranteed rate is not available"
-refused_words AttemptsUsed = codes "the attempts are used up"

@@ -3,16 +3,12 @@
 use crate::levels::{level_of_cause, level_of_event, level_of_session};
 use crate::moment::{second_of, seconds_of};
 use crate::stamp::Stamp;
-use crate::transfers::{ChangeText, TransferText, file_transfer, refused_words};
+use crate::transfers::{TransferText, file_transfer};
 use crate::words::{CauseText, NoteText, Noted, ServerText, SessionText, refusal_words};
 use handler_hooks::Hooks;
 use line_queue::LogForm;
 use log::{Level, Log, log};
-use server_house::{
-    EndCause, LoginRefusal, NotServed, ServerEvent, ServerHooks, SessionEvent, StoreChange,
-    TransferRecord,
-};
-use std::io;
+use server_house::{EndCause, NotServed, ServerEvent, ServerHooks, SessionEvent, TransferRecord};
 use std::net::Ipv4Addr;
 use std::time::Clock;
 use transfer_log::FileTransfer;
@@ -149,28 +145,5 @@ impl<L: Log + Clock + Drop, T: TransferLog + Drop> ServerHooks for Notes<L, T> {
                 log!(self.log; target: "", level, "{stamp}{peer} #{session} {text}: {cause}");
             }
         }
-    }
-
-    fn on_change(&mut self, change: StoreChange<'_>) {
-        let stamp = self.stamp();
-        let peer = Ipv4Addr::from(self.peer);
-        let session = self.session;
-        let text = ChangeText(change);
-        log!(self.log; target: "", Level::Info, "{stamp}{peer} #{session} {text}");
-    }
-
-    fn on_login_refused(&mut self, user: &str, why: LoginRefusal) {
-        let stamp = self.stamp();
-        let peer = Ipv4Addr::from(self.peer);
-        let session = self.session;
-        let why = refused_words(why);
-        log!(self.log; target: "", Level::Warn, "{stamp}{peer} #{session} login refused {user:?}: {why}");
-    }
-
-    fn on_fault(&mut self, path: &str, reason: io::Error) {
-        let stamp = self.stamp();
-        let peer = Ipv4Addr::from(self.peer);
-        let session = self.session;
-        log!(self.log; target: "", Level::Warn, "{stamp}{peer} #{session} fault {path:?}: {reason}");
     }
 }

@@ -1,9 +1,9 @@
-//! The words of transfers, of changes and of refused logins.
+//! The words of transfers.
 
 ghost use Rattle.std.specs.Prelude.{◌≡◌};
-ghost use Rattle.session_notes.specs.Transfers.{IsFileTransfer, refused_words, transfer_words};
+ghost use Rattle.session_notes.specs.Transfers.{IsFileTransfer, transfer_words};
 
-use server_house::{LoginRefusal, StoreChange, TransferKind, TransferRecord};
+use server_house::{TransferKind, TransferRecord};
 use std::fmt;
 use transfer_log::FileTransfer;
 
@@ -47,25 +47,6 @@ impl fmt::Display for TransferText<'_> {
     }
 }
 
-/// A change of the store.
-#[derive(Clone, Copy)]
-pub(crate) struct ChangeText<'a>(pub StoreChange<'a>);
-
-impl fmt::Display for ChangeText<'_> {
-    ghost use Rattle.session_notes.specs.Transfers.{change_text};
-
-    ghost output = { λ text. change_text text.0 };
-
-    fn fmt<W: fmt::Write>(&self, f: &mut fmt::Formatter<W>) -> fmt::Result {
-        match self.0 {
-            StoreChange::Deleted(path) => write!(f, "deleted {path:?}"),
-            StoreChange::Renamed(from, to) => write!(f, "renamed {from:?} to {to:?}"),
-            StoreChange::FolderMade(path) => write!(f, "made the folder {path:?}"),
-            StoreChange::FolderRemoved(path) => write!(f, "removed the folder {path:?}"),
-        }
-    }
-}
-
 /// The transfer of a file as a transfer log has it, at the second of its end; none for a listing.
 pub(crate) fn file_transfer<'a>(record: &TransferRecord<'a>, ended: u64) -> Option<FileTransfer<'a>>
     ensures transfer { IsFileTransfer record.now ended result }
@@ -86,14 +67,4 @@ pub(crate) fn file_transfer<'a>(record: &TransferRecord<'a>, ended: u64) -> Opti
         user: record.user,
         is_whole: record.cause.is_none(),
     })
-}
-
-/// The reason for which a login was refused, in words.
-pub(crate) fn refused_words(why: LoginRefusal) -> &'static str
-    ensures words { result.now ≡ refused_words why }
-{
-    match why {
-        LoginRefusal::NotGuaranteed => "the guaranteed rate is not available",
-        LoginRefusal::AttemptsUsed => "the attempts are used up",
-    }
 }

@@ -96,6 +96,14 @@ fn date_of(seconds: u64) -> Date
     Date::from_unix_epoch_day((seconds / 86_400) as i64).unwrap()
 }
 
+// The year of a date, without a sign: no moment is before 1970.
+fn year_of(date: Date) -> u16
+    ensures year { result ≡ unsigned_abs date.year }
+    ensures fits { result < 10000 }
+{
+    date.year.unsigned_abs()
+}
+
 /// Appends the moment, in seconds since 1970, as `DDD MMM dd hh:mm:ss YYYY` in UTC.
 pub(crate) fn push_moment(line: &mut String, seconds: u64) -> Result<(), AllocError>
     requires in_calendar { seconds ≤ LATEST }
@@ -103,7 +111,8 @@ pub(crate) fn push_moment(line: &mut String, seconds: u64) -> Result<(), AllocEr
         × (string_bytes line.new ≡ string_bytes line.old ++ text)) }
 {
     let date = date_of(seconds);
+    let year = year_of(date);
     push_date(line, date)?;
     push_clock(line, seconds)?;
-    push_four(line, date.year.unsigned_abs())
+    push_four(line, year)
 }

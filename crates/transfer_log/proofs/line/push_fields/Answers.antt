@@ -12,7 +12,7 @@ returns c =
     record {
       line = on_ok c.push_user.result _ _
           (λ last. (
-            m.0 ++ (size_text t ++ (field_text t.path.now ++ user_text t)),
+            m.0 ++ size_text t ++ field_text t.path.now ++ user_text t,
             record { moment = m.0; is_moment = subst (λ (n : ℕ). IsMoment n m.0) c.min.ensures m.1; text_is = refl },
             four _ _ _ _ _ _ _ _ _ m.2 c.in_ok-push_size.ensures.appended c.in_ok-push_field.ensures.appended last,
           ))

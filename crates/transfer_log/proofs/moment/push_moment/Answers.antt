@@ -9,11 +9,11 @@ returns c =
     record {
       appended = on_ok c.push_four.result _ _
           (λ last. (
-            date_text d ++ (clock_text c.args.seconds ++ four_digits c.unsigned_abs.result),
+            date_text d ++ clock_text c.args.seconds ++ four_digits c.year_of-year.result,
             record {
               date = d;
               falls_on = c.date_of-date.ensures.falls_on;
-              text_is = ap (λ (n : ℕ). date_text d ++ (clock_text c.args.seconds ++ four_digits n)) c.unsigned_abs.ensures.value;
+              text_is = ap (λ (n : ℕ). date_text d ++ clock_text c.args.seconds ++ four_digits n) c.year_of-year.ensures.year;
             },
             three _ _ _ _ _ _ _ c.in_ok-push_date.ensures.appended c.in_ok-push_clock.ensures.appended last,
           ))

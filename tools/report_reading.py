@@ -183,19 +183,24 @@ def of_user(user):
     return found | {"overrides": overrides(user), "perms": ordered(user["perms"]), "rates": {key: user[key] or None for key in RATES}}
 
 
+def of_server_in_json(stated):
+    server = stated.server
+    connections = ("masquerade_address", "passive_first", "passive_last", "permit_foreign_addresses", "permit_privileged_ports")
+    return {key: server[key] for key in ("address", "banner", "port", "sessions")} | {
+        "data_connections": {"announced_address": stated.announced()} | {key: server[key] for key in connections},
+        "limits": {key: server[key] for key in ("lanes", "max_cons", "max_cons_per_address", "max_login_attempts")},
+        "rates": {key: server[key] or None for key in ("down_rate", "rate", "up_rate")},
+        "store": {"capacity": server["capacity"], "dirs": len(stated.dirs), "files": len(stated.files), "root": server["root"]},
+    }
+
+
 def as_json(table, machine):
     """The report as one line of JSON, with members in the order of their names."""
     stated = Stated(table)
-    server = stated.server
     found = {
         "config_version": stated.version,
-        "data_connections": {"announced_address": stated.announced()} | {
-            key: server[key] for key in ("masquerade_address", "passive_first", "passive_last", "permit_foreign_addresses", "permit_privileged_ports")},
         "groups": [{"name": row["name"], "down_rate": row["down_rate"] or None, "up_rate": row["up_rate"] or None} for row in stated.groups],
-        "limits": {key: server[key] for key in ("lanes", "max_cons", "max_cons_per_address", "max_login_attempts")},
-        "rates": {key: server[key] or None for key in ("down_rate", "rate", "up_rate")},
-        "server": {key: server[key] for key in ("address", "banner", "port", "sessions")},
-        "store": {"capacity": server["capacity"], "dirs": len(stated.dirs), "files": len(stated.files), "root": server["root"]},
+        "server": of_server_in_json(stated),
         "unit": "octets a second",
         "users": [of_user(user) for user in stated.users],
         "version": 1,

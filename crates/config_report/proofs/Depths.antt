@@ -64,6 +64,7 @@ shallow data_of most each (x ∷ xs) =
     omega (arith, one, more)
 
 row_depth : (row : SeenUser) → depth (row_data row) ≤ 3
+unfolding row_data
 row_depth row =
     let rules = shallow override_data 1 override_depth row.overrides.now in
     omega (arith, rules, name_depth row.user.now.group, rates_depth row.user.now)

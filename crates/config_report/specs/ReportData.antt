@@ -49,14 +49,6 @@ name_data (Some name) = string name.now
 
 -- ---- of the server
 
-abbrev pub server_data : ServerTable → Data
-server_data server =
-    object
-    (member (codes "address") (address_data server.address)
-    (member (codes "banner") (string server.banner.now)
-    (member (codes "port") (count_data server.port)
-    (member (codes "sessions") (count_data server.sessions) no_members))))
-
 abbrev pub connections_data : ServerTable → Data
 connections_data server =
     object
@@ -90,6 +82,25 @@ store_data tables =
     (member (codes "dirs") (count_data (length tables.dirs.items))
     (member (codes "files") (count_data (length tables.files.items))
     (member (codes "root") (string tables.server.root.now) no_members))))
+
+-- the server, given its address, its data connections, its limits, its rates and its store
+abbrev pub members_data : ServerTable → Data → Data → Data → Data → Data → Data
+members_data server address connections limits rates store =
+    object
+    (member (codes "address") address
+    (member (codes "banner") (string server.banner.now)
+    (member (codes "data_connections") connections
+    (member (codes "limits") limits
+    (member (codes "port") (count_data server.port)
+    (member (codes "rates") rates
+    (member (codes "sessions") (count_data server.sessions)
+    (member (codes "store") store no_members))))))))
+
+abbrev pub server_data : Tables → Data
+server_data tables =
+    members_data tables.server (address_data tables.server.address)
+    (connections_data tables.server) (limits_data tables.server) (rates_data tables.server)
+    (store_data tables)
 
 abbrev pub group_data : GroupTable → Data
 group_data group =
@@ -130,7 +141,7 @@ user_data user group overrides rates =
     (member (codes "perms") (string (ordered user.perms.now))
     (member (codes "rates") rates no_members))))))))
 
-abbrev pub row_data : SeenUser → Data
+unfoldable pub row_data : SeenUser → Data
 row_data row =
     user_data row.user.now (name_data row.user.now.group)
     (array (items_of (map override_data row.overrides.now))) (user_rates_data row.user.now)
@@ -140,26 +151,22 @@ row_data row =
 abbrev pub warning_data : Warning → Data
 warning_data warning = string (warning_text warning)
 
--- the report, given its groups, users and warnings; the last members are its unit, the version of
--- the configuration, and the version of this form
-abbrev pub whole_data : Tables → Data → Data → Data → Data
-whole_data tables groups users told =
+-- the report, given its server, groups, users and warnings; besides its unit, the version of the
+-- configuration, and the version of this form
+abbrev pub whole_data : ℕ → Data → Data → Data → Data → Data
+whole_data version server groups users told =
     object
-    (member (codes "config_version") (count_data tables.version)
-    (member (codes "data_connections") (connections_data tables.server)
+    (member (codes "config_version") (count_data version)
     (member (codes "groups") groups
-    (member (codes "limits") (limits_data tables.server)
-    (member (codes "rates") (rates_data tables.server)
-    (member (codes "server") (server_data tables.server)
-    (member (codes "store") (store_data tables)
+    (member (codes "server") server
     (member (codes "unit") (string (codes "octets a second"))
     (member (codes "users") users
     (member (codes "version") (count_data 1)
-    (member (codes "warnings") told no_members)))))))))))
+    (member (codes "warnings") told no_members)))))))
 
 abbrev pub report_data : Tables → List GroupTable → List SeenUser → List Warning → Data
 report_data tables groups rows warnings =
-    whole_data tables (array (items_of (map group_data groups)))
+    whole_data tables.version (server_data tables) (array (items_of (map group_data groups)))
     (array (items_of (map row_data rows))) (array (items_of (map warning_data warnings)))
 
 -- the text is JSON of that value, and a line feed

@@ -88,13 +88,17 @@ sessions_line server =
     then codes "serves any number of sessions" ++ 10 ∷ []
     else codes "ends after " ++ decimal server.sessions ++ codes " sessions" ++ 10 ∷ []
 
--- the capacity of a store in memory, and its first directories and files; nothing of a folder
+-- the capacity of a store in memory, and the numbers of its first directories and files
+unfoldable pub memory_text : ℕ → ℕ → ℕ → List ℕ
+memory_text most dirs files =
+    codes ", at most " ++ decimal most ++ codes " octets, at first " ++ decimal dirs
+    ++ codes " directories and " ++ decimal files ++ codes " files"
+
+-- the same of a store in memory; nothing of a folder
 abbrev pub contents_text : Tables → List ℕ
 contents_text tables =
     if bytes_eq tables.server.root.now (codes "memory")
-    then codes ", at most " ++ decimal tables.server.capacity ++ codes " octets, at first "
-    ++ decimal (length tables.dirs.items) ++ codes " directories and "
-    ++ decimal (length tables.files.items) ++ codes " files"
+    then memory_text tables.server.capacity (length tables.dirs.items) (length tables.files.items)
     else []
 
 abbrev pub root_text : ServerTable → List ℕ

@@ -69,7 +69,7 @@ login_line user = text_line (codes "  at login: ") (codes "Welcome") user.msg_lo
 abbrev pub quit_line : UserTable → List ℕ
 quit_line user = text_line (codes "  at QUIT: ") (codes "Goodbye") user.msg_quit.now
 
-abbrev pub user_lines : SeenUser → List ℕ
+unfoldable pub user_lines : SeenUser → List ℕ
 user_lines row =
     user_line row.user.now ++ flat_map override_line row.overrides.now ++ login_line row.user.now
     ++ quit_line row.user.now

@@ -42,14 +42,14 @@ fn rows_seen<'t, 'a, L: Lookout>(
     alloc: Global,
     lookout: &L,
     store: &mut ServedStore,
-    tables: &'t Tables<'a>,
+    users: &'t [UserTable<'a>],
+    overrides: &'t [Vec<OverrideTable<'a>>],
 ) -> Result<Vec<SeenUser<'t, 'a>>, AllocError>
-    requires rows { length tables.now.overrides.items ≡ length tables.now.users.items }
-    ensures rows { IfOk result (λ rows. AreRows (L.Shows lookout.now) store.old
-        tables.now.users.items tables.now.overrides.items rows.items) }
+    requires rows { length overrides.now ≡ length users.now }
+    ensures rows { IfOk result
+        (λ rows. AreRows (L.Shows lookout.now) store.old users.now overrides.now rows.items) }
     ensures same { store.new ≡ store.old }
 {
-    let (users, overrides) = (tables.users.as_slice(), tables.overrides.as_slice());
     let mut rows = Vec::with_capacity(alloc, users.len())?;
     for place in 0..users.len() {
         let user = &users[place];
@@ -78,7 +78,8 @@ pub(crate) fn seen_of<'t, 'a, L: Lookout>(
     ensures same { store.new ≡ store.old }
 {
     let root = root_seen(lookout, store);
-    let users = rows_seen(alloc, lookout, store, tables)?;
+    let (users, overrides) = (tables.users.as_slice(), tables.overrides.as_slice());
+    let users = rows_seen(alloc, lookout, store, users, overrides)?;
     Ok(Seen {
         root,
         users,

@@ -3,7 +3,7 @@
 ghost use Rattle.std.specs.Prelude.{◌≡◌, ◌++◌, OnOk, string_bytes};
 ghost use Rattle.std.specs.Net.Addr.{ipv4_octets};
 ghost use Rattle.std.specs.Net.Text.{ipv4_text};
-ghost use Rattle.config_report.specs.ServerLines.{attempts_line, bound_lines, connects_line, contents_text, from_one_line, greets_line, listens_line, lowest_port, network_lines, offer_lines, port_text, ports_text, root_text, server_lines, serves_line, sessions_line, takes_line, tells_line, told_text, whom_text};
+ghost use Rattle.config_report.specs.ServerLines.{attempts_line, bound_lines, connects_line, contents_text, from_one_line, greets_line, listens_line, lowest_port, memory_text, network_lines, offer_lines, port_text, ports_text, root_text, server_lines, serves_line, sessions_line, takes_line, tells_line, told_text, whom_text};
 
 use crate::warnings::{is_untold, told_address};
 use config_file::{ServerTable, Tables};
@@ -159,7 +159,19 @@ fn write_root(text: &mut String, server: &ServerTable) -> Result<(), AllocError>
     write!(text, "serves {}", server.root)
 }
 
-/// Writes the capacity of a store in memory, and the numbers of its directories and files; nothing of a folder.
+/// Writes the capacity of a store in memory, and the numbers of its directories and files.
+#[tactic(auto, unfolding(crate::specs::ServerLines::memory_text))]
+fn write_memory(text: &mut String, most: u64, dirs: usize, files: usize) -> Result<(), AllocError>
+    ensures memory { OnOk result
+        (string_bytes text.new ≡ string_bytes text.old ++ memory_text most dirs files) }
+{
+    write!(
+        text,
+        ", at most {most} octets, at first {dirs} directories and {files} files"
+    )
+}
+
+/// Writes the same of a store in memory; nothing of a folder.
 fn write_contents(text: &mut String, tables: &Tables) -> Result<(), AllocError>
     ensures contents { OnOk result
         (string_bytes text.new ≡ string_bytes text.old ++ contents_text tables.now) }
@@ -167,11 +179,11 @@ fn write_contents(text: &mut String, tables: &Tables) -> Result<(), AllocError>
     if tables.server.root != MEMORY {
         return Ok(());
     }
-    let most = tables.server.capacity;
-    let (dirs, files) = (tables.dirs.len(), tables.files.len());
-    write!(
+    write_memory(
         text,
-        ", at most {most} octets, at first {dirs} directories and {files} files"
+        tables.server.capacity,
+        tables.dirs.len(),
+        tables.files.len(),
     )
 }
 

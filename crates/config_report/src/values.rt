@@ -4,7 +4,7 @@ ghost use Rattle.std.specs.Prelude.{◌≡◌, IfOk, map, string_bytes};
 ghost use Rattle.std.specs.Net.Addr.{ipv4_octets};
 ghost use Rattle.std.specs.Net.Text.{ipv4_text};
 ghost use Rattle.serde_json.specs.View.{view};
-ghost use Rattle.config_report.specs.ReportData.{IsJsonOf, address_data, announced_data, connections_data, group_data, limits_data, masquerade_data, name_data, override_data, rate_data, rates_data, report_data, row_data, server_data, store_data, user_data, user_rates_data, warning_data, whole_data};
+ghost use Rattle.config_report.specs.ReportData.{IsJsonOf, address_data, announced_data, connections_data, group_data, limits_data, masquerade_data, members_data, name_data, override_data, rate_data, rates_data, report_data, row_data, server_data, store_data, user_data, user_rates_data, warning_data, whole_data};
 
 use crate::letters::ordered;
 use crate::seen::SeenUser;
@@ -73,18 +73,6 @@ fn name_value(alloc: Global, name: Option<&str>) -> Result<Value, AllocError>
     }
 }
 
-fn server_value(alloc: Global, server: &ServerTable<'_>) -> Result<Value, AllocError>
-    ensures server { IfOk result (λ v. view v ≡ server_data server.now) }
-{
-    let address = address_value(alloc, server.address)?;
-    json!(in alloc; {
-        "address": address,
-        "banner": server.banner,
-        "port": server.port,
-        "sessions": server.sessions
-    })
-}
-
 fn connections_value(alloc: Global, server: &ServerTable<'_>) -> Result<Value, AllocError>
     ensures connections { IfOk result (λ v. view v ≡ connections_data server.now) }
 {
@@ -130,6 +118,44 @@ fn store_value(alloc: Global, tables: &Tables<'_>) -> Result<Value, AllocError>
         "files": tables.files.len(),
         "root": tables.server.root
     })
+}
+
+/// A server, with its address, its data connections, its limits, its rates and its store.
+fn server_members(
+    alloc: Global,
+    server: &ServerTable<'_>,
+    address: Value,
+    connections: Value,
+    limits: Value,
+    rates: Value,
+    store: Value,
+) -> Result<Value, AllocError>
+    ensures server { IfOk result (λ v. view v ≡ members_data server.now (view address)
+        (view connections) (view limits) (view rates) (view store)) }
+{
+    json!(in alloc; {
+        "address": address,
+        "banner": server.banner,
+        "data_connections": connections,
+        "limits": limits,
+        "port": server.port,
+        "rates": rates,
+        "sessions": server.sessions,
+        "store": store
+    })
+}
+
+fn server_value(alloc: Global, tables: &Tables<'_>) -> Result<Value, AllocError>
+    ensures server { IfOk result (λ v. view v ≡ server_data tables.now) }
+{
+    let server = &tables.server;
+    let address = address_value(alloc, server.address)?;
+    let connections = connections_value(alloc, server)?;
+    let limits = limits_value(alloc, server)?;
+    let rates = rates_value(alloc, server)?;
+    let store = store_value(alloc, tables)?;
+    let value = server_members(alloc, server, address, connections, limits, rates, store)?;
+    Ok(value)
 }
 
 fn group_value(alloc: Global, group: &GroupTable<'_>) -> Result<Value, AllocError>
@@ -250,26 +276,22 @@ fn warning_values(alloc: Global, warnings: &[Warning<'_>]) -> Result<Vec<Value>,
     Ok(values)
 }
 
-/// The values of the server, of its limits and of its store.
+/// The report, with its server, groups, users and warnings.
 fn whole_value(
     alloc: Global,
-    tables: &Tables<'_>,
+    version: u64,
+    server: Value,
     groups: Value,
     users: Value,
     told: Value,
 ) -> Result<Value, AllocError>
-    ensures whole { IfOk result
-        (λ v. view v ≡ whole_data tables.now (view groups) (view users) (view told)) }
+    ensures whole { IfOk result (λ v. view v
+        ≡ whole_data version (view server) (view groups) (view users) (view told)) }
 {
-    let server = &tables.server;
     json!(in alloc; {
-        "config_version": tables.version,
-        "data_connections": connections_value(alloc, server)?,
+        "config_version": version,
         "groups": groups,
-        "limits": limits_value(alloc, server)?,
-        "rates": rates_value(alloc, server)?,
-        "server": server_value(alloc, server)?,
-        "store": store_value(alloc, tables)?,
+        "server": server,
         "unit": "octets a second",
         "users": users,
         "version": 1u64,
@@ -287,12 +309,14 @@ fn report_value(
     ensures report { IfOk result
         (λ v. view v ≡ report_data tables.now groups.now rows.now warnings.now) }
 {
+    let server = server_value(alloc, tables)?;
     let stated = group_values(alloc, groups)?;
     let users = row_values(alloc, rows)?;
     let told = warning_values(alloc, warnings)?;
     let value = whole_value(
         alloc,
-        tables,
+        tables.version,
+        server,
         Value::Array(stated),
         Value::Array(users),
         Value::Array(told),

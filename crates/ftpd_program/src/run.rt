@@ -54,7 +54,7 @@ fn print_text<'w, O: Opener + Lookout, W: TextWriter>(
             return FtpdExit::Common(Common::Text(TextFault::ReadFault, cause));
         }
     };
-    match run_print(alloc, print, &mut file, output, files) {
+    match run_print(alloc, print, &mut file, output, &*files) {
         Ok(()) => FtpdExit::Common(Common::Done),
         Err(PrintFault::Config(fault)) => FtpdExit::Config(fault),
         Err(PrintFault::Transfers { name, told }) => FtpdExit::Transfers { name, told },

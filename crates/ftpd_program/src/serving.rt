@@ -36,7 +36,7 @@ fn config_at<'w, O: Opener + Lookout>(
             return Err(FtpdExit::Common(Common::Text(TextFault::ReadFault, cause)));
         }
     };
-    match read_warned(alloc, path, &mut file, files) {
+    match read_warned(alloc, path, &mut file, &*files) {
         Ok(read) => Ok(read),
         Err(ScriptFault::Config(fault)) => Err(FtpdExit::Config(fault)),
         Err(ScriptFault::Session(fault)) => Err(FtpdExit::Session(fault)),

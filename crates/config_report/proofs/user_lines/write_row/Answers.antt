@@ -1,10 +1,11 @@
 use Rattle.std.proofs.Common.{string_bytes}
 use Rattle.std.specs.List.{flat_map}
-use Rattle.config_report.specs.UserLines.{login_line, override_line, quit_line, user_line}
+use Rattle.config_report.specs.UserLines.{login_line, override_line, quit_line, user_line, user_lines}
 use Rattle.config_report.proofs.Joined.{four}
 use Rattle.config_report.proofs.user_lines.write_row.Goals as goal
 
 pub returns : goal.returns
+unfolding user_lines
 returns c =
     let row = c.args.row.now in
     record {

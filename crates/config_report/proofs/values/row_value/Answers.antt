@@ -7,6 +7,7 @@ use Rattle.config_report.specs.ReportData.{override_data, row_data, user_data, u
 use Rattle.config_report.proofs.values.row_value.Goals as goal
 
 pub returns : goal.returns
+unfolding row_data
 returns c =
     let row = c.args.row.now in
     let rules : view (Array c.in_ok-overrides.overrides) ≡ array (items_of (map override_data row.overrides.now)) =

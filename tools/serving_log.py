@@ -165,7 +165,7 @@ def transfers_have_their_amounts():
         client.says("RETR big", "150 Opening data connection")
         want(data.read(), "some octets")
         client.says("ABOR", "426 Transfer aborted", "226 Abort done")
-        client.says("NOOP", "200 OK")
+        until(lambda: '"/big"' in server.noted(), "the note of the file that was aborted")
         client.socket.close()
         server.stop()
         _, moved, _ = server.ended()

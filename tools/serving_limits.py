@@ -132,9 +132,9 @@ def a_limit_of_file_sizes():
         data.close()
         same(client.retrieve("f"), b"a\nb", "another file")
         client.quit()
-        want('not received whole "/up": the file could not be read or written\n' in server.noted(), f"a note of it: {server.noted()!r}")
         server.stop()
         server.ended()
+        want('not received whole "/up": the file could not be read or written' in server.notes_made(), f"a note of it: {server.noted()!r}")
 
 
 def the_silent_leave():

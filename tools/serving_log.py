@@ -10,8 +10,8 @@ import xferlog_reading
 from serving_kit import SERVER, Client, Server, same, until, want
 
 COUNT = re.compile(r"\[WARN \] lines dropped: (\d+)")
-# A name that is noted in some 2,400 octets, so that a pipe is full after few lines.
-LONG = "\x01" * 460
+# A name that is noted in some 1,200 octets, so that a pipe is full after few lines.
+LONG = "\u200b" * 150
 # The most octets of a pipe that the rows make small.
 PIPE = 4096
 
@@ -41,7 +41,7 @@ class Piped(Server):
 
     def lines(self):
         want(self.read.endswith(b"\n") or not self.read, "a line was cut")
-        return self.read.decode().splitlines()
+        return [it for it in self.read.decode().splitlines() if " configuration: " not in it]
 
     def __exit__(self, kind, fault, trace):
         os.close(self.reader)
@@ -70,7 +70,7 @@ def numbers_in(lines):
 def a_reader_that_stops_for_a_while():
     """Sessions go on while nobody reads; then each note is there, in its order, or counted."""
     with Piped(sessions=0, stop=True) as server:
-        made, notes = failed(server, 0, 900)
+        made, notes = failed(server, 0, 1200)
         # the sessions went on, and nothing of theirs was waited for
         while server.read_some(0.5) and not COUNT.search(server.read.decode()):
             pass
@@ -113,14 +113,14 @@ def notes_for_the_journal():
     with Server(stop=True, sessions=0, words=["--login-delay", "0", "--log-form", "journal"]) as server:
         client = Client(server, None)
         client.says(None, "220 Ready")
-        client.says("USER x\x0b<6>127.0.0.1 #0 login", "331 Password required")
+        client.says("USER x\u2028<6>127.0.0.1 #0 login", "331 Password required")
         client.send("PASS wrong")
         client.line()
         client.socket.close()
         server.stop()
         server.ended()
-        wanted = ["<6>127.0.0.1 #0 connect", '<4>127.0.0.1 #0 login failed "x\\u{b}<6>127.0.0.1 #0 login"', "<6>127.0.0.1 #0 disconnect"]
-        same(server.noted().splitlines(), wanted, "the notes")
+        wanted = ["<6>127.0.0.1 #0 connect", '<4>127.0.0.1 #0 login failed "x\\u{2028}<6>127.0.0.1 #0 login"', "<6>127.0.0.1 #0 disconnect"]
+        same([it for it in server.noted().splitlines() if not it.startswith("<4>configuration: ")], wanted, "the notes")
 
 
 def logs_that_cannot_be_had():
@@ -165,6 +165,7 @@ def transfers_have_their_amounts():
         client.says("RETR big", "150 Opening data connection")
         want(data.read(), "some octets")
         client.says("ABOR", "426 Transfer aborted", "226 Abort done")
+        until(lambda: '"/big"' in server.noted(), "the note of the file that was aborted")
         client.socket.close()
         server.stop()
         _, moved, _ = server.ended()

@@ -1,9 +1,11 @@
-# Installs the programs that the gate built: `make install`, with PREFIX, SYSCONFDIR, DOCDIR, ZSHDIR and DESTDIR.
+# Installs the programs that the gate built: `make install`, with PREFIX, SYSCONFDIR, DOCDIR, ZSHDIR, PUBLIC and DESTDIR.
 # The proofs and the programs themselves are made by `rt` (README.md); `make package` makes a Debian package.
 PREFIX ?= /usr/local
 SYSCONFDIR ?= /etc
 DOCDIR ?= $(PREFIX)/share/doc/ftpd
 ZSHDIR ?= $(PREFIX)/share/zsh/site-functions
+# The home of `anonymous` in the configuration that is installed; empty: none is made.
+PUBLIC ?= /srv/ftp/pub
 DESTDIR ?=
 FTPD ?= crates/ftpd/out/ftpd
 SHEETS ?= crates/sheets/out/sheets
@@ -12,6 +14,10 @@ SBIN = $(DESTDIR)$(PREFIX)/sbin
 BIN = $(DESTDIR)$(PREFIX)/bin
 SHARE = $(DESTDIR)$(PREFIX)/share
 DOCS = $(DESTDIR)$(DOCDIR)
+# Pages for those who work on the repository are not installed, and a link to what is not installed becomes its text.
+INNER = DECISIONS architecture desk headline prices walk working world
+PAGES = $(filter-out $(INNER:%=docs/%.md),$(wildcard docs/*.md))
+ABSENT = \.\./(README|LICENSE|bench|crates)|($(shell echo $(INNER) | tr ' ' '|'))\.md
 UNITS = $(DESTDIR)$(PREFIX)/lib/systemd/system
 CONFIG = $(DESTDIR)$(SYSCONFDIR)/ftpd.toml
 
@@ -27,14 +33,15 @@ install:
 	ln -sf ftpd $(SHARE)/bash-completion/completions/sheets
 	install -D -m 644 -t $(DESTDIR)$(ZSHDIR) completions/_ftpd completions/_sheets
 	install -D -m 644 -t $(SHARE)/fish/vendor_completions.d completions/ftpd.fish completions/sheets.fish
-	install -D -m 644 -t $(DOCS) README.md
-	install -D -m 644 -t $(DOCS)/docs docs/*.md
+	install -D -m 644 -t $(DOCS)/docs $(PAGES)
+	sed -zEi 's@\[([^][]*)\]\(($(ABSENT))[^)]*\)@\1@g' $(DOCS)/docs/*.md
 	install -D -m 644 -t $(DOCS)/examples examples/*
 	install -d $(UNITS)
 	sed 's|/usr/local/sbin|$(PREFIX)/sbin|g; s|/etc/ftpd.toml|$(SYSCONFDIR)/ftpd.toml|g' examples/ftpd.service >$(UNITS)/ftpd.service
 	chmod 644 $(UNITS)/ftpd.service
 	# A configuration that is there is kept.
 	[ -e $(CONFIG) ] || install -D -m 640 examples/installed.toml $(CONFIG)
+	[ -z "$(PUBLIC)" ] || install -d $(DESTDIR)$(PUBLIC)
 
 uninstall:
 	rm -f $(SBIN)/ftpd $(BIN)/sheets $(UNITS)/ftpd.service

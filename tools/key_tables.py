@@ -36,7 +36,7 @@ serves by.
 .B "ftpd check\-config"
 judges it: it reports the first fault, or what the file says and warnings.
 It has passwords in clear text, so only the server's user should be able to read it.
-A changed file is read at the next start.
+A changed file is read at the next start, and not before: there is no reload.
 .PP
 A rate is octets a second, in digits, which may be grouped:
 .BR 4_000_000 .
@@ -192,7 +192,8 @@ def entries(rows):
         note = re.search(r"`\w+` (\(.*\))$", row.keys)
         many = ", " in row.keys
         default = f" {'Defaults' if ', ' in row.defaults else 'Default'}: {roff(row.defaults)}." if row.defaults not in ("", "none") else ""
-        needed = (" Both must be stated." if many else " It must be stated.") if row.defaults == "" and "may be absent" not in row.text else ""
+        stated = " Any other must be stated." if "may be absent" in row.text else " Both must be stated." if many else " It must be stated."
+        needed = stated if row.defaults == "" else ""
         yield f"{roff(row.kind)}{' ' + note[1] if note else ''}: {roff(row.text)}.{default}{needed}\n"
 
 
@@ -207,7 +208,7 @@ def man_page():
     text += '.SH KEYS\nThe order of the tables, and of the keys in each, is that in which they are judged.\n'
     for heading, rows in page_tables().items():
         text += f'.SS "{roff(heading)}"\n{"".join(entries(rows))}'
-    example = re.search(r"```toml\n(.*?)```", page, re.S)[1]
+    example = re.search(r"```toml\n# ftpd\.toml\n(.*?)```", page, re.S)[1]
     return text + MAN_TAIL % example.replace("\\", "\\e").replace("-", "\\-")
 
 

@@ -64,7 +64,8 @@ warning_text (AbsentRoot root) = codes "the folder " ++ root.now ++ codes " is n
 warning_text (NoFolderRoot root) = root.now ++ codes " is no folder"
 warning_text (ClosedRoot root) = codes "the folder " ++ root.now ++ codes " cannot be listed"
 warning_text PublicPasswords =
-    codes "everybody on this machine may read the passwords of this file; make it readable by its owner and group alone"
+    codes "everybody on this machine may read the passwords of this file; "
+    ++ codes "make it readable by its owner and group alone"
 warning_text NoAddress =
     codes "clients are told the address that they reached; behind a router state masquerade_address"
 warning_text (OwnPorts first last) =

@@ -1,4 +1,4 @@
--- What a report sees of the machine, and of the store.
+-- The things that a report sees of the machine, and of the store.
 use Rattle.std.specs.Prelude.{◌≡◌, ℕ, Bool, false, true, List, [], Option, Some, None, Result, Ok, Err, Vec, length, slice_get, string_bytes}
 use Rattle.std.specs.declared.alloc.Global.{Global}
 use Rattle.ftp_terms.specs.declared.entries.EntryKind.{EntryKind}

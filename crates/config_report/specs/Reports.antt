@@ -36,8 +36,8 @@ IsToldBy Warnings tables seen text = text ≡ flat_map warning_row (warnings_by 
 -- of them, and the possible results of looks at the machine
 abbrev pub IsReport : Part → Shown → List ℕ → List ℕ → ServedStore → List ℕ → Type 0
 IsReport part shown path octets store text =
-    (document : Members) × (tables : Tables) × (seen : Seen) × (parse_document octets ≡ Some document)
-    × IsTables document tables
+    (document : Members) × (tables : Tables) × (seen : Seen)
+    × (parse_document octets ≡ Some document) × IsTables document tables
     × IsSeen shown path store tables.users.items tables.overrides.items seen
     × IsToldBy part tables seen text
 

@@ -118,10 +118,8 @@ pub struct SocketSide<'h, R, S: Store<Global>, H: Hooks, B: PartsName> {
     owner: TicketOwner<'h, SessionJob<S>, SessionEnd<S>, LaneEnds>,
     prepared: Prepared,
     running: Running<S::Source, S::Sink>,
-    // the reason for the last end that was made or taken, unless it is that all was moved
-    cause: Option<EndCause>,
-    // the number of octets moved by the transfer whose end was taken last
-    moved: u64,
+    // the reason for the last end that was made or taken, unless it is that all was moved; and the number of octets moved
+    last: (Option<EndCause>, u64),
     // the result of opening a port, to be reported: the port, or that none was free
     ready: Option<Option<u16>>,
     // the error for which none could be listened on
@@ -159,8 +157,7 @@ where
             owner,
             prepared: Prepared::Nothing,
             running: Running::Nothing,
-            cause: None,
-            moved: 0,
+            last: (None, 0),
             ready: None,
             port_fault: None,
         }
@@ -171,7 +168,7 @@ where
         ensures prepared { self.new.prepared ≡ Prepared.Nothing }
         ensures running { self.new.running ≡ self.old.running }
         ensures ready { self.new.ready ≡ self.old.ready }
-        ensures cause { self.new.cause ≡ self.old.cause }
+        ensures cause { self.new.last.0 ≡ self.old.last.0 }
     {
         let before = mem::replace(&mut self.prepared, Prepared::Nothing);
         match before {
@@ -189,7 +186,7 @@ where
     fn listening(&mut self) -> Option<(u16, TcpListener)>
         ensures prepared { self.new.prepared ≡ self.old.prepared }
         ensures running { self.new.running ≡ self.old.running }
-        ensures cause { self.new.cause ≡ self.old.cause }
+        ensures cause { self.new.last.0 ≡ self.old.last.0 }
     {
         let mut ports = SharedPorts {
             rt: self.rt,
@@ -213,16 +210,16 @@ where
 
     /// The reason for the last end that was reported, unless it is that all octets were moved.
     pub fn cause(&self) -> Option<EndCause>
-        ensures cause { result ≡ self.now.cause }
+        ensures cause { result ≡ self.now.last.0 }
     {
-        self.cause
+        self.last.0
     }
 
     /// Number of octets moved by the transfer whose end was reported last.
     pub fn moved(&self) -> u64
-        ensures moved { result ≡ self.now.moved }
+        ensures moved { result ≡ self.now.last.1 }
     {
-        self.moved
+        self.last.1
     }
 
     /// Listens on a passive port, if one is free. The next look reports it.
@@ -276,11 +273,11 @@ where
     fn end_unbegun(&mut self, job: Job<Global, S::Source, S::Sink>)
         requires nothing { self.old.running ≡ Running.Nothing }
         ensures running { self.new.running ≡ over NoMemory job }
-        ensures cause { self.new.cause ≡ Some cause.NoMemory }
+        ensures cause { self.new.last.0 ≡ Some cause.NoMemory }
         ensures prepared { self.new.prepared ≡ self.old.prepared }
         ensures ready { self.new.ready ≡ self.old.ready }
     {
-        self.cause = Some(EndCause::NoMemory);
+        self.last.0 = Some(EndCause::NoMemory);
         self.running = over(End::NoMemory, job);
     }
 
@@ -296,7 +293,7 @@ where
         ensures running { self.new.running ≡ Running.Moving own false }
         ensures prepared { self.new.prepared ≡ self.old.prepared }
         ensures ready { self.new.ready ≡ self.old.ready }
-        ensures cause { self.new.cause ≡ self.old.cause }
+        ensures cause { self.new.last.0 ≡ self.old.last.0 }
     {
         let job = lane_job(job, theirs, user, self.session);
         let is_to_list = self.owner.put(job);
@@ -320,11 +317,11 @@ where
     fn end_without(&mut self, why: EndCause, job: Job<Global, S::Source, S::Sink>)
         requires nothing { self.old.running ≡ Running.Nothing }
         ensures running { self.new.running ≡ over NoConnection job }
-        ensures cause { self.new.cause ≡ Some why }
+        ensures cause { self.new.last.0 ≡ Some why }
         ensures prepared { self.new.prepared ≡ self.old.prepared }
         ensures ready { self.new.ready ≡ self.old.ready }
     {
-        self.cause = Some(why);
+        self.last.0 = Some(why);
         self.running = over(End::NoConnection, job);
     }
 
@@ -438,11 +435,11 @@ where
         ensures running { Starts self.old.prepared job self.new.running }
         ensures prepared { self.new.prepared ≡ Prepared.Nothing }
         ensures ready { self.new.ready ≡ self.old.ready }
-        ensures cause { StartCause self.old.prepared self.new.cause }
+        ensures cause { StartCause self.old.prepared self.new.last.0 }
     {
         self.clear();
         let prepared = mem::replace(&mut self.prepared, Prepared::Nothing);
-        self.cause = None;
+        self.last.0 = None;
         match prepared {
             Prepared::Nothing => self.end_without(EndCause::NothingPrepared, job),
             Prepared::Target(to) => self.connect(to, job, user),
@@ -459,8 +456,8 @@ where
         ensures running { Aborts (owner_view self.old.owner) self.old.running self.new.running }
         ensures prepared { self.new.prepared ≡ self.old.prepared }
         ensures ready { self.new.ready ≡ self.old.ready }
-        ensures cause { AbortCause self.old.running self.new.running self.old.cause
-            self.new.cause }
+        ensures cause { AbortCause self.old.running self.new.running self.old.last.0
+            self.new.last.0 }
     {
         let before = mem::replace(&mut self.running, Running::Nothing);
         self.running = match before {
@@ -471,7 +468,7 @@ where
                 since: _,
             } => {
                 self.close_port(listener, port);
-                self.cause = Some(EndCause::Aborted);
+                self.last.0 = Some(EndCause::Aborted);
                 over(End::Aborted, job)
             }
             Running::Connecting {
@@ -480,7 +477,7 @@ where
                 since: _,
             } => {
                 drop(outgoing);
-                self.cause = Some(EndCause::Aborted);
+                self.last.0 = Some(EndCause::Aborted);
                 over(End::Aborted, job)
             }
             Running::Moving {
@@ -489,7 +486,7 @@ where
             } => {
                 let stopped = stop::<S>(&mut self.owner, connection);
                 if let Running::Over(_) = &stopped {
-                    self.cause = Some(EndCause::Aborted);
+                    self.last.0 = Some(EndCause::Aborted);
                 }
                 stopped
             }
@@ -505,14 +502,14 @@ where
             self.new.running }
         ensures prepared { self.new.prepared ≡ self.old.prepared }
         ensures ready { self.new.ready ≡ self.old.ready }
-        ensures cause { TakenCause self.old.running result self.old.cause self.new.cause }
-        ensures moved { IfSome result (λ told. self.new.moved ≡ told.moved) }
+        ensures cause { TakenCause self.old.running result self.old.last.0 self.new.last.0 }
+        ensures moved { IfSome result (λ told. self.new.last.1 ≡ told.moved) }
     {
         let before = mem::replace(&mut self.running, Running::Nothing);
         match before {
             Running::Nothing => None,
             Running::Over(told) => {
-                self.moved = told.moved;
+                self.last.1 = told.moved;
                 Some(told)
             }
             Running::Awaited {
@@ -546,8 +543,8 @@ where
                 is_aborted,
             } => match self.owner.take_end() {
                 Some(TransferEnd { end, sink, moved }) => {
-                    self.cause = cause_of(is_aborted, end, connection.fault());
-                    self.moved = moved;
+                    self.last.0 = cause_of(is_aborted, end, connection.fault());
+                    self.last.1 = moved;
                     drop(connection);
                     Some(TransferEnd {
                         end: end_of(is_aborted, end),
@@ -573,7 +570,7 @@ where
             → owner_view self.new.owner ≡ owner_view self.old.owner }
         ensures prepared { self.new.prepared ≡ self.old.prepared }
         ensures ready { self.new.ready ≡ self.old.ready }
-        ensures cause { GoesCause self.old.running self.old.cause self.new.cause }
+        ensures cause { GoesCause self.old.running self.old.last.0 self.new.last.0 }
     {
         let before = mem::replace(&mut self.running, Running::Nothing);
         match before {
@@ -611,7 +608,7 @@ where
         ensures ready { self.new.ready ≡ None }
         ensures prepared { self.new.prepared ≡ self.old.prepared }
         ensures cause { IfNone self.old.ready
-            (LookCause self.old.running result self.old.cause self.new.cause) }
+            (LookCause self.old.running result self.old.last.0 self.new.last.0) }
     {
         if let Some(port) = self.ready.take() {
             return Some(DataEvent::Ready(port));
@@ -698,8 +695,7 @@ where
             owner,
             prepared: _,
             running: _,
-            cause: _,
-            moved: _,
+            last: _,
             ready: _,
             port_fault: _,
         } = side;

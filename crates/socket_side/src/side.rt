@@ -124,9 +124,9 @@ pub struct SocketSide<'h, R, S: Store<Global>, H: Hooks, B: PartsName> {
     ready: Option<Option<u16>>,
     // the error for which none could be listened on
     port_fault: Option<io::Error>,
-    ghost sits: { is_owner (owner_view owner) ≡ true },
-    ghost tied: { is_moving running ≡ ticket.is_busy (owner_view owner) },
-    ghost marked: { is_marked running (owner_view owner) ≡ true },
+    ghost tied: { (is_owner (owner_view owner) ≡ true)
+        × (is_moving running ≡ ticket.is_busy (owner_view owner))
+        × (is_marked running (owner_view owner) ≡ true) },
 }
 
 impl<'h, R, S, H, B> SocketSide<'h, R, S, H, B>

@@ -11,7 +11,6 @@ ghost use Rattle.round_pace.specs.Paced.{IsPacedFrom};
 
 use authorizer::Authorizer;
 use client_patience::Patience;
-use data_sockets::TransferCell;
 use ftpd_program::ServeFault;
 use grant_ledger::{Book, Settled, Tally, settle};
 use handler_hooks::Hooks;
@@ -23,11 +22,12 @@ use rate_floors::Floors;
 use round_cadence::Cadence;
 use round_pace::Pace;
 use server_config::ServerNumbers;
-use server_house::LaneSign;
+use server_house::{LaneSign, SessionTicket};
 use session_table::Settings;
 use std::alloc::{AllocError, Global};
 use std::net::TcpStream;
 use std::sync::Mutex;
+use transfer_ticket::Ticket;
 use virtual_tree::Store;
 
 /// The parts that a caller hands to a server.
@@ -64,7 +64,7 @@ pub(crate) struct Rooms<S: Store<Global>, H: Hooks, P: Drop> {
     pub(crate) floors: Floors,
     pub(crate) ports: RestingPorts,
     pub(crate) registry: Registry,
-    pub(crate) cells: Vec<TransferCell<S::Sink>>,
+    pub(crate) tickets: Vec<SessionTicket<S>>,
     pub(crate) lanes: Vec<LaneSign>,
     pub(crate) pace: Pace,
     /// The beats of the pace's rows.
@@ -73,12 +73,15 @@ pub(crate) struct Rooms<S: Store<Global>, H: Hooks, P: Drop> {
     pub(crate) begun: u64,
 }
 
-fn new_cells<K: Drop>(alloc: Global, count: usize) -> Result<Vec<TransferCell<K>>, AllocError> {
-    let mut cells = Vec::with_capacity(alloc, count)?;
+fn new_tickets<S: Store<Global>>(
+    alloc: Global,
+    count: usize,
+) -> Result<Vec<SessionTicket<S>>, AllocError> {
+    let mut tickets = Vec::with_capacity(alloc, count)?;
     for _ in 0..count {
-        cells.push(TransferCell::new())?;
+        tickets.push(Ticket::new(alloc)?)?;
     }
-    Ok(cells)
+    Ok(tickets)
 }
 
 fn new_lanes(alloc: Global, count: usize) -> Result<Vec<LaneSign>, AllocError> {
@@ -161,7 +164,7 @@ where
     let registry = Registry::new(alloc, most, usize::from(numbers.max_cons_per_address))?;
     let own_stores = locked(alloc, own_stores)?;
     let arrivals = new_arrivals(alloc, most)?;
-    let cells = new_cells(alloc, most)?;
+    let tickets = new_tickets::<S>(alloc, most)?;
     let lanes = new_lanes(alloc, usize::from(numbers.lanes))?;
     let cadence = new_cadence(alloc, &limits)?;
     let begun = rt.moment();
@@ -179,7 +182,7 @@ where
         floors,
         ports,
         registry,
-        cells,
+        tickets,
         lanes,
         pace,
         cadence,

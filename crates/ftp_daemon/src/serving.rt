@@ -16,7 +16,7 @@ use crate::listening::{listen_on, warn_of_descriptors};
 use crate::opening::{Line, Rooms, Service, open_line, open_rooms};
 use crate::settling::{Room, settle_served, settle_unlent};
 use crate::watching::{StopSign, is_up};
-use crate::works::{LentLine, Lists, Waiting, Works, lend_line, lend_passes, new_lists};
+use crate::works::{LentLine, Lists, Works, lend_line, lend_passes, new_lists};
 use event_word::{EventCount, SharedEventCount};
 use ftpd_program::ServeFault;
 use grant_ledger::Settled;
@@ -40,8 +40,8 @@ use virtual_tree::Store;
 // The parts that the threads share, with the board; also the pace, and the stop sign.
 fn furnish<S: Store<Global>, H: Hooks, B: PartsName, P: Drop>(
     rooms: Rooms<S, H, P>,
-    board: LentBoard<B, Waiting<S>>,
-    pass: LentPass<B, Waiting<S>>,
+    board: LentBoard<B, u32>,
+    pass: LentPass<B, u32>,
 ) -> (House<S, H, B>, Pace, Cadence, Option<P>)
     ensures pace { result.1 ≡ rooms.pace }
 {
@@ -58,7 +58,7 @@ fn furnish<S: Store<Global>, H: Hooks, B: PartsName, P: Drop>(
         floors,
         ports,
         registry,
-        cells,
+        tickets,
         lanes,
         pace,
         cadence,
@@ -79,7 +79,7 @@ fn furnish<S: Store<Global>, H: Hooks, B: PartsName, P: Drop>(
         board,
         pass: Mutex::new(pass),
         jobs: SharedEventCount::new(),
-        cells,
+        tickets,
         lanes,
         bell: EventCount::new(),
         ending: ServerShutdown::new(),
@@ -141,8 +141,8 @@ where
 fn serve_lent<R, S, H, B, P, W>(
     rt: &R,
     rooms: Rooms<S, H, P>,
-    board: LentBoard<B, Waiting<S>>,
-    mut passes: Vec<LentPass<B, Waiting<S>>>,
+    board: LentBoard<B, u32>,
+    mut passes: Vec<LentPass<B, u32>>,
     line: LentLine<B>,
     listener: TcpListener,
     writer: &mut W,
@@ -197,8 +197,8 @@ where
 fn serve_named<R, S, H, B, P, W>(
     rt: &R,
     rooms: Rooms<S, H, P>,
-    board: JobBoard<Waiting<S>>,
-    passes: Vec<BoardPass<Waiting<S>>>,
+    board: JobBoard<u32>,
+    passes: Vec<BoardPass<u32>>,
     line: Line,
     listener: TcpListener,
     writer: &mut W,
@@ -231,7 +231,7 @@ where
     ensures sum { result.0.issued ≡ result.0.moved + result.0.back }
     ensures kept { HasKept B.rates B.when B.carried result.0.issued }
 {
-    match new_lists::<B, Waiting<S>>(rt.alloc(), line.seats.len(), passes.len()) {
+    match new_lists::<B, u32>(rt.alloc(), line.seats.len(), passes.len()) {
         Err(AllocError) => (settle_unlent(line), Err(ServeFault::Memory)),
         Ok(lists) => {
             let Lists {

@@ -12,7 +12,6 @@ ghost use Rattle.transfer_worker.specs.Boards.{AreNewPasses};
 
 use crate::opening::Line;
 use crate::settling::{Lent, Room};
-use data_sockets::{DataConnection, Served};
 use grant_ledger::Tally;
 use handler_hooks::Hooks;
 use lane_desk::{LaneSeat, Rounds};
@@ -24,22 +23,15 @@ use round_pace::Pace;
 use server_house::House;
 use std::alloc::{AllocError, Global};
 use std::sync::Mutex;
-use transfer_worker::{BoardPass, LaneJob};
+use transfer_worker::BoardPass;
 use virtual_tree::Store;
-
-/// A transfer that waits for a lane, over a store.
-pub(crate) type Waiting<S> = LaneJob<
-    Served<Global, <S as Store<Global>>::Source>,
-    <S as Store<Global>>::Sink,
-    DataConnection,
->;
 
 /// Everything that the threads of a server share. It cannot be dropped.
 pub(crate) struct Works<R: RoundClock, S: Store<Global>, H: Hooks, B: PartsName, P> {
     pub(crate) rt: R,
     pub(crate) house: House<S, H, B>,
     /// The passes with which lanes take transfers: each takes one as it begins.
-    pub(crate) passes: Mutex<Vec<LentPass<B, Waiting<S>>>>,
+    pub(crate) passes: Mutex<Vec<LentPass<B, u32>>>,
     pub(crate) lent: Lent<B>,
     /// The stop sign, if there is one.
     pub(crate) stop: Option<P>,

@@ -1,7 +1,7 @@
 -- The end that a lane reports to a session for a job.
-use Rattle.std.specs.Prelude.{Option, Some, None}
+use Rattle.std.specs.Prelude.{Bool, true, false, Option, Some, None}
 use Rattle.session_table.specs.declared.inputs.End.{End}
-use Rattle.session_table.specs.declared.inputs.End.TheVariants.{Done, Lost, Local, NoMemory, Aborted}
+use Rattle.session_table.specs.declared.inputs.End.TheVariants.{Done, Lost, Local, Full, NoConnection, NoMemory, Aborted}
 use Rattle.transfer_worker.specs.declared.end.JobEnd.{JobEnd}
 use Rattle.transfer_worker.specs.declared.end.JobEnd.TheVariants as job
 use Rattle.transfer_worker.specs.declared.job.Ran.{Ran}
@@ -34,3 +34,27 @@ abbrev pub told_sink : {R K C A : Type 0} → Ran R K C A → Option K
 told_sink (Out out) = None
 told_sink (In upload) = Some upload.flow.sink
 told_sink Unopened = None
+
+-- the sink of an upload; a download has none
+abbrev pub bound_sink : {K : Type 0} → Bool → Option K → Option K
+bound_sink true sink = sink
+bound_sink false sink = None
+
+-- an upload has no sink any more
+abbrev pub lacks_sink : {K : Type 0} → Bool → Option K → Bool
+lacks_sink false sink = false
+lacks_sink true None = true
+lacks_sink true (Some sink) = false
+
+-- An abort is one if the session has asked for it. A transfer that was stopped otherwise ends for
+-- lack of memory, and so does an upload without a sink, which was not begun.
+abbrev pub bound_end : End → Bool → Bool → End
+bound_end end has_stopped true = NoMemory
+bound_end Aborted false false = NoMemory
+bound_end Aborted true false = Aborted
+bound_end Done has_stopped false = Done
+bound_end Lost has_stopped false = Lost
+bound_end Local has_stopped false = Local
+bound_end Full has_stopped false = Full
+bound_end NoConnection has_stopped false = NoConnection
+bound_end NoMemory has_stopped false = NoMemory

@@ -1,9 +1,31 @@
--- The answer of a lane's gate.
-use Rattle.std.specs.Prelude.{Bool, ◌&&◌, ◌||◌, if◌then◌else◌}
+-- A lane's gate: its answers, and the knowledge of the lane that runs a transfer.
+use Rattle.std.specs.Prelude.{Bool, true, false, ◌&&◌, ◌||◌, if◌then◌else◌}
+use Rattle.server_house.specs.Tickets.{is_upload}
+use Rattle.transfer_ticket.specs.declared.view.TicketView.{TicketView}
+use Rattle.transfer_ticket.specs.declared.view.TicketView.TheVariants.{Away, Missed, Idle, Busy, Runs}
 use Rattle.transfer_worker.specs.declared.gate.Go.{Go}
 use Rattle.transfer_worker.specs.declared.gate.Go.TheVariants.{On, Stop}
+use Rattle.transfer_worker.specs.declared.job.LaneJob.{LaneJob}
 
--- the server's end stops a transfer anywhere, and its session's abort before an ask
+-- a transfer stops before an ask alone, if its session has asked for that or rounds are refused to
+-- it for lack of memory
 abbrev pub answer : Bool → Bool → Bool → Go
-answer is_ending is_before_ask is_aborted =
-    if is_ending || (is_before_ask && is_aborted) then Stop else On
+answer is_before_ask is_to_stop is_starved =
+    if is_before_ask && (is_to_stop || is_starved) then Stop else On
+
+module _ {R K C : Type 0} where
+  -- the transfer that a lane runs is an upload
+  abbrev pub runs_upload : TicketView (LaneJob R K C) → Bool
+  runs_upload Away = false
+  runs_upload Missed = false
+  runs_upload Idle = false
+  runs_upload (Busy job asked begun tries) = false
+  runs_upload (Runs job seen looks) = is_upload job
+
+  -- it saw that it is to stop
+  abbrev pub has_seen : TicketView (LaneJob R K C) → Bool
+  has_seen Away = false
+  has_seen Missed = false
+  has_seen Idle = false
+  has_seen (Busy job asked begun tries) = false
+  has_seen (Runs job seen looks) = seen

@@ -1,7 +1,9 @@
 //! Reports of lanes to sessions.
 
-ghost use Rattle.std.specs.Prelude.{◌≡◌};
-ghost use Rattle.lane_rounds.specs.Ends.{received_end, sent_end, told_end, told_sink};
+ghost use Rattle.std.specs.Prelude.{◌≡◌, false, true};
+ghost use Rattle.lane_rounds.specs.Ends.{bound_end, bound_sink, lacks_sink, received_end, sent_end, told_end, told_sink};
+ghost use Rattle.server_house.specs.Tickets.{HasSinkOf};
+ghost use Rattle.session_table.specs.declared.inputs.End.TheVariants.{Aborted};
 
 use data_sockets::TransferEnd;
 use session_table::End;
@@ -36,28 +38,54 @@ fn received_end(end: JobEnd) -> End
     }
 }
 
-/// The report for a job with this end, with the sink of an upload. The connection is dropped first.
-pub(crate) fn told_of<R, K, C, A>(end: JobEnd, ran: Ran<R, K, C, A>) -> TransferEnd<K>
+/// The end of a job, and the sink of an upload. The connection is dropped first.
+pub(crate) fn told_of<R, K, C, A>(end: JobEnd, ran: Ran<R, K, C, A>) -> (End, Option<K>)
 where
     R: Source,
     K: Sink,
     C: Read + Write + Drop,
     A: Allocator,
-    ensures end { result.end ≡ told_end end ran }
-    ensures sink { result.sink ≡ told_sink ran }
+    ensures end { result.0 ≡ told_end end ran }
+    ensures sink { result.1 ≡ told_sink ran }
 {
     match ran {
-        Ran::Out(_) => TransferEnd {
-            end: sent_end(end),
-            sink: None,
-        },
-        Ran::In(upload) => TransferEnd {
-            end: received_end(end),
-            sink: Some(upload.into_sink()),
-        },
-        Ran::Unopened => TransferEnd {
-            end: sent_end(end),
-            sink: None,
-        },
+        Ran::Out(_) => (sent_end(end), None),
+        Ran::In(upload) => (received_end(end), Some(upload.into_sink())),
+        Ran::Unopened => (sent_end(end), None),
+    }
+}
+
+// The end of a transfer: one that its session has not asked for is for lack of memory, and so is that of an upload that
+// was not begun.
+fn bound_end(end: End, has_stopped: bool, lacks_sink: bool) -> End
+    ensures end { result ≡ bound_end end has_stopped lacks_sink }
+{
+    if lacks_sink || matches!(end, End::Aborted) && !has_stopped {
+        return End::NoMemory;
+    }
+    end
+}
+
+/// The report of an end to a session. `has_stopped` is whether its lane saw that it was to stop, and `is_upload` whether
+/// octets were received.
+pub(crate) fn report_of<K: Drop>(
+    end: End,
+    sink: Option<K>,
+    is_upload: bool,
+    has_stopped: bool,
+    moved: u64,
+) -> TransferEnd<K>
+    ensures end { result.end ≡ bound_end end has_stopped (lacks_sink is_upload sink) }
+    ensures sink { result.sink ≡ bound_sink is_upload sink }
+    ensures moved { result.moved ≡ moved }
+    ensures asked { result.end ≡ Aborted → has_stopped ≡ true }
+    ensures bound { HasSinkOf is_upload result }
+{
+    let sink = if is_upload { sink } else { None };
+    let lacks_sink = is_upload && sink.is_none();
+    TransferEnd {
+        end: bound_end(end, has_stopped, lacks_sink),
+        sink,
+        moved,
     }
 }

@@ -1,21 +1,25 @@
 //! The gate of a lane.
 
-ghost use Rattle.std.specs.Prelude.{◌≡◌};
+ghost use Rattle.std.specs.Prelude.{◌≡◌, ◌||◌, not, true};
 ghost use Rattle.lane_rounds.specs.Clocks.{IsTestOf};
-ghost use Rattle.lane_rounds.specs.Gates.{answer};
+ghost use Rattle.lane_rounds.specs.Gates.{answer, has_seen, runs_upload};
+ghost use Rattle.transfer_ticket.specs.Tickets.{is_runner};
+ghost use Rattle.transfer_ticket.specs.Views.{run_view};
 
 use crate::clock::RoundClock;
-use crate::ends::told_of;
+use crate::ends::{report_of, told_of};
 use crate::rounds::help;
 use crate::turns::Turns;
-use data_sockets::{DataConnection, Served, TransferEnd};
+use data_sockets::{DataConnection, Served};
 use handler_hooks::Hooks;
 use lent_parts::{LentDesk, PartsName};
-use server_house::{House, LaneSign, ShutdownStage};
+use server_house::{House, LaneEnds, LaneSign, SessionEnd, SessionJob};
+use session_table::End;
 use std::alloc::Global;
 use std::sync::{Mutex, Wait};
 use std::time::{Clock, Duration};
 use std::{mem, thread};
+use transfer_ticket::TicketRun;
 use transfer_worker::{Gate, Go, JobEnd, Ran};
 use virtual_tree::Store;
 
@@ -30,8 +34,8 @@ const PATIENCE: u64 = 20;
 const PAUSE: u64 = 1_000;
 
 /// The gate of a lane for one transfer. It waits for answers, and holds rounds. It stops the transfer before an ask once
-/// its session has aborted it: the lane is free then for the next.
-#[derive(Drop)]
+/// its session wants it to end, or rounds are refused to it: the lane is free then for the next. It cannot be dropped:
+/// it reports the end of its transfer.
 pub(crate) struct LaneGate<
     'r,
     'h,
@@ -48,6 +52,12 @@ pub(crate) struct LaneGate<
     desk: &'d LentDesk<B, N>,
     turns: &'t Mutex<Turns<B, N>>,
     lane: usize,
+    run: TicketRun<'h, SessionJob<S>, SessionEnd<S>, LaneEnds>,
+    is_upload: bool,
+    // whether it has seen that the transfer is to stop
+    has_stopped: bool,
+    // the end of the transfer, with the sink of an upload
+    ended: Option<(End, Option<S::Sink>)>,
     last: Go,
     // whether an ask is next
     is_before_ask: bool,
@@ -56,6 +66,9 @@ pub(crate) struct LaneGate<
     // the octets moved before the last ask; none before the first
     asked_at: Option<u64>,
     ghost clock: { IsTestOf R.when B.when },
+    ghost runs: { is_runner (run_view run) ≡ true },
+    ghost way: { runs_upload (run_view run) ≡ is_upload },
+    ghost stops: { (not has_stopped || has_seen (run_view run)) ≡ true },
 }
 
 impl<'r, 'h, 'd, 't, R, S, H, B, N> LaneGate<'r, 'h, 'd, 't, R, S, H, B, N>
@@ -65,15 +78,19 @@ where
     H: Hooks,
     B: PartsName,
 {
-    /// The gate of a lane for its next transfer.
+    /// The gate of a lane for the transfer that it runs, an upload if so.
     pub(crate) fn new(
         rt: &'r R,
         house: &'h House<S, H, B>,
         desk: &'d LentDesk<B, N>,
         turns: &'t Mutex<Turns<B, N>>,
         lane: usize,
+        run: TicketRun<'h, SessionJob<S>, SessionEnd<S>, LaneEnds>,
+        is_upload: bool,
     ) -> Self
         requires clock { IsTestOf R.when B.when }
+        requires runs { is_runner (run_view run) ≡ true }
+        requires way { runs_upload (run_view run) ≡ is_upload }
     {
         LaneGate {
             rt,
@@ -81,11 +98,58 @@ where
             desk,
             turns,
             lane,
+            run,
+            is_upload,
+            has_stopped: false,
+            ended: None,
             last: Go::On,
             is_before_ask: true,
             seen: 0,
             asked_at: None,
         }
+    }
+
+    // Returns whether the session wants the transfer to end.
+    fn looks(&mut self) -> bool
+        ensures last { self.new.last ≡ self.old.last }
+    {
+        if self.run.is_to_stop() {
+            self.has_stopped = true;
+        }
+        self.has_stopped
+    }
+
+    // Returns whether rounds are refused to the transfer.
+    fn is_starved(&self) -> bool {
+        match self.house.lanes.get(self.lane) {
+            Some(sign) => sign.is_starved(),
+            None => false,
+        }
+    }
+
+    /// Reports the end of the transfer, which has moved this many octets. A gate that was told of no end reports that it
+    /// was not begun.
+    pub(crate) fn report(self, moved: u64) {
+        let LaneGate {
+            rt: _,
+            house: _,
+            desk: _,
+            turns: _,
+            lane: _,
+            run,
+            is_upload,
+            has_stopped,
+            ended,
+            last: _,
+            is_before_ask: _,
+            seen: _,
+            asked_at: _,
+        } = self;
+        let (end, sink) = match ended {
+            Some(ended) => ended,
+            None => (End::NoMemory, None),
+        };
+        run.report(report_of(end, sink, is_upload, has_stopped, moved));
     }
 
     // Before an ask. If the last one was granted nothing, the rates have nothing left, and this waits a moment.
@@ -135,11 +199,11 @@ where
     }
 }
 
-// The answer to a transfer: the server's end stops it anywhere, and its session's abort before an ask.
-fn answer(is_ending: bool, is_before_ask: bool, is_aborted: bool) -> Go
-    ensures answer { result ≡ answer is_ending is_before_ask is_aborted }
+// The answer to a transfer: it stops before an ask, if its session wants it to end or rounds are refused to it.
+fn answer(is_before_ask: bool, is_to_stop: bool, is_starved: bool) -> Go
+    ensures answer { result ≡ answer is_before_ask is_to_stop is_starved }
 {
-    if is_ending || is_before_ask && is_aborted {
+    if is_before_ask && (is_to_stop || is_starved) {
         return Go::Stop;
     }
     Go::On
@@ -162,11 +226,11 @@ where
 
     ghost passed = { λ _. None };
 
-    fn pass(&mut self, session: u32, moved: u64) -> Go {
+    fn pass(&mut self, _session: u32, moved: u64) -> Go {
         let is_before_ask = mem::replace(&mut self.is_before_ask, false);
-        let is_ending = self.house.ending.has_begun(ShutdownStage::Lanes);
-        let is_aborted = self.house.is_aborted(u64::from(session));
-        self.last = answer(is_ending, is_before_ask, is_aborted);
+        let is_to_stop = self.looks();
+        let is_starved = self.is_starved();
+        self.last = answer(is_before_ask, is_to_stop, is_starved);
         if self.last == Go::On {
             self.wait(is_before_ask, moved);
         }
@@ -183,14 +247,10 @@ where
 
     fn done(
         &mut self,
-        session: u32,
+        _session: u32,
         end: JobEnd,
         ran: Ran<Served<Global, S::Source>, S::Sink, DataConnection, Global>,
     ) {
-        let TransferEnd { end, sink } = told_of(end, ran);
-        match self.house.cells.get(session as usize) {
-            Some(cell) => cell.tell(self.rt, end, sink),
-            None => {}
-        }
+        self.ended = Some(told_of(end, ran));
     }
 }

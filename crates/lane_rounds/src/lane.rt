@@ -1,24 +1,35 @@
 //! The thread of a lane.
 
+ghost use Rattle.std.specs.Prelude.{◌≡◌};
+ghost use Rattle.desk_rule.specs.declared.view.SeatState.TheVariants.{Free};
+ghost use Rattle.lane_desk.specs.Seats.{seat_view};
 ghost use Rattle.lane_rounds.specs.Clocks.{IsTestOf};
+ghost use Rattle.server_house.specs.Tickets.{is_upload};
 
 use crate::clock::RoundClock;
 use crate::gate::LaneGate;
 use crate::turns::Turns;
-use data_sockets::{DataConnection, Served};
 use handler_hooks::Hooks;
 use lent_parts::{LentDesk, LentPass, LentWorker, PartsName};
 use line_rates::Way;
-use server_house::{House, LaneSign, ShutdownStage};
+use server_house::{House, LaneSign, SessionTicket, ShutdownStage};
 use std::alloc::Global;
 use std::io::{Read, Write};
 use std::sync::{Mutex, Wait};
 use std::time::{Clock, Duration};
+use transfer_ticket::TicketRun;
 use transfer_worker::LaneJob;
 use virtual_tree::{Sink, Source, Store};
 
 /// The longest wait of an idle lane before it checks by itself, in milliseconds. Each transfer pushed wakes one.
 const IDLE: u64 = 1_000;
+
+// Returns whether octets are received.
+fn is_upload<R: Source, K: Sink, C: Read + Write + Drop>(job: &LaneJob<R, K, C>) -> bool
+    ensures upload { result ≡ is_upload job.now }
+{
+    matches!(job, LaneJob::Take { .. })
+}
 
 // Records the user, the direction and the session that the lane works for.
 fn sign<R: Source, K: Sink, C: Read + Write + Drop>(sign: &LaneSign, job: &LaneJob<R, K, C>) {
@@ -34,16 +45,51 @@ fn sign<R: Source, K: Sink, C: Read + Write + Drop>(sign: &LaneSign, job: &LaneJ
     }
 }
 
-/// Takes transfers from the board and runs each to its end, until the lanes are to end. A transfer that its session has
-/// aborted is stopped before its next ask, and the lane takes the next one. The moments of the clock pass the test of
-/// the name.
+// Runs the transfer that waits on a ticket to its end, and reports that; nothing if it was taken back.
+fn run_transfer<R, S, H, B, N>(
+    rt: &R,
+    house: &House<S, H, B>,
+    desk: &LentDesk<B, N>,
+    turns: &Mutex<Turns<B, N>>,
+    worker: &mut LentWorker<B, N>,
+    ticket: &SessionTicket<S>,
+)
+where
+    R: Wait + Clock + RoundClock + AllocGlobal,
+    S: Store<Global>,
+    H: Hooks,
+    B: PartsName,
+    requires clock { IsTestOf R.when B.when }
+    requires free { (seat_view worker.old.seat).state ≡ Free }
+{
+    let Ok((job, run)) = TicketRun::take(ticket) else {
+        return;
+    };
+    let lane = worker.lane();
+    match house.lanes.get(lane) {
+        Some(own) => sign(own, &job),
+        None => {}
+    }
+    let mut gate = LaneGate::new(rt, house, desk, turns, lane, run, is_upload(&job));
+    let before = worker.moved();
+    worker.work(rt, rt.alloc(), desk, job, &mut gate);
+    gate.report(worker.moved().saturating_sub(before));
+    match house.lanes.get(lane) {
+        Some(own) => own.set_session(None),
+        None => {}
+    }
+}
+
+/// Takes transfers from the tickets whose numbers are on the board, and runs each to its end, until the lanes are to end:
+/// no session is left then. A transfer that its session wants to end is stopped before its next ask, and the lane takes
+/// the next one. The moments of the clock pass the test of the name.
 pub fn work_lane<R, S, H, B, N>(
     rt: &R,
     house: &House<S, H, B>,
     desk: &LentDesk<B, N>,
     turns: &Mutex<Turns<B, N>>,
     worker: &mut LentWorker<B, N>,
-    mut pass: LentPass<B, LaneJob<Served<Global, S::Source>, S::Sink, DataConnection>>,
+    mut pass: LentPass<B, u32>,
 )
 where
     R: Wait + Clock + RoundClock + AllocGlobal,
@@ -52,28 +98,16 @@ where
     B: PartsName,
     requires clock { IsTestOf R.when B.when }
 {
-    let lane = worker.lane();
     for _ in rt.forever() {
         if !worker.is_free() {
             return;
         }
         let seen = house.jobs.seen();
         match house.board.pop(rt, &mut pass) {
-            Some(job) => {
-                match house.lanes.get(lane) {
-                    Some(own) => sign(own, &job),
-                    None => {}
-                }
-                let mut gate = LaneGate::new(rt, house, desk, turns, lane);
-                let is_stopped = worker.work(rt, rt.alloc(), desk, job, &mut gate);
-                match house.lanes.get(lane) {
-                    Some(own) => own.set_session(None),
-                    None => {}
-                }
-                if is_stopped && house.ending.has_begun(ShutdownStage::Lanes) {
-                    return;
-                }
-            }
+            Some(number) => match house.tickets.get(number as usize) {
+                Some(ticket) => run_transfer(rt, house, desk, turns, worker, ticket),
+                None => {}
+            },
             None => {
                 if house.ending.has_begun(ShutdownStage::Lanes) {
                     return;

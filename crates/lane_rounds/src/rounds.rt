@@ -27,29 +27,29 @@ pub(crate) enum Tried {
     NotBefore(u64),
 }
 
-// Signals each lane that was answered: bit i is lane i.
-fn tell_lanes(lanes: &[LaneSign], answered: u64) {
+// Wakes each lane that a round has answered, or that it was refused to: bit i is lane i.
+fn wake_lanes(lanes: &[LaneSign], answered: u64, is_refused: bool) {
     let mut left = answered;
     for lane in lanes {
         if left % 2 == 1 {
-            lane.answered.signal();
+            lane.answer(is_refused);
         }
         left /= 2;
     }
 }
 
-// Returns whether the transfer of a lane was aborted: its ask is to be answered, so that the lane can leave it.
+// Returns whether the transfer of a lane is to stop: its ask is to be answered, so that the lane can leave it.
 fn is_stopping<S: Store<Global>, H: Hooks, B: PartsName>(
     house: &House<S, H, B>,
     sign: &LaneSign,
 ) -> bool {
     match sign.session() {
-        Some(session) => house.is_aborted(session),
+        Some(session) => house.is_stopping(session),
         None => false,
     }
 }
 
-// The lanes that a round is of: those of transfers whose rows are open, or that were aborted. The signs are hints, as
+// The lanes that a round is of: those of transfers whose rows are open, or that are to stop. The signs are hints, as
 // for `due_by`: a lane whose sign is stale is left out, or asked too early, in one round.
 fn open_lanes<S: Store<Global>, H: Hooks, B: PartsName, N>(
     house: &House<S, H, B>,
@@ -77,8 +77,8 @@ fn hold_one<S: Store<Global>, H: Hooks, B: PartsName, N>(
 {
     let given = open_lanes(house, &turns.rounds, now);
     match turns.rounds.hold(alloc, desk, now, &given) {
-        Ok(record) => tell_lanes(&house.lanes, record.answered),
-        Err(fault) => tell_lanes(&house.lanes, fault.answered),
+        Ok(record) => wake_lanes(&house.lanes, record.answered, false),
+        Err(fault) => wake_lanes(&house.lanes, fault.answered, true),
     }
 }
 
@@ -92,7 +92,7 @@ fn sooner(one: Due, other: Due) -> Due
     }
 }
 
-// The earliest moment of a round for the worker of a lane: at once, if its transfer was aborted. The lane's sign is a
+// The earliest moment of a round for the worker of a lane: at once, if its transfer is to stop. The lane's sign is a
 // hint: it may have the name of the worker's next transfer by now, and then a round is held too early or too late for
 // this one.
 fn due_at<S: Store<Global>, H: Hooks, B: PartsName, N>(

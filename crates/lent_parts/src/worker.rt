@@ -50,6 +50,13 @@ impl<B: PartsName, N> LentWorker<B, N> {
         self.seat.lane()
     }
 
+    /// Number of octets that its transfers have moved.
+    pub fn moved(&self) -> u64
+        ensures moved { result ≡ self.now.tally.moved }
+    {
+        self.tally.moved()
+    }
+
     /// Returns whether no worker sits there, so that a job may be run. It is true until a gate has said `Stop` to a
     /// worker that had asked.
     pub fn is_free(&self) -> bool

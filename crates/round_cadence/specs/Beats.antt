@@ -44,9 +44,9 @@ parts_of b = max (div_up b.granted (max b.greatest 1)) 1
 abbrev pub sharers_after : Beat → ℕ
 sharers_after b = max (parts_of b) (b.sharers - div_up b.sharers 8)
 
--- a rate of which at most a hundredth of a second is left, and at most what is worth sending once
+-- a rate of which at most a thousandth of a second is left, and at most what is worth sending once
 abbrev pub is_drained : Credit → Bool
-is_drained c = not (nat_eq c.rate 0) && nat_le c.left (min (c.rate / 100) WORTH)
+is_drained c = not (nat_eq c.rate 0) && nat_le c.left (min (c.rate / 1_000) WORTH)
 
 -- the interval after a round, in which each sharer earns what one of them is to have
 abbrev pub interval_after : Credit → Beat → ℕ

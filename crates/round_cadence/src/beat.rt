@@ -39,7 +39,7 @@ pub struct WayBeats {
 fn is_drained(credit: Credit) -> bool
     ensures drained { result ≡ is_drained credit }
 {
-    credit.rate != 0 && credit.left <= (credit.rate / 100).min(WORTH)
+    credit.rate != 0 && credit.left <= (credit.rate / 1_000).min(WORTH)
 }
 
 impl Beat {

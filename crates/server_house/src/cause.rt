@@ -13,8 +13,6 @@ pub enum EndCause {
     NoClient,
     /// The client's port could not be connected to.
     NotConnected(io::Error),
-    /// The board of transfers had no room.
-    NoLane,
     /// Memory ran out.
     NoMemory,
     /// The file could not be read or written.

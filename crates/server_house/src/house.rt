@@ -5,9 +5,9 @@ ghost use Rattle.server_house.specs.Settings.{AreSettingsAt, announced};
 
 use crate::ending::ServerShutdown;
 use crate::lane::LaneSign;
+use crate::ticket::SessionTicket;
 use authorizer::Authorizer;
 use client_patience::Patience;
-use data_sockets::{DataConnection, Served, TransferCell};
 use event_word::{EventCount, SharedEventCount};
 use ftp_terms::LineText;
 use handler_hooks::Hooks;
@@ -19,7 +19,6 @@ use session_table::Settings;
 use std::alloc::{AllocError, Global};
 use std::net::TcpStream;
 use std::sync::Mutex;
-use transfer_worker::LaneJob;
 use virtual_tree::Store;
 
 /// The parts that the threads of a server share, with its store `S`, the handler `H` of its owner, and the name `B` of
@@ -42,14 +41,14 @@ pub struct House<S: Store<Global>, H: Hooks, B: PartsName> {
     pub handler: Mutex<H>,
     pub ports: Mutex<RestingPorts>,
     pub registry: Mutex<Registry>,
-    /// The transfers that wait for a lane.
-    pub board: LentBoard<B, LaneJob<Served<Global, S::Source>, S::Sink, DataConnection>>,
+    /// The ticket of each session, by the number of its connection.
+    pub tickets: Vec<SessionTicket<S>>,
+    /// The numbers of the tickets on which a transfer waits for a lane. One that was taken back leaves its number here.
+    pub board: LentBoard<B, u32>,
     /// The pass with which sessions push them.
-    pub pass: Mutex<LentPass<B, LaneJob<Served<Global, S::Source>, S::Sink, DataConnection>>>,
+    pub pass: Mutex<LentPass<B, u32>>,
     /// Increased when a transfer is pushed; idle lanes wait on it.
     pub jobs: SharedEventCount,
-    /// For each session, by the number of its connection, the cell for the ends of its transfers.
-    pub cells: Vec<TransferCell<S::Sink>>,
     /// For each lane, what rounds report to it.
     pub lanes: Vec<LaneSign>,
     /// Increased when a lane needs a round.
@@ -59,9 +58,9 @@ pub struct House<S: Store<Global>, H: Hooks, B: PartsName> {
 
 impl<S: Store<Global>, H: Hooks, B: PartsName> House<S, H, B> {
     /// Returns whether the session that a lane works for wants its transfer to end.
-    pub fn is_aborted(&self, session: u64) -> bool {
-        match self.cells.get(session as usize) {
-            Some(cell) => cell.is_aborted(),
+    pub fn is_stopping(&self, session: u64) -> bool {
+        match self.tickets.get(session as usize) {
+            Some(ticket) => ticket.is_stopping(),
             None => false,
         }
     }

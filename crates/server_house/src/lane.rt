@@ -1,12 +1,16 @@
 //! Signals between rounds and a lane, beside the desk.
 
-ghost use Rattle.std.specs.Prelude.{◌≡◌, ◌+◌, None, IfSome};
+ghost use Rattle.std.specs.Prelude.{◌≡◌, ◌+◌, ◌-◌, ◌^◌, None, IfSome, false, min, true};
 
 use data_sockets::TransferName;
 use event_word::EventCount;
 use std::sync::atomic::{AtomicU64, Ordering};
 
-/// The session and the user that a lane works for, and the number of answers to it.
+/// Most rounds in a row that are refused before the transfers that asked in them end for lack of memory: at a tick of the
+/// pace each, half a second.
+const MOST_REFUSED: u64 = 256;
+
+/// The session and the user that a lane works for, and the answers to it.
 #[derive(Drop)]
 pub struct LaneSign {
     /// Increased when a round has answered the lane; the lane waits on it.
@@ -15,6 +19,20 @@ pub struct LaneSign {
     pub name: TransferName,
     // one more than the number of the session; 0 for none
     session: AtomicU64,
+    // the number of rounds refused since the last that was not, among those that answered the lane
+    refused: AtomicU64,
+}
+
+// The number of rounds refused in a row, after one more round.
+fn refused_after(refused: u64, is_refused: bool) -> u64
+    ensures more { is_refused ≡ true → result ≡ min (refused + 1) (2 ^ 64 - 1) }
+    ensures none { is_refused ≡ false → result ≡ 0 }
+{
+    if is_refused {
+        refused.saturating_add(1)
+    } else {
+        0
+    }
 }
 
 // The word of a session.
@@ -35,11 +53,26 @@ impl LaneSign {
             answered: EventCount::new(),
             name: TransferName::new(),
             session: AtomicU64::new(0),
+            refused: AtomicU64::new(0),
         }
     }
 
-    /// Sets the session that the lane works for, if any.
+    /// Wakes the lane: a round has answered it, or was refused and has given it nothing.
+    pub fn answer(&self, is_refused: bool) {
+        let refused = self.refused.load(Ordering::SeqCst);
+        self.refused
+            .store(refused_after(refused, is_refused), Ordering::SeqCst);
+        self.answered.signal();
+    }
+
+    /// Returns whether the lane's transfer is to end for lack of memory: [`MOST_REFUSED`] rounds in a row were refused.
+    pub fn is_starved(&self) -> bool {
+        self.refused.load(Ordering::SeqCst) >= MOST_REFUSED
+    }
+
+    /// Sets the session that the lane works for, if any. No round was refused to it yet.
     pub fn set_session(&self, session: Option<u32>) {
+        self.refused.store(0, Ordering::SeqCst);
         self.session.store(session_word(session), Ordering::SeqCst);
     }
 

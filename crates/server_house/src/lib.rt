@@ -12,6 +12,7 @@ mod ending;
 mod house;
 mod lane;
 mod server_hooks;
+mod ticket;
 
 pub use cause::EndCause;
 pub use descriptors::descriptors_for;
@@ -19,3 +20,4 @@ pub use ending::{ServerShutdown, ShutdownStage, stages_stay_begun};
 pub use house::{House, copy_settings};
 pub use lane::LaneSign;
 pub use server_hooks::{NotServed, ServerEvent, ServerHooks, SessionEvent};
+pub use ticket::{LaneEnds, SessionEnd, SessionJob, SessionTicket};

@@ -109,11 +109,11 @@ fn beats_count_sharers(rt: HostRuntime) {
         beat = beat.add(500, WORTH);
     }
     beat = beat.add(1, WORTH);
-    beat = beat.settle(left(4_096), 0);
+    beat = beat.settle(left(2_000), 0);
     // 4,001 octets are 9 grants of at most 500; 8 ticks earn 32,000, too little for 9
     holds(&rt, beat.sharers == 9 && beat.opens == 15);
-    beat = beat.add(4_000, WORTH).settle(left(4_097), 15);
-    holds(&rt, beat.sharers == 7 && beat.opens == 0); // more than 4,096 are left
+    beat = beat.add(4_000, WORTH).settle(left(2_001), 15);
+    holds(&rt, beat.sharers == 7 && beat.opens == 0); // more than a thousandth is left
     beat = beat.add(0, 0).settle(left(0), 16);
     holds(&rt, beat.sharers == 6 && beat.opens == 17); // a session's rate is earned in each tick
     let beats = WayBeats::new().add(Way::Up, 10, WORTH_UP);

@@ -1,5 +1,5 @@
-//! Tests of the parts of the server that need no desk and no session: counts that threads wait on, tickets, the mender
-//! of control text, the pace of rounds and their cadence, limits of time, and ports that rest. They call only public
+//! Tests of the parts of the server that need no desk and no session: counts that threads wait on, tickets,
+//! the mender of control text, the pace of rounds and their cadence, limits of time, and ports that rest. They call only public
 //! functions.
 #![tactic(auto)]
 

@@ -2,7 +2,7 @@
 
 use crate::expect::holds;
 use data_sockets::{
-    DataConnection, Listing, Served, TransferCell, TransferEnd, TransferName, accept_from, listen,
+    DataConnection, Listing, Outgoing, Progress, Served, TransferName, accept_from, listen,
     socket_address,
 };
 use line_rates::Way;
@@ -18,31 +18,6 @@ const LOOPBACK: [u8; 4] = [127, 0, 0, 1];
 
 #[test]
 fn data_sockets(rt: HostRuntime) {
-    let cell = TransferCell::<u32>::new();
-    cell.begin();
-    cell.abort();
-    holds(&rt, cell.is_aborted());
-    cell.begin(); // another transfer
-    holds(&rt, !cell.is_aborted());
-    let seen = cell.seen(); // before the transfer is handed over
-    cell.tell(&rt, End::Done, Some(3)); // by the lane
-    cell.wait(&rt, seen, 0, Duration::from_secs(60)); // returns at once
-    let told = cell.take(&rt);
-    holds(
-        &rt,
-        matches!(
-            told,
-            Some(TransferEnd {
-                end: End::Done,
-                sink: Some(3)
-            })
-        ),
-    );
-    holds(&rt, cell.take(&rt).is_none()); // told once
-}
-
-#[test]
-fn a_name_is_read_as_it_was_set(rt: HostRuntime) {
     let name = TransferName::new();
     holds(&rt, name.get() == (Way::Down, 0));
     name.set(Way::Up, 7);
@@ -63,6 +38,31 @@ where
         }
     }
     None
+}
+
+// Connects without waiting, and looks until the connection is there or has failed.
+fn reached<R>(rt: &R, to: SocketAddr) -> bool
+where
+    R: Abort + Net<Listener = TcpListener, Stream = TcpStream>,
+{
+    let mut outgoing = Outgoing::begin(rt, to).expect(rt, "a socket");
+    for _ in 0..1_000_000 {
+        match outgoing.progress() {
+            Progress::Connected(_) => return true,
+            Progress::Pending(same) => outgoing = same,
+            Progress::Failed(_) => return false,
+        }
+    }
+    false
+}
+
+#[test]
+fn a_connection_is_begun(rt: HostRuntime) {
+    let listener = listen(&rt, LOOPBACK, 0).expect(&rt, "a port");
+    let at = listener.local_addr().expect(&rt, "an address");
+    holds(&rt, reached(&rt, at));
+    drop(listener);
+    holds(&rt, !reached(&rt, at)); // nobody listens there any more
 }
 
 fn talk<R>(rt: &R, listener: &TcpListener)

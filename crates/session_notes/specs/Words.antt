@@ -4,7 +4,7 @@ use Rattle.std.specs.Borrow.{Bor}
 use Rattle.std.specs.Fmt.{◌++?◌, debug_str}
 use Rattle.passive_ports.specs.declared.fault.AdmitFault.TheVariants.{TooMany, TooManyOfAddress, Memory}
 use Rattle.server_house.specs.declared.cause.EndCause.{EndCause}
-use Rattle.server_house.specs.declared.cause.EndCause.TheVariants.{Aborted, NothingPrepared, NoClient, NotConnected, NoLane, NoMemory, File, Connection, ControlLost, ServerEnds}
+use Rattle.server_house.specs.declared.cause.EndCause.TheVariants.{Aborted, NothingPrepared, NoClient, NotConnected, NoMemory, File, Connection, ControlLost, ServerEnds}
 use Rattle.server_house.specs.declared.server_hooks.NotServed.{NotServed}
 use Rattle.server_house.specs.declared.server_hooks.NotServed.TheVariants.{NotAdmitted, NoThread}
 use Rattle.server_house.specs.declared.server_hooks.ServerEvent.{ServerEvent}
@@ -46,7 +46,6 @@ cause_words Aborted = codes "aborted by the client"
 cause_words NothingPrepared = codes "no data connection was prepared"
 cause_words NoClient = codes "nobody connected to the passive port in time"
 cause_words (NotConnected error) = codes "the client's port could not be connected to"
-cause_words NoLane = codes "no room for another transfer"
 cause_words NoMemory = codes "out of memory"
 cause_words File = codes "the file could not be read or written"
 cause_words (Connection error) = codes "the data connection failed"

@@ -85,7 +85,6 @@ fn cause_words(cause: EndCause) -> &'static str
         EndCause::NothingPrepared => "no data connection was prepared",
         EndCause::NoClient => "nobody connected to the passive port in time",
         EndCause::NotConnected(_) => "the client's port could not be connected to",
-        EndCause::NoLane => "no room for another transfer",
         EndCause::NoMemory => "out of memory",
         EndCause::File => "the file could not be read or written",
         EndCause::Connection(_) => "the data connection failed",

@@ -72,8 +72,8 @@ fn is_without_port<K>(event: &Option<DataEvent<K>>) -> bool
     matches!(event, Some(DataEvent::Ready(None)))
 }
 
-// Floors without rows, which need no memory.
-fn floors_of_nobody(alloc: Global) -> Option<Floors>
+/// Floors without rows, which need no memory.
+pub(crate) fn floors_of_nobody(alloc: Global) -> Option<Floors>
     ensures none { IfSome result HasNoSessions }
 {
     let limits = Limits::of(0, 0, 0, Vec::new(alloc), Vec::new(alloc)).ok()?;
@@ -102,8 +102,7 @@ fn number_of(users: &Authorizer, name: &str) -> u32
     }
 }
 
-/// The host of the session of one control connection.
-#[derive(Drop)]
+/// The host of the session of one control connection. It cannot be dropped: its data side leaves its ticket.
 pub struct SocketHost<'h, R, S: Store<Global>, H: Hooks, B: PartsName> {
     rt: &'h R,
     house: &'h House<S, H, B>,
@@ -128,8 +127,8 @@ where
     H: ServerHooks,
     B: PartsName,
 {
-    /// The host of a connection with this data side, from this peer and with this key in the registry; `None` if memory
-    /// runs out.
+    /// The host of a connection with this data side, from this peer and with this key in the registry. The floors are
+    /// those of nobody.
     pub fn new(
         rt: &'h R,
         house: &'h House<S, H, B>,
@@ -137,9 +136,9 @@ where
         side: SocketSide<'h, R, S, H, B>,
         peer: [u8; 4],
         key: usize,
-    ) -> Option<Self> {
-        let no_floors = floors_of_nobody(rt.alloc())?;
-        Some(SocketHost {
+        no_floors: Floors,
+    ) -> Self {
+        SocketHost {
             rt,
             house,
             socket,
@@ -150,7 +149,24 @@ where
             waits: Waits::new(micros(rt)),
             is_wrong: false,
             no_floors,
-        })
+        }
+    }
+
+    /// Leaves its ticket to the next session. A transfer that still runs is ended.
+    pub fn leave(self) {
+        let SocketHost {
+            rt: _,
+            house: _,
+            socket: _,
+            side,
+            peer: _,
+            key: _,
+            user: _,
+            waits: _,
+            is_wrong: _,
+            no_floors: _,
+        } = self;
+        side.leave();
     }
 
     /// The settings of the session.

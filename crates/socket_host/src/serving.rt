@@ -1,20 +1,23 @@
 //! A whole control session over sockets.
 
 ghost use Rattle.std.specs.Prelude.{◌≡◌, ◌<◌, ◌≤◌, ◌^◌};
+ghost use Rattle.transfer_ticket.specs.Views.{owner_view};
+ghost use Rattle.transfer_ticket.specs.declared.view.TicketView.TheVariants.{Idle};
 
 use crate::control::ControlSocket;
-use crate::host::SocketHost;
+use crate::host::{SocketHost, floors_of_nobody};
 use authorizer::Authorizer;
 use control_session::{Host, run_control};
 use handler_hooks::Hooks;
 use lent_parts::PartsName;
-use server_house::{House, ServerHooks};
+use server_house::{House, LaneEnds, ServerHooks, SessionEnd, SessionJob};
 use session_table::Settings;
 use socket_side::SocketSide;
 use std::alloc::{AllocError, Global};
 use std::net::{Net, TcpListener, TcpStream};
 use std::sync::Wait;
 use std::time::Clock;
+use transfer_ticket::TicketOwner;
 use virtual_tree::Store;
 
 /// Most reads of one session: at 200 ms each, more than twenty-five years.
@@ -72,7 +75,38 @@ fn session_number(key: usize) -> u32
     }
 }
 
-// Runs a session and closes its connection.
+// Runs a session at its ticket, closes its connection, and leaves the ticket.
+fn run_at<'h, R, S, H, B>(
+    rt: &'h R,
+    house: &'h House<S, H, B>,
+    stream: TcpStream,
+    peer: [u8; 4],
+    key: usize,
+    owner: TicketOwner<'h, SessionJob<S>, SessionEnd<S>, LaneEnds>,
+)
+where
+    R: Wait + Clock + Net<Listener = TcpListener, Stream = TcpStream> + AllocGlobal,
+    S: Store<Global>,
+    H: ServerHooks,
+    B: PartsName,
+    requires idle { owner_view owner ≡ Idle }
+{
+    let side = SocketSide::new(rt, house, peer, session_number(key), owner);
+    match floors_of_nobody(rt.alloc()) {
+        Some(none) => {
+            let socket = ControlSocket::new(stream);
+            let mut host = SocketHost::new(rt, house, socket, side, peer, key, none);
+            run_hosted(&rt.alloc(), &mut host, house, peer);
+            let mut buffer = [0; LAST_PIECE];
+            host.hang_up(&mut buffer);
+            host.leave();
+        }
+        None => side.leave(),
+    }
+}
+
+// Runs a session and closes its connection. Nobody else sits at its ticket, since the session before left it before it
+// left the registry.
 fn run_client<R, S, H, B>(
     rt: &R,
     house: &House<S, H, B>,
@@ -86,12 +120,12 @@ where
     H: ServerHooks,
     B: PartsName,
 {
-    let side = SocketSide::new(rt, house, peer, key, session_number(key));
-    let host = SocketHost::new(rt, house, ControlSocket::new(stream), side, peer, key);
-    if let Some(mut host) = host {
-        run_hosted(&rt.alloc(), &mut host, house, peer);
-        let mut buffer = [0; LAST_PIECE];
-        host.hang_up(&mut buffer);
+    match house.tickets.get(key) {
+        Some(ticket) => match TicketOwner::sit(ticket) {
+            Ok(owner) => run_at(rt, house, stream, peer, key, owner),
+            Err(_) => {}
+        },
+        None => {}
     }
 }
 

@@ -1,7 +1,7 @@
 -- Reasons for the ends of transfers.
 use Rattle.std.specs.Prelude.{◌≡◌, ⊤, Bool, true, false, IsTrue, Option, Some, None}
 use Rattle.std.specs.declared.io.Error.{Error}
-use Rattle.data_sockets.specs.declared.cell.TransferEnd.{TransferEnd}
+use Rattle.data_sockets.specs.declared.end.TransferEnd.{TransferEnd}
 use Rattle.server_house.specs.declared.cause.EndCause.{EndCause}
 use Rattle.server_house.specs.declared.cause.EndCause.TheVariants as cause
 use Rattle.session_core.specs.declared.events.DataEvent.{DataEvent}
@@ -20,7 +20,7 @@ cause_of false Done fault = None
 cause_of false Lost fault = Some (cause.Connection fault)
 cause_of false Local fault = Some cause.File
 cause_of false Full fault = Some cause.File
-cause_of false NoConnection fault = Some cause.NoLane
+cause_of false NoConnection fault = Some cause.NoClient
 cause_of false NoMemory fault = Some cause.NoMemory
 cause_of false Aborted fault = Some cause.ServerEnds
 
@@ -36,17 +36,28 @@ MovedCause true end new = new ≡ Some cause.Aborted
 MovedCause false end new = (fault : Option Error) × (new ≡ cause_of false end fault)
 
 module _ {R K : Type 0} where
-  -- an awaited transfer ends by the abort itself
-  abbrev pub AbortCause : Running R K → Option EndCause → Option EndCause → Type 0
-  AbortCause running.Nothing old new = new ≡ old
-  AbortCause (running.Awaited listener port job since) old new = new ≡ Some cause.Aborted
-  AbortCause (running.Moving connection is_aborted) old new = new ≡ old
-  AbortCause (running.Over told) old new = new ≡ old
+  -- an aborted transfer that is over by that
+  abbrev pub AbortedCause : Running R K → Option EndCause → Option EndCause → Type 0
+  AbortedCause running.Nothing old new = new ≡ old
+  AbortedCause (running.Awaited listener port job since) old new = new ≡ old
+  AbortedCause (running.Connecting outgoing job since) old new = new ≡ old
+  AbortedCause (running.Moving connection is_aborted) old new = new ≡ old
+  AbortedCause (running.Over told) old new = new ≡ Some cause.Aborted
 
-  -- an awaited transfer may end for a reason of its own
+  -- a transfer without a connection ends by the abort itself, as does one that no lane has begun
+  abbrev pub AbortCause
+      : Running R K → Running R K → Option EndCause → Option EndCause → Type 0
+  AbortCause running.Nothing after old new = new ≡ old
+  AbortCause (running.Awaited listener port job since) after old new = new ≡ Some cause.Aborted
+  AbortCause (running.Connecting outgoing job since) after old new = new ≡ Some cause.Aborted
+  AbortCause (running.Moving connection is_aborted) after old new = AbortedCause after old new
+  AbortCause (running.Over told) after old new = new ≡ old
+
+  -- a transfer without a connection may end for a reason of its own
   abbrev pub GoesCause : Running R K → Option EndCause → Option EndCause → Type 0
   GoesCause running.Nothing old new = new ≡ old
   GoesCause (running.Awaited listener port job since) old new = ⊤
+  GoesCause (running.Connecting outgoing job since) old new = ⊤
   GoesCause (running.Moving connection is_aborted) old new = new ≡ old
   GoesCause (running.Over told) old new = new ≡ old
 
@@ -55,6 +66,7 @@ module _ {R K : Type 0} where
       : Running R K → Option (TransferEnd K) → Option EndCause → Option EndCause → Type 0
   TakenCause running.Nothing end old new = new ≡ old
   TakenCause (running.Awaited listener port job since) end old new = new ≡ old
+  TakenCause (running.Connecting outgoing job since) end old new = new ≡ old
   TakenCause (running.Moving connection is_aborted) None old new = new ≡ old
   TakenCause (running.Moving connection is_aborted) (Some told) old new =
       MovedCause is_aborted told.end new
@@ -65,6 +77,7 @@ module _ {R K : Type 0} where
       : Running R K → Option (DataEvent K) → Option EndCause → Option EndCause → Type 0
   LookCause running.Nothing event old new = new ≡ old
   LookCause (running.Awaited listener port job since) event old new = ⊤
+  LookCause (running.Connecting outgoing job since) event old new = ⊤
   LookCause (running.Moving connection is_aborted) None old new = new ≡ old
   LookCause (running.Moving connection is_aborted) (Some (Ready port)) old new = ⊤
   LookCause (running.Moving connection is_aborted) (Some (Ended end sink)) old new =

@@ -2,9 +2,9 @@
 
 ghost use Rattle.std.specs.Prelude.{◌≡◌};
 ghost use Rattle.socket_side.specs.Jobs.{is_upload, lane_job, sink_of};
-ghost use Rattle.socket_side.specs.Running.{over};
+ghost use Rattle.socket_side.specs.Running.{over, taken_back};
 
-use data_sockets::{DataConnection, Listing, Served, TransferEnd};
+use data_sockets::{DataConnection, Listing, Outgoing, Served, TransferEnd};
 use ftp_terms::DataType;
 use ftp_wire::HostPort;
 use session_table::{End, Job};
@@ -32,7 +32,13 @@ pub(crate) enum Running<R: Drop, K: Drop> {
         job: Job<Global, R, K>,
         since: u64,
     },
-    /// A lane runs it, or will.
+    /// The client's port has not answered yet. The connection was begun at `since`, in microseconds.
+    Connecting {
+        outgoing: Outgoing,
+        job: Job<Global, R, K>,
+        since: u64,
+    },
+    /// It is on the session's ticket: a lane runs it, or will.
     Moving {
         connection: DataConnection,
         is_aborted: bool,
@@ -49,7 +55,11 @@ pub(crate) fn over<R: Drop, K: Drop>(end: End, job: Job<Global, R, K>) -> Runnin
         Job::TakeFile(sink, _) => Some(sink),
         Job::Text(_) | Job::SendFile(_, _) => None,
     };
-    Running::Over(TransferEnd { end, sink })
+    Running::Over(TransferEnd {
+        end,
+        sink,
+        moved: 0,
+    })
 }
 
 /// Returns whether octets are received.
@@ -94,11 +104,24 @@ pub(crate) fn lane_job<R: Source, K: Sink>(
 }
 
 /// The sink of a job that no lane took.
-pub(crate) fn sink_of<R: Source, K: Sink>(job: LaneJob<R, K, DataConnection>) -> Option<K>
+fn sink_of<R: Source, K: Sink>(job: LaneJob<R, K, DataConnection>) -> Option<K>
     ensures sink { result ≡ sink_of job }
 {
     match job {
         LaneJob::Send { .. } => None,
         LaneJob::Take { sink, .. } => Some(sink),
     }
+}
+
+/// A transfer that was taken back before a lane had begun it.
+pub(crate) fn taken_back<R: Source, K: Sink>(
+    job: LaneJob<Served<Global, R>, K, DataConnection>,
+) -> Running<R, K>
+    ensures back { result ≡ taken_back job }
+{
+    Running::Over(TransferEnd {
+        end: End::Aborted,
+        sink: sink_of(job),
+        moved: 0,
+    })
 }

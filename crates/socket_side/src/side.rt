@@ -1,28 +1,34 @@
 //! The data side of a session.
 
-ghost use Rattle.std.specs.Prelude.{◌≡◌, IfNone, IfSome, IsTrue, false};
+ghost use Rattle.std.specs.Prelude.{◌≡◌, IfNone, IfSome, IsTrue, false, true};
 ghost use Rattle.session_core.specs.declared.events.DataEvent.TheVariants.{Ready};
 ghost use Rattle.server_house.specs.declared.cause.EndCause.TheVariants as cause;
 ghost use Rattle.session_table.specs.declared.inputs.End.TheVariants.{Aborted, NoConnection, NoMemory};
 ghost use Rattle.socket_side.specs.Causes.{AbortCause, GoesCause, LookCause, StartCause, TakenCause, cause_of};
-ghost use Rattle.socket_side.specs.Running.{GoesOn, IsAwaited, IsHandedOver, IsNoTarget, Looks, RestsOn, Settles, Starts, TakesEnd, aborted, event_of, is_busy, over, port_in};
+ghost use Rattle.socket_side.specs.Running.{Aborts, GoesOn, IsAwaited, IsConnecting, IsHandedOver, IsNoTarget, Looks, RestsOn, Settles, Starts, TakesEnd, event_of, is_busy, is_moving, over, port_in};
+ghost use Rattle.transfer_ticket.specs.Tickets as ticket;
+ghost use Rattle.transfer_ticket.specs.Views.{owner_view};
+ghost use Rattle.transfer_ticket.specs.declared.view.TicketView.TheVariants.{Idle};
 
 use crate::ports::SharedPorts;
-use crate::running::{Prepared, Running, is_upload, lane_job, over, sink_of};
-use data_sockets::{DataConnection, TransferEnd, accept_from, socket_address};
+use crate::run::{SessionRun, Taken};
+use crate::running::{Prepared, Running, is_upload, lane_job, over};
+use data_sockets::{DataConnection, Outgoing, Progress, TransferEnd, accept_from, socket_address};
 use event_word::{has_passed, micros};
 use ftp_wire::HostPort;
 use handler_hooks::Hooks;
 use lent_parts::PartsName;
 use passive_ports::{MOST_TRIES, open_passive};
-use server_house::{EndCause, House};
+use server_house::{EndCause, House, LaneEnds, SessionEnd, SessionJob};
 use session_core::DataEvent;
 use session_table::{End, Job};
 use std::alloc::Global;
+use std::io::ErrorKind;
 use std::net::{Net, TcpListener, TcpStream};
 use std::sync::Wait;
 use std::time::{Clock, Duration};
-use std::{io, mem};
+use std::{io, mem, thread};
+use transfer_ticket::TicketOwner;
 use virtual_tree::Store;
 
 /// The time without progress after which a read or write of a data connection fails, in milliseconds: a third of a
@@ -33,11 +39,18 @@ const STANDSTILL: u64 = 20_000;
 /// The time for a client to connect to its passive port, in microseconds.
 const PATIENCE: u64 = 60_000_000;
 
-/// The time-out for connecting to a client's port, in milliseconds.
-const CONNECTING: u64 = 5_000;
+/// The time for a client's port to answer, in microseconds.
+const CONNECTING: u64 = 5_000_000;
 
-/// The longest wait of one look at the running transfer, in milliseconds.
-const LOOK: u64 = 20;
+/// The longest wait for the end of a moving transfer before the session reads its control connection, in milliseconds.
+/// The end wakes it at once.
+const LOOK: u64 = 50;
+
+/// The time in which a data connection usually comes, in microseconds: the session looks for it each millisecond.
+const USUAL: u64 = 100_000;
+
+/// The time between two looks for one that has not come by then, in milliseconds.
+const SELDOM: u64 = 20;
 
 // The end of a transfer: that which its lane reports, or `Aborted` if it was aborted.
 fn end_of(is_aborted: bool, end: End) -> End
@@ -58,7 +71,7 @@ fn cause_of(is_aborted: bool, end: End, fault: Option<io::Error>) -> Option<EndC
         End::Done => None,
         End::Lost => Some(EndCause::Connection(fault)),
         End::Local | End::Full => Some(EndCause::File),
-        End::NoConnection => Some(EndCause::NoLane),
+        End::NoConnection => Some(EndCause::NoClient),
         End::NoMemory => Some(EndCause::NoMemory),
         End::Aborted => Some(EndCause::ServerEnds),
     }
@@ -69,30 +82,26 @@ fn event_of<K: Drop>(end: Option<TransferEnd<K>>) -> Option<DataEvent<K>>
     ensures event { result ≡ event_of end }
 {
     match end {
-        Some(TransferEnd { end, sink }) => Some(DataEvent::Ended { end, sink }),
+        Some(TransferEnd { end, sink, .. }) => Some(DataEvent::Ended { end, sink }),
         None => None,
     }
 }
 
-/// The data side of the session of one control connection.
-#[derive(Drop)]
+/// The data side of the session of one control connection. It cannot be dropped: it leaves its ticket.
 pub struct SocketSide<'h, R, S: Store<Global>, H: Hooks, B: PartsName> {
     rt: &'h R,
     house: &'h House<S, H, B>,
     peer: [u8; 4],
-    // the number of the connection, by which lanes identify the session
-    key: usize,
+    // the number of its ticket, and its right to that
     session: u32,
+    run: SessionRun<'h, S>,
     prepared: Prepared,
-    running: Running<S::Source, S::Sink>,
     // the reason for the last end that was made or taken, unless it is that all was moved
     cause: Option<EndCause>,
     // the result of opening a port, to be reported: the port, or that none was free
     ready: Option<Option<u16>>,
     // the error for which none could be listened on
     port_fault: Option<io::Error>,
-    // the number of ends reported when the transfer was handed over
-    seen: u64,
 }
 
 impl<'h, R, S, H, B> SocketSide<'h, R, S, H, B>
@@ -102,37 +111,36 @@ where
     H: Hooks,
     B: PartsName,
 {
-    /// A data side with nothing prepared and nothing running.
+    /// The data side of the session with this number, at its ticket, with nothing prepared and nothing running.
     pub fn new(
         rt: &'h R,
         house: &'h House<S, H, B>,
         peer: [u8; 4],
-        key: usize,
         session: u32,
+        owner: TicketOwner<'h, SessionJob<S>, SessionEnd<S>, LaneEnds>,
     ) -> Self
+        requires idle { owner_view owner ≡ Idle }
         ensures prepared { result.prepared ≡ Prepared.Nothing }
-        ensures running { result.running ≡ Running.Nothing }
+        ensures running { result.run.running ≡ Running.Nothing }
         ensures ready { result.ready ≡ None }
     {
         SocketSide {
             rt,
             house,
             peer,
-            key,
             session,
+            run: SessionRun::new(owner),
             prepared: Prepared::Nothing,
-            running: Running::Nothing,
             cause: None,
             ready: None,
             port_fault: None,
-            seen: 0,
         }
     }
 
     /// Drops what was prepared; a port then rests.
     pub fn drop_data(&mut self)
         ensures prepared { self.new.prepared ≡ Prepared.Nothing }
-        ensures running { self.new.running ≡ self.old.running }
+        ensures running { self.new.run.running ≡ self.old.run.running }
         ensures ready { self.new.ready ≡ self.old.ready }
         ensures cause { self.new.cause ≡ self.old.cause }
     {
@@ -151,7 +159,7 @@ where
     // Leases a port and listens on it. If none could be listened on, the error of the last is kept.
     fn listening(&mut self) -> Option<(u16, TcpListener)>
         ensures prepared { self.new.prepared ≡ self.old.prepared }
-        ensures running { self.new.running ≡ self.old.running }
+        ensures running { self.new.run.running ≡ self.old.run.running }
         ensures cause { self.new.cause ≡ self.old.cause }
     {
         let mut ports = SharedPorts {
@@ -185,7 +193,7 @@ where
     pub fn open_passive(&mut self)
         ensures ready { self.new.ready ≡ Some (port_in self.new.prepared) }
         ensures prepared { IsNoTarget self.new.prepared }
-        ensures running { self.new.running ≡ self.old.running }
+        ensures running { self.new.run.running ≡ self.old.run.running }
     {
         self.drop_data();
         match self.listening() {
@@ -200,24 +208,17 @@ where
     /// Makes the next transfer connect to this port.
     pub fn connect_to(&mut self, to: HostPort)
         ensures prepared { self.new.prepared ≡ Prepared.Target to }
-        ensures running { self.new.running ≡ self.old.running }
+        ensures running { self.new.run.running ≡ self.old.run.running }
         ensures ready { self.new.ready ≡ self.old.ready }
     {
         self.drop_data();
         self.prepared = Prepared::Target(to);
     }
 
-    // Number of ends reported.
-    fn told_so_far(&self) -> u64 {
-        match self.house.cells.get(self.key) {
-            Some(cell) => cell.seen(),
-            None => 0,
-        }
-    }
-
     // Hands a transfer to the lanes.
     fn hand_over(&mut self, stream: TcpStream, job: Job<Global, S::Source, S::Sink>, user: u32)
-        ensures running { IsHandedOver job self.new.running }
+        requires nothing { self.old.run.running ≡ Running.Nothing }
+        ensures running { IsHandedOver job self.new.run.running }
         ensures prepared { self.new.prepared ≡ self.old.prepared }
         ensures ready { self.new.ready ≡ self.old.ready }
     {
@@ -226,74 +227,64 @@ where
         if is_upload(&job) {
             let _ = stream.set_read_timeout(Some(Duration::from_millis(3 * STANDSTILL)));
         }
-        self.seen = self.told_so_far();
-        match self.house.cells.get(self.key) {
-            Some(cell) => cell.begin(),
-            None => {}
-        }
-        self.running = match DataConnection::new(self.rt.alloc(), stream) {
+        match DataConnection::new(self.rt.alloc(), stream) {
             Ok(own) => match own.another() {
-                Ok(theirs) => self.push(own, theirs, job, user),
-                Err(_) => self.without_memory(job),
+                Ok(theirs) => self.put(own, theirs, job, user),
+                Err(_) => self.end_unbegun(job),
             },
-            Err(_) => self.without_memory(job),
-        };
+            Err(_) => self.end_unbegun(job),
+        }
     }
 
-    // A transfer for which there is no memory.
-    fn without_memory(
-        &mut self,
-        job: Job<Global, S::Source, S::Sink>,
-    ) -> Running<S::Source, S::Sink>
-        ensures over { result ≡ over NoMemory job }
+    // Ends a transfer for which there is no memory.
+    fn end_unbegun(&mut self, job: Job<Global, S::Source, S::Sink>)
+        requires nothing { self.old.run.running ≡ Running.Nothing }
+        ensures running { self.new.run.running ≡ over NoMemory job }
         ensures cause { self.new.cause ≡ Some cause.NoMemory }
         ensures prepared { self.new.prepared ≡ self.old.prepared }
         ensures ready { self.new.ready ≡ self.old.ready }
     {
         self.cause = Some(EndCause::NoMemory);
-        over(End::NoMemory, job)
+        self.run.running = over(End::NoMemory, job);
     }
 
-    fn push(
+    // Puts a transfer on the ticket.
+    fn put(
         &mut self,
         own: DataConnection,
         theirs: DataConnection,
         job: Job<Global, S::Source, S::Sink>,
         user: u32,
-    ) -> Running<S::Source, S::Sink>
-        ensures running { IsHandedOver job result }
+    )
+        requires nothing { self.old.run.running ≡ Running.Nothing }
+        ensures running { self.new.run.running ≡ Running.Moving own false }
         ensures prepared { self.new.prepared ≡ self.old.prepared }
         ensures ready { self.new.ready ≡ self.old.ready }
+        ensures cause { self.new.cause ≡ self.old.cause }
     {
         let job = lane_job(job, theirs, user, self.session);
-        let mut pass = self.house.pass.lock(self.rt);
-        match self.house.board.push(self.rt, &mut *pass, job) {
-            Ok(()) => {
-                self.house.jobs.signal_one();
-                Running::Moving {
-                    connection: own,
-                    is_aborted: false,
-                }
-            }
-            Err(job) => {
-                self.cause = Some(EndCause::NoLane);
-                Running::Over(TransferEnd {
-                    end: End::NoConnection,
-                    sink: sink_of(job),
-                })
-            }
+        if self.run.put(own, job) {
+            self.list();
         }
+        self.house.jobs.signal_one();
+    }
+
+    // Appends the number of the ticket to those with a transfer that waits. There is room for each number once.
+    fn list(&self) {
+        let mut pass = self.house.pass.lock(self.rt);
+        let _ = self.house.board.push(self.rt, &mut *pass, self.session);
     }
 
     // Ends a transfer that got no data connection.
     fn end_without(&mut self, why: EndCause, job: Job<Global, S::Source, S::Sink>)
-        ensures running { self.new.running ≡ over NoConnection job }
+        requires nothing { self.old.run.running ≡ Running.Nothing }
+        ensures running { self.new.run.running ≡ over NoConnection job }
         ensures cause { self.new.cause ≡ Some why }
         ensures prepared { self.new.prepared ≡ self.old.prepared }
         ensures ready { self.new.ready ≡ self.old.ready }
     {
         self.cause = Some(why);
-        self.running = over(End::NoConnection, job);
+        self.run.running = over(End::NoConnection, job);
     }
 
     // The peer whose connections are accepted.
@@ -318,7 +309,8 @@ where
         since: u64,
         user: u32,
     )
-        ensures running { IsAwaited listener port job since self.new.running }
+        requires nothing { self.old.run.running ≡ Running.Nothing }
+        ensures running { IsAwaited listener port job since self.new.run.running }
         ensures prepared { self.new.prepared ≡ self.old.prepared }
         ensures ready { self.new.ready ≡ self.old.ready }
     {
@@ -332,7 +324,7 @@ where
                     self.close_port(listener, port);
                     self.end_without(EndCause::NoClient, job);
                 } else {
-                    self.running = Running::Awaited {
+                    self.run.running = Running::Awaited {
                         listener,
                         port,
                         job,
@@ -343,24 +335,76 @@ where
         }
     }
 
-    /// Begins a transfer of a user over the connection that was prepared.
+    // Checks once whether the client's port has answered.
+    fn await_answer(
+        &mut self,
+        outgoing: Outgoing,
+        job: Job<Global, S::Source, S::Sink>,
+        since: u64,
+        user: u32,
+    )
+        requires nothing { self.old.run.running ≡ Running.Nothing }
+        ensures running { IsConnecting job since self.new.run.running }
+        ensures prepared { self.new.prepared ≡ self.old.prepared }
+        ensures ready { self.new.ready ≡ self.old.ready }
+    {
+        match outgoing.progress() {
+            Progress::Connected(stream) => self.hand_over(stream, job, user),
+            Progress::Failed(error) => self.end_without(EndCause::NotConnected(error), job),
+            Progress::Pending(outgoing) => {
+                if has_passed(since, micros(self.rt), CONNECTING) {
+                    let error = io::Error::from(ErrorKind::TimedOut);
+                    self.end_without(EndCause::NotConnected(error), job);
+                } else {
+                    self.run.running = Running::Connecting {
+                        outgoing,
+                        job,
+                        since,
+                    };
+                }
+            }
+        }
+    }
+
+    // Begins a connection to a client's port.
+    fn connect(&mut self, to: HostPort, job: Job<Global, S::Source, S::Sink>, user: u32)
+        requires nothing { self.old.run.running ≡ Running.Nothing }
+        ensures running { Starts (Prepared.Target to) job self.new.run.running }
+        ensures prepared { self.new.prepared ≡ self.old.prepared }
+        ensures ready { self.new.ready ≡ self.old.ready }
+    {
+        match Outgoing::begin(self.rt, socket_address(to.address, to.port)) {
+            Ok(outgoing) => {
+                let since = micros(self.rt);
+                self.await_answer(outgoing, job, since, user);
+            }
+            Err(error) => self.end_without(EndCause::NotConnected(error), job),
+        }
+    }
+
+    // Ends what runs: a session begins a transfer when the one before has ended.
+    fn clear(&mut self)
+        ensures running { self.new.run.running ≡ Running.Nothing }
+        ensures prepared { self.new.prepared ≡ self.old.prepared }
+        ensures ready { self.new.ready ≡ self.old.ready }
+    {
+        self.abort();
+        self.await_end();
+    }
+
+    /// Begins a transfer of a user over the connection that was prepared. One that runs is ended first.
     pub fn start(&mut self, job: Job<Global, S::Source, S::Sink>, user: u32)
-        ensures running { Starts self.old.prepared job self.new.running }
+        ensures running { Starts self.old.prepared job self.new.run.running }
         ensures prepared { self.new.prepared ≡ Prepared.Nothing }
         ensures ready { self.new.ready ≡ self.old.ready }
         ensures cause { StartCause self.old.prepared self.new.cause }
     {
+        self.clear();
         let prepared = mem::replace(&mut self.prepared, Prepared::Nothing);
         self.cause = None;
         match prepared {
             Prepared::Nothing => self.end_without(EndCause::NothingPrepared, job),
-            Prepared::Target(to) => {
-                let at = socket_address(to.address, to.port);
-                match TcpStream::connect_timeout(self.rt, &at, Duration::from_millis(CONNECTING)) {
-                    Ok(stream) => self.hand_over(stream, job, user),
-                    Err(error) => self.end_without(EndCause::NotConnected(error), job),
-                }
-            }
+            Prepared::Target(to) => self.connect(to, job, user),
             Prepared::Listening(listener, port) => {
                 let since = micros(self.rt);
                 self.await_client(listener, port, job, since, user);
@@ -368,139 +412,90 @@ where
         }
     }
 
-    /// Aborts the running transfer; a later look reports its end.
+    /// Aborts the running transfer; a later look reports its end. One that waits for a lane is over at once, and one that
+    /// a lane runs before its next ask, whatever its rates have left.
     pub fn abort(&mut self)
-        ensures running { self.new.running ≡ aborted self.old.running }
+        ensures running { Aborts (owner_view self.old.run.owner) self.old.run.running
+            self.new.run.running }
         ensures prepared { self.new.prepared ≡ self.old.prepared }
         ensures ready { self.new.ready ≡ self.old.ready }
-        ensures cause { AbortCause self.old.running self.old.cause self.new.cause }
+        ensures cause { AbortCause self.old.run.running self.new.run.running self.old.cause
+            self.new.cause }
     {
-        let before = mem::replace(&mut self.running, Running::Nothing);
-        self.running = match before {
-            Running::Awaited {
-                listener,
-                port,
-                job,
-                since: _,
-            } => {
-                self.close_port(listener, port);
-                self.cause = Some(EndCause::Aborted);
-                over(End::Aborted, job)
-            }
-            Running::Moving {
-                connection,
-                is_aborted: _,
-            } => {
-                match self.house.cells.get(self.key) {
-                    Some(cell) => cell.abort(),
-                    None => {}
-                }
-                connection.abort();
-                Running::Moving {
-                    connection,
-                    is_aborted: true,
-                }
-            }
-            Running::Nothing => Running::Nothing,
-            Running::Over(told) => Running::Over(told),
-        };
-    }
-
-    // The end reported by the lane, if there is one.
-    fn told(&self) -> Option<TransferEnd<S::Sink>> {
-        match self.house.cells.get(self.key) {
-            Some(cell) => cell.take(self.rt),
-            None => None,
+        let is_open = !matches!(&self.run.running, Running::Nothing | Running::Over(_));
+        if let Some((listener, port)) = self.run.abort() {
+            self.close_port(listener, port);
+        }
+        if is_open && matches!(&self.run.running, Running::Over(_)) {
+            self.cause = Some(EndCause::Aborted);
         }
     }
 
     // Takes the end of the running transfer, if it has ended. If it was aborted, the end is `Aborted` whatever the lane
     // reports. The connection is closed first, so that the client reads the end of the data no later than the reply.
     fn take_end(&mut self) -> Option<TransferEnd<S::Sink>>
-        ensures running { TakesEnd self.old.running result self.new.running }
+        ensures running { TakesEnd (owner_view self.old.run.owner) self.old.run.running result
+            self.new.run.running }
         ensures prepared { self.new.prepared ≡ self.old.prepared }
         ensures ready { self.new.ready ≡ self.old.ready }
-        ensures cause { TakenCause self.old.running result self.old.cause self.new.cause }
+        ensures cause { TakenCause self.old.run.running result self.old.cause self.new.cause }
     {
-        let before = mem::replace(&mut self.running, Running::Nothing);
-        match before {
-            Running::Nothing => None,
-            Running::Over(told) => Some(told),
-            Running::Awaited {
-                listener,
-                port,
-                job,
-                since,
-            } => {
-                self.running = Running::Awaited {
+        match self.run.take_end() {
+            Taken::Nothing => None,
+            Taken::Unbegun(told) => Some(told),
+            Taken::Reported(told, is_aborted, fault) => {
+                let TransferEnd { end, sink, moved } = told;
+                self.cause = cause_of(is_aborted, end, fault);
+                Some(TransferEnd {
+                    end: end_of(is_aborted, end),
+                    sink,
+                    moved,
+                })
+            }
+        }
+    }
+
+    // Accepts the client's connection, if it has come, or takes that to its port, if it is there.
+    fn go_on(&mut self, user: u32)
+        ensures running { GoesOn self.old.run.running self.new.run.running }
+        ensures ticket { is_moving self.old.run.running ≡ true
+            → owner_view self.new.run.owner ≡ owner_view self.old.run.owner }
+        ensures prepared { self.new.prepared ≡ self.old.prepared }
+        ensures ready { self.new.ready ≡ self.old.ready }
+        ensures cause { GoesCause self.old.run.running self.old.cause self.new.cause }
+    {
+        match self.run.take_out() {
+            Some(
+                Running::Awaited {
                     listener,
                     port,
                     job,
                     since,
-                };
-                None
-            }
-            Running::Moving {
-                connection,
-                is_aborted,
-            } => match self.told() {
-                Some(TransferEnd { end, sink }) => {
-                    self.cause = cause_of(is_aborted, end, connection.fault());
-                    drop(connection);
-                    Some(TransferEnd {
-                        end: end_of(is_aborted, end),
-                        sink,
-                    })
-                }
-                None => {
-                    self.running = Running::Moving {
-                        connection,
-                        is_aborted,
-                    };
-                    None
-                }
-            },
-        }
-    }
-
-    // Accepts the client's connection, if it has come.
-    fn go_on(&mut self, user: u32)
-        ensures running { GoesOn self.old.running self.new.running }
-        ensures prepared { self.new.prepared ≡ self.old.prepared }
-        ensures ready { self.new.ready ≡ self.old.ready }
-        ensures cause { GoesCause self.old.running self.old.cause self.new.cause }
-    {
-        let before = mem::replace(&mut self.running, Running::Nothing);
-        match before {
-            Running::Awaited {
-                listener,
-                port,
-                job,
-                since,
-            } => self.await_client(listener, port, job, since, user),
-            Running::Nothing => {}
-            Running::Moving {
-                connection,
-                is_aborted,
-            } => {
-                self.running = Running::Moving {
-                    connection,
-                    is_aborted,
-                };
-            }
-            Running::Over(told) => self.running = Running::Over(told),
+                },
+            ) => self.await_client(listener, port, job, since, user),
+            Some(
+                Running::Connecting {
+                    outgoing,
+                    job,
+                    since,
+                },
+            ) => self.await_answer(outgoing, job, since, user),
+            Some(Running::Over(told)) => self.run.running = Running::Over(told),
+            Some(Running::Moving { .. }) => unreachable!(),
+            Some(Running::Nothing) | None => {}
         }
     }
 
     /// Reports a port, or the end of this user's transfer; `None` if there is neither yet. Does not wait.
     pub fn look(&mut self, user: u32) -> Option<DataEvent<S::Sink>>
         ensures port { IfSome self.old.ready (λ port. (result ≡ Some (Ready port))
-            × (self.new.running ≡ self.old.running)) }
-        ensures end { IfNone self.old.ready (Looks self.old.running result self.new.running) }
+            × (self.new.run.running ≡ self.old.run.running)) }
+        ensures end { IfNone self.old.ready (Looks (owner_view self.old.run.owner)
+            self.old.run.running result self.new.run.running) }
         ensures ready { self.new.ready ≡ None }
         ensures prepared { self.new.prepared ≡ self.old.prepared }
         ensures cause { IfNone self.old.ready
-            (LookCause self.old.running result self.old.cause self.new.cause) }
+            (LookCause self.old.run.running result self.old.cause self.new.cause) }
     {
         if let Some(port) = self.ready.take() {
             return Some(DataEvent::Ready(port));
@@ -511,39 +506,42 @@ where
 
     /// Returns whether the end of something begun is not yet reported.
     pub fn is_busy(&self) -> bool
-        ensures busy { result ≡ is_busy self.now.running }
+        ensures busy { result ≡ is_busy self.now.run.running }
     {
-        !matches!(&self.running, Running::Nothing)
+        !matches!(&self.run.running, Running::Nothing)
     }
 
-    /// Waits briefly for the end of a moving transfer. Returns whether there is, or may be, something to report.
+    /// Waits briefly for the end of a moving transfer, or for a data connection that is late. Returns whether there is
+    /// something to report.
     pub fn rest(&self) -> bool
-        ensures over { RestsOn self.now.running result }
+        ensures over { RestsOn self.now.run.running result }
     {
-        match &self.running {
-            Running::Moving { .. } => match self.house.cells.get(self.key) {
-                Some(cell) => {
-                    cell.wait(self.rt, self.seen, 0, Duration::from_millis(LOOK));
-                    cell.seen() != self.seen
-                }
-                None => true,
-            },
+        match &self.run.running {
+            Running::Moving { .. } => self.run.owner.rest(self.rt, Duration::from_millis(LOOK)),
             Running::Over(_) => true,
-            Running::Nothing | Running::Awaited { .. } => false,
+            Running::Nothing => false,
+            Running::Awaited { since, .. } | Running::Connecting { since, .. } => {
+                if has_passed(*since, micros(self.rt), USUAL) {
+                    thread::sleep(self.rt, Duration::from_millis(SELDOM));
+                }
+                false
+            }
         }
     }
 
     // Waits for the end of the running transfer and reports it.
     fn await_end(&mut self) -> Option<DataEvent<S::Sink>>
-        ensures settled { Settles self.old.running result }
-        ensures running { self.new.running ≡ Running.Nothing }
+        ensures settled { Settles self.old.run.running result }
+        ensures running { self.new.run.running ≡ Running.Nothing }
         ensures prepared { self.new.prepared ≡ self.old.prepared }
         ensures ready { self.new.ready ≡ self.old.ready }
     {
         let rt = self.rt;
         for _ in rt.forever() {
             match self.take_end() {
-                Some(TransferEnd { end, sink }) => return Some(DataEvent::Ended { end, sink }),
+                Some(TransferEnd { end, sink, .. }) => {
+                    return Some(DataEvent::Ended { end, sink });
+                }
                 None => {
                     if !self.is_busy() {
                         return None;
@@ -555,19 +553,38 @@ where
         unreachable!()
     }
 
-    /// Waits for the end of the running transfer and reports it; aborts it if no client has come. Drops what was
+    /// Waits for the end of the running transfer and reports it; aborts it if there is no connection yet. Drops what was
     /// prepared.
     pub fn settle(&mut self) -> Option<DataEvent<S::Sink>>
-        ensures settled { Settles self.old.running result }
-        ensures running { self.new.running ≡ Running.Nothing }
+        ensures settled { Settles self.old.run.running result }
+        ensures running { self.new.run.running ≡ Running.Nothing }
         ensures prepared { self.new.prepared ≡ Prepared.Nothing }
         ensures ready { self.new.ready ≡ None }
     {
         self.drop_data();
         self.ready = None;
-        if let Running::Awaited { .. } = &self.running {
+        if let Running::Awaited { .. } | Running::Connecting { .. } = &self.run.running {
             self.abort();
         }
         self.await_end()
+    }
+
+    /// Leaves the ticket to the next session. A transfer that still runs is ended.
+    pub fn leave(self) {
+        let mut side = self;
+        side.drop_data();
+        side.clear();
+        let SocketSide {
+            rt: _,
+            house: _,
+            peer: _,
+            session: _,
+            run,
+            prepared: _,
+            cause: _,
+            ready: _,
+            port_fault: _,
+        } = side;
+        run.leave();
     }
 }

@@ -754,6 +754,42 @@ def notes():
         want(not re.search("secret|wrong|sekret", server.noted()), "what is not to be noted")
 
 
+HOMES = """
+[[user]]
+name = "ann"
+password = "secret"
+home = "/a"
+[[user]]
+name = "bob"
+password = "b"
+home = "/b"
+[[user]]
+name = "cem"
+password = "c"
+home = "/f"
+[[user]]
+name = "dan"
+password = "d"
+home = "/l"
+"""
+
+
+def warnings_of_the_machine_are_noted():
+    """At the start a server warns of homes that its folder does not have, and of passwords that everybody may read."""
+    server = Server(root="folder", files={"a": None, "f": b""}, users=HOMES, passive=64, mode=0o604)
+    os.symlink("a", f"{server.folder}/l")
+    with server:
+        public = "everybody on this machine may read the passwords of this file; make it readable by its owner and group alone"
+        missed = [f"{home}, the home of user {name}, is no directory" for name, home in (("bob", "/b"), ("cem", "/f"), ("dan", "/l"))]
+        same(server.warned(), [public, *missed], "the warnings")
+        Client(server).quit()
+        server.ended()
+    with Server(root="folder", files={"a": None, "b": None, "f": None, "l": None}, users=HOMES, passive=64, mode=0o640) as server:
+        same(server.warned(), [], "the warnings of one of which nothing is to be warned")
+        Client(server).quit()
+        server.ended()
+
+
 def ftplib_as_it_is():
     """Python's client: passive and active, storing and reading, lists, and its own abort."""
     with Server(server="capacity = 50000000") as server:
@@ -810,5 +846,6 @@ ROWS = [
     a_rate_is_kept,
     rates_of_two_users,
     notes,
+    warnings_of_the_machine_are_noted,
     ftplib_as_it_is,
 ]

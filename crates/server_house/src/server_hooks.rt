@@ -22,8 +22,6 @@ pub enum SessionEvent {
     NoPort(io::Error),
     /// The session ends, since its client has passed a limit of time.
     TimedOut(TimeOut),
-    /// The running transfer was cut by the end of its session.
-    Cut(EndCause),
 }
 
 /// An event of the whole server.
@@ -35,6 +33,40 @@ pub enum ServerEvent {
     NotAccepted(io::Error),
     /// Fewer files may be open (the first number) than all clients together may need (the second).
     FewDescriptors(u64, u64),
+}
+
+/// The kind of a transfer.
+#[derive(Clone, Copy, Debug, PartialEq, Eq)]
+pub enum TransferKind {
+    /// A file was sent to the client.
+    Sent,
+    /// A file was received from the client.
+    Received,
+    /// A listing was sent to the client.
+    Listed,
+}
+
+/// A transfer that began and has ended, whoever ended it.
+#[derive(Clone, Copy)]
+pub struct TransferRecord<'a> {
+    /// The address of the session's client.
+    pub peer: [u8; 4],
+    /// The number of the session.
+    pub session: usize,
+    /// The user who was logged in when it began.
+    pub user: &'a str,
+    pub kind: TransferKind,
+    /// The path of the file, if it is known: it is not for a listing, nor for a transfer that was cut by the end of its
+    /// session.
+    pub path: Option<&'a str>,
+    /// Its type is that of texts (TYPE A).
+    pub is_text: bool,
+    /// The octets that were moved.
+    pub octets: u64,
+    /// The time from its beginning to its end, in microseconds.
+    pub micros: u64,
+    /// The reason for which it did not come to its end; none if it did.
+    pub cause: Option<EndCause>,
 }
 
 /// Tells the handler of the server's owner whose session the calls of [`Hooks`] are about, and what happened to the
@@ -52,4 +84,7 @@ pub trait ServerHooks: Hooks {
 
     /// An event of the server.
     fn on_server(&mut self, event: ServerEvent);
+
+    /// A transfer has ended. It is called also if its session is gone, and about no session that is attended.
+    fn on_transfer(&mut self, record: &TransferRecord<'_>);
 }

@@ -1,2 +1,4 @@
+pub mod Levels
 pub mod Moments
+pub mod Transfers
 pub mod Words

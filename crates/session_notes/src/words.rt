@@ -18,10 +18,6 @@ pub(crate) enum Noted {
     Login,
     LoginFailed,
     Logout,
-    Sent,
-    Received,
-    NotSent,
-    NotReceived,
 }
 
 fn event_words(event: Noted) -> &'static str
@@ -33,10 +29,6 @@ fn event_words(event: Noted) -> &'static str
         Noted::Login => "login",
         Noted::LoginFailed => "login failed",
         Noted::Logout => "logout",
-        Noted::Sent => "sent",
-        Noted::Received => "received",
-        Noted::NotSent => "not sent whole",
-        Noted::NotReceived => "not received whole",
     }
 }
 
@@ -129,7 +121,6 @@ fn session_words(event: SessionEvent) -> &'static str
         SessionEvent::NoPort(_) => "no passive port",
         SessionEvent::TimedOut(TimeOut::Login) => "timed out without a login",
         SessionEvent::TimedOut(TimeOut::Idle) => "timed out without a sign of life",
-        SessionEvent::Cut(_) => "transfer cut",
     }
 }
 
@@ -143,10 +134,6 @@ impl fmt::Display for SessionText {
         match self.0 {
             SessionEvent::NoPort(error) => write!(f, "{words}: {error}"),
             SessionEvent::TimedOut(_) => f.write_str(words),
-            SessionEvent::Cut(cause) => {
-                let cause = CauseText(cause);
-                write!(f, "{words}: {cause}")
-            }
         }
     }
 }

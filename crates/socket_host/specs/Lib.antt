@@ -1,3 +1,4 @@
 pub mod Cuts
+pub mod Records
 pub mod Texts
 pub mod Unsaid

@@ -11,6 +11,7 @@ ghost use Rattle.session_table.specs.Steps.{asks_floors};
 ghost use Rattle.session_table.specs.Views.{is_closed};
 ghost use Rattle.std.specs.FinMap as map;
 ghost use Rattle.socket_host.specs.Cuts.{cause_of_cut};
+ghost use Rattle.socket_host.specs.Records.{ends_listing, is_end, is_text, job_kind, kind_of};
 ghost use Rattle.socket_host.specs.Texts.{is_without_port, time_out_reply};
 ghost use Rattle.socket_host.specs.Unsaid.{AnyCall};
 
@@ -20,12 +21,16 @@ use authorizer::Authorizer;
 use client_patience::{TimeOut, Waits};
 use control_session::{DataEvent, Host, Leaving, Piece, Session, close_by, end_by, step_by};
 use event_word::{has_passed, micros};
+use ftp_terms::DataType;
 use ftp_wire::HostPort;
 use handler_hooks::{Hooks, tell};
 use lent_parts::PartsName;
 use line_rates::Limits;
 use rate_floors::Floors;
-use server_house::{EndCause, House, ServerHooks, SessionEvent, ShutdownStage, copy_settings};
+use server_house::{
+    EndCause, House, ServerHooks, SessionEvent, ShutdownStage, TransferKind, TransferRecord,
+    copy_settings,
+};
 use session_table::{Action, End, HookCall, Input, Job, Settings, Text};
 use socket_side::SocketSide;
 use std::alloc::{AllocError, Global};
@@ -102,6 +107,74 @@ fn number_of(users: &Authorizer, name: &str) -> u32
     }
 }
 
+// The kind and the path of the file whose end a call reports, if it reports one.
+fn file_of(call: &HookCall<Global>) -> Option<(TransferKind, &str)>
+    ensures kind { option_map (λ file. file.0) result ≡ kind_of call.now }
+{
+    match call {
+        HookCall::FileSent(path) => Some((TransferKind::Sent, path.text())),
+        HookCall::IncompleteFileSent(path) => Some((TransferKind::Sent, path.text())),
+        HookCall::FileReceived(path) => Some((TransferKind::Received, path.text())),
+        HookCall::IncompleteFileReceived(path) => Some((TransferKind::Received, path.text())),
+        _ => None,
+    }
+}
+
+// Returns whether a transfer has the type of texts.
+fn is_text<R, K>(job: &Job<Global, R, K>) -> bool
+    ensures text { result ≡ is_text job.now }
+{
+    match job {
+        Job::Text(_) => true,
+        Job::SendFile(_, data_type) | Job::TakeFile(_, data_type) => *data_type == DataType::Ascii,
+    }
+}
+
+// The kind of a transfer.
+fn kind_of<R, K>(job: &Job<Global, R, K>) -> TransferKind
+    ensures kind { result ≡ job_kind job.now }
+{
+    match job {
+        Job::Text(_) => TransferKind::Listed,
+        Job::SendFile(_, _) => TransferKind::Sent,
+        Job::TakeFile(_, _) => TransferKind::Received,
+    }
+}
+
+// Returns whether an event is the end of a transfer.
+fn is_end<K>(event: &Option<DataEvent<K>>) -> bool
+    ensures end { result ≡ is_end event.now }
+{
+    matches!(event, Some(DataEvent::Ended { .. }))
+}
+
+// Returns whether an event is the end of a listing, if the last transfer was of this kind.
+fn ends_listing<K>(event: &Option<DataEvent<K>>, kind: TransferKind) -> bool
+    ensures ends { result ≡ ends_listing event.now kind }
+{
+    match (event, kind) {
+        (Some(DataEvent::Ended { .. }), TransferKind::Listed) => true,
+        _ => false,
+    }
+}
+
+// A transfer that was begun, at `since` in microseconds.
+#[derive(Clone, Copy)]
+struct Begun {
+    since: u64,
+    kind: TransferKind,
+    // its type is that of texts
+    is_text: bool,
+}
+
+// A copy of a name; empty if memory runs out.
+fn copy_name(alloc: Global, name: &str) -> String {
+    match String::from_str(alloc, name) {
+        Ok(name) => name,
+        Err(_) => String::new(alloc),
+    }
+}
+
 /// The host of the session of one control connection. It cannot be dropped: its data side leaves its ticket.
 pub struct SocketHost<'h, R, S: Store<Global>, H: Hooks, B: PartsName> {
     rt: &'h R,
@@ -114,6 +187,10 @@ pub struct SocketHost<'h, R, S: Store<Global>, H: Hooks, B: PartsName> {
     // the number of the user who is logged in, by which rounds identify them
     user: u32,
     waits: Waits,
+    // the name of the user who was logged in last
+    name: String,
+    // the last transfer that was begun
+    begun: Begun,
     // the reply that comes next is to a wrong password
     is_wrong: bool,
     // lent to steps that need no floors
@@ -147,6 +224,12 @@ where
             key,
             user: 0,
             waits: Waits::new(micros(rt)),
+            name: String::new(rt.alloc()),
+            begun: Begun {
+                since: 0,
+                kind: TransferKind::Listed,
+                is_text: true,
+            },
             is_wrong: false,
             no_floors,
         }
@@ -163,6 +246,8 @@ where
             key: _,
             user: _,
             waits: _,
+            name: _,
+            begun: _,
             is_wrong: _,
             no_floors: _,
         } = self;
@@ -197,12 +282,39 @@ where
         match call {
             HookCall::Login(name) => {
                 self.user = number_of(&self.house.users, name.as_str());
+                self.name = copy_name(self.rt.alloc(), name.as_str());
                 self.waits.log_in();
             }
             HookCall::Logout(_) => self.waits.log_out(micros(self.rt)),
             HookCall::LoginFailed(_) => self.is_wrong = true,
             _ => {}
         }
+    }
+
+    // The record of the transfer whose end was reported last.
+    fn record<'c>(
+        &'c self,
+        kind: TransferKind,
+        path: Option<&'c str>,
+        cause: Option<EndCause>,
+    ) -> TransferRecord<'c> {
+        TransferRecord {
+            peer: self.peer,
+            session: self.key,
+            user: self.name.as_str(),
+            kind,
+            path,
+            is_text: self.begun.is_text,
+            octets: self.side.moved(),
+            micros: micros(self.rt).saturating_sub(self.begun.since),
+            cause,
+        }
+    }
+
+    // Reports the end of a transfer whose path is not known.
+    fn report_pathless(&self, cause: Option<EndCause>) {
+        let record = self.record(self.begun.kind, None, cause);
+        self.house.handler.lock(self.rt).on_transfer(&record);
     }
 
     // Reports an event of the session that is none of its steps.
@@ -331,6 +443,9 @@ where
         self.follow(call);
         let mut handler = self.house.handler.lock(self.rt);
         handler.attend(self.peer, self.key, self.side.cause());
+        if let Some((kind, path)) = file_of(call) {
+            handler.on_transfer(&self.record(kind, Some(path), self.side.cause()));
+        }
         tell(&mut *handler, call);
     }
 
@@ -374,6 +489,11 @@ where
 
     fn start(&mut self, job: &mut Option<Job<Global, S::Source, S::Sink>>) {
         if let Some(job) = job.take() {
+            self.begun = Begun {
+                since: micros(self.rt),
+                kind: kind_of(&job),
+                is_text: is_text(&job),
+            };
             self.side.start(job, self.user);
         }
     }
@@ -389,13 +509,16 @@ where
                 self.report(SessionEvent::NoPort(error));
             }
         }
+        if ends_listing(&event, self.begun.kind) {
+            self.report_pathless(self.side.cause());
+        }
         event
     }
 
     fn settle(&mut self) -> Option<DataEvent<S::Sink>> {
         let last = self.side.settle();
-        if let Some(cause) = cause_of_cut(&last, self.is_ending()) {
-            self.report(SessionEvent::Cut(cause));
+        if is_end(&last) {
+            self.report_pathless(cause_of_cut(&last, self.is_ending()));
         }
         last
     }

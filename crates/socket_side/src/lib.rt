@@ -3,8 +3,7 @@
 //!
 //! A [`SocketSide`] begins what it is asked for, and is asked later for the result, as `control_session` defines: a
 //! port that is listened on, or the end of a transfer. Contracts say what is prepared and what runs after each call,
-//! and what is reported. They say nothing of the network and of locks: not that a port is given back, nor which end a
-//! lane has reported.
+//! and what is reported. They say nothing of the network: not that a port is given back, nor that a client comes.
 #![tactic(auto)]
 
 mod ports;

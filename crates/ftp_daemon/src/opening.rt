@@ -14,11 +14,13 @@ use client_patience::Patience;
 use ftpd_program::ServeFault;
 use grant_ledger::{Book, Settled, Tally, settle};
 use handler_hooks::Hooks;
+use last_fault::LastFault;
 use lane_desk::{Desk, LaneSeat, RoundDesk, Worked, open_desk};
 use lane_rounds::RoundClock;
 use line_rates::Limits;
 use passive_ports::{PoolFault, Registry, RestingPorts};
 use rate_floors::Floors;
+use recorded_store::RecordedStore;
 use round_cadence::Cadence;
 use round_pace::Pace;
 use server_config::ServerNumbers;
@@ -41,6 +43,8 @@ pub struct Service<S: Drop, H: Hooks, P: Drop> {
     /// More stores over the same files, one for each connection, if they can be had: then no session waits for a call
     /// of another's.
     pub own_stores: Vec<S>,
+    /// The last error of the machine in each of these, in their order; empty if none can be known.
+    pub errors: Vec<LastFault>,
     /// The owner's callbacks.
     pub handler: H,
     /// The stop sign, if there is one.
@@ -55,8 +59,9 @@ pub(crate) struct Rooms<S: Store<Global>, H: Hooks, P: Drop> {
     pub(crate) settings: Settings,
     pub(crate) numbers: ServerNumbers,
     pub(crate) users: Authorizer,
-    pub(crate) store: S,
-    pub(crate) own_stores: Vec<Mutex<S>>,
+    pub(crate) store: RecordedStore<S>,
+    pub(crate) own_stores: Vec<Mutex<RecordedStore<S>>>,
+    pub(crate) errors: Vec<LastFault>,
     pub(crate) arrivals: Vec<Mutex<Option<TcpStream>>>,
     pub(crate) handler: H,
     pub(crate) stop: Option<P>,
@@ -92,11 +97,14 @@ fn new_lanes(alloc: Global, count: usize) -> Result<Vec<LaneSign>, AllocError> {
     Ok(lanes)
 }
 
-// Each store behind a lock.
-fn locked<S: Drop>(alloc: Global, stores: Vec<S>) -> Result<Vec<Mutex<S>>, AllocError> {
+// Each store, with its records, behind a lock.
+fn locked<S: Drop>(
+    alloc: Global,
+    stores: Vec<S>,
+) -> Result<Vec<Mutex<RecordedStore<S>>>, AllocError> {
     let mut locked = Vec::with_capacity(alloc, stores.len())?;
     for store in stores {
-        locked.push(Mutex::new(store))?;
+        locked.push(Mutex::new(RecordedStore::new(alloc, store)))?;
     }
     Ok(locked)
 }
@@ -154,6 +162,7 @@ where
         limits,
         store,
         own_stores,
+        errors,
         handler,
         stop,
         patience,
@@ -173,8 +182,9 @@ where
         settings,
         numbers,
         users,
-        store,
+        store: RecordedStore::new(alloc, store),
         own_stores,
+        errors,
         arrivals,
         handler,
         stop,

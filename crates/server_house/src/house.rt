@@ -11,9 +11,11 @@ use client_patience::Patience;
 use event_word::{EventCount, SharedEventCount};
 use ftp_terms::LineText;
 use handler_hooks::Hooks;
+use last_fault::LastFault;
 use lent_parts::{LentBoard, LentPass, PartsName};
 use passive_ports::{Registry, RestingPorts};
 use rate_floors::Floors;
+use recorded_store::RecordedStore;
 use server_config::ServerNumbers;
 use session_table::Settings;
 use std::alloc::{AllocError, Global};
@@ -30,10 +32,12 @@ pub struct House<S: Store<Global>, H: Hooks, B: PartsName> {
     pub numbers: ServerNumbers,
     pub patience: Patience,
     /// The store of all sessions without one of their own.
-    pub store: Mutex<S>,
+    pub store: Mutex<RecordedStore<S>>,
     /// A store for each connection, by its number, over the same files as the shared one; empty if there can be only
     /// one. With its own, a session waits for no call of another's.
-    pub own_stores: Vec<Mutex<S>>,
+    pub own_stores: Vec<Mutex<RecordedStore<S>>>,
+    /// The last error of the machine in the store of each connection, by its number; empty if none can be known.
+    pub errors: Vec<LastFault>,
     /// The connection of each admitted client, by its number, until its thread takes it.
     pub arrivals: Vec<Mutex<Option<TcpStream>>>,
     pub floors: Mutex<Floors>,
@@ -66,7 +70,7 @@ impl<S: Store<Global>, H: Hooks, B: PartsName> House<S, H, B> {
     }
 
     /// The store of the session of a connection.
-    pub fn store_of(&self, key: usize) -> &Mutex<S> {
+    pub fn store_of(&self, key: usize) -> &Mutex<RecordedStore<S>> {
         match self.own_stores.get(key) {
             Some(own) => own,
             None => &self.store,

@@ -4,7 +4,7 @@ use Rattle.log.specs.declared.level.Level.TheVariants.{Warn, Info}
 use Rattle.server_house.specs.declared.cause.EndCause.{EndCause}
 use Rattle.server_house.specs.declared.cause.EndCause.TheVariants.{Aborted, NothingPrepared, NoClient, NotConnected, NoMemory, File, Connection, ControlLost, ServerEnds}
 use Rattle.server_house.specs.declared.server_hooks.SessionEvent.{SessionEvent}
-use Rattle.server_house.specs.declared.server_hooks.SessionEvent.TheVariants.{NoPort, TimedOut}
+use Rattle.server_house.specs.declared.server_hooks.SessionEvent.TheVariants.{Refused, NoPort, TimedOut}
 use Rattle.session_notes.specs.declared.words.Noted.{Noted}
 use Rattle.session_notes.specs.declared.words.Noted.TheVariants.{Connect, Disconnect, Login, LoginFailed, Logout}
 
@@ -28,5 +28,6 @@ level_of_cause ControlLost = Info
 level_of_cause ServerEnds = Info
 
 abbrev pub level_of_session : SessionEvent → Level
+level_of_session (Refused why) = Warn
 level_of_session (NoPort error) = Warn
 level_of_session (TimedOut why) = Info

@@ -10,7 +10,8 @@ use Rattle.server_house.specs.declared.server_hooks.NotServed.TheVariants.{NotAd
 use Rattle.server_house.specs.declared.server_hooks.ServerEvent.{ServerEvent}
 use Rattle.server_house.specs.declared.server_hooks.ServerEvent.TheVariants.{NotBound, NotAccepted, FewDescriptors}
 use Rattle.server_house.specs.declared.server_hooks.SessionEvent.{SessionEvent}
-use Rattle.server_house.specs.declared.server_hooks.SessionEvent.TheVariants.{NoPort, TimedOut}
+use Rattle.server_house.specs.declared.server_hooks.SessionEvent.TheVariants.{Refused, NoPort, TimedOut}
+use Rattle.server_house.specs.declared.server_hooks.SessionRefusal.TheVariants.{TooManyLogins, NoGuarantee, TooManyHeldLines}
 use Rattle.client_patience.specs.declared.waits.TimeOut.TheVariants as time
 use Rattle.session_notes.specs.declared.words.Noted.{Noted}
 use Rattle.session_notes.specs.declared.words.Noted.TheVariants.{Connect, Disconnect, Login, LoginFailed, Logout}
@@ -49,6 +50,9 @@ cause_words ControlLost = codes "the control connection was lost"
 cause_words ServerEnds = codes "the server ends"
 
 abbrev pub session_words : SessionEvent → List ℕ
+session_words (Refused TooManyLogins) = codes "refused: too many login attempts"
+session_words (Refused NoGuarantee) = codes "refused: the guaranteed rate is not available"
+session_words (Refused TooManyHeldLines) = codes "refused: too many held lines"
 session_words (NoPort error) = codes "no passive port"
 session_words (TimedOut time.Login) = codes "timed out without a login"
 session_words (TimedOut time.Idle) = codes "timed out without a sign of life"

@@ -28,12 +28,12 @@ pub(crate) fn level_of_cause(cause: EndCause) -> Level
     }
 }
 
-/// A session without a passive port is a warning.
+/// A client that was refused, and a session without a passive port, are warnings.
 pub(crate) fn level_of_session(event: SessionEvent) -> Level
     ensures level { result ≡ level_of_session event }
 {
     match event {
-        SessionEvent::NoPort(_) => Level::Warn,
+        SessionEvent::Refused(_) | SessionEvent::NoPort(_) => Level::Warn,
         SessionEvent::TimedOut(_) => Level::Info,
     }
 }

@@ -3,12 +3,15 @@
 use crate::levels::{level_of_cause, level_of_event, level_of_session};
 use crate::moment::{second_of, seconds_of};
 use crate::stamp::Stamp;
+use crate::stores::{ChangeText, level_of_record, path_in, path_to, record_words};
 use crate::transfers::{TransferText, file_transfer};
 use crate::words::{CauseText, NoteText, Noted, ServerText, SessionText, refusal_words};
 use handler_hooks::Hooks;
 use line_queue::LogForm;
 use log::{Level, Log, log};
-use server_house::{EndCause, NotServed, ServerEvent, ServerHooks, SessionEvent, TransferRecord};
+use server_house::{
+    EndCause, NotServed, ServerEvent, ServerHooks, SessionEvent, StoreNote, TransferRecord,
+};
 use std::net::Ipv4Addr;
 use std::time::Clock;
 use transfer_log::FileTransfer;
@@ -141,8 +144,30 @@ impl<L: Log + Clock + Drop, T: TransferLog + Drop> ServerHooks for Notes<L, T> {
             None => log!(self.log; target: "", Level::Info, "{stamp}{peer} #{session} {text}"),
             Some(cause) => {
                 let level = level_of_cause(cause);
-                let cause = CauseText(cause);
+                let cause = CauseText {
+                    cause,
+                    error: record.error,
+                };
                 log!(self.log; target: "", level, "{stamp}{peer} #{session} {text}: {cause}");
+            }
+        }
+    }
+
+    fn on_store(&mut self, note: &StoreNote<'_>) {
+        let stamp = self.stamp();
+        let peer = Ipv4Addr::from(note.peer);
+        let session = note.session;
+        let level = level_of_record(note.record);
+        let text = ChangeText {
+            words: record_words(note.record),
+            path: path_in(note.record),
+            to: path_to(note.record),
+            user: note.user,
+        };
+        match note.error {
+            None => log!(self.log; target: "", level, "{stamp}{peer} #{session} {text}"),
+            Some(error) => {
+                log!(self.log; target: "", level, "{stamp}{peer} #{session} {text}: {error}");
             }
         }
     }

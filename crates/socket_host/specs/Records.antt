@@ -12,17 +12,17 @@ use Rattle.session_table.specs.declared.actions.HookCall.TheVariants.{Connect, D
 use Rattle.session_table.specs.declared.actions.Job.{Job}
 use Rattle.session_table.specs.declared.actions.Job.TheVariants.{Text, SendFile, TakeFile}
 
--- the kind of the transfer whose end a call reports
-abbrev pub kind_of : HookCall Global → Option TransferKind
-kind_of Connect = None
-kind_of Disconnect = None
-kind_of (Login name) = None
-kind_of (LoginFailed name) = None
-kind_of (Logout name) = None
-kind_of (FileSent path) = Some Sent
-kind_of (FileReceived path) = Some Received
-kind_of (IncompleteFileSent path) = Some Sent
-kind_of (IncompleteFileReceived path) = Some Received
+-- a call reports the end of a file's transfer
+abbrev pub ends_file : HookCall Global → Bool
+ends_file Connect = false
+ends_file Disconnect = false
+ends_file (Login name) = false
+ends_file (LoginFailed name) = false
+ends_file (Logout name) = false
+ends_file (FileSent path) = true
+ends_file (FileReceived path) = true
+ends_file (IncompleteFileSent path) = true
+ends_file (IncompleteFileReceived path) = true
 
 abbrev is_ascii : DataType → Bool
 is_ascii Ascii = true

@@ -1,17 +1,20 @@
 //! The host of a control session.
 
-ghost use Rattle.std.specs.Prelude.{◌≡◌, ◌<◌, IfNone, IfOk, IfSome, [], false, length, option_map, true, unwrap_or};
+ghost use Rattle.std.specs.Prelude.{◌≡◌, ◌<◌, IfErr, IfNone, IfOk, IfSome, OnErr, [], false, length, option_map, true, unwrap_or};
 ghost use Rattle.std.specs.declared.alloc.Global.{Global};
 ghost use Rattle.control_session.specs.Calls.{reads_within};
 ghost use Rattle.control_session.specs.Rows.{IsRow};
-ghost use Rattle.control_session.specs.Turns.{Stepped};
+ghost use Rattle.control_session.specs.Turns.{StepTried, Stepped};
+ghost use Rattle.control_session.specs.Sides.{event_in, given_of};
 ghost use Rattle.control_session.specs.Sides.Given.{Came};
 ghost use Rattle.rate_floors.specs.Promises.{HasNoSessions};
 ghost use Rattle.session_table.specs.Steps.{asks_floors};
 ghost use Rattle.session_table.specs.Views.{is_closed};
 ghost use Rattle.std.specs.FinMap as map;
 ghost use Rattle.socket_host.specs.Cuts.{cause_of_cut};
-ghost use Rattle.socket_host.specs.Records.{ends_listing, is_end, is_text, job_kind, kind_of};
+ghost use Rattle.recorded_store.specs.Records.{RecordedStep};
+ghost use Rattle.socket_host.specs.Records.{ends_file, ends_listing, is_end, is_text, job_kind};
+ghost use Rattle.socket_host.specs.Refusals.{refusal_of};
 ghost use Rattle.socket_host.specs.Texts.{is_without_port, time_out_reply};
 ghost use Rattle.socket_host.specs.Unsaid.{AnyCall};
 
@@ -27,17 +30,19 @@ use handler_hooks::{Hooks, tell};
 use lent_parts::PartsName;
 use line_rates::Limits;
 use rate_floors::Floors;
+use recorded_store::{RecordedStore, StoreRecord};
 use server_house::{
-    EndCause, House, ServerHooks, SessionEvent, ShutdownStage, TransferKind, TransferRecord,
-    copy_settings,
+    EndCause, House, ServerHooks, SessionEvent, SessionRefusal, ShutdownStage, StoreNote,
+    TransferKind, TransferRecord, copy_settings,
 };
-use session_table::{Action, End, HookCall, Input, Job, Settings, Text};
+use session_table::{Action, Answer, End, HookCall, Input, Job, Refusal, Settings, Text};
 use socket_side::SocketSide;
 use std::alloc::{AllocError, Global};
 use std::net::{Net, TcpListener, TcpStream};
 use std::sync::Wait;
 use std::time::{Clock, Duration};
 use std::{io, thread};
+use virtual_path::VPath;
 use virtual_tree::Store;
 
 /// The reply to a client whose session the server ends.
@@ -107,16 +112,14 @@ fn number_of(users: &Authorizer, name: &str) -> u32
     }
 }
 
-// The kind and the path of the file whose end a call reports, if it reports one.
-fn file_of(call: &HookCall<Global>) -> Option<(TransferKind, &str)>
-    ensures kind { option_map (λ file. file.0) result ≡ kind_of call.now }
+// Returns whether a call reports the end of a file's transfer.
+fn ends_file(call: &HookCall<Global>) -> bool
+    ensures ends { result ≡ ends_file call.now }
 {
     match call {
-        HookCall::FileSent(path) => Some((TransferKind::Sent, path.text())),
-        HookCall::IncompleteFileSent(path) => Some((TransferKind::Sent, path.text())),
-        HookCall::FileReceived(path) => Some((TransferKind::Received, path.text())),
-        HookCall::IncompleteFileReceived(path) => Some((TransferKind::Received, path.text())),
-        _ => None,
+        HookCall::FileSent(_) | HookCall::IncompleteFileSent(_) => true,
+        HookCall::FileReceived(_) | HookCall::IncompleteFileReceived(_) => true,
+        _ => false,
     }
 }
 
@@ -158,6 +161,20 @@ fn ends_listing<K>(event: &Option<DataEvent<K>>, kind: TransferKind) -> bool
     }
 }
 
+// The refusal of a reply that ends a session, if an action is such a reply.
+fn refusal_of<R, K>(action: &Action<Global, R, K>) -> Option<SessionRefusal>
+    ensures refusal { result ≡ refusal_of action.now }
+{
+    match action {
+        Action::Say(Answer::Refusal(Refusal::TooManyLogins)) => Some(SessionRefusal::TooManyLogins),
+        Action::Say(Answer::Refusal(Refusal::NoGuarantee)) => Some(SessionRefusal::NoGuarantee),
+        Action::Say(Answer::Refusal(Refusal::TooManyHeldLines)) => {
+            Some(SessionRefusal::TooManyHeldLines)
+        }
+        _ => None,
+    }
+}
+
 // A transfer that was begun, at `since` in microseconds.
 #[derive(Clone, Copy)]
 struct Begun {
@@ -191,6 +208,8 @@ pub struct SocketHost<'h, R, S: Store<Global>, H: Hooks, B: PartsName> {
     name: String,
     // the last transfer that was begun
     begun: Begun,
+    // the path of the last file that was opened, if it is known
+    path: Option<VPath>,
     // the reply that comes next is to a wrong password
     is_wrong: bool,
     // lent to steps that need no floors
@@ -230,6 +249,7 @@ where
                 kind: TransferKind::Listed,
                 is_text: true,
             },
+            path: None,
             is_wrong: false,
             no_floors,
         }
@@ -248,6 +268,7 @@ where
             waits: _,
             name: _,
             begun: _,
+            path: _,
             is_wrong: _,
             no_floors: _,
         } = self;
@@ -291,30 +312,107 @@ where
         }
     }
 
+    // The path of the file of the last transfer, if it is one and is known.
+    fn last_path(&self) -> Option<&str> {
+        match (self.begun.kind, &self.path) {
+            (TransferKind::Listed, _) | (_, None) => None,
+            (_, Some(path)) => Some(path.text()),
+        }
+    }
+
     // The record of the transfer whose end was reported last.
-    fn record<'c>(
-        &'c self,
-        kind: TransferKind,
-        path: Option<&'c str>,
-        cause: Option<EndCause>,
-    ) -> TransferRecord<'c> {
+    fn record(&self, cause: Option<EndCause>) -> TransferRecord<'_> {
         TransferRecord {
             peer: self.peer,
             session: self.key,
             user: self.name.as_str(),
-            kind,
-            path,
+            kind: self.begun.kind,
+            path: self.last_path(),
             is_text: self.begun.is_text,
             octets: self.side.moved(),
             micros: micros(self.rt).saturating_sub(self.begun.since),
             cause,
+            error: match cause {
+                Some(EndCause::File) => self.store_error(),
+                _ => None,
+            },
         }
     }
 
-    // Reports the end of a transfer whose path is not known.
-    fn report_pathless(&self, cause: Option<EndCause>) {
-        let record = self.record(self.begun.kind, None, cause);
+    // The last error of the machine in the session's store or files, if there was one since it was asked for.
+    fn store_error(&self) -> Option<io::Error> {
+        match self.house.errors.get(self.key) {
+            Some(last) => last.take(),
+            None => None,
+        }
+    }
+
+    // Reports the end of the last transfer that was begun.
+    fn report_end(&self, cause: Option<EndCause>) {
+        let record = self.record(cause);
         self.house.handler.lock(self.rt).on_transfer(&record);
+    }
+
+    // Follows a call of the store: the file that is opened, a change, or a fault.
+    fn follow_store(&mut self, record: Option<StoreRecord>) {
+        match record {
+            Some(StoreRecord::OpenedToRead(path)) => self.path = path,
+            Some(StoreRecord::OpenedToWrite(path)) => self.path = path,
+            Some(change) => {
+                let note = StoreNote {
+                    peer: self.peer,
+                    session: self.key,
+                    user: self.name.as_str(),
+                    record: &change,
+                    error: self.store_error(),
+                };
+                self.house.handler.lock(self.rt).on_store(&note);
+            }
+            None => {}
+        }
+    }
+
+    // Reports the refusals among the actions of a step.
+    fn report_refusals<T, K>(&mut self, actions: &[Action<Global, T, K>]) {
+        for action in actions {
+            if let Some(why) = refusal_of(action) {
+                self.report(SessionEvent::Refused(why));
+            }
+        }
+    }
+
+    // Makes a step of the session. Returns the record of its store too.
+    fn step_over(
+        &mut self,
+        users: &Authorizer,
+        session: &mut Session<Global>,
+        input: &mut Option<Input<Global, S::Sink>>,
+    ) -> (
+        Result<Vec<Action<Global, S::Source, S::Sink>>, Option<DataEvent<S::Sink>>>,
+        Option<StoreRecord>,
+    )
+        ensures row { IfSome input.old (λ input. IfOk result.0 (λ actions.
+            Stepped (IsRow (RecordedStep S.Step) users.now.users) AnyCall
+            self.old session.old (given_of input) session.new actions.items self.new)) }
+        ensures unchanged { OnErr result.0 (session.new ≡ session.old) }
+        ensures tried { IfSome input.old (λ input.
+            OnErr result.0 (StepTried (IsRow (RecordedStep S.Step) users.now.users) AnyCall
+            self.old session.old (given_of input) self.new)) }
+        ensures back { IfSome input.old (λ input. IfErr result.0 (λ back.
+            back ≡ event_in input)) }
+    {
+        let moment = millis_since_1970(self.rt);
+        if asks_floors(session, input) {
+            let mut floors = self.house.floors.lock(self.rt);
+            let mut store = self.house.store_of(self.key).lock(self.rt);
+            let made = step_by(session, users, &mut *floors, &mut *store, input, moment);
+            return (made, store.take_record());
+        }
+        // Asks for no admission (`others_ask_no_floors` of `session_table`), so needs no lock of the floors.
+        let floors = &mut self.no_floors;
+        let mut store = self.house.store_of(self.key).lock(self.rt);
+        let made = step_by(session, users, floors, &mut *store, input, moment);
+        (made, store.take_record())
     }
 
     // Reports an event of the session that is none of its steps.
@@ -351,20 +449,19 @@ where
         event: DataEvent<S::Sink>,
     )
         requires closed { is_closed session.old.view.stage ≡ true }
-        ensures row { Stepped (IsRow {A = Global} {R = S.Source} S.Step users.now.users) AnyCall
+        ensures row { Stepped (IsRow {A = Global} {R = S.Source} (RecordedStep S.Step)
+            users.now.users) AnyCall
             self.old session.old (Came event) session.new [] self.new }
         ensures closed { is_closed session.new.view.stage ≡ true }
     {
-        let moment = millis_since_1970(self.rt);
-        let mut store = self.house.store_of(self.key).lock(self.rt);
-        end_by(
-            session,
-            users,
-            &mut self.no_floors,
-            &mut *store,
-            event,
-            moment,
-        );
+        let record = {
+            let moment = millis_since_1970(self.rt);
+            let mut store = self.house.store_of(self.key).lock(self.rt);
+            let floors = &mut self.no_floors;
+            end_by(session, users, floors, &mut *store, event, moment);
+            store.take_record()
+        };
+        self.follow_store(record);
     }
 
     /// Ends the control connection in such a way that the last reply arrives.
@@ -380,13 +477,13 @@ where
     H: ServerHooks,
     B: PartsName,
 {
-    type Store = S;
+    type Store = RecordedStore<S>;
 
     type Source = S::Source;
 
     type Sink = S::Sink;
 
-    ghost Step = { S.Step };
+    ghost Step = { RecordedStep S.Step };
 
     ghost Does = { AnyCall };
 
@@ -396,16 +493,12 @@ where
         session: &mut Session<Global>,
         input: &mut Option<Input<Global, S::Sink>>,
     ) -> Result<Vec<Action<Global, S::Source, S::Sink>>, Option<DataEvent<S::Sink>>> {
-        let moment = millis_since_1970(self.rt);
-        if asks_floors(session, input) {
-            let mut floors = self.house.floors.lock(self.rt);
-            let mut store = self.house.store_of(self.key).lock(self.rt);
-            return step_by(session, users, &mut *floors, &mut *store, input, moment);
+        let (made, record) = self.step_over(users, session, input);
+        self.follow_store(record);
+        if let Ok(actions) = &made {
+            self.report_refusals(actions);
         }
-        // Asks for no admission (`others_ask_no_floors` of `session_table`), so needs no lock of the floors.
-        let floors = &mut self.no_floors;
-        let mut store = self.house.store_of(self.key).lock(self.rt);
-        step_by(session, users, floors, &mut *store, input, moment)
+        made
     }
 
     fn close(
@@ -441,11 +534,12 @@ where
 
     fn note(&mut self, call: &HookCall<Global>) {
         self.follow(call);
-        let mut handler = self.house.handler.lock(self.rt);
-        handler.attend(self.peer, self.key, self.side.cause());
-        if let Some((kind, path)) = file_of(call) {
-            handler.on_transfer(&self.record(kind, Some(path), self.side.cause()));
+        let cause = self.side.cause();
+        if ends_file(call) {
+            self.report_end(cause);
         }
+        let mut handler = self.house.handler.lock(self.rt);
+        handler.attend(self.peer, self.key, cause);
         tell(&mut *handler, call);
     }
 
@@ -510,7 +604,7 @@ where
             }
         }
         if ends_listing(&event, self.begun.kind) {
-            self.report_pathless(self.side.cause());
+            self.report_end(self.side.cause());
         }
         event
     }
@@ -518,7 +612,7 @@ where
     fn settle(&mut self) -> Option<DataEvent<S::Sink>> {
         let last = self.side.settle();
         if is_end(&last) {
-            self.report_pathless(cause_of_cut(&last, self.is_ending()));
+            self.report_end(cause_of_cut(&last, self.is_ending()));
         }
         last
     }

@@ -134,7 +134,7 @@ def a_limit_of_file_sizes():
         client.quit()
         server.stop()
         server.ended()
-        want('not received whole "/up": the file could not be read or written' in server.notes_made(), f"a note of it: {server.noted()!r}")
+        want('not received whole "/up": the file could not be read or written: File too large (os error 27)' in server.notes_made(), f"a note of it: {server.noted()!r}")
 
 
 def the_silent_leave():

@@ -1,4 +1,5 @@
 """Rows of `tools/serving` on notes and on the transfer log: readers that stop, forms and levels, a file that is moved away."""
+import contextlib
 import fcntl
 import os
 import re
@@ -174,7 +175,123 @@ def transfers_have_their_amounts():
         same(sum(int(it[2]) for it in found), moved, "the octets of all files")
 
 
+def changes_are_noted():
+    """What a session makes, renames and deletes has a note of its own, with its path below the root and its user."""
+    users = '[[user]]\nname = "ann"\npassword = "secret"\nhome = "/a"\nperms = "elradfmw"\n'
+    with Server(root="folder", files={"a": None, "a/f": b"a"}, users=users) as server:
+        client = Client(server)
+        client.says("MKD d", '257 "/d"')
+        client.says("RNFR f", "350 Send RNTO")
+        client.says("RNTO d/g\xe9", "250 Renamed")
+        client.says("DELE d/g\xe9", "250 File removed")
+        client.says("DELE d/g\xe9", "550 No such file or directory")
+        client.says("RMD d", "250 Directory removed")
+        client.store("up", b"abc")
+        client.quit()
+        server.ended()
+        wanted = ['made directory "/a/d": user "ann"', 'renamed "/a/f" to "/a/d/gé": user "ann"', 'deleted "/a/d/gé": user "ann"', 'removed directory "/a/d": user "ann"', 'received "/a/up"']
+        same([it for it in server.notes_made() if it.partition(" ")[0] in ("made", "renamed", "deleted", "removed", "received")], wanted, "the notes of changes")
+
+
+def refusals_are_noted():
+    """A session that is refused, and a fault of the machine or lack of room, has a warning that says why."""
+    with Server(sessions=0, server="max_login_attempts = 1\nup_rate = 1_000", rates="session_up_floor = 1_000", stop=True) as server:
+        first = Client(server)
+        late = Client(server, None)
+        late.says(None, "220 Ready")
+        late.says("USER ann", "331 Password required")
+        late.says("PASS secret", "421 Guaranteed rate not available")
+        guess = Client(server, None)
+        guess.says(None, "220 Ready")
+        guess.says("USER bob", "331 Password required")
+        guess.says("PASS wrong", "421 Too many login attempts")
+        first.quit()
+        server.stop()
+        server.ended()
+        for one in ("refused: the guaranteed rate is not available", "refused: too many login attempts"):
+            want(re.search(rf"^\[WARN \] \S+Z 127.0.0.1 #\d {one}$", server.noted(), re.MULTILINE), f"{one}: {server.noted()}")
+    with Server(server="capacity = 10") as server:
+        client = Client(server)
+        data = client.passive()
+        client.says("STOR up", "150 Opening data connection")
+        data.socket.sendall(b"x" * 100)
+        data.close()
+        client.says(None, "552 Storage is full")
+        client.quit()
+        server.ended()
+        same(server.notes_made()[2:4], ['received "/up"', 'the storage is full: user "ann"'], "the notes of an upload without room")
+
+
+def errors_of_the_machine_are_noted():
+    """A call that the machine refuses has its error in a note."""
+    with Server(root="folder", files={"f": b"a"}, before='trap "" XFSZ; ulimit -f 0') as server:
+        client = Client(server)
+        data = client.passive()
+        client.says("STOR up", "150 Opening data connection")
+        with contextlib.suppress(OSError):
+            data.socket.sendall(b"u" * 1_000)
+        data.close()
+        client.says(None, "451 Local fault")
+        client.quit()
+        want('not received whole "/up": the file could not be read or written: File too large (os error 27)' in server.notes_made(), f"the note: {server.noted()}")
+        server.process.kill()
+
+
+def each_transfer_has_one_line():
+    """Of 200 transfers 40 each come to their end, or are ended by ABOR, by their data connection, by their session, and by the server: each has one line, and their octets are those moved."""
+    each, big = 40, 200_000_000
+    with Server(sessions=0, root="folder", files={"f": b"abc", "big": big}, server=f"lanes = {each}\nmax_cons = {each + 8}", passive=each + 16, stop=True) as server:
+        made = 0
+
+        def begun():
+            nonlocal made
+            client = Client(server)
+            data = client.passive(room=4096)
+            client.says("RETR big", "150 Opening data connection")
+            want(data.read(), "some octets")
+            made += 1
+            return client, data
+
+        def lines():
+            return len(re.findall(r'"/big"', server.noted()))
+
+        for _ in range(each):
+            client = Client(server)
+            same(client.retrieve("f"), b"abc", "a file")
+            client.quit()
+            client, data = begun()
+            client.says("ABOR", "426 Transfer aborted", "226 Abort done")
+            data.close()
+            client.quit()
+            client, data = begun()
+            data.reset()
+            client.says(None, "426 Connection lost")
+            client.quit()
+            client, data = begun()
+            client.reset()
+            until(lambda: lines() == made, "the line of a lost session's transfer")
+            data.close()
+        last = [begun() for _ in range(each)]
+        server.stop()
+        _, moved, _ = server.ended()
+        for client, data in last:
+            client.socket.close()
+            data.close()
+        found = re.findall(r'(sent|not sent whole) "/(\w+)": user "ann", (\d+) octets, \d+\.\d{3} s:?(?: (aborted|the data connection|the control connection|the server).*)?', server.noted())
+        count = {}
+        for words, path, _, why in found:
+            count[words, path, why] = count.get((words, path, why), 0) + 1
+        part = ("not sent whole", "big")
+        wanted = {("sent", "f", ""): each, (*part, "aborted"): each, (*part, "the data connection"): each, (*part, "the control connection"): each, (*part, "the server"): each}
+        same(count, wanted, "the lines by their ends")
+        same(sum(int(it[2]) for it in found), moved, "the octets of all lines")
+
+
 ROWS = [
+    changes_are_noted,
+    refusals_are_noted,
+    errors_of_the_machine_are_noted,
+    each_transfer_has_one_line,
     a_transfer_log_that_is_moved,
     transfers_have_their_amounts,
     a_reader_that_stops_for_a_while,

@@ -230,8 +230,8 @@ module _ {R K : Type 0} where
   IsMovedBy None moved = ⊤
   IsMovedBy (Some told) moved = moved ≡ told.moved
 
-  -- a look: the transfer goes on, and its end is taken, with the octets that it had moved; what was on
-  -- the ticket before stays there
+  -- a look: the transfer goes on, and its end is taken, with the octets that it had moved; what was
+  -- on the ticket before stays there
   abbrev pub Looks
       : Ticket R K → Running R K → Option (DataEvent K) → Running R K → ℕ → Type 0
   Looks before old event new moved =
@@ -239,8 +239,8 @@ module _ {R K : Type 0} where
       × (is_moving old ≡ true → view ≡ before) × GoesOn old mid × TakesEnd view mid end new
       × (event ≡ event_of end) × IsMovedBy end moved
 
-  -- The report of a transfer that is waited for, or of nothing if nothing runs, with the octets that
-  -- it had moved. One without a connection is aborted.
+  -- The report of a transfer that is waited for, or of nothing if nothing runs, with the octets
+  -- that it had moved. One without a connection is aborted.
   abbrev pub Settles : Running R K → Option (DataEvent K) → ℕ → Type 0
   Settles running.Nothing event moved = event ≡ None
   Settles (running.Awaited listener port job since) event moved =

@@ -11,7 +11,7 @@ use std::io::ErrorKind;
 const UNNUMBERED: u64 = 1 << 32;
 
 /// The word of an error: its number (errno), or `UNNUMBERED`. 0 is no error's.
-pub(crate) fn fault_word(error: io::Error) -> u64
+pub fn fault_word(error: io::Error) -> u64
     ensures numbered { (n : ℕ) → 0 < n → raw_os_error error ≡ Some (pos n) → result ≡ n }
     ensures some { 0 < result }
 {
@@ -25,7 +25,7 @@ pub(crate) fn fault_word(error: io::Error) -> u64
 }
 
 /// The error of a word; none for 0.
-pub(crate) fn fault_of(word: u64) -> Option<io::Error>
+pub fn fault_of(word: u64) -> Option<io::Error>
     ensures none { word ≡ 0 → result ≡ None }
     ensures numbered { 0 < word → word < 2 ^ 31
         → (error : Error) × (result ≡ Some error) × (raw_os_error error ≡ Some (pos word)) }

@@ -8,6 +8,7 @@
 use crate::log_file::LogFile;
 use crate::log_thread::{QueuedTransfers, serve_with_log};
 use folder_store::DirStore;
+use last_fault::LastFault;
 use ftp_daemon::{Patience, RoundClock, ServeFault, Service, StopSign, serve};
 use ftpd_program::{FtpdExit, ReadyFile, ReadyOutput, ServeFiles, Server, StartFault};
 use line_queue::{LogForm, QueuedLog, SharedLines};
@@ -148,23 +149,36 @@ impl ReadyFile for MachineReadyFile {
     }
 }
 
-fn open_folder(machine: &HostRuntime, folder: &str) -> Result<DirStore<HostRuntime>, ServeFault> {
-    match DirStore::new(*machine, folder) {
+fn open_folder(
+    machine: &HostRuntime,
+    folder: &str,
+    error: LastFault,
+) -> Result<DirStore<HostRuntime>, ServeFault> {
+    match DirStore::new(*machine, folder, error) {
         Ok(store) => Ok(store),
         Err(StoreFault::Memory) => Err(ServeFault::Memory),
         Err(_) => Err(ServeFault::Store),
     }
 }
 
-// Opens the folder, as a store for each connection.
+// The last errors of the machine in as many stores; none yet.
+fn no_errors(alloc: Global, connections: u16) -> Result<Vec<LastFault>, AllocError> {
+    let mut errors = Vec::with_capacity(alloc, usize::from(connections))?;
+    for _ in 0..connections {
+        errors.push(LastFault::new(alloc)?)?;
+    }
+    Ok(errors)
+}
+
+// Opens the folder as a store for each connection, which keeps its errors.
 fn open_folders(
     machine: &HostRuntime,
     folder: &str,
-    connections: u16,
+    errors: &[LastFault],
 ) -> Result<Vec<DirStore<HostRuntime>>, ServeFault> {
     let mut stores = Vec::new(machine.alloc());
-    for _ in 0..connections {
-        let store = open_folder(machine, folder)?;
+    for error in errors {
+        let store = open_folder(machine, folder, error.another()?)?;
         if stores.push(store).is_err() {
             return Err(ServeFault::Memory);
         }
@@ -213,6 +227,7 @@ where
                 limits,
                 store,
                 own_stores: Vec::new(rt.alloc()),
+                errors: Vec::new(rt.alloc()),
                 handler,
                 stop,
                 patience,
@@ -220,8 +235,10 @@ where
             serve(rt, service, output)?;
         }
         ServedStore::Folder(folder) => {
-            let store = open_folder(machine, folder.as_str())?;
-            let own_stores = open_folders(machine, folder.as_str(), numbers.max_cons)?;
+            let errors = no_errors(rt.alloc(), numbers.max_cons)?;
+            let unread = LastFault::new(rt.alloc())?;
+            let store = open_folder(machine, folder.as_str(), unread)?;
+            let own_stores = open_folders(machine, folder.as_str(), &errors)?;
             let service = Service {
                 settings,
                 numbers,
@@ -229,6 +246,7 @@ where
                 limits,
                 store,
                 own_stores,
+                errors,
                 handler,
                 stop,
                 patience,

@@ -1,7 +1,6 @@
 -- Proofs, not definitions to be believed: a store that records keeps the laws of the trait `Store`.
 -- They are here since the toolchain wants the proof of a trait's law among the definitions.
 use Rattle.std.proofs.Common.{ℕ, ◌≡◌, ◌≢◌, ◌<◌, ◌^◌, Option, Some}
-use Rattle.virtual_tree.specs.declared.fault.StoreFault.{StoreFault}
 use Rattle.virtual_tree.specs.declared.fault.StoreFault.TheVariants.{Device, Full}
 use Rattle.virtual_tree.specs.Calls.{Exchange, refusal, PassesCapacity}
 use Rattle.recorded_store.specs.declared.recorded.RecordedStore.{RecordedStore}

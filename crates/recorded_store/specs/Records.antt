@@ -53,4 +53,4 @@ Records exchange before after = MatchOption (refusal exchange)
 abbrev pub RecordedStep : {A S R K : Type 0} → (S → Exchange R K → S → Type 0)
     → RecordedStore S A → Exchange R K → RecordedStore S A → Type 0
 RecordedStep Step old exchange new =
-    Step old.store exchange new.store × Records exchange old.record new.record
+    Step old.store exchange new.store × Records exchange old.last new.last

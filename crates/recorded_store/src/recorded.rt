@@ -12,54 +12,54 @@ use virtual_tree::{ListedEntry, Store, StoreFault, WriteMode};
 /// A store over another one. Each call is one of that store, with its result, and the last call that counts is
 /// recorded.
 #[derive(Drop)]
-pub struct RecordedStore<S: Drop, A: Allocator = Global> {
+pub struct RecordedStore<S, A: Allocator = Global> {
     /// The store beneath.
     pub store: S,
     /// The last call that counts since the last take; `None` if there was none.
-    pub record: Option<StoreRecord<A>>,
+    pub last: Option<StoreRecord<A>>,
     // for the copies of paths
     alloc: A,
 }
 
-impl<S: Drop, A: Allocator> RecordedStore<S, A> {
+impl<S, A: Allocator> RecordedStore<S, A> {
     /// No call is recorded yet. Copies of paths are made in `alloc`.
     pub fn new(alloc: A, store: S) -> RecordedStore<S, A>
         ensures store { result.store ≡ store }
-        ensures none { result.record ≡ None }
+        ensures none { result.last ≡ None }
     {
         RecordedStore {
             store,
-            record: None,
+            last: None,
             alloc,
         }
     }
 
     /// Takes the record of the last call that counts since the last take.
     pub fn take_record(&mut self) -> Option<StoreRecord<A>>
-        ensures record { result ≡ self.old.record }
-        ensures none { self.new.record ≡ None }
+        ensures record { result ≡ self.old.last }
+        ensures none { self.new.last ≡ None }
         ensures store { self.new.store ≡ self.old.store }
     {
-        self.record.take()
+        self.last.take()
     }
 
     /// Records a call refused for this fault, which it returns, if the fault counts.
     fn refused(&mut self, fault: StoreFault) -> StoreFault
         ensures fault { result ≡ fault }
-        ensures record { self.new.record ≡ after_refusal fault self.old.record }
+        ensures record { self.new.last ≡ after_refusal fault self.old.last }
         ensures store { self.new.store ≡ self.old.store }
     {
         if matches!(
             fault,
             StoreFault::Device | StoreFault::Memory | StoreFault::Full
         ) {
-            self.record = Some(StoreRecord::Refused(fault));
+            self.last = Some(StoreRecord::Refused(fault));
         }
         fault
     }
 }
 
-impl<S: Drop, A: Allocator + Clone> RecordedStore<S, A> {
+impl<S, A: Allocator + Clone> RecordedStore<S, A> {
     /// A copy of a path; `None` if there is no memory for it.
     fn copy_of(&self, path: &VPath<A>) -> Option<VPath<A>>
         ensures path { IsCopyOf result path.now }
@@ -69,7 +69,7 @@ impl<S: Drop, A: Allocator + Clone> RecordedStore<S, A> {
     }
 }
 
-impl<S: Store<A> + Drop, A: Allocator + Clone> Store<A> for RecordedStore<S, A> {
+impl<S: Store<A>, A: Allocator + Clone> Store<A> for RecordedStore<S, A> {
     ghost use Rattle.recorded_store.specs.Records.{RecordedStep};
     ghost use Rattle.recorded_store.specs.RecordLaws.{records_honestly, records_within, records_count};
 
@@ -106,7 +106,7 @@ impl<S: Store<A> + Drop, A: Allocator + Clone> Store<A> for RecordedStore<S, A> 
     fn open_read(&mut self, path: &VPath<A>, offset: u64) -> Result<S::Source, StoreFault> {
         match self.store.open_read(path, offset) {
             Ok(source) => {
-                self.record = Some(StoreRecord::OpenedToRead(self.copy_of(path)));
+                self.last = Some(StoreRecord::OpenedToRead(self.copy_of(path)));
                 Ok(source)
             }
             Err(fault) => Err(self.refused(fault)),
@@ -121,7 +121,7 @@ impl<S: Store<A> + Drop, A: Allocator + Clone> Store<A> for RecordedStore<S, A> 
     ) -> Result<S::Sink, StoreFault> {
         match self.store.open_write(path, mode, moment) {
             Ok(sink) => {
-                self.record = Some(StoreRecord::OpenedToWrite(self.copy_of(path)));
+                self.last = Some(StoreRecord::OpenedToWrite(self.copy_of(path)));
                 Ok(sink)
             }
             Err(fault) => Err(self.refused(fault)),
@@ -138,7 +138,7 @@ impl<S: Store<A> + Drop, A: Allocator + Clone> Store<A> for RecordedStore<S, A> 
     fn make_dir(&mut self, path: &VPath<A>) -> Result<(), StoreFault> {
         match self.store.make_dir(path) {
             Ok(()) => {
-                self.record = Some(StoreRecord::MadeDir(self.copy_of(path)));
+                self.last = Some(StoreRecord::MadeDir(self.copy_of(path)));
                 Ok(())
             }
             Err(fault) => Err(self.refused(fault)),
@@ -148,7 +148,7 @@ impl<S: Store<A> + Drop, A: Allocator + Clone> Store<A> for RecordedStore<S, A> 
     fn remove_dir(&mut self, path: &VPath<A>) -> Result<(), StoreFault> {
         match self.store.remove_dir(path) {
             Ok(()) => {
-                self.record = Some(StoreRecord::RemovedDir(self.copy_of(path)));
+                self.last = Some(StoreRecord::RemovedDir(self.copy_of(path)));
                 Ok(())
             }
             Err(fault) => Err(self.refused(fault)),
@@ -158,7 +158,7 @@ impl<S: Store<A> + Drop, A: Allocator + Clone> Store<A> for RecordedStore<S, A> 
     fn remove_file(&mut self, path: &VPath<A>) -> Result<(), StoreFault> {
         match self.store.remove_file(path) {
             Ok(()) => {
-                self.record = Some(StoreRecord::RemovedFile(self.copy_of(path)));
+                self.last = Some(StoreRecord::RemovedFile(self.copy_of(path)));
                 Ok(())
             }
             Err(fault) => Err(self.refused(fault)),
@@ -168,7 +168,7 @@ impl<S: Store<A> + Drop, A: Allocator + Clone> Store<A> for RecordedStore<S, A> 
     fn rename(&mut self, from: &VPath<A>, to: &VPath<A>) -> Result<(), StoreFault> {
         match self.store.rename(from, to) {
             Ok(()) => {
-                self.record = Some(StoreRecord::Renamed(self.copy_of(from), self.copy_of(to)));
+                self.last = Some(StoreRecord::Renamed(self.copy_of(from), self.copy_of(to)));
                 Ok(())
             }
             Err(fault) => Err(self.refused(fault)),

@@ -8,8 +8,10 @@
 //! let mut store = RecordedStore::new(rt.alloc(), MemStore::new(rt.alloc(), 1000)?);
 //! holds(rt, store.make_dir(path) == Ok(())); // the path is `/in`
 //! holds(rt, store.stat(path).is_ok()); // leaves the record
-//! let record = store.take_record();
-//! holds(rt, matches!(&record, Some(StoreRecord::MadeDir(Some(made))) if made.text() == "/in"));
+//! match store.take_record() {
+//!     Some(StoreRecord::MadeDir(Some(made))) => holds(rt, made.text() == "/in"),
+//!     _ => holds(rt, false),
+//! }
 //! holds(rt, store.take_record().is_none());
 //! ```
 #![tactic(auto)]

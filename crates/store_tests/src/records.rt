@@ -55,7 +55,7 @@ fn text_of<A: Allocator>(path: &Option<VPath<A>>) -> &str {
 }
 
 /// The text of a fault that is recorded.
-fn refused(fault: StoreFault) -> &str {
+fn refused(fault: StoreFault) -> &'static str {
     match fault {
         StoreFault::Device => "refused for the device",
         StoreFault::Memory => "refused for memory",

@@ -1,5 +1,4 @@
 """Rows of `tools/serving` on notes and on the transfer log: readers that stop, forms and levels, a file that is moved away."""
-import contextlib
 import fcntl
 import os
 import re
@@ -219,22 +218,21 @@ def refusals_are_noted():
         client.says(None, "552 Storage is full")
         client.quit()
         server.ended()
-        same(server.notes_made()[2:4], ['received "/up"', 'the storage is full: user "ann"'], "the notes of an upload without room")
+        same(server.notes_made()[2:4], ['the storage is full: user "ann"', 'received "/up"'], "the notes of an upload without room")
 
 
 def errors_of_the_machine_are_noted():
-    """A call that the machine refuses has its error in a note."""
-    with Server(root="folder", files={"f": b"a"}, before='trap "" XFSZ; ulimit -f 0') as server:
+    """A call that the machine refuses has its error in a note; so has a file that cannot be written (`a_limit_of_file_sizes`)."""
+    with Server(root="folder") as server:
         client = Client(server)
-        data = client.passive()
-        client.says("STOR up", "150 Opening data connection")
-        with contextlib.suppress(OSError):
-            data.socket.sendall(b"u" * 1_000)
-        data.close()
-        client.says(None, "451 Local fault")
+        # (a file system in which nobody makes a directory)
+        os.rmdir(server.folder)
+        os.symlink("/sys", server.folder)
+        client.says("MKD d", "451 Local fault")
         client.quit()
-        want('not received whole "/up": the file could not be read or written: File too large (os error 27)' in server.notes_made(), f"the note: {server.noted()}")
-        server.process.kill()
+        server.ended()
+        found = re.findall(r'^\[WARN \] \S+Z 127.0.0.1 #0 fault of the machine: user "ann": (\w.*) \(os error \d+\)$', server.noted(), re.MULTILINE)
+        want(len(found) == 1, f"the notes: {server.noted()}")
 
 
 def each_transfer_has_one_line():

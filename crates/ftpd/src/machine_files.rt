@@ -3,6 +3,7 @@
 use config_report::{Lookout, Sight};
 use folder_store::DirStore;
 use ftp_terms::EntryKind;
+use last_fault::LastFault;
 use sheets_program::{Machine, Opener, is_input};
 use std::os::unix::fs::PermissionsExt;
 use std::{fs, io};
@@ -45,7 +46,11 @@ fn sight_at(machine: &HostRuntime, path: &str) -> Sight {
 
 /// Returns whether a home is a directory of the folder at a path, as a session finds it: a link is none.
 fn is_home_at(machine: &HostRuntime, root: &str, home: &VPath) -> bool {
-    let Ok(mut store) = DirStore::new(*machine, root) else {
+    // Nobody asks for the error of a fault here.
+    let Ok(fault) = LastFault::new(machine.alloc()) else {
+        return false;
+    };
+    let Ok(mut store) = DirStore::new(*machine, root, fault) else {
         return false;
     };
     match store.stat(home) {

@@ -10,6 +10,7 @@ use crate::log_thread::{QueuedTransfers, serve_with_log};
 use folder_store::DirStore;
 use ftp_daemon::{Patience, RoundClock, ServeFault, Service, StopSign, serve};
 use ftpd_program::{FtpdExit, ReadyFile, ReadyOutput, ServeFiles, Server, StartFault};
+use last_fault::LastFault;
 use line_queue::{LogForm, QueuedLog, SharedLines};
 use log::{Level, Logged};
 use server_config::{Config, ServedStore};
@@ -148,8 +149,12 @@ impl ReadyFile for MachineReadyFile {
     }
 }
 
+// Each store has its own last error. Another handle of it (`another`) is for whoever notes the faults of this store.
 fn open_folder(machine: &HostRuntime, folder: &str) -> Result<DirStore<HostRuntime>, ServeFault> {
-    match DirStore::new(*machine, folder) {
+    let Ok(fault) = LastFault::new(machine.alloc()) else {
+        return Err(ServeFault::Memory);
+    };
+    match DirStore::new(*machine, folder, fault) {
         Ok(store) => Ok(store),
         Err(StoreFault::Memory) => Err(ServeFault::Memory),
         Err(_) => Err(ServeFault::Store),

@@ -51,11 +51,13 @@ pub(crate) fn listing_fault(error: &io::Error) -> MachineFault
     ensures others { error_kind error.now ≢ ErrorKind.NotFound
         → error_kind error.now ≢ ErrorKind.OutOfMemory → result ≡ MachineFault.Device error.now }
 {
-    match error.kind() {
-        ErrorKind::NotFound => MachineFault::NotFound,
-        ErrorKind::OutOfMemory => MachineFault::Memory,
-        _ => MachineFault::Device(*error),
+    if error.kind() == ErrorKind::NotFound {
+        return MachineFault::NotFound;
     }
+    if error.kind() == ErrorKind::OutOfMemory {
+        return MachineFault::Memory;
+    }
+    MachineFault::Device(*error)
 }
 
 /// The reason for which an open file could not be read or written.

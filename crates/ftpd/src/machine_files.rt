@@ -46,10 +46,11 @@ fn sight_at(machine: &HostRuntime, path: &str) -> Sight {
 
 /// Returns whether a home is a directory of the folder at a path, as a session finds it: a link is none.
 fn is_home_at(machine: &HostRuntime, root: &str, home: &VPath) -> bool {
-    let Ok(error) = LastFault::new(machine.alloc()) else {
+    // Nobody asks for the error of a fault here.
+    let Ok(fault) = LastFault::new(machine.alloc()) else {
         return false;
     };
-    let Ok(mut store) = DirStore::new(*machine, root, error) else {
+    let Ok(mut store) = DirStore::new(*machine, root, fault) else {
         return false;
     };
     match store.stat(home) {

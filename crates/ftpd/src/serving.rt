@@ -8,9 +8,9 @@
 use crate::log_file::LogFile;
 use crate::log_thread::{QueuedTransfers, serve_with_log};
 use folder_store::DirStore;
-use last_fault::LastFault;
 use ftp_daemon::{Patience, RoundClock, ServeFault, Service, StopSign, serve};
 use ftpd_program::{FtpdExit, ReadyFile, ReadyOutput, ServeFiles, Server, StartFault};
+use last_fault::LastFault;
 use line_queue::{LogForm, QueuedLog, SharedLines};
 use log::{Level, Logged};
 use server_config::{Config, ServedStore};

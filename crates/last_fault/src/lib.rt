@@ -6,6 +6,12 @@
 //! any moment, since other threads change it.
 //!
 //! ```text
+//! let fault = LastFault::new(rt.alloc())?;
+//! let other = fault.another()?;
+//! other.put(io::Error::from_raw_os_error(28)); // ENOSPC
+//! let number = fault.take().and_then(|error| error.raw_os_error());
+//! holds(rt, number == Some(28));
+//! holds(rt, other.take().is_none()); // it was taken out
 //! ```
 #![tactic(auto)]
 

@@ -41,6 +41,11 @@ abbrev pub event_of : {K : Type 0} → Option (TransferEnd K) → Option (DataEv
 event_of None = None
 event_of (Some told) = Some (Ended told.end told.sink)
 
+-- the octets that a transfer had moved whose end is taken
+abbrev pub IsMovedBy : {K : Type 0} → Option (TransferEnd K) → ℕ → Type 0
+IsMovedBy None moved = ⊤
+IsMovedBy (Some told) moved = moved ≡ told.moved
+
 module _ {J : Type 0} where
   -- the session has asked for the end of what is on its ticket
   abbrev pub has_asked : TicketView J → Bool
@@ -224,11 +229,6 @@ module _ {R K : Type 0} where
   TakesEnd view (running.Moving connection is_aborted) (Some end) new =
       (new ≡ running.Nothing) × IsEndOf view is_aborted end
   TakesEnd view (running.Over told) end new = (end ≡ Some told) × (new ≡ running.Nothing)
-
-  -- the octets that a transfer had moved whose end is taken
-  abbrev pub IsMovedBy : Option (TransferEnd K) → ℕ → Type 0
-  IsMovedBy None moved = ⊤
-  IsMovedBy (Some told) moved = moved ≡ told.moved
 
   -- a look: the transfer goes on, and its end is taken, with the octets that it had moved; what was
   -- on the ticket before stays there

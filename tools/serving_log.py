@@ -60,7 +60,8 @@ def failed(server, first, count):
             client.line()
             made += 1
         client.socket.close()
-    return made, made + 2 * (made // 3)
+    # (its session has a note as it comes, as it is refused, and as it leaves)
+    return made, made + 3 * (made // 3)
 
 
 def numbers_in(lines):

@@ -181,8 +181,9 @@ def a_store_that_is_full():
         same(client.retrieve("g"), b"x" * 997, "what fits")
         client.quit()
         server.ended()
-        # (all of it came: that the store refused it at its end is told to the client alone)
-        same(server.notes_made()[2:5], ['received "/g"', 'received "/g"', 'sent "/g"'], "the notes")
+        # (all of it came, and the store refused it at its end)
+        wanted = ['the storage is full: user "ann"', 'received "/g"', 'received "/g"', 'sent "/g"']
+        same(server.notes_made()[2:6], wanted, "the notes")
 
 
 def resident_most(process):

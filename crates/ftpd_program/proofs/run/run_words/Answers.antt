@@ -78,27 +78,27 @@ returns-in-Ok-clause-plan_json g c = λ config transfers plain also are.
 pub returns-in-Err-clause-check_config : goal.returns-in-Err-clause-check_config
 returns-in-Err-clause-check_config g c = λ config plain are.
     let word = second_word c.args.words.now _ _ are in
-    (word.0, word.1, no_print (Report word.0) _ _ _ _ _ _ _ (c.in-Err.ensures.check_config config plain are) c.tell.ensures.told)
+    (word.0, word.1, no_print (Report word.0) (g.O.Lookout.Shows c.args.files.now) _ _ _ _ _ _ (c.in-Err.ensures.check_config config plain are) c.tell.ensures.told)
 
 pub returns-in-Err-clause-check_config_json : goal.returns-in-Err-clause-check_config_json
 returns-in-Err-clause-check_config_json g c = λ config plain are.
     let word = second_of_three c.args.words.now _ _ _ are in
-    (word.0, word.1, no_print (ReportJson word.0) _ _ _ _ _ _ _ (c.in-Err.ensures.check_config_json config plain are) c.tell.ensures.told)
+    (word.0, word.1, no_print (ReportJson word.0) (g.O.Lookout.Shows c.args.files.now) _ _ _ _ _ _ (c.in-Err.ensures.check_config_json config plain are) c.tell.ensures.told)
 
 pub returns-in-Err-clause-serve_ready : goal.returns-in-Err-clause-serve_ready
 returns-in-Err-clause-serve_ready g c = λ config path ready plain also third are.
-    no_serve _ _ _ g.V.Server.Serves _ _ _ _ _ _ _ (c.in-Err.ensures.serve_ready config path ready plain also third are) c.tell.ensures.told
+    no_serve _ (g.O.Lookout.Shows c.args.files.now) _ g.V.Server.Serves _ _ _ _ _ _ _ (c.in-Err.ensures.serve_ready config path ready plain also third are) c.tell.ensures.told
 
 pub returns-in-Err-clause-serve_timed : goal.returns-in-Err-clause-serve_timed
 returns-in-Err-clause-serve_timed g c = λ config first second third p plain one two three are.
-    no_serve _ _ _ g.V.Server.Serves _ _ _ _ _ _ _ (c.in-Err.ensures.serve_timed config first second third p plain one two three are) c.tell.ensures.told
+    no_serve _ (g.O.Lookout.Shows c.args.files.now) _ g.V.Server.Serves _ _ _ _ _ _ _ (c.in-Err.ensures.serve_timed config first second third p plain one two three are) c.tell.ensures.told
 
 pub returns-in-Err-clause-plan : goal.returns-in-Err-clause-plan
 returns-in-Err-clause-plan g c = λ config transfers plain also are.
     let word = third_word c.args.words.now _ _ _ are in
-    (word.0, word.1, no_print (Plan word.0) _ _ _ _ _ _ _ (c.in-Err.ensures.plan config transfers plain also are) c.tell.ensures.told)
+    (word.0, word.1, no_print (Plan word.0) (g.O.Lookout.Shows c.args.files.now) _ _ _ _ _ _ (c.in-Err.ensures.plan config transfers plain also are) c.tell.ensures.told)
 
 pub returns-in-Err-clause-plan_json : goal.returns-in-Err-clause-plan_json
 returns-in-Err-clause-plan_json g c = λ config transfers plain also are.
     let word = third_of_four c.args.words.now _ _ _ _ are in
-    (word.0, word.1, no_print (PlanJson word.0) _ _ _ _ _ _ _ (c.in-Err.ensures.plan_json config transfers plain also are) c.tell.ensures.told)
+    (word.0, word.1, no_print (PlanJson word.0) (g.O.Lookout.Shows c.args.files.now) _ _ _ _ _ _ (c.in-Err.ensures.plan_json config transfers plain also are) c.tell.ensures.told)

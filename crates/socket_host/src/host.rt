@@ -353,21 +353,28 @@ where
         self.house.handler.lock(self.rt).on_transfer(&record);
     }
 
+    // Reports a change of the store, or a fault.
+    fn report_change(&self, record: &StoreRecord) {
+        let error = match record {
+            StoreRecord::Refused(_) => self.store_error(),
+            _ => None,
+        };
+        let note = StoreNote {
+            peer: self.peer,
+            session: self.key,
+            user: self.name.as_str(),
+            record,
+            error,
+        };
+        self.house.handler.lock(self.rt).on_store(&note);
+    }
+
     // Follows a call of the store: the file that is opened, a change, or a fault.
     fn follow_store(&mut self, record: Option<StoreRecord>) {
         match record {
             Some(StoreRecord::OpenedToRead(path)) => self.path = path,
             Some(StoreRecord::OpenedToWrite(path)) => self.path = path,
-            Some(change) => {
-                let note = StoreNote {
-                    peer: self.peer,
-                    session: self.key,
-                    user: self.name.as_str(),
-                    record: &change,
-                    error: self.store_error(),
-                };
-                self.house.handler.lock(self.rt).on_store(&note);
-            }
+            Some(change) => self.report_change(&change),
             None => {}
         }
     }
@@ -392,12 +399,12 @@ where
         Option<StoreRecord>,
     )
         ensures row { IfSome input.old (λ input. IfOk result.0 (λ actions.
-            Stepped (IsRow (RecordedStep S.Step) users.now.users) AnyCall
+            Stepped (IsRow (RecordedStep {A = Global} S.Step) users.now.users) AnyCall
             self.old session.old (given_of input) session.new actions.items self.new)) }
         ensures unchanged { OnErr result.0 (session.new ≡ session.old) }
         ensures tried { IfSome input.old (λ input.
-            OnErr result.0 (StepTried (IsRow (RecordedStep S.Step) users.now.users) AnyCall
-            self.old session.old (given_of input) self.new)) }
+            OnErr result.0 (StepTried {A = Global} (IsRow (RecordedStep {A = Global} S.Step)
+            users.now.users) AnyCall self.old session.old (given_of input) self.new)) }
         ensures back { IfSome input.old (λ input. IfErr result.0 (λ back.
             back ≡ event_in input)) }
     {
@@ -449,8 +456,8 @@ where
         event: DataEvent<S::Sink>,
     )
         requires closed { is_closed session.old.view.stage ≡ true }
-        ensures row { Stepped (IsRow {A = Global} {R = S.Source} (RecordedStep S.Step)
-            users.now.users) AnyCall
+        ensures row { Stepped (IsRow {A = Global} {R = S.Source}
+            (RecordedStep {A = Global} S.Step) users.now.users) AnyCall
             self.old session.old (Came event) session.new [] self.new }
         ensures closed { is_closed session.new.view.stage ≡ true }
     {

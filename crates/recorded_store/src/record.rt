@@ -12,7 +12,7 @@ use virtual_tree::StoreFault;
 pub enum StoreRecord<A: Allocator = Global> {
     /// A file was opened for reading.
     OpenedToRead(Option<VPath<A>>),
-    /// A file was opened for writing, and is there from then on.
+    /// A file was opened for writing; this may have created or cut it.
     OpenedToWrite(Option<VPath<A>>),
     MadeDir(Option<VPath<A>>),
     RemovedDir(Option<VPath<A>>),

@@ -12,11 +12,10 @@ ghost use Rattle.session_table.specs.Steps.{asks_floors};
 ghost use Rattle.session_table.specs.Views.{is_closed};
 ghost use Rattle.std.specs.FinMap as map;
 ghost use Rattle.socket_host.specs.Cuts.{cause_of_cut};
-ghost use Rattle.recorded_store.specs.Records.{RecordedStep};
 ghost use Rattle.socket_host.specs.Records.{ends_file, ends_listing, is_end, is_text, job_kind};
 ghost use Rattle.socket_host.specs.Refusals.{refusal_of};
 ghost use Rattle.socket_host.specs.Texts.{is_without_port, time_out_reply};
-ghost use Rattle.socket_host.specs.Unsaid.{AnyCall};
+ghost use Rattle.socket_host.specs.Unsaid.{AnyCall, StoreStep};
 
 use crate::control::ControlSocket;
 use crate::moments::millis_since_1970;
@@ -399,11 +398,11 @@ where
         Option<StoreRecord>,
     )
         ensures row { IfSome input.old (λ input. IfOk result.0 (λ actions.
-            Stepped (IsRow (RecordedStep {A = Global} S.Step) users.now.users) AnyCall
+            Stepped (IsRow (StoreStep S.Step) users.now.users) AnyCall
             self.old session.old (given_of input) session.new actions.items self.new)) }
         ensures unchanged { OnErr result.0 (session.new ≡ session.old) }
         ensures tried { IfSome input.old (λ input.
-            OnErr result.0 (StepTried {A = Global} (IsRow (RecordedStep {A = Global} S.Step)
+            OnErr result.0 (StepTried {A = Global} (IsRow (StoreStep S.Step)
             users.now.users) AnyCall self.old session.old (given_of input) self.new)) }
         ensures back { IfSome input.old (λ input. IfErr result.0 (λ back.
             back ≡ event_in input)) }
@@ -457,7 +456,7 @@ where
     )
         requires closed { is_closed session.old.view.stage ≡ true }
         ensures row { Stepped (IsRow {A = Global} {R = S.Source}
-            (RecordedStep {A = Global} S.Step) users.now.users) AnyCall
+            (StoreStep S.Step) users.now.users) AnyCall
             self.old session.old (Came event) session.new [] self.new }
         ensures closed { is_closed session.new.view.stage ≡ true }
     {
@@ -490,7 +489,7 @@ where
 
     type Sink = S::Sink;
 
-    ghost Step = { RecordedStep S.Step };
+    ghost Step = { StoreStep S.Step };
 
     ghost Does = { AnyCall };
 

@@ -31,6 +31,9 @@ const LAST_PIECE: usize = 512;
 pub(crate) trait SessionHost: Host<Global> {
     /// The settings of the session.
     fn settings(&self) -> Result<Settings, AllocError>;
+
+    /// Ends the control connection in such a way that the last reply arrives, and leaves the ticket of the session.
+    fn leave_client(self, buffer: &mut [u8]);
 }
 
 impl<'h, R, S, H, B> SessionHost for SocketHost<'h, R, S, H, B>
@@ -42,6 +45,12 @@ where
 {
     fn settings(&self) -> Result<Settings, AllocError> {
         self.copy_settings()
+    }
+
+    fn leave_client(self, buffer: &mut [u8]) {
+        let mut host = self;
+        host.hang_up(buffer);
+        host.leave();
     }
 }
 
@@ -62,6 +71,14 @@ fn run_hosted<T: SessionHost, U: HasUsers>(alloc: &Global, host: &mut T, house: 
     if let Ok(settings) = host.settings() {
         let _ = run_control(alloc, host, house.users(), settings, peer, MOST_READS);
     }
+}
+
+// Runs the session of a host, closes its connection, and leaves its ticket.
+fn run_whole<T: SessionHost, U: HasUsers>(alloc: &Global, host: T, house: &U, peer: [u8; 4]) {
+    let mut host = host;
+    run_hosted(alloc, &mut host, house, peer);
+    let mut buffer = [0; LAST_PIECE];
+    host.leave_client(&mut buffer);
 }
 
 // The number of the session of a connection, by which lanes identify it. No registry has 2^32 connections.
@@ -95,11 +112,8 @@ where
     match floors_of_nobody(rt.alloc()) {
         Some(none) => {
             let socket = ControlSocket::new(stream);
-            let mut host = SocketHost::new(rt, house, socket, side, peer, key, none);
-            run_hosted(&rt.alloc(), &mut host, house, peer);
-            let mut buffer = [0; LAST_PIECE];
-            host.hang_up(&mut buffer);
-            host.leave();
+            let host = SocketHost::new(rt, house, socket, side, peer, key, none);
+            run_whole(&rt.alloc(), host, house, peer);
         }
         None => side.leave(),
     }

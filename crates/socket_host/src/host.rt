@@ -448,6 +448,7 @@ where
     }
 
     // Passes on the events of the data side after the end of the control connection.
+    #[tactic(auto, unfolding(crate::specs::Unsaid::StoreStep))]
     fn end_with(
         &mut self,
         users: &Authorizer,
@@ -507,6 +508,7 @@ where
         made
     }
 
+    #[tactic(auto, unfolding(crate::specs::Unsaid::StoreStep))]
     fn close(
         &mut self,
         users: &Authorizer,

@@ -1,1 +1,2 @@
+mod Beneath
 mod Front

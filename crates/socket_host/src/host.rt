@@ -15,13 +15,14 @@ ghost use Rattle.socket_host.specs.Cuts.{cause_of_cut};
 ghost use Rattle.socket_host.specs.Records.{ends_file, ends_listing, is_end, is_text, job_kind};
 ghost use Rattle.socket_host.specs.Refusals.{refusal_of};
 ghost use Rattle.socket_host.specs.Texts.{is_without_port, time_out_reply};
-ghost use Rattle.socket_host.specs.Unsaid.{AnyCall, StoreStep};
+ghost use Rattle.socket_host.specs.Unsaid.{AnyCall};
 
 use crate::control::ControlSocket;
 use crate::moments::millis_since_1970;
+use crate::recorded::{close_beneath, end_beneath, step_beneath};
 use authorizer::Authorizer;
 use client_patience::{TimeOut, Waits};
-use control_session::{DataEvent, Host, Leaving, Piece, Session, close_by, end_by, step_by};
+use control_session::{DataEvent, Host, Leaving, Piece, Session};
 use event_word::{has_passed, micros};
 use ftp_terms::DataType;
 use ftp_wire::HostPort;
@@ -29,7 +30,7 @@ use handler_hooks::{Hooks, tell};
 use lent_parts::PartsName;
 use line_rates::Limits;
 use rate_floors::Floors;
-use recorded_store::{RecordedStore, StoreRecord};
+use recorded_store::StoreRecord;
 use server_house::{
     EndCause, House, ServerHooks, SessionEvent, SessionRefusal, ShutdownStage, StoreNote,
     TransferKind, TransferRecord, copy_settings,
@@ -398,11 +399,11 @@ where
         Option<StoreRecord>,
     )
         ensures row { IfSome input.old (λ input. IfOk result.0 (λ actions.
-            Stepped (IsRow (StoreStep S.Step) users.now.users) AnyCall
+            Stepped (IsRow S.Step users.now.users) AnyCall
             self.old session.old (given_of input) session.new actions.items self.new)) }
         ensures unchanged { OnErr result.0 (session.new ≡ session.old) }
         ensures tried { IfSome input.old (λ input.
-            OnErr result.0 (StepTried {A = Global} (IsRow (StoreStep S.Step)
+            OnErr result.0 (StepTried {A = Global} (IsRow S.Step
             users.now.users) AnyCall self.old session.old (given_of input) self.new)) }
         ensures back { IfSome input.old (λ input. IfErr result.0 (λ back.
             back ≡ event_in input)) }
@@ -411,13 +412,13 @@ where
         if asks_floors(session, input) {
             let mut floors = self.house.floors.lock(self.rt);
             let mut store = self.house.store_of(self.key).lock(self.rt);
-            let made = step_by(session, users, &mut *floors, &mut *store, input, moment);
+            let made = step_beneath(session, users, &mut *floors, &mut *store, input, moment);
             return (made, store.take_record());
         }
         // Asks for no admission (`others_ask_no_floors` of `session_table`), so needs no lock of the floors.
         let floors = &mut self.no_floors;
         let mut store = self.house.store_of(self.key).lock(self.rt);
-        let made = step_by(session, users, floors, &mut *store, input, moment);
+        let made = step_beneath(session, users, floors, &mut *store, input, moment);
         (made, store.take_record())
     }
 
@@ -448,7 +449,6 @@ where
     }
 
     // Passes on the events of the data side after the end of the control connection.
-    #[tactic(auto, unfolding(crate::specs::Unsaid::StoreStep))]
     fn end_with(
         &mut self,
         users: &Authorizer,
@@ -457,7 +457,7 @@ where
     )
         requires closed { is_closed session.old.view.stage ≡ true }
         ensures row { Stepped (IsRow {A = Global} {R = S.Source}
-            (StoreStep S.Step) users.now.users) AnyCall
+            S.Step users.now.users) AnyCall
             self.old session.old (Came event) session.new [] self.new }
         ensures closed { is_closed session.new.view.stage ≡ true }
     {
@@ -465,7 +465,7 @@ where
             let moment = millis_since_1970(self.rt);
             let mut store = self.house.store_of(self.key).lock(self.rt);
             let floors = &mut self.no_floors;
-            end_by(session, users, floors, &mut *store, event, moment);
+            end_beneath(session, users, floors, &mut *store, event, moment);
             store.take_record()
         };
         self.follow_store(record);
@@ -484,13 +484,13 @@ where
     H: ServerHooks,
     B: PartsName,
 {
-    type Store = RecordedStore<S>;
+    type Store = S;
 
     type Source = S::Source;
 
     type Sink = S::Sink;
 
-    ghost Step = { StoreStep S.Step };
+    ghost Step = { S.Step };
 
     ghost Does = { AnyCall };
 
@@ -508,7 +508,6 @@ where
         made
     }
 
-    #[tactic(auto, unfolding(crate::specs::Unsaid::StoreStep))]
     fn close(
         &mut self,
         users: &Authorizer,
@@ -519,7 +518,7 @@ where
         let mut store = self.house.store_of(self.key).lock(self.rt);
         let floors = &mut self.no_floors;
         match nobody.take() {
-            Some(nobody) => close_by(session, users, floors, &mut *store, nobody, moment),
+            Some(nobody) => close_beneath(session, users, floors, &mut *store, nobody, moment),
             None => unreachable!(),
         }
     }

@@ -9,6 +9,7 @@
 mod control;
 mod host;
 mod moments;
+mod recorded;
 mod serving;
 
 pub use control::ControlSocket;

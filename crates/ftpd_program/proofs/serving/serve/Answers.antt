@@ -1,6 +1,5 @@
-use Rattle.std.proofs.Common.{ℕ, List, option_map, subst, sym}
+use Rattle.std.proofs.Common.{option_map}
 use Rattle.ftpd_program.proofs.Serves.{answered}
-use Rattle.ftpd_program.specs.Serving.{IsWarnedIn}
 use Rattle.ftpd_program.proofs.serving.serve.Goals as goal
 
 pub returns-in-Ok-clause-end : goal.returns-in-Ok-clause-end
@@ -11,6 +10,4 @@ returns-in-Ok-clause-end g c =
     let ready = option_map (λ w. w.now) c.args.signs.ready_file in
     let old = g.W.TextWriter.contents c.args.output.now in
     let new = g.W.TextWriter.contents c.serve.new.output in
-    let warned =
-    subst (λ (told : List ℕ). IsWarnedIn gives shown c.args.config.now c.in-Ok.field-0-0 told) (sym c.as_str.ensures.value) c.in-Ok.ensures.config in
-    rw c.ended.ensures.end (answered gives shown c.args.config.now g.V.Server.Serves path ready c.args.patience old new _ _ _ warned c.serve.ensures.served)
+    rw c.ended.ensures.end (answered gives shown c.args.config.now g.V.Server.Serves path ready c.args.patience old new _ _ _ _ c.in-Ok.ensures.config c.as_str-told.ensures.value c.serve.ensures.served)

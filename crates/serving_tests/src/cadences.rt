@@ -208,7 +208,7 @@ fn hold_round(cadence: &mut Cadence, user: u32, rows: &TransferRows) {
 fn rows_close_for_those_within(rt: HostRuntime) {
     let slow = Credit {
         rate: 10_000,
-        left: 100,
+        left: 10,
     };
     let alone = rows_of(0, 0, slow);
     let rest = rows_of(
@@ -216,7 +216,7 @@ fn rows_close_for_those_within(rt: HostRuntime) {
         0,
         Credit {
             rate: 10_000,
-            left: 101,
+            left: 11,
         },
     );
     let mut cadence = Cadence::new(rt.alloc(), 5, 2).expect(&rt, "memory");

@@ -14,13 +14,12 @@ use client_patience::Patience;
 use ftpd_program::ServeFault;
 use grant_ledger::{Book, Settled, Tally, settle};
 use handler_hooks::Hooks;
-use last_fault::LastFault;
 use lane_desk::{Desk, LaneSeat, RoundDesk, Worked, open_desk};
 use lane_rounds::RoundClock;
+use last_fault::LastFault;
 use line_rates::Limits;
 use passive_ports::{PoolFault, Registry, RestingPorts};
 use rate_floors::Floors;
-use recorded_store::RecordedStore;
 use round_cadence::Cadence;
 use round_pace::Pace;
 use server_config::ServerNumbers;
@@ -59,8 +58,8 @@ pub(crate) struct Rooms<S: Store<Global>, H: Hooks, P: Drop> {
     pub(crate) settings: Settings,
     pub(crate) numbers: ServerNumbers,
     pub(crate) users: Authorizer,
-    pub(crate) store: RecordedStore<S>,
-    pub(crate) own_stores: Vec<Mutex<RecordedStore<S>>>,
+    pub(crate) store: S,
+    pub(crate) own_stores: Vec<Mutex<S>>,
     pub(crate) errors: Vec<LastFault>,
     pub(crate) arrivals: Vec<Mutex<Option<TcpStream>>>,
     pub(crate) handler: H,
@@ -97,14 +96,11 @@ fn new_lanes(alloc: Global, count: usize) -> Result<Vec<LaneSign>, AllocError> {
     Ok(lanes)
 }
 
-// Each store, with its records, behind a lock.
-fn locked<S: Drop>(
-    alloc: Global,
-    stores: Vec<S>,
-) -> Result<Vec<Mutex<RecordedStore<S>>>, AllocError> {
+// Each store behind a lock.
+fn locked<S: Drop>(alloc: Global, stores: Vec<S>) -> Result<Vec<Mutex<S>>, AllocError> {
     let mut locked = Vec::with_capacity(alloc, stores.len())?;
     for store in stores {
-        locked.push(Mutex::new(RecordedStore::new(alloc, store)))?;
+        locked.push(Mutex::new(store))?;
     }
     Ok(locked)
 }
@@ -182,7 +178,7 @@ where
         settings,
         numbers,
         users,
-        store: RecordedStore::new(alloc, store),
+        store,
         own_stores,
         errors,
         arrivals,

@@ -24,6 +24,7 @@ use handler_hooks::Hooks;
 use lane_rounds::RoundClock;
 use lent_parts::{LentBoard, LentPass, PartsName};
 use paced_rounds::seconds_are_kept;
+use recorded_store::Recorder;
 use round_cadence::Cadence;
 use round_pace::{Pace, histories_keep_rates};
 use server_house::{House, ServerHooks, ServerShutdown};
@@ -106,7 +107,7 @@ where
         + Copy
         + Send
         + Sync,
-    S: Store<Global> + Send + Drop,
+    S: Store<Global> + Recorder + Send + Drop,
     S::Source: Send,
     S::Sink: Send,
     H: ServerHooks + Send,
@@ -159,7 +160,7 @@ where
         + Copy
         + Send
         + Sync,
-    S: Store<Global> + Send + Drop,
+    S: Store<Global> + Recorder + Send + Drop,
     S::Source: Send,
     S::Sink: Send,
     H: ServerHooks + Send,
@@ -215,7 +216,7 @@ where
         + Copy
         + Send
         + Sync,
-    S: Store<Global> + Send + Drop,
+    S: Store<Global> + Recorder + Send + Drop,
     S::Source: Send,
     S::Sink: Send,
     H: ServerHooks + Send,
@@ -291,7 +292,7 @@ where
         + Copy
         + Send
         + Sync,
-    S: Store<Global> + Send + Drop,
+    S: Store<Global> + Recorder + Send + Drop,
     S::Source: Send,
     S::Sink: Send,
     H: ServerHooks + Send,

@@ -13,6 +13,7 @@ use ftpd_program::{FtpdExit, ReadyFile, ReadyOutput, ServeFiles, Server, StartFa
 use last_fault::LastFault;
 use line_queue::{LogForm, QueuedLog, SharedLines};
 use log::{Level, Logged};
+use recorded_store::RecordedStore;
 use server_config::{Config, ServedStore};
 use session_notes::Notes;
 use sheets_program::Exit as Common;
@@ -149,13 +150,16 @@ impl ReadyFile for MachineReadyFile {
     }
 }
 
+/// A folder of the machine, whose calls are recorded.
+type FolderStore = RecordedStore<DirStore<HostRuntime>>;
+
 fn open_folder(
     machine: &HostRuntime,
     folder: &str,
     error: LastFault,
-) -> Result<DirStore<HostRuntime>, ServeFault> {
+) -> Result<FolderStore, ServeFault> {
     match DirStore::new(*machine, folder, error) {
-        Ok(store) => Ok(store),
+        Ok(store) => Ok(RecordedStore::new(machine.alloc(), store)),
         Err(StoreFault::Memory) => Err(ServeFault::Memory),
         Err(_) => Err(ServeFault::Store),
     }
@@ -175,7 +179,7 @@ fn open_folders(
     machine: &HostRuntime,
     folder: &str,
     errors: &[LastFault],
-) -> Result<Vec<DirStore<HostRuntime>>, ServeFault> {
+) -> Result<Vec<FolderStore>, ServeFault> {
     let mut stores = Vec::new(machine.alloc());
     for error in errors {
         let store = open_folder(machine, folder, error.another()?)?;
@@ -225,7 +229,7 @@ where
                 numbers,
                 users,
                 limits,
-                store,
+                store: RecordedStore::new(rt.alloc(), store),
                 own_stores: Vec::new(rt.alloc()),
                 errors: Vec::new(rt.alloc()),
                 handler,

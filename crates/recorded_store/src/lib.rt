@@ -20,4 +20,4 @@ mod record;
 mod recorded;
 
 pub use record::StoreRecord;
-pub use recorded::RecordedStore;
+pub use recorded::{RecordedStore, Recorder};

@@ -181,3 +181,26 @@ impl<S: Store<A>, A: Allocator + Clone> Store<A> for RecordedStore<S, A> {
 
     ghost counts = { records_count S.fault_count S.counts };
 }
+
+/// A store that keeps a record of its last call that counts.
+pub trait Recorder {
+    ghost use Rattle.recorded_store.specs.declared.record.StoreRecord.{StoreRecord};
+    ghost use Rattle.std.specs.Prelude.{Option};
+    ghost use Rattle.std.specs.declared.alloc.Global.{Global};
+
+    /// The record of the last call that counts since the last take.
+    ghost recorded: { Self → Option (StoreRecord Global) };
+
+    /// Takes that record.
+    fn take_last(&mut self) -> Option<StoreRecord>
+        ensures record { result ≡ recorded self.old }
+        ensures none { recorded self.new ≡ None };
+}
+
+impl<S> Recorder for RecordedStore<S> {
+    ghost recorded = { λ it. it.last };
+
+    fn take_last(&mut self) -> Option<StoreRecord> {
+        self.take_record()
+    }
+}

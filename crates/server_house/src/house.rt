@@ -15,7 +15,6 @@ use last_fault::LastFault;
 use lent_parts::{LentBoard, LentPass, PartsName};
 use passive_ports::{Registry, RestingPorts};
 use rate_floors::Floors;
-use recorded_store::RecordedStore;
 use server_config::ServerNumbers;
 use session_table::Settings;
 use std::alloc::{AllocError, Global};
@@ -32,10 +31,10 @@ pub struct House<S: Store<Global>, H: Hooks, B: PartsName> {
     pub numbers: ServerNumbers,
     pub patience: Patience,
     /// The store of all sessions without one of their own.
-    pub store: Mutex<RecordedStore<S>>,
+    pub store: Mutex<S>,
     /// A store for each connection, by its number, over the same files as the shared one; empty if there can be only
     /// one. With its own, a session waits for no call of another's.
-    pub own_stores: Vec<Mutex<RecordedStore<S>>>,
+    pub own_stores: Vec<Mutex<S>>,
     /// The last error of the machine in the store of each connection, by its number; empty if none can be known.
     pub errors: Vec<LastFault>,
     /// The connection of each admitted client, by its number, until its thread takes it.
@@ -70,7 +69,7 @@ impl<S: Store<Global>, H: Hooks, B: PartsName> House<S, H, B> {
     }
 
     /// The store of the session of a connection.
-    pub fn store_of(&self, key: usize) -> &Mutex<RecordedStore<S>> {
+    pub fn store_of(&self, key: usize) -> &Mutex<S> {
         match self.own_stores.get(key) {
             Some(own) => own,
             None => &self.store,

@@ -1,2 +1,1 @@
-mod Beneath
 mod Front

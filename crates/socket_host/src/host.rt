@@ -19,10 +19,9 @@ ghost use Rattle.socket_host.specs.Unsaid.{AnyCall};
 
 use crate::control::ControlSocket;
 use crate::moments::millis_since_1970;
-use crate::recorded::{close_beneath, end_beneath, step_beneath};
 use authorizer::Authorizer;
 use client_patience::{TimeOut, Waits};
-use control_session::{DataEvent, Host, Leaving, Piece, Session};
+use control_session::{DataEvent, Host, Leaving, Piece, Session, close_by, end_by, step_by};
 use event_word::{has_passed, micros};
 use ftp_terms::DataType;
 use ftp_wire::HostPort;
@@ -30,7 +29,7 @@ use handler_hooks::{Hooks, tell};
 use lent_parts::PartsName;
 use line_rates::Limits;
 use rate_floors::Floors;
-use recorded_store::StoreRecord;
+use recorded_store::{Recorder, StoreRecord};
 use server_house::{
     EndCause, House, ServerHooks, SessionEvent, SessionRefusal, ShutdownStage, StoreNote,
     TransferKind, TransferRecord, copy_settings,
@@ -219,7 +218,7 @@ pub struct SocketHost<'h, R, S: Store<Global>, H: Hooks, B: PartsName> {
 impl<'h, R, S, H, B> SocketHost<'h, R, S, H, B>
 where
     R: Wait + Clock + Net<Listener = TcpListener, Stream = TcpStream> + AllocGlobal,
-    S: Store<Global>,
+    S: Store<Global> + Recorder,
     H: ServerHooks,
     B: PartsName,
 {
@@ -412,14 +411,14 @@ where
         if asks_floors(session, input) {
             let mut floors = self.house.floors.lock(self.rt);
             let mut store = self.house.store_of(self.key).lock(self.rt);
-            let made = step_beneath(session, users, &mut *floors, &mut *store, input, moment);
-            return (made, store.take_record());
+            let made = step_by(session, users, &mut *floors, &mut *store, input, moment);
+            return (made, store.take_last());
         }
         // Asks for no admission (`others_ask_no_floors` of `session_table`), so needs no lock of the floors.
         let floors = &mut self.no_floors;
         let mut store = self.house.store_of(self.key).lock(self.rt);
-        let made = step_beneath(session, users, floors, &mut *store, input, moment);
-        (made, store.take_record())
+        let made = step_by(session, users, floors, &mut *store, input, moment);
+        (made, store.take_last())
     }
 
     // Reports an event of the session that is none of its steps.
@@ -465,8 +464,8 @@ where
             let moment = millis_since_1970(self.rt);
             let mut store = self.house.store_of(self.key).lock(self.rt);
             let floors = &mut self.no_floors;
-            end_beneath(session, users, floors, &mut *store, event, moment);
-            store.take_record()
+            end_by(session, users, floors, &mut *store, event, moment);
+            store.take_last()
         };
         self.follow_store(record);
     }
@@ -480,7 +479,7 @@ where
 impl<'h, R, S, H, B> Host<Global> for SocketHost<'h, R, S, H, B>
 where
     R: Wait + Clock + Net<Listener = TcpListener, Stream = TcpStream> + AllocGlobal,
-    S: Store<Global>,
+    S: Store<Global> + Recorder,
     H: ServerHooks,
     B: PartsName,
 {
@@ -518,7 +517,7 @@ where
         let mut store = self.house.store_of(self.key).lock(self.rt);
         let floors = &mut self.no_floors;
         match nobody.take() {
-            Some(nobody) => close_beneath(session, users, floors, &mut *store, nobody, moment),
+            Some(nobody) => close_by(session, users, floors, &mut *store, nobody, moment),
             None => unreachable!(),
         }
     }

@@ -9,7 +9,6 @@
 mod control;
 mod host;
 mod moments;
-mod recorded;
 mod serving;
 
 pub use control::ControlSocket;

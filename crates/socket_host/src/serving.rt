@@ -10,6 +10,7 @@ use authorizer::Authorizer;
 use control_session::{Host, run_control};
 use handler_hooks::Hooks;
 use lent_parts::PartsName;
+use recorded_store::Recorder;
 use server_house::{House, LaneEnds, ServerHooks, SessionEnd, SessionJob};
 use session_table::Settings;
 use socket_side::SocketSide;
@@ -39,7 +40,7 @@ pub(crate) trait SessionHost: Host<Global> {
 impl<'h, R, S, H, B> SessionHost for SocketHost<'h, R, S, H, B>
 where
     R: Wait + Clock + Net<Listener = TcpListener, Stream = TcpStream> + AllocGlobal,
-    S: Store<Global>,
+    S: Store<Global> + Recorder,
     H: ServerHooks,
     B: PartsName,
 {
@@ -103,7 +104,7 @@ fn run_at<'h, R, S, H, B>(
 )
 where
     R: Wait + Clock + Net<Listener = TcpListener, Stream = TcpStream> + AllocGlobal,
-    S: Store<Global>,
+    S: Store<Global> + Recorder,
     H: ServerHooks,
     B: PartsName,
     requires idle { owner_view owner ≡ Idle }
@@ -130,7 +131,7 @@ fn run_client<R, S, H, B>(
 )
 where
     R: Wait + Clock + Net<Listener = TcpListener, Stream = TcpStream> + AllocGlobal,
-    S: Store<Global>,
+    S: Store<Global> + Recorder,
     H: ServerHooks,
     B: PartsName,
 {
@@ -155,7 +156,7 @@ pub fn serve_session<R, S, H, B>(
 )
 where
     R: Wait + Clock + Net<Listener = TcpListener, Stream = TcpStream> + AllocGlobal,
-    S: Store<Global>,
+    S: Store<Global> + Recorder,
     H: ServerHooks,
     B: PartsName,
 {

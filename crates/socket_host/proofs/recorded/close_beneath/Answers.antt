@@ -1,5 +1,0 @@
-use Rattle.socket_host.proofs.Beneath.{made_beneath}
-use Rattle.socket_host.proofs.recorded.close_beneath.Goals as goal
-
-pub returns-clause-row : goal.returns-clause-row
-returns-clause-row g c = made_beneath _ _ _ _ _ _ _ _ _ _ _ c.close_by.ensures.row

@@ -16,7 +16,6 @@ use grant_ledger::{Book, Settled, Tally, settle};
 use handler_hooks::Hooks;
 use lane_desk::{Desk, LaneSeat, RoundDesk, Worked, open_desk};
 use lane_rounds::RoundClock;
-use last_fault::LastFault;
 use line_rates::Limits;
 use passive_ports::{PoolFault, Registry, RestingPorts};
 use rate_floors::Floors;
@@ -42,8 +41,6 @@ pub struct Service<S: Drop, H: Hooks, P: Drop> {
     /// More stores over the same files, one for each connection, if they can be had: then no session waits for a call
     /// of another's.
     pub own_stores: Vec<S>,
-    /// The last error of the machine in each of these, in their order; empty if none can be known.
-    pub errors: Vec<LastFault>,
     /// The owner's callbacks.
     pub handler: H,
     /// The stop sign, if there is one.
@@ -60,7 +57,6 @@ pub(crate) struct Rooms<S: Store<Global>, H: Hooks, P: Drop> {
     pub(crate) users: Authorizer,
     pub(crate) store: S,
     pub(crate) own_stores: Vec<Mutex<S>>,
-    pub(crate) errors: Vec<LastFault>,
     pub(crate) arrivals: Vec<Mutex<Option<TcpStream>>>,
     pub(crate) handler: H,
     pub(crate) stop: Option<P>,
@@ -158,7 +154,6 @@ where
         limits,
         store,
         own_stores,
-        errors,
         handler,
         stop,
         patience,
@@ -180,7 +175,6 @@ where
         users,
         store,
         own_stores,
-        errors,
         arrivals,
         handler,
         stop,

@@ -153,36 +153,24 @@ impl ReadyFile for MachineReadyFile {
 /// A folder of the machine, whose calls are recorded.
 type FolderStore = RecordedStore<DirStore<HostRuntime>>;
 
-fn open_folder(
-    machine: &HostRuntime,
-    folder: &str,
-    error: LastFault,
-) -> Result<FolderStore, ServeFault> {
-    match DirStore::new(*machine, folder, error) {
-        Ok(store) => Ok(RecordedStore::new(machine.alloc(), store)),
+fn open_folder(machine: &HostRuntime, folder: &str) -> Result<FolderStore, ServeFault> {
+    let error = LastFault::new(machine.alloc())?;
+    match DirStore::new(*machine, folder, error.another()?) {
+        Ok(store) => Ok(RecordedStore::with_fault(machine.alloc(), store, error)),
         Err(StoreFault::Memory) => Err(ServeFault::Memory),
         Err(_) => Err(ServeFault::Store),
     }
 }
 
-// The last errors of the machine in as many stores; none yet.
-fn no_errors(alloc: Global, connections: u16) -> Result<Vec<LastFault>, AllocError> {
-    let mut errors = Vec::with_capacity(alloc, usize::from(connections))?;
-    for _ in 0..connections {
-        errors.push(LastFault::new(alloc)?)?;
-    }
-    Ok(errors)
-}
-
-// Opens the folder as a store for each connection, which keeps its errors.
+// Opens the folder as a store for each connection.
 fn open_folders(
     machine: &HostRuntime,
     folder: &str,
-    errors: &[LastFault],
+    connections: u16,
 ) -> Result<Vec<FolderStore>, ServeFault> {
     let mut stores = Vec::new(machine.alloc());
-    for error in errors {
-        let store = open_folder(machine, folder, error.another()?)?;
+    for _ in 0..connections {
+        let store = open_folder(machine, folder)?;
         if stores.push(store).is_err() {
             return Err(ServeFault::Memory);
         }
@@ -231,7 +219,6 @@ where
                 limits,
                 store: RecordedStore::new(rt.alloc(), store),
                 own_stores: Vec::new(rt.alloc()),
-                errors: Vec::new(rt.alloc()),
                 handler,
                 stop,
                 patience,
@@ -239,10 +226,8 @@ where
             serve(rt, service, output)?;
         }
         ServedStore::Folder(folder) => {
-            let errors = no_errors(rt.alloc(), numbers.max_cons)?;
-            let unread = LastFault::new(rt.alloc())?;
-            let store = open_folder(machine, folder.as_str(), unread)?;
-            let own_stores = open_folders(machine, folder.as_str(), &errors)?;
+            let store = open_folder(machine, folder.as_str())?;
+            let own_stores = open_folders(machine, folder.as_str(), numbers.max_cons)?;
             let service = Service {
                 settings,
                 numbers,
@@ -250,7 +235,6 @@ where
                 limits,
                 store,
                 own_stores,
-                errors,
                 handler,
                 stop,
                 patience,

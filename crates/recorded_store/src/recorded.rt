@@ -5,7 +5,9 @@ ghost use Rattle.recorded_store.specs.Records.{IsCopyOf, after_refusal};
 
 use crate::record::StoreRecord;
 use ftp_terms::Meta;
+use last_fault::LastFault;
 use std::alloc::{Allocator, Global};
+use std::io;
 use virtual_path::VPath;
 use virtual_tree::{ListedEntry, Store, StoreFault, WriteMode};
 
@@ -19,6 +21,8 @@ pub struct RecordedStore<S, A: Allocator = Global> {
     pub last: Option<StoreRecord<A>>,
     // for the copies of paths
     alloc: A,
+    // the last error of the machine in the store beneath, if it keeps one
+    fault: Option<LastFault>,
 }
 
 impl<S, A: Allocator> RecordedStore<S, A> {
@@ -31,6 +35,20 @@ impl<S, A: Allocator> RecordedStore<S, A> {
             store,
             last: None,
             alloc,
+            fault: None,
+        }
+    }
+
+    /// No call is recorded yet, of a store that keeps its last error of the machine there.
+    pub fn with_fault(alloc: A, store: S, fault: LastFault) -> RecordedStore<S, A>
+        ensures store { result.store ≡ store }
+        ensures none { result.last ≡ None }
+    {
+        RecordedStore {
+            store,
+            last: None,
+            alloc,
+            fault: Some(fault),
         }
     }
 
@@ -195,6 +213,10 @@ pub trait Recorder {
     fn take_last(&mut self) -> Option<StoreRecord>
         ensures record { result ≡ recorded self.old }
         ensures none { recorded self.new ≡ None };
+
+    /// Takes the last error of the machine in the store and in its files, if there was one and it is kept.
+    fn take_error(&mut self) -> Option<io::Error>
+        ensures record { recorded self.new ≡ recorded self.old };
 }
 
 impl<S> Recorder for RecordedStore<S> {
@@ -202,5 +224,12 @@ impl<S> Recorder for RecordedStore<S> {
 
     fn take_last(&mut self) -> Option<StoreRecord> {
         self.take_record()
+    }
+
+    fn take_error(&mut self) -> Option<io::Error> {
+        match &self.fault {
+            Some(fault) => fault.take(),
+            None => None,
+        }
     }
 }

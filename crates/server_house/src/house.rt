@@ -11,7 +11,6 @@ use client_patience::Patience;
 use event_word::{EventCount, SharedEventCount};
 use ftp_terms::LineText;
 use handler_hooks::Hooks;
-use last_fault::LastFault;
 use lent_parts::{LentBoard, LentPass, PartsName};
 use passive_ports::{Registry, RestingPorts};
 use rate_floors::Floors;
@@ -35,8 +34,6 @@ pub struct House<S: Store<Global>, H: Hooks, B: PartsName> {
     /// A store for each connection, by its number, over the same files as the shared one; empty if there can be only
     /// one. With its own, a session waits for no call of another's.
     pub own_stores: Vec<Mutex<S>>,
-    /// The last error of the machine in the store of each connection, by its number; empty if none can be known.
-    pub errors: Vec<LastFault>,
     /// The connection of each admitted client, by its number, until its thread takes it.
     pub arrivals: Vec<Mutex<Option<TcpStream>>>,
     pub floors: Mutex<Floors>,

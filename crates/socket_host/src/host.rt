@@ -340,10 +340,7 @@ where
 
     // The last error of the machine in the session's store or files, if there was one since it was asked for.
     fn store_error(&self) -> Option<io::Error> {
-        match self.house.errors.get(self.key) {
-            Some(last) => last.take(),
-            None => None,
-        }
+        self.house.store_of(self.key).lock(self.rt).take_error()
     }
 
     // Reports the end of the last transfer that was begun.

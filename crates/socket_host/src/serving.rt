@@ -8,7 +8,6 @@ use crate::control::ControlSocket;
 use crate::host::{SocketHost, floors_of_nobody};
 use authorizer::Authorizer;
 use control_session::{Host, run_control};
-use handler_hooks::Hooks;
 use lent_parts::PartsName;
 use recorded_store::Recorder;
 use server_house::{House, LaneEnds, ServerHooks, SessionEnd, SessionJob};
@@ -61,23 +60,29 @@ pub(crate) trait HasUsers {
     fn users(&self) -> &Authorizer;
 }
 
-impl<S: Store<Global>, H: Hooks, B: PartsName> HasUsers for House<S, H, B> {
+/// The users of a server.
+#[derive(Drop)]
+pub(crate) struct ServerUsers<'h> {
+    users: &'h Authorizer,
+}
+
+impl HasUsers for ServerUsers<'_> {
     fn users(&self) -> &Authorizer {
-        &self.users
+        self.users
     }
 }
 
 // Runs the whole session of a host. If there is no memory to begin, the client gets no reply.
-fn run_hosted<T: SessionHost, U: HasUsers>(alloc: &Global, host: &mut T, house: &U, peer: [u8; 4]) {
+fn run_hosted<T: SessionHost, U: HasUsers>(alloc: &Global, host: &mut T, owner: &U, peer: [u8; 4]) {
     if let Ok(settings) = host.settings() {
-        let _ = run_control(alloc, host, house.users(), settings, peer, MOST_READS);
+        let _ = run_control(alloc, host, owner.users(), settings, peer, MOST_READS);
     }
 }
 
 // Runs the session of a host, closes its connection, and leaves its ticket.
-fn run_whole<T: SessionHost, U: HasUsers>(alloc: &Global, host: T, house: &U, peer: [u8; 4]) {
+fn run_whole<T: SessionHost, U: HasUsers>(alloc: &Global, host: T, owner: &U, peer: [u8; 4]) {
     let mut host = host;
-    run_hosted(alloc, &mut host, house, peer);
+    run_hosted(alloc, &mut host, owner, peer);
     let mut buffer = [0; LAST_PIECE];
     host.leave_client(&mut buffer);
 }
@@ -114,7 +119,10 @@ where
         Some(none) => {
             let socket = ControlSocket::new(stream);
             let host = SocketHost::new(rt, house, socket, side, peer, key, none);
-            run_whole(&rt.alloc(), host, house, peer);
+            let users = ServerUsers {
+                users: &house.users,
+            };
+            run_whole(&rt.alloc(), host, &users, peer);
         }
         None => side.leave(),
     }

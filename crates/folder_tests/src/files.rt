@@ -118,14 +118,19 @@ impl<'a> Write for Slow<'a> {
     }
 }
 
+/// Writes three octets, one per call. Returns whether they were taken.
+fn is_written(rt: &(impl Abort + AllocGlobal), written: &mut Vec<u8>) -> bool {
+    let mut sink = write_new(Slow { written }, no_error(rt));
+    if sink.write(b"abc").is_err() {
+        return false;
+    }
+    flushed(sink).is_ok()
+}
+
 #[test]
 fn files_and_directories(rt: HostRuntime) {
     check(&rt);
     let mut written = Vec::new(rt.alloc());
-    let slow = Slow {
-        written: &mut written,
-    };
-    let mut sink = write_new(slow, no_error(&rt));
-    holds(&rt, sink.write(b"abc").is_ok() && flushed(sink).is_ok());
+    holds(&rt, is_written(&rt, &mut written));
     holds(&rt, written.as_slice() == b"abc".as_slice());
 }

@@ -3,7 +3,6 @@
 use crate::expect::holds;
 use linked_list_allocator::LocalHeap;
 use memory_store::MemStore;
-use recorded_store::{RecordedStore, StoreRecord};
 use std::alloc::AllocError;
 use std::process::Abort;
 use test_fail_store::FailStore;
@@ -39,18 +38,6 @@ fn test_fail_store(rt: &(impl Abort + AllocGlobal), path: &VPath) -> Result<(), 
     Ok(())
 }
 
-fn recorded_store(rt: &(impl Abort + AllocGlobal), path: &VPath) -> Result<(), AllocError> {
-    let mut store = RecordedStore::new(rt.alloc(), MemStore::new(rt.alloc(), 1000)?);
-    holds(rt, store.make_dir(path) == Ok(())); // the path is `/in`
-    holds(rt, store.stat(path).is_ok()); // leaves the record
-    match store.take_record() {
-        Some(StoreRecord::MadeDir(Some(made))) => holds(rt, made.text() == "/in"),
-        _ => holds(rt, false),
-    }
-    holds(rt, store.take_record().is_none());
-    Ok(())
-}
-
 fn test_scarce_memory(rt: impl Abort + AllocGlobal + Drop) -> Result<(), AllocError> {
     let heap = LocalHeap::new(rt.alloc(), HEAP)?;
     let rest = leave_hole(&rt, &heap, 48)?;
@@ -66,7 +53,6 @@ fn of_a_directory(rt: &(impl Abort + AllocGlobal)) {
     let path = root.child(rt.alloc(), "in").expect(rt, "a path");
     memory_store(rt, &path).expect(rt, "a store");
     test_fail_store(rt, &path).expect(rt, "a store");
-    recorded_store(rt, &path).expect(rt, "a store");
 }
 
 fn of_a_file(rt: &(impl Abort + AllocGlobal)) {

@@ -336,12 +336,24 @@ fn log_at(machine: &HostRuntime, path: Option<String>) -> Result<LogFile, StartF
     }
 }
 
+/// The lines of notes and of the transfer log, for the thread that writes them and for those who offer them.
+#[derive(Drop)]
+struct LineHandles {
+    lines: Arc<SharedLines>,
+    notes: Arc<SharedLines>,
+    transfers: Arc<SharedLines>,
+}
+
 /// The lines of notes and of the transfer log, for those that offer them and for the thread that writes them.
-fn shared_lines(alloc: Global) -> Result<[Arc<SharedLines>; 3], AllocError> {
+fn shared_lines(alloc: Global) -> Result<LineHandles, AllocError> {
     let lines = Arc::new(alloc, SharedLines::new(alloc)?)?;
-    let other = Arc::try_clone(&lines)?;
-    let third = Arc::try_clone(&lines)?;
-    Ok([lines, other, third])
+    let notes = Arc::try_clone(&lines)?;
+    let transfers = Arc::try_clone(&lines)?;
+    Ok(LineHandles {
+        lines,
+        notes,
+        transfers,
+    })
 }
 
 /// Returns the fault of a start whose folder is not there, if it is not.
@@ -430,12 +442,18 @@ where
         Ok(file) => file,
         Err(start) => return (FtpdExit::Server(ServeFault::TransferLog), Some(start)),
     };
-    let [lines, own, logged] = match shared_lines(rt.alloc()) {
-        Ok(both) => both,
+    let handles = match shared_lines(rt.alloc()) {
+        Ok(handles) => handles,
         Err(_) => return (FtpdExit::Server(ServeFault::Memory), None),
     };
-    let queued = QueuedLog::new(*rt, own, form);
-    let transfers = QueuedTransfers::new(*rt, if is_logged { Some(logged) } else { None });
+    let LineHandles {
+        lines,
+        notes,
+        transfers,
+    } = handles;
+    let queued = QueuedLog::new(*rt, notes, form);
+    let logged = if is_logged { Some(transfers) } else { None };
+    let transfers = QueuedTransfers::new(*rt, logged);
     let handler = Notes::new(Logged::new(*machine, Level::Info, queued), form, transfers);
     handler.note_warnings(warnings.as_str());
     let mut output = ReadyOutput::new(FallibleIo(&mut output.0), ready);

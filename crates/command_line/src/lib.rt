@@ -3,7 +3,7 @@
 //! ```text
 //! ftpd share SHEET
 //! ftpd check SHEET GRANTS
-//! ftpd check-config CONFIG [--json]
+//! ftpd check-config CONFIG
 //! ftpd migrate CONFIG
 //! ftpd script CONFIG
 //! ftpd plan CONFIG TRANSFERS [--json]

@@ -1,4 +1,2 @@
-pub mod Depths
 pub mod Joined
 pub mod Reported
-pub mod Pushed

@@ -14,6 +14,7 @@
 
 mod connection;
 mod end;
+mod fault_word;
 mod name;
 mod outgoing;
 mod passive;

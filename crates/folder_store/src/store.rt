@@ -8,9 +8,8 @@ ghost use Rattle.folder_store.specs.Refusals.{store_fault};
 use crate::count::FaultCount;
 use crate::fault::MachineFault;
 use crate::folder::Folder;
-use crate::open::{DirSink, DirSource, flushed, read_rest, write_new};
+use crate::open::{DirSink, DirSource, flushed};
 use ftp_terms::Meta;
-use last_fault::LastFault;
 use std::fs;
 use std::io::ErrorKind;
 use std::marker::Model;
@@ -21,14 +20,10 @@ use virtual_tree::{ListedEntry, Store, StoreFault, WriteMode};
 
 /// A folder of the machine and everything beneath it. It has no capacity: a full disk is a fault of the
 /// device.
-///
-/// The machine's error of the last fault of the device is left in a [`LastFault`], also that of a read or write of a file
-/// that it has opened.
 #[derive(Drop)]
 pub struct DirStore<R: Files + Alloc + Clone + Drop> {
     folder: Folder<R>,
     faults: FaultCount,
-    fault: LastFault,
 }
 
 impl<R: Files + Alloc + Clone + Drop> Model for DirStore<R> {
@@ -43,9 +38,8 @@ impl<R: Files + Alloc + Clone + Drop> DirStore<R>
 where
     R::File: AsRawFd,
 {
-    /// The folder at a path of the machine, which must exist. A link at its end is followed. The errors of its faults
-    /// are left in `fault`.
-    pub fn new(rt: R, folder: &str, fault: LastFault) -> Result<DirStore<R>, StoreFault>
+    /// The folder at a path of the machine, which must exist. A link at its end is followed.
+    pub fn new(rt: R, folder: &str) -> Result<DirStore<R>, StoreFault>
         ensures new { IfOk result (λ store. store.count ≡ 0) }
         ensures faults { IfErr result (λ fault. (fault ≡ StoreFault.NotFound)
             ⊎ (fault ≡ StoreFault.NotDir) ⊎ (fault ≡ StoreFault.Device)
@@ -62,10 +56,7 @@ where
                     ErrorKind::NotFound => Err(StoreFault::NotFound),
                     ErrorKind::NotADirectory => Err(StoreFault::NotDir),
                     ErrorKind::OutOfMemory => Err(StoreFault::Memory),
-                    _ => {
-                        fault.put(error);
-                        Err(StoreFault::Device)
-                    }
+                    _ => Err(StoreFault::Device),
                 };
             }
         }
@@ -73,11 +64,10 @@ where
         Ok(DirStore {
             folder: Folder { rt, path },
             faults: FaultCount { count: 0 },
-            fault,
         })
     }
 
-    /// The result as a store returns it. A fault of the device is counted, and its error kept.
+    /// The result as a store returns it. A fault of the device is counted.
     fn answer<T>(&mut self, answer: Result<T, MachineFault>) -> Result<T, StoreFault>
         ensures same { MatchResult answer (λ told. result ≡ Ok told)
             (λ fault. result ≡ Err (store_fault fault)) }
@@ -86,9 +76,6 @@ where
         match answer {
             Ok(told) => Ok(told),
             Err(fault) => {
-                if let MachineFault::Device(error) = fault {
-                    self.fault.put(error);
-                }
                 let fault = fault.in_store();
                 if fault == StoreFault::Device {
                     self.faults = FaultCount {
@@ -139,14 +126,8 @@ where
         path: &VPath<R::A>,
         offset: u64,
     ) -> Result<DirSource<R::File>, StoreFault> {
-        let Ok(fault) = self.fault.another() else {
-            return Err(StoreFault::Memory);
-        };
         let answer = self.folder.read_from(path, offset);
-        match self.answer(answer) {
-            Ok(rest) => Ok(read_rest(rest, fault)),
-            Err(refused) => Err(refused),
-        }
+        self.answer(answer)
     }
 
     fn open_write(
@@ -155,14 +136,8 @@ where
         mode: WriteMode,
         _moment: u64,
     ) -> Result<DirSink<R::File>, StoreFault> {
-        let Ok(fault) = self.fault.another() else {
-            return Err(StoreFault::Memory);
-        };
         let answer = self.folder.write_by(path, mode);
-        match self.answer(answer) {
-            Ok(file) => Ok(write_new(file, fault)),
-            Err(refused) => Err(refused),
-        }
+        self.answer(answer)
     }
 
     fn finish(&mut self, sink: DirSink<R::File>, _moment: u64) -> Result<(), StoreFault> {

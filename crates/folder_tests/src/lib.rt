@@ -3,8 +3,6 @@
 #![tactic(auto)]
 
 #[cfg(test)]
-mod errors;
-#[cfg(test)]
 mod examples;
 #[cfg(test)]
 mod expect;

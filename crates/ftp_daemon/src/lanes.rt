@@ -6,7 +6,6 @@ use crate::accepting::accept_all;
 use crate::crew::Crew;
 use ftpd_program::ServeFault;
 use lent_parts::PartsName;
-use recorded_store::Recorder;
 use server_house::{House, ServerHooks};
 use std::alloc::Global;
 use std::net::{Net, TcpListener, TcpStream};
@@ -39,7 +38,7 @@ where
         + Copy
         + Send
         + Sync,
-    S: Store<Global> + Recorder + Send + Drop,
+    S: Store<Global> + Send + Drop,
     S::Source: Send,
     S::Sink: Send,
     H: ServerHooks + Send,

@@ -24,7 +24,6 @@ use handler_hooks::Hooks;
 use lane_rounds::RoundClock;
 use lent_parts::{LentBoard, LentPass, PartsName};
 use paced_rounds::seconds_are_kept;
-use recorded_store::Recorder;
 use round_cadence::Cadence;
 use round_pace::{Pace, histories_keep_rates};
 use server_house::{House, ServerHooks, ServerShutdown};
@@ -105,7 +104,7 @@ where
         + Copy
         + Send
         + Sync,
-    S: Store<Global> + Recorder + Send + Drop,
+    S: Store<Global> + Send + Drop,
     S::Source: Send,
     S::Sink: Send,
     H: ServerHooks + Send,
@@ -158,7 +157,7 @@ where
         + Copy
         + Send
         + Sync,
-    S: Store<Global> + Recorder + Send + Drop,
+    S: Store<Global> + Send + Drop,
     S::Source: Send,
     S::Sink: Send,
     H: ServerHooks + Send,
@@ -214,7 +213,7 @@ where
         + Copy
         + Send
         + Sync,
-    S: Store<Global> + Recorder + Send + Drop,
+    S: Store<Global> + Send + Drop,
     S::Source: Send,
     S::Sink: Send,
     H: ServerHooks + Send,
@@ -290,7 +289,7 @@ where
         + Copy
         + Send
         + Sync,
-    S: Store<Global> + Recorder + Send + Drop,
+    S: Store<Global> + Send + Drop,
     S::Source: Send,
     S::Sink: Send,
     H: ServerHooks + Send,

@@ -1,5 +1,2 @@
-pub mod Levels
 pub mod Moments
-pub mod Stores
-pub mod Transfers
 pub mod Words

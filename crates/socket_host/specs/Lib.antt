@@ -1,5 +1,3 @@
 pub mod Cuts
-pub mod Records
-pub mod Refusals
 pub mod Texts
 pub mod Unsaid

@@ -1,4 +1,0 @@
-pub mod Queues
-pub mod Laws
-pub mod Rounds
-pub mod Notes

@@ -1,4 +1,0 @@
-pub mod Lines
-pub mod Moments
-pub mod Names
-pub mod Places

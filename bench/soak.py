@@ -4,14 +4,15 @@
 
 So many clients (120, half of them hostile) use two servers for so long (120 seconds): one over a folder with rates, one in memory without. What an honest
 client stores has to come back octet for octet, and each of its replies to be the right one. At the end nobody is left: the threads and open
-files of each server are those of its start, its memory is about that of a third of the time, each line of its log has the form of a note, and its
-settled line adds up. Beside them run the waits: a client that never comes to its port, one that stores and sends nothing, one that never reads, one that
+files of each server are those of its start, its memory is about that of a third of the time, each line of its log has the form of a note, the
+octets of its notes are those moved, each line of its transfer log is read by its published form, and its settled line adds up. Beside them run the waits: a client that never comes to its port, one that stores and sends nothing, one that never reads, one that
 sends an octet a second, and one that says nothing at all. What failed is told, and the status is then 1.
 """
 
 import contextlib
 import os
 import random
+import re
 import socket
 import sys
 import threading
@@ -22,6 +23,7 @@ sys.dont_write_bytecode = True
 os.environ["FTPD"] = sys.argv[1]
 sys.path.insert(0, os.path.join(os.path.dirname(os.path.abspath(__file__)), "..", "tools"))
 
+import xferlog_reading  # noqa: E402
 from serving_kit import STAMP, Client, Data, Refused, Server, same, want  # noqa: E402
 
 PASSIVE = 400
@@ -44,6 +46,7 @@ down_rate = 40000000
 TABLES = "max_cons = 512\nlanes = 16\ncapacity = 300000000"
 RATES = "rate = 200000000\ndown_rate = 150000000"
 FLOOR = "session_down_floor = 100000"
+WORDS = ["--login-delay", "0", "--transfer-log", "xferlog"]
 # What a server may hold more at the end than at a third of the time, in MB.
 GROWTH = 12
 # A wait of a minute, in seconds: at least and at most.
@@ -311,6 +314,12 @@ def end_of(server, before, held, soak):
     forged = [it for it in server.noted().splitlines() if not STAMP.match(it)]
     if forged:
         faults.append(f"lines of the log that are no notes: {forged[:3]}")
+    noted = sum(int(it) for it in re.findall(r": user \"[^\"]*\", (\d+) octets, \d+\.\d{3} s", server.noted()))
+    if noted != moved:
+        faults.append(f"the notes of transfers have {noted} octets, and {moved} were moved")
+    with open(f"{server.place}/xferlog", encoding="utf-8") as log:
+        files = xferlog_reading.read_text(log.read())
+    print(f"{len(files)} lines of the transfer log with {sum(it.octets for it in files)} octets")
     print(f"settled issued {issued} moved {moved} back {back}; {held:.1f} MB at a third, {now:.1f} at the end; {len(server.noted().splitlines())} notes")
     return faults
 
@@ -319,8 +328,8 @@ def main(ftpd, seconds="120", clients="120"):
     soak, seed = Soak(float(seconds)), random.randrange(10**9)
     print(f"seed {seed}")
     with (
-        Server(sessions=0, root="folder", files={"big": BIG, "f": b"a\nb"}, users=USERS, server=f"{TABLES}\n{RATES}", rates=FLOOR, passive=PASSIVE, stop=True) as first,
-        Server(sessions=0, users=USERS, server=TABLES, passive=PASSIVE, stop=True) as second,
+        Server(sessions=0, root="folder", files={"big": BIG, "f": b"a\nb"}, users=USERS, server=f"{TABLES}\n{RATES}", rates=FLOOR, passive=PASSIVE, stop=True, words=WORDS) as first,
+        Server(sessions=0, users=USERS, server=TABLES, passive=PASSIVE, stop=True, words=WORDS) as second,
     ):
         servers = [first, second]
         before = [(it.threads(), it.open_files()) for it in servers]

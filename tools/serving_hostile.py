@@ -416,7 +416,7 @@ def nothing_forges_a_line():
         text = server.noted()
         want(text.endswith("\n") and all(it.isprintable() for it in text.split("\n")), f"what is no plain letter: {text!r}")
         want(all(map(STAMP.match, text.splitlines())), f"a line of another form: {text!r}")
-        same(len(server.notes_made()), 10, "how many notes")
+        same(len(server.notes_made()), 13, "how many notes")
 
 
 ROWS = [

@@ -24,7 +24,11 @@ SETTLED = re.compile(r"ready\nsettled issued (\d+) moved (\d+) back (\d+)\n")
 # A note of a warning of the configuration, as a server makes at its start.
 WARNING = re.compile(r"^\[WARN \] \S+Z configuration: (.*)\n", re.MULTILINE)
 # The head of a note: the time, the peer's address, and the number of the session where it is admitted.
-STAMP = re.compile(r"\[INFO \] \d{4}-\d\d-\d\dT\d\d:\d\d:\d\dZ (127\.0\.0\.\d+ (#\d+ )?)")
+STAMP = re.compile(r"\[(?:INFO|WARN) \] \d{4}-\d\d-\d\dT\d\d:\d\d:\d\dZ (127\.0\.0\.\d+ (#\d+ )?)")
+# The user, the octets and the seconds of a transfer.
+AMOUNT = re.compile(r': user "[^"]*", \d+ octets, \d+\.\d{3} s')
+# The note of a listing.
+LISTED = re.compile(r"(127\.0\.0\.\d+ #\d+ )?(not )?listed\b")
 
 USERS = """
 [[user]]
@@ -119,18 +123,18 @@ class Server:
 
     `root` is "memory", or "folder" for a fresh one of these `files`: each a path with its octets, a length of zeros, or None for a
     directory. `server` are more lines of its table, `rates` more lines of ann's. With `stop` it has a stop file, `stop`. In place of
-    all this there may be the whole `text` of its configuration, with its port. `words` are more words of its command line, and `before`
-    is what the shell does that starts it.
+    all this there may be the whole `text` of its configuration, with its port. `words` are more words of its command line, `before`
+    is what the shell does that starts it, and `mode` are the permission bits of its configuration.
     """
 
-    def __init__(self, sessions=1, root="memory", files=None, server="", rates="", users=USERS, stop=False, passive=8, text=None, port=None, words=None, before=None):
+    def __init__(self, sessions=1, root="memory", files=None, server="", rates="", users=USERS, stop=False, passive=8, text=None, port=None, words=None, before=None, mode=0o600):
         self.room = tempfile.TemporaryDirectory(prefix="ftpd-serving-")
         self.place = self.room.name
         self.folder = f"{self.place}/files" if root == "folder" else None
         self.sessions, self.server, self.passive, self.text = sessions, server, passive, text
         self.tables = users.format(rates=rates) + ("" if self.folder else FILES)
         self.words = [*(["--stop-file", "stop"] if stop else []), *(["--login-delay", "0"] if words is None else words)]
-        self.before = before
+        self.before, self.mode = before, mode
         self.process, self.port = None, port
         if self.folder:
             os.mkdir(self.folder)
@@ -153,6 +157,7 @@ class Server:
 
     def configure(self):
         with open(f"{self.place}/ftpd.toml", "w") as it:
+            os.chmod(it.fileno(), self.mode)
             it.write(self.text or self.made_text())
 
     def made_text(self):
@@ -207,8 +212,9 @@ class Server:
         return WARNING.findall(self.all_noted())
 
     def notes_made(self, heads=False):
-        """The notes, each without its time, and without its peer and session where they are not asked for."""
-        return [STAMP.sub(r"\1" if heads else "", line) for line in self.noted().splitlines()]
+        """The notes, each without its time, without its peer and session where they are not asked for, and without the user and the amounts of a transfer; none of listings."""
+        notes = [AMOUNT.sub("", STAMP.sub(r"\1" if heads else "", line)) for line in self.noted().splitlines()]
+        return [line for line in notes if not LISTED.match(line)]
 
     def stop(self):
         with open(f"{self.place}/stop", "w"):

@@ -132,9 +132,9 @@ def a_limit_of_file_sizes():
         data.close()
         same(client.retrieve("f"), b"a\nb", "another file")
         client.quit()
-        want('not received whole "/up": the file could not be read or written\n' in server.noted(), f"a note of it: {server.noted()!r}")
         server.stop()
         server.ended()
+        want('not received whole "/up": the file could not be read or written: File too large (os error 27)' in server.notes_made(), f"a note of it: {server.noted()!r}")
 
 
 def the_silent_leave():
@@ -260,9 +260,9 @@ def reasons_are_noted():
         for one in (
             '127.0.0.1 #\\d not sent whole "/big": aborted by the client',
             r'127.0.0.1 #\d not sent whole "/big": the data connection failed: (Connection reset by peer \(os error 104\)|Broken pipe \(os error 32\))',
-            "127.0.0.1 #\\d transfer cut: the control connection was lost",
+            '127.0.0.1 #\\d not sent whole "/big": the control connection was lost',
             r"127.0.0.1 #\d not sent whole \"/f\": the client's port could not be connected to: Connection refused \(os error 111\)",
-            "127.0.0.1 #\\d transfer cut: the server ends",
+            '127.0.0.1 #\\d not sent whole "/big": the server ends',
         ):
             same(sum(bool(re.fullmatch(one, it)) for it in notes), 1, f"notes of {one!r} among {notes}")
 

@@ -181,8 +181,9 @@ def a_store_that_is_full():
         same(client.retrieve("g"), b"x" * 997, "what fits")
         client.quit()
         server.ended()
-        # (all of it came: that the store refused it at its end is told to the client alone)
-        same(server.notes_made()[2:5], ['received "/g"', 'received "/g"', 'sent "/g"'], "the notes")
+        # (all of it came, and the store refused it at its end)
+        wanted = ['the storage is full: user "ann"', 'received "/g"', 'received "/g"', 'sent "/g"']
+        same(server.notes_made()[2:6], wanted, "the notes")
 
 
 def resident_most(process):
@@ -754,6 +755,42 @@ def notes():
         want(not re.search("secret|wrong|sekret", server.noted()), "what is not to be noted")
 
 
+HOMES = """
+[[user]]
+name = "ann"
+password = "secret"
+home = "/a"
+[[user]]
+name = "bob"
+password = "b"
+home = "/b"
+[[user]]
+name = "cem"
+password = "c"
+home = "/f"
+[[user]]
+name = "dan"
+password = "d"
+home = "/l"
+"""
+
+
+def warnings_of_the_machine_are_noted():
+    """At the start a server warns of homes that its folder does not have, and of passwords that everybody may read."""
+    server = Server(root="folder", files={"a": None, "f": b""}, users=HOMES, passive=64, mode=0o604)
+    os.symlink("a", f"{server.folder}/l")
+    with server:
+        public = "everybody on this machine may read the passwords of this file; make it readable by its owner and group alone"
+        missed = [f"{home}, the home of user {name}, is no directory" for name, home in (("bob", "/b"), ("cem", "/f"), ("dan", "/l"))]
+        same(server.warned(), [public, *missed], "the warnings")
+        Client(server).quit()
+        server.ended()
+    with Server(root="folder", files={"a": None, "b": None, "f": None, "l": None}, users=HOMES, passive=64, mode=0o640) as server:
+        same(server.warned(), [], "the warnings of one of which nothing is to be warned")
+        Client(server).quit()
+        server.ended()
+
+
 def ftplib_as_it_is():
     """Python's client: passive and active, storing and reading, lists, and its own abort."""
     with Server(server="capacity = 50000000") as server:
@@ -810,5 +847,6 @@ ROWS = [
     a_rate_is_kept,
     rates_of_two_users,
     notes,
+    warnings_of_the_machine_are_noted,
     ftplib_as_it_is,
 ]

@@ -9,7 +9,7 @@ use Rattle.clap.specs.Faults.{level_fault}
 use Rattle.clap.specs.Simple.{App, Shape, built, entered, label_of, rows_at}
 use Rattle.clap.specs.Words.{fault_of, subcommand_of}
 use Rattle.command_line.specs.Commands.{ftpd, sheets}
-use Rattle.command_line.specs.Given.{IsCheck, IsCheckConfig, IsFound, IsMigrate, IsOfSheets, IsPlanWords, IsScript, IsServe, IsShare, IsSheetFound, is_flagged}
+use Rattle.command_line.specs.Given.{IsCheck, IsCheckConfig, IsFound, IsLoggedBy, IsMigrate, IsOfSheets, IsPlanWords, IsScript, IsServe, IsShare, IsSheetFound, is_flagged}
 use Rattle.command_line.specs.declared.words.ServeFiles.{ServeFiles}
 use Rattle.command_line.specs.declared.words.SheetWords.{SheetWords}
 use Rattle.command_line.specs.declared.words.SheetWords.TheVariants.{Share, Check}
@@ -116,7 +116,7 @@ ftpd_found any words p none timed =
         (
           λ _ is.
               let found = one_found _ _ e _ is (codes "CONFIG") refl refl in
-              (CheckConfig (at_place any found.0), (found.1, found.2, found.3)),
+              (CheckConfig (at_place any found.0) (is_flagged (codes "json") found.1), (found.1, found.2, found.3, refl)),
           (
             λ _ is.
                 let found = one_found _ _ e _ is (codes "CONFIG") refl refl in
@@ -130,9 +130,11 @@ ftpd_found any words p none timed =
                     let found = one_found _ _ e _ is (codes "CONFIG") refl refl in
                     let path = first_of (codes "stop-file") found.1 in
                     let ready = first_of (codes "ready-file") found.1 in
-                    let files : ServeFiles = record { stop_file = option_map (at_place any) path; ready_file = option_map (at_place any) ready } in (
+                    let log = first_of (codes "transfer-log") found.1 in
+                    let form = first_of (codes "log-form") found.1 in
+                    let files : ServeFiles = record { stop_file = option_map (at_place any) path; ready_file = option_map (at_place any) ready; transfer_log = option_map (at_place any) log; log_form = option_map (at_place any) form } in (
                       Serve (at_place any found.0) files p,
-                      (found.1, found.2, found.3, if_any any path, if_any any ready, timed found.1 found.2),
+                      (found.1, found.2, found.3, if_any any path, if_any any ready, if_any any log, if_any any form, timed found.1 found.2),
                     ),
                 (
                   λ _ is.
@@ -179,10 +181,10 @@ sheet_named : (P : SheetWords → Type 0) (found : Option (Text × List Row)) (c
     → bytes_eq name (codes "check-config") ≡ false → bytes_eq name (codes "migrate") ≡ false → bytes_eq name (codes "script") ≡ false → bytes_eq name (codes "serve") ≡ false → bytes_eq name (codes "plan") ≡ false
     → ((words : SheetWords) → IsSheetFound found words → P words) → IsFound found command → IsOfSheets P command
 sheet_named P found (Sheet words) rows name named config migrate script serve plan holds is = holds words is
-sheet_named P found (CheckConfig config) rows name named config_apart migrate_apart script_apart serve_apart plan_apart holds (other, same, given) = absurd (different _ _ _ _ _ config_apart named same)
+sheet_named P found (CheckConfig config json) rows name named config_apart migrate_apart script_apart serve_apart plan_apart holds (other, same, given, flag) = absurd (different _ _ _ _ _ config_apart named same)
 sheet_named P found (Migrate config) rows name named config_apart migrate_apart script_apart serve_apart plan_apart holds (other, same, given) = absurd (different _ _ _ _ _ migrate_apart named same)
 sheet_named P found (Script config) rows name named config_apart migrate_apart script_apart serve_apart plan_apart holds (other, same, given) = absurd (different _ _ _ _ _ script_apart named same)
-sheet_named P found (Serve config files patience) rows name named config_apart migrate_apart script_apart serve_apart plan_apart holds (other, same, given, path, ready, also) = absurd (different _ _ _ _ _ serve_apart named same)
+sheet_named P found (Serve config files patience) rows name named config_apart migrate_apart script_apart serve_apart plan_apart holds (other, same, given, path, ready, log, form, also) = absurd (different _ _ _ _ _ serve_apart named same)
 sheet_named P found (Plan config transfers json) rows name named config_apart migrate_apart script_apart serve_apart plan_apart holds (other, same, given, also, flag) = absurd (different _ _ _ _ _ plan_apart named same)
 
 pub share_of_sheets : (found : Option (Text × List Row)) (command : Words) (rows : List Row) (word : Text) → found ≡ Some (codes "share", rows) → first_of (codes "SHEET") rows ≡ Some word
@@ -196,55 +198,69 @@ check_of_sheets found command rows word also named first second is =
     sheet_named (IsCheck word also) found command rows (codes "check") named refl refl refl refl refl (λ words held. check_is found words rows word also named first second held) is
 
 pub check_config_is : (found : Option (Text × List Row)) (command : Words) (rows : List Row) (word : Text) → found ≡ Some (codes "check-config", rows) → first_of (codes "CONFIG") rows ≡ Some word
-    → IsFound found command → IsCheckConfig word command
+    → IsFound found command → IsCheckConfig word (is_flagged (codes "json") rows) command
 check_config_is found (Sheet (Share sheet)) rows word named first (other, same, given) = absurd (different _ _ _ _ _ refl named same)
 check_config_is found (Sheet (Check sheet grants)) rows word named first (other, same, given, also) = absurd (different _ _ _ _ _ refl named same)
-check_config_is found (CheckConfig config) rows word named first (other, same, given) = let are = same_rows _ _ _ _ _ named same in cc
+check_config_is found (CheckConfig config json) rows word named first (other, same, given, flag) =
+    let are = same_rows _ _ _ _ _ named same in
+    (cc, flag ∙ sym (ap (is_flagged (codes "json")) are))
 check_config_is found (Migrate config) rows word named first (other, same, given) = absurd (different _ _ _ _ _ refl named same)
 check_config_is found (Script config) rows word named first (other, same, given) = absurd (different _ _ _ _ _ refl named same)
-check_config_is found (Serve config files patience) rows word named first (other, same, given, path, ready, also) = absurd (different _ _ _ _ _ refl named same)
+check_config_is found (Serve config files patience) rows word named first (other, same, given, path, ready, log, form, also) = absurd (different _ _ _ _ _ refl named same)
 check_config_is found (Plan config transfers json) rows word named first (other, same, given, also, flag) = absurd (different _ _ _ _ _ refl named same)
 
 pub migrate_is : (found : Option (Text × List Row)) (command : Words) (rows : List Row) (word : Text) → found ≡ Some (codes "migrate", rows) → first_of (codes "CONFIG") rows ≡ Some word
     → IsFound found command → IsMigrate word command
 migrate_is found (Sheet (Share sheet)) rows word named first (other, same, given) = absurd (different _ _ _ _ _ refl named same)
 migrate_is found (Sheet (Check sheet grants)) rows word named first (other, same, given, also) = absurd (different _ _ _ _ _ refl named same)
-migrate_is found (CheckConfig config) rows word named first (other, same, given) = absurd (different _ _ _ _ _ refl named same)
+migrate_is found (CheckConfig config json) rows word named first (other, same, given, flag) = absurd (different _ _ _ _ _ refl named same)
 migrate_is found (Migrate config) rows word named first (other, same, given) = let are = same_rows _ _ _ _ _ named same in cc
 migrate_is found (Script config) rows word named first (other, same, given) = absurd (different _ _ _ _ _ refl named same)
-migrate_is found (Serve config files patience) rows word named first (other, same, given, path, ready, also) = absurd (different _ _ _ _ _ refl named same)
+migrate_is found (Serve config files patience) rows word named first (other, same, given, path, ready, log, form, also) = absurd (different _ _ _ _ _ refl named same)
 migrate_is found (Plan config transfers json) rows word named first (other, same, given, also, flag) = absurd (different _ _ _ _ _ refl named same)
 
 pub script_is : (found : Option (Text × List Row)) (command : Words) (rows : List Row) (word : Text) → found ≡ Some (codes "script", rows) → first_of (codes "CONFIG") rows ≡ Some word
     → IsFound found command → IsScript word command
 script_is found (Sheet (Share sheet)) rows word named first (other, same, given) = absurd (different _ _ _ _ _ refl named same)
 script_is found (Sheet (Check sheet grants)) rows word named first (other, same, given, also) = absurd (different _ _ _ _ _ refl named same)
-script_is found (CheckConfig config) rows word named first (other, same, given) = absurd (different _ _ _ _ _ refl named same)
+script_is found (CheckConfig config json) rows word named first (other, same, given, flag) = absurd (different _ _ _ _ _ refl named same)
 script_is found (Migrate config) rows word named first (other, same, given) = absurd (different _ _ _ _ _ refl named same)
 script_is found (Script config) rows word named first (other, same, given) = let are = same_rows _ _ _ _ _ named same in cc
-script_is found (Serve config files patience) rows word named first (other, same, given, path, ready, also) = absurd (different _ _ _ _ _ refl named same)
+script_is found (Serve config files patience) rows word named first (other, same, given, path, ready, log, form, also) = absurd (different _ _ _ _ _ refl named same)
 script_is found (Plan config transfers json) rows word named first (other, same, given, also, flag) = absurd (different _ _ _ _ _ refl named same)
 
 pub serve_is : (found : Option (Text × List Row)) (command : Words) (rows : List Row) (word : Text) (p : Patience) → found ≡ Some (codes "serve", rows) → first_of (codes "CONFIG") rows ≡ Some word
     → IsPatienceIn rows p → IsFound found command → IsServe word (first_of (codes "stop-file") rows) (first_of (codes "ready-file") rows) p command
 serve_is found (Sheet (Share sheet)) rows word p named first states (other, same, given) = absurd (different _ _ _ _ _ refl named same)
 serve_is found (Sheet (Check sheet grants)) rows word p named first states (other, same, given, also) = absurd (different _ _ _ _ _ refl named same)
-serve_is found (CheckConfig config) rows word p named first states (other, same, given) = absurd (different _ _ _ _ _ refl named same)
+serve_is found (CheckConfig config json) rows word p named first states (other, same, given, flag) = absurd (different _ _ _ _ _ refl named same)
 serve_is found (Migrate config) rows word p named first states (other, same, given) = absurd (different _ _ _ _ _ refl named same)
 serve_is found (Script config) rows word p named first states (other, same, given) = absurd (different _ _ _ _ _ refl named same)
-serve_is found (Serve config files patience) rows word p named first states (other, same, given, path, ready, also) =
+serve_is found (Serve config files patience) rows word p named first states (other, same, given, path, ready, log, form, also) =
     let are = same_rows _ _ _ _ _ named same in
     (cc, cc, cc, one_patience rows patience p (subst (λ (r : List Row). IsPatienceIn r patience) (sym are) also) states)
 serve_is found (Plan config transfers json) rows word p named first states (other, same, given, also, flag) = absurd (different _ _ _ _ _ refl named same)
+
+pub logged_is : (found : Option (Text × List Row)) (command : Words) (rows : List Row) (word : Text) → found ≡ Some (codes "serve", rows) → first_of (codes "CONFIG") rows ≡ Some word
+    → IsFound found command → IsLoggedBy word (first_of (codes "transfer-log") rows) (first_of (codes "log-form") rows) command
+logged_is found (Sheet (Share sheet)) rows word named first (other, same, given) = absurd (different _ _ _ _ _ refl named same)
+logged_is found (Sheet (Check sheet grants)) rows word named first (other, same, given, also) = absurd (different _ _ _ _ _ refl named same)
+logged_is found (CheckConfig config json) rows word named first (other, same, given, flag) = absurd (different _ _ _ _ _ refl named same)
+logged_is found (Migrate config) rows word named first (other, same, given) = absurd (different _ _ _ _ _ refl named same)
+logged_is found (Script config) rows word named first (other, same, given) = absurd (different _ _ _ _ _ refl named same)
+logged_is found (Serve config files patience) rows word named first (other, same, given, path, ready, log, form, also) =
+    let are = same_rows _ _ _ _ _ named same in
+    (cc, cc, cc)
+logged_is found (Plan config transfers json) rows word named first (other, same, given, also, flag) = absurd (different _ _ _ _ _ refl named same)
 
 pub plan_is : (found : Option (Text × List Row)) (command : Words) (rows : List Row) (word stated : Text) → found ≡ Some (codes "plan", rows) → first_of (codes "CONFIG") rows ≡ Some word
     → first_of (codes "TRANSFERS") rows ≡ Some stated → IsFound found command → IsPlanWords word stated (is_flagged (codes "json") rows) command
 plan_is found (Sheet (Share sheet)) rows word stated named first second (other, same, given) = absurd (different _ _ _ _ _ refl named same)
 plan_is found (Sheet (Check sheet grants)) rows word stated named first second (other, same, given, also) = absurd (different _ _ _ _ _ refl named same)
-plan_is found (CheckConfig config) rows word stated named first second (other, same, given) = absurd (different _ _ _ _ _ refl named same)
+plan_is found (CheckConfig config json) rows word stated named first second (other, same, given, flag) = absurd (different _ _ _ _ _ refl named same)
 plan_is found (Migrate config) rows word stated named first second (other, same, given) = absurd (different _ _ _ _ _ refl named same)
 plan_is found (Script config) rows word stated named first second (other, same, given) = absurd (different _ _ _ _ _ refl named same)
-plan_is found (Serve config files patience) rows word stated named first second (other, same, given, path, ready, also) = absurd (different _ _ _ _ _ refl named same)
+plan_is found (Serve config files patience) rows word stated named first second (other, same, given, path, ready, log, form, also) = absurd (different _ _ _ _ _ refl named same)
 plan_is found (Plan config transfers json) rows word stated named first second (other, same, given, also, flag) =
     let are = same_rows _ _ _ _ _ named same in
     (cc, cc, flag ∙ sym (ap (is_flagged (codes "json")) are))

@@ -11,7 +11,7 @@ use Rattle.clap.specs.declared.builder.value_parser.Reading.TheVariants.{AsWritt
 use Rattle.clap.specs.declared.parser.matches.ValueSource.TheVariants.{CommandLine}
 use Rattle.clap.proofs.OnLiterals.{clap_on_literals}
 use Rattle.command_line.specs.Commands.{ftpd}
-use Rattle.command_line.specs.Given.{IsPlainWord, ready_words}
+use Rattle.command_line.specs.Given.{IsPlainWord, logged_words, ready_words}
 use Rattle.command_line.specs.Timed.{timed_words}
 
 -- `serve`, as the parser completes it, and its rules
@@ -102,6 +102,46 @@ ready_value_leads rows b bs ne = simp ne refl
 ready_turns : (rows : List Row) (word : Text) → IsPlainWord word → Turns (waiting_for rows (codes "ready-file")) (valued rows (codes "ready-file") word) word
 ready_turns rows [] plain = absurd plain
 ready_turns rows (b ∷ bs) plain = record { passes = ready_value_passes rows b bs (ne_eqb _ _ plain); leads = ready_value_leads rows b bs (ne_eqb _ _ plain) }
+
+log_flag_passes : (config : Text) → turn_passes serving [] (valued [] (codes "CONFIG") config) (codes "--transfer-log") ≡ true
+unfolding clap_on_literals
+log_flag_passes config = refl
+
+log_flag_leads : (config : Text) → walked rules [] (valued [] (codes "CONFIG") config) (codes "--transfer-log") ≡ waiting_for (row (codes "CONFIG") config ∷ []) (codes "transfer-log")
+unfolding clap_on_literals
+log_flag_leads config = refl
+
+log_value_passes : (rows : List Row) (b : ℕ) (bs : List ℕ) → (b == 45) ≡ false → turn_passes serving [] (waiting_for rows (codes "transfer-log")) (b ∷ bs) ≡ true
+unfolding clap_on_literals
+log_value_passes rows b bs ne = simp ne refl
+
+log_value_leads : (rows : List Row) (b : ℕ) (bs : List ℕ) → (b == 45) ≡ false → walked rules [] (waiting_for rows (codes "transfer-log")) (b ∷ bs) ≡ valued rows (codes "transfer-log") (b ∷ bs)
+unfolding clap_on_literals
+log_value_leads rows b bs ne = simp ne refl
+
+log_turns : (rows : List Row) (word : Text) → IsPlainWord word → Turns (waiting_for rows (codes "transfer-log")) (valued rows (codes "transfer-log") word) word
+log_turns rows [] plain = absurd plain
+log_turns rows (b ∷ bs) plain = record { passes = log_value_passes rows b bs (ne_eqb _ _ plain); leads = log_value_leads rows b bs (ne_eqb _ _ plain) }
+
+form_flag_passes : (config path : Text) → turn_passes serving [] (valued (row (codes "CONFIG") config ∷ []) (codes "transfer-log") path) (codes "--log-form") ≡ true
+unfolding clap_on_literals
+form_flag_passes config path = refl
+
+form_flag_leads : (config path : Text) → walked rules [] (valued (row (codes "CONFIG") config ∷ []) (codes "transfer-log") path) (codes "--log-form") ≡ waiting_for (row (codes "CONFIG") config ∷ row (codes "transfer-log") path ∷ []) (codes "log-form")
+unfolding clap_on_literals
+form_flag_leads config path = refl
+
+form_value_passes : (rows : List Row) (b : ℕ) (bs : List ℕ) → (b == 45) ≡ false → turn_passes serving [] (waiting_for rows (codes "log-form")) (b ∷ bs) ≡ true
+unfolding clap_on_literals
+form_value_passes rows b bs ne = simp ne refl
+
+form_value_leads : (rows : List Row) (b : ℕ) (bs : List ℕ) → (b == 45) ≡ false → walked rules [] (waiting_for rows (codes "log-form")) (b ∷ bs) ≡ valued rows (codes "log-form") (b ∷ bs)
+unfolding clap_on_literals
+form_value_leads rows b bs ne = simp ne refl
+
+form_turns : (rows : List Row) (word : Text) → IsPlainWord word → Turns (waiting_for rows (codes "log-form")) (valued rows (codes "log-form") word) word
+form_turns rows [] plain = absurd plain
+form_turns rows (b ∷ bs) plain = record { passes = form_value_passes rows b bs (ne_eqb _ _ plain); leads = form_value_leads rows b bs (ne_eqb _ _ plain) }
 
 login_flag_passes : (config : Text) → turn_passes serving [] (valued [] (codes "CONFIG") config) (codes "--login-timeout") ≡ true
 unfolding clap_on_literals
@@ -213,6 +253,19 @@ ready_walks config path ready plain also third =
     (turn _ _ _ _ _ (ready_flag_passes config path) (ready_flag_leads config path)
     (turn _ _ _ _ _ two.passes two.leads (ends _)))))
 
+logged_walks : (config path form : Text) → IsPlainWord config → IsPlainWord path → IsPlainWord form
+    → Walks (walk_from nothing_held) (valued (row (codes "CONFIG") config ∷ row (codes "transfer-log") path ∷ []) (codes "log-form") form)
+    (config ∷ codes "--transfer-log" ∷ path ∷ codes "--log-form" ∷ form ∷ [])
+logged_walks config path form plain also third =
+    let first = config_turns config plain in
+    let one = log_turns (row (codes "CONFIG") config ∷ []) path also in
+    let two = form_turns (row (codes "CONFIG") config ∷ row (codes "transfer-log") path ∷ []) form third in
+    turn _ _ _ _ _ first.passes first.leads
+    (turn _ _ _ _ _ (log_flag_passes config) (log_flag_leads config)
+    (turn _ _ _ _ _ one.passes one.leads
+    (turn _ _ _ _ _ (form_flag_passes config path) (form_flag_leads config path)
+    (turn _ _ _ _ _ two.passes two.leads (ends _)))))
+
 timed_walks : (config login idle_time delay : Text) → IsPlainWord config → IsPlainWord login → IsPlainWord idle_time → IsPlainWord delay
     → Walks (walk_from nothing_held) (valued (row (codes "CONFIG") config ∷ row (codes "login-timeout") login ∷ row (codes "idle-timeout") idle_time ∷ []) (codes "login-delay") delay)
     (config ∷ codes "--login-timeout" ∷ login ∷ codes "--idle-timeout" ∷ idle_time ∷ codes "--login-delay" ∷ delay ∷ [])
@@ -298,6 +351,28 @@ ready_taken : (config path ready : Text) → IsPlainWord config → IsPlainWord 
 ready_taken config path ready plain also third =
     let below = level _ _ (ready_walks config path ready plain also third) (ready_settles config path ready) defaults_pass (ready_valid config path ready) in
     and_then _ _ simple (by_level (built ftpd) _ _ _ serving (ready_stops config path ready) found_is below (ready_above config path ready))
+
+logged_settles : (config path form : Text) → settle_passes rules serving.args_override_self (valued (row (codes "CONFIG") config ∷ row (codes "transfer-log") path ∷ []) (codes "log-form") form).held ≡ true
+unfolding clap_on_literals
+logged_settles config path form = refl
+
+logged_valid : (config path form : Text) → is_valid serving (finished rules (valued (row (codes "CONFIG") config ∷ row (codes "transfer-log") path ∷ []) (codes "log-form") form).held) false ≡ true
+unfolding clap_on_literals
+logged_valid config path form = refl
+
+logged_stops : (config path form : Text)
+    → (walk (built ftpd).top.rules (names_of (built ftpd)) nothing_held (logged_words config path form)).stopped ≡ Some (codes "serve", config ∷ codes "--transfer-log" ∷ path ∷ codes "--log-form" ∷ form ∷ [])
+unfolding clap_on_literals
+logged_stops config path form = refl
+
+logged_above : (config path form : Text) → level_passes (built ftpd).top (names_of (built ftpd)) nothing_held (logged_words config path form) true ≡ true
+unfolding clap_on_literals
+logged_above config path form = refl
+
+logged_taken : (config path form : Text) → IsPlainWord config → IsPlainWord path → IsPlainWord form → takes ftpd (logged_words config path form) ≡ true
+logged_taken config path form plain also third =
+    let below = level _ _ (logged_walks config path form plain also third) (logged_settles config path form) defaults_pass (logged_valid config path form) in
+    and_then _ _ simple (by_level (built ftpd) _ _ _ serving (logged_stops config path form) found_is below (logged_above config path form))
 
 timed_settles : (config login idle_time delay : Text) → settle_passes rules serving.args_override_self (valued (row (codes "CONFIG") config ∷ row (codes "login-timeout") login ∷ row (codes "idle-timeout") idle_time ∷ []) (codes "login-delay") delay).held ≡ true
 unfolding clap_on_literals
@@ -437,5 +512,39 @@ serves_ready config path ready plain also third =
       of = refl;
       stop_file = refl;
       ready_file = refl;
+      usual = (refl, refl, refl);
+    }
+
+-- what the parser makes of the words of `serve` with a transfer log and a form of notes
+pub record ServesLogged (config path form : Text) : Type 0 where
+  pub rows : List Row
+  pub taken : takes ftpd (logged_words config path form) ≡ true
+  pub entered : subcommand_of ftpd (logged_words config path form) ≡ Some (codes "serve", rows)
+  pub of : first_of (codes "CONFIG") rows ≡ Some config
+  pub transfer_log : first_of (codes "transfer-log") rows ≡ Some path
+  pub log_form : first_of (codes "log-form") rows ≡ Some form
+  pub usual : AreUnstated rows
+
+logged_entered : (config path form : Text) → subcommand_of ftpd (logged_words config path form) ≡ Some (codes "serve", rows_after rules [] (config ∷ codes "--transfer-log" ∷ path ∷ codes "--log-form" ∷ form ∷ []))
+unfolding clap_on_literals
+logged_entered config path form = refl
+
+logged_rows : (config path form : Text) → finished rules (valued (row (codes "CONFIG") config ∷ row (codes "transfer-log") path ∷ []) (codes "log-form") form).held
+    ≡ row (codes "CONFIG") config ∷ row (codes "transfer-log") path ∷ row (codes "log-form") form ∷ []
+unfolding clap_on_literals
+logged_rows config path form = refl
+
+pub serves_logged : (config path form : Text) → IsPlainWord config → IsPlainWord path → IsPlainWord form → ServesLogged config path form
+serves_logged config path form plain also third =
+    let walks = logged_walks config path form plain also third in
+    let end : rows_after rules [] (config ∷ codes "--transfer-log" ∷ path ∷ codes "--log-form" ∷ form ∷ []) ≡ row (codes "CONFIG") config ∷ row (codes "transfer-log") path ∷ row (codes "log-form") form ∷ []
+    = ap (λ (w : Walk). finished rules w.held) walks.leads ∙ logged_rows config path form in
+    record {
+      rows = row (codes "CONFIG") config ∷ row (codes "transfer-log") path ∷ row (codes "log-form") form ∷ [];
+      taken = logged_taken config path form plain also third;
+      entered = logged_entered config path form ∙ ap (λ (rows : List Row). Some (codes "serve", rows)) end;
+      of = refl;
+      transfer_log = refl;
+      log_form = refl;
       usual = (refl, refl, refl);
     }

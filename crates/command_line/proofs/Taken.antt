@@ -112,18 +112,61 @@ check_config_first : (b : ℕ) (bs : List ℕ) → (b == 45) ≡ false
 unfolding clap_on_literals
 check_config_first b bs ne = simp ne refl
 
+check_config_unflagged : (b : ℕ) (bs : List ℕ) → (b == 45) ≡ false
+    → is_flagged (codes "json") (rows_in (subcommand_of ftpd (codes "check-config" ∷ (b ∷ bs) ∷ []))) ≡ false
+unfolding clap_on_literals
+check_config_unflagged b bs ne = simp ne refl
+
 -- what the parser makes of the words of `check-config`
 pub record ChecksConfig (word : List ℕ) : Type 0 where
   pub rows : List Row
   pub taken : takes ftpd (codes "check-config" ∷ word ∷ []) ≡ true
   pub entered : subcommand_of ftpd (codes "check-config" ∷ word ∷ []) ≡ Some (codes "check-config", rows)
   pub config : first_of (codes "CONFIG") rows ≡ Some word
+  pub unflagged : is_flagged (codes "json") rows ≡ false
 
 pub checks_config : (word : List ℕ) → IsPlainWord word → ChecksConfig word
 checks_config [] plain = absurd plain
 checks_config (b ∷ bs) plain =
     let ne = ne_eqb _ _ plain in
-    record { rows = _; taken = check_config_taken b bs ne; entered = check_config_entered b bs ne; config = check_config_first b bs ne }
+    record { rows = _; taken = check_config_taken b bs ne; entered = check_config_entered b bs ne; config = check_config_first b bs ne; unflagged = check_config_unflagged b bs ne }
+
+-- the words of `check-config` that ask for JSON
+abbrev pub report_words : Text → List Text
+report_words word = codes "check-config" ∷ word ∷ codes "--json" ∷ []
+
+report_taken : (b : ℕ) (bs : List ℕ) → (b == 45) ≡ false → takes ftpd (report_words (b ∷ bs)) ≡ true
+unfolding clap_on_literals
+report_taken b bs ne = simp ne refl
+
+report_entered : (b : ℕ) (bs : List ℕ) → (b == 45) ≡ false
+    → subcommand_of ftpd (report_words (b ∷ bs)) ≡ Some (codes "check-config", rows_in (subcommand_of ftpd (report_words (b ∷ bs))))
+unfolding clap_on_literals
+report_entered b bs ne = simp ne refl
+
+report_first : (b : ℕ) (bs : List ℕ) → (b == 45) ≡ false
+    → first_of (codes "CONFIG") (rows_in (subcommand_of ftpd (report_words (b ∷ bs)))) ≡ Some (b ∷ bs)
+unfolding clap_on_literals
+report_first b bs ne = simp ne refl
+
+report_flagged : (b : ℕ) (bs : List ℕ) → (b == 45) ≡ false
+    → is_flagged (codes "json") (rows_in (subcommand_of ftpd (report_words (b ∷ bs)))) ≡ true
+unfolding clap_on_literals
+report_flagged b bs ne = simp ne refl
+
+-- what the parser makes of those words
+pub record ReportsJson (word : List ℕ) : Type 0 where
+  pub rows : List Row
+  pub taken : takes ftpd (report_words word) ≡ true
+  pub entered : subcommand_of ftpd (report_words word) ≡ Some (codes "check-config", rows)
+  pub config : first_of (codes "CONFIG") rows ≡ Some word
+  pub flagged : is_flagged (codes "json") rows ≡ true
+
+pub reports_json : (word : List ℕ) → IsPlainWord word → ReportsJson word
+reports_json [] plain = absurd plain
+reports_json (b ∷ bs) plain =
+    let ne = ne_eqb _ _ plain in
+    record { rows = _; taken = report_taken b bs ne; entered = report_entered b bs ne; config = report_first b bs ne; flagged = report_flagged b bs ne }
 
 migrate_taken : (b : ℕ) (bs : List ℕ) → (b == 45) ≡ false → takes ftpd (codes "migrate" ∷ (b ∷ bs) ∷ []) ≡ true
 unfolding clap_on_literals
@@ -206,9 +249,23 @@ serve_no_ready : (b : ℕ) (bs : List ℕ) → (b == 45) ≡ false
 unfolding clap_on_literals
 serve_no_ready b bs ne = simp ne refl
 
-serve_usual : (b : ℕ) (bs : List ℕ) → (b == 45) ≡ false → AreUnstated (rows_in (subcommand_of ftpd (codes "serve" ∷ (b ∷ bs) ∷ [])))
+serve_no_login : (b : ℕ) (bs : List ℕ) → (b == 45) ≡ false
+    → first_of (codes "login-timeout") (rows_in (subcommand_of ftpd (codes "serve" ∷ (b ∷ bs) ∷ []))) ≡ None
 unfolding clap_on_literals
-serve_usual b bs ne = simp ne (refl, refl, refl)
+serve_no_login b bs ne = simp ne refl
+
+serve_no_idle : (b : ℕ) (bs : List ℕ) → (b == 45) ≡ false
+    → first_of (codes "idle-timeout") (rows_in (subcommand_of ftpd (codes "serve" ∷ (b ∷ bs) ∷ []))) ≡ None
+unfolding clap_on_literals
+serve_no_idle b bs ne = simp ne refl
+
+serve_no_delay : (b : ℕ) (bs : List ℕ) → (b == 45) ≡ false
+    → first_of (codes "login-delay") (rows_in (subcommand_of ftpd (codes "serve" ∷ (b ∷ bs) ∷ []))) ≡ None
+unfolding clap_on_literals
+serve_no_delay b bs ne = simp ne refl
+
+serve_usual : (b : ℕ) (bs : List ℕ) → (b == 45) ≡ false → AreUnstated (rows_in (subcommand_of ftpd (codes "serve" ∷ (b ∷ bs) ∷ [])))
+serve_usual b bs ne = (serve_no_login b bs ne, serve_no_idle b bs ne, serve_no_delay b bs ne)
 
 -- what the parser makes of the words of `serve` with no option
 pub record Serves (word : List ℕ) : Type 0 where

@@ -29,9 +29,11 @@ check =
     with_rule (with_rule (bare (codes "check")) (file_rule (codes "SHEET")))
     (file_rule (codes "GRANTS"))
 
--- `check-config CONFIG`
+-- `check-config CONFIG [--json]`
 abbrev pub check_config : App
-check_config = with_rule (bare (codes "check-config")) (file_rule (codes "CONFIG"))
+check_config =
+    with_rule (with_rule (bare (codes "check-config")) (file_rule (codes "CONFIG")))
+    (flag_rule (codes "json"))
 
 -- `migrate CONFIG`
 abbrev pub migrate : App
@@ -56,10 +58,17 @@ abbrev pub with_files : App → App
 with_files app =
     with_rule (with_rule app (value_rule (codes "stop-file"))) (value_rule (codes "ready-file"))
 
--- `serve CONFIG [--stop-file PATH] [--ready-file PATH] [--login-timeout SECONDS]
--- [--idle-timeout SECONDS] [--login-delay SECONDS]`
+-- the command with the options `--transfer-log` and `--log-form`
+abbrev pub with_logs : App → App
+with_logs app =
+    with_rule (with_rule app (value_rule (codes "transfer-log"))) (value_rule (codes "log-form"))
+
+-- `serve CONFIG [--stop-file PATH] [--ready-file PATH] [--transfer-log PATH] [--log-form FORM]
+-- [--login-timeout SECONDS] [--idle-timeout SECONDS] [--login-delay SECONDS]`
 abbrev pub serve : App
-serve = with_patience (with_files (with_rule (bare (codes "serve")) (file_rule (codes "CONFIG"))))
+serve =
+    with_patience
+    (with_logs (with_files (with_rule (bare (codes "serve")) (file_rule (codes "CONFIG")))))
 
 -- `plan CONFIG TRANSFERS [--json]`
 abbrev pub plan : App

@@ -34,25 +34,25 @@ IsCheck first second (Check sheet grants) = (sheet.now ≡ first) × (grants.now
 -- a command on a sheet with that property
 abbrev pub IsOfSheets : (SheetWords → Type 0) → Words → Type 0
 IsOfSheets P (Sheet words) = P words
-IsOfSheets P (CheckConfig config) = ⊥
+IsOfSheets P (CheckConfig config json) = ⊥
 IsOfSheets P (Migrate config) = ⊥
 IsOfSheets P (Script config) = ⊥
 IsOfSheets P (Serve config files patience) = ⊥
 IsOfSheets P (Plan config transfers json) = ⊥
 
--- the command `check-config` of that configuration
-abbrev pub IsCheckConfig : List ℕ → Words → Type 0
-IsCheckConfig word (Sheet words) = ⊥
-IsCheckConfig word (CheckConfig config) = config.now ≡ word
-IsCheckConfig word (Migrate config) = ⊥
-IsCheckConfig word (Script config) = ⊥
-IsCheckConfig word (Serve config files patience) = ⊥
-IsCheckConfig word (Plan config transfers json) = ⊥
+-- the command `check-config` of that configuration, as JSON or not
+abbrev pub IsCheckConfig : List ℕ → Bool → Words → Type 0
+IsCheckConfig word as_json (Sheet words) = ⊥
+IsCheckConfig word as_json (CheckConfig config json) = (config.now ≡ word) × (json ≡ as_json)
+IsCheckConfig word as_json (Migrate config) = ⊥
+IsCheckConfig word as_json (Script config) = ⊥
+IsCheckConfig word as_json (Serve config files patience) = ⊥
+IsCheckConfig word as_json (Plan config transfers json) = ⊥
 
 -- the command `migrate` of that configuration
 abbrev pub IsMigrate : List ℕ → Words → Type 0
 IsMigrate word (Sheet words) = ⊥
-IsMigrate word (CheckConfig config) = ⊥
+IsMigrate word (CheckConfig config json) = ⊥
 IsMigrate word (Migrate config) = config.now ≡ word
 IsMigrate word (Script config) = ⊥
 IsMigrate word (Serve config files patience) = ⊥
@@ -61,7 +61,7 @@ IsMigrate word (Plan config transfers json) = ⊥
 -- the command `script` of that configuration
 abbrev pub IsScript : List ℕ → Words → Type 0
 IsScript word (Sheet words) = ⊥
-IsScript word (CheckConfig config) = ⊥
+IsScript word (CheckConfig config json) = ⊥
 IsScript word (Migrate config) = ⊥
 IsScript word (Script config) = config.now ≡ word
 IsScript word (Serve config files patience) = ⊥
@@ -71,13 +71,32 @@ IsScript word (Plan config transfers json) = ⊥
 -- that patience
 abbrev pub IsServe : List ℕ → Option (List ℕ) → Option (List ℕ) → Patience → Words → Type 0
 IsServe word stop ready p (Sheet words) = ⊥
-IsServe word stop ready p (CheckConfig config) = ⊥
+IsServe word stop ready p (CheckConfig config json) = ⊥
 IsServe word stop ready p (Migrate config) = ⊥
 IsServe word stop ready p (Script config) = ⊥
 IsServe word stop ready p (Serve config files patience) =
     (config.now ≡ word) × (option_map (λ w. w.now) files.stop_file ≡ stop)
     × (option_map (λ w. w.now) files.ready_file ≡ ready) × (patience ≡ p)
 IsServe word stop ready p (Plan config transfers json) = ⊥
+
+-- the command `serve` of that configuration, with that transfer log and that form of notes, if any
+abbrev pub IsLoggedBy : List ℕ → Option (List ℕ) → Option (List ℕ) → Words → Type 0
+IsLoggedBy word path form (Sheet words) = ⊥
+IsLoggedBy word path form (CheckConfig config json) = ⊥
+IsLoggedBy word path form (Migrate config) = ⊥
+IsLoggedBy word path form (Script config) = ⊥
+IsLoggedBy word path form (Serve config files patience) =
+    (config.now ≡ word) × (option_map (λ w. w.now) files.transfer_log ≡ path)
+    × (option_map (λ w. w.now) files.log_form ≡ form)
+IsLoggedBy word path form (Plan config transfers json) = ⊥
+
+abbrev pub IsLogged : List ℕ → List ℕ → List ℕ → Words → Type 0
+IsLogged word path form words = IsLoggedBy word (Some path) (Some form) words
+
+-- the words of `serve` with a transfer log and a form of notes
+abbrev pub logged_words : List ℕ → List ℕ → List ℕ → List Text
+logged_words config path form =
+    codes "serve" ∷ config ∷ codes "--transfer-log" ∷ path ∷ codes "--log-form" ∷ form ∷ []
 
 -- the words of `serve` with a stop file and a ready file
 abbrev pub ready_words : List ℕ → List ℕ → List ℕ → List Text
@@ -87,7 +106,7 @@ ready_words config stop ready =
 -- the command `plan` of that configuration and those transfers, as JSON or not
 abbrev pub IsPlanWords : List ℕ → List ℕ → Bool → Words → Type 0
 IsPlanWords word stated as_json (Sheet words) = ⊥
-IsPlanWords word stated as_json (CheckConfig config) = ⊥
+IsPlanWords word stated as_json (CheckConfig config json) = ⊥
 IsPlanWords word stated as_json (Migrate config) = ⊥
 IsPlanWords word stated as_json (Script config) = ⊥
 IsPlanWords word stated as_json (Serve config files patience) = ⊥
@@ -119,9 +138,10 @@ IsSheetFound found (Check sheet grants) =
 -- the parser found the command, and the words after it
 abbrev pub IsFound : Option (Text × List Row) → Words → Type 0
 IsFound found (Sheet words) = IsSheetFound found words
-IsFound found (CheckConfig config) =
+IsFound found (CheckConfig config json) =
     (rows : List Row) × (found ≡ Some (codes "check-config", rows))
     × (first_of (codes "CONFIG") rows ≡ Some config.now)
+    × (json ≡ is_flagged (codes "json") rows)
 IsFound found (Migrate config) =
     (rows : List Row) × (found ≡ Some (codes "migrate", rows))
     × (first_of (codes "CONFIG") rows ≡ Some config.now)
@@ -133,6 +153,8 @@ IsFound found (Serve config files patience) =
     × (first_of (codes "CONFIG") rows ≡ Some config.now)
     × (first_of (codes "stop-file") rows ≡ option_map (λ w. w.now) files.stop_file)
     × (first_of (codes "ready-file") rows ≡ option_map (λ w. w.now) files.ready_file)
+    × (first_of (codes "transfer-log") rows ≡ option_map (λ w. w.now) files.transfer_log)
+    × (first_of (codes "log-form") rows ≡ option_map (λ w. w.now) files.log_form)
     × IsPatienceIn rows patience
 IsFound found (Plan config transfers json) =
     (rows : List Row) × (found ≡ Some (codes "plan", rows))

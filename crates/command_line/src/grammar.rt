@@ -2,7 +2,7 @@
 
 ghost use Rattle.std.specs.Prelude.{◌≡◌, IfOk, codes, false};
 ghost use Rattle.clap.specs.Words.{app_of, rule_of, with_rule};
-ghost use Rattle.command_line.specs.Commands.{bare, check, check_config, file_rule, flag_rule, ftpd, migrate, plan, script, serve, share, sheets, top, value_rule, with_files, with_patience, with_sheets};
+ghost use Rattle.command_line.specs.Commands.{bare, check, check_config, file_rule, flag_rule, ftpd, migrate, plan, script, serve, share, sheets, top, value_rule, with_files, with_logs, with_patience, with_sheets};
 
 use clap::{Arg, ArgAction, Command};
 use std::alloc::{AllocError, Global};
@@ -49,7 +49,7 @@ const ABOUT_CHECK: &str =
     "SHEET is read whole, and then GRANTS. `yes` goes to standard output, or `no` with the number, the name and the\nfields of the first flaw.\n\nExample: sheets check lunch.sheet lunch.grants\n\nStatus: 0 done, or yes; 1 a fault; 2 refused words; 3 no";
 
 const ABOUT_CHECK_CONFIG: &str =
-    "CONFIG is read whole. What it states goes to standard output, in tables, with a warning of what is of no use.\n\nExample: ftpd check-config office.toml\n\nStatus: 0 done, or yes; 1 a fault; 2 refused words; 3 no";
+    "CONFIG is read whole. What it states goes to standard output, in tables, with a warning of what is of no use. Of a\nfolder, its homes and the file CONFIG the machine is asked: whether they are there, and who may read them.\n\nExample: ftpd check-config office.toml\n\nStatus: 0 done, or yes; 1 a fault; 2 refused words; 3 no";
 
 const ABOUT_MIGRATE: &str =
     "CONFIG is read whole. Its text in the latest version goes to standard output; comments are lost.\n\nExample: ftpd migrate office.toml > office2.toml\n\nStatus: 0 done, or yes; 1 a fault; 2 refused words; 3 no";
@@ -127,13 +127,15 @@ fn check_config_command<'a>(alloc: Global) -> Result<Command<'a>, AllocError>
     ensures check_config { IfOk result (λ c. app_of c ≡ check_config) }
 {
     let about = "Judge a configuration: print its users, groups, rates and guarantees, and warn";
-    config_command(
+    let json = "Print the report as JSON, for programs";
+    let command = config_command(
         alloc,
         "check-config",
         about,
         ABOUT_CHECK_CONFIG,
         CONFIG_FILE,
-    )
+    )?;
+    with_flag(alloc, command, "json", json)
 }
 
 fn migrate_command<'a>(alloc: Global) -> Result<Command<'a>, AllocError>
@@ -194,6 +196,18 @@ fn with_files<'a>(alloc: Global, command: Command<'a>) -> Result<Command<'a>, Al
     Ok(command)
 }
 
+/// The command with an optional transfer log, given by its path, and an optional form of notes.
+fn with_logs<'a>(alloc: Global, command: Command<'a>) -> Result<Command<'a>, AllocError>
+    ensures rules { IfOk result (λ c. app_of c ≡ with_logs (app_of command.entry)) }
+{
+    let log = "File to which a line is appended for each file sent or received, as of xferlog(5)";
+    let form =
+        "Form of the notes on standard error: plain, or journal for systemd [default: plain]";
+    let with_log = with_value(alloc, command, "transfer-log", "PATH", log)?;
+    let command = with_value(alloc, with_log, "log-form", "FORM", form)?;
+    Ok(command)
+}
+
 /// The command with its options in seconds.
 fn with_patience<'a>(alloc: Global, command: Command<'a>) -> Result<Command<'a>, AllocError>
     ensures rules { IfOk result (λ c. app_of c ≡ with_patience (app_of command.entry)) }
@@ -216,6 +230,7 @@ fn serve_command<'a>(alloc: Global) -> Result<Command<'a>, AllocError>
         "Serve clients by a configuration, until a number of sessions or a stop file ends it";
     let command = config_command(alloc, "serve", about, ABOUT_SERVE, CONFIG_FILE)?;
     let command = with_files(alloc, command)?;
+    let command = with_logs(alloc, command)?;
     with_patience(alloc, command)
 }
 

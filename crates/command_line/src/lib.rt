@@ -3,7 +3,7 @@
 //! ```text
 //! ftpd share SHEET
 //! ftpd check SHEET GRANTS
-//! ftpd check-config CONFIG
+//! ftpd check-config CONFIG [--json]
 //! ftpd migrate CONFIG
 //! ftpd script CONFIG
 //! ftpd plan CONFIG TRANSFERS [--json]

@@ -3,7 +3,7 @@
 ghost use Rattle.std.specs.Prelude.{◌≡◌, ◌↔◌, ◌∷◌, [], ℕ, List, None, Some, IfOk, IfErr, IfSome, IsTrue, map, codes, false, option_map, true};
 ghost use Rattle.clap.specs.Words.{app_of, fault_of, first_of, found_of, is_simple, is_simple_and_free, kind_of, rows_of, subcommand_of, subcommand_rows_of, takes};
 ghost use Rattle.command_line.specs.Commands.{ftpd, sheets};
-ghost use Rattle.command_line.specs.Given.{GivesOneOrMemory, GivesOrMemory, IsCheck, IsCheckConfig, IsFound, IsHelp, IsMigrate, IsOfSheets, IsPlainWord, IsPlanWords, IsRefusal, IsRefusedAs, IsScript, IsServe, IsSheetFound, IsShare, IsRefusedFor, IsTaken, entered_rows, is_flagged, ready_words};
+ghost use Rattle.command_line.specs.Given.{GivesOneOrMemory, GivesOrMemory, IsCheck, IsCheckConfig, IsFound, IsHelp, IsLogged, IsMigrate, IsOfSheets, IsPlainWord, IsPlanWords, IsRefusal, IsRefusedAs, IsScript, IsServe, IsSheetFound, IsShare, IsRefusedFor, IsTaken, entered_rows, is_flagged, logged_words, ready_words};
 ghost use Rattle.command_line.specs.Timed.{IsSeconds, IsTimedBy, timed_words, usual_patience};
 
 use crate::grammar::{ftpd_command, sheets_command};
@@ -22,13 +22,17 @@ pub enum SheetWords<'a> {
     Check { sheet: &'a str, grants: &'a str },
 }
 
-/// The paths of the files that end a server, and that show that it is ready.
+/// The paths of a server's files, and the form of its notes.
 #[derive(Clone, Copy, Debug, PartialEq, Eq)]
 pub struct ServeFiles<'a> {
     /// The server ends once there is a file at this path.
     pub stop_file: Option<&'a str>,
     /// The server makes a file at this path once clients may connect, and removes it at its end.
     pub ready_file: Option<&'a str>,
+    /// The server appends a line for each transfer of a file to the file at this path.
+    pub transfer_log: Option<&'a str>,
+    /// The name of the form of its notes.
+    pub log_form: Option<&'a str>,
 }
 
 /// A command of `ftpd`, with the words after it.
@@ -36,9 +40,10 @@ pub struct ServeFiles<'a> {
 pub enum Words<'a> {
     /// A command on a sheet.
     Sheet(SheetWords<'a>),
-    /// Check the configuration at this path, and print its report.
+    /// Check the configuration at this path, and print its report, as JSON or in lines.
     CheckConfig {
         config: &'a str,
+        json: bool,
     },
     /// Print the configuration at this path in its latest version.
     Migrate {
@@ -159,6 +164,7 @@ fn given<'a>(name: &str, inner: &ArgMatches<'a>, patience: Patience) -> Option<W
     match name {
         "check-config" => Some(Words::CheckConfig {
             config: word_of(inner, "CONFIG")?,
+            json: has_flag(inner, "json"),
         }),
         "migrate" => Some(Words::Migrate {
             config: word_of(inner, "CONFIG")?,
@@ -171,6 +177,8 @@ fn given<'a>(name: &str, inner: &ArgMatches<'a>, patience: Patience) -> Option<W
             files: ServeFiles {
                 stop_file: word_of(inner, "stop-file"),
                 ready_file: word_of(inner, "ready-file"),
+                transfer_log: word_of(inner, "transfer-log"),
+                log_form: word_of(inner, "log-form"),
             },
             patience,
         }),
@@ -263,7 +271,10 @@ pub fn read_words<'a>(alloc: Global, words: &'a [&'a str]) -> Result<Words<'a>, 
         → GivesOrMemory (IsOfSheets (IsCheck first second)) result }
     ensures check_config { (word : List ℕ) → IsPlainWord word
         → map (λ s. s.now) words.now ≡ codes "check-config" ∷ word ∷ []
-        → GivesOrMemory (IsCheckConfig word) result }
+        → GivesOrMemory (IsCheckConfig word false) result }
+    ensures check_config_json { (word : List ℕ) → IsPlainWord word
+        → map (λ s. s.now) words.now ≡ codes "check-config" ∷ word ∷ codes "--json" ∷ []
+        → GivesOrMemory (IsCheckConfig word true) result }
     ensures migrate { (word : List ℕ) → IsPlainWord word
         → map (λ s. s.now) words.now ≡ codes "migrate" ∷ word ∷ []
         → GivesOrMemory (IsMigrate word) result }
@@ -280,6 +291,10 @@ pub fn read_words<'a>(alloc: Global, words: &'a [&'a str]) -> Result<Words<'a>, 
         → IsPlainWord ready
         → map (λ s. s.now) words.now ≡ ready_words word path ready
         → GivesOrMemory (IsServe word (Some path) (Some ready) usual_patience) result }
+    ensures serve_logged { (word path form : List ℕ) → IsPlainWord word → IsPlainWord path
+        → IsPlainWord form
+        → map (λ s. s.now) words.now ≡ logged_words word path form
+        → GivesOrMemory (IsLogged word path form) result }
     ensures serve_timed { (word first second third : List ℕ) (p : Patience) → IsPlainWord word
         → IsSeconds first p.login_timeout → IsSeconds second p.idle_timeout
         → IsSeconds third p.login_delay

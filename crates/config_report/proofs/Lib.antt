@@ -1,2 +1,4 @@
+pub mod Depths
 pub mod Joined
 pub mod Reported
+pub mod Pushed

@@ -3,10 +3,11 @@ use Rattle.std.proofs.Common.{ℕ, List, Result, Ok, Err, IfOk, String, Global, 
 use Rattle.server_config.specs.Configs.{IsConfigText}
 use Rattle.server_config.specs.declared.config.Config.{Config}
 use Rattle.server_config.specs.declared.fault.ConfigFault.{ConfigFault}
+use Rattle.config_report.specs.Looks.{Shown}
 use Rattle.config_report.specs.Reports.{IsPartOf, IsReport}
 use Rattle.config_report.specs.declared.reporting.Part.{Part}
 
-pub reported : (part : Part) (octets : List ℕ) (config : Config) (answer : Result (String Global) ConfigFault) → IsConfigText octets config
-    → IfOk answer (λ text. IsReport part octets config.store (string_bytes text)) → IfOk answer (λ text. IsPartOf part octets (string_bytes text))
-reported part octets config (Ok text) is told = (config, is, told)
-reported part octets config (Err fault) is told = tt
+pub reported : (part : Part) (shown : Shown) (path octets : List ℕ) (config : Config) (answer : Result (String Global) ConfigFault) → IsConfigText octets config
+    → IfOk answer (λ text. IsReport part shown path octets config.store (string_bytes text)) → IfOk answer (λ text. IsPartOf part shown path octets (string_bytes text))
+reported part shown path octets config (Ok text) is told = (config, is, told)
+reported part shown path octets config (Err fault) is told = tt

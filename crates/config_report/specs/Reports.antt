@@ -9,40 +9,50 @@ use Rattle.server_config.specs.Configs.{IsConfigText}
 use Rattle.server_config.specs.declared.config.Config.{Config}
 use Rattle.std.specs.List.{flat_map}
 use Rattle.config_report.specs.Lines.{report_text, warning_row}
+use Rattle.config_report.specs.Looks.{IsSeen, Shown}
+use Rattle.config_report.specs.ReportData.{IsJsonOf, report_data}
 use Rattle.config_report.specs.declared.reporting.Part.{Part}
-use Rattle.config_report.specs.declared.reporting.Part.TheVariants.{Whole, Warnings}
+use Rattle.config_report.specs.declared.reporting.Part.TheVariants.{Whole, Json, Warnings}
+use Rattle.config_report.specs.declared.seen.Seen.{Seen}
+use Rattle.config_report.specs.declared.warning.Warning.{Warning}
 use Rattle.config_report.specs.Warnings.{warnings}
 
--- the lines of tables, with the warnings of the tables and of the store that is made of them
-abbrev pub report_of : Tables → ServedStore → List ℕ
-report_of tables store =
-    report_text tables.server tables.groups.items tables.users.items
-    (warnings tables.server tables.groups.items tables.users.items store)
+-- the warnings of tables, by what is seen for them
+abbrev pub warnings_by : Tables → Seen → List Warning
+warnings_by tables seen =
+    warnings tables.server tables.groups.items seen.root seen.mode seen.users.items
 
--- the texts of those warnings alone, a line each
-abbrev pub warnings_told : Tables → ServedStore → List ℕ
-warnings_told tables store =
-    flat_map warning_row (warnings tables.server tables.groups.items tables.users.items store)
+-- the text is that part of the report on tables, by what is seen for them
+abbrev pub IsToldBy : Part → Tables → Seen → List ℕ → Type 0
+IsToldBy Whole tables seen text =
+    text ≡ report_text tables tables.groups.items tables.users.items seen.users.items
+    (warnings_by tables seen)
+IsToldBy Json tables seen text =
+    IsJsonOf
+    (report_data tables tables.groups.items seen.users.items (warnings_by tables seen)) text
+IsToldBy Warnings tables seen text = text ≡ flat_map warning_row (warnings_by tables seen)
 
--- the lines are those of a part of a report
-abbrev pub part_of : Part → Tables → ServedStore → List ℕ
-part_of Whole tables store = report_of tables store
-part_of Warnings tables store = warnings_told tables store
-
--- the same for the tables that the text states
-abbrev pub IsReport : Part → List ℕ → ServedStore → List ℕ → Type 0
-IsReport part octets store text =
-    (document : Members) × (tables : Tables) × (parse_document octets ≡ Some document)
-    × IsTables document tables × (text ≡ part_of part tables store)
+-- the same for the tables that the octets of the file of a path state, given the store that is made
+-- of them, and the possible results of looks at the machine
+abbrev pub IsReport : Part → Shown → List ℕ → List ℕ → ServedStore → List ℕ → Type 0
+IsReport part shown path octets store text =
+    (document : Members) × (tables : Tables) × (seen : Seen)
+    × (parse_document octets ≡ Some document) × IsTables document tables
+    × IsSeen shown path store tables.users.items tables.overrides.items seen
+    × IsToldBy part tables seen text
 
 -- the same for the store that is made of those tables
-abbrev pub IsPartOf : Part → List ℕ → List ℕ → Type 0
-IsPartOf part octets text =
-    (config : Config) × IsConfigText octets config × IsReport part octets config.store text
+abbrev pub IsPartOf : Part → Shown → List ℕ → List ℕ → List ℕ → Type 0
+IsPartOf part shown path octets text =
+    (config : Config) × IsConfigText octets config
+    × IsReport part shown path octets config.store text
 
-abbrev pub IsReportOf : List ℕ → List ℕ → Type 0
-IsReportOf octets text = IsPartOf Whole octets text
+abbrev pub IsReportOf : Shown → List ℕ → List ℕ → List ℕ → Type 0
+IsReportOf shown path octets text = IsPartOf Whole shown path octets text
+
+abbrev pub IsReportJson : Shown → List ℕ → List ℕ → List ℕ → Type 0
+IsReportJson shown path octets text = IsPartOf Json shown path octets text
 
 -- the texts of the warnings alone
-abbrev pub AreWarningsOf : List ℕ → List ℕ → Type 0
-AreWarningsOf octets text = IsPartOf Warnings octets text
+abbrev pub AreWarningsOf : Shown → List ℕ → List ℕ → List ℕ → Type 0
+AreWarningsOf shown path octets text = IsPartOf Warnings shown path octets text

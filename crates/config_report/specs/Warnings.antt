@@ -1,22 +1,18 @@
 -- Settings that are accepted and have no use, each with its test.
-use Rattle.std.specs.Prelude.{ℕ, ◌+◌, ◌*◌, Bool, true, false, not, ◌||◌, ◌&&◌, cond, if◌then◌else◌, nat_eq, nat_le, nat_lt, List, [], ◌∷◌, ◌++◌, bytes_eq, codes, length, map, Option, Some, None, Result, Ok, Err}
+use Rattle.std.specs.Prelude.{ℕ, ◌+◌, ◌*◌, Bool, true, false, not, ◌||◌, ◌&&◌, cond, if◌then◌else◌, nat_eq, nat_le, nat_lt, List, [], ◌∷◌, ◌++◌, bytes_eq, codes, length, map, Option, Some, None, bit_and}
 use Rattle.std.specs.Borrow.{Bor}
 use Rattle.std.specs.Char.{to_ascii_lowercase}
 use Rattle.std.specs.List.{flat_map, list_any}
 use Rattle.std.specs.Net.Addr.{ipv4_bits}
-use Rattle.ftp_terms.specs.declared.entries.EntryKind.{EntryKind}
-use Rattle.ftp_terms.specs.declared.entries.EntryKind.TheVariants as kind
-use Rattle.virtual_path.specs.Path.{Path, resolved}
-use Rattle.virtual_path.specs.declared.fault.PathFault.{PathFault}
-use Rattle.memory_store.specs.InMemory.{Memory, kind_at}
 use Rattle.config_file.specs.declared.stated.ServerTable.{ServerTable}
-use Rattle.server_config.specs.declared.store.ServedStore.{ServedStore}
-use Rattle.server_config.specs.declared.store.ServedStore.TheVariants as served
 use Rattle.config_file.specs.declared.stated.GroupTable.{GroupTable}
 use Rattle.config_file.specs.declared.stated.UserTable.{UserTable}
 use Rattle.server_config.specs.Settings.{told_address}
+use Rattle.config_report.specs.declared.looks.Sight.{Sight}
+use Rattle.config_report.specs.declared.looks.Sight.TheVariants as sight
+use Rattle.config_report.specs.declared.seen.SeenUser.{SeenUser}
 use Rattle.config_report.specs.declared.warning.Warning.{Warning}
-use Rattle.config_report.specs.declared.warning.Warning.TheVariants.{NearlyMemory, RelativeRoot, NoAddress, OwnPorts, FewPorts, NoPassword, Unbrowsed, NoFirstSession, NoSecondSession, NoHome}
+use Rattle.config_report.specs.declared.warning.Warning.TheVariants.{NearlyMemory, RelativeRoot, AbsentRoot, NoFolderRoot, ClosedRoot, PublicPasswords, NoAddress, OwnPorts, FewPorts, NoPassword, Unbrowsed, NoFirstSession, NoSecondSession, NoHome}
 use Rattle.config_report.specs.declared.warnings.TheConstants.{OWN_FIRST, OWN_LAST}
 
 -- ---- of the server
@@ -59,9 +55,6 @@ port_warnings server =
     ++ (if is_among_own server then OwnPorts server.passive_first server.passive_last ∷ [] else [])
     ++ (if has_few_ports server
     then FewPorts server.passive_first server.passive_last server.max_cons ∷ [] else [])
-
-abbrev pub server_warnings : ServerTable → List Warning
-server_warnings server = root_warnings server.root ++ port_warnings server
 
 -- ---- of a user's guarantees
 
@@ -131,26 +124,50 @@ is_open user =
 abbrev pub may_browse : List ℕ → Bool
 may_browse letters = list_any (nat_eq 101) letters && list_any (nat_eq 108) letters
 
+-- ---- of the root
+
+-- the root is no folder whose entries can be listed, so that nothing is known of homes in it
+abbrev pub is_unlisted : Option Sight → Bool
+is_unlisted None = false
+is_unlisted (Some sight.Listed) = false
+is_unlisted (Some sight.Absent) = true
+is_unlisted (Some sight.NoFolder) = true
+is_unlisted (Some sight.Closed) = true
+
+abbrev pub sight_warnings : Bor (List ℕ) → Option Sight → List Warning
+sight_warnings root None = []
+sight_warnings root (Some sight.Listed) = []
+sight_warnings root (Some sight.Absent) = AbsentRoot root ∷ []
+sight_warnings root (Some sight.NoFolder) = NoFolderRoot root ∷ []
+sight_warnings root (Some sight.Closed) = ClosedRoot root ∷ []
+
+-- ---- of the configuration's file
+
+-- everybody may read a file of these permission bits
+abbrev pub is_public : Option ℕ → Bool
+is_public None = false
+is_public (Some mode) = not (nat_eq (bit_and mode 4) 0)
+
+-- the user's password is not empty
+abbrev pub has_word : SeenUser → Bool
+has_word row = not (nat_eq (length row.user.now.password.now) 0)
+
+abbrev pub file_warnings : Option ℕ → List SeenUser → List Warning
+file_warnings mode rows =
+    if is_public mode && list_any has_word rows then PublicPasswords ∷ [] else []
+
 -- ---- of a user's home
 
-abbrev pub is_directory_kind : Option EntryKind → Bool
-is_directory_kind None = false
-is_directory_kind (Some kind.Directory) = true
-is_directory_kind (Some kind.File) = false
-
-abbrev pub is_directory : Memory → Path → Bool
-is_directory store path = is_directory_kind (kind_at store.tree path)
-
-abbrev pub is_home : Memory → Result Path PathFault → Bool
-is_home store (Ok path) = is_directory store path
-is_home store (Err fault) = false
-
--- the home is a directory of the store; a folder of the machine is not asked
-abbrev pub has_home : ServedStore → List ℕ → Bool
-has_home (served.Memory store) home = is_home store (resolved [] home)
-has_home (served.Folder text) home = true
+-- the home is no directory of the store in memory, or of a folder that can be listed
+abbrev pub lacks_home : Option Sight → SeenUser → Bool
+lacks_home root row = not row.has_home && not (is_unlisted root)
 
 -- ---- all
+
+abbrev pub server_warnings : ServerTable → Option Sight → Option ℕ → List SeenUser → List Warning
+server_warnings server root mode rows =
+    root_warnings server.root ++ sight_warnings server.root root ++ port_warnings server
+    ++ file_warnings mode rows
 
 abbrev pub access_warnings : UserTable → List Warning
 access_warnings user =
@@ -162,12 +179,13 @@ floor_warnings server groups user =
     (if is_unmet server groups user then NoFirstSession user.name ∷ [] else [])
     ++ (if is_single server groups user then NoSecondSession user.name ∷ [] else [])
 
-abbrev pub user_warnings : ServerTable → List GroupTable → ServedStore → UserTable → List Warning
-user_warnings server groups store user =
-    access_warnings user ++ floor_warnings server groups user
-    ++ (if has_home store user.home.now then [] else NoHome user.name user.home ∷ [])
+abbrev pub user_warnings : ServerTable → List GroupTable → Option Sight → SeenUser → List Warning
+user_warnings server groups root row =
+    access_warnings row.user.now ++ floor_warnings server groups row.user.now
+    ++ (if lacks_home root row then NoHome row.user.now.name row.user.now.home ∷ [] else [])
 
--- those of the server, and then those of the users in their order
-abbrev pub warnings : ServerTable → List GroupTable → List UserTable → ServedStore → List Warning
-warnings server groups users store =
-    server_warnings server ++ flat_map (user_warnings server groups store) users
+-- those of the root, of the server and of the file, and then those of the users in their order
+abbrev pub warnings : ServerTable → List GroupTable → Option Sight → Option ℕ → List SeenUser
+    → List Warning
+warnings server groups root mode rows =
+    server_warnings server root mode rows ++ flat_map (user_warnings server groups root) rows

@@ -2,7 +2,7 @@
 
 ghost use Rattle.std.specs.Prelude.{◌≡◌, IfOk, codes, cond, nat_eq, string_bytes};
 ghost use Rattle.std.specs.List.{list_any};
-ghost use Rattle.config_report.specs.Lines.{ordered};
+ghost use Rattle.config_report.specs.UserLines.{ordered};
 ghost use Rattle.config_report.specs.Warnings.{may_browse};
 
 use std::alloc::{AllocError, Global};
@@ -52,11 +52,11 @@ pub(crate) struct Permitted<'a>(pub(crate) &'a str);
 
 impl fmt::Display for Permitted<'_> {
     ghost use Rattle.std.specs.Prelude.{Some};
-    ghost use Rattle.config_report.specs.Lines.{permitted};
+    ghost use Rattle.config_report.specs.UserLines.{permitted};
 
     ghost output = { λ p. Some (permitted p.0.now) };
 
-    #[tactic(auto, unfolding(crate::specs::Lines::permitted))]
+    #[tactic(auto, unfolding(crate::specs::UserLines::permitted))]
     fn fmt<W: fmt::Write>(&self, f: &mut fmt::Formatter<W>) -> fmt::Result {
         let letters = self.0;
         write!(

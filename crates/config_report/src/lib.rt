@@ -1,9 +1,11 @@
-//! The report on a configuration, as lines: the address of the server, its users, limits and guarantees, and warnings
-//! of settings that are accepted and have no use.
+//! The report on a configuration, as lines or as JSON: the address of the server, its bounds, its users, limits and
+//! guarantees, and warnings of settings that are accepted and have no use, also by a look at the machine.
 //!
 //! ```text
-//! let text = report(rt.alloc(), SMALL.as_bytes())?; // a server and the user `ann`
+//! let text = report(rt.alloc(), "ftpd.toml", SMALL.as_bytes(), &machine)?; // a server and the user `ann`
 //! holds(rt, text.as_str().starts_with("listens on 127.0.0.1:2121\n"));
+//! let text = report_json(rt.alloc(), "ftpd.toml", SMALL.as_bytes(), &machine)?; // the same for programs
+//! holds(rt, text.as_str().contains("\"port\":2121"));
 //! ```
 #![tactic(auto)]
 
@@ -11,12 +13,17 @@ mod floors;
 mod homes;
 mod letters;
 mod lines;
+mod looks;
 mod reporting;
 mod roots;
+mod seen;
+mod server_lines;
+mod user_lines;
+mod values;
 mod warning;
 mod warnings;
 
-pub use reporting::{report, warning_texts};
+pub use looks::{Lookout, Sight};
+pub use reporting::{report, report_json, warning_texts};
 pub use roots::is_nearly_memory;
 pub use warning::Warning;
-pub use warnings::warnings_of;

@@ -2,16 +2,14 @@
 
 ghost use Rattle.std.specs.Prelude.{◌≡◌, ◌++◌, IfOk, OnOk, string_bytes};
 ghost use Rattle.std.specs.List.{flat_map};
-ghost use Rattle.std.specs.Net.Addr.{ipv4_octets};
-ghost use Rattle.std.specs.Net.Text.{ipv4_text};
-ghost use Rattle.config_report.specs.Lines.{both_line, group_rates, listens_line, part_line, port_text, ports_text, rate_column, rate_columns, rates_head, report_text, server_lines, server_rates, serves_line, takes_line, tells_line, user_line, user_rates, users_head, warning_line, warning_row, ways_line};
+ghost use Rattle.config_report.specs.Lines.{both_line, group_rates, part_line, rate_column, rate_columns, rates_head, report_text, server_rates, user_rates, warning_line, warning_row, ways_line};
 
-use crate::letters::ordered;
+use crate::seen::SeenUser;
+use crate::server_lines::write_server;
+use crate::user_lines::{write_users, write_users_head};
 use crate::warning::Warning;
-use crate::warnings::told_address;
-use config_file::{GroupTable, ServerTable, UserTable};
+use config_file::{GroupTable, ServerTable, Tables, UserTable};
 use std::alloc::{AllocError, Global};
-use std::net::Ipv4Addr;
 
 /// Writes a rate in its column; a dash for none.
 fn write_rate(text: &mut String, rate: u64) -> Result<(), AllocError>
@@ -45,84 +43,6 @@ fn write_part(text: &mut String, head: &str, down: u64, up: u64) -> Result<(), A
     }
     write!(text, "{head:<24}")?;
     write_rates(text, down, up)
-}
-
-fn write_word(text: &mut String, word: &str) -> Result<(), AllocError>
-    ensures word { OnOk result (string_bytes text.new ≡ string_bytes text.old ++ word.now) }
-{
-    text.push_str(word)
-}
-
-fn write_address(text: &mut String, address: Ipv4Addr) -> Result<(), AllocError>
-    ensures address { OnOk result
-        (string_bytes text.new ≡ string_bytes text.old ++ ipv4_text (ipv4_octets address)) }
-{
-    write!(text, "{address}")
-}
-
-fn write_port(text: &mut String, server: &ServerTable) -> Result<(), AllocError>
-    ensures port { OnOk result
-        (string_bytes text.new ≡ string_bytes text.old ++ port_text server.now) }
-{
-    writeln!(text, ":{}", server.port)
-}
-
-fn write_listens(text: &mut String, server: &ServerTable) -> Result<(), AllocError>
-    ensures line { OnOk result
-        (string_bytes text.new ≡ string_bytes text.old ++ listens_line server.now) }
-{
-    write_word(text, "listens on ")?;
-    write_address(text, server.address)?;
-    write_port(text, server)?;
-    Ok(())
-}
-
-fn write_ports(text: &mut String, server: &ServerTable) -> Result<(), AllocError>
-    ensures ports { OnOk result
-        (string_bytes text.new ≡ string_bytes text.old ++ ports_text server.now) }
-{
-    let (first, last) = (server.passive_first, server.passive_last);
-    writeln!(text, ", ports {first} to {last}")
-}
-
-fn write_tells(text: &mut String, server: &ServerTable) -> Result<(), AllocError>
-    ensures line { OnOk result
-        (string_bytes text.new ≡ string_bytes text.old ++ tells_line server.now) }
-{
-    let told = told_address(server);
-    write_word(text, "tells clients ")?;
-    write_address(text, told)?;
-    write_ports(text, server)?;
-    Ok(())
-}
-
-fn write_takes(text: &mut String, server: &ServerTable) -> Result<(), AllocError>
-    ensures line { OnOk result
-        (string_bytes text.new ≡ string_bytes text.old ++ takes_line server.now) }
-{
-    let (connections, lanes) = (server.max_cons, server.lanes);
-    writeln!(
-        text,
-        "takes {connections} connections, {lanes} transfers at once"
-    )
-}
-
-fn write_serves(text: &mut String, server: &ServerTable) -> Result<(), AllocError>
-    ensures line { OnOk result
-        (string_bytes text.new ≡ string_bytes text.old ++ serves_line server.now) }
-{
-    writeln!(text, "serves {}", server.root)
-}
-
-fn write_server(text: &mut String, server: &ServerTable) -> Result<(), AllocError>
-    ensures lines { OnOk result
-        (string_bytes text.new ≡ string_bytes text.old ++ server_lines server.now) }
-{
-    write_listens(text, server)?;
-    write_tells(text, server)?;
-    write_takes(text, server)?;
-    write_serves(text, server)?;
-    Ok(())
 }
 
 fn write_rates_head(text: &mut String) -> Result<(), AllocError>
@@ -190,41 +110,12 @@ fn write_user_rates(text: &mut String, user: &UserTable) -> Result<(), AllocErro
     )
 }
 
-fn write_users_head(text: &mut String) -> Result<(), AllocError>
-    ensures line { OnOk result (string_bytes text.new ≡ string_bytes text.old ++ users_head) }
-{
-    writeln!(text, "\n{:<16} {:<10} {:<16} home", "user", "may", "group")
-}
-
-fn write_user(alloc: Global, text: &mut String, user: &UserTable) -> Result<(), AllocError>
-    ensures line { OnOk result
-        (string_bytes text.new ≡ string_bytes text.old ++ user_line user.now) }
-{
-    let group = user.group.unwrap_or("-");
-    let letters = ordered(alloc, user.perms)?;
-    writeln!(
-        text,
-        "{:<16} {:<10} {:<16} {}",
-        user.name, letters, group, user.home
-    )
-}
-
 fn write_groups(text: &mut String, groups: &[GroupTable]) -> Result<(), AllocError>
     ensures lines { OnOk result
         (string_bytes text.new ≡ string_bytes text.old ++ flat_map group_rates groups.now) }
 {
     for group in groups {
         write_group(text, group)?;
-    }
-    Ok(())
-}
-
-fn write_users(alloc: Global, text: &mut String, users: &[UserTable]) -> Result<(), AllocError>
-    ensures lines { OnOk result
-        (string_bytes text.new ≡ string_bytes text.old ++ flat_map user_line users.now) }
-{
-    for user in users {
-        write_user(alloc, text, user)?;
     }
     Ok(())
 }
@@ -264,21 +155,22 @@ pub(crate) fn warning_rows(alloc: Global, warnings: &[Warning]) -> Result<String
 /// Returns all lines: of the server, of rates, of users, and the warnings.
 pub(crate) fn lines_of(
     alloc: Global,
-    server: &ServerTable,
+    tables: &Tables,
     groups: &[GroupTable],
     users: &[UserTable],
+    rows: &[SeenUser],
     warnings: &[Warning],
 ) -> Result<String, AllocError>
     ensures text { IfOk result (λ text. string_bytes text
-        ≡ report_text server.now groups.now users.now warnings.now) }
+        ≡ report_text tables.now groups.now users.now rows.now warnings.now) }
 {
     let mut text = String::new(alloc);
-    write_server(&mut text, server)?;
-    write_server_rates(&mut text, server)?;
+    write_server(&mut text, tables)?;
+    write_server_rates(&mut text, &tables.server)?;
     write_groups(&mut text, groups)?;
     write_rates_of_users(&mut text, users)?;
     write_users_head(&mut text)?;
-    write_users(alloc, &mut text, users)?;
+    write_users(alloc, &mut text, rows)?;
     write_warnings(&mut text, warnings)?;
     Ok(text)
 }

@@ -1,50 +1,62 @@
 //! The report on a configuration, from its text.
 
-ghost use Rattle.std.specs.Prelude.{◌≡◌, IfErr, IfOk, string_bytes};
+ghost use Rattle.std.specs.Prelude.{◌≡◌, IfErr, IfOk, length, string_bytes};
 ghost use Rattle.server_config.specs.Refused.{IsFaultOfText};
 ghost use Rattle.server_config.specs.declared.fault.ConfigFault.TheVariants.{Memory};
-ghost use Rattle.config_report.specs.Reports.{AreWarningsOf, IsReport, IsReportOf, part_of};
+ghost use Rattle.config_report.specs.Reports.{AreWarningsOf, IsReport, IsReportJson, IsReportOf, IsToldBy};
 
 use crate::lines::{lines_of, warning_rows};
+use crate::looks::Lookout;
+use crate::seen::{Seen, seen_of};
+use crate::values::json_text;
 use crate::warnings::warnings_of;
 use config_file::{Tables, read_tables};
 use server_config::{Config, ConfigFault, ServedStore};
 use std::alloc::{AllocError, Global};
 
-/// A part of a report.
+/// A part of a report, in its form.
 #[derive(Clone, Copy, Debug, PartialEq, Eq)]
 pub(crate) enum Part {
     /// All of its lines.
     Whole,
+    /// The whole, as JSON.
+    Json,
     /// The texts of its warnings, a line each.
     Warnings,
 }
 
-/// Returns a part of the report on tables and the store that is made of them.
+/// Returns a part of the report on tables.
 fn text_of(
     alloc: Global,
     part: Part,
     tables: &Tables,
-    store: &mut ServedStore,
+    seen: &Seen<'_, '_>,
 ) -> Result<String, AllocError>
-    ensures text { IfOk result (λ text. string_bytes text ≡ part_of part tables.now store.old) }
+    ensures text { IfOk result
+        (λ text. IsToldBy part tables.now seen.now (string_bytes text)) }
 {
     let (groups, users) = (tables.groups.as_slice(), tables.users.as_slice());
-    let warnings = warnings_of(alloc, &tables.server, groups, users, store)?;
+    let (server, rows) = (&tables.server, seen.users.as_slice());
+    let warnings = warnings_of(alloc, server, groups, seen.root, seen.mode, rows)?;
+    let told = warnings.as_slice();
     match part {
-        Part::Whole => lines_of(alloc, &tables.server, groups, users, warnings.as_slice()),
-        Part::Warnings => warning_rows(alloc, warnings.as_slice()),
+        Part::Whole => lines_of(alloc, tables, groups, users, rows, told),
+        Part::Json => json_text(alloc, tables, groups, rows, told),
+        Part::Warnings => warning_rows(alloc, told),
     }
 }
 
 /// Returns a part of the report on a text that was read as a configuration before. Only memory can run out.
-fn told_of(
+fn told_of<L: Lookout>(
     alloc: Global,
     part: Part,
+    path: &str,
     octets: &[u8],
+    lookout: &L,
     store: &mut ServedStore,
 ) -> Result<String, ConfigFault>
-    ensures report { IfOk result (λ text. IsReport part octets.now store.old (string_bytes text)) }
+    ensures report { IfOk result (λ text. IsReport part (L.Shows lookout.now) path.now octets.now
+        store.old (string_bytes text)) }
     ensures memory { IfErr result (λ fault. fault ≡ Memory) }
 {
     let Ok(document) = toml::table_from_slice(alloc, octets) else {
@@ -53,28 +65,65 @@ fn told_of(
     let Ok(tables) = read_tables(alloc, &document) else {
         return Err(ConfigFault::Memory);
     };
-    match text_of(alloc, part, &tables, store) {
+    let Ok(seen) = seen_of(alloc, lookout, path, store, &tables) else {
+        return Err(ConfigFault::Memory);
+    };
+    match text_of(alloc, part, &tables, &seen) {
         Ok(text) => Ok(text),
         Err(_) => Err(ConfigFault::Memory),
     }
 }
 
-/// Returns the report on the configuration of a text, with its warnings. `Err` is the first fault of a text that is
-/// refused, or lack of memory.
-pub fn report(alloc: Global, octets: &[u8]) -> Result<String, ConfigFault>
-    ensures report { IfOk result (λ text. IsReportOf octets.now (string_bytes text)) }
+/// Returns the report on the configuration of a text, with its warnings. The text is that of the file of a path, and the
+/// lookout looks at the machine. `Err` is the first fault of a text that is refused, or lack of memory.
+pub fn report<L: Lookout>(
+    alloc: Global,
+    path: &str,
+    octets: &[u8],
+    lookout: &L,
+) -> Result<String, ConfigFault>
+    ensures report { IfOk result
+        (λ text. IsReportOf (L.Shows lookout.now) path.now octets.now (string_bytes text)) }
     ensures refused { IfErr result (IsFaultOfText octets.now) }
 {
     let mut config = Config::read(alloc, octets)?;
-    told_of(alloc, Part::Whole, octets, &mut config.store)
+    told_of(alloc, Part::Whole, path, octets, lookout, &mut config.store)
+}
+
+/// Returns the same report as JSON, and a line feed.
+pub fn report_json<L: Lookout>(
+    alloc: Global,
+    path: &str,
+    octets: &[u8],
+    lookout: &L,
+) -> Result<String, ConfigFault>
+    ensures report { IfOk result
+        (λ text. IsReportJson (L.Shows lookout.now) path.now octets.now (string_bytes text)) }
+    ensures refused { IfErr result (IsFaultOfText octets.now) }
+{
+    let mut config = Config::read(alloc, octets)?;
+    told_of(alloc, Part::Json, path, octets, lookout, &mut config.store)
 }
 
 /// Returns the texts of the warnings of the report on the configuration of a text, a line each, without the word that
 /// is before them in the report. `Err` is the first fault of a text that is refused, or lack of memory.
-pub fn warning_texts(alloc: Global, octets: &[u8]) -> Result<String, ConfigFault>
-    ensures warnings { IfOk result (λ text. AreWarningsOf octets.now (string_bytes text)) }
+pub fn warning_texts<L: Lookout>(
+    alloc: Global,
+    path: &str,
+    octets: &[u8],
+    lookout: &L,
+) -> Result<String, ConfigFault>
+    ensures warnings { IfOk result
+        (λ text. AreWarningsOf (L.Shows lookout.now) path.now octets.now (string_bytes text)) }
     ensures refused { IfErr result (IsFaultOfText octets.now) }
 {
     let mut config = Config::read(alloc, octets)?;
-    told_of(alloc, Part::Warnings, octets, &mut config.store)
+    told_of(
+        alloc,
+        Part::Warnings,
+        path,
+        octets,
+        lookout,
+        &mut config.store,
+    )
 }

@@ -1,4 +1,4 @@
-//! Warnings: settings that are accepted and have no use.
+//! Warnings: settings that are accepted and have no use, or another use than they seem to have.
 
 use crate::letters::Permitted;
 use std::fmt;
@@ -12,6 +12,18 @@ pub enum Warning<'a> {
     },
     /// The root is a path that does not begin with `/`.
     RelativeRoot {
+        root: &'a str,
+    },
+    /// There is nothing at the path of the folder.
+    AbsentRoot {
+        root: &'a str,
+    },
+    /// There is something at the path of the folder that is none.
+    NoFolderRoot {
+        root: &'a str,
+    },
+    /// The folder cannot be seen, or its entries cannot be listed.
+    ClosedRoot {
         root: &'a str,
     },
     /// No particular address for passive connections is stated, so each client is told the one that it reached.
@@ -28,6 +40,8 @@ pub enum Warning<'a> {
         last: u16,
         connections: u16,
     },
+    /// The configuration has passwords, and everybody may read its file.
+    PublicPasswords,
     /// The user's password is empty.
     NoPassword {
         user: &'a str,
@@ -45,7 +59,7 @@ pub enum Warning<'a> {
     NoSecondSession {
         user: &'a str,
     },
-    /// The user's home is no directory of the store in memory.
+    /// The user's home is no directory of the store.
     NoHome {
         user: &'a str,
         home: &'a str,
@@ -68,6 +82,9 @@ impl fmt::Display for Warning<'_> {
                 f,
                 "the folder {root} is sought where the program is started; state a path that begins with /"
             ),
+            Warning::AbsentRoot { root } => write!(f, "the folder {root} is not there"),
+            Warning::NoFolderRoot { root } => write!(f, "{root} is no folder"),
+            Warning::ClosedRoot { root } => write!(f, "the folder {root} cannot be listed"),
             Warning::NoAddress => write!(
                 f,
                 "clients are told the address that they reached; behind a router state masquerade_address"
@@ -83,6 +100,10 @@ impl fmt::Display for Warning<'_> {
             } => write!(
                 f,
                 "{connections} connections have fewer passive ports, {first} to {last}"
+            ),
+            Warning::PublicPasswords => write!(
+                f,
+                "everybody on this machine may read the passwords of this file; make it readable by its owner and group alone"
             ),
             Warning::NoPassword { user } => {
                 write!(

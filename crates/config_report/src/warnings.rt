@@ -2,15 +2,16 @@
 
 ghost use Rattle.std.specs.Prelude.{◌≡◌, ◌++◌, IfOk, OnOk};
 ghost use Rattle.server_config.specs.Settings.{told_address};
-ghost use Rattle.config_report.specs.Warnings.{access_warnings, floor_warnings, has_few_ports, is_among_own, is_open, is_untold, port_warnings, root_warnings, user_warnings, warnings};
+ghost use Rattle.std.specs.List.{flat_map, list_any};
+ghost use Rattle.config_report.specs.Warnings.{access_warnings, file_warnings, floor_warnings, has_few_ports, has_word, is_among_own, is_open, is_public, is_unlisted, is_untold, lacks_home, port_warnings, root_warnings, server_warnings, sight_warnings, user_warnings, warnings};
 
 use crate::floors::{is_single, is_unmet};
-use crate::homes::has_home;
 use crate::letters::may_browse;
+use crate::looks::Sight;
 use crate::roots::{is_nearly_memory, is_relative};
+use crate::seen::SeenUser;
 use crate::warning::Warning;
 use config_file::{GroupTable, ServerTable, UserTable};
-use server_config::ServedStore;
 use std::alloc::{AllocError, Global};
 use std::net::Ipv4Addr;
 
@@ -30,7 +31,7 @@ pub(crate) fn told_address(server: &ServerTable) -> Ipv4Addr
 }
 
 /// Returns whether the address announced to clients is 0.0.0.0.
-fn is_untold(server: &ServerTable) -> bool
+pub(crate) fn is_untold(server: &ServerTable) -> bool
     ensures untold { result ≡ is_untold server.now }
 {
     told_address(server).to_bits() == 0
@@ -58,6 +59,45 @@ fn is_open(user: &UserTable) -> bool
     user.password.is_empty() && user.name != "anonymous"
 }
 
+/// Returns whether everybody may read a file of these permission bits.
+fn is_public(mode: Option<u32>) -> bool
+    ensures public { result ≡ is_public mode }
+{
+    match mode {
+        Some(mode) => mode & 4 != 0,
+        None => false,
+    }
+}
+
+/// Returns whether a user has a password that is not empty.
+fn has_passwords(rows: &[SeenUser]) -> bool
+    ensures passwords { result ≡ list_any has_word rows.now }
+{
+    for row in rows {
+        if !row.user.password.is_empty() {
+            return true;
+        }
+    }
+    false
+}
+
+/// Returns whether the root is no folder whose entries can be listed, so that nothing is known of homes in it.
+fn is_unlisted(root: Option<Sight>) -> bool
+    ensures unlisted { result ≡ is_unlisted root }
+{
+    match root {
+        None | Some(Sight::Listed) => false,
+        Some(Sight::Absent | Sight::NoFolder | Sight::Closed) => true,
+    }
+}
+
+/// Returns whether a home is no directory of the store in memory, or of a folder that can be listed.
+fn lacks_home(root: Option<Sight>, row: &SeenUser) -> bool
+    ensures lacks { result ≡ lacks_home root row.now }
+{
+    !row.has_home && !is_unlisted(root)
+}
+
 /// Adds the warnings of the root.
 fn warn_of_root<'a>(found: &mut Vec<Warning<'a>>, root: &'a str) -> Result<(), AllocError>
     ensures warnings { OnOk result (found.new.items ≡ found.old.items ++ root_warnings root.entry) }
@@ -67,6 +107,47 @@ fn warn_of_root<'a>(found: &mut Vec<Warning<'a>>, root: &'a str) -> Result<(), A
     }
     if is_relative(root) {
         found.push(Warning::RelativeRoot { root })?;
+    }
+    Ok(())
+}
+
+/// Adds the warning of what is at the root.
+fn warn_of_sight<'a>(
+    found: &mut Vec<Warning<'a>>,
+    root: &'a str,
+    sight: Option<Sight>,
+) -> Result<(), AllocError>
+    ensures warnings { OnOk result
+        (found.new.items ≡ found.old.items ++ sight_warnings root.entry sight) }
+{
+    match sight {
+        Some(Sight::Absent) => {
+            found.push(Warning::AbsentRoot { root })?;
+            Ok(())
+        }
+        Some(Sight::NoFolder) => {
+            found.push(Warning::NoFolderRoot { root })?;
+            Ok(())
+        }
+        Some(Sight::Closed) => {
+            found.push(Warning::ClosedRoot { root })?;
+            Ok(())
+        }
+        Some(Sight::Listed) | None => Ok(()),
+    }
+}
+
+/// Adds the warning of the configuration's file.
+fn warn_of_file(
+    found: &mut Vec<Warning>,
+    mode: Option<u32>,
+    rows: &[SeenUser],
+) -> Result<(), AllocError>
+    ensures warnings { OnOk result
+        (found.new.items ≡ found.old.items ++ file_warnings mode rows.now) }
+{
+    if is_public(mode) && has_passwords(rows) {
+        found.push(Warning::PublicPasswords)?;
     }
     Ok(())
 }
@@ -131,20 +212,19 @@ fn warn_of_floors<'a>(
 
 /// Adds the warnings of a user.
 fn warn_of_user<'a>(
-    alloc: Global,
     found: &mut Vec<Warning<'a>>,
     server: &ServerTable,
     groups: &[GroupTable],
-    store: &mut ServedStore,
-    user: &UserTable<'a>,
+    root: Option<Sight>,
+    row: &SeenUser<'_, 'a>,
 ) -> Result<(), AllocError>
     ensures warnings { OnOk result (found.new.items
-        ≡ found.old.items ++ user_warnings server.now groups.now store.old user.now) }
-    ensures same { store.new ≡ store.old }
+        ≡ found.old.items ++ user_warnings server.now groups.now root row.now) }
 {
+    let user = row.user;
     warn_of_access(found, user)?;
     warn_of_floors(found, server, groups, user)?;
-    if !has_home(alloc, store, user.home)? {
+    if lacks_home(root, row) {
         found.push(Warning::NoHome {
             user: user.name,
             home: user.home,
@@ -153,22 +233,56 @@ fn warn_of_user<'a>(
     Ok(())
 }
 
-/// Returns the warnings of a configuration: those of its server, and then those of its users in their order.
-pub fn warnings_of<'a>(
+/// Adds the warnings of the root, of the server and of the file.
+fn warn_of_server<'a>(
+    found: &mut Vec<Warning<'a>>,
+    server: &ServerTable<'a>,
+    root: Option<Sight>,
+    mode: Option<u32>,
+    rows: &[SeenUser],
+) -> Result<(), AllocError>
+    ensures warnings { OnOk result
+        (found.new.items ≡ found.old.items ++ server_warnings server.now root mode rows.now) }
+{
+    warn_of_root(found, server.root)?;
+    warn_of_sight(found, server.root, root)?;
+    warn_of_ports(found, server)?;
+    warn_of_file(found, mode, rows)?;
+    Ok(())
+}
+
+/// Adds the warnings of users, in their order.
+fn warn_of_users<'a>(
+    found: &mut Vec<Warning<'a>>,
+    server: &ServerTable,
+    groups: &[GroupTable],
+    root: Option<Sight>,
+    rows: &[SeenUser<'_, 'a>],
+) -> Result<(), AllocError>
+    ensures warnings { OnOk result (found.new.items
+        ≡ found.old.items ++ flat_map (user_warnings server.now groups.now root) rows.now) }
+{
+    for row in rows {
+        warn_of_user(found, server, groups, root, row)?;
+    }
+    Ok(())
+}
+
+/// Returns the warnings of a configuration: those of its root, of its server and of its file, and then those of its users
+/// in their order.
+pub(crate) fn warnings_of<'a>(
     alloc: Global,
     server: &ServerTable<'a>,
     groups: &[GroupTable],
-    users: &[UserTable<'a>],
-    store: &mut ServedStore,
+    root: Option<Sight>,
+    mode: Option<u32>,
+    rows: &[SeenUser<'_, 'a>],
 ) -> Result<Vec<Warning<'a>>, AllocError>
     ensures warnings { IfOk result
-        (λ found. found.items ≡ warnings server.now groups.now users.now store.old) }
+        (λ found. found.items ≡ warnings server.now groups.now root mode rows.now) }
 {
     let mut found = Vec::new(alloc);
-    warn_of_root(&mut found, server.root)?;
-    warn_of_ports(&mut found, server)?;
-    for user in users {
-        warn_of_user(alloc, &mut found, server, groups, store, user)?;
-    }
+    warn_of_server(&mut found, server, root, mode, rows)?;
+    warn_of_users(&mut found, server, groups, root, rows)?;
     Ok(found)
 }

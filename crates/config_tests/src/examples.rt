@@ -1,11 +1,12 @@
 //! The examples in the heads of these crates. `tools/examples` compares their lines.
 
 use crate::expect::holds;
-use config_file::{Fault, KeyFault, TableName, Tables, read_tables, rows_of};
-use config_report::{Warning, is_nearly_memory, report, warning_texts, warnings_of};
-use server_config::{Config, ConfigFault, ServedStore, migrate};
+use config_file::{Fault, KeyFault, TableName, read_tables, rows_of};
+use config_report::{Lookout, Sight, is_nearly_memory, report, report_json, warning_texts};
+use server_config::{Config, ConfigFault, migrate};
 use std::process::Abort;
 use toml::Table;
+use virtual_path::VPath;
 
 /// A configuration of one user.
 const SMALL: &str = "version = 1
@@ -40,29 +41,96 @@ fn server_config(rt: &(impl Abort + AllocGlobal)) -> Result<(), ConfigFault> {
     Ok(())
 }
 
+/// A machine with one sight of each root, whether homes are there, and the permission bits of a file.
+#[derive(Clone, Copy)]
+struct Shown {
+    root: Sight,
+    has_homes: bool,
+    mode: Option<u32>,
+}
+
+impl Lookout for Shown {
+    fn folder(&self, _path: &str) -> Sight {
+        self.root
+    }
+
+    fn has_home(&self, _root: &str, _home: &VPath) -> bool {
+        self.has_homes
+    }
+
+    fn mode(&self, _path: &str) -> Option<u32> {
+        self.mode
+    }
+}
+
+/// A machine of which nothing is to be warned.
+const ORDERLY: Shown = Shown {
+    root: Sight::Listed,
+    has_homes: true,
+    mode: Some(0o100_640),
+};
+
 fn config_report(rt: &(impl Abort + AllocGlobal)) -> Result<(), ConfigFault> {
-    let text = report(rt.alloc(), SMALL.as_bytes())?; // a server and the user `ann`
+    let machine = ORDERLY;
+    let text = report(rt.alloc(), "ftpd.toml", SMALL.as_bytes(), &machine)?; // a server and the user `ann`
     holds(rt, text.as_str().starts_with("listens on 127.0.0.1:2121\n"));
+    let text = report_json(rt.alloc(), "ftpd.toml", SMALL.as_bytes(), &machine)?; // the same for programs
+    holds(rt, text.as_str().contains("\"port\":2121"));
     Ok(())
 }
 
-/// Two ports, for 64 connections, of those that the machine takes for its own.
-fn warnings(rt: &(impl Abort + AllocGlobal), tables: &Tables<'_>) {
-    let mut store = ServedStore::Folder(String::new(rt.alloc()));
-    let found = warnings_of(
-        rt.alloc(),
-        &tables.server,
-        &tables.groups,
-        &tables.users,
-        &mut store,
-    )
-    .expect(rt, "memory");
-    let (first, last) = (40_000, 40_001);
-    holds(rt, found.len() == 2);
-    holds(
+/// A configuration of a folder, with a user of a password.
+const FOLDER: &str = "version = 2
+[server]
+root = \"/srv/ftp\"
+passive_first = 30000
+passive_last = 30063
+[[user]]
+name = \"ann\"
+password = \"secret\"
+home = \"/a\"
+";
+
+/// Checks the warnings of that folder on a machine.
+fn is_warned(rt: &(impl Abort + AllocGlobal), machine: Shown, wanted: &str) {
+    let texts = warning_texts(rt.alloc(), "ftpd.toml", FOLDER.as_bytes(), &machine).expect(
         rt,
-        found.first() == Some(&Warning::OwnPorts { first, last }),
+        "a configuration",
     );
+    holds(rt, texts.as_str() == wanted);
+}
+
+#[test]
+fn what_a_machine_shows(rt: HostRuntime) {
+    let root = |root: Sight| Shown { root, ..ORDERLY };
+    is_warned(&rt, ORDERLY, "");
+    is_warned(
+        &rt,
+        root(Sight::Absent),
+        "the folder /srv/ftp is not there\n",
+    );
+    is_warned(&rt, root(Sight::NoFolder), "/srv/ftp is no folder\n");
+    is_warned(
+        &rt,
+        root(Sight::Closed),
+        "the folder /srv/ftp cannot be listed\n",
+    );
+}
+
+const OPEN_PASSWORDS: &str =
+    "everybody on this machine may read the passwords of this file; make it readable by its owner and group alone\n";
+
+#[test]
+fn what_a_machine_shows_of_homes_and_of_the_file(rt: HostRuntime) {
+    let no_home = Shown {
+        has_homes: false,
+        ..ORDERLY
+    };
+    is_warned(&rt, no_home, "/a, the home of user ann, is no directory\n");
+    let mode = |mode: Option<u32>| Shown { mode, ..ORDERLY };
+    is_warned(&rt, mode(None), "");
+    is_warned(&rt, mode(Some(0o100_663)), "");
+    is_warned(&rt, mode(Some(0o100_604)), OPEN_PASSWORDS);
 }
 
 const TWO_PORTS: &str =
@@ -72,7 +140,10 @@ const TWO_PORTS: &str =
 
 /// Checks the texts of the same warnings.
 fn texts_of_warnings(rt: &(impl Abort + AllocGlobal)) {
-    let texts = warning_texts(rt.alloc(), SMALL.as_bytes()).expect(rt, "a configuration");
+    let texts = warning_texts(rt.alloc(), "ftpd.toml", SMALL.as_bytes(), &ORDERLY).expect(
+        rt,
+        "a configuration",
+    );
     holds(rt, texts.as_str() == TWO_PORTS);
 }
 
@@ -92,8 +163,6 @@ fn words_nearly_memory(rt: HostRuntime) {
 fn examples(rt: HostRuntime) {
     let document = toml::table_from_str(rt.alloc(), SMALL).expect(&rt, "a document");
     config_file(&rt, &document).expect(&rt, "tables");
-    let tables = read_tables(rt.alloc(), &document).expect(&rt, "tables");
-    warnings(&rt, &tables);
     texts_of_warnings(&rt);
     server_config(&rt).expect(&rt, "a configuration");
     config_report(&rt).expect(&rt, "a report");

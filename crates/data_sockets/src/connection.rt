@@ -3,8 +3,8 @@
 ghost use Rattle.std.specs.Prelude.{◌≡◌, IfOk};
 ghost use Rattle.data_sockets.specs.Sockets.{socket_of};
 
-use crate::fault_word::{fault_of, fault_word};
 use crate::retry::{read_through, write_through};
+use last_fault::{fault_of, fault_word};
 use std::alloc::{AllocError, Global};
 use std::io;
 use std::io::{Read, Write};

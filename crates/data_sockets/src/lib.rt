@@ -14,7 +14,6 @@
 
 mod connection;
 mod end;
-mod fault_word;
 mod name;
 mod outgoing;
 mod passive;

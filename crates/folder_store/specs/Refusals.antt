@@ -12,5 +12,5 @@ store_fault Exists = store.Exists
 store_fault NotEmpty = store.NotEmpty
 store_fault Inside = store.Inside
 store_fault PastEnd = store.PastEnd
-store_fault Device = store.Device
+store_fault (Device _) = store.Device
 store_fault Memory = store.Memory

@@ -4,11 +4,12 @@ ghost use Rattle.std.specs.Prelude.{◌≡◌, ◌≢◌};
 ghost use Rattle.folder_store.specs.Refusals.{store_fault};
 
 use std::alloc::AllocError;
+use std::io;
 use virtual_tree::StoreFault;
 
 /// The reason for which a call on files of the machine is refused. There is no fault for capacity: a full disk is a
 /// fault of the device.
-#[derive(Clone, Copy, Debug, PartialEq, Eq)]
+#[derive(Clone, Copy, Debug)]
 pub enum MachineFault {
     /// There is no such entry, or a directory above it is missing.
     NotFound,
@@ -24,8 +25,8 @@ pub enum MachineFault {
     Inside,
     /// The file is shorter than the offset.
     PastEnd,
-    /// The machine failed or refused.
-    Device,
+    /// The machine failed or refused, with this error.
+    Device(io::Error),
     /// Memory ran out.
     Memory,
 }
@@ -44,7 +45,7 @@ impl MachineFault {
             MachineFault::NotEmpty => StoreFault::NotEmpty,
             MachineFault::Inside => StoreFault::Inside,
             MachineFault::PastEnd => StoreFault::PastEnd,
-            MachineFault::Device => StoreFault::Device,
+            MachineFault::Device(_) => StoreFault::Device,
             MachineFault::Memory => StoreFault::Memory,
         }
     }

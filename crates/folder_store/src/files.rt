@@ -3,7 +3,7 @@
 use crate::fault::MachineFault;
 use crate::folder::Folder;
 use crate::look::fault_of;
-use crate::open::{DirSink, DirSource, read_behind, write_at_end, write_behind, write_new};
+use crate::open::{FileRest, read_behind, write_at_end, write_behind};
 use std::fs;
 use std::fs::{Metadata, OpenOptions};
 use std::os::fd::AsRawFd;
@@ -38,12 +38,12 @@ where
         &self,
         path: &VPath<R::A>,
         offset: u64,
-    ) -> Result<DirSource<R::File>, MachineFault> {
+    ) -> Result<FileRest<R::File>, MachineFault> {
         let place = self.found_file(path)?;
         self.read_at(place.text(), offset)
     }
 
-    fn read_at(&self, place: &str, offset: u64) -> Result<DirSource<R::File>, MachineFault> {
+    fn read_at(&self, place: &str, offset: u64) -> Result<FileRest<R::File>, MachineFault> {
         let looked = self.look_file(place)?;
         let opened = fs::open(&self.rt, place);
         let file = opened.map_err(|error| fault_of(&error))?;
@@ -51,11 +51,8 @@ where
     }
 
     /// Creates a file at a free path, one without even a link, with the given options.
-    fn make_file(&self, place: &str, how: &OpenOptions) -> Result<DirSink<R::File>, MachineFault> {
-        match how.open(&self.rt, place) {
-            Ok(file) => Ok(write_new(file)),
-            Err(error) => Err(fault_of(&error)),
-        }
+    fn make_file(&self, place: &str, how: &OpenOptions) -> Result<R::File, MachineFault> {
+        how.open(&self.rt, place).map_err(|error| fault_of(&error))
     }
 
     /// An existing file, opened without truncation and then cut to its first octets.
@@ -64,7 +61,7 @@ where
         place: &str,
         looked: &Metadata,
         kept: u64,
-    ) -> Result<DirSink<R::File>, MachineFault> {
+    ) -> Result<R::File, MachineFault> {
         let mut both = OpenOptions::new();
         both.read(true).write(true);
         let mut alone = OpenOptions::new();
@@ -74,7 +71,7 @@ where
     }
 
     /// An existing file, opened so that each write goes after all its octets at that time.
-    fn append_to(&self, place: &str, looked: &Metadata) -> Result<DirSink<R::File>, MachineFault> {
+    fn append_to(&self, place: &str, looked: &Metadata) -> Result<R::File, MachineFault> {
         let mut both = OpenOptions::new();
         both.read(true).append(true);
         let mut alone = OpenOptions::new();
@@ -84,11 +81,7 @@ where
     }
 
     /// Opens a file for writing in a mode.
-    pub fn write_by(
-        &self,
-        path: &VPath<R::A>,
-        mode: WriteMode,
-    ) -> Result<DirSink<R::File>, MachineFault> {
+    pub fn write_by(&self, path: &VPath<R::A>, mode: WriteMode) -> Result<R::File, MachineFault> {
         if path.is_root() {
             return Err(MachineFault::IsDir);
         }
@@ -99,7 +92,7 @@ where
         self.write_at(place.text(), mode)
     }
 
-    fn write_at(&self, place: &str, mode: WriteMode) -> Result<DirSink<R::File>, MachineFault> {
+    fn write_at(&self, place: &str, mode: WriteMode) -> Result<R::File, MachineFault> {
         match (self.look_file(place), mode) {
             (Ok(looked), WriteMode::New) => self.write_over(place, &looked, 0),
             (Ok(looked), WriteMode::At(kept)) => self.write_over(place, &looked, kept),

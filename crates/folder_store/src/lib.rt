@@ -8,7 +8,7 @@
 //!
 //! ```text
 //! let path = VPath::root(rt.alloc()).resolve(rt.alloc(), "/report")?;
-//! let mut store = DirStore::new(rt, folder)?; // serves the folder and all beneath it
+//! let mut store = DirStore::new(rt, folder, fault)?; // serves the folder and all beneath it
 //! let mut sink = store.open_write(&path, WriteMode::New, 951_827_696_000)?;
 //! sink.write(b"all is well")?;
 //! store.finish(sink, 951_827_696_000)?; // milliseconds since 1970

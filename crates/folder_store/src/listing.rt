@@ -9,7 +9,8 @@ ghost use Rattle.folder_store.specs.Listings.{ComesLast};
 
 use crate::fault::MachineFault;
 use crate::folder::Folder;
-use crate::look::fault_of;
+use crate::look::{fault_of, listing_fault, meta_of};
+use ftp_terms::Meta;
 use std::alloc::Allocator;
 use std::fs::DirEntry;
 use std::io::ErrorKind;
@@ -86,8 +87,7 @@ where
     }
 
     /// An entry of a folder of the machine. `None` if no path can name it, if it is neither a directory nor
-    /// a file, or if it is gone by now. Any other refusal by the machine is a fault of the device: a listing
-    /// without the entry would say that it does not exist.
+    /// a file, or if it is gone by now. Any other refusal by the machine is a fault of the device.
     fn entry(
         &self,
         folder: &str,
@@ -102,11 +102,20 @@ where
         let mut place = String::from_str(self.rt.alloc(), folder)?;
         place.push('/')?;
         place.push_str(name.as_str())?;
-        match self.look(place.as_str()) {
-            Ok(meta) => Ok(Some(ListedEntry { name, meta })),
-            Err(MachineFault::NotFound) => Ok(None),
-            Err(MachineFault::Memory) => Err(MachineFault::Memory),
-            Err(_) => Err(MachineFault::Device),
+        match self.listed_meta(place.as_str())? {
+            Some(meta) => Ok(Some(ListedEntry { name, meta })),
+            None => Ok(None),
+        }
+    }
+
+    /// The metadata of an entry of a listing; `None` if it is neither a directory nor a file, or gone by now.
+    fn listed_meta(&self, place: &str) -> Result<Option<Meta>, MachineFault> {
+        match fs::symlink_metadata(&self.rt, place) {
+            Ok(metadata) => Ok(meta_of(&metadata)),
+            Err(error) => match listing_fault(&error) {
+                MachineFault::NotFound => Ok(None),
+                fault => Err(fault),
+            },
         }
     }
 }

@@ -2,18 +2,21 @@
 
 ghost use Rattle.std.specs.Prelude.{◌≡◌, ◌≢◌, ◌⊎◌, ◌↔◌, IsTrue, MatchOption};
 ghost use Rattle.std.specs.IoError.{error_kind};
+ghost use Rattle.std.specs.declared.io.Error.{Error};
 ghost use Rattle.folder_store.specs.Times.{shown};
 ghost use Rattle.folder_store.specs.Told.{IsTold, IsNeither};
 
 use crate::fault::MachineFault;
 use ftp_terms::{EntryKind, LATEST, Meta};
+use last_fault::LastFault;
 use std::fs::Metadata;
 use std::io;
 use std::io::ErrorKind;
 use std::os::unix::fs::MetadataExt;
 use virtual_tree::StoreFault;
 
-/// The reason for which a call was refused, from the machine's error kind. A full disk is a fault of the device.
+/// The reason for which a call was refused, from the machine's error kind. A full disk is a fault of the device. A fault
+/// of the device has the error.
 pub(crate) fn fault_of(error: &io::Error) -> MachineFault
     ensures none { error_kind error.now ≡ ErrorKind.NotFound → result ≡ MachineFault.NotFound }
     ensures file { error_kind error.now ≡ ErrorKind.NotADirectory → result ≡ MachineFault.NotDir }
@@ -24,8 +27,10 @@ pub(crate) fn fault_of(error: &io::Error) -> MachineFault
         → result ≡ MachineFault.NotEmpty }
     ensures memory { error_kind error.now ≡ ErrorKind.OutOfMemory → result ≡ MachineFault.Memory }
     ensures denied { error_kind error.now ≡ ErrorKind.PermissionDenied
-        → result ≡ MachineFault.Device }
-    ensures disk { error_kind error.now ≡ ErrorKind.StorageFull → result ≡ MachineFault.Device }
+        → result ≡ MachineFault.Device error.now }
+    ensures disk { error_kind error.now ≡ ErrorKind.StorageFull
+        → result ≡ MachineFault.Device error.now }
+    ensures kept { (kept : Error) → result ≡ MachineFault.Device kept → kept ≡ error.now }
 {
     match error.kind() {
         ErrorKind::NotFound => MachineFault::NotFound,
@@ -34,8 +39,25 @@ pub(crate) fn fault_of(error: &io::Error) -> MachineFault
         ErrorKind::AlreadyExists => MachineFault::Exists,
         ErrorKind::DirectoryNotEmpty => MachineFault::NotEmpty,
         ErrorKind::OutOfMemory => MachineFault::Memory,
-        _ => MachineFault::Device,
+        _ => MachineFault::Device(*error),
     }
+}
+
+/// The reason for which a listing has no metadata of an entry. It is gone by now, or memory ran out; anything else is a
+/// fault of the device, which has the error: a listing without the entry would say that it does not exist.
+pub(crate) fn listing_fault(error: &io::Error) -> MachineFault
+    ensures gone { error_kind error.now ≡ ErrorKind.NotFound → result ≡ MachineFault.NotFound }
+    ensures memory { error_kind error.now ≡ ErrorKind.OutOfMemory → result ≡ MachineFault.Memory }
+    ensures others { error_kind error.now ≢ ErrorKind.NotFound
+        → error_kind error.now ≢ ErrorKind.OutOfMemory → result ≡ MachineFault.Device error.now }
+{
+    if error.kind() == ErrorKind::NotFound {
+        return MachineFault::NotFound;
+    }
+    if error.kind() == ErrorKind::OutOfMemory {
+        return MachineFault::Memory;
+    }
+    MachineFault::Device(*error)
 }
 
 /// The reason for which an open file could not be read or written.
@@ -48,6 +70,19 @@ pub(crate) fn end_fault(error: &io::Error) -> StoreFault
         return StoreFault::Memory;
     }
     StoreFault::Device
+}
+
+/// The same, for whoever has no error with the fault: a fault of the device leaves its error as the last one.
+pub(crate) fn kept_end_fault(last: &LastFault, error: io::Error) -> StoreFault
+    ensures either { (result ≡ StoreFault.Device) ⊎ (result ≡ StoreFault.Memory) }
+    ensures memory { error_kind error ≡ ErrorKind.OutOfMemory → result ≡ StoreFault.Memory }
+    ensures device { error_kind error ≢ ErrorKind.OutOfMemory → result ≡ StoreFault.Device }
+{
+    let fault = end_fault(&error);
+    if fault == StoreFault::Device {
+        last.put(error);
+    }
+    fault
 }
 
 /// Whole seconds since 1970; a time outside the years 1970 to 9999 becomes the nearest second

@@ -5,7 +5,8 @@ ghost use Rattle.std.specs.Io.KnownBytes.{ReadConsumes};
 ghost use Rattle.virtual_tree.specs.Calls.{IsEndFault};
 
 use crate::fault::MachineFault;
-use crate::look::{end_fault, fault_of, identity_of, is_same};
+use crate::look::{fault_of, identity_of, is_same, kept_end_fault};
+use last_fault::LastFault;
 use std::fs::{Metadata, OpenFile};
 use std::io::{Read, Seek, SeekFrom, Write};
 use std::marker::Model;
@@ -17,6 +18,8 @@ use virtual_tree::{Sink, Source, StoreFault};
 pub struct DirSource<F: Read + Drop> {
     file: F,
     left: u64,
+    // has the error of the last fault of the device
+    fault: LastFault,
 }
 
 impl<F: Read + Drop> Model for DirSource<F> {
@@ -31,6 +34,8 @@ impl<F: Read + Drop> Model for DirSource<F> {
 #[derive(Drop)]
 pub struct DirSink<F: Write + Drop> {
     file: F,
+    // has the error of the last fault of the device
+    fault: LastFault,
 }
 
 impl<F: Read + Drop> Source for DirSource<F> {
@@ -49,12 +54,14 @@ impl<F: Read + Drop> Source for DirSource<F> {
         match self.file.read(buffer) {
             Ok(count) => {
                 if count == 0 && self.left > 0 && !buffer.is_empty() {
+                    // The machine has no error of this fault, and an earlier one is not its reason.
+                    let _earlier = self.fault.take();
                     return Err(StoreFault::Device);
                 }
                 self.left = self.left.saturating_sub(count as u64);
                 Ok(count)
             }
-            Err(error) => Err(end_fault(&error)),
+            Err(error) => Err(kept_end_fault(&self.fault, error)),
         }
     }
 }
@@ -67,7 +74,7 @@ impl<F: Write + Drop> Sink for DirSink<F> {
     fn write(&mut self, octets: &[u8]) -> Result<(), StoreFault> {
         match self.file.write_all(octets) {
             Ok(()) => Ok(()),
-            Err(error) => Err(end_fault(&error)),
+            Err(error) => Err(kept_end_fault(&self.fault, error)),
         }
     }
 }
@@ -96,24 +103,39 @@ fn seek_to<F: Seek + Drop>(mut file: F, to: SeekFrom) -> Result<F, MachineFault>
     }
 }
 
+/// An open file to read, and the number of octets that it has from its offset on.
+#[derive(Drop)]
+pub(crate) struct FileRest<F: Drop> {
+    file: F,
+    left: u64,
+}
+
 /// A file to read from an offset on.
 pub(crate) fn read_behind<F: Read + Seek + OpenFile + Drop>(
     file: F,
     looked: &Metadata,
     offset: u64,
-) -> Result<DirSource<F>, MachineFault> {
+) -> Result<FileRest<F>, MachineFault> {
     let length = length_of(&file, looked)?;
     if length < offset {
         return Err(MachineFault::PastEnd);
     }
     let file = seek_to(file, SeekFrom::Start(offset))?;
     let left = length - offset;
-    Ok(DirSource { file, left })
+    Ok(FileRest { file, left })
 }
 
-/// A new file to write.
-pub fn write_new<F: Write + Drop>(file: F) -> DirSink<F> {
-    DirSink { file }
+/// The source of an open file, which leaves the errors of its faults in `fault`.
+pub(crate) fn read_rest<F: Read + Drop>(rest: FileRest<F>, fault: LastFault) -> DirSource<F>
+    ensures left { result ≡ rest.left }
+{
+    let FileRest { file, left } = rest;
+    DirSource { file, left, fault }
+}
+
+/// The sink of a file that is open for writing, which leaves the errors of its faults in `fault`.
+pub fn write_new<F: Write + Drop>(file: F, fault: LastFault) -> DirSink<F> {
+    DirSink { file, fault }
 }
 
 /// A file to write after its first `offset` octets; the others are cut off.
@@ -121,27 +143,27 @@ pub(crate) fn write_behind<F: Write + Seek + OpenFile + Drop>(
     file: F,
     looked: &Metadata,
     offset: u64,
-) -> Result<DirSink<F>, MachineFault> {
+) -> Result<F, MachineFault> {
     let length = length_of(&file, looked)?;
     if length < offset {
         return Err(MachineFault::PastEnd);
     }
     file.set_len(offset).map_err(|error| fault_of(&error))?;
-    let file = seek_to(file, SeekFrom::Start(offset))?;
-    Ok(DirSink { file })
+    seek_to(file, SeekFrom::Start(offset))
 }
 
 /// A file that was opened to be appended to.
 pub(crate) fn write_at_end<F: Write + OpenFile + Drop>(
     file: F,
     looked: &Metadata,
-) -> Result<DirSink<F>, MachineFault> {
+) -> Result<F, MachineFault> {
     let _length = length_of(&file, looked)?;
-    Ok(DirSink { file })
+    Ok(file)
 }
 
-/// Flushes the octets received to the machine.
+/// Flushes the octets received to the machine. A fault of the device has the machine's error.
 pub fn flushed<F: Write + Drop>(sink: DirSink<F>) -> Result<(), MachineFault> {
-    let DirSink { mut file } = sink;
+    let DirSink { mut file, fault } = sink;
+    drop(fault);
     file.flush().map_err(|error| fault_of(&error))
 }

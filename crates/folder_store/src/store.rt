@@ -8,8 +8,9 @@ ghost use Rattle.folder_store.specs.Refusals.{store_fault};
 use crate::count::FaultCount;
 use crate::fault::MachineFault;
 use crate::folder::Folder;
-use crate::open::{DirSink, DirSource, flushed};
+use crate::open::{DirSink, DirSource, flushed, read_rest, write_new};
 use ftp_terms::Meta;
+use last_fault::LastFault;
 use std::fs;
 use std::io::ErrorKind;
 use std::marker::Model;
@@ -20,10 +21,14 @@ use virtual_tree::{ListedEntry, Store, StoreFault, WriteMode};
 
 /// A folder of the machine and everything beneath it. It has no capacity: a full disk is a fault of the
 /// device.
+///
+/// The machine's error of the last fault of the device is left in a [`LastFault`], also that of a read or write of a file
+/// that it has opened.
 #[derive(Drop)]
 pub struct DirStore<R: Files + Alloc + Clone + Drop> {
     folder: Folder<R>,
     faults: FaultCount,
+    fault: LastFault,
 }
 
 impl<R: Files + Alloc + Clone + Drop> Model for DirStore<R> {
@@ -38,8 +43,9 @@ impl<R: Files + Alloc + Clone + Drop> DirStore<R>
 where
     R::File: AsRawFd,
 {
-    /// The folder at a path of the machine, which must exist. A link at its end is followed.
-    pub fn new(rt: R, folder: &str) -> Result<DirStore<R>, StoreFault>
+    /// The folder at a path of the machine, which must exist. A link at its end is followed. The errors of its faults
+    /// are left in `fault`.
+    pub fn new(rt: R, folder: &str, fault: LastFault) -> Result<DirStore<R>, StoreFault>
         ensures new { IfOk result (λ store. store.count ≡ 0) }
         ensures faults { IfErr result (λ fault. (fault ≡ StoreFault.NotFound)
             ⊎ (fault ≡ StoreFault.NotDir) ⊎ (fault ≡ StoreFault.Device)
@@ -56,7 +62,10 @@ where
                     ErrorKind::NotFound => Err(StoreFault::NotFound),
                     ErrorKind::NotADirectory => Err(StoreFault::NotDir),
                     ErrorKind::OutOfMemory => Err(StoreFault::Memory),
-                    _ => Err(StoreFault::Device),
+                    _ => {
+                        fault.put(error);
+                        Err(StoreFault::Device)
+                    }
                 };
             }
         }
@@ -64,10 +73,11 @@ where
         Ok(DirStore {
             folder: Folder { rt, path },
             faults: FaultCount { count: 0 },
+            fault,
         })
     }
 
-    /// The result as a store returns it. A fault of the device is counted.
+    /// The result as a store returns it. A fault of the device is counted, and its error kept.
     fn answer<T>(&mut self, answer: Result<T, MachineFault>) -> Result<T, StoreFault>
         ensures same { MatchResult answer (λ told. result ≡ Ok told)
             (λ fault. result ≡ Err (store_fault fault)) }
@@ -76,6 +86,9 @@ where
         match answer {
             Ok(told) => Ok(told),
             Err(fault) => {
+                if let MachineFault::Device(error) = fault {
+                    self.fault.put(error);
+                }
                 let fault = fault.in_store();
                 if fault == StoreFault::Device {
                     self.faults = FaultCount {
@@ -126,8 +139,14 @@ where
         path: &VPath<R::A>,
         offset: u64,
     ) -> Result<DirSource<R::File>, StoreFault> {
+        let Ok(fault) = self.fault.another() else {
+            return Err(StoreFault::Memory);
+        };
         let answer = self.folder.read_from(path, offset);
-        self.answer(answer)
+        match self.answer(answer) {
+            Ok(rest) => Ok(read_rest(rest, fault)),
+            Err(refused) => Err(refused),
+        }
     }
 
     fn open_write(
@@ -136,8 +155,14 @@ where
         mode: WriteMode,
         _moment: u64,
     ) -> Result<DirSink<R::File>, StoreFault> {
+        let Ok(fault) = self.fault.another() else {
+            return Err(StoreFault::Memory);
+        };
         let answer = self.folder.write_by(path, mode);
-        self.answer(answer)
+        match self.answer(answer) {
+            Ok(file) => Ok(write_new(file, fault)),
+            Err(refused) => Err(refused),
+        }
     }
 
     fn finish(&mut self, sink: DirSink<R::File>, _moment: u64) -> Result<(), StoreFault> {

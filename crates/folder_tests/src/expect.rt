@@ -2,6 +2,7 @@
 //! less than a `?`, which drops everything alive there.
 
 use folder_store::DirStore;
+use last_fault::LastFault;
 use std::alloc::Global;
 use std::env::Env;
 use std::fs;
@@ -58,6 +59,19 @@ pub(crate) fn comes_out<S: Store<Global>>(
     }
 }
 
+/// No error of the machine yet.
+pub(crate) fn no_error(rt: &(impl Abort + AllocGlobal)) -> LastFault {
+    LastFault::new(rt.alloc()).expect(rt, "memory")
+}
+
+/// Takes the last error of the machine out, and returns its number; `None` if there is none.
+pub(crate) fn last_number(fault: &LastFault) -> Option<i32> {
+    match fault.take() {
+        Some(error) => error.raw_os_error(),
+        None => None,
+    }
+}
+
 /// The same in a folder of a machine.
 pub(crate) fn comes_out_in<M>(
     rt: &(impl Abort + AllocGlobal),
@@ -69,6 +83,6 @@ where
     M: Files + AllocGlobal + Clone + Drop,
     M::File: AsRawFd,
 {
-    let mut store = DirStore::new(machine, folder).expect(rt, folder);
+    let mut store = DirStore::new(machine, folder, no_error(rt)).expect(rt, folder);
     comes_out(rt, &mut store, script);
 }

@@ -1,6 +1,6 @@
 //! Files that change while they are read, long files, machines that write little at a time, and large directories.
 
-use crate::expect::{comes_out_in, fresh_folder, holds, place_in, take_away};
+use crate::expect::{comes_out_in, fresh_folder, holds, no_error, place_in, take_away};
 use folder_store::{DirStore, flushed, write_new};
 use std::alloc::Global;
 use std::env::Env;
@@ -66,7 +66,7 @@ where
         let name = format!(in rt.alloc(); "{number}").expect(rt, "memory");
         fs::write(rt, place_in(rt, folder, name.as_str()).as_str(), "").expect(rt, "a file");
     }
-    let mut store = DirStore::new(*rt, folder).expect(rt, folder);
+    let mut store = DirStore::new(*rt, folder, no_error(rt)).expect(rt, folder);
     let listed = store.list(&VPath::root(rt.alloc())).expect(rt, folder);
     holds(rt, listed.len() == 1000);
 }
@@ -80,7 +80,7 @@ where
     let root = VPath::root(rt.alloc());
     let file = root.child(rt.alloc(), "c").expect(rt, "a path");
     let place = place_in(rt, folder, "c");
-    let mut store = DirStore::new(*rt, folder).expect(rt, folder);
+    let mut store = DirStore::new(*rt, folder, no_error(rt)).expect(rt, folder);
     check_changed(rt, &mut store, &file, place.as_str());
     check_far(rt, folder);
 }
@@ -118,13 +118,19 @@ impl<'a> Write for Slow<'a> {
     }
 }
 
+/// Writes three octets, one per call. Returns whether they were taken.
+fn is_written(rt: &(impl Abort + AllocGlobal), written: &mut Vec<u8>) -> bool {
+    let mut sink = write_new(Slow { written }, no_error(rt));
+    if sink.write(b"abc").is_err() {
+        return false;
+    }
+    flushed(sink).is_ok()
+}
+
 #[test]
 fn files_and_directories(rt: HostRuntime) {
     check(&rt);
     let mut written = Vec::new(rt.alloc());
-    let mut sink = write_new(Slow {
-        written: &mut written,
-    });
-    holds(&rt, sink.write(b"abc").is_ok() && flushed(sink).is_ok());
+    holds(&rt, is_written(&rt, &mut written));
     holds(&rt, written.as_slice() == b"abc".as_slice());
 }

@@ -1,6 +1,6 @@
 //! Sequences of calls on folders of the machine.
 
-use crate::expect::{comes_out_in, fresh_folder, holds, place_in, take_away};
+use crate::expect::{comes_out_in, fresh_folder, holds, no_error, place_in, take_away};
 use crate::racing_machine::{Act, acting};
 use folder_store::DirStore;
 use std::env::Env;
@@ -113,7 +113,8 @@ where
     R::File: AsRawFd,
 {
     let place = place_in(rt, folder, name);
-    holds(rt, DirStore::new(*rt, place.as_str()).err() == Some(fault));
+    let opened = DirStore::new(*rt, place.as_str(), no_error(rt));
+    holds(rt, opened.err() == Some(fault));
 }
 
 fn check_no_folder<R>(rt: &R)

@@ -1,6 +1,6 @@
 //! Properties of a folder of the machine: times, permissions, and files that are open twice.
 
-use crate::expect::{comes_out_in, fresh_folder, place_in, take_away};
+use crate::expect::{comes_out_in, fresh_folder, no_error, place_in, take_away};
 use folder_store::DirStore;
 use std::alloc::Global;
 use std::fs::Permissions;
@@ -60,7 +60,7 @@ where
 {
     let root = VPath::root(rt.alloc());
     let file = root.child(rt.alloc(), "g").expect(rt, "a path");
-    let mut store = DirStore::new(*rt, folder).expect(rt, "a folder");
+    let mut store = DirStore::new(*rt, folder, no_error(rt)).expect(rt, "a folder");
     append_twice(rt, &mut store, &file);
     comes_out_in(rt, *rt, folder, "read /g = abcdef");
 }

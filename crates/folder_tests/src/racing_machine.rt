@@ -6,6 +6,11 @@ use std::io;
 use std::io::Read;
 use std::rt::Files;
 
+/// The machine's numbers (errno(3)) of the errors that it makes up: EACCES, and ESTALE.
+pub(crate) const DENIED: i32 = 13;
+
+pub(crate) const STALE: i32 = 116;
+
 /// The action of the other process, or the refusal of the machine.
 #[derive(Clone, Copy)]
 pub(crate) enum Act {
@@ -29,6 +34,12 @@ pub(crate) enum Act {
     KeepDirectories,
     /// The machine has no `/proc`.
     HideProc,
+    /// The machine opens no file.
+    LockFiles,
+    /// The machine opens files for writing only, so that no read of one passes.
+    OnlyWrite,
+    /// The machine opens files for reading only, so that no write to one passes.
+    OnlyRead,
 }
 
 /// A machine, except for the action of the other process and the names in each directory.
@@ -114,6 +125,13 @@ impl<R: Files> Files for Racing<'_, R> {
                 return Err(io::Error::from(io::ErrorKind::PermissionDenied));
             }
             Act::SwapAtOnce if path.ends_with("/d/") => self.swap()?,
+            Act::LockFiles if !is_directory => return Err(io::Error::from_raw_os_error(DENIED)),
+            Act::OnlyWrite if !is_directory => {
+                return self.rt.open_file(OpenOptions::new().write(true), path);
+            }
+            Act::OnlyRead if !is_directory => {
+                return self.rt.open_file(OpenOptions::new().read(true), path);
+            }
             _ => (),
         }
         self.rt.open_file(how, path)
@@ -133,7 +151,7 @@ impl<R: Files> Files for Racing<'_, R> {
 
     fn symlink_metadata(&self, path: &str) -> io::Result<Metadata> {
         if matches!(&self.act, Act::HideFirst) && path.ends_with("/a") {
-            return Err(io::Error::from(io::ErrorKind::StaleNetworkFileHandle));
+            return Err(io::Error::from_raw_os_error(STALE));
         }
         self.before(path)?;
         let told = self.rt.symlink_metadata(path);
@@ -151,7 +169,7 @@ impl<R: Files> Files for Racing<'_, R> {
 
     fn rename(&self, from: &str, to: &str) -> io::Result<()> {
         if matches!(&self.act, Act::KeepNames) {
-            return Err(io::Error::from(io::ErrorKind::PermissionDenied));
+            return Err(io::Error::from_raw_os_error(DENIED));
         }
         self.rt.rename(from, to)
     }

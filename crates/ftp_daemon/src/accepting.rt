@@ -7,6 +7,7 @@ ghost use Rattle.ftp_daemon.specs.Accepting.{is_reported};
 use event_word::{has_passed, micros};
 use lent_parts::PartsName;
 use passive_ports::AdmitFault;
+use recorded_store::Recorder;
 use server_house::{House, NotServed, ServerEvent, ServerHooks, ShutdownStage};
 use socket_host::serve_session;
 use std::alloc::Global;
@@ -215,7 +216,7 @@ where
 fn serve_client<R, S, H, B>(rt: &R, house: &House<S, H, B>, client: Client)
 where
     R: Wait + Clock + Net<Listener = TcpListener, Stream = TcpStream> + AllocGlobal,
-    S: Store<Global>,
+    S: Store<Global> + Recorder,
     H: ServerHooks,
     B: PartsName,
 {
@@ -252,7 +253,7 @@ where
         + Copy
         + Send
         + Sync,
-    S: Store<Global> + Send + Drop,
+    S: Store<Global> + Recorder + Send + Drop,
     S::Source: Send,
     S::Sink: Send,
     H: ServerHooks + Send,

@@ -6,6 +6,7 @@ use crate::accepting::accept_all;
 use crate::crew::Crew;
 use ftpd_program::ServeFault;
 use lent_parts::PartsName;
+use recorded_store::Recorder;
 use server_house::{House, ServerHooks};
 use std::alloc::Global;
 use std::net::{Net, TcpListener, TcpStream};
@@ -38,7 +39,7 @@ where
         + Copy
         + Send
         + Sync,
-    S: Store<Global> + Send + Drop,
+    S: Store<Global> + Recorder + Send + Drop,
     S::Source: Send,
     S::Sink: Send,
     H: ServerHooks + Send,

@@ -24,6 +24,7 @@ use handler_hooks::Hooks;
 use lane_rounds::RoundClock;
 use lent_parts::{LentBoard, LentPass, PartsName};
 use paced_rounds::seconds_are_kept;
+use recorded_store::Recorder;
 use round_cadence::Cadence;
 use round_pace::{Pace, histories_keep_rates};
 use server_house::{House, ServerHooks, ServerShutdown};
@@ -104,7 +105,7 @@ where
         + Copy
         + Send
         + Sync,
-    S: Store<Global> + Send + Drop,
+    S: Store<Global> + Recorder + Send + Drop,
     S::Source: Send,
     S::Sink: Send,
     H: ServerHooks + Send,
@@ -157,7 +158,7 @@ where
         + Copy
         + Send
         + Sync,
-    S: Store<Global> + Send + Drop,
+    S: Store<Global> + Recorder + Send + Drop,
     S::Source: Send,
     S::Sink: Send,
     H: ServerHooks + Send,
@@ -213,7 +214,7 @@ where
         + Copy
         + Send
         + Sync,
-    S: Store<Global> + Send + Drop,
+    S: Store<Global> + Recorder + Send + Drop,
     S::Source: Send,
     S::Sink: Send,
     H: ServerHooks + Send,
@@ -289,7 +290,7 @@ where
         + Copy
         + Send
         + Sync,
-    S: Store<Global> + Send + Drop,
+    S: Store<Global> + Recorder + Send + Drop,
     S::Source: Send,
     S::Sink: Send,
     H: ServerHooks + Send,

@@ -2,10 +2,15 @@
 //! with its status.
 #![tactic(auto)]
 
+mod log_file;
+mod log_thread;
+mod machine_files;
 mod serving;
 
 use ftp_daemon::RoundClock;
 use ftpd_program::{FtpdErrorText, FtpdExit, StartFault, run_words};
+use line_queue::{LineOutlet, Readiness, StandardError};
+use machine_files::MachineFiles;
 use serving::{Asked, serve_asked};
 use sheets_program::{Machine, NOBODY_READS, Noted, as_words, line_words, null_device};
 use std::io;
@@ -41,13 +46,27 @@ where
     let ending = run_words(
         rt.alloc(),
         words,
-        &mut Machine { rt: machine },
+        &mut MachineFiles {
+            files: Machine { rt: machine },
+        },
         &mut asked,
         output,
     );
     match asked.into_service() {
         Some(service) => serve_asked(rt, machine, service, output),
         None => (ending, None),
+    }
+}
+
+/// The time that the reader of standard error has to make room for the fault of a server, in milliseconds.
+const LAST_ROOM: u16 = 1_000;
+
+/// Returns whether a fault of this ending can be told: that of a server only if its reader has room for it, since a server
+/// waits for no reader.
+fn can_tell(ending: &FtpdExit<'_>) -> bool {
+    match ending {
+        FtpdExit::Server(_) => StandardError.readiness(LAST_ROOM) == Readiness::Ready,
+        _ => true,
     }
 }
 
@@ -67,7 +86,9 @@ fn told<W: Write>(
         output: output.0.error(),
         start,
     };
-    let _ = eprint!(machine; "{told}");
+    if can_tell(ending) {
+        let _ = eprint!(machine; "{told}");
+    }
     ending.status()
 }
 

@@ -5,11 +5,15 @@
 //! thread alone. So functions on files and the console name the runtime itself, and functions that start threads have a
 //! type parameter for their permission.
 
+use crate::log_file::LogFile;
+use crate::log_thread::{QueuedTransfers, serve_with_log};
 use folder_store::DirStore;
 use ftp_daemon::{Patience, RoundClock, ServeFault, Service, StopSign, serve};
 use ftpd_program::{FtpdExit, ReadyFile, ReadyOutput, ServeFiles, Server, StartFault};
-use log::sink::Console;
+use last_fault::LastFault;
+use line_queue::{LogForm, QueuedLog, SharedLines};
 use log::{Level, Logged};
+use recorded_store::RecordedStore;
 use server_config::{Config, ServedStore};
 use session_notes::Notes;
 use sheets_program::Exit as Common;
@@ -17,7 +21,7 @@ use std::alloc::{AllocError, Global};
 use std::fs::OpenOptions;
 use std::io::Write;
 use std::net::{Net, TcpListener, TcpStream};
-use std::sync::Wait;
+use std::sync::{Arc, Wait};
 use std::thread::Threads;
 use std::time::Clock;
 use std::{fs, io};
@@ -34,6 +38,10 @@ pub(crate) struct AskedService {
     stop_file: Option<String>,
     /// The path of the ready file, if any.
     ready_file: Option<String>,
+    /// The path of the transfer log, if any.
+    transfer_log: Option<String>,
+    /// The name of the form of notes, if one is stated.
+    log_form: Option<String>,
     patience: Patience,
 }
 
@@ -77,12 +85,16 @@ impl<W: TextWriter> Server<W> for Asked {
     ) -> Result<(), ServeFault> {
         let stop_file = copied(alloc, files.stop_file)?;
         let ready_file = copied(alloc, files.ready_file)?;
+        let transfer_log = copied(alloc, files.transfer_log)?;
+        let log_form = copied(alloc, files.log_form)?;
         let warnings = String::from_str(alloc, warnings)?;
         self.service = Some(AskedService {
             config,
             warnings,
             stop_file,
             ready_file,
+            transfer_log,
+            log_form,
             patience,
         });
         Ok(())
@@ -138,20 +150,24 @@ impl ReadyFile for MachineReadyFile {
     }
 }
 
-fn open_folder(machine: &HostRuntime, folder: &str) -> Result<DirStore<HostRuntime>, ServeFault> {
-    match DirStore::new(*machine, folder) {
-        Ok(store) => Ok(store),
+/// A folder of the machine, whose calls are recorded.
+type FolderStore = RecordedStore<DirStore<HostRuntime>>;
+
+fn open_folder(machine: &HostRuntime, folder: &str) -> Result<FolderStore, ServeFault> {
+    let error = LastFault::new(machine.alloc())?;
+    match DirStore::new(*machine, folder, error.another()?) {
+        Ok(store) => Ok(RecordedStore::with_fault(machine.alloc(), store, error)),
         Err(StoreFault::Memory) => Err(ServeFault::Memory),
         Err(_) => Err(ServeFault::Store),
     }
 }
 
-// Opens the folder, as a store for each connection.
+// Opens the folder as a store for each connection.
 fn open_folders(
     machine: &HostRuntime,
     folder: &str,
     connections: u16,
-) -> Result<Vec<DirStore<HostRuntime>>, ServeFault> {
+) -> Result<Vec<FolderStore>, ServeFault> {
     let mut stores = Vec::new(machine.alloc());
     for _ in 0..connections {
         let store = open_folder(machine, folder)?;
@@ -162,14 +178,14 @@ fn open_folders(
     Ok(stores)
 }
 
-/// Notes on standard error.
-type MachineNotes = Notes<Logged<HostRuntime, Console<HostRuntime>>>;
+/// Notes on standard error, which a thread of their own writes.
+type MachineNotes<R> = Notes<Logged<HostRuntime, QueuedLog<R>>, QueuedTransfers<R>>;
 
 /// Serves a configuration: its store is in memory, or a folder of the machine.
 fn serve_config<R, W>(
     rt: &R,
     config: Config,
-    handler: MachineNotes,
+    handler: MachineNotes<R>,
     machine: &HostRuntime,
     stop: Option<StopFile>,
     patience: Patience,
@@ -201,7 +217,7 @@ where
                 numbers,
                 users,
                 limits,
-                store,
+                store: RecordedStore::new(rt.alloc(), store),
                 own_stores: Vec::new(rt.alloc()),
                 handler,
                 stop,
@@ -297,6 +313,49 @@ fn ready_at(machine: &HostRuntime, path: String) -> Result<MachineReadyFile, Sta
     }
 }
 
+/// Returns the form of a name; plain if none is stated. `Err` if no form has this name.
+fn form_named(name: Option<String>) -> Result<LogForm, StartFault> {
+    let Some(word) = name else {
+        return Ok(LogForm::Plain);
+    };
+    match word.as_str() {
+        "plain" => Ok(LogForm::Plain),
+        "journal" => Ok(LogForm::Journal),
+        _ => Err(StartFault::UnknownForm { word }),
+    }
+}
+
+/// Returns the transfer log at a path, if there is one. `Err` if its file cannot be opened.
+fn log_at(machine: &HostRuntime, path: Option<String>) -> Result<LogFile, StartFault> {
+    match path {
+        None => Ok(LogFile::none(*machine)),
+        Some(path) => match LogFile::at(*machine, path) {
+            Ok(file) => Ok(file),
+            Err((path, reason)) => Err(StartFault::TransferLogUnopened { path, reason }),
+        },
+    }
+}
+
+/// The lines of notes and of the transfer log, for the thread that writes them and for those who offer them.
+#[derive(Drop)]
+struct LineHandles {
+    lines: Arc<SharedLines>,
+    notes: Arc<SharedLines>,
+    transfers: Arc<SharedLines>,
+}
+
+/// The lines of notes and of the transfer log, for those that offer them and for the thread that writes them.
+fn shared_lines(alloc: Global) -> Result<LineHandles, AllocError> {
+    let lines = Arc::new(alloc, SharedLines::new(alloc)?)?;
+    let notes = Arc::try_clone(&lines)?;
+    let transfers = Arc::try_clone(&lines)?;
+    Ok(LineHandles {
+        lines,
+        notes,
+        transfers,
+    })
+}
+
 /// Returns the fault of a start whose folder is not there, if it is not.
 fn folder_fault(machine: &HostRuntime, store: &ServedStore) -> Option<StartFault> {
     let ServedStore::Folder(folder) = store else {
@@ -353,8 +412,14 @@ where
         warnings,
         stop_file,
         ready_file,
+        transfer_log,
+        log_form,
         patience,
     } = service;
+    let form = match form_named(log_form) {
+        Ok(form) => form,
+        Err(start) => return (FtpdExit::Server(ServeFault::LogForm), Some(start)),
+    };
     let stop = match stop_file {
         Some(path) => match stop_at(machine, path) {
             Ok(stop) => Some(stop),
@@ -372,10 +437,29 @@ where
     if let Some(start) = folder_fault(machine, &config.store) {
         return (FtpdExit::Server(ServeFault::Store), Some(start));
     }
-    let handler = Notes::new(Logged::new(*machine, Level::Info, Console(*machine)));
+    let is_logged = transfer_log.is_some();
+    let file = match log_at(machine, transfer_log) {
+        Ok(file) => file,
+        Err(start) => return (FtpdExit::Server(ServeFault::TransferLog), Some(start)),
+    };
+    let handles = match shared_lines(rt.alloc()) {
+        Ok(handles) => handles,
+        Err(_) => return (FtpdExit::Server(ServeFault::Memory), None),
+    };
+    let LineHandles {
+        lines,
+        notes,
+        transfers,
+    } = handles;
+    let queued = QueuedLog::new(*rt, notes, form);
+    let logged = if is_logged { Some(transfers) } else { None };
+    let transfers = QueuedTransfers::new(*rt, logged);
+    let handler = Notes::new(Logged::new(*machine, Level::Info, queued), form, transfers);
     handler.note_warnings(warnings.as_str());
     let mut output = ReadyOutput::new(FallibleIo(&mut output.0), ready);
-    let served = serve_config(rt, config, handler, machine, stop, patience, &mut output);
+    let served = serve_with_log(rt, &lines, form, file, || {
+        serve_config(rt, config, handler, machine, stop, patience, &mut output)
+    });
     output.remove_file();
     match served {
         Ok(()) => (FtpdExit::Common(Common::Done), None),

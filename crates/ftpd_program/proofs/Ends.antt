@@ -6,99 +6,102 @@ use Rattle.command_line.specs.declared.words.SheetWords.TheVariants.{Share, Chec
 use Rattle.command_line.specs.declared.words.Words.{Words}
 use Rattle.command_line.specs.declared.words.Words.TheVariants.{Sheet, CheckConfig, Migrate, Script, Serve, Plan}
 use Rattle.script_session.specs.declared.fault.SessionFault.{SessionFault}
+use Rattle.config_report.specs.Looks.{Shown}
 use Rattle.sheets_program.specs.Runs.{IsCheckEnd, IsShareEnd, Octets}
 use Rattle.ftpd_program.specs.Endings.{IsCommon}
-use Rattle.ftpd_program.specs.Runs.{IsCommandEnd, IsPlanEnd, IsPrintEnd, IsScriptEnd, plan_print}
+use Rattle.ftpd_program.specs.Runs.{IsCommandEnd, IsPlanEnd, IsPrintEnd, IsReportEnd, IsScriptEnd, plan_print, report_print}
 use Rattle.ftpd_program.specs.Scripting.{IsUnscripted}
 use Rattle.ftpd_program.specs.Serving.{IsServeEnd, Service}
 use Rattle.ftpd_program.specs.declared.ending.FtpdExit.{FtpdExit}
 use Rattle.ftpd_program.specs.declared.ending.FtpdExit.TheVariants.{Common, Config, Transfers, Session, Server}
-use Rattle.ftpd_program.specs.declared.printing.Print.TheVariants.{Report, Latest}
+use Rattle.ftpd_program.specs.declared.printing.Print.TheVariants.{Latest}
 use Rattle.ftpd_program.specs.declared.scripting.ScriptFault.{ScriptFault}
 use Rattle.ftpd_program.specs.declared.scripting.ScriptFault.TheVariants.{Session as Unserved}
 
-pub share_end : (gives : List ℕ → Octets) (serves : Service) (Refuses : List ℕ → Type 0) (words : Words) (sheet : List ℕ) (old new : Option (List ℕ)) (ending : FtpdExit)
-    → IsOfSheets (IsShare sheet) words → IsCommandEnd gives serves Refuses words old new ending → IsCommon (IsShareEnd gives sheet old new) ending
-share_end gives serves Refuses (Sheet (Share path)) sheet old new (Common ending) is end = subst (λ (p : List ℕ). IsShareEnd gives p old new ending) is end
-share_end gives serves Refuses (Sheet (Share path)) sheet old new (Config fault) is end = absurd end
-share_end gives serves Refuses (Sheet (Share path)) sheet old new (Transfers name told) is end = absurd end
-share_end gives serves Refuses (Sheet (Share path)) sheet old new (Session fault) is end = absurd end
-share_end gives serves Refuses (Sheet (Share path)) sheet old new (Server fault) is end = absurd end
-share_end gives serves Refuses (Sheet (Check path other)) sheet old new ending is end = absurd is
-share_end gives serves Refuses (CheckConfig path) sheet old new ending is end = absurd is
-share_end gives serves Refuses (Migrate path) sheet old new ending is end = absurd is
-share_end gives serves Refuses (Script path) sheet old new ending is end = absurd is
-share_end gives serves Refuses (Serve path files patience) sheet old new ending is end = absurd is
-share_end gives serves Refuses (Plan path stated json) sheet old new ending is end = absurd is
+pub share_end : (gives : List ℕ → Octets) (shown : Shown) (serves : Service) (Refuses : List ℕ → Type 0) (words : Words) (sheet : List ℕ) (old new : Option (List ℕ)) (ending : FtpdExit)
+    → IsOfSheets (IsShare sheet) words → IsCommandEnd gives shown serves Refuses words old new ending → IsCommon (IsShareEnd gives sheet old new) ending
+share_end gives shown serves Refuses (Sheet (Share path)) sheet old new (Common ending) is end = subst (λ (p : List ℕ). IsShareEnd gives p old new ending) is end
+share_end gives shown serves Refuses (Sheet (Share path)) sheet old new (Config fault) is end = absurd end
+share_end gives shown serves Refuses (Sheet (Share path)) sheet old new (Transfers name told) is end = absurd end
+share_end gives shown serves Refuses (Sheet (Share path)) sheet old new (Session fault) is end = absurd end
+share_end gives shown serves Refuses (Sheet (Share path)) sheet old new (Server fault) is end = absurd end
+share_end gives shown serves Refuses (Sheet (Check path other)) sheet old new ending is end = absurd is
+share_end gives shown serves Refuses (CheckConfig path json) sheet old new ending is end = absurd is
+share_end gives shown serves Refuses (Migrate path) sheet old new ending is end = absurd is
+share_end gives shown serves Refuses (Script path) sheet old new ending is end = absurd is
+share_end gives shown serves Refuses (Serve path files patience) sheet old new ending is end = absurd is
+share_end gives shown serves Refuses (Plan path stated json) sheet old new ending is end = absurd is
 
-pub check_end : (gives : List ℕ → Octets) (serves : Service) (Refuses : List ℕ → Type 0) (words : Words) (sheet grants : List ℕ) (old new : Option (List ℕ)) (ending : FtpdExit)
-    → IsOfSheets (IsCheck sheet grants) words → IsCommandEnd gives serves Refuses words old new ending → IsCommon (IsCheckEnd gives sheet grants old new) ending
-check_end gives serves Refuses (Sheet (Check path other)) sheet grants old new (Common ending) is end =
+pub check_end : (gives : List ℕ → Octets) (shown : Shown) (serves : Service) (Refuses : List ℕ → Type 0) (words : Words) (sheet grants : List ℕ) (old new : Option (List ℕ)) (ending : FtpdExit)
+    → IsOfSheets (IsCheck sheet grants) words → IsCommandEnd gives shown serves Refuses words old new ending → IsCommon (IsCheckEnd gives sheet grants old new) ending
+check_end gives shown serves Refuses (Sheet (Check path other)) sheet grants old new (Common ending) is end =
     let first = subst (λ (p : List ℕ). IsCheckEnd gives p other.now old new ending) is.0 end in
     subst (λ (p : List ℕ). IsCheckEnd gives sheet p old new ending) is.1 first
-check_end gives serves Refuses (Sheet (Check path other)) sheet grants old new (Config fault) is end = absurd end
-check_end gives serves Refuses (Sheet (Check path other)) sheet grants old new (Transfers name told) is end = absurd end
-check_end gives serves Refuses (Sheet (Check path other)) sheet grants old new (Session fault) is end = absurd end
-check_end gives serves Refuses (Sheet (Check path other)) sheet grants old new (Server fault) is end = absurd end
-check_end gives serves Refuses (Sheet (Share path)) sheet grants old new ending is end = absurd is
-check_end gives serves Refuses (CheckConfig path) sheet grants old new ending is end = absurd is
-check_end gives serves Refuses (Migrate path) sheet grants old new ending is end = absurd is
-check_end gives serves Refuses (Script path) sheet grants old new ending is end = absurd is
-check_end gives serves Refuses (Serve path files patience) sheet grants old new ending is end = absurd is
-check_end gives serves Refuses (Plan path stated json) sheet grants old new ending is end = absurd is
+check_end gives shown serves Refuses (Sheet (Check path other)) sheet grants old new (Config fault) is end = absurd end
+check_end gives shown serves Refuses (Sheet (Check path other)) sheet grants old new (Transfers name told) is end = absurd end
+check_end gives shown serves Refuses (Sheet (Check path other)) sheet grants old new (Session fault) is end = absurd end
+check_end gives shown serves Refuses (Sheet (Check path other)) sheet grants old new (Server fault) is end = absurd end
+check_end gives shown serves Refuses (Sheet (Share path)) sheet grants old new ending is end = absurd is
+check_end gives shown serves Refuses (CheckConfig path json) sheet grants old new ending is end = absurd is
+check_end gives shown serves Refuses (Migrate path) sheet grants old new ending is end = absurd is
+check_end gives shown serves Refuses (Script path) sheet grants old new ending is end = absurd is
+check_end gives shown serves Refuses (Serve path files patience) sheet grants old new ending is end = absurd is
+check_end gives shown serves Refuses (Plan path stated json) sheet grants old new ending is end = absurd is
 
-pub report_end : (gives : List ℕ → Octets) (serves : Service) (Refuses : List ℕ → Type 0) (words : Words) (config : List ℕ) (old new : Option (List ℕ)) (ending : FtpdExit)
-    → IsCheckConfig config words → IsCommandEnd gives serves Refuses words old new ending → IsPrintEnd Report (gives config) Refuses old new ending
-report_end gives serves Refuses (CheckConfig path) config old new ending is end = subst (λ (p : List ℕ). IsPrintEnd Report (gives p) Refuses old new ending) is end
-report_end gives serves Refuses (Sheet words) config old new ending is end = absurd is
-report_end gives serves Refuses (Migrate path) config old new ending is end = absurd is
-report_end gives serves Refuses (Script path) config old new ending is end = absurd is
-report_end gives serves Refuses (Serve path files patience) config old new ending is end = absurd is
-report_end gives serves Refuses (Plan path stated json) config old new ending is end = absurd is
+pub report_end : (gives : List ℕ → Octets) (shown : Shown) (serves : Service) (Refuses : List ℕ → Type 0) (words : Words) (config : List ℕ) (as_json : Bool) (old new : Option (List ℕ)) (ending : FtpdExit)
+    → IsCheckConfig config as_json words → IsCommandEnd gives shown serves Refuses words old new ending → IsReportEnd as_json shown (gives config) config Refuses old new ending
+report_end gives shown serves Refuses (CheckConfig path json) config as_json old new ending is end =
+    let first = subst (λ (p : List ℕ). IsPrintEnd (report_print json path) shown (gives p) Refuses old new ending) is.0 end in
+    (path, is.0, subst (λ (b : Bool). IsPrintEnd (report_print b path) shown (gives config) Refuses old new ending) is.1 first)
+report_end gives shown serves Refuses (Sheet words) config as_json old new ending is end = absurd is
+report_end gives shown serves Refuses (Migrate path) config as_json old new ending is end = absurd is
+report_end gives shown serves Refuses (Script path) config as_json old new ending is end = absurd is
+report_end gives shown serves Refuses (Serve path files patience) config as_json old new ending is end = absurd is
+report_end gives shown serves Refuses (Plan path stated json) config as_json old new ending is end = absurd is
 
-pub migrate_end : (gives : List ℕ → Octets) (serves : Service) (Refuses : List ℕ → Type 0) (words : Words) (config : List ℕ) (old new : Option (List ℕ)) (ending : FtpdExit)
-    → IsMigrate config words → IsCommandEnd gives serves Refuses words old new ending → IsPrintEnd Latest (gives config) Refuses old new ending
-migrate_end gives serves Refuses (Migrate path) config old new ending is end = subst (λ (p : List ℕ). IsPrintEnd Latest (gives p) Refuses old new ending) is end
-migrate_end gives serves Refuses (Sheet words) config old new ending is end = absurd is
-migrate_end gives serves Refuses (CheckConfig path) config old new ending is end = absurd is
-migrate_end gives serves Refuses (Script path) config old new ending is end = absurd is
-migrate_end gives serves Refuses (Serve path files patience) config old new ending is end = absurd is
-migrate_end gives serves Refuses (Plan path stated json) config old new ending is end = absurd is
+pub migrate_end : (gives : List ℕ → Octets) (shown : Shown) (serves : Service) (Refuses : List ℕ → Type 0) (words : Words) (config : List ℕ) (old new : Option (List ℕ)) (ending : FtpdExit)
+    → IsMigrate config words → IsCommandEnd gives shown serves Refuses words old new ending → IsPrintEnd Latest shown (gives config) Refuses old new ending
+migrate_end gives shown serves Refuses (Migrate path) config old new ending is end = subst (λ (p : List ℕ). IsPrintEnd Latest shown (gives p) Refuses old new ending) is end
+migrate_end gives shown serves Refuses (Sheet words) config old new ending is end = absurd is
+migrate_end gives shown serves Refuses (CheckConfig path json) config old new ending is end = absurd is
+migrate_end gives shown serves Refuses (Script path) config old new ending is end = absurd is
+migrate_end gives shown serves Refuses (Serve path files patience) config old new ending is end = absurd is
+migrate_end gives shown serves Refuses (Plan path stated json) config old new ending is end = absurd is
 
-pub script_end : (gives : List ℕ → Octets) (serves : Service) (Refuses : List ℕ → Type 0) (words : Words) (config : List ℕ) (old new : Option (List ℕ)) (ending : FtpdExit)
-    → IsScript config words → IsCommandEnd gives serves Refuses words old new ending → IsScriptEnd gives config old new ending
-script_end gives serves Refuses (Script path) config old new ending is end = subst (λ (p : List ℕ). IsScriptEnd gives p old new ending) is end
-script_end gives serves Refuses (Sheet words) config old new ending is end = absurd is
-script_end gives serves Refuses (CheckConfig path) config old new ending is end = absurd is
-script_end gives serves Refuses (Migrate path) config old new ending is end = absurd is
-script_end gives serves Refuses (Serve path files patience) config old new ending is end = absurd is
-script_end gives serves Refuses (Plan path stated json) config old new ending is end = absurd is
+pub script_end : (gives : List ℕ → Octets) (shown : Shown) (serves : Service) (Refuses : List ℕ → Type 0) (words : Words) (config : List ℕ) (old new : Option (List ℕ)) (ending : FtpdExit)
+    → IsScript config words → IsCommandEnd gives shown serves Refuses words old new ending → IsScriptEnd gives config old new ending
+script_end gives shown serves Refuses (Script path) config old new ending is end = subst (λ (p : List ℕ). IsScriptEnd gives p old new ending) is end
+script_end gives shown serves Refuses (Sheet words) config old new ending is end = absurd is
+script_end gives shown serves Refuses (CheckConfig path json) config old new ending is end = absurd is
+script_end gives shown serves Refuses (Migrate path) config old new ending is end = absurd is
+script_end gives shown serves Refuses (Serve path files patience) config old new ending is end = absurd is
+script_end gives shown serves Refuses (Plan path stated json) config old new ending is end = absurd is
 
-pub serve_end : (gives : List ℕ → Octets) (serves : Service) (Refuses : List ℕ → Type 0) (words : Words) (config : List ℕ) (path ready : Option (List ℕ)) (p : Patience) (old new : Option (List ℕ)) (ending : FtpdExit)
-    → IsServe config path ready p words → IsCommandEnd gives serves Refuses words old new ending → IsServeEnd (gives config) serves path ready p old new ending
-serve_end gives serves Refuses (Serve word files patience) config path ready p old new ending is end =
+pub serve_end : (gives : List ℕ → Octets) (shown : Shown) (serves : Service) (Refuses : List ℕ → Type 0) (words : Words) (config : List ℕ) (path ready : Option (List ℕ)) (p : Patience) (old new : Option (List ℕ)) (ending : FtpdExit)
+    → IsServe config path ready p words → IsCommandEnd gives shown serves Refuses words old new ending → IsServeEnd (gives config) shown config serves path ready p old new ending
+serve_end gives shown serves Refuses (Serve word files patience) config path ready p old new ending is end =
     let stop = option_map (λ w. w.now) files.stop_file in
     let sign = option_map (λ w. w.now) files.ready_file in
-    let first = subst (λ (c : List ℕ). IsServeEnd (gives c) serves stop sign patience old new ending) is.0 end in
-    let second = subst (λ (f : Option (List ℕ)). IsServeEnd (gives config) serves f sign patience old new ending) is.1 first in
-    let third = subst (λ (f : Option (List ℕ)). IsServeEnd (gives config) serves path f patience old new ending) is.2 second in
-    subst (λ (q : Patience). IsServeEnd (gives config) serves path ready q old new ending) is.3 third
-serve_end gives serves Refuses (Sheet words) config path ready p old new ending is end = absurd is
-serve_end gives serves Refuses (CheckConfig word) config path ready p old new ending is end = absurd is
-serve_end gives serves Refuses (Migrate word) config path ready p old new ending is end = absurd is
-serve_end gives serves Refuses (Script word) config path ready p old new ending is end = absurd is
-serve_end gives serves Refuses (Plan word stated json) config path ready p old new ending is end = absurd is
+    let first = subst (λ (c : List ℕ). IsServeEnd (gives c) shown c serves stop sign patience old new ending) is.0 end in
+    let second = subst (λ (f : Option (List ℕ)). IsServeEnd (gives config) shown config serves f sign patience old new ending) is.1 first in
+    let third = subst (λ (f : Option (List ℕ)). IsServeEnd (gives config) shown config serves path f patience old new ending) is.2 second in
+    subst (λ (q : Patience). IsServeEnd (gives config) shown config serves path ready q old new ending) is.3 third
+serve_end gives shown serves Refuses (Sheet words) config path ready p old new ending is end = absurd is
+serve_end gives shown serves Refuses (CheckConfig word json) config path ready p old new ending is end = absurd is
+serve_end gives shown serves Refuses (Migrate word) config path ready p old new ending is end = absurd is
+serve_end gives shown serves Refuses (Script word) config path ready p old new ending is end = absurd is
+serve_end gives shown serves Refuses (Plan word stated json) config path ready p old new ending is end = absurd is
 
-pub plan_end : (gives : List ℕ → Octets) (serves : Service) (Refuses : List ℕ → Type 0) (words : Words) (config transfers : List ℕ) (as_json : Bool) (old new : Option (List ℕ)) (ending : FtpdExit)
-    → IsPlanWords config transfers as_json words → IsCommandEnd gives serves Refuses words old new ending → IsPlanEnd as_json (gives config) transfers Refuses old new ending
-plan_end gives serves Refuses (Plan path stated json) config transfers as_json old new ending is end =
-    let first = subst (λ (p : List ℕ). IsPrintEnd (plan_print json stated) (gives p) Refuses old new ending) is.0 end in
-    (stated, is.1, subst (λ (b : Bool). IsPrintEnd (plan_print b stated) (gives config) Refuses old new ending) is.2 first)
-plan_end gives serves Refuses (Sheet words) config transfers as_json old new ending is end = absurd is
-plan_end gives serves Refuses (CheckConfig path) config transfers as_json old new ending is end = absurd is
-plan_end gives serves Refuses (Migrate path) config transfers as_json old new ending is end = absurd is
-plan_end gives serves Refuses (Script path) config transfers as_json old new ending is end = absurd is
-plan_end gives serves Refuses (Serve path files patience) config transfers as_json old new ending is end = absurd is
+pub plan_end : (gives : List ℕ → Octets) (shown : Shown) (serves : Service) (Refuses : List ℕ → Type 0) (words : Words) (config transfers : List ℕ) (as_json : Bool) (old new : Option (List ℕ)) (ending : FtpdExit)
+    → IsPlanWords config transfers as_json words → IsCommandEnd gives shown serves Refuses words old new ending → IsPlanEnd as_json shown (gives config) transfers Refuses old new ending
+plan_end gives shown serves Refuses (Plan path stated json) config transfers as_json old new ending is end =
+    let first = subst (λ (p : List ℕ). IsPrintEnd (plan_print json stated) shown (gives p) Refuses old new ending) is.0 end in
+    (stated, is.1, subst (λ (b : Bool). IsPrintEnd (plan_print b stated) shown (gives config) Refuses old new ending) is.2 first)
+plan_end gives shown serves Refuses (Sheet words) config transfers as_json old new ending is end = absurd is
+plan_end gives shown serves Refuses (CheckConfig path json) config transfers as_json old new ending is end = absurd is
+plan_end gives shown serves Refuses (Migrate path) config transfers as_json old new ending is end = absurd is
+plan_end gives shown serves Refuses (Script path) config transfers as_json old new ending is end = absurd is
+plan_end gives shown serves Refuses (Serve path files patience) config transfers as_json old new ending is end = absurd is
 
 pub unserved : (text before after old new : Option (List ℕ)) (fault : ScriptFault) (why : SessionFault)
     → IsUnscripted text before after old new fault → fault ≡ Unserved why → IsUnscripted text before after old new (Unserved why)

@@ -1,11 +1,12 @@
 -- A configuration that was read whole.
-use Rattle.std.proofs.Common.{◌≡◌, ◌∙◌, ℕ, List, Option, Some, None, Result, Ok, Err, IfErr, IfOk, sym}
+use Rattle.std.proofs.Common.{◌≡◌, ◌∙◌, ℕ, List, Option, Some, None, Result, Ok, Err, IfErr, IfOk, String, Global, string_bytes, sym}
 use Rattle.std.specs.Io.KnownBytes.{Consumes, IsAtEnd}
+use Rattle.config_report.specs.Looks.{Shown}
 use Rattle.server_config.specs.Configs.{IsConfigText}
 use Rattle.server_config.specs.declared.config.Config.{Config}
 use Rattle.text_io.specs.Texts.{IsTextOf}
 use Rattle.ftpd_program.proofs.WholeTexts.{whole}
-use Rattle.ftpd_program.specs.Scripting.{IsConfigOf, IsJudgement, IsUnconfigured}
+use Rattle.ftpd_program.specs.Scripting.{IsConfigOf, IsJudgement, IsUnconfigured, IsWarned, IsWarnedOf}
 use Rattle.ftpd_program.specs.declared.scripting.ScriptFault.{ScriptFault}
 use Rattle.ftpd_program.specs.declared.scripting.ScriptFault.TheVariants.{Config as Refused, Session, Text}
 
@@ -20,12 +21,17 @@ pub configured : (text : List ℕ) (left : Option (List ℕ)) (answer : Result C
 configured text left (Ok config) of is = (text, of, is)
 configured text left (Err fault) of is = tt
 
+pub warned_of : (shown : Shown) (path text : List ℕ) (left : Option (List ℕ)) (answer : Result (Config × String Global) ScriptFault) → IsTextOf text left
+    → IfOk answer (λ read. IsWarned shown path text read.0 (string_bytes read.1)) → IfOk answer (λ read. IsWarnedOf shown path left read.0 (string_bytes read.1))
+warned_of shown path text left (Ok read) of is = (text, of, is)
+warned_of shown path text left (Err fault) of is = tt
+
 judged : (text : List ℕ) (left : Option (List ℕ)) (fault : ScriptFault) → IsTextOf text left → IsJudgement text fault → IsUnconfigured left fault
 judged text left (Text fault) of is = λ no. cc
 judged text left (Refused fault) of is = (text, of, is)
 judged text left (Session fault) of is = absurd is
 
-pub unconfigured : (text : List ℕ) (left : Option (List ℕ)) (answer : Result Config ScriptFault) → IsTextOf text left
+pub unconfigured : {T : Type 0} (text : List ℕ) (left : Option (List ℕ)) (answer : Result T ScriptFault) → IsTextOf text left
     → IfErr answer (IsJudgement text) → IfErr answer (IsUnconfigured left)
-unconfigured text left (Ok config) of is = tt
+unconfigured text left (Ok read) of is = tt
 unconfigured text left (Err fault) of is = judged text left fault of is

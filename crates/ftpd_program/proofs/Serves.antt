@@ -1,12 +1,15 @@
 -- The ends of `serve`.
-use Rattle.std.proofs.Common.{ℕ, List, Option, Ok, Err}
+use Rattle.std.proofs.Common.{◌≡◌, ℕ, List, Option, Ok, Err, subst, sym}
 use Rattle.client_patience.specs.declared.patience.Patience.{Patience}
+use Rattle.config_report.specs.Looks.{Shown}
 use Rattle.server_config.specs.declared.config.Config.{Config}
 use Rattle.sheets_program.specs.Runs.{Octets}
-use Rattle.ftpd_program.specs.Serving.{Answer, IsConfigIn, IsServeEnd, Service, end_of}
+use Rattle.ftpd_program.specs.Serving.{Answer, IsServeEnd, IsWarnedIn, Service, end_of}
 
--- what the server answered
-pub answered : (gives : Octets) (serves : Service) (path ready : Option (List ℕ)) (p : Patience) (old new : Option (List ℕ)) (config : Config) (answer : Answer) → IsConfigIn gives config
-    → serves config path ready p old new answer → IsServeEnd gives serves path ready p old new (end_of answer)
-answered gives serves path ready p old new config (Ok tt) read is = (config, read, is)
-answered gives serves path ready p old new config (Err why) read is = (config, read, is)
+-- the end of the answer of a server that is passed the octets of the warnings
+pub answered : (gives : Octets) (shown : Shown) (config_path : List ℕ) (serves : Service) (path ready : Option (List ℕ)) (p : Patience) (old new : Option (List ℕ)) (config : Config) (told passed : List ℕ) (answer : Answer)
+    → IsWarnedIn gives shown config_path config told → passed ≡ told → serves config passed path ready p old new answer → IsServeEnd gives shown config_path serves path ready p old new (end_of answer)
+answered gives shown config_path serves path ready p old new config told passed (Ok tt) read same is =
+    (config, passed, subst (λ (t : List ℕ). IsWarnedIn gives shown config_path config t) (sym same) read, is)
+answered gives shown config_path serves path ready p old new config told passed (Err why) read same is =
+    (config, passed, subst (λ (t : List ℕ). IsWarnedIn gives shown config_path config t) (sym same) read, is)

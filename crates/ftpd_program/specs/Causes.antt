@@ -61,7 +61,7 @@ abbrev pub IsCommandWhy : (List ℕ → Octets) → (List ℕ → Type 0) → (L
     → (List ℕ → Type 0) → Type 0 → Words → FtpdExit → Type 0
 IsCommandWhy gives refused fails refuses breaks (Sheet words) ending =
     IsCommon (IsSheetWhy gives refused fails refuses words) ending
-IsCommandWhy gives refused fails refuses breaks (CheckConfig config) ending =
+IsCommandWhy gives refused fails refuses breaks (CheckConfig config json) ending =
     IsReadWhy config.now (refused config.now ⊎ fails config.now) ending
 IsCommandWhy gives refused fails refuses breaks (Migrate config) ending =
     IsReadWhy config.now (refused config.now ⊎ fails config.now) ending
@@ -77,7 +77,7 @@ abbrev pub AreCommandOpened : {O : Type 0} → (O → List ℕ → O → Type 0)
     → Words → FtpdExit → Type 0
 AreCommandOpened opens old new refused (Sheet words) ending =
     IsCommon (AreOpened opens old new refused words) ending
-AreCommandOpened opens old new refused (CheckConfig config) ending = opens old config.now new
+AreCommandOpened opens old new refused (CheckConfig config json) ending = opens old config.now new
 AreCommandOpened opens old new refused (Migrate config) ending = opens old config.now new
 AreCommandOpened opens old new refused (Script config) ending =
     AreScriptOpened opens old new refused config.now ending

@@ -1,7 +1,8 @@
 -- The texts about a configuration that commands print.
 use Rattle.std.specs.Prelude.{◌≡◌, ℕ, List, Option, Some, None}
 use Rattle.std.specs.Io.KnownBytes.{Appends}
-use Rattle.config_report.specs.Reports.{IsReportOf}
+use Rattle.config_report.specs.Looks.{Shown}
+use Rattle.config_report.specs.Reports.{IsReportJson, IsReportOf}
 use Rattle.server_config.specs.Migrated.{IsMigrated, IsUnmigrated}
 use Rattle.server_config.specs.Refused.{IsFaultOfText}
 use Rattle.server_config.specs.declared.fault.ConfigFault.{ConfigFault}
@@ -9,22 +10,25 @@ use Rattle.plan_report.specs.Reports.{IsPlanJson, IsPlanReport}
 use Rattle.text_io.specs.Texts.{IsTextOf}
 use Rattle.text_io.specs.declared.fault.TextFault.TheVariants.{Memory}
 use Rattle.ftpd_program.specs.declared.printing.Print.{Print}
-use Rattle.ftpd_program.specs.declared.printing.Print.TheVariants.{Report, Latest, Plan, PlanJson}
+use Rattle.ftpd_program.specs.declared.printing.Print.TheVariants.{Report, ReportJson, Latest, Plan, PlanJson}
 use Rattle.ftpd_program.specs.declared.printing.PrintFault.{PrintFault}
 use Rattle.ftpd_program.specs.declared.printing.PrintFault.TheVariants.{Config, Text, Transfers}
 
--- the report on the configuration of a text; or a text that has the same configuration in version
--- 2; of a plan in lines only that transfers are planned by the rates of the configuration; of one
--- as JSON also that the text has their shares
-abbrev pub IsPrintOf : Print → List ℕ → List ℕ → Type 0
-IsPrintOf Report text printed = IsReportOf text printed
-IsPrintOf Latest text printed = IsMigrated text printed
-IsPrintOf (Plan transfers) text printed = IsPlanReport text
-IsPrintOf (PlanJson transfers) text printed = IsPlanJson text printed
+-- the report on the configuration of a text, by the possible results of looks at the machine, in
+-- lines or as JSON; or a text that has the same configuration in version 2; of a plan in lines only
+-- that transfers are planned by the rates of the configuration; of one as JSON also that the text
+-- has their shares
+abbrev pub IsPrintOf : Print → Shown → List ℕ → List ℕ → Type 0
+IsPrintOf (Report path) shown text printed = IsReportOf shown path.now text printed
+IsPrintOf (ReportJson path) shown text printed = IsReportJson shown path.now text printed
+IsPrintOf Latest shown text printed = IsMigrated text printed
+IsPrintOf (Plan transfers) shown text printed = IsPlanReport text
+IsPrintOf (PlanJson transfers) shown text printed = IsPlanJson text printed
 
 -- the text is refused for that fault; or, in version 2, it has no print that is read back
 abbrev pub IsUnprinted : Print → List ℕ → ConfigFault → Type 0
-IsUnprinted Report text fault = IsFaultOfText text fault
+IsUnprinted (Report path) text fault = IsFaultOfText text fault
+IsUnprinted (ReportJson path) text fault = IsFaultOfText text fault
 IsUnprinted Latest text fault = IsUnmigrated text fault
 IsUnprinted (Plan transfers) text fault = IsFaultOfText text fault
 IsUnprinted (PlanJson transfers) text fault = IsFaultOfText text fault
@@ -48,10 +52,11 @@ IsPrintRefusal print text (Config fault) = IsUnprinted print text fault
 IsPrintRefusal print text (Transfers name told) = IsOfPlan print
 
 -- a text about the configuration of the octets that were read is appended
-abbrev pub AppendsPrint : Print → Option (List ℕ) → Option (List ℕ) → Option (List ℕ) → Type 0
-AppendsPrint print None old new = Unit {0}
-AppendsPrint print (Some text) old new =
-    (printed : List ℕ) × IsPrintOf print text printed × Appends old new printed
+abbrev pub AppendsPrint : Print → Shown → Option (List ℕ) → Option (List ℕ) → Option (List ℕ)
+    → Type 0
+AppendsPrint print shown None old new = Unit {0}
+AppendsPrint print shown (Some text) old new =
+    (printed : List ℕ) × IsPrintOf print shown text printed × Appends old new printed
 
 -- the text of an end is refused for that fault
 abbrev pub IsUnprintedAt : Print → Option (List ℕ) → ConfigFault → Type 0

@@ -5,6 +5,7 @@ use Rattle.std.specs.Borrow.{Bor}
 use Rattle.std.specs.Prelude.{◌≡◌, ℕ, Bool, List, Option, false, option_map, true}
 use Rattle.command_line.specs.declared.words.Words.{Words}
 use Rattle.command_line.specs.declared.words.Words.TheVariants.{Sheet, CheckConfig, Migrate, Script, Serve, Plan}
+use Rattle.config_report.specs.Looks.{Shown}
 use Rattle.sheets_program.specs.Runs.{IsInput, IsSheetEnd, Octets}
 use Rattle.sheets_program.specs.declared.ending.Exit.TheVariants.{Done, Refused, Text}
 use Rattle.sheets_program.specs.declared.files.TheConstants.{STANDARD_INPUT}
@@ -16,21 +17,33 @@ use Rattle.ftpd_program.specs.Serving.{IsServeEnd, Service}
 use Rattle.ftpd_program.specs.declared.ending.FtpdExit.{FtpdExit}
 use Rattle.ftpd_program.specs.declared.ending.FtpdExit.TheVariants.{Common, Config, Transfers, Session}
 use Rattle.ftpd_program.specs.declared.printing.Print.{Print}
-use Rattle.ftpd_program.specs.declared.printing.Print.TheVariants.{Report, Latest, Plan as PlanOf, PlanJson}
+use Rattle.ftpd_program.specs.declared.printing.Print.TheVariants.{Report, ReportJson, Latest, Plan as PlanOf, PlanJson}
 use Rattle.ftpd_program.specs.declared.scripting.ScriptFault.TheVariants.{Session as Unserved}
 
--- the ending of a command that prints a text about a configuration, by the contents that its file
--- may have
-abbrev pub IsPrintEnd : Print → Octets → (List ℕ → Type 0) → Option (List ℕ) → Option (List ℕ)
-    → FtpdExit → Type 0
-IsPrintEnd print gives Refuses old new (Common Done) =
-    (text : Option (List ℕ)) × gives text × AppendsPrint print text old new
-IsPrintEnd print gives Refuses old new (Common (Text fault cause)) =
-    IsPrintingFaultOf gives (IsPrintOf print) Refuses fault
-IsPrintEnd print gives Refuses old new (Config fault) =
+-- the ending of a command that prints a text about a configuration, by the possible results of
+-- looks at the machine, and the contents that its file may have
+abbrev pub IsPrintEnd : Print → Shown → Octets → (List ℕ → Type 0) → Option (List ℕ)
+    → Option (List ℕ) → FtpdExit → Type 0
+IsPrintEnd print shown gives Refuses old new (Common Done) =
+    (text : Option (List ℕ)) × gives text × AppendsPrint print shown text old new
+IsPrintEnd print shown gives Refuses old new (Common (Text fault cause)) =
+    IsPrintingFaultOf gives (IsPrintOf print shown) Refuses fault
+IsPrintEnd print shown gives Refuses old new (Config fault) =
     (text : Option (List ℕ)) × gives text × IsUnprintedAt print text fault
-IsPrintEnd print gives Refuses old new (Transfers name told) = IsOfPlan print
-IsPrintEnd print gives Refuses old new _ = ⊥
+IsPrintEnd print shown gives Refuses old new (Transfers name told) = IsOfPlan print
+IsPrintEnd print shown gives Refuses old new _ = ⊥
+
+-- the report on the configuration of the file of a path, as JSON or in lines
+abbrev pub report_print : Bool → Bor (List ℕ) → Print
+report_print false path = Report path
+report_print true path = ReportJson path
+
+-- the ending of `check-config` for the path of a configuration
+abbrev pub IsReportEnd : Bool → Shown → Octets → List ℕ → (List ℕ → Type 0) → Option (List ℕ)
+    → Option (List ℕ) → FtpdExit → Type 0
+IsReportEnd json shown gives config Refuses old new ending =
+    (path : Bor (List ℕ)) × (path.now ≡ config)
+    × IsPrintEnd (report_print json path) shown gives Refuses old new ending
 
 -- the plan of the transfers that a word states, as JSON or in lines
 abbrev pub plan_print : Bool → Bor (List ℕ) → Print
@@ -38,11 +51,11 @@ plan_print false transfers = PlanOf transfers
 plan_print true transfers = PlanJson transfers
 
 -- the ending of `plan` for the text of those transfers
-abbrev pub IsPlanEnd : Bool → Octets → List ℕ → (List ℕ → Type 0) → Option (List ℕ)
+abbrev pub IsPlanEnd : Bool → Shown → Octets → List ℕ → (List ℕ → Type 0) → Option (List ℕ)
     → Option (List ℕ) → FtpdExit → Type 0
-IsPlanEnd json gives transfers Refuses old new ending =
+IsPlanEnd json shown gives transfers Refuses old new ending =
     (stated : Bor (List ℕ)) × (stated.now ≡ transfers)
-    × IsPrintEnd (plan_print json stated) gives Refuses old new ending
+    × IsPrintEnd (plan_print json stated) shown gives Refuses old new ending
 
 -- the ending of `script` for the path of a configuration; the control text is that of standard
 -- input
@@ -61,19 +74,21 @@ IsScriptEnd gives config old new (Session fault) =
     × IsUnscripted text before after old new (Unserved fault))
 IsScriptEnd gives config old new _ = ⊥
 
--- the ending of that command, given the possible calls of a server
-abbrev pub IsCommandEnd : (List ℕ → Octets) → Service → (List ℕ → Type 0) → Words → Option (List ℕ)
-    → Option (List ℕ) → FtpdExit → Type 0
-IsCommandEnd gives serves Refuses (Sheet words) old new ending =
+-- the ending of that command, given the possible results of looks at the machine, and the possible
+-- calls of a server
+abbrev pub IsCommandEnd : (List ℕ → Octets) → Shown → Service → (List ℕ → Type 0) → Words
+    → Option (List ℕ) → Option (List ℕ) → FtpdExit → Type 0
+IsCommandEnd gives shown serves Refuses (Sheet words) old new ending =
     IsCommon (IsSheetEnd gives words old new) ending
-IsCommandEnd gives serves Refuses (CheckConfig config) old new ending =
-    IsPrintEnd Report (gives config.now) Refuses old new ending
-IsCommandEnd gives serves Refuses (Migrate config) old new ending =
-    IsPrintEnd Latest (gives config.now) Refuses old new ending
-IsCommandEnd gives serves Refuses (Script config) old new ending =
+IsCommandEnd gives shown serves Refuses (CheckConfig config json) old new ending =
+    IsPrintEnd (report_print json config) shown (gives config.now) Refuses old new ending
+IsCommandEnd gives shown serves Refuses (Migrate config) old new ending =
+    IsPrintEnd Latest shown (gives config.now) Refuses old new ending
+IsCommandEnd gives shown serves Refuses (Script config) old new ending =
     IsScriptEnd gives config.now old new ending
-IsCommandEnd gives serves Refuses (Serve config files patience) old new ending =
-    IsServeEnd (gives config.now) serves (option_map (λ w. w.now) files.stop_file)
-    (option_map (λ w. w.now) files.ready_file) patience old new ending
-IsCommandEnd gives serves Refuses (Plan config transfers json) old new ending =
-    IsPrintEnd (plan_print json transfers) (gives config.now) Refuses old new ending
+IsCommandEnd gives shown serves Refuses (Serve config files patience) old new ending =
+    IsServeEnd (gives config.now) shown config.now serves
+    (option_map (λ w. w.now) files.stop_file) (option_map (λ w. w.now) files.ready_file) patience
+    old new ending
+IsCommandEnd gives shown serves Refuses (Plan config transfers json) old new ending =
+    IsPrintEnd (plan_print json transfers) shown (gives config.now) Refuses old new ending

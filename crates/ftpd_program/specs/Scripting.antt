@@ -1,5 +1,7 @@
 -- The effect of `script`.
 use Rattle.std.specs.Prelude.{◌≡◌, ◌≢◌, ℕ, List, Option}
+use Rattle.config_report.specs.Looks.{Shown}
+use Rattle.config_report.specs.Reports.{AreWarningsOf}
 use Rattle.script_session.specs.Served.{IsServed, IsSessionBreak, IsUnserved}
 use Rattle.script_session.specs.declared.fault.SessionFault.TheVariants.{Control, Folder}
 use Rattle.server_config.specs.Configs.{IsConfigText}
@@ -14,6 +16,17 @@ use Rattle.ftpd_program.specs.declared.scripting.ScriptFault.TheVariants.{Config
 -- the text of an end is that of a configuration
 abbrev pub IsConfigOf : Option (List ℕ) → Config → Type 0
 IsConfigOf left config = (text : List ℕ) × IsTextOf text left × IsConfigText text config
+
+-- the text is that of a configuration, with those warnings by the possible results of looks at the
+-- machine; the path is that of its file
+abbrev pub IsWarned : Shown → List ℕ → List ℕ → Config → List ℕ → Type 0
+IsWarned shown path text config told =
+    IsConfigText text config × AreWarningsOf shown path text told
+
+-- the same for the text of an end
+abbrev pub IsWarnedOf : Shown → List ℕ → Option (List ℕ) → Config → List ℕ → Type 0
+IsWarnedOf shown path left config told =
+    (text : List ℕ) × IsTextOf text left × IsWarned shown path text config told
 
 -- the text of an end is refused for that fault
 abbrev pub IsRefusalOf : Option (List ℕ) → ConfigFault → Type 0

@@ -22,6 +22,7 @@ mod serving;
 mod start;
 
 pub use command_line::{Patience, ServeFiles};
+pub use config_report::{Lookout, Sight};
 pub use ending::{FtpdErrorText, FtpdExit};
 pub use printing::{Print, PrintFault, run_print};
 pub use ready::{ReadyFile, ReadyOutput};

@@ -5,7 +5,7 @@ ghost use Rattle.text_io.specs.Texts.{IsTextOf};
 ghost use Rattle.ftpd_program.specs.Printing.{AppendsPrint, IsPlanRefusal, IsPrintFault, IsPrintOf, IsPrintRefusal};
 ghost use Rattle.plan_report.specs.Reports.{IsNoPlan, IsPlanJson, IsPlanReport};
 
-use config_report::report;
+use config_report::{Lookout, report, report_json};
 use plan_report::{NoPlan, plan_json, plan_lines};
 use server_config::{ConfigFault, migrate};
 use std::alloc::Global;
@@ -14,8 +14,10 @@ use text_io::{MAX_TEXT, TextFault, TextReader, TextWriter, read_whole, write_who
 /// A text about a configuration.
 #[derive(Clone, Copy, Debug, PartialEq, Eq)]
 pub enum Print<'w> {
-    /// The report on it, with its warnings.
-    Report,
+    /// The report on it, with its warnings; the path of its file.
+    Report(&'w str),
+    /// The same report as JSON.
+    ReportJson(&'w str),
     /// Its text in version 2.
     Latest,
     /// The plan of the transfers that a word states, in lines.
@@ -68,12 +70,19 @@ fn plan_json_about(alloc: Global, transfers: &str, octets: &[u8]) -> Result<Stri
 }
 
 /// Returns the text about the configuration of these octets.
-fn text_about(alloc: Global, print: Print<'_>, octets: &[u8]) -> Result<String, PrintFault>
-    ensures prints { IfOk result (λ text. IsPrintOf print.entry octets.now (string_bytes text)) }
+fn text_about<L: Lookout>(
+    alloc: Global,
+    print: Print<'_>,
+    octets: &[u8],
+    lookout: &L,
+) -> Result<String, PrintFault>
+    ensures prints { IfOk result (λ text.
+        IsPrintOf print.entry (L.Shows lookout.now) octets.now (string_bytes text)) }
     ensures refused { IfErr result (IsPrintRefusal print.entry octets.now) }
 {
     let text = match print {
-        Print::Report => report(alloc, octets),
+        Print::Report(path) => report(alloc, path, octets, lookout),
+        Print::ReportJson(path) => report_json(alloc, path, octets, lookout),
         Print::Latest => migrate(alloc, octets),
         Print::Plan(transfers) => return plan_about(alloc, transfers, octets),
         Print::PlanJson(transfers) => return plan_json_about(alloc, transfers, octets),
@@ -86,18 +95,19 @@ fn text_about(alloc: Global, print: Print<'_>, octets: &[u8]) -> Result<String, 
 }
 
 /// Reads a configuration, and writes a text about it; if the configuration is refused, nothing is written. A fault
-/// other than the output's own comes before the first octet is written.
+/// other than the output's own comes before the first octet is written. The lookout looks at the machine for a report.
 ///
 /// `TooLong`: the configuration has more than `MAX_TEXT` octets. `ReadFault`: a read of it failed. `WriteFault`: the
 /// writer refuses this text.
-pub fn run_print<R: TextReader, W: TextWriter>(
+pub fn run_print<R: TextReader, W: TextWriter, L: Lookout>(
     alloc: Global,
     print: Print<'_>,
     reader: &mut R,
     writer: &mut W,
+    lookout: &L,
 ) -> Result<(), PrintFault>
-    ensures printed { OnOk result (AppendsPrint print.entry (R.remaining reader.old)
-        (W.contents writer.old) (W.contents writer.new)) }
+    ensures printed { OnOk result (AppendsPrint print.entry (L.Shows lookout.now)
+        (R.remaining reader.old) (W.contents writer.old) (W.contents writer.new)) }
     ensures refused { IfErr result (IsPrintFault print.entry (R.remaining reader.old)) }
     ensures too_long { IsErrOf result (PrintFault.Text TextFault.TooLong)
         → IfSome (R.remaining reader.old) (λ text. MAX_TEXT < length text) }
@@ -105,7 +115,8 @@ pub fn run_print<R: TextReader, W: TextWriter>(
         → R.may_fail reader.old ≡ true }
     ensures write_fault { IsErrOf result (PrintFault.Text TextFault.WriteFault)
         → (text printed : List ℕ) × IsTextOf text (R.remaining reader.old)
-        × IsPrintOf print.entry text printed × W.may_refuse writer.old printed }
+        × IsPrintOf print.entry (L.Shows lookout.now) text printed
+        × W.may_refuse writer.old printed }
     ensures unwritten { IfErr result (λ fault. fault ≢ PrintFault.Text TextFault.WriteFault
         → writer.new ≡ writer.old) }
 {
@@ -113,7 +124,7 @@ pub fn run_print<R: TextReader, W: TextWriter>(
         Ok(octets) => octets,
         Err(fault) => return Err(PrintFault::Text(fault)),
     };
-    let text = match text_about(alloc, print, octets.as_slice()) {
+    let text = match text_about(alloc, print, octets.as_slice(), lookout) {
         Ok(text) => text,
         Err(fault) => return Err(fault),
     };

@@ -13,7 +13,7 @@ ghost use Rattle.sheets_program.specs.Endings.{IsOutOfMemory, IsToldEnd};
 ghost use Rattle.sheets_program.specs.Runs.{IsCheckEnd, IsShareEnd};
 ghost use Rattle.ftpd_program.specs.Causes.{AreCommandOpened, AreScriptOpened, IsCommandWhy, IsReadWhy, IsScriptWhy};
 ghost use Rattle.ftpd_program.specs.Endings.{IsCommon, IsUnwritten};
-ghost use Rattle.ftpd_program.specs.Runs.{IsCommandEnd, IsPlanEnd, IsPrintEnd, IsScriptEnd, plan_print};
+ghost use Rattle.ftpd_program.specs.Runs.{IsCommandEnd, IsPlanEnd, IsPrintEnd, IsReportEnd, IsScriptEnd, plan_print, report_print};
 ghost use Rattle.ftpd_program.specs.Serving.{IsServeEnd};
 
 use super::ending::FtpdExit;
@@ -22,6 +22,7 @@ use super::scripting::{ScriptFault, run_script};
 use super::server::Server;
 use super::serving::serve;
 use command_line::{Words, read_words};
+use config_report::Lookout;
 use sheets_program::{
     Exit as Common, Opener, STANDARD_INPUT, is_input, run_sheet_words, tell, text_cause,
 };
@@ -32,15 +33,15 @@ const NO_TEXT_LEFT: &str =
     "error: standard input cannot be both the configuration and the control text\n";
 
 /// Prints a text about a configuration.
-fn print_text<'w, O: Opener, W: TextWriter>(
+fn print_text<'w, O: Opener + Lookout, W: TextWriter>(
     alloc: Global,
     print: Print<'_>,
     config: &'w str,
     files: &mut O,
     output: &mut W,
 ) -> FtpdExit<'w>
-    ensures end { IsPrintEnd print.entry (O.Gives files.old config.now) (W.may_refuse output.old)
-        (W.contents output.old) (W.contents output.new) result }
+    ensures end { IsPrintEnd print.entry (O.Shows files.new) (O.Gives files.old config.now)
+        (W.may_refuse output.old) (W.contents output.old) (W.contents output.new) result }
     ensures why { IsReadWhy config.now
         (O.MayRefuse files.old config.now ⊎ O.MayFail files.old config.now) result }
     ensures opened { O.Opens files.old config.now files.new }
@@ -53,7 +54,7 @@ fn print_text<'w, O: Opener, W: TextWriter>(
             return FtpdExit::Common(Common::Text(TextFault::ReadFault, cause));
         }
     };
-    match run_print(alloc, print, &mut file, output) {
+    match run_print(alloc, print, &mut file, output, &*files) {
         Ok(()) => FtpdExit::Common(Common::Done),
         Err(PrintFault::Config(fault)) => FtpdExit::Config(fault),
         Err(PrintFault::Transfers { name, told }) => FtpdExit::Transfers { name, told },
@@ -61,6 +62,17 @@ fn print_text<'w, O: Opener, W: TextWriter>(
             let cause = text_cause(fault, config, O::reason(&file));
             FtpdExit::Common(Common::Text(fault, cause))
         }
+    }
+}
+
+/// The report on the configuration of the file of a path, as JSON or in lines.
+fn report_print(path: &str, json: bool) -> Print<'_>
+    ensures print { result ≡ report_print json path.entry }
+{
+    if json {
+        Print::ReportJson(path)
+    } else {
+        Print::Report(path)
     }
 }
 
@@ -118,15 +130,15 @@ fn script<'w, O: Opener, W: TextWriter>(
     }
 }
 
-fn run_command<'w, O: Opener, W: TextWriter, V: Server<W>>(
+fn run_command<'w, O: Opener + Lookout, W: TextWriter, V: Server<W>>(
     alloc: Global,
     words: Words<'w>,
     files: &mut O,
     server: &mut V,
     output: &mut W,
 ) -> FtpdExit<'w>
-    ensures end { IsCommandEnd (O.Gives files.old) V.Serves (W.may_refuse output.old) words.entry
-        (W.contents output.old) (W.contents output.new) result }
+    ensures end { IsCommandEnd (O.Gives files.old) (O.Shows files.new) V.Serves
+        (W.may_refuse output.old) words.entry (W.contents output.old) (W.contents output.new) result }
     ensures why { IsCommandWhy (O.Gives files.old) (O.MayRefuse files.old)
         (O.MayFail files.old) (W.may_refuse output.old)
         (MayBreakWriting W.contents W.may_refuse output.old) words.entry result }
@@ -136,7 +148,9 @@ fn run_command<'w, O: Opener, W: TextWriter, V: Server<W>>(
 {
     match words {
         Words::Sheet(words) => FtpdExit::Common(run_sheet_words(alloc, words, files, output)),
-        Words::CheckConfig { config } => { print_text(alloc, Print::Report, config, files, output) }
+        Words::CheckConfig { config, json } => {
+            print_text(alloc, report_print(config, json), config, files, output)
+        }
         Words::Migrate { config } => print_text(alloc, Print::Latest, config, files, output),
         Words::Script { config } => script(alloc, config, files, output),
         Words::Plan {
@@ -155,7 +169,7 @@ fn run_command<'w, O: Opener, W: TextWriter, V: Server<W>>(
 /// Runs the command of the words, which do not include the program's name. Nothing is written to the output if the
 /// words are refused, nor before a fault other than that of the output; but a session that broke off may have written
 /// some replies, and a server that ended early its messages.
-pub fn run_words<'w, O: Opener, W: TextWriter, V: Server<W>>(
+pub fn run_words<'w, O: Opener + Lookout, W: TextWriter, V: Server<W>>(
     alloc: Global,
     words: &'w [&'w str],
     files: &mut O,
@@ -172,48 +186,52 @@ pub fn run_words<'w, O: Opener, W: TextWriter, V: Server<W>>(
         (W.contents output.old) (W.contents output.new)) result }
     ensures check_config { (config : List ℕ) → IsPlainWord config
         → map (λ s. s.now) words.now ≡ codes "check-config" ∷ config ∷ []
-        → IsPrintEnd Print.Report (O.Gives files.old config) (W.may_refuse output.old)
-        (W.contents output.old) (W.contents output.new) result }
+        → IsReportEnd false (O.Shows files.new) (O.Gives files.old config) config
+        (W.may_refuse output.old) (W.contents output.old) (W.contents output.new) result }
+    ensures check_config_json { (config : List ℕ) → IsPlainWord config
+        → map (λ s. s.now) words.now ≡ codes "check-config" ∷ config ∷ codes "--json" ∷ []
+        → IsReportEnd true (O.Shows files.new) (O.Gives files.old config) config
+        (W.may_refuse output.old) (W.contents output.old) (W.contents output.new) result }
     ensures migrate { (config : List ℕ) → IsPlainWord config
         → map (λ s. s.now) words.now ≡ codes "migrate" ∷ config ∷ []
-        → IsPrintEnd Print.Latest (O.Gives files.old config) (W.may_refuse output.old)
-        (W.contents output.old) (W.contents output.new) result }
+        → IsPrintEnd Print.Latest (O.Shows files.new) (O.Gives files.old config)
+        (W.may_refuse output.old) (W.contents output.old) (W.contents output.new) result }
     ensures script { (config : List ℕ) → IsPlainWord config
         → map (λ s. s.now) words.now ≡ codes "script" ∷ config ∷ []
         → IsScriptEnd (O.Gives files.old) config
         (W.contents output.old) (W.contents output.new) result }
     ensures serve { (config : List ℕ) → IsPlainWord config
         → map (λ s. s.now) words.now ≡ codes "serve" ∷ config ∷ []
-        → IsServeEnd (O.Gives files.old config) V.Serves None None usual_patience
-        (W.contents output.old) (W.contents output.new) result }
+        → IsServeEnd (O.Gives files.old config) (O.Shows files.new) config V.Serves
+        None None usual_patience (W.contents output.old) (W.contents output.new) result }
     ensures serve_until { (config path : List ℕ) → IsPlainWord config → IsPlainWord path
         → map (λ s. s.now) words.now ≡ codes "serve" ∷ config ∷ codes "--stop-file" ∷ path ∷ []
-        → IsServeEnd (O.Gives files.old config) V.Serves (Some path) None usual_patience
-        (W.contents output.old) (W.contents output.new) result }
+        → IsServeEnd (O.Gives files.old config) (O.Shows files.new) config V.Serves
+        (Some path) None usual_patience (W.contents output.old) (W.contents output.new) result }
     ensures serve_ready { (config path ready : List ℕ) → IsPlainWord config → IsPlainWord path
         → IsPlainWord ready
         → map (λ s. s.now) words.now ≡ ready_words config path ready
-        → IsServeEnd (O.Gives files.old config) V.Serves (Some path) (Some ready) usual_patience
-        (W.contents output.old) (W.contents output.new) result }
+        → IsServeEnd (O.Gives files.old config) (O.Shows files.new) config V.Serves
+        (Some path) (Some ready) usual_patience (W.contents output.old) (W.contents output.new) result }
     ensures serve_timed { (config first second third : List ℕ) (p : Patience) → IsPlainWord config
         → IsSeconds first p.login_timeout → IsSeconds second p.idle_timeout
         → IsSeconds third p.login_delay
         → map (λ s. s.now) words.now ≡ timed_words config first second third
-        → IsServeEnd (O.Gives files.old config) V.Serves None None p
-        (W.contents output.old) (W.contents output.new) result }
+        → IsServeEnd (O.Gives files.old config) (O.Shows files.new) config V.Serves
+        None None p (W.contents output.old) (W.contents output.new) result }
     ensures plan { (config transfers : List ℕ) → IsPlainWord config → IsPlainWord transfers
         → map (λ s. s.now) words.now ≡ codes "plan" ∷ config ∷ transfers ∷ []
-        → IsPlanEnd false (O.Gives files.old config) transfers (W.may_refuse output.old)
-        (W.contents output.old) (W.contents output.new) result }
+        → IsPlanEnd false (O.Shows files.new) (O.Gives files.old config) transfers
+        (W.may_refuse output.old) (W.contents output.old) (W.contents output.new) result }
     ensures plan_json { (config transfers : List ℕ) → IsPlainWord config → IsPlainWord transfers
         → map (λ s. s.now) words.now ≡ codes "plan" ∷ config ∷ transfers ∷ codes "--json" ∷ []
-        → IsPlanEnd true (O.Gives files.old config) transfers (W.may_refuse output.old)
-        (W.contents output.old) (W.contents output.new) result }
+        → IsPlanEnd true (O.Shows files.new) (O.Gives files.old config) transfers
+        (W.may_refuse output.old) (W.contents output.old) (W.contents output.new) result }
     ensures command { IsTaken (map (λ s. s.now) words.now)
         → IsCommon IsOutOfMemory result ⊎ ((command : Words)
         × IsFound (subcommand_of ftpd (map (λ s. s.now) words.now)) command
-        × IsCommandEnd (O.Gives files.old) V.Serves (W.may_refuse output.old) command
-        (W.contents output.old) (W.contents output.new) result
+        × IsCommandEnd (O.Gives files.old) (O.Shows files.new) V.Serves (W.may_refuse output.old)
+        command (W.contents output.old) (W.contents output.new) result
         × IsCommandWhy (O.Gives files.old) (O.MayRefuse files.old)
         (O.MayFail files.old) (W.may_refuse output.old)
         (MayBreakWriting W.contents W.may_refuse output.old) command result

@@ -1,12 +1,12 @@
 //! The command that serves a control session by a configuration.
 
-ghost use Rattle.std.specs.Prelude.{◌≡◌, ◌<◌, true, IfErr, IfOk, IfSome, IsErrOf, OnOk, length};
+ghost use Rattle.std.specs.Prelude.{◌≡◌, ◌<◌, true, IfErr, IfOk, IfSome, IsErrOf, OnOk, length, string_bytes};
 ghost use Rattle.script_session.specs.Breaks.{MayBreakReading, MayBreakWriting};
 ghost use Rattle.script_session.specs.Served.{most_reads};
 ghost use Rattle.server_config.specs.Configs.{IsConfigText};
-ghost use Rattle.ftpd_program.specs.Scripting.{IsConfigOf, IsJudgement, IsNotBegun, IsScriptBreak, IsScripted, IsUnconfigured, IsUnscripted};
+ghost use Rattle.ftpd_program.specs.Scripting.{IsConfigOf, IsJudgement, IsNotBegun, IsScriptBreak, IsScripted, IsUnconfigured, IsUnscripted, IsWarned, IsWarnedOf};
 
-use config_report::warning_texts;
+use config_report::{Lookout, warning_texts};
 use script_session::{SessionFault, serve_config};
 use server_config::{Config, ConfigFault};
 use std::alloc::Global;
@@ -34,26 +34,27 @@ fn judged(alloc: Global, octets: &[u8]) -> Result<Config, ScriptFault>
     }
 }
 
-// The texts of a configuration's warnings, a line each; none if it is refused, or if memory runs out.
-fn warned(alloc: Global, octets: &[u8]) -> String {
-    match warning_texts(alloc, octets) {
-        Ok(texts) => texts,
-        Err(_) => String::new(alloc),
-    }
-}
-
-fn note_warnings(alloc: Global, octets: &[u8], warnings: Option<&mut String>) {
-    if let Some(told) = warnings {
-        *told = warned(alloc, octets);
-    }
-}
-
-/// Reads the configuration from a reader, and the texts of its warnings, a line each, if they are wanted.
-pub(crate) fn read_config<C: TextReader>(
+/// The configuration of a text, and the texts of its warnings, a line each.
+fn warned<L: Lookout>(
     alloc: Global,
-    reader: &mut C,
-    warnings: Option<&mut String>,
-) -> Result<Config, ScriptFault>
+    path: &str,
+    octets: &[u8],
+    lookout: &L,
+) -> Result<(Config, String), ScriptFault>
+    ensures warned { IfOk result (λ read.
+        IsWarned (L.Shows lookout.now) path.now octets.now read.0 (string_bytes read.1)) }
+    ensures refused { IfErr result (IsJudgement octets.now) }
+{
+    let config = judged(alloc, octets)?;
+    match warning_texts(alloc, path, octets, lookout) {
+        Ok(told) => Ok((config, told)),
+        Err(ConfigFault::Memory) => Err(ScriptFault::Text(TextFault::Memory)),
+        Err(refused) => Err(ScriptFault::Config(refused)),
+    }
+}
+
+/// Reads the configuration from a reader.
+fn read_config<C: TextReader>(alloc: Global, reader: &mut C) -> Result<Config, ScriptFault>
     ensures config { IfOk result (IsConfigOf (C.remaining reader.old)) }
     ensures refused { IfErr result (IsUnconfigured (C.remaining reader.old)) }
     ensures too_long { IsErrOf result (ScriptFault.Text TextFault.TooLong)
@@ -62,12 +63,30 @@ pub(crate) fn read_config<C: TextReader>(
         → C.may_fail reader.old ≡ true }
 {
     match read_whole(alloc, reader) {
-        Ok(octets) => {
-            let text = octets.as_slice();
-            note_warnings(alloc, text, warnings);
-            judged(alloc, text)
-        }
+        Ok(octets) => judged(alloc, octets.as_slice()),
         Err(fault) => Err(ScriptFault::Text(fault)),
+    }
+}
+
+/// Reads the configuration from a reader, and makes the texts of its warnings, a line each. Its file has that path, and
+/// the lookout looks at the machine.
+pub(crate) fn read_warned<C: TextReader, L: Lookout>(
+    alloc: Global,
+    path: &str,
+    reader: &mut C,
+    lookout: &L,
+) -> Result<(Config, String), ScriptFault>
+    ensures warned { IfOk result (λ read. IsWarnedOf (L.Shows lookout.now) path.now
+        (C.remaining reader.old) read.0 (string_bytes read.1)) }
+    ensures refused { IfErr result (IsUnconfigured (C.remaining reader.old)) }
+    ensures too_long { IsErrOf result (ScriptFault.Text TextFault.TooLong)
+        → IfSome (C.remaining reader.old) (λ text. MAX_TEXT < length text) }
+    ensures read_fault { IsErrOf result (ScriptFault.Text TextFault.ReadFault)
+        → C.may_fail reader.old ≡ true }
+{
+    match read_whole(alloc, reader) {
+        Ok(octets) => warned(alloc, path, octets.as_slice(), lookout),
+        Err(why) => Err(ScriptFault::Text(why)),
     }
 }
 
@@ -100,7 +119,7 @@ pub fn run_script<C: TextReader, R: TextReader, W: TextWriter>(
     ensures read_fault { IsErrOf result (ScriptFault.Text TextFault.ReadFault)
         → C.may_fail config.old ≡ true }
 {
-    let config = read_config(alloc, config, None)?;
+    let config = read_config(alloc, config)?;
     match serve_config(alloc, config, input, writer) {
         Ok(()) => Ok(()),
         Err(fault) => Err(ScriptFault::Session(fault)),

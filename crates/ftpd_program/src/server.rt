@@ -33,6 +33,12 @@ pub enum ServeFault {
     /// The ready file could not be made: it is there already, or the machine reports an error.
     #[error("ReadyFile")]
     ReadyFile,
+    /// The file of the transfer log cannot be opened.
+    #[error("TransferLog")]
+    TransferLog,
+    /// No form of notes has the name that is stated.
+    #[error("LogForm")]
+    LogForm,
 }
 
 impl From<AllocError> for ServeFault {
@@ -48,9 +54,9 @@ impl From<AllocError> for ServeFault {
 
 /// A server of clients. It writes a message to an output when it is ready, and the settled counts at its end.
 pub trait Server<W: TextWriter> {
-    /// The possible calls: the configuration, the stop file, the ready file, the patience, the contents of the output
-    /// before and after, and the result.
-    ghost Serves: { Service } = { λ _ _ _ _ _ _ _. Unit {0} };
+    /// The possible calls: the configuration, the texts of its warnings, the stop file, the ready file, the patience,
+    /// the contents of the output before and after, and the result.
+    ghost Serves: { Service } = { λ _ _ _ _ _ _ _ _. Unit {0} };
 
     /// Serves clients by a configuration, until it has had its number of sessions, or until a file exists at the path
     /// of the stop file. The ready file is made once clients may connect, and removed at the end. It waits for a client
@@ -64,7 +70,7 @@ pub trait Server<W: TextWriter> {
         patience: Patience,
         output: &mut W,
     ) -> Result<(), ServeFault>
-        ensures served { Serves config (option_map (λ w. w.now) files.entry.stop_file)
+        ensures served { Serves config warnings.now (option_map (λ w. w.now) files.entry.stop_file)
             (option_map (λ w. w.now) files.entry.ready_file) patience
             (W.contents output.old) (W.contents output.new) result };
 }

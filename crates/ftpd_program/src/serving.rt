@@ -1,28 +1,29 @@
 //! The command that serves clients by a configuration.
 
-ghost use Rattle.std.specs.Prelude.{◌≡◌, ◌⊎◌, IfErr, IfOk, option_map};
+ghost use Rattle.std.specs.Prelude.{◌≡◌, ◌⊎◌, IfErr, IfOk, option_map, string_bytes};
 ghost use Rattle.ftpd_program.specs.Endings.{IsUnwritten};
 ghost use Rattle.ftpd_program.specs.Causes.{IsReadWhy};
-ghost use Rattle.ftpd_program.specs.Serving.{IsConfigIn, IsServeEnd, IsUnconfiguredEnd, end_of};
+ghost use Rattle.ftpd_program.specs.Serving.{IsServeEnd, IsUnconfiguredEnd, IsWarnedIn, end_of};
 
 use crate::ending::FtpdExit;
-use crate::scripting::{ScriptFault, read_config};
+use crate::scripting::{ScriptFault, read_warned};
 use crate::server::{ServeFault, Server};
 use command_line::{Patience, ServeFiles};
+use config_report::Lookout;
 use server_config::Config;
 use sheets_program::{Exit as Common, Opener, text_cause};
 use std::alloc::Global;
 use text_io::{TextFault, TextWriter};
 
-/// Reads the configuration of a file, which is then closed, and the texts of its warnings. `Err` is the ending of the
-/// command without it.
-fn config_at<'w, O: Opener>(
+/// Reads the configuration of a file, which is then closed, and makes the texts of its warnings. `Err` is the ending of
+/// the command without it.
+fn config_at<'w, O: Opener + Lookout>(
     alloc: Global,
     path: &'w str,
     files: &mut O,
-    warnings: &mut String,
-) -> Result<Config, FtpdExit<'w>>
-    ensures config { IfOk result (IsConfigIn (O.Gives files.old path.now)) }
+) -> Result<(Config, String), FtpdExit<'w>>
+    ensures config { IfOk result (λ read. IsWarnedIn (O.Gives files.old path.now)
+        (O.Shows files.new) path.now read.0 (string_bytes read.1)) }
     ensures refused { IfErr result (IsUnconfiguredEnd (O.Gives files.old path.now)) }
     ensures why { IfErr result
         (IsReadWhy path.now (O.MayRefuse files.old path.now ⊎ O.MayFail files.old path.now)) }
@@ -35,8 +36,8 @@ fn config_at<'w, O: Opener>(
             return Err(FtpdExit::Common(Common::Text(TextFault::ReadFault, cause)));
         }
     };
-    match read_config(alloc, &mut file, Some(warnings)) {
-        Ok(config) => Ok(config),
+    match read_warned(alloc, path, &mut file, &*files) {
+        Ok(read) => Ok(read),
         Err(ScriptFault::Config(fault)) => Err(FtpdExit::Config(fault)),
         Err(ScriptFault::Session(fault)) => Err(FtpdExit::Session(fault)),
         Err(ScriptFault::Text(fault)) => {
@@ -55,8 +56,9 @@ fn ended<'w>(answer: Result<(), ServeFault>) -> FtpdExit<'w>
     }
 }
 
-/// Runs `serve`. The configuration is read whole and checked, and its file closed, before the server is called.
-pub(crate) fn serve<'w, O: Opener, W: TextWriter, V: Server<W>>(
+/// Runs `serve`. The configuration is read whole and checked, its warnings are made, and its file is closed, before the
+/// server is called.
+pub(crate) fn serve<'w, O: Opener + Lookout, W: TextWriter, V: Server<W>>(
     alloc: Global,
     config: &'w str,
     signs: ServeFiles<'_>,
@@ -65,7 +67,7 @@ pub(crate) fn serve<'w, O: Opener, W: TextWriter, V: Server<W>>(
     server: &mut V,
     output: &mut W,
 ) -> FtpdExit<'w>
-    ensures end { IsServeEnd (O.Gives files.old config.now) V.Serves
+    ensures end { IsServeEnd (O.Gives files.old config.now) (O.Shows files.new) config.now V.Serves
         (option_map (λ w. w.now) signs.entry.stop_file)
         (option_map (λ w. w.now) signs.entry.ready_file) patience
         (W.contents output.old) (W.contents output.new) result }
@@ -74,9 +76,8 @@ pub(crate) fn serve<'w, O: Opener, W: TextWriter, V: Server<W>>(
     ensures opened { O.Opens files.old config.now files.new }
     ensures unwritten { IsUnwritten result → output.new ≡ output.old }
 {
-    let mut warnings = String::new(alloc);
-    match config_at(alloc, config, files, &mut warnings) {
-        Ok(config) => {
+    match config_at(alloc, config, files) {
+        Ok((config, warnings)) => {
             let told = warnings.as_str();
             ended(server.serve(alloc, config, told, signs, patience, output))
         }

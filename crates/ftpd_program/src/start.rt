@@ -18,6 +18,10 @@ pub enum StartFault {
     ReadyFileThere { path: String },
     /// The ready file of this path could not be made (`ReadyFile`).
     ReadyFileUnmade { path: String, reason: io::Error },
+    /// The transfer log of this path cannot be opened (`TransferLog`).
+    TransferLogUnopened { path: String, reason: io::Error },
+    /// No form of notes has this name (`LogForm`).
+    UnknownForm { word: String },
 }
 
 impl fmt::Display for StartFault {
@@ -38,6 +42,12 @@ impl fmt::Display for StartFault {
             }
             StartFault::ReadyFileUnmade { path, reason } => {
                 write!(f, "the ready file {path} could not be made: {reason}")
+            }
+            StartFault::TransferLogUnopened { path, reason } => {
+                write!(f, "the transfer log {path} could not be opened: {reason}")
+            }
+            StartFault::UnknownForm { word } => {
+                write!(f, "{word:?} is no form of notes: plain and journal are")
             }
         }
     }

@@ -7,6 +7,12 @@ use command_line::{SheetWords, WordsFault};
 use ftpd_program::{Print, STANDARD_INPUT, run_print, run_script};
 use sheets_program::{ErrorText, Exit, as_words, run_sheet_words, tell};
 
+/// One empty file.
+const NO_FILES: Files<'static> = Files {
+    file: Given::Whole(""),
+    input: None,
+};
+
 #[test]
 fn grants_are_checked(rt: HostRuntime) {
     let mut output = Vec::new(rt.alloc());
@@ -58,12 +64,27 @@ fn a_configuration_is_reported(rt: HostRuntime) {
     let mut output = Vec::new(rt.alloc());
     let reported = run_print(
         rt.alloc(),
-        Print::Report,
+        Print::Report("file"),
         &mut SMALL.as_bytes(),
         &mut output,
+        &NO_FILES,
     );
     holds(&rt, reported.is_ok());
     holds(&rt, output.starts_with(b"listens on 127.0.0.1:2121\n"));
+}
+
+#[test]
+fn a_configuration_is_reported_as_json(rt: HostRuntime) {
+    let mut output = Vec::new(rt.alloc());
+    let reported = run_print(
+        rt.alloc(),
+        Print::ReportJson("file"),
+        &mut SMALL.as_bytes(),
+        &mut output,
+        &NO_FILES,
+    );
+    holds(&rt, reported.is_ok());
+    holds(&rt, output.starts_with(b"{\"config_version\":"));
 }
 
 #[test]
@@ -74,6 +95,7 @@ fn a_configuration_is_migrated(rt: HostRuntime) {
         Print::Latest,
         &mut SMALL.as_bytes(),
         &mut output,
+        &NO_FILES,
     );
     holds(&rt, migrated.is_ok());
     same(&rt, &output, MIGRATED);

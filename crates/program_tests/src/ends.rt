@@ -1,9 +1,10 @@
 //! Ends that read and write octets in pieces, and that fail midway.
 
-use ftpd_program::{Opener, STANDARD_INPUT};
+use ftpd_program::{Lookout, Opener, STANDARD_INPUT, Sight};
 use std::io;
 use std::io::{ErrorKind, Read, Write};
 use text_io::FallibleIo;
+use virtual_path::VPath;
 
 /// The way in which an end returns its text.
 #[derive(Clone, Copy)]
@@ -88,6 +89,21 @@ impl<'t> Opener for Files<'t> {
     }
 
     fn reason(_end: &FallibleIo<GivenReader<'t>>) -> Option<io::Error> {
+        None
+    }
+}
+
+/// Nothing is to be warned of.
+impl Lookout for Files<'_> {
+    fn folder(&self, _path: &str) -> Sight {
+        Sight::Listed
+    }
+
+    fn has_home(&self, _root: &str, _home: &VPath) -> bool {
+        true
+    }
+
+    fn mode(&self, _path: &str) -> Option<u32> {
         None
     }
 }

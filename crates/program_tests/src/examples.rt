@@ -3,9 +3,10 @@
 use crate::expect::holds;
 use crate::servers::Noting;
 use crate::texts::SMALL;
-use ftpd_program::run_words;
+use ftpd_program::{Lookout, Sight, run_words};
 use sheets_program::{Opener, run_sheets};
 use std::io;
+use virtual_path::VPath;
 
 /// One text, for each path.
 #[derive(Clone, Copy)]
@@ -19,6 +20,20 @@ impl Opener for Text {
     }
 
     fn reason(_end: &&'static [u8]) -> Option<io::Error> {
+        None
+    }
+}
+
+impl Lookout for Text {
+    fn folder(&self, _path: &str) -> Sight {
+        Sight::Listed
+    }
+
+    fn has_home(&self, _root: &str, _home: &VPath) -> bool {
+        true
+    }
+
+    fn mode(&self, _path: &str) -> Option<u32> {
         None
     }
 }

@@ -23,6 +23,10 @@ pub(crate) struct Noting {
     stop_file: Option<String>,
     /// The last ready file.
     ready_file: Option<String>,
+    /// The last transfer log.
+    transfer_log: Option<String>,
+    /// The last form of notes.
+    log_form: Option<String>,
     /// The last patience.
     patience: Option<Patience>,
     /// The last configuration had warnings.
@@ -37,6 +41,8 @@ impl Noting {
             port: 0,
             stop_file: None,
             ready_file: None,
+            transfer_log: None,
+            log_form: None,
             patience: None,
             is_warned: false,
             fault: None,
@@ -67,6 +73,8 @@ impl<W: TextWriter> Server<W> for Noting {
         self.port = config.numbers.port;
         self.stop_file = copied(alloc, files.stop_file);
         self.ready_file = copied(alloc, files.ready_file);
+        self.transfer_log = copied(alloc, files.transfer_log);
+        self.log_form = copied(alloc, files.log_form);
         self.patience = Some(patience);
         if output.write_text(b"ready\n").is_err() {
             return Err(ServeFault::WriteFault);
@@ -151,8 +159,26 @@ fn a_server_is_given_its_files(rt: HostRuntime) {
     is_path(&rt, &server.ready_file, "ready");
 }
 
+#[test]
+fn a_server_is_given_its_log(rt: HostRuntime) {
+    let mut output = Vec::new(rt.alloc());
+    let mut server = Noting::new();
+    let words = [
+        "serve",
+        "file",
+        "--transfer-log",
+        "xferlog",
+        "--log-form",
+        "journal",
+    ];
+    let ending = served(&rt, &words, SMALL, &mut server, &mut output);
+    holds(&rt, ending.status() == 0);
+    is_path(&rt, &server.transfer_log, "xferlog");
+    is_path(&rt, &server.log_form, "journal");
+}
+
 /// Faults of a server, and their names.
-static FAULTS: [(ServeFault, &str); 7] = [
+static FAULTS: [(ServeFault, &str); 9] = [
     (ServeFault::Bind, "ftpd: Bind\n"),
     (ServeFault::NoThread, "ftpd: NoThread\n"),
     (ServeFault::WriteFault, "ftpd: WriteFault\n"),
@@ -160,6 +186,8 @@ static FAULTS: [(ServeFault, &str); 7] = [
     (ServeFault::Memory, "ftpd: Memory\n"),
     (ServeFault::Stopped, "ftpd: Stopped\n"),
     (ServeFault::ReadyFile, "ftpd: ReadyFile\n"),
+    (ServeFault::TransferLog, "ftpd: TransferLog\n"),
+    (ServeFault::LogForm, "ftpd: LogForm\n"),
 ];
 
 #[test]
@@ -261,6 +289,29 @@ fn ready_files_are_explained(rt: HostRuntime) {
         ServeFault::ReadyFile,
         &unmade,
         "the ready file /gone/ready could not be made: No such file or directory (os error 2)\nftpd: ReadyFile\n",
+    );
+}
+
+#[test]
+fn faults_of_the_log_are_explained(rt: HostRuntime) {
+    let unopened = StartFault::TransferLogUnopened {
+        path: text(&rt, "/gone/xferlog"),
+        reason: io::Error::from_raw_os_error(2),
+    };
+    starts_not(
+        &rt,
+        ServeFault::TransferLog,
+        &unopened,
+        "the transfer log /gone/xferlog could not be opened: No such file or directory (os error 2)\nftpd: TransferLog\n",
+    );
+    let unknown = StartFault::UnknownForm {
+        word: text(&rt, "xml"),
+    };
+    starts_not(
+        &rt,
+        ServeFault::LogForm,
+        &unknown,
+        "\"xml\" is no form of notes: plain and journal are\nftpd: LogForm\n",
     );
 }
 

@@ -9,7 +9,17 @@ fn words_on_a_configuration(rt: HostRuntime) {
     let config = "office.toml";
     let words = ["check-config", config];
     let command = read_words(rt.alloc(), &words).expect(&rt, "a command");
-    holds(&rt, command == Words::CheckConfig { config });
+    holds(
+        &rt,
+        command
+            == Words::CheckConfig {
+                config,
+                json: false,
+            },
+    );
+    let words = ["check-config", config, "--json"];
+    let command = read_words(rt.alloc(), &words).expect(&rt, "a command");
+    holds(&rt, command == Words::CheckConfig { config, json: true });
     let words = ["migrate", config];
     let command = read_words(rt.alloc(), &words).expect(&rt, "a command");
     holds(&rt, command == Words::Migrate { config });
@@ -22,6 +32,8 @@ fn words_on_a_configuration(rt: HostRuntime) {
 const NO_FILES: ServeFiles<'static> = ServeFiles {
     stop_file: None,
     ready_file: None,
+    transfer_log: None,
+    log_form: None,
 };
 
 /// Checks that these words are those of `serve` for `office.toml`, with those files and that patience.
@@ -52,7 +64,7 @@ fn words_on_a_server(rt: HostRuntime) {
     serves(&rt, &["serve", config], NO_FILES, usual);
     let stopped = ServeFiles {
         stop_file: Some("/run/ftpd.stop"),
-        ready_file: None,
+        ..NO_FILES
     };
     for words in [
         ["serve", config, "--stop-file", "/run/ftpd.stop"],
@@ -63,11 +75,36 @@ fn words_on_a_server(rt: HostRuntime) {
     let words = ["serve", "--stop-file=/run/ftpd.stop", config];
     serves(&rt, &words, stopped, usual);
     let ready = ServeFiles {
-        stop_file: None,
         ready_file: Some("/run/ftpd.ready"),
+        ..NO_FILES
     };
     let words = ["serve", config, "--ready-file", "/run/ftpd.ready"];
     serves(&rt, &words, ready, usual);
+    let logged = ServeFiles {
+        transfer_log: Some("xferlog"),
+        log_form: Some("journal"),
+        ..NO_FILES
+    };
+    for words in [
+        [
+            "serve",
+            config,
+            "--transfer-log",
+            "xferlog",
+            "--log-form",
+            "journal",
+        ],
+        [
+            "serve",
+            "--log-form",
+            "journal",
+            "--transfer-log",
+            "xferlog",
+            config,
+        ],
+    ] {
+        serves(&rt, &words, logged, usual);
+    }
 }
 
 // Words that ask for a plan of one transfer, in lines or as JSON.

@@ -19,5 +19,8 @@ pub use descriptors::descriptors_for;
 pub use ending::{ServerShutdown, ShutdownStage, stages_stay_begun};
 pub use house::{House, copy_settings};
 pub use lane::LaneSign;
-pub use server_hooks::{NotServed, ServerEvent, ServerHooks, SessionEvent};
+pub use server_hooks::{
+    NotServed, ServerEvent, ServerHooks, SessionEvent, SessionRefusal, StoreNote, TransferKind,
+    TransferRecord,
+};
 pub use ticket::{LaneEnds, SessionEnd, SessionJob, SessionTicket};

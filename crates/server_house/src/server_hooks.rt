@@ -4,6 +4,7 @@ use crate::cause::EndCause;
 use client_patience::TimeOut;
 use handler_hooks::Hooks;
 use passive_ports::AdmitFault;
+use recorded_store::StoreRecord;
 use std::io;
 
 /// The reason for which a client is not served.
@@ -15,15 +16,26 @@ pub enum NotServed {
     NoThread,
 }
 
-/// An event of a session of which its control session knows nothing.
+/// The reason for which a session refuses its user, or more lines.
+#[derive(Clone, Copy, Debug, PartialEq, Eq)]
+pub enum SessionRefusal {
+    /// The last password that it takes was wrong.
+    TooManyLogins,
+    /// The guaranteed rate of the user does not fit.
+    NoGuarantee,
+    /// Too many lines were held while a transfer ran.
+    TooManyHeldLines,
+}
+
+/// An event of a session for which its handler has no callback.
 #[derive(Clone, Copy)]
 pub enum SessionEvent {
+    /// The client was refused, with 421.
+    Refused(SessionRefusal),
     /// No passive port could be listened on; the error is that of the last port tried.
     NoPort(io::Error),
     /// The session ends, since its client has passed a limit of time.
     TimedOut(TimeOut),
-    /// The running transfer was cut by the end of its session.
-    Cut(EndCause),
 }
 
 /// An event of the whole server.
@@ -35,6 +47,55 @@ pub enum ServerEvent {
     NotAccepted(io::Error),
     /// Fewer files may be open (the first number) than all clients together may need (the second).
     FewDescriptors(u64, u64),
+}
+
+/// The kind of a transfer.
+#[derive(Clone, Copy, Debug, PartialEq, Eq)]
+pub enum TransferKind {
+    /// A file was sent to the client.
+    Sent,
+    /// A file was received from the client.
+    Received,
+    /// A listing was sent to the client.
+    Listed,
+}
+
+/// A transfer that began and has ended, whoever ended it.
+#[derive(Clone, Copy)]
+pub struct TransferRecord<'a> {
+    /// The address of the session's client.
+    pub peer: [u8; 4],
+    /// The number of the session.
+    pub session: usize,
+    /// The user who was logged in when it began.
+    pub user: &'a str,
+    pub kind: TransferKind,
+    /// The path of the file below the root of the store; none for a listing, or if there was no memory for it.
+    pub path: Option<&'a str>,
+    /// Its type is that of texts (TYPE A).
+    pub is_text: bool,
+    /// The octets that were moved.
+    pub octets: u64,
+    /// The time from its beginning to its end, in microseconds.
+    pub micros: u64,
+    /// The reason for which it did not come to its end; none if it did.
+    pub cause: Option<EndCause>,
+    /// The machine's error for which the file could not be read or written, if that is the reason and it is known.
+    pub error: Option<io::Error>,
+}
+
+/// A change that a session has made in its store, or a fault of the store.
+#[derive(Clone, Copy)]
+pub struct StoreNote<'a> {
+    /// The address of the session's client.
+    pub peer: [u8; 4],
+    /// The number of the session.
+    pub session: usize,
+    /// The user who is logged in.
+    pub user: &'a str,
+    pub record: &'a StoreRecord,
+    /// The machine's error for a fault, if it is known.
+    pub error: Option<io::Error>,
 }
 
 /// Tells the handler of the server's owner whose session the calls of [`Hooks`] are about, and what happened to the
@@ -52,4 +113,10 @@ pub trait ServerHooks: Hooks {
 
     /// An event of the server.
     fn on_server(&mut self, event: ServerEvent);
+
+    /// A transfer has ended. It is called also if its session is gone, and about no session that is attended.
+    fn on_transfer(&mut self, record: &TransferRecord<'_>);
+
+    /// A session has changed its store, or its store has a fault.
+    fn on_store(&mut self, note: &StoreNote<'_>);
 }

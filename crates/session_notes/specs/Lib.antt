@@ -1,2 +1,5 @@
+pub mod Levels
 pub mod Moments
+pub mod Stores
+pub mod Transfers
 pub mod Words

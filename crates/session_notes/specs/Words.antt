@@ -10,10 +10,11 @@ use Rattle.server_house.specs.declared.server_hooks.NotServed.TheVariants.{NotAd
 use Rattle.server_house.specs.declared.server_hooks.ServerEvent.{ServerEvent}
 use Rattle.server_house.specs.declared.server_hooks.ServerEvent.TheVariants.{NotBound, NotAccepted, FewDescriptors}
 use Rattle.server_house.specs.declared.server_hooks.SessionEvent.{SessionEvent}
-use Rattle.server_house.specs.declared.server_hooks.SessionEvent.TheVariants.{NoPort, TimedOut, Cut}
+use Rattle.server_house.specs.declared.server_hooks.SessionEvent.TheVariants.{Refused, NoPort, TimedOut}
+use Rattle.server_house.specs.declared.server_hooks.SessionRefusal.TheVariants.{TooManyLogins, NoGuarantee, TooManyHeldLines}
 use Rattle.client_patience.specs.declared.waits.TimeOut.TheVariants as time
 use Rattle.session_notes.specs.declared.words.Noted.{Noted}
-use Rattle.session_notes.specs.declared.words.Noted.TheVariants.{Connect, Disconnect, Login, LoginFailed, Logout, Sent, Received, NotSent, NotReceived}
+use Rattle.session_notes.specs.declared.words.Noted.TheVariants.{Connect, Disconnect, Login, LoginFailed, Logout}
 use Rattle.session_notes.specs.declared.words.NoteText.{NoteText}
 
 abbrev pub event_words : Noted → List ℕ
@@ -22,10 +23,6 @@ event_words Disconnect = codes "disconnect"
 event_words Login = codes "login"
 event_words LoginFailed = codes "login failed"
 event_words Logout = codes "logout"
-event_words Sent = codes "sent"
-event_words Received = codes "received"
-event_words NotSent = codes "not sent whole"
-event_words NotReceived = codes "not received whole"
 
 -- the words, and after a blank the name, if there is one, in quotation marks and escaped
 abbrev pub words_with : List ℕ → Option (Bor (List ℕ)) → Option (List ℕ)
@@ -53,10 +50,12 @@ cause_words ControlLost = codes "the control connection was lost"
 cause_words ServerEnds = codes "the server ends"
 
 abbrev pub session_words : SessionEvent → List ℕ
+session_words (Refused TooManyLogins) = codes "refused: too many login attempts"
+session_words (Refused NoGuarantee) = codes "refused: the guaranteed rate is not available"
+session_words (Refused TooManyHeldLines) = codes "refused: too many held lines"
 session_words (NoPort error) = codes "no passive port"
 session_words (TimedOut time.Login) = codes "timed out without a login"
 session_words (TimedOut time.Idle) = codes "timed out without a sign of life"
-session_words (Cut cause) = codes "transfer cut"
 
 abbrev pub server_words : ServerEvent → List ℕ
 server_words (NotBound address port error) = codes "cannot listen on"

@@ -1,69 +1,74 @@
 //! A handler that writes a note of each event.
 
-use crate::moment::second_of;
+use crate::levels::{level_of_cause, level_of_event, level_of_session};
+use crate::moment::{second_of, seconds_of};
+use crate::stamp::Stamp;
+use crate::stores::{ChangeText, level_of_record, path_in, path_to, record_words};
+use crate::transfers::{TransferText, file_transfer};
 use crate::words::{CauseText, NoteText, Noted, ServerText, SessionText, refusal_words};
 use handler_hooks::Hooks;
-use log::{Log, info, warn};
-use server_house::{EndCause, NotServed, ServerEvent, ServerHooks, SessionEvent};
+use line_queue::LogForm;
+use log::{Level, Log, log};
+use server_house::{
+    EndCause, NotServed, ServerEvent, ServerHooks, SessionEvent, StoreNote, TransferRecord,
+};
 use std::net::Ipv4Addr;
 use std::time::Clock;
+use transfer_log::FileTransfer;
 
-/// Writes each event with its time, in UTC, with the peer's address and the number of the session.
+/// A log of files that were sent or received.
+pub trait TransferLog {
+    /// Appends a transfer that has ended.
+    fn append(&self, transfer: &FileTransfer<'_>);
+}
+
+/// Writes each event with its time, in UTC, with the peer's address and the number of the session. Refusals and
+/// faults are warnings.
 #[derive(Drop)]
-pub struct Notes<L> {
+pub struct Notes<L, T> {
     log: L,
+    transfers: T,
+    form: LogForm,
     // the peer of the session that the next events are about
     peer: [u8; 4],
     session: usize,
-    // the reason for the incomplete file that these events report, if they report one
-    cause: Option<EndCause>,
 }
 
-impl<L: Log + Clock> Notes<L> {
-    /// Notes written to this log.
-    pub fn new(log: L) -> Notes<L> {
+impl<L: Log + Clock, T: TransferLog> Notes<L, T> {
+    /// Notes written to this log, whose lines have this form; files that were sent or received go to the transfer log
+    /// too.
+    pub fn new(log: L, form: LogForm, transfers: T) -> Notes<L, T> {
         Notes {
             log,
+            transfers,
+            form,
             peer: [0; 4],
             session: 0,
-            cause: None,
         }
+    }
+
+    fn stamp(&self) -> Stamp {
+        Stamp::new(self.form, second_of(self.log.since_1970()))
     }
 
     /// Notes the warnings of a configuration, which are the lines of a text.
     pub fn note_warnings(&self, texts: &str) {
         for line in texts.lines() {
-            let time = second_of(self.log.since_1970());
-            warn!(self.log; target: "", "{time} configuration: {line}");
+            let stamp = self.stamp();
+            log!(self.log; target: "", Level::Warn, "{stamp}configuration: {line}");
         }
     }
 
     fn note(&self, event: Noted, name: Option<&str>) {
-        let time = second_of(self.log.since_1970());
+        let stamp = self.stamp();
         let peer = Ipv4Addr::from(self.peer);
         let session = self.session;
         let text = NoteText { event, name };
-        info!(self.log; target: "", "{time} {peer} #{session} {text}");
-    }
-
-    // An incomplete file, with the reason if it is known.
-    fn note_incomplete(&self, event: Noted, path: &str) {
-        match self.cause {
-            None => self.note(event, Some(path)),
-            Some(cause) => {
-                let time = second_of(self.log.since_1970());
-                let peer = Ipv4Addr::from(self.peer);
-                let session = self.session;
-                let name = Some(path);
-                let text = NoteText { event, name };
-                let cause = CauseText(cause);
-                info!(self.log; target: "", "{time} {peer} #{session} {text}: {cause}");
-            }
-        }
+        log!(self.log; target: "", level_of_event(event), "{stamp}{peer} #{session} {text}");
     }
 }
 
-impl<L: Log + Clock + Drop> Hooks for Notes<L> {
+impl<L: Log + Clock + Drop, T: TransferLog + Drop> Hooks for Notes<L, T> {
     ghost use Rattle.std.specs.Prelude.{⊤};
 
     ghost Told = { λ _ _ _. ⊤ };
@@ -88,48 +93,82 @@ impl<L: Log + Clock + Drop> Hooks for Notes<L> {
         self.note(Noted::Logout, Some(user));
     }
 
-    fn on_file_sent(&mut self, path: &str) {
-        self.note(Noted::Sent, Some(path));
-    }
+    // The record of a transfer has more (`on_transfer`).
+    fn on_file_sent(&mut self, _path: &str) {}
 
-    fn on_file_received(&mut self, path: &str) {
-        self.note(Noted::Received, Some(path));
-    }
+    fn on_file_received(&mut self, _path: &str) {}
 
-    fn on_incomplete_file_sent(&mut self, path: &str) {
-        self.note_incomplete(Noted::NotSent, path);
-    }
+    fn on_incomplete_file_sent(&mut self, _path: &str) {}
 
-    fn on_incomplete_file_received(&mut self, path: &str) {
-        self.note_incomplete(Noted::NotReceived, path);
-    }
+    fn on_incomplete_file_received(&mut self, _path: &str) {}
 }
 
-impl<L: Log + Clock + Drop> ServerHooks for Notes<L> {
-    fn attend(&mut self, peer: [u8; 4], session: usize, cause: Option<EndCause>) {
+impl<L: Log + Clock + Drop, T: TransferLog + Drop> ServerHooks for Notes<L, T> {
+    fn attend(&mut self, peer: [u8; 4], session: usize, _cause: Option<EndCause>) {
         self.peer = peer;
         self.session = session;
-        self.cause = cause;
     }
 
     fn on_session(&mut self, event: SessionEvent) {
-        let time = second_of(self.log.since_1970());
+        let stamp = self.stamp();
         let peer = Ipv4Addr::from(self.peer);
         let session = self.session;
+        let level = level_of_session(event);
         let text = SessionText(event);
-        info!(self.log; target: "", "{time} {peer} #{session} {text}");
+        log!(self.log; target: "", level, "{stamp}{peer} #{session} {text}");
     }
 
     fn on_refused(&mut self, peer: [u8; 4], why: NotServed) {
-        let time = second_of(self.log.since_1970());
+        let stamp = self.stamp();
         let peer = Ipv4Addr::from(peer);
         let why = refusal_words(why);
-        info!(self.log; target: "", "{time} {peer} refused: {why}");
+        log!(self.log; target: "", Level::Warn, "{stamp}{peer} refused: {why}");
     }
 
     fn on_server(&mut self, event: ServerEvent) {
-        let time = second_of(self.log.since_1970());
+        let stamp = self.stamp();
         let text = ServerText(event);
-        warn!(self.log; target: "", "{time} {text}");
+        log!(self.log; target: "", Level::Warn, "{stamp}{text}");
+    }
+
+    fn on_transfer(&mut self, record: &TransferRecord<'_>) {
+        let ended = seconds_of(self.log.since_1970());
+        if let Some(transfer) = file_transfer(record, ended) {
+            self.transfers.append(&transfer);
+        }
+        let stamp = self.stamp();
+        let peer = Ipv4Addr::from(record.peer);
+        let session = record.session;
+        let text = TransferText(*record);
+        match record.cause {
+            None => log!(self.log; target: "", Level::Info, "{stamp}{peer} #{session} {text}"),
+            Some(cause) => {
+                let level = level_of_cause(cause);
+                let cause = CauseText {
+                    cause,
+                    error: record.error,
+                };
+                log!(self.log; target: "", level, "{stamp}{peer} #{session} {text}: {cause}");
+            }
+        }
+    }
+
+    fn on_store(&mut self, note: &StoreNote<'_>) {
+        let stamp = self.stamp();
+        let peer = Ipv4Addr::from(note.peer);
+        let session = note.session;
+        let level = level_of_record(note.record);
+        let text = ChangeText {
+            words: record_words(note.record),
+            path: path_in(note.record),
+            to: path_to(note.record),
+            user: note.user,
+        };
+        match note.error {
+            None => log!(self.log; target: "", level, "{stamp}{peer} #{session} {text}"),
+            Some(error) => {
+                log!(self.log; target: "", level, "{stamp}{peer} #{session} {text}: {error}");
+            }
+        }
     }
 }

@@ -5,7 +5,7 @@ ghost use Rattle.session_notes.specs.Words.{cause_words, event_words, refusal_wo
 
 use client_patience::TimeOut;
 use passive_ports::AdmitFault;
-use server_house::{EndCause, NotServed, ServerEvent, SessionEvent};
+use server_house::{EndCause, NotServed, ServerEvent, SessionEvent, SessionRefusal};
 use std::io::ErrorKind;
 use std::net::{Ipv4Addr, SocketAddrV4};
 use std::{fmt, io};
@@ -18,10 +18,6 @@ pub(crate) enum Noted {
     Login,
     LoginFailed,
     Logout,
-    Sent,
-    Received,
-    NotSent,
-    NotReceived,
 }
 
 fn event_words(event: Noted) -> &'static str
@@ -33,10 +29,6 @@ fn event_words(event: Noted) -> &'static str
         Noted::Login => "login",
         Noted::LoginFailed => "login failed",
         Noted::Logout => "logout",
-        Noted::Sent => "sent",
-        Noted::Received => "received",
-        Noted::NotSent => "not sent whole",
-        Noted::NotReceived => "not received whole",
     }
 }
 
@@ -102,15 +94,19 @@ fn error_of(cause: EndCause) -> Option<io::Error> {
     }
 }
 
-/// A cause with the machine's error, if there is one. A time limit that passed without an octet is said in words, since
+/// A cause with the machine's error, if there is one: its own, or that of the file. A time limit that passed without an octet is said in words, since
 /// the machine calls it a resource that is temporarily unavailable.
 #[derive(Clone, Copy)]
-pub(crate) struct CauseText(pub EndCause);
+pub(crate) struct CauseText {
+    pub cause: EndCause,
+    /// The machine's error of the file.
+    pub error: Option<io::Error>,
+}
 
 impl fmt::Display for CauseText {
     fn fmt<W: fmt::Write>(&self, f: &mut fmt::Formatter<W>) -> fmt::Result {
-        f.write_str(cause_words(self.0))?;
-        match error_of(self.0) {
+        f.write_str(cause_words(self.cause))?;
+        match error_of(self.cause).or(self.error) {
             None => Ok(()),
             Some(error) => match error.kind() {
                 ErrorKind::WouldBlock | ErrorKind::TimedOut => f.write_str(
@@ -126,10 +122,14 @@ fn session_words(event: SessionEvent) -> &'static str
     ensures words { result.now ≡ session_words event }
 {
     match event {
+        SessionEvent::Refused(SessionRefusal::TooManyLogins) => "refused: too many login attempts",
+        SessionEvent::Refused(SessionRefusal::NoGuarantee) => {
+            "refused: the guaranteed rate is not available"
+        }
+        SessionEvent::Refused(SessionRefusal::TooManyHeldLines) => "refused: too many held lines",
         SessionEvent::NoPort(_) => "no passive port",
         SessionEvent::TimedOut(TimeOut::Login) => "timed out without a login",
         SessionEvent::TimedOut(TimeOut::Idle) => "timed out without a sign of life",
-        SessionEvent::Cut(_) => "transfer cut",
     }
 }
 
@@ -142,11 +142,7 @@ impl fmt::Display for SessionText {
         let words = session_words(self.0);
         match self.0 {
             SessionEvent::NoPort(error) => write!(f, "{words}: {error}"),
-            SessionEvent::TimedOut(_) => f.write_str(words),
-            SessionEvent::Cut(cause) => {
-                let cause = CauseText(cause);
-                write!(f, "{words}: {cause}")
-            }
+            SessionEvent::Refused(_) | SessionEvent::TimedOut(_) => f.write_str(words),
         }
     }
 }

@@ -1,3 +1,5 @@
 pub mod Cuts
+pub mod Records
+pub mod Refusals
 pub mod Texts
 pub mod Unsaid

@@ -1,16 +1,19 @@
 //! The host of a control session.
 
-ghost use Rattle.std.specs.Prelude.{◌≡◌, ◌<◌, IfNone, IfOk, IfSome, [], false, length, option_map, true, unwrap_or};
+ghost use Rattle.std.specs.Prelude.{◌≡◌, ◌<◌, IfErr, IfNone, IfOk, IfSome, OnErr, [], false, length, option_map, true, unwrap_or};
 ghost use Rattle.std.specs.declared.alloc.Global.{Global};
 ghost use Rattle.control_session.specs.Calls.{reads_within};
 ghost use Rattle.control_session.specs.Rows.{IsRow};
-ghost use Rattle.control_session.specs.Turns.{Stepped};
+ghost use Rattle.control_session.specs.Turns.{StepTried, Stepped};
+ghost use Rattle.control_session.specs.Sides.{event_in, given_of};
 ghost use Rattle.control_session.specs.Sides.Given.{Came};
 ghost use Rattle.rate_floors.specs.Promises.{HasNoSessions};
 ghost use Rattle.session_table.specs.Steps.{asks_floors};
 ghost use Rattle.session_table.specs.Views.{is_closed};
 ghost use Rattle.std.specs.FinMap as map;
 ghost use Rattle.socket_host.specs.Cuts.{cause_of_cut};
+ghost use Rattle.socket_host.specs.Records.{ends_file, ends_listing, is_end, is_text, job_kind};
+ghost use Rattle.socket_host.specs.Refusals.{refusal_of};
 ghost use Rattle.socket_host.specs.Texts.{is_without_port, time_out_reply};
 ghost use Rattle.socket_host.specs.Unsaid.{AnyCall};
 
@@ -20,19 +23,25 @@ use authorizer::Authorizer;
 use client_patience::{TimeOut, Waits};
 use control_session::{DataEvent, Host, Leaving, Piece, Session, close_by, end_by, step_by};
 use event_word::{has_passed, micros};
+use ftp_terms::DataType;
 use ftp_wire::HostPort;
 use handler_hooks::{Hooks, tell};
 use lent_parts::PartsName;
 use line_rates::Limits;
 use rate_floors::Floors;
-use server_house::{EndCause, House, ServerHooks, SessionEvent, ShutdownStage, copy_settings};
-use session_table::{Action, End, HookCall, Input, Job, Settings, Text};
+use recorded_store::{Recorder, StoreRecord};
+use server_house::{
+    EndCause, House, ServerHooks, SessionEvent, SessionRefusal, ShutdownStage, StoreNote,
+    TransferKind, TransferRecord, copy_settings,
+};
+use session_table::{Action, Answer, End, HookCall, Input, Job, Refusal, Settings, Text};
 use socket_side::SocketSide;
 use std::alloc::{AllocError, Global};
 use std::net::{Net, TcpListener, TcpStream};
 use std::sync::Wait;
 use std::time::{Clock, Duration};
 use std::{io, thread};
+use virtual_path::VPath;
 use virtual_tree::Store;
 
 /// The reply to a client whose session the server ends.
@@ -102,6 +111,86 @@ fn number_of(users: &Authorizer, name: &str) -> u32
     }
 }
 
+// Returns whether a call reports the end of a file's transfer.
+fn ends_file(call: &HookCall<Global>) -> bool
+    ensures ends { result ≡ ends_file call.now }
+{
+    match call {
+        HookCall::FileSent(_) | HookCall::IncompleteFileSent(_) => true,
+        HookCall::FileReceived(_) | HookCall::IncompleteFileReceived(_) => true,
+        _ => false,
+    }
+}
+
+// Returns whether a transfer has the type of texts.
+fn is_text<R, K>(job: &Job<Global, R, K>) -> bool
+    ensures text { result ≡ is_text job.now }
+{
+    match job {
+        Job::Text(_) => true,
+        Job::SendFile(_, data_type) | Job::TakeFile(_, data_type) => *data_type == DataType::Ascii,
+    }
+}
+
+// The kind of a transfer.
+fn kind_of<R, K>(job: &Job<Global, R, K>) -> TransferKind
+    ensures kind { result ≡ job_kind job.now }
+{
+    match job {
+        Job::Text(_) => TransferKind::Listed,
+        Job::SendFile(_, _) => TransferKind::Sent,
+        Job::TakeFile(_, _) => TransferKind::Received,
+    }
+}
+
+// Returns whether an event is the end of a transfer.
+fn is_end<K>(event: &Option<DataEvent<K>>) -> bool
+    ensures end { result ≡ is_end event.now }
+{
+    matches!(event, Some(DataEvent::Ended { .. }))
+}
+
+// Returns whether an event is the end of a listing, if the last transfer was of this kind.
+fn ends_listing<K>(event: &Option<DataEvent<K>>, kind: TransferKind) -> bool
+    ensures ends { result ≡ ends_listing event.now kind }
+{
+    match (event, kind) {
+        (Some(DataEvent::Ended { .. }), TransferKind::Listed) => true,
+        _ => false,
+    }
+}
+
+// The refusal of a reply that ends a session, if an action is such a reply.
+fn refusal_of<R, K>(action: &Action<Global, R, K>) -> Option<SessionRefusal>
+    ensures refusal { result ≡ refusal_of action.now }
+{
+    match action {
+        Action::Say(Answer::Refusal(Refusal::TooManyLogins)) => Some(SessionRefusal::TooManyLogins),
+        Action::Say(Answer::Refusal(Refusal::NoGuarantee)) => Some(SessionRefusal::NoGuarantee),
+        Action::Say(Answer::Refusal(Refusal::TooManyHeldLines)) => {
+            Some(SessionRefusal::TooManyHeldLines)
+        }
+        _ => None,
+    }
+}
+
+// A transfer that was begun, at `since` in microseconds.
+#[derive(Clone, Copy)]
+struct Begun {
+    since: u64,
+    kind: TransferKind,
+    // its type is that of texts
+    is_text: bool,
+}
+
+// A copy of a name; empty if memory runs out.
+fn copy_name(alloc: Global, name: &str) -> String {
+    match String::from_str(alloc, name) {
+        Ok(name) => name,
+        Err(_) => String::new(alloc),
+    }
+}
+
 /// The host of the session of one control connection. It cannot be dropped: its data side leaves its ticket.
 pub struct SocketHost<'h, R, S: Store<Global>, H: Hooks, B: PartsName> {
     rt: &'h R,
@@ -114,6 +203,12 @@ pub struct SocketHost<'h, R, S: Store<Global>, H: Hooks, B: PartsName> {
     // the number of the user who is logged in, by which rounds identify them
     user: u32,
     waits: Waits,
+    // the name of the user who was logged in last
+    name: String,
+    // the last transfer that was begun
+    begun: Begun,
+    // the path of the last file that was opened, if it is known
+    path: Option<VPath>,
     // the reply that comes next is to a wrong password
     is_wrong: bool,
     // lent to steps that need no floors
@@ -123,7 +218,7 @@ pub struct SocketHost<'h, R, S: Store<Global>, H: Hooks, B: PartsName> {
 impl<'h, R, S, H, B> SocketHost<'h, R, S, H, B>
 where
     R: Wait + Clock + Net<Listener = TcpListener, Stream = TcpStream> + AllocGlobal,
-    S: Store<Global>,
+    S: Store<Global> + Recorder,
     H: ServerHooks,
     B: PartsName,
 {
@@ -147,6 +242,13 @@ where
             key,
             user: 0,
             waits: Waits::new(micros(rt)),
+            name: String::new(rt.alloc()),
+            begun: Begun {
+                since: 0,
+                kind: TransferKind::Listed,
+                is_text: true,
+            },
+            path: None,
             is_wrong: false,
             no_floors,
         }
@@ -163,6 +265,9 @@ where
             key: _,
             user: _,
             waits: _,
+            name: _,
+            begun: _,
+            path: _,
             is_wrong: _,
             no_floors: _,
         } = self;
@@ -197,12 +302,120 @@ where
         match call {
             HookCall::Login(name) => {
                 self.user = number_of(&self.house.users, name.as_str());
+                self.name = copy_name(self.rt.alloc(), name.as_str());
                 self.waits.log_in();
             }
             HookCall::Logout(_) => self.waits.log_out(micros(self.rt)),
             HookCall::LoginFailed(_) => self.is_wrong = true,
             _ => {}
         }
+    }
+
+    // The path of the file of the last transfer, if it is one and is known.
+    fn last_path(&self) -> Option<&str> {
+        match (self.begun.kind, &self.path) {
+            (TransferKind::Listed, _) | (_, None) => None,
+            (_, Some(path)) => Some(path.text()),
+        }
+    }
+
+    // The record of the transfer whose end was reported last.
+    fn record(&self, cause: Option<EndCause>) -> TransferRecord<'_> {
+        TransferRecord {
+            peer: self.peer,
+            session: self.key,
+            user: self.name.as_str(),
+            kind: self.begun.kind,
+            path: self.last_path(),
+            is_text: self.begun.is_text,
+            octets: self.side.moved(),
+            micros: micros(self.rt).saturating_sub(self.begun.since),
+            cause,
+            error: match cause {
+                Some(EndCause::File) => self.store_error(),
+                _ => None,
+            },
+        }
+    }
+
+    // The last error of the machine in the session's store or files, if there was one since it was asked for.
+    fn store_error(&self) -> Option<io::Error> {
+        self.house.store_of(self.key).lock(self.rt).take_error()
+    }
+
+    // Reports the end of the last transfer that was begun.
+    fn report_end(&self, cause: Option<EndCause>) {
+        let record = self.record(cause);
+        self.house.handler.lock(self.rt).on_transfer(&record);
+    }
+
+    // Reports a change of the store, or a fault.
+    fn report_change(&self, record: &StoreRecord) {
+        let error = match record {
+            StoreRecord::Refused(_) => self.store_error(),
+            _ => None,
+        };
+        let note = StoreNote {
+            peer: self.peer,
+            session: self.key,
+            user: self.name.as_str(),
+            record,
+            error,
+        };
+        self.house.handler.lock(self.rt).on_store(&note);
+    }
+
+    // Follows a call of the store: the file that is opened, a change, or a fault.
+    fn follow_store(&mut self, record: Option<StoreRecord>) {
+        match record {
+            Some(StoreRecord::OpenedToRead(path)) => self.path = path,
+            Some(StoreRecord::OpenedToWrite(path)) => self.path = path,
+            Some(change) => self.report_change(&change),
+            None => {}
+        }
+    }
+
+    // Reports the refusals among the actions of a step.
+    fn report_refusals<T, K>(&mut self, actions: &[Action<Global, T, K>]) {
+        for action in actions {
+            if let Some(why) = refusal_of(action) {
+                self.report(SessionEvent::Refused(why));
+            }
+        }
+    }
+
+    // Makes a step of the session. Returns the record of its store too.
+    fn step_over(
+        &mut self,
+        users: &Authorizer,
+        session: &mut Session<Global>,
+        input: &mut Option<Input<Global, S::Sink>>,
+    ) -> (
+        Result<Vec<Action<Global, S::Source, S::Sink>>, Option<DataEvent<S::Sink>>>,
+        Option<StoreRecord>,
+    )
+        ensures row { IfSome input.old (λ input. IfOk result.0 (λ actions.
+            Stepped (IsRow S.Step users.now.users) AnyCall
+            self.old session.old (given_of input) session.new actions.items self.new)) }
+        ensures unchanged { OnErr result.0 (session.new ≡ session.old) }
+        ensures tried { IfSome input.old (λ input.
+            OnErr result.0 (StepTried {A = Global} (IsRow S.Step
+            users.now.users) AnyCall self.old session.old (given_of input) self.new)) }
+        ensures back { IfSome input.old (λ input. IfErr result.0 (λ back.
+            back ≡ event_in input)) }
+    {
+        let moment = millis_since_1970(self.rt);
+        if asks_floors(session, input) {
+            let mut floors = self.house.floors.lock(self.rt);
+            let mut store = self.house.store_of(self.key).lock(self.rt);
+            let made = step_by(session, users, &mut *floors, &mut *store, input, moment);
+            return (made, store.take_last());
+        }
+        // Asks for no admission (`others_ask_no_floors` of `session_table`), so needs no lock of the floors.
+        let floors = &mut self.no_floors;
+        let mut store = self.house.store_of(self.key).lock(self.rt);
+        let made = step_by(session, users, floors, &mut *store, input, moment);
+        (made, store.take_last())
     }
 
     // Reports an event of the session that is none of its steps.
@@ -239,20 +452,19 @@ where
         event: DataEvent<S::Sink>,
     )
         requires closed { is_closed session.old.view.stage ≡ true }
-        ensures row { Stepped (IsRow {A = Global} {R = S.Source} S.Step users.now.users) AnyCall
+        ensures row { Stepped (IsRow {A = Global} {R = S.Source}
+            S.Step users.now.users) AnyCall
             self.old session.old (Came event) session.new [] self.new }
         ensures closed { is_closed session.new.view.stage ≡ true }
     {
-        let moment = millis_since_1970(self.rt);
-        let mut store = self.house.store_of(self.key).lock(self.rt);
-        end_by(
-            session,
-            users,
-            &mut self.no_floors,
-            &mut *store,
-            event,
-            moment,
-        );
+        let record = {
+            let moment = millis_since_1970(self.rt);
+            let mut store = self.house.store_of(self.key).lock(self.rt);
+            let floors = &mut self.no_floors;
+            end_by(session, users, floors, &mut *store, event, moment);
+            store.take_last()
+        };
+        self.follow_store(record);
     }
 
     /// Ends the control connection in such a way that the last reply arrives.
@@ -264,7 +476,7 @@ where
 impl<'h, R, S, H, B> Host<Global> for SocketHost<'h, R, S, H, B>
 where
     R: Wait + Clock + Net<Listener = TcpListener, Stream = TcpStream> + AllocGlobal,
-    S: Store<Global>,
+    S: Store<Global> + Recorder,
     H: ServerHooks,
     B: PartsName,
 {
@@ -284,16 +496,12 @@ where
         session: &mut Session<Global>,
         input: &mut Option<Input<Global, S::Sink>>,
     ) -> Result<Vec<Action<Global, S::Source, S::Sink>>, Option<DataEvent<S::Sink>>> {
-        let moment = millis_since_1970(self.rt);
-        if asks_floors(session, input) {
-            let mut floors = self.house.floors.lock(self.rt);
-            let mut store = self.house.store_of(self.key).lock(self.rt);
-            return step_by(session, users, &mut *floors, &mut *store, input, moment);
+        let (made, record) = self.step_over(users, session, input);
+        self.follow_store(record);
+        if let Ok(actions) = &made {
+            self.report_refusals(actions);
         }
-        // Asks for no admission (`others_ask_no_floors` of `session_table`), so needs no lock of the floors.
-        let floors = &mut self.no_floors;
-        let mut store = self.house.store_of(self.key).lock(self.rt);
-        step_by(session, users, floors, &mut *store, input, moment)
+        made
     }
 
     fn close(
@@ -329,8 +537,12 @@ where
 
     fn note(&mut self, call: &HookCall<Global>) {
         self.follow(call);
+        let cause = self.side.cause();
+        if ends_file(call) {
+            self.report_end(cause);
+        }
         let mut handler = self.house.handler.lock(self.rt);
-        handler.attend(self.peer, self.key, self.side.cause());
+        handler.attend(self.peer, self.key, cause);
         tell(&mut *handler, call);
     }
 
@@ -374,6 +586,11 @@ where
 
     fn start(&mut self, job: &mut Option<Job<Global, S::Source, S::Sink>>) {
         if let Some(job) = job.take() {
+            self.begun = Begun {
+                since: micros(self.rt),
+                kind: kind_of(&job),
+                is_text: is_text(&job),
+            };
             self.side.start(job, self.user);
         }
     }
@@ -389,13 +606,16 @@ where
                 self.report(SessionEvent::NoPort(error));
             }
         }
+        if ends_listing(&event, self.begun.kind) {
+            self.report_end(self.side.cause());
+        }
         event
     }
 
     fn settle(&mut self) -> Option<DataEvent<S::Sink>> {
         let last = self.side.settle();
-        if let Some(cause) = cause_of_cut(&last, self.is_ending()) {
-            self.report(SessionEvent::Cut(cause));
+        if is_end(&last) {
+            self.report_end(cause_of_cut(&last, self.is_ending()));
         }
         last
     }

@@ -8,8 +8,8 @@ use crate::control::ControlSocket;
 use crate::host::{SocketHost, floors_of_nobody};
 use authorizer::Authorizer;
 use control_session::{Host, run_control};
-use handler_hooks::Hooks;
 use lent_parts::PartsName;
+use recorded_store::Recorder;
 use server_house::{House, LaneEnds, ServerHooks, SessionEnd, SessionJob};
 use session_table::Settings;
 use socket_side::SocketSide;
@@ -31,17 +31,26 @@ const LAST_PIECE: usize = 512;
 pub(crate) trait SessionHost: Host<Global> {
     /// The settings of the session.
     fn settings(&self) -> Result<Settings, AllocError>;
+
+    /// Ends the control connection in such a way that the last reply arrives, and leaves the ticket of the session.
+    fn leave_client(self, buffer: &mut [u8]);
 }
 
 impl<'h, R, S, H, B> SessionHost for SocketHost<'h, R, S, H, B>
 where
     R: Wait + Clock + Net<Listener = TcpListener, Stream = TcpStream> + AllocGlobal,
-    S: Store<Global>,
+    S: Store<Global> + Recorder,
     H: ServerHooks,
     B: PartsName,
 {
     fn settings(&self) -> Result<Settings, AllocError> {
         self.copy_settings()
+    }
+
+    fn leave_client(self, buffer: &mut [u8]) {
+        let mut host = self;
+        host.hang_up(buffer);
+        host.leave();
     }
 }
 
@@ -51,17 +60,31 @@ pub(crate) trait HasUsers {
     fn users(&self) -> &Authorizer;
 }
 
-impl<S: Store<Global>, H: Hooks, B: PartsName> HasUsers for House<S, H, B> {
+/// The users of a server.
+#[derive(Drop)]
+pub(crate) struct ServerUsers<'h> {
+    users: &'h Authorizer,
+}
+
+impl HasUsers for ServerUsers<'_> {
     fn users(&self) -> &Authorizer {
-        &self.users
+        self.users
     }
 }
 
 // Runs the whole session of a host. If there is no memory to begin, the client gets no reply.
-fn run_hosted<T: SessionHost, U: HasUsers>(alloc: &Global, host: &mut T, house: &U, peer: [u8; 4]) {
+fn run_hosted<T: SessionHost, U: HasUsers>(alloc: &Global, host: &mut T, owner: &U, peer: [u8; 4]) {
     if let Ok(settings) = host.settings() {
-        let _ = run_control(alloc, host, house.users(), settings, peer, MOST_READS);
+        let _ = run_control(alloc, host, owner.users(), settings, peer, MOST_READS);
     }
+}
+
+// Runs the session of a host, closes its connection, and leaves its ticket.
+fn run_whole<T: SessionHost, U: HasUsers>(alloc: &Global, host: T, owner: &U, peer: [u8; 4]) {
+    let mut host = host;
+    run_hosted(alloc, &mut host, owner, peer);
+    let mut buffer = [0; LAST_PIECE];
+    host.leave_client(&mut buffer);
 }
 
 // The number of the session of a connection, by which lanes identify it. No registry has 2^32 connections.
@@ -86,7 +109,7 @@ fn run_at<'h, R, S, H, B>(
 )
 where
     R: Wait + Clock + Net<Listener = TcpListener, Stream = TcpStream> + AllocGlobal,
-    S: Store<Global>,
+    S: Store<Global> + Recorder,
     H: ServerHooks,
     B: PartsName,
     requires idle { owner_view owner ≡ Idle }
@@ -95,11 +118,11 @@ where
     match floors_of_nobody(rt.alloc()) {
         Some(none) => {
             let socket = ControlSocket::new(stream);
-            let mut host = SocketHost::new(rt, house, socket, side, peer, key, none);
-            run_hosted(&rt.alloc(), &mut host, house, peer);
-            let mut buffer = [0; LAST_PIECE];
-            host.hang_up(&mut buffer);
-            host.leave();
+            let host = SocketHost::new(rt, house, socket, side, peer, key, none);
+            let users = ServerUsers {
+                users: &house.users,
+            };
+            run_whole(&rt.alloc(), host, &users, peer);
         }
         None => side.leave(),
     }
@@ -116,7 +139,7 @@ fn run_client<R, S, H, B>(
 )
 where
     R: Wait + Clock + Net<Listener = TcpListener, Stream = TcpStream> + AllocGlobal,
-    S: Store<Global>,
+    S: Store<Global> + Recorder,
     H: ServerHooks,
     B: PartsName,
 {
@@ -141,7 +164,7 @@ pub fn serve_session<R, S, H, B>(
 )
 where
     R: Wait + Clock + Net<Listener = TcpListener, Stream = TcpStream> + AllocGlobal,
-    S: Store<Global>,
+    S: Store<Global> + Recorder,
     H: ServerHooks,
     B: PartsName,
 {

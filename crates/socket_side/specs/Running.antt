@@ -41,6 +41,11 @@ abbrev pub event_of : {K : Type 0} → Option (TransferEnd K) → Option (DataEv
 event_of None = None
 event_of (Some told) = Some (Ended told.end told.sink)
 
+-- the octets that a transfer had moved whose end is taken
+abbrev pub IsMovedBy : {K : Type 0} → Option (TransferEnd K) → ℕ → Type 0
+IsMovedBy None moved = ⊤
+IsMovedBy (Some told) moved = moved ≡ told.moved
+
 module _ {J : Type 0} where
   -- the session has asked for the end of what is on its ticket
   abbrev pub has_asked : TicketView J → Bool
@@ -225,26 +230,28 @@ module _ {R K : Type 0} where
       (new ≡ running.Nothing) × IsEndOf view is_aborted end
   TakesEnd view (running.Over told) end new = (end ≡ Some told) × (new ≡ running.Nothing)
 
-  -- a look: the transfer goes on, and its end is taken; what was on the ticket before stays there
+  -- a look: the transfer goes on, and its end is taken, with the octets that it had moved; what was
+  -- on the ticket before stays there
   abbrev pub Looks
-      : Ticket R K → Running R K → Option (DataEvent K) → Running R K → Type 0
-  Looks before old event new =
+      : Ticket R K → Running R K → Option (DataEvent K) → Running R K → ℕ → Type 0
+  Looks before old event new moved =
       (mid : Running R K) × (end : Option (TransferEnd K)) × (view : Ticket R K)
       × (is_moving old ≡ true → view ≡ before) × GoesOn old mid × TakesEnd view mid end new
-      × (event ≡ event_of end)
+      × (event ≡ event_of end) × IsMovedBy end moved
 
-  -- The report of a transfer that is waited for, or of nothing if nothing runs. One without a
-  -- connection is aborted.
-  abbrev pub Settles : Running R K → Option (DataEvent K) → Type 0
-  Settles running.Nothing event = event ≡ None
-  Settles (running.Awaited listener port job since) event =
-      event ≡ Some (Ended Aborted (sink_in job))
-  Settles (running.Connecting outgoing job since) event =
-      event ≡ Some (Ended Aborted (sink_in job))
-  Settles (running.Moving connection is_aborted) event =
-      (end : TransferEnd K) × (event ≡ Some (Ended end.end end.sink)) × (IsTrue is_aborted
-      → end.end ≡ Aborted)
-  Settles (running.Over told) event = event ≡ Some (Ended told.end told.sink)
+  -- The report of a transfer that is waited for, or of nothing if nothing runs, with the octets
+  -- that it had moved. One without a connection is aborted.
+  abbrev pub Settles : Running R K → Option (DataEvent K) → ℕ → Type 0
+  Settles running.Nothing event moved = event ≡ None
+  Settles (running.Awaited listener port job since) event moved =
+      (event ≡ Some (Ended Aborted (sink_in job))) × (moved ≡ 0)
+  Settles (running.Connecting outgoing job since) event moved =
+      (event ≡ Some (Ended Aborted (sink_in job))) × (moved ≡ 0)
+  Settles (running.Moving connection is_aborted) event moved =
+      (end : TransferEnd K) × (event ≡ Some (Ended end.end end.sink)) × (moved ≡ end.moved)
+      × (IsTrue is_aborted → end.end ≡ Aborted)
+  Settles (running.Over told) event moved =
+      (event ≡ Some (Ended told.end told.sink)) × (moved ≡ told.moved)
 
   -- true if there is something to report; either value for a moving transfer
   abbrev pub RestsOn : Running R K → Bool → Type 0

@@ -5,7 +5,7 @@ ghost use Rattle.session_core.specs.declared.events.DataEvent.TheVariants.{Ready
 ghost use Rattle.server_house.specs.declared.cause.EndCause.TheVariants as cause;
 ghost use Rattle.session_table.specs.declared.inputs.End.TheVariants.{Aborted, NoConnection, NoMemory};
 ghost use Rattle.socket_side.specs.Causes.{AbortCause, GoesCause, LookCause, StartCause, TakenCause, cause_of};
-ghost use Rattle.socket_side.specs.Running.{Aborts, GoesOn, IsAwaited, IsConnecting, IsHandedOver, IsNoTarget, Looks, RestsOn, Settles, Starts, TakesEnd, event_of, is_busy, is_moving, over, port_in};
+ghost use Rattle.socket_side.specs.Running.{Aborts, GoesOn, IsAwaited, IsConnecting, IsHandedOver, IsMovedBy, IsNoTarget, Looks, RestsOn, Settles, Starts, TakesEnd, event_of, is_busy, is_moving, over, port_in};
 ghost use Rattle.transfer_ticket.specs.Tickets as ticket;
 ghost use Rattle.transfer_ticket.specs.Views.{owner_view};
 ghost use Rattle.transfer_ticket.specs.declared.view.TicketView.TheVariants.{Idle};
@@ -98,6 +98,8 @@ pub struct SocketSide<'h, R, S: Store<Global>, H: Hooks, B: PartsName> {
     prepared: Prepared,
     // the reason for the last end that was made or taken, unless it is that all was moved
     cause: Option<EndCause>,
+    // the number of octets that the last transfer had moved whose end was taken
+    moved: u64,
     // the result of opening a port, to be reported: the port, or that none was free
     ready: Option<Option<u16>>,
     // the error for which none could be listened on
@@ -132,6 +134,7 @@ where
             run: SessionRun::new(owner),
             prepared: Prepared::Nothing,
             cause: None,
+            moved: 0,
             ready: None,
             port_fault: None,
         }
@@ -187,6 +190,13 @@ where
         ensures cause { result ≡ self.now.cause }
     {
         self.cause
+    }
+
+    /// Number of octets that the transfer had moved whose end was reported last.
+    pub fn moved(&self) -> u64
+        ensures moved { result ≡ self.now.moved }
+    {
+        self.moved
     }
 
     /// Listens on a passive port, if one is free. The next look reports it.
@@ -439,13 +449,18 @@ where
         ensures prepared { self.new.prepared ≡ self.old.prepared }
         ensures ready { self.new.ready ≡ self.old.ready }
         ensures cause { TakenCause self.old.run.running result self.old.cause self.new.cause }
+        ensures moved { IsMovedBy result self.new.moved }
     {
         match self.run.take_end() {
             Taken::Nothing => None,
-            Taken::Unbegun(told) => Some(told),
+            Taken::Unbegun(told) => {
+                self.moved = told.moved;
+                Some(told)
+            }
             Taken::Reported(told, is_aborted, fault) => {
                 let TransferEnd { end, sink, moved } = told;
                 self.cause = cause_of(is_aborted, end, fault);
+                self.moved = moved;
                 Some(TransferEnd {
                     end: end_of(is_aborted, end),
                     sink,
@@ -491,7 +506,7 @@ where
         ensures port { IfSome self.old.ready (λ port. (result ≡ Some (Ready port))
             × (self.new.run.running ≡ self.old.run.running)) }
         ensures end { IfNone self.old.ready (Looks (owner_view self.old.run.owner)
-            self.old.run.running result self.new.run.running) }
+            self.old.run.running result self.new.run.running self.new.moved) }
         ensures ready { self.new.ready ≡ None }
         ensures prepared { self.new.prepared ≡ self.old.prepared }
         ensures cause { IfNone self.old.ready
@@ -531,7 +546,7 @@ where
 
     // Waits for the end of the running transfer and reports it.
     fn await_end(&mut self) -> Option<DataEvent<S::Sink>>
-        ensures settled { Settles self.old.run.running result }
+        ensures settled { Settles self.old.run.running result self.new.moved }
         ensures running { self.new.run.running ≡ Running.Nothing }
         ensures prepared { self.new.prepared ≡ self.old.prepared }
         ensures ready { self.new.ready ≡ self.old.ready }
@@ -556,7 +571,7 @@ where
     /// Waits for the end of the running transfer and reports it; aborts it if there is no connection yet. Drops what was
     /// prepared.
     pub fn settle(&mut self) -> Option<DataEvent<S::Sink>>
-        ensures settled { Settles self.old.run.running result }
+        ensures settled { Settles self.old.run.running result self.new.moved }
         ensures running { self.new.run.running ≡ Running.Nothing }
         ensures prepared { self.new.prepared ≡ Prepared.Nothing }
         ensures ready { self.new.ready ≡ None }
@@ -582,6 +597,7 @@ where
             run,
             prepared: _,
             cause: _,
+            moved: _,
             ready: _,
             port_fault: _,
         } = side;

@@ -3,6 +3,7 @@
 
 use crate::expect::{comes_out, fresh_folder, holds};
 use folder_store::DirStore;
+use last_fault::LastFault;
 use linked_list_allocator::LocalHeap;
 use memory_store::MemStore;
 use std::env::Env;
@@ -87,7 +88,8 @@ fn is_refused_in_a_folder(
 ) -> bool {
     let folder = fresh_folder(rt, "refused");
     let heap = LocalHeap::new(rt.alloc(), HEAP).expect(rt, "memory");
-    let mut store = DirStore::new((machine, &heap), folder.as_str()).expect(rt, "a folder");
+    let fault = LastFault::new(rt.alloc()).expect(rt, "memory");
+    let mut store = DirStore::new((machine, &heap), folder.as_str(), fault).expect(rt, "a folder");
     let refused = is_refused(rt, &heap, &mut store, line, room);
     fs::remove_dir_all(rt, folder.as_str()).expect(rt, "a folder");
     refused
@@ -115,8 +117,14 @@ fn each_growth(rt: HostRuntime) {
 }
 
 /// Returns whether a folder of the machine is opened as a store. If not, memory ran out.
-fn opens(rt: &impl Abort, machine: HostRuntime, heap: &LocalHeap, folder: &str) -> bool {
-    match DirStore::new((machine, heap), folder) {
+fn opens(
+    rt: &(impl Abort + AllocGlobal),
+    machine: HostRuntime,
+    heap: &LocalHeap,
+    folder: &str,
+) -> bool {
+    let fault = LastFault::new(rt.alloc()).expect(rt, "memory");
+    match DirStore::new((machine, heap), folder, fault) {
         Ok(_) => true,
         Err(fault) => {
             holds(rt, fault == StoreFault::Memory);

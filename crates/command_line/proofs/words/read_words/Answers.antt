@@ -1,13 +1,13 @@
 use Rattle.std.proofs.Common.{None, Some, Bool, codes, inl, inr, refl, sym, [], ◌≡◌, ◌∙◌, ap, ap₂, subst, map, ℕ, List, Option, true}
 use Rattle.std.specs.Borrow.{Bor}
 use Rattle.command_line.specs.Commands.{ftpd}
-use Rattle.command_line.specs.Given.{IsFound, IsPlanWords, IsRefusal, IsServe}
+use Rattle.command_line.specs.Given.{IsCheckConfig, IsFound, IsLoggedBy, IsPlanWords, IsRefusal, IsServe}
 use Rattle.command_line.specs.Timed.{IsTimedBy, IsUntimed, usual_patience}
 use Rattle.clap.specs.Words.{App, Row, Text, app_of, fault_of, is_simple, is_simple_and_free, first_of, subcommand_of, takes}
-use Rattle.command_line.proofs.Taken.{refused_by_none, ftpd_is_free, ftpd_is_simple, ftpd_checks, ftpd_shares, checks_config, migrates, plans, plans_json, scripts, serves}
+use Rattle.command_line.proofs.Taken.{refused_by_none, ftpd_is_free, ftpd_is_simple, ftpd_checks, ftpd_shares, checks_config, migrates, plans, plans_json, reports_json, scripts, serves}
 use Rattle.command_line.proofs.Seconds.{patient, refused_other, refused_timed, seconds_plain, timed_by, usual}
-use Rattle.command_line.proofs.ServeWords.{serves_ready, serves_timed, serves_until}
-use Rattle.command_line.proofs.GivenCommand.{check_config_is, check_of_sheets, ftpd_found, migrate_is, plan_is, script_is, serve_is, share_of_sheets}
+use Rattle.command_line.proofs.ServeWords.{serves_logged, serves_ready, serves_timed, serves_until}
+use Rattle.command_line.proofs.GivenCommand.{check_config_is, check_of_sheets, ftpd_found, logged_is, migrate_is, plan_is, script_is, serve_is, share_of_sheets}
 use Rattle.command_line.proofs.words.read_words.Goals as goal
 
 pub returns-in-Err-clause-share : goal.returns-in-Err-clause-share
@@ -21,6 +21,10 @@ returns-in-Err-clause-check c = λ first second plain also are.
 pub returns-in-Err-clause-check_config : goal.returns-in-Err-clause-check_config
 returns-in-Err-clause-check_config c = λ word plain are.
     c.in-Err.ensures.takes (ap₂ takes c.in-Ok.ensures.ftpd are ∙ (checks_config word plain).taken)
+
+pub returns-in-Err-clause-check_config_json : goal.returns-in-Err-clause-check_config_json
+returns-in-Err-clause-check_config_json c = λ word plain are.
+    c.in-Err.ensures.takes (ap₂ takes c.in-Ok.ensures.ftpd are ∙ (reports_json word plain).taken)
 
 pub returns-in-Err-clause-migrate : goal.returns-in-Err-clause-migrate
 returns-in-Err-clause-migrate c = λ word plain are.
@@ -41,6 +45,10 @@ returns-in-Err-clause-serve_until c = λ word path plain also are.
 pub returns-in-Err-clause-serve_ready : goal.returns-in-Err-clause-serve_ready
 returns-in-Err-clause-serve_ready c = λ word path ready plain also third are.
     c.in-Err.ensures.takes (ap₂ takes c.in-Ok.ensures.ftpd are ∙ (serves_ready word path ready plain also third).taken)
+
+pub returns-in-Err-clause-serve_logged : goal.returns-in-Err-clause-serve_logged
+returns-in-Err-clause-serve_logged c = λ word path form plain also third are.
+    c.in-Err.ensures.takes (ap₂ takes c.in-Ok.ensures.ftpd are ∙ (serves_logged word path form plain also third).taken)
 
 pub returns-in-Err-clause-serve_timed : goal.returns-in-Err-clause-serve_timed
 returns-in-Err-clause-serve_timed c = λ word first second third p plain one two three are.
@@ -98,6 +106,13 @@ returns-in-Err-stated_patience-clause-check_config c = λ word plain are.
     let entered = c.in-Ok-parsed.ensures.found simple ∙ ap₂ subcommand_of c.in-Ok.ensures.ftpd are ∙ held.entered in
     refused_other _ (codes "check-config") held.rows _ refl entered c.in-Err-stated_patience.ensures.refused
 
+pub returns-in-Err-stated_patience-clause-check_config_json : goal.returns-in-Err-stated_patience-clause-check_config_json
+returns-in-Err-stated_patience-clause-check_config_json c = λ word plain are.
+    let held = reports_json word plain in
+    let simple : is_simple (app_of c.in-Ok.command) ≡ true = ap is_simple c.in-Ok.ensures.ftpd ∙ ftpd_is_simple in
+    let entered = c.in-Ok-parsed.ensures.found simple ∙ ap₂ subcommand_of c.in-Ok.ensures.ftpd are ∙ held.entered in
+    refused_other _ (codes "check-config") held.rows _ refl entered c.in-Err-stated_patience.ensures.refused
+
 pub returns-in-Err-stated_patience-clause-migrate : goal.returns-in-Err-stated_patience-clause-migrate
 returns-in-Err-stated_patience-clause-migrate c = λ word plain are.
     let held = migrates word plain in
@@ -129,6 +144,13 @@ returns-in-Err-stated_patience-clause-serve_until c = λ word path plain also ar
 pub returns-in-Err-stated_patience-clause-serve_ready : goal.returns-in-Err-stated_patience-clause-serve_ready
 returns-in-Err-stated_patience-clause-serve_ready c = λ word path ready plain also third are.
     let held = serves_ready word path ready plain also third in
+    let simple : is_simple (app_of c.in-Ok.command) ≡ true = ap is_simple c.in-Ok.ensures.ftpd ∙ ftpd_is_simple in
+    let entered = c.in-Ok-parsed.ensures.found simple ∙ ap₂ subcommand_of c.in-Ok.ensures.ftpd are ∙ held.entered in
+    refused_timed _ _ _ (timed_by _ _ held.rows entered (usual held.rows held.usual)) c.in-Err-stated_patience.ensures.refused
+
+pub returns-in-Err-stated_patience-clause-serve_logged : goal.returns-in-Err-stated_patience-clause-serve_logged
+returns-in-Err-stated_patience-clause-serve_logged c = λ word path form plain also third are.
+    let held = serves_logged word path form plain also third in
     let simple : is_simple (app_of c.in-Ok.command) ≡ true = ap is_simple c.in-Ok.ensures.ftpd ∙ ftpd_is_simple in
     let entered = c.in-Ok-parsed.ensures.found simple ∙ ap₂ subcommand_of c.in-Ok.ensures.ftpd are ∙ held.entered in
     refused_timed _ _ _ (timed_by _ _ held.rows entered (usual held.rows held.usual)) c.in-Err-stated_patience.ensures.refused
@@ -204,7 +226,16 @@ returns-clause-check_config c = λ word plain are.
     let held = checks_config word plain in
     let simple : is_simple (app_of c.in-Ok.command) ≡ true = ap is_simple c.in-Ok.ensures.ftpd ∙ ftpd_is_simple in
     let entered = c.in-Ok-parsed.ensures.found simple ∙ ap₂ subcommand_of c.in-Ok.ensures.ftpd are ∙ held.entered in
-    check_config_is _ _ held.rows word entered held.config c.in-Some.ensures.found
+    subst (λ (flag : Bool). IsCheckConfig word flag c.in-Some.words) held.unflagged
+    (check_config_is _ _ held.rows word entered held.config c.in-Some.ensures.found)
+
+pub returns-clause-check_config_json : goal.returns-clause-check_config_json
+returns-clause-check_config_json c = λ word plain are.
+    let held = reports_json word plain in
+    let simple : is_simple (app_of c.in-Ok.command) ≡ true = ap is_simple c.in-Ok.ensures.ftpd ∙ ftpd_is_simple in
+    let entered = c.in-Ok-parsed.ensures.found simple ∙ ap₂ subcommand_of c.in-Ok.ensures.ftpd are ∙ held.entered in
+    subst (λ (flag : Bool). IsCheckConfig word flag c.in-Some.words) held.flagged
+    (check_config_is _ _ held.rows word entered held.config c.in-Some.ensures.found)
 
 pub returns-clause-migrate : goal.returns-clause-migrate
 returns-clause-migrate c = λ word plain are.
@@ -246,6 +277,15 @@ returns-clause-serve_ready c = λ word path ready plain also third are.
     subst (λ (file : Option Text). IsServe word (Some path) file usual_patience c.in-Some.words) held.ready_file
     (subst (λ (stop : Option Text). IsServe word stop (first_of (codes "ready-file") held.rows) usual_patience c.in-Some.words) held.stop_file
     (serve_is _ _ held.rows word usual_patience entered held.of (usual held.rows held.usual) c.in-Some.ensures.found))
+
+pub returns-clause-serve_logged : goal.returns-clause-serve_logged
+returns-clause-serve_logged c = λ word path form plain also third are.
+    let held = serves_logged word path form plain also third in
+    let simple : is_simple (app_of c.in-Ok.command) ≡ true = ap is_simple c.in-Ok.ensures.ftpd ∙ ftpd_is_simple in
+    let entered = c.in-Ok-parsed.ensures.found simple ∙ ap₂ subcommand_of c.in-Ok.ensures.ftpd are ∙ held.entered in
+    subst (λ (form : Option Text). IsLoggedBy word (Some path) form c.in-Some.words) held.log_form
+    (subst (λ (log : Option Text). IsLoggedBy word log (first_of (codes "log-form") held.rows) c.in-Some.words) held.transfer_log
+    (logged_is _ _ held.rows word entered held.of c.in-Some.ensures.found))
 
 pub returns-clause-serve_timed : goal.returns-clause-serve_timed
 returns-clause-serve_timed c = λ word first second third p plain one two three are.

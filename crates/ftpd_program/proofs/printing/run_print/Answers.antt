@@ -6,13 +6,13 @@ use Rattle.ftpd_program.proofs.printing.run_print.Goals as goal
 
 pub returns-in-Ok-write_whole-clause-printed : goal.returns-in-Ok-write_whole-clause-printed
 returns-in-Ok-write_whole-clause-printed g c =
-    let prints = subst (λ (p : List ℕ). IsPrintOf c.args.print c.as_slice.result.now p) (sym c.as_str.ensures.value) c.in-Ok-text_about.ensures.prints in
-    told c.args.print _ _ c.in-Ok.octets.items c.as_slice.result.now c.as_str.result.now _ _
+    let prints = subst (λ (p : List ℕ). IsPrintOf c.args.print (g.L.Lookout.Shows c.args.lookout.now) c.as_slice.result.now p) (sym c.as_str.ensures.value) c.in-Ok-text_about.ensures.prints in
+    told c.args.print (g.L.Lookout.Shows c.args.lookout.now) _ _ c.in-Ok.octets.items c.as_slice.result.now c.as_str.result.now _ _
     c.in-Ok.ensures.whole c.in-Ok.ensures.end c.as_slice.ensures.value prints c.in-Ok-write_whole.ensures.written
 
 pub returns-clause-write_fault : goal.returns-clause-write_fault
 returns-clause-write_fault g c = λ is.
-    let prints = subst (λ (p : List ℕ). IsPrintOf c.args.print c.as_slice.result.now p) (sym c.as_str.ensures.value) c.in-Ok-text_about.ensures.prints in (
+    let prints = subst (λ (p : List ℕ). IsPrintOf c.args.print (g.L.Lookout.Shows c.args.lookout.now) c.as_slice.result.now p) (sym c.as_str.ensures.value) c.in-Ok-text_about.ensures.prints in (
       c.as_slice.result.now,
       c.as_str.result.now,
       text_read _ _ c.in-Ok.octets.items c.as_slice.result.now c.in-Ok.ensures.whole c.in-Ok.ensures.end c.as_slice.ensures.value,

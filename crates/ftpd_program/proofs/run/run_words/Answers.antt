@@ -1,88 +1,104 @@
 use Rattle.ftpd_program.proofs.Ends.{check_end, migrate_end, plan_end, report_end, script_end, serve_end, share_end}
-use Rattle.ftpd_program.proofs.NoWords.{no_print, no_serve, third_of_four, third_word}
-use Rattle.ftpd_program.specs.declared.printing.Print.TheVariants.{Plan, PlanJson}
+use Rattle.ftpd_program.proofs.NoWords.{no_print, no_serve, second_of_three, second_word, third_of_four, third_word}
+use Rattle.ftpd_program.specs.declared.printing.Print.TheVariants.{Plan, PlanJson, Report, ReportJson}
 use Rattle.ftpd_program.proofs.run.run_words.Goals as goal
 
 pub returns-in-Ok-clause-share : goal.returns-in-Ok-clause-share
 returns-in-Ok-clause-share g c = λ sheet plain are.
     let old = g.W.TextWriter.contents c.args.output.now in
     let new = g.W.TextWriter.contents c.run_command.new.output in
-    share_end _ g.V.Server.Serves _ _ _ old new _ (c.in-Ok.ensures.share sheet plain are) c.run_command.ensures.end
+    share_end _ (g.O.Lookout.Shows c.run_command.new.files) g.V.Server.Serves _ _ _ old new _ (c.in-Ok.ensures.share sheet plain are) c.run_command.ensures.end
 
 pub returns-in-Ok-clause-check : goal.returns-in-Ok-clause-check
 returns-in-Ok-clause-check g c = λ sheet grants plain also are.
     let old = g.W.TextWriter.contents c.args.output.now in
     let new = g.W.TextWriter.contents c.run_command.new.output in
-    check_end _ g.V.Server.Serves _ _ _ _ old new _ (c.in-Ok.ensures.check sheet grants plain also are) c.run_command.ensures.end
+    check_end _ (g.O.Lookout.Shows c.run_command.new.files) g.V.Server.Serves _ _ _ _ old new _ (c.in-Ok.ensures.check sheet grants plain also are) c.run_command.ensures.end
 
 pub returns-in-Ok-clause-check_config : goal.returns-in-Ok-clause-check_config
 returns-in-Ok-clause-check_config g c = λ config plain are.
     let old = g.W.TextWriter.contents c.args.output.now in
     let new = g.W.TextWriter.contents c.run_command.new.output in
-    report_end _ g.V.Server.Serves _ _ _ old new _ (c.in-Ok.ensures.check_config config plain are) c.run_command.ensures.end
+    report_end _ (g.O.Lookout.Shows c.run_command.new.files) g.V.Server.Serves _ _ _ _ old new _ (c.in-Ok.ensures.check_config config plain are) c.run_command.ensures.end
+
+pub returns-in-Ok-clause-check_config_json : goal.returns-in-Ok-clause-check_config_json
+returns-in-Ok-clause-check_config_json g c = λ config plain are.
+    let old = g.W.TextWriter.contents c.args.output.now in
+    let new = g.W.TextWriter.contents c.run_command.new.output in
+    report_end _ (g.O.Lookout.Shows c.run_command.new.files) g.V.Server.Serves _ _ _ _ old new _ (c.in-Ok.ensures.check_config_json config plain are) c.run_command.ensures.end
 
 pub returns-in-Ok-clause-migrate : goal.returns-in-Ok-clause-migrate
 returns-in-Ok-clause-migrate g c = λ config plain are.
     let old = g.W.TextWriter.contents c.args.output.now in
     let new = g.W.TextWriter.contents c.run_command.new.output in
-    migrate_end _ g.V.Server.Serves _ _ _ old new _ (c.in-Ok.ensures.migrate config plain are) c.run_command.ensures.end
+    migrate_end _ (g.O.Lookout.Shows c.run_command.new.files) g.V.Server.Serves _ _ _ old new _ (c.in-Ok.ensures.migrate config plain are) c.run_command.ensures.end
 
 pub returns-in-Ok-clause-script : goal.returns-in-Ok-clause-script
 returns-in-Ok-clause-script g c = λ config plain are.
     let old = g.W.TextWriter.contents c.args.output.now in
     let new = g.W.TextWriter.contents c.run_command.new.output in
-    script_end _ g.V.Server.Serves _ _ _ old new _ (c.in-Ok.ensures.script config plain are) c.run_command.ensures.end
+    script_end _ (g.O.Lookout.Shows c.run_command.new.files) g.V.Server.Serves _ _ _ old new _ (c.in-Ok.ensures.script config plain are) c.run_command.ensures.end
 
 pub returns-in-Ok-clause-serve : goal.returns-in-Ok-clause-serve
 returns-in-Ok-clause-serve g c = λ config plain are.
     let old = g.W.TextWriter.contents c.args.output.now in
     let new = g.W.TextWriter.contents c.run_command.new.output in
-    serve_end _ g.V.Server.Serves _ _ _ _ _ _ old new _ (c.in-Ok.ensures.serve config plain are) c.run_command.ensures.end
+    serve_end _ (g.O.Lookout.Shows c.run_command.new.files) g.V.Server.Serves _ _ _ _ _ _ old new _ (c.in-Ok.ensures.serve config plain are) c.run_command.ensures.end
 
 pub returns-in-Ok-clause-serve_until : goal.returns-in-Ok-clause-serve_until
 returns-in-Ok-clause-serve_until g c = λ config path plain also are.
     let old = g.W.TextWriter.contents c.args.output.now in
     let new = g.W.TextWriter.contents c.run_command.new.output in
-    serve_end _ g.V.Server.Serves _ _ _ _ _ _ old new _ (c.in-Ok.ensures.serve_until config path plain also are) c.run_command.ensures.end
+    serve_end _ (g.O.Lookout.Shows c.run_command.new.files) g.V.Server.Serves _ _ _ _ _ _ old new _ (c.in-Ok.ensures.serve_until config path plain also are) c.run_command.ensures.end
 
 pub returns-in-Ok-clause-serve_ready : goal.returns-in-Ok-clause-serve_ready
 returns-in-Ok-clause-serve_ready g c = λ config path ready plain also third are.
     let old = g.W.TextWriter.contents c.args.output.now in
     let new = g.W.TextWriter.contents c.run_command.new.output in
-    serve_end _ g.V.Server.Serves _ _ _ _ _ _ old new _ (c.in-Ok.ensures.serve_ready config path ready plain also third are) c.run_command.ensures.end
+    serve_end _ (g.O.Lookout.Shows c.run_command.new.files) g.V.Server.Serves _ _ _ _ _ _ old new _ (c.in-Ok.ensures.serve_ready config path ready plain also third are) c.run_command.ensures.end
 
 pub returns-in-Ok-clause-serve_timed : goal.returns-in-Ok-clause-serve_timed
 returns-in-Ok-clause-serve_timed g c = λ config first second third p plain one two three are.
     let old = g.W.TextWriter.contents c.args.output.now in
     let new = g.W.TextWriter.contents c.run_command.new.output in
-    serve_end _ g.V.Server.Serves _ _ _ _ _ _ old new _ (c.in-Ok.ensures.serve_timed config first second third p plain one two three are) c.run_command.ensures.end
+    serve_end _ (g.O.Lookout.Shows c.run_command.new.files) g.V.Server.Serves _ _ _ _ _ _ old new _ (c.in-Ok.ensures.serve_timed config first second third p plain one two three are) c.run_command.ensures.end
 
 pub returns-in-Ok-clause-plan : goal.returns-in-Ok-clause-plan
 returns-in-Ok-clause-plan g c = λ config transfers plain also are.
     let old = g.W.TextWriter.contents c.args.output.now in
     let new = g.W.TextWriter.contents c.run_command.new.output in
-    plan_end _ g.V.Server.Serves _ _ _ _ _ old new _ (c.in-Ok.ensures.plan config transfers plain also are) c.run_command.ensures.end
+    plan_end _ (g.O.Lookout.Shows c.run_command.new.files) g.V.Server.Serves _ _ _ _ _ old new _ (c.in-Ok.ensures.plan config transfers plain also are) c.run_command.ensures.end
 
 pub returns-in-Ok-clause-plan_json : goal.returns-in-Ok-clause-plan_json
 returns-in-Ok-clause-plan_json g c = λ config transfers plain also are.
     let old = g.W.TextWriter.contents c.args.output.now in
     let new = g.W.TextWriter.contents c.run_command.new.output in
-    plan_end _ g.V.Server.Serves _ _ _ _ _ old new _ (c.in-Ok.ensures.plan_json config transfers plain also are) c.run_command.ensures.end
+    plan_end _ (g.O.Lookout.Shows c.run_command.new.files) g.V.Server.Serves _ _ _ _ _ old new _ (c.in-Ok.ensures.plan_json config transfers plain also are) c.run_command.ensures.end
+
+pub returns-in-Err-clause-check_config : goal.returns-in-Err-clause-check_config
+returns-in-Err-clause-check_config g c = λ config plain are.
+    let word = second_word c.args.words.now _ _ are in
+    (word.0, word.1, no_print (Report word.0) (g.O.Lookout.Shows c.args.files.now) _ _ _ _ _ _ (c.in-Err.ensures.check_config config plain are) c.tell.ensures.told)
+
+pub returns-in-Err-clause-check_config_json : goal.returns-in-Err-clause-check_config_json
+returns-in-Err-clause-check_config_json g c = λ config plain are.
+    let word = second_of_three c.args.words.now _ _ _ are in
+    (word.0, word.1, no_print (ReportJson word.0) (g.O.Lookout.Shows c.args.files.now) _ _ _ _ _ _ (c.in-Err.ensures.check_config_json config plain are) c.tell.ensures.told)
 
 pub returns-in-Err-clause-serve_ready : goal.returns-in-Err-clause-serve_ready
 returns-in-Err-clause-serve_ready g c = λ config path ready plain also third are.
-    no_serve _ g.V.Server.Serves _ _ _ _ _ _ _ (c.in-Err.ensures.serve_ready config path ready plain also third are) c.tell.ensures.told
+    no_serve _ (g.O.Lookout.Shows c.args.files.now) _ g.V.Server.Serves _ _ _ _ _ _ _ (c.in-Err.ensures.serve_ready config path ready plain also third are) c.tell.ensures.told
 
 pub returns-in-Err-clause-serve_timed : goal.returns-in-Err-clause-serve_timed
 returns-in-Err-clause-serve_timed g c = λ config first second third p plain one two three are.
-    no_serve _ g.V.Server.Serves _ _ _ _ _ _ _ (c.in-Err.ensures.serve_timed config first second third p plain one two three are) c.tell.ensures.told
+    no_serve _ (g.O.Lookout.Shows c.args.files.now) _ g.V.Server.Serves _ _ _ _ _ _ _ (c.in-Err.ensures.serve_timed config first second third p plain one two three are) c.tell.ensures.told
 
 pub returns-in-Err-clause-plan : goal.returns-in-Err-clause-plan
 returns-in-Err-clause-plan g c = λ config transfers plain also are.
     let word = third_word c.args.words.now _ _ _ are in
-    (word.0, word.1, no_print (Plan word.0) _ _ _ _ _ _ (c.in-Err.ensures.plan config transfers plain also are) c.tell.ensures.told)
+    (word.0, word.1, no_print (Plan word.0) (g.O.Lookout.Shows c.args.files.now) _ _ _ _ _ _ (c.in-Err.ensures.plan config transfers plain also are) c.tell.ensures.told)
 
 pub returns-in-Err-clause-plan_json : goal.returns-in-Err-clause-plan_json
 returns-in-Err-clause-plan_json g c = λ config transfers plain also are.
     let word = third_of_four c.args.words.now _ _ _ _ are in
-    (word.0, word.1, no_print (PlanJson word.0) _ _ _ _ _ _ (c.in-Err.ensures.plan_json config transfers plain also are) c.tell.ensures.told)
+    (word.0, word.1, no_print (PlanJson word.0) (g.O.Lookout.Shows c.args.files.now) _ _ _ _ _ _ (c.in-Err.ensures.plan_json config transfers plain also are) c.tell.ensures.told)

@@ -1,0 +1,4 @@
+pub mod Queues
+pub mod Laws
+pub mod Rounds
+pub mod Notes

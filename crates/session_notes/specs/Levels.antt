@@ -1,0 +1,33 @@
+-- The levels of notes.
+use Rattle.log.specs.declared.level.Level.{Level}
+use Rattle.log.specs.declared.level.Level.TheVariants.{Warn, Info}
+use Rattle.server_house.specs.declared.cause.EndCause.{EndCause}
+use Rattle.server_house.specs.declared.cause.EndCause.TheVariants.{Aborted, NothingPrepared, NoClient, NotConnected, NoMemory, File, Connection, ControlLost, ServerEnds}
+use Rattle.server_house.specs.declared.server_hooks.SessionEvent.{SessionEvent}
+use Rattle.server_house.specs.declared.server_hooks.SessionEvent.TheVariants.{Refused, NoPort, TimedOut}
+use Rattle.session_notes.specs.declared.words.Noted.{Noted}
+use Rattle.session_notes.specs.declared.words.Noted.TheVariants.{Connect, Disconnect, Login, LoginFailed, Logout}
+
+abbrev pub level_of_event : Noted → Level
+level_of_event Connect = Info
+level_of_event Disconnect = Info
+level_of_event Login = Info
+level_of_event LoginFailed = Warn
+level_of_event Logout = Info
+
+-- a lack or a fault of the server
+abbrev pub level_of_cause : EndCause → Level
+level_of_cause Aborted = Info
+level_of_cause NothingPrepared = Info
+level_of_cause NoClient = Info
+level_of_cause (NotConnected error) = Info
+level_of_cause NoMemory = Warn
+level_of_cause File = Warn
+level_of_cause (Connection error) = Info
+level_of_cause ControlLost = Info
+level_of_cause ServerEnds = Info
+
+abbrev pub level_of_session : SessionEvent → Level
+level_of_session (Refused why) = Warn
+level_of_session (NoPort error) = Warn
+level_of_session (TimedOut why) = Info

@@ -1,0 +1,54 @@
+-- The record of a transfer.
+use Rattle.std.specs.Prelude.{Bool, true, false, ◌&&◌, Option, Some, None}
+use Rattle.std.specs.declared.alloc.Global.{Global}
+use Rattle.ftp_terms.specs.declared.data_type.DataType.{DataType}
+use Rattle.ftp_terms.specs.declared.data_type.DataType.TheVariants.{Ascii, Image}
+use Rattle.server_house.specs.declared.server_hooks.TransferKind.{TransferKind}
+use Rattle.server_house.specs.declared.server_hooks.TransferKind.TheVariants.{Sent, Received, Listed}
+use Rattle.session_core.specs.declared.events.DataEvent.{DataEvent}
+use Rattle.session_core.specs.declared.events.DataEvent.TheVariants.{Ready, Ended}
+use Rattle.session_table.specs.declared.actions.HookCall.{HookCall}
+use Rattle.session_table.specs.declared.actions.HookCall.TheVariants.{Connect, Disconnect, Login, LoginFailed, Logout, FileSent, FileReceived, IncompleteFileSent, IncompleteFileReceived}
+use Rattle.session_table.specs.declared.actions.Job.{Job}
+use Rattle.session_table.specs.declared.actions.Job.TheVariants.{Text, SendFile, TakeFile}
+
+-- a call reports the end of a file's transfer
+abbrev pub ends_file : HookCall Global → Bool
+ends_file Connect = false
+ends_file Disconnect = false
+ends_file (Login name) = false
+ends_file (LoginFailed name) = false
+ends_file (Logout name) = false
+ends_file (FileSent path) = true
+ends_file (FileReceived path) = true
+ends_file (IncompleteFileSent path) = true
+ends_file (IncompleteFileReceived path) = true
+
+abbrev is_ascii : DataType → Bool
+is_ascii Ascii = true
+is_ascii Image = false
+
+-- a listing is a text
+abbrev pub is_text : {R K : Type 0} → Job Global R K → Bool
+is_text (Text octets) = true
+is_text (SendFile source data_type) = is_ascii data_type
+is_text (TakeFile sink data_type) = is_ascii data_type
+
+abbrev pub job_kind : {R K : Type 0} → Job Global R K → TransferKind
+job_kind (Text octets) = Listed
+job_kind (SendFile source data_type) = Sent
+job_kind (TakeFile sink data_type) = Received
+
+-- the event is the end of a transfer
+abbrev pub is_end : {K : Type 0} → Option (DataEvent K) → Bool
+is_end None = false
+is_end (Some (Ready port)) = false
+is_end (Some (Ended end sink)) = true
+
+abbrev is_listed : TransferKind → Bool
+is_listed Listed = true
+is_listed Sent = false
+is_listed Received = false
+
+abbrev pub ends_listing : {K : Type 0} → Option (DataEvent K) → TransferKind → Bool
+ends_listing event kind = is_end event && is_listed kind

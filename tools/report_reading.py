@@ -1,0 +1,209 @@
+"""A second reading of the report on a configuration: docs/configuration.md, octet by octet.
+
+`lines` and `as_json` answer what `ftpd check-config` is wanted to print for a configuration that is accepted, given as its
+TOML table and as what is there on the machine. Nothing here knows how the program goes about it.
+"""
+import json
+from collections import namedtuple
+
+LETTERS = {
+    "e": "change directory", "l": "list", "r": "retrieve", "a": "append", "d": "delete", "f": "rename", "m": "make directories", "w": "store",
+}
+OWN_FIRST, OWN_LAST = 32768, 60999
+LISTED, ABSENT, NO_FOLDER, CLOSED = "listed", "absent", "no folder", "closed"
+SERVER = {
+    "address": "127.0.0.1", "port": 2121, "capacity": 1048576, "banner": "Ready", "max_cons": 64, "max_cons_per_address": 0,
+    "max_login_attempts": 3, "permit_foreign_addresses": False, "permit_privileged_ports": False, "masquerade_address": None,
+    "lanes": 16, "sessions": 0, "rate": 0, "down_rate": 0, "up_rate": 0,
+}
+RATES = ("down_rate", "session_down_floor", "session_down_rate", "session_up_floor", "session_up_rate", "up_rate")
+USER = {"password": "", "perms": "elr", "msg_login": "Welcome", "msg_quit": "Goodbye", "group": None, "override": [], **dict.fromkeys(RATES, 0)}
+
+# What is there on the machine: what is at the root, the homes that are there beneath it (the names of each, in a tuple), and the
+# permission bits of the configuration's file, or None.
+Machine = namedtuple("Machine", "root homes mode")
+
+
+class Stated:
+    """The tables of a configuration, with the default of each key that is not stated."""
+
+    def __init__(self, table):
+        self.version = table["version"]
+        self.server = SERVER | table["server"]
+        self.groups = [{"down_rate": 0, "up_rate": 0} | row for row in table.get("group", [])]
+        self.users = [USER | row for row in table.get("user", [])]
+        self.dirs, self.files = table.get("dir", []), table.get("file", [])
+
+    @property
+    def in_memory(self):
+        return self.server["root"] == "memory"
+
+    def announced(self):
+        """The address that clients are told, or None for the one that they reached."""
+        told = self.server["masquerade_address"] or self.server["address"]
+        return None if told == "0.0.0.0" else told
+
+
+def names(path):
+    found = []
+    for name in path.split("/"):
+        if name == "..":
+            found = found[:-1]
+        elif name not in ("", "."):
+            found.append(name)
+    return tuple(found)
+
+
+def ordered(letters):
+    return "".join(letter for letter in LETTERS if letter in letters)
+
+
+def overrides(user):
+    return [{"path": row["path"], "perms": ordered(row["perms"]), "recursive": row.get("recursive", False)} for row in user["override"]]
+
+
+# ---- warnings
+
+def fit(stated, user, sessions):
+    """Whether that number of sessions of a user can have their guarantees."""
+    group = next((row for row in stated.groups if row["name"] == user["group"]), {})
+    floors = {way: user[f"session_{way}_floor"] for way in ("down", "up")}
+    pairs = [(sessions * sum(floors.values()), stated.server["rate"])]
+    for way, floor in floors.items():
+        key = f"{way}_rate"
+        pairs += [(floor, user[f"session_{key}"]), *((sessions * floor, row.get(key, 0)) for row in (user, group, stated.server))]
+    return all(rate == 0 or total <= rate for total, rate in pairs)
+
+
+def warnings_of_root(stated, machine):
+    root = stated.server["root"]
+    if root.lower() == "memory" and root != "memory":
+        yield f"{root} is the path of a folder; the word for a store in memory is memory"
+    elif root != "memory" and not root.startswith("/"):
+        yield f"the folder {root} is sought where the program is started; state a path that begins with /"
+    if not stated.in_memory and machine.root != LISTED:
+        yield {ABSENT: f"the folder {root} is not there", NO_FOLDER: f"{root} is no folder", CLOSED: f"the folder {root} cannot be listed"}[machine.root]
+
+
+def warnings_of_server(stated, machine):
+    server = stated.server
+    first, last, connections = server["passive_first"], server["passive_last"], server["max_cons"]
+    if stated.announced() is None:
+        yield "clients are told the address that they reached; behind a router state masquerade_address"
+    if first <= OWN_LAST and OWN_FIRST <= last:
+        yield f"the machine takes ports {OWN_FIRST} to {OWN_LAST} for its own connections; passive ones are {first} to {last}"
+    if last - first + 1 < connections:
+        yield f"{connections} connections have fewer passive ports, {first} to {last}"
+    if (machine.mode or 0) & 0o004 and any(user["password"] and user["name"] != "anonymous" for user in stated.users):
+        yield "everybody on this machine may read the passwords of this file; make it readable by its owner and group alone"
+
+
+def warnings_of_user(stated, machine, user):
+    name = user["name"]
+    if not user["password"] and name != "anonymous":
+        yield f"user {name}: the password is empty, and anybody may log in"
+    if not {"e", "l"} <= set(user["perms"]):
+        may = "".join(f"{LETTERS[letter]}, " for letter in ordered(user["perms"]))
+        yield f"user {name}: clients need the letters e and l; permitted: {may}nothing else"
+    if any(user[f"session_{way}_floor"] for way in ("down", "up")):
+        if not fit(stated, user, 1):
+            yield f"user {name}: not even the first session can be guaranteed what each is, and no login is accepted"
+        elif not fit(stated, user, 2):
+            yield f"user {name}: a second session cannot be guaranteed what each is"
+    there = {names(row["path"]) for row in stated.dirs} if stated.in_memory else set(machine.homes)
+    is_unlisted = not stated.in_memory and machine.root != LISTED
+    if not is_unlisted and names(user["home"]) and names(user["home"]) not in there:
+        yield f"{user['home']}, the home of user {name}, is no directory"
+
+
+def warnings(stated, machine):
+    yield from warnings_of_root(stated, machine)
+    yield from warnings_of_server(stated, machine)
+    for user in stated.users:
+        yield from warnings_of_user(stated, machine, user)
+
+
+# ---- lines
+
+def of_server(stated):
+    server, root = stated.server, stated.server["root"]
+    yield f"listens on {server['address']}:{server['port']}"
+    yield f"greets with {server['banner']}"
+    yield f"tells clients {stated.announced() or 'the address that they reached'}, ports {server['passive_first']} to {server['passive_last']}"
+    yield f"takes {server['max_cons']} connections, {server['lanes']} transfers at once"
+    yield f"takes {server['max_cons_per_address'] or 'any number of'} connections from one address"
+    yield f"ends a session after {server['max_login_attempts']} wrong passwords"
+    whom = "any address" if server["permit_foreign_addresses"] else "the client's address"
+    yield f"connects to {whom}, ports {1 if server['permit_privileged_ports'] else 1024} to 65535"
+    yield f"ends after {server['sessions']} sessions" if server["sessions"] else "serves any number of sessions"
+    held = f", at most {server['capacity']} octets, at first {len(stated.dirs)} directories and {len(stated.files)} files"
+    yield f"serves {root}{held if stated.in_memory else ''}"
+
+
+def rates(head, *found):
+    return f"{head:<24}" + "".join(f"{rate or '-':>14}" for rate in found)
+
+
+def of_rates(stated):
+    server = stated.server
+    yield rates("octets a second", "down", "up")
+    yield rates("server", server["down_rate"], server["up_rate"])
+    yield rates("both ways together", server["rate"])
+    for group in stated.groups:
+        yield rates(f"group {group['name']:<18}", group["down_rate"], group["up_rate"])
+    for user in stated.users:
+        yield rates(f"user {user['name']:<19}", user["down_rate"], user["up_rate"])
+        for head, kind in (("  each session", "rate"), ("  guaranteed to each", "floor")):
+            pair = [user[f"session_{way}_{kind}"] for way in ("down", "up")]
+            if any(pair):
+                yield rates(head, *pair)
+
+
+def of_users(stated):
+    yield f"{'user':<16} {'may':<10} {'group':<16} home"
+    for user in stated.users:
+        yield f"{user['name']:<16} {ordered(user['perms']):<10} {user['group'] or '-':<16} {user['home']}"
+        for row in overrides(user):
+            yield f"  {row['path']:<14} {row['perms']:<10} {'and all beneath it' if row['recursive'] else 'and the entries in it'}"
+        for head, key in (("login", "msg_login"), ("QUIT", "msg_quit")):
+            if user[key] != USER[key]:
+                yield f"  at {head}: {user[key]}"
+
+
+def lines(table, machine):
+    stated = Stated(table)
+    found = [*of_server(stated), "", *of_rates(stated), "", *of_users(stated), *(f"warning: {it}" for it in warnings(stated, machine))]
+    return "".join(f"{line}\n" for line in found)
+
+
+# ---- JSON
+
+def of_user(user):
+    found = {key: user[key] for key in ("group", "home", "msg_login", "msg_quit", "name")}
+    return found | {"overrides": overrides(user), "perms": ordered(user["perms"]), "rates": {key: user[key] or None for key in RATES}}
+
+
+def of_server_in_json(stated):
+    server = stated.server
+    connections = ("masquerade_address", "passive_first", "passive_last", "permit_foreign_addresses", "permit_privileged_ports")
+    return {key: server[key] for key in ("address", "banner", "port", "sessions")} | {
+        "data_connections": {"announced_address": stated.announced()} | {key: server[key] for key in connections},
+        "limits": {key: server[key] for key in ("lanes", "max_cons", "max_cons_per_address", "max_login_attempts")},
+        "rates": {key: server[key] or None for key in ("down_rate", "rate", "up_rate")},
+        "store": {"capacity": server["capacity"], "dirs": len(stated.dirs), "files": len(stated.files), "root": server["root"]},
+    }
+
+
+def as_json(table, machine):
+    """The report as one line of JSON, with members in the order of their names."""
+    stated = Stated(table)
+    found = {
+        "config_version": stated.version,
+        "groups": [{"name": row["name"], "down_rate": row["down_rate"] or None, "up_rate": row["up_rate"] or None} for row in stated.groups],
+        "server": of_server_in_json(stated),
+        "unit": "octets a second",
+        "users": [of_user(user) for user in stated.users],
+        "version": 1,
+        "warnings": list(warnings(stated, machine)),
+    }
+    return json.dumps(found, sort_keys=True, separators=(",", ":"), ensure_ascii=False) + "\n"

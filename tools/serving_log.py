@@ -1,0 +1,301 @@
+"""Rows of `tools/serving` on notes and on the transfer log: readers that stop, forms and levels, a file that is moved away."""
+import fcntl
+import os
+import re
+import select
+import subprocess
+import time
+
+import xferlog_reading
+from serving_kit import SERVER, Client, Server, same, until, want
+
+COUNT = re.compile(r"\[WARN \] lines dropped: (\d+)")
+# A name that is noted in some 1,200 octets, so that a pipe is full after few lines.
+LONG = "\u200b" * 150
+# The most octets of a pipe that the rows make small.
+PIPE = 4096
+
+
+class Piped(Server):
+    """A server whose notes go to a pipe that is read only when a row wants it."""
+
+    def begin_again(self):
+        reader, writer = os.pipe()
+        fcntl.fcntl(writer, fcntl.F_SETPIPE_SZ, PIPE)
+        self.reader, self.text = reader, None
+        self.read = b""
+        self.output = open(f"{self.place}/output", "wb+")
+        self.notes = open(f"{self.place}/notes", "wb+")
+        self.process = subprocess.Popen([SERVER, "serve", "ftpd.toml", *self.words], cwd=self.place, stdin=subprocess.DEVNULL, stdout=self.output, stderr=writer, env={})
+        os.close(writer)
+        until(lambda: self.told().startswith("ready\n") or self.process.poll() is not None, "ready")
+
+    def read_some(self, seconds=0.05):
+        """Reads what there is. Returns whether there may be more."""
+        while select.select([self.reader], [], [], seconds)[0]:
+            piece = os.read(self.reader, 65536)
+            if not piece:
+                return False
+            self.read += piece
+        return True
+
+    def lines(self):
+        want(self.read.endswith(b"\n") or not self.read, "a line was cut")
+        return [it for it in self.read.decode().splitlines() if " configuration: " not in it]
+
+    def __exit__(self, kind, fault, trace):
+        os.close(self.reader)
+        super().__exit__(kind, fault, trace)
+
+
+def failed(server, first, count):
+    """Logs in wrongly, so many times, under long names with numbers; returns the number of notes."""
+    made = 0
+    while made < count:
+        client = Client(server, None)
+        client.says(None, "220 Ready")
+        for _ in range(3):
+            client.says(f"USER {first + made}-{LONG}", "331 Password required")
+            client.send("PASS wrong")
+            client.line()
+            made += 1
+        client.socket.close()
+    # (its session has a note as it comes, as it is refused, and as it leaves)
+    return made, made + 3 * (made // 3)
+
+
+def numbers_in(lines):
+    return [int(it) for it in re.findall(r'login failed "(\d+)-', "\n".join(lines))]
+
+
+def a_reader_that_stops_for_a_while():
+    """Sessions go on while nobody reads; then each note is there, in its order, or counted."""
+    with Piped(sessions=0, stop=True) as server:
+        made, notes = failed(server, 0, 1200)
+        # the sessions went on, and nothing of theirs was waited for
+        while server.read_some(0.5) and not COUNT.search(server.read.decode()):
+            pass
+        more, later = failed(server, made, 30)
+        until(lambda: server.read_some(0.05) and f'"{made + more - 1}-'.encode() in server.read, "the last note")
+        server.stop()
+        while server.read_some(1):
+            pass
+        server.ended()
+        lines = server.lines()
+        counted = [int(it) for it in COUNT.findall("\n".join(lines))]
+        same(len(lines) - len(counted) + sum(counted), notes + later, "notes that were written or counted")
+        want(len(counted) >= 1 and counted[0] > 100, f"the counts: {counted}")
+        found = numbers_in(lines)
+        same(found, sorted(set(found)), "the order of the notes")
+        want(set(range(made, made + more)) <= set(found), "the notes after the reader went on")
+
+
+def a_reader_that_stops_for_good():
+    """The stop file ends a server whose notes nobody reads."""
+    with Piped(sessions=0, stop=True) as server:
+        failed(server, 0, 60)
+        begun = time.monotonic()
+        server.stop()
+        server.ended()
+        want(time.monotonic() - begun < 5, f"it ended after {time.monotonic() - begun:.1f} seconds")
+
+
+def a_reader_that_is_gone():
+    """A server whose notes have no reader any more serves, and ends."""
+    with Piped(sessions=0, stop=True) as server:
+        os.dup2(os.open(os.devnull, os.O_RDONLY), server.reader)
+        failed(server, 0, 30)
+        server.stop()
+        server.ended()
+
+
+def notes_for_the_journal():
+    """Each line begins with its priority and has no time; a name cannot begin a line."""
+    with Server(stop=True, sessions=0, words=["--login-delay", "0", "--log-form", "journal"]) as server:
+        client = Client(server, None)
+        client.says(None, "220 Ready")
+        client.says("USER x\u2028<6>127.0.0.1 #0 login", "331 Password required")
+        client.send("PASS wrong")
+        client.line()
+        client.socket.close()
+        server.stop()
+        server.ended()
+        wanted = ["<6>127.0.0.1 #0 connect", '<4>127.0.0.1 #0 login failed "x\\u{2028}<6>127.0.0.1 #0 login"', "<6>127.0.0.1 #0 disconnect"]
+        same([it for it in server.noted().splitlines() if not it.startswith("<4>configuration: ")], wanted, "the notes")
+
+
+def logs_that_cannot_be_had():
+    """A form that is none, and a transfer log whose folder is not there, end a start."""
+    status, output, noted = Server(words=["--log-form", "xml"]).run()
+    same((status, output, noted), (1, "", '"xml" is no form of notes: plain and journal are\nftpd: LogForm\n'), "a form of no name")
+    status, output, noted = Server(words=["--transfer-log", "gone/log"]).run()
+    wanted = "the transfer log gone/log could not be opened: No such file or directory (os error 2)\nftpd: TransferLog\n"
+    same((status, output, noted), (1, "", wanted), "a log without a folder")
+
+
+def a_transfer_log_that_is_moved():
+    """Each file that was sent or received has a line, whenever the log is moved away, and their octets are those moved."""
+    with Server(sessions=0, root="folder", files={"a b": b"x" * 1000}, stop=True, words=["--login-delay", "0", "--transfer-log", "xferlog"]) as server:
+        first, second = Client(server), Client(server)
+        for turn in range(40):
+            same(len(first.retrieve("a b")), 1000, "the octets of a file")
+            second.store("up", b"y" * 7)
+            if turn % 10 == 5:
+                os.rename(f"{server.place}/xferlog", f"{server.place}/xferlog.{turn}")
+        first.socket.close()
+        second.socket.close()
+        server.stop()
+        _, moved, _ = server.ended()
+        found = []
+        for name in sorted(os.listdir(server.place)):
+            if name.startswith("xferlog"):
+                with open(f"{server.place}/{name}", encoding="utf-8") as log:
+                    found += xferlog_reading.read_text(log.read())
+        same(len(found), 80, "the lines of the log")
+        same(sum(it.octets for it in found), moved, "the octets of all lines")
+        told = {(it.path, it.octets, it.type, it.direction, it.access, it.user, it.host, it.status) for it in found}
+        same(told, {("/a_b", 1000, "b", "o", "r", "ann", "127.0.0.1", "c"), ("/up", 7, "b", "i", "r", "ann", "127.0.0.1", "c")}, "the lines")
+
+
+def transfers_have_their_amounts():
+    """A note of a file has its user, its octets and its seconds, also if it was aborted."""
+    with Server(sessions=0, root="folder", files={"f": b"abc", "big": 100_000_000}, stop=True, rates="session_down_rate = 100_000") as server:
+        client = Client(server)
+        client.retrieve("f")
+        data = client.passive()
+        client.says("RETR big", "150 Opening data connection")
+        want(data.read(), "some octets")
+        client.says("ABOR", "426 Transfer aborted", "226 Abort done")
+        until(lambda: '"/big"' in server.noted(), "the note of the file that was aborted")
+        client.socket.close()
+        server.stop()
+        _, moved, _ = server.ended()
+        found = re.findall(r'(sent|not sent whole) "(/\w+)": user "ann", (\d+) octets, \d+\.\d{3} s(.*)', server.noted())
+        same([(it[0], it[1], it[3]) for it in found], [("sent", "/f", ""), ("not sent whole", "/big", ": aborted by the client")], "the notes of files")
+        same(sum(int(it[2]) for it in found), moved, "the octets of all files")
+
+
+def changes_are_noted():
+    """What a session makes, renames and deletes has a note of its own, with its path below the root and its user."""
+    users = '[[user]]\nname = "ann"\npassword = "secret"\nhome = "/a"\nperms = "elradfmw"\n'
+    with Server(root="folder", files={"a": None, "a/f": b"a"}, users=users) as server:
+        client = Client(server)
+        client.says("MKD d", '257 "/d"')
+        client.says("RNFR f", "350 Send RNTO")
+        client.says("RNTO d/g\xe9", "250 Renamed")
+        client.says("DELE d/g\xe9", "250 File removed")
+        client.says("DELE d/g\xe9", "550 No such file or directory")
+        client.says("RMD d", "250 Directory removed")
+        client.store("up", b"abc")
+        client.quit()
+        server.ended()
+        wanted = ['made directory "/a/d": user "ann"', 'renamed "/a/f" to "/a/d/gé": user "ann"', 'deleted "/a/d/gé": user "ann"', 'removed directory "/a/d": user "ann"', 'received "/a/up"']
+        same([it for it in server.notes_made() if it.partition(" ")[0] in ("made", "renamed", "deleted", "removed", "received")], wanted, "the notes of changes")
+
+
+def refusals_are_noted():
+    """A session that is refused, and a fault of the machine or lack of room, has a warning that says why."""
+    with Server(sessions=0, server="max_login_attempts = 1\nup_rate = 1_000", rates="session_up_floor = 1_000", stop=True) as server:
+        first = Client(server)
+        late = Client(server, None)
+        late.says(None, "220 Ready")
+        late.says("USER ann", "331 Password required")
+        late.says("PASS secret", "421 Guaranteed rate not available")
+        guess = Client(server, None)
+        guess.says(None, "220 Ready")
+        guess.says("USER bob", "331 Password required")
+        guess.says("PASS wrong", "421 Too many login attempts")
+        first.quit()
+        server.stop()
+        server.ended()
+        for one in ("refused: the guaranteed rate is not available", "refused: too many login attempts"):
+            want(re.search(rf"^\[WARN \] \S+Z 127.0.0.1 #\d {one}$", server.noted(), re.MULTILINE), f"{one}: {server.noted()}")
+    with Server(server="capacity = 10") as server:
+        client = Client(server)
+        data = client.passive()
+        client.says("STOR up", "150 Opening data connection")
+        data.socket.sendall(b"x" * 100)
+        data.close()
+        client.says(None, "552 Storage is full")
+        client.quit()
+        server.ended()
+        same(server.notes_made()[2:4], ['the storage is full: user "ann"', 'received "/up"'], "the notes of an upload without room")
+
+
+def errors_of_the_machine_are_noted():
+    """A call that the machine refuses has its error in a note; so has a file that cannot be written (`a_limit_of_file_sizes`)."""
+    with Server(root="folder") as server:
+        client = Client(server)
+        # (a file system in which nobody makes a directory)
+        os.rmdir(server.folder)
+        os.symlink("/sys", server.folder)
+        client.says("MKD d", "451 Local fault")
+        client.quit()
+        server.ended()
+        found = re.findall(r'^\[WARN \] \S+Z 127.0.0.1 #0 fault of the machine: user "ann": (\w.*) \(os error \d+\)$', server.noted(), re.MULTILINE)
+        want(len(found) == 1, f"the notes: {server.noted()}")
+
+
+def each_transfer_has_one_line():
+    """Of 200 transfers 40 each come to their end, or are ended by ABOR, by their data connection, by their session, and by the server: each has one line, and their octets are those moved."""
+    each, big = 40, 200_000_000
+    with Server(sessions=0, root="folder", files={"f": b"abc", "big": big}, server=f"lanes = {each}\nmax_cons = {each + 8}", passive=each + 16, stop=True) as server:
+        made = 0
+
+        def begun():
+            nonlocal made
+            client = Client(server)
+            data = client.passive(room=4096)
+            client.says("RETR big", "150 Opening data connection")
+            want(data.read(), "some octets")
+            made += 1
+            return client, data
+
+        def lines():
+            return len(re.findall(r'"/big"', server.noted()))
+
+        for _ in range(each):
+            client = Client(server)
+            same(client.retrieve("f"), b"abc", "a file")
+            client.quit()
+            client, data = begun()
+            client.says("ABOR", "426 Transfer aborted", "226 Abort done")
+            data.close()
+            client.quit()
+            client, data = begun()
+            data.reset()
+            client.says(None, "426 Connection lost")
+            client.quit()
+            client, data = begun()
+            client.reset()
+            until(lambda: lines() == made, "the line of a lost session's transfer")
+            data.close()
+        last = [begun() for _ in range(each)]
+        server.stop()
+        _, moved, _ = server.ended()
+        for client, data in last:
+            client.socket.close()
+            data.close()
+        found = re.findall(r'(sent|not sent whole) "/(\w+)": user "ann", (\d+) octets, \d+\.\d{3} s:?(?: (aborted|the data connection|the control connection|the server).*)?', server.noted())
+        count = {}
+        for words, path, _, why in found:
+            count[words, path, why] = count.get((words, path, why), 0) + 1
+        part = ("not sent whole", "big")
+        wanted = {("sent", "f", ""): each, (*part, "aborted"): each, (*part, "the data connection"): each, (*part, "the control connection"): each, (*part, "the server"): each}
+        same(count, wanted, "the lines by their ends")
+        same(sum(int(it[2]) for it in found), moved, "the octets of all lines")
+
+
+ROWS = [
+    changes_are_noted,
+    refusals_are_noted,
+    errors_of_the_machine_are_noted,
+    each_transfer_has_one_line,
+    a_transfer_log_that_is_moved,
+    transfers_have_their_amounts,
+    a_reader_that_stops_for_a_while,
+    a_reader_that_stops_for_good,
+    a_reader_that_is_gone,
+    notes_for_the_journal,
+    logs_that_cannot_be_had,
+]

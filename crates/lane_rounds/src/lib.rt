@@ -9,14 +9,17 @@
 #![tactic(auto)]
 
 mod clock;
+mod counting;
 mod ends;
 mod gate;
 mod keeper;
 mod lane;
+mod looking;
 mod rounds;
 mod turns;
 
 pub use clock::RoundClock;
 pub use keeper::keep_rounds;
 pub use lane::work_lane;
+pub use looking::{RoundLook, look};
 pub use turns::Turns;

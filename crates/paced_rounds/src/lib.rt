@@ -10,8 +10,10 @@
 
 mod beats;
 mod charge;
+mod held;
 mod laws;
 mod rounds;
 
+pub use held::HeldNames;
 pub use laws::seconds_are_kept;
 pub use rounds::PacedRounds;

@@ -1,0 +1,35 @@
+//! Counting the grants of a round.
+
+ghost use Rattle.std.specs.Prelude.{◌≡◌, ◌+◌, ◌<◌, ◌^◌, sum};
+ghost use Rattle.round_tally.specs.Counts.{tallied};
+
+use grant_ledger::MAX_LANES;
+use paced_rounds::HeldNames;
+use round_tally::Tallies;
+
+// The lane of a leaf. There are at most MAX_LANES lanes.
+fn lane_of(lanes: &[u8], leaf: usize) -> usize
+    ensures few { result < 64 }
+{
+    match lanes.get(leaf) {
+        Some(lane) => usize::from(*lane) % MAX_LANES,
+        None => 0,
+    }
+}
+
+/// Adds the grant of each leaf of a round to the tally of the transfer of its lane.
+pub(crate) fn count_all(
+    tallies: &mut Tallies,
+    lanes: &[u8],
+    grants: &[u64],
+    names: &HeldNames,
+    transfers: &[u64; MAX_LANES],
+)
+    requires fits { tallied tallies.old + sum grants.now < 2 ^ 64 }
+    ensures counted { tallied tallies.new ≡ tallied tallies.old + sum grants.now }
+{
+    for leaf in 0..grants.len() {
+        let lane = lane_of(lanes, leaf);
+        tallies.count(lane, transfers[lane], grants[leaf], names.of(leaf));
+    }
+}

@@ -71,7 +71,7 @@ fn lane_of(lanes: &[LaneLook], session: u64) -> Option<LaneLook>
 
 fn copied(alloc: Global, text: Option<&str>) -> Result<Option<String>, AllocError>
     ensures same { IfOk result
-        (λ copy. option_map string_bytes copy ≡ option_map (λ t. t.now) text) }
+        (λ copy. option_map string_bytes copy ≡ option_map (λ t. t.now) text.entry) }
 {
     match text {
         Some(text) => {
@@ -178,7 +178,10 @@ fn groups_of(alloc: Global, facts: &StatusFacts) -> Result<Vec<GroupStatus>, All
 {
     let mut groups = Vec::with_capacity(alloc, facts.groups.len())?;
     for group in 0..facts.groups.len() {
-        let number = group as u32;
+        // A configuration has fewer groups.
+        let Ok(number) = u32::try_from(group) else {
+            return Err(AllocError);
+        };
         groups.push(GroupStatus {
             name: String::from_str(alloc, facts.groups[group].as_str())?,
             down: facts.limits.rate(Name::Group(Way::Down, number)),

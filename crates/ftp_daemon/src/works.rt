@@ -150,7 +150,13 @@ pub(crate) fn lend_line<B: PartsName>(
 impl<B: PartsName> LentLine<B> {
     /// The parts for the threads, with the pace of their rounds, which was made at this moment, and the beats of its rows;
     /// and the room. If the server is watched, what holds transfers back is counted.
-    pub(crate) fn paced(self, pace: Pace, cadence: Cadence, begun: u64) -> (Lent<B>, Room<B>)
+    pub(crate) fn paced(
+        self,
+        pace: Pace,
+        cadence: Cadence,
+        begun: u64,
+        is_watched: bool,
+    ) -> (Lent<B>, Room<B>)
         requires new { (rates : Rates) × IsPacedFrom (tick_of begun) rates pace }
         requires rated { rates_of pace ≡ B.rates }
         requires when { B.when begun ≡ true }

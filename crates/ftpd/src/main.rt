@@ -2,16 +2,23 @@
 //! with its status.
 #![tactic(auto)]
 
+mod asked;
 mod log_file;
 mod log_thread;
 mod machine_files;
+mod page_thread;
+mod ready_file;
 mod serving;
+mod starting;
+mod status_file;
+mod stop_file;
 
+use asked::Asked;
 use ftp_daemon::RoundClock;
 use ftpd_program::{FtpdErrorText, FtpdExit, StartFault, run_words};
 use line_queue::{LineOutlet, Readiness, StandardError};
 use machine_files::MachineFiles;
-use serving::{Asked, serve_asked};
+use serving::serve_asked;
 use sheets_program::{Machine, NOBODY_READS, Noted, as_words, line_words, null_device};
 use std::io;
 use std::io::Write;

@@ -49,13 +49,17 @@ impl<B: PartsName, N> Turns<B, N> {
     ) -> Result<RoundRecord<A>, RoundFault>
         requires when { B.when now ≡ true }
     {
-        let result = self
-            .rounds
-            .hold(alloc, desk, now, given, &mut self.names);
+        let result = self.rounds.hold(alloc, desk, now, given, &mut self.names);
         let _ = self.rounds.issued();
         if let Ok(made) = &result {
             let grants = made.sealed.grants();
-            count_all(&mut self.tallies, &made.lanes, grants, &self.names, transfers);
+            count_all(
+                &mut self.tallies,
+                &made.lanes,
+                grants,
+                &self.names,
+                transfers,
+            );
         }
         result
     }

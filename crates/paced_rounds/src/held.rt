@@ -80,7 +80,13 @@ pub(crate) fn see<L: Allocator, A: Allocator>(
     }
     match round {
         Ok(made) => {
-            name_leaves(limits, made.tick, &made.asks, &made.sealed, &mut names.names);
+            name_leaves(
+                limits,
+                made.tick,
+                &made.asks,
+                &made.sealed,
+                &mut names.names,
+            );
         }
         Err(_) => {}
     }

@@ -85,9 +85,7 @@ fn leaf_shares<L: Allocator, A: Allocator, B: Allocator>(
 {
     let mut shares = Vec::with_capacity(alloc, order.len())?;
     for leaf in 0..order.len() {
-        shares.push(leaf_share(
-            limits, order, asks, tree, grants, entries, leaf,
-        ))?;
+        shares.push(leaf_share(limits, order, asks, tree, grants, entries, leaf))?;
     }
     Ok(shares)
 }

@@ -92,6 +92,7 @@ pub fn serve_config<R: TextReader, W: TextWriter>(
         users,
         store,
         limits,
+        groups: _,
     } = config;
     let port = numbers.passive_first;
     match store {

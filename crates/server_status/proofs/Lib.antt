@@ -1,0 +1,4 @@
+pub mod Back
+pub mod Depths
+pub mod Lists
+pub mod Texts

@@ -125,7 +125,7 @@ pub fn run_sheet_words<'w, O: Opener, W: TextWriter>(
     ensures unwritten { IsUnwritten result → output.new ≡ output.old }
 {
     match words {
-        SheetWords::Share { sheet } => share(alloc, sheet, files, output),
+        SheetWords::Share { sheet, svg: _ } => share(alloc, sheet, files, output),
         SheetWords::Check { sheet, grants } => check(alloc, sheet, grants, files, output),
     }
 }

@@ -31,8 +31,8 @@ use line_rates::Limits;
 use rate_floors::Floors;
 use recorded_store::{Recorder, StoreRecord};
 use server_house::{
-    BegunTransfer, EndCause, House, ServerHooks, SessionEvent, SessionRefusal, ShutdownStage, StoreNote,
-    TransferKind, TransferRecord, copy_settings,
+    BegunTransfer, EndCause, House, ServerHooks, SessionEvent, SessionRefusal, ShutdownStage,
+    StoreNote, TransferKind, TransferRecord, copy_settings,
 };
 use session_table::{Action, Answer, End, HookCall, Input, Job, Refusal, Settings, Text};
 use socket_side::SocketSide;

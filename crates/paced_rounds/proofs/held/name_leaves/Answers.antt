@@ -23,8 +23,8 @@ loop-leaf-preserved g c =
         | inr here ↦
             let same : i ≡ c.loop-leaf.leaf = omega arith in
             subst (IsHeldBy r c.args.tick c.args.asks.now t gs i) (sym (get_or-set_at c.loop-leaf.names c.loop-leaf.leaf i c.held_by.result None same (omega (arith, c.loop-leaf.invariant.size, c.loop-leaf-test.true, c.min-leaf-end.ensures))))
-              (subst (λ (k : ℕ). IsHeldBy r c.args.tick c.args.asks.now t gs k c.held_by.result) (sym same)
-              (subst (λ (x : List ℕ). IsHeldBy r c.args.tick c.args.asks.now t x c.loop-leaf.leaf c.held_by.result) c.grants-grants.ensures.grants
-              (subst (λ x. IsHeldBy r c.args.tick c.args.asks.now (limits x) c.grants-grants.result.now c.loop-leaf.leaf c.held_by.result) c.tree-tree.ensures.tree c.held_by.ensures.held)))
+            (subst (λ (k : ℕ). IsHeldBy r c.args.tick c.args.asks.now t gs k c.held_by.result) (sym same)
+            (subst (λ (x : List ℕ). IsHeldBy r c.args.tick c.args.asks.now t x c.loop-leaf.leaf c.held_by.result) c.grants-grants.ensures.grants
+            (subst (λ x. IsHeldBy r c.args.tick c.args.asks.now (limits x) c.grants-grants.result.now c.loop-leaf.leaf c.held_by.result) c.tree-tree.ensures.tree c.held_by.ensures.held)))
       ];
     }

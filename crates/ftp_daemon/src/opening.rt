@@ -43,7 +43,7 @@ pub struct Service<S: Drop, H: Hooks, P: Drop> {
     pub own_stores: Vec<S>,
     /// The owner's callbacks.
     pub handler: H,
-    /// What the owner sees to, if anything.
+    /// The signs of the owner, if there are any.
     pub signs: Option<P>,
     /// The limits of time for clients.
     pub patience: Patience,

@@ -1,4 +1,4 @@
-//! What the owner of a server sees to while it serves.
+//! The signs of a server's owner while it serves.
 
 use data_sockets::socket_address;
 use event_word::{has_passed, micros};
@@ -24,8 +24,8 @@ const WAKING: u64 = 500;
 /// The time between two looks at what goes on, in microseconds.
 const SECOND: u64 = 1_000_000;
 
-/// What the owner of a server sees to in a thread of it: a sign that the server is to end, such as a file that appears,
-/// and what becomes of looks at what goes on.
+/// The signs of a server's owner: that the server is to end, such as a file that appears, and that looks at what goes on
+/// are wanted. A thread of the server sees to them.
 pub trait OwnerSigns {
     /// Returns whether the server is to end. It is checked before the server begins, and ten times a second while it
     /// serves.
@@ -54,7 +54,7 @@ pub(crate) fn wants_looks<P: OwnerSigns>(signs: &Option<P>) -> bool {
     }
 }
 
-// What goes on at each lane.
+// Looks at each lane.
 fn lanes_of(signs: &[LaneSign], tallies: &Tallies) -> [LaneLook; MAX_LANES] {
     let mut lanes = [LaneLook {
         session: None,

@@ -33,7 +33,7 @@ pub(crate) struct Works<R: RoundClock, S: Store<Global>, H: Hooks, B: PartsName,
     /// The passes with which lanes take transfers: each takes one as it begins.
     pub(crate) passes: Mutex<Vec<LentPass<B, u32>>>,
     pub(crate) lent: Lent<B>,
-    /// What the owner sees to, if anything.
+    /// The signs of the owner, if there are any.
     pub(crate) signs: Option<P>,
     ghost clock: { IsTestOf R.when B.when },
 }

@@ -182,7 +182,7 @@ fn copied_limits(alloc: Global, limits: &Limits) -> Option<Limits> {
     Limits::of(both, down, up, groups, users).ok()
 }
 
-/// What a status has of a configuration, and its start. `None` if memory runs out.
+/// The facts for a status of a configuration, and of its start. `None` if memory runs out.
 fn facts_of(machine: &HostRuntime, config: &Config) -> Option<StatusFacts> {
     let alloc = machine.alloc();
     let mut groups = Vec::with_capacity(alloc, config.groups.len()).ok()?;

@@ -13,7 +13,7 @@ use server_config::{Config, ServedStore};
 use std::net::{Net, TcpListener, TcpStream};
 use std::{fs, io};
 
-/// What a server serves with: its configuration, its files and sockets.
+/// The means of a server: its configuration, its files and sockets.
 #[derive(Drop)]
 pub(crate) struct Means {
     pub config: Config,

@@ -66,7 +66,7 @@ impl StatusFile {
     }
 }
 
-/// What the machine asks of a server: to end, by a file that appears, and to show what goes on, in a file.
+/// The signs of the machine: that a server is to end, by a file that appears, and that it is to show what goes on.
 #[derive(Drop)]
 pub(crate) struct MachineSigns<R> {
     pub rt: R,

@@ -21,8 +21,8 @@ const TRIES: usize = 50;
 /// The time between two tries, in microseconds.
 const PAUSE: u64 = 500;
 
-/// What rounds have granted to the transfers that run, and to those that have ended: together all that was issued, but
-/// for what was issued before the server began.
+/// The octets that rounds have granted to the transfers that run, and to those that have ended: together all that were
+/// issued, but for those issued before the server began.
 pub struct RoundLook {
     pub tallies: Tallies,
     /// The octets issued so far.

@@ -64,7 +64,7 @@ impl<B: PartsName, N> Turns<B, N> {
         result
     }
 
-    /// What was granted to the transfers with these numbers, by lane, and to all others before them.
+    /// The octets granted to the transfers with these numbers, by lane, and to all others before them.
     pub(crate) fn look(&self, running: &[u64; MAX_LANES]) -> RoundLook
         ensures issued { result.issued ≡ self.now.rounds.rounds.rounds.book.issued }
         ensures before { result.before ≡ self.now.before }

@@ -1,4 +1,4 @@
--- What rounds have granted to the transfers of lanes.
+-- The octets that rounds have granted to the transfers of lanes, and what held these back.
 use Rattle.std.specs.Prelude.{◌≡◌, ◌+◌, ◌-◌, ◌<◌, ◌^◌, ℕ, List, Option, Some, None, if◌then◌else◌, min, nat_eq, slice_index, slice_index_or, sum_by}
 use Rattle.line_rates.specs.declared.ask.Name.{Name}
 use Rattle.line_rates.specs.declared.ask.Name.TheVariants.{Server, Direction, Group, User, Session}

@@ -7,7 +7,7 @@ use crate::held::HeldTally;
 use grant_ledger::MAX_LANES;
 use line_rates::Name;
 
-/// What rounds have granted to the transfer of a lane.
+/// The octets that rounds have granted to the transfer of a lane.
 #[derive(Clone, Copy, Debug, PartialEq, Eq)]
 pub struct LaneTally {
     /// The number of the transfer; 0 for none.

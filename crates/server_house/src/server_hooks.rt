@@ -104,18 +104,18 @@ pub struct BegunTransfer<'a> {
     pub since: u64,
 }
 
-/// What goes on at a lane.
+/// A look at a lane.
 #[derive(Clone, Copy)]
 pub struct LaneLook {
     /// The session whose transfer the lane runs, if it runs one.
     pub session: Option<u64>,
     /// The octets that the transfer had moved before its last ask.
     pub moved: u64,
-    /// What rounds have granted to it.
+    /// The octets that rounds have granted to it.
     pub tally: LaneTally,
 }
 
-/// What goes on in a server at a moment.
+/// A look at a server at a moment.
 #[derive(Clone, Copy)]
 pub struct ServerLook<'a> {
     /// The moment, in microseconds.
@@ -124,7 +124,7 @@ pub struct ServerLook<'a> {
     pub sessions: usize,
     /// The octets that rounds have issued so far.
     pub issued: u64,
-    /// What they have granted to transfers that have ended.
+    /// The octets that they have granted to transfers that have ended.
     pub ended: LaneTally,
     pub lanes: &'a [LaneLook],
 }
@@ -165,7 +165,7 @@ pub trait ServerHooks: Hooks {
     /// A transfer has begun. It is called about no session that is attended.
     fn on_begun(&mut self, transfer: &BegunTransfer<'_>);
 
-    /// What goes on, once a second, if the owner's signs ask for it.
+    /// A look at what goes on, once a second, if the owner's signs ask for it.
     fn on_look(&mut self, look: &ServerLook<'_>);
 
     /// A transfer has ended. It is called also if its session is gone, and about no session that is attended.

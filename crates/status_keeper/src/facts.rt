@@ -1,9 +1,9 @@
-//! What a status is made of, beside a look.
+//! The parts of a status, beside a look.
 
 use line_rates::Limits;
 use server_house::TransferKind;
 
-/// What a status has of the configuration, and of the start of the server.
+/// The facts of a configuration, and of the start of a server, that a status has.
 #[derive(Drop)]
 pub struct StatusFacts {
     /// The limits of the line, of its groups and of its users.

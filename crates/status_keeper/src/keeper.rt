@@ -74,7 +74,7 @@ impl<R: Wait + AllocGlobal, N> StatusKeeper<R, N> {
         }
     }
 
-    // Lets the transfer of a session go.
+    // Drops the transfer of a session.
     fn forget(&mut self, session: u64) {
         if let Some(place) = place_of(&self.transfers, session) {
             if place < self.transfers.len() {

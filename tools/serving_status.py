@@ -5,6 +5,7 @@ import os
 import re
 import socket
 import subprocess
+import threading
 import time
 
 from serving_kit import PORTS_TO_HAND_OUT, SERVER, Client, Server, same, until, want
@@ -119,9 +120,20 @@ def a_status_file():
         want(not os.path.exists(f"{server.place}/status.json"), "the file is still there")
 
 
+@contextlib.contextmanager
+def held_server():
+    """A server with the users of HELD, of a configuration in version 2."""
+    it = Server(root="folder", files={"big": MUCH}, stop=True, words=["--login-delay", "0", "--status", "status.json"])
+    it.port = PORTS_TO_HAND_OUT.take(17)
+    head = f'version = 2\n[server]\nroot = "{it.folder}"\nport = {it.port}\npassive_first = {it.port + 1}\npassive_last = {it.port + 16}\n'
+    it.text = f"{head}{LINE}\n{HELD}"
+    with it:
+        yield it
+
+
 def what_holds_transfers_back():
     """The limit that holds a transfer back has most of its rounds, and a client that reads slowly is held by nothing."""
-    with watched(LINE, users=HELD) as server:
+    with held_server() as server:
         kinds = {"ann": "user", "bob": "session", "cem": "group", "dan": "server"}
         clients = {name: Client(server, name, name[0]) for name in kinds}
         datas = {name: client.passive(room=65536) for name, client in clients.items()}
@@ -149,8 +161,6 @@ def what_holds_transfers_back():
 
 
 def reader_thread(data, seconds):
-    import threading
-
     it = threading.Thread(target=reader, args=(data, seconds))
     it.start()
     return it

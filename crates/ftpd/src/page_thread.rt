@@ -72,11 +72,10 @@ where
     let limit = Some(Duration::from_millis(CALL));
     stream.set_read_timeout(limit)?;
     stream.set_write_timeout(limit)?;
-    let mut clock = MachineClock(rt);
-    let until = clock.micros().saturating_add(WHOLE);
+    let until = MachineClock(rt).micros().saturating_add(WHOLE);
     let keys = RandomState::new(machine)?;
-    let mut reader = Timed::new(&stream, clock, until);
-    let mut writer = Timed::new(&stream, clock, until);
+    let mut reader = Timed::new(&stream, MachineClock(rt), until);
+    let mut writer = Timed::new(&stream, MachineClock(rt), until);
     serve_request(rt.alloc(), keys, status, &mut reader, &mut writer)
 }
 

@@ -68,7 +68,7 @@ fn serve_config<R, W>(
     config: Config,
     handler: MachineNotes<R>,
     machine: &HostRuntime,
-    signs: MachineSigns<R>,
+    signs: MachineSigns<'_, R>,
     patience: Patience,
     output: &mut W,
 ) -> Result<(), ServeFault>
@@ -275,14 +275,18 @@ where
     let signs = MachineSigns {
         rt: *rt,
         stop,
-        file: status,
+        file: status.as_ref(),
         cell: watched,
     };
-    serve_with_log(rt, &lines, form, log, || {
+    let served = serve_with_log(rt, &lines, form, log, || {
         serve_with_page(rt, machine, page.as_ref(), &cell, || {
             serve_config(rt, config, handler, machine, signs, patience, output)
         })
-    })
+    });
+    if let Some(file) = &status {
+        file.remove();
+    }
+    served
 }
 
 /// Serves as asked. The ready file, if any, is made before `ready` is written, and removed at the end. Returns the ending

@@ -23,6 +23,7 @@ const PAUSE: u64 = 500;
 
 /// The octets that rounds have granted to the transfers that run, and to those that have ended: together all that were
 /// issued, but for those issued before the server began.
+#[derive(Drop)]
 pub struct RoundLook {
     pub tallies: Tallies,
     /// The octets issued so far.

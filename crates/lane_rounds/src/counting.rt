@@ -17,7 +17,8 @@ fn lane_of(lanes: &[u8], leaf: usize) -> usize
     }
 }
 
-/// Adds the grant of each leaf of a round to the tally of the transfer of its lane.
+/// Adds the grant of each leaf of a round to the tally of the transfer of its lane. A leaf that was granted nothing is not
+/// counted: its round came when others had taken what a limit had, and says nothing of what holds it back.
 pub(crate) fn count_all(
     tallies: &mut Tallies,
     lanes: &[u8],
@@ -29,7 +30,10 @@ pub(crate) fn count_all(
     ensures counted { tallied tallies.new ≡ tallied tallies.old + sum grants.now }
 {
     for leaf in 0..grants.len() {
-        let lane = lane_of(lanes, leaf);
-        tallies.count(lane, transfers[lane], grants[leaf], names.of(leaf));
+        let grant = grants[leaf];
+        if grant > 0 {
+            let lane = lane_of(lanes, leaf);
+            tallies.count(lane, transfers[lane], grant, names.of(leaf));
+        }
     }
 }

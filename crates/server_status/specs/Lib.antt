@@ -1,0 +1,5 @@
+pub mod Fits
+pub mod Members
+pub mod ReadBack
+pub mod StatusData
+pub mod StatusRead

@@ -60,7 +60,7 @@ pub record IsSameTransfer (a b : TransferStatus) : Type 0 where
 -- one by one
 abbrev pub AreSame : {X : Type 0} → (X → X → Type 0) → List X → List X → Type 0
 AreSame Is [] [] = Unit {0}
-AreSame Is (a ∷ as_) (b ∷ bs) = Is a b × AreSame Is as_ bs
+AreSame Is (x ∷ xs) (y ∷ ys) = Is x y × AreSame Is xs ys
 AreSame Is _ _ = ⊥
 
 pub record IsSame (a b : Status) : Type 0 where

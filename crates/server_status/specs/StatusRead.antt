@@ -7,7 +7,6 @@ use Rattle.serde_json.specs.Data.{Data, Items, no_items, item}
 use Rattle.serde_json.specs.Find.{as_array, as_bool, as_str, get}
 use Rattle.server_status.specs.declared.fault.StatusFault.{StatusFault}
 use Rattle.server_status.specs.declared.fault.StatusFault.TheVariants.{NotJson, Missing, OtherKind, Version, Memory}
-use Rattle.server_status.specs.declared.member.TheConstants.{GROUP, STATUS, TRANSFER, VERSION}
 use Rattle.server_status.specs.declared.status.Direction.{Direction}
 use Rattle.server_status.specs.declared.status.Direction.TheVariants.{Down}
 use Rattle.server_status.specs.declared.status.GroupStatus.{GroupStatus}
@@ -16,6 +15,7 @@ use Rattle.server_status.specs.declared.status.LineRates.{LineRates}
 use Rattle.server_status.specs.declared.status.Status.{Status}
 use Rattle.server_status.specs.declared.status.TransferStatus.{TransferStatus}
 use Rattle.server_status.specs.Fits.{AllHave, HasAll, IsAddress, IsFirstFault, IsFirstFaultIn, count_of, direction_of}
+use Rattle.server_status.specs.Tables.{group_rows, status_rows, transfer_rows, version_rows}
 
 -- ---- values of members of a record; of a member that it has not, what stands for none
 
@@ -127,9 +127,9 @@ pub record HasMembers (d : Data) (s : Status) : Type 0 where
 -- the value is a status: of version 1, with all members, each of its kind
 pub record IsFine (d : Data) : Type 0 where
   pub version : count_if_in (codes "version") (Some d) ≡ Some 1
-  pub members : HasAll STATUS d
-  pub groups : AllHave GROUP (list_in (codes "groups") (Some d))
-  pub transfers : AllHave TRANSFER (list_in (codes "transfers") (Some d))
+  pub members : HasAll status_rows d
+  pub groups : AllHave group_rows (list_in (codes "groups") (Some d))
+  pub transfers : AllHave transfer_rows (list_in (codes "transfers") (Some d))
 
 -- the value is this status
 abbrev pub IsStatusOf : Data → Status → Type 0
@@ -143,11 +143,11 @@ IsOtherVersion d _ = ⊥
 -- The first fault of a value: of its version, of its members, of its groups, and of its transfers.
 abbrev pub IsFaultOf : Data → StatusFault → Type 0
 IsFaultOf d fault =
-    IsFirstFault VERSION d fault
+    IsFirstFault version_rows d fault
     ⊎ (IsOtherVersion d fault
     ⊎ ((count_if_in (codes "version") (Some d) ≡ Some 1)
-    × (IsFirstFault STATUS d fault
-    ⊎ (HasAll STATUS d
-    × (IsFirstFaultIn GROUP (list_in (codes "groups") (Some d)) fault
-    ⊎ (AllHave GROUP (list_in (codes "groups") (Some d))
-    × IsFirstFaultIn TRANSFER (list_in (codes "transfers") (Some d)) fault))))))
+    × (IsFirstFault status_rows d fault
+    ⊎ (HasAll status_rows d
+    × (IsFirstFaultIn group_rows (list_in (codes "groups") (Some d)) fault
+    ⊎ (AllHave group_rows (list_in (codes "groups") (Some d))
+    × IsFirstFaultIn transfer_rows (list_in (codes "transfers") (Some d)) fault))))))

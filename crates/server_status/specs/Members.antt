@@ -16,7 +16,7 @@ owner_members transfer members =
     (put (codes "user") (text_data transfer.user)
     (put (codes "session") (count_data transfer.session) members)))
 
--- what is transferred
+-- its file
 abbrev pub file_members : TransferStatus → Members → Members
 file_members transfer members =
     put (codes "size") (count_if_data transfer.size)

@@ -1,6 +1,6 @@
 //! A status as a text of JSON.
 
-ghost use Rattle.std.specs.Prelude.{◌≡◌, IfOk, OnOk, string_bytes};
+ghost use Rattle.std.specs.Prelude.{◌≡◌, ◌++◌, ◌∷◌, [], IfOk, OnOk, string_bytes};
 ghost use Rattle.serde_json.specs.View.{members_view, view};
 ghost use Rattle.server_status.specs.Members.{client_members, moment_members, part_members, total_members};
 ghost use Rattle.server_status.specs.StatusData.{IsStatusText, status_data};
@@ -81,12 +81,18 @@ fn status_value(alloc: Global, status: &Status) -> Result<Value, AllocError>
     Ok(Value::Object(map))
 }
 
+/// A line of its own, with a line feed at its end.
+fn line_of(alloc: Global, text: &str) -> Result<String, AllocError>
+    ensures line { IfOk result (λ line. string_bytes line ≡ text.now ++ 10 ∷ []) }
+{
+    format!(in alloc; "{text}\n")
+}
+
 /// The status as a text of JSON and a line feed.
 pub fn status_text(alloc: Global, status: &Status) -> Result<String, AllocError>
     ensures text { IfOk result (λ text. IsStatusText status.now (string_bytes text)) }
 {
     let value = status_value(alloc, status)?;
-    let mut text = value.to_string(alloc)?;
-    text.push('\n')?;
-    Ok(text)
+    let json = value.to_string(alloc)?;
+    line_of(alloc, json.as_str())
 }

@@ -1,7 +1,7 @@
 -- How deep a status nests.
-use Rattle.std.proofs.Common.{◌≡◌, ◌≤◌, ◌∙◌, ℕ, suc, Bool, true, false, cond, List, [], ◌∷◌, Option, Some, None, String, Global, arith, map, max, nat_eq, refl}
+use Rattle.std.proofs.Common.{◌≤◌, ℕ, Bool, true, false, cond, List, [], ◌∷◌, Option, Some, None, String, Global, arith, map, nat_eq}
 use Rattle.std.specs.List.{AllByRecursion}
-use Rattle.serde_json.specs.Data.{Data, Members, no_members, member, array, depth, items_depth, members_depth, null, number, object, unsigned}
+use Rattle.serde_json.specs.Data.{Data, Members, no_members, member, depth, items_depth, members_depth, null, number, object, unsigned}
 use Rattle.serde_json.specs.View.{items_of}
 use Rattle.server_status.specs.declared.status.GroupStatus.{GroupStatus}
 use Rattle.server_status.specs.declared.status.Status.{Status}

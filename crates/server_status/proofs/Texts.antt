@@ -49,9 +49,9 @@ unread s octets line fault written is told = elim told [ inl memory ↦ memory |
 pub unlike : (s : Status) (octets line : List ℕ) (d : Data) (fault : StatusFault) → HavePeers s → IsStatusText s octets → line ≡ without_feed octets → read line ≡ Some d
     → (fault ≡ Memory) ⊎ IsFaultOf d fault → fault ≡ Memory
 unlike s octets line d fault peers written is reads told = elim told [
-    inl memory ↦ memory
+  | inl memory ↦ memory
   | inr fails ↦ absurd (no_fault (status_data s) fault (fine s peers) (subst (λ (e : Data). IsFaultOf e fault) (sym (data_is s octets line d written is reads)) fails))
-  ]
+]
 
 pub alike : (s r : Status) (octets line : List ℕ) (d : Data) → HavePeers s → IsStatusText s octets → line ≡ without_feed octets → read line ≡ Some d → IsStatusOf d r → IsSame s r
 alike s r octets line d peers written is reads has =

@@ -1,6 +1,6 @@
 -- Members that are put into an object, a few at a time.
-use Rattle.std.specs.Prelude.{List, codes, map}
-use Rattle.serde_json.specs.Data.{Data, Members, array, boolean, put, string}
+use Rattle.std.specs.Prelude.{codes, map}
+use Rattle.serde_json.specs.Data.{Members, array, boolean, put, string}
 use Rattle.serde_json.specs.View.{items_of}
 use Rattle.server_status.specs.declared.status.Status.{Status}
 use Rattle.server_status.specs.declared.status.TransferStatus.{TransferStatus}

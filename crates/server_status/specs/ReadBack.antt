@@ -1,5 +1,5 @@
 -- The status that octets have, and that a status which was written is read as the same.
-use Rattle.std.specs.Prelude.{◌≡◌, ◌⊎◌, ◌-◌, ◌^◌, ◌<◌, ◌==◌, ℕ, List, [], ◌∷◌, Option, None, Some, Result, Ok, Err, IsUtf8, if◌then◌else◌, length, option_map, slice_get, slice_index, string_bytes, take}
+use Rattle.std.specs.Prelude.{◌≡◌, ◌⊎◌, ◌-◌, ◌^◌, ◌<◌, ◌==◌, ℕ, List, [], ◌∷◌, None, Some, Result, Ok, Err, IsUtf8, if◌then◌else◌, length, option_map, slice_get, slice_index, string_bytes, take}
 use Rattle.serde_json.specs.Data.{Data}
 use Rattle.serde_json.specs.Read.{read}
 use Rattle.server_status.specs.declared.fault.StatusFault.{StatusFault}

@@ -1,12 +1,11 @@
 -- The status that a value has, and the fault of a value that has none.
-use Rattle.std.specs.Prelude.{◌≡◌, ◌≢◌, ◌⊎◌, ℕ, Bool, false, List, [], ◌∷◌, Option, Some, None, String, codes, length, option_and_then, option_map, slice_get, string_bytes, unwrap_or}
-use Rattle.std.specs.declared.alloc.Global.{Global}
+use Rattle.std.specs.Prelude.{◌≡◌, ◌≢◌, ◌⊎◌, ℕ, Bool, false, List, [], ◌∷◌, Option, Some, codes, option_and_then, option_map, string_bytes, unwrap_or}
 use Rattle.std.specs.declared.net.ipv4_addr.Ipv4Addr.{Ipv4Addr}
 use Rattle.std.specs.Net.Addr.{ipv4_octets}
 use Rattle.serde_json.specs.Data.{Data, Items, no_items, item}
 use Rattle.serde_json.specs.Find.{as_array, as_bool, as_str, get}
 use Rattle.server_status.specs.declared.fault.StatusFault.{StatusFault}
-use Rattle.server_status.specs.declared.fault.StatusFault.TheVariants.{NotJson, Missing, OtherKind, Version, Memory}
+use Rattle.server_status.specs.declared.fault.StatusFault.TheVariants.{Version}
 use Rattle.server_status.specs.declared.status.Direction.{Direction}
 use Rattle.server_status.specs.declared.status.Direction.TheVariants.{Down}
 use Rattle.server_status.specs.declared.status.GroupStatus.{GroupStatus}

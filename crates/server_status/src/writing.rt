@@ -38,7 +38,12 @@ fn put_clients(
     put(map, alloc, "sessions", Value::from(status.sessions))?;
     put(map, alloc, "max_sessions", Value::from(status.max_sessions))?;
     put(map, alloc, "lanes", Value::from(status.lanes))?;
-    put(map, alloc, "failed_logins", Value::from(status.failed_logins))?;
+    put(
+        map,
+        alloc,
+        "failed_logins",
+        Value::from(status.failed_logins),
+    )?;
     put(map, alloc, "refused", Value::from(status.refused))
 }
 
@@ -52,7 +57,12 @@ fn put_totals(
         ≡ total_members status.now (members_view map.old.entries)) }
 {
     put(map, alloc, "issued", Value::from(status.issued))?;
-    put(map, alloc, "ended_granted", Value::from(status.ended_granted))?;
+    put(
+        map,
+        alloc,
+        "ended_granted",
+        Value::from(status.ended_granted),
+    )?;
     put(map, alloc, "ended_moved", Value::from(status.ended_moved))?;
     put(map, alloc, "ended", Value::from(status.ended))
 }

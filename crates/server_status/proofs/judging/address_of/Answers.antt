@@ -1,4 +1,3 @@
-use Rattle.std.specs.Net.Grammar.{IsIpv4Text}
 use Rattle.serde_json.specs.View.{view}
 use Rattle.server_status.proofs.Addresses.{no_address}
 use Rattle.server_status.proofs.judging.address_of.Goals as goal

@@ -12,5 +12,5 @@ returns-in-Some-address_of c = record {
       let here : value ≡ view c.in-Some.value.now = same_some value (view c.in-Some.value.now) (sym at ∙ sym c.in-Some.ensures.member) in
       c.octets.ensures
       ∙ ap ipv4_octets
-          (same_address (view c.in-Some.value.now) c.in-Some-address_of.address address c.in-Some-address_of.ensures.address (subst (λ (d : Data). IsAddress d address) here is));
+      (same_address (view c.in-Some.value.now) c.in-Some-address_of.address address c.in-Some-address_of.ensures.address (subst (λ (d : Data). IsAddress d address) here is));
 }

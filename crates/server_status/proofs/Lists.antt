@@ -1,6 +1,6 @@
 -- Lists that are read one element after another.
-use Rattle.std.proofs.Common.{◌≡◌, ◌+◌, ◌<◌, ◌++◌, ℕ, List, [], ◌∷◌, ap, get_or, length, map, refl, subst, sym}
-use Rattle.std.proofs.lemmas.List.{map-append, take_more}
+use Rattle.std.proofs.Common.{◌≡◌, ◌∙◌, ◌+◌, ◌<◌, ◌++◌, ℕ, List, [], ◌∷◌, ap, get_or, length, map, refl, subst, sym}
+use Rattle.std.proofs.lemmas.List.{map-append, map_more, take_more}
 use Rattle.std.specs.Prelude.{take}
 use Rattle.serde_json.specs.Data.{Data}
 use Rattle.serde_json.specs.View.{items_of, view}
@@ -25,3 +25,10 @@ pub are_of-more : {X : Type 0} (Is : Data → X → Type 0) (values : List Value
 are_of-more Is values i value xs more x within at before is grown =
     rw (grown, take_more values i value within, map-append)
     (pushed Is (map view (take i values)) xs (view (get_or values i value)) x before (subst (λ (v : Value). Is (view v) x) at is))
+
+-- what was made of the elements before one, and of it
+pub shown_more : {X : Type 0} (shows : X → Data) (xs : List X) (i : ℕ) (x : X) (old new : List Value) (v : Value)
+    → i < length xs → x ≡ get_or xs i x → map view old ≡ map shows (take i xs) → view v ≡ shows x → new ≡ old ++ v ∷ [] → map view new ≡ map shows (take (i + 1) xs)
+shown_more shows xs i x old new v within at before is grown =
+    let here : view v ≡ shows (get_or xs i x) = is ∙ ap shows at in
+    ap (λ vs. map view vs) grown ∙ map-append view old (v ∷ []) ∙ (λ k. before k ++ here k ∷ []) ∙ sym (map_more shows xs i x within)

@@ -1,15 +1,17 @@
 -- The text of a status, read.
-use Rattle.std.proofs.Common.{◌≡◌, ◌⊎◌, ◌++◌, ◌-◌, ◌∙◌, ℕ, List, [], ◌∷◌, Some, None, ap, arith, inl, inr, length, length-append, refl, subst, sym, take}
+use Rattle.std.proofs.Common.{◌≡◌, ◌≤◌, ◌⊎◌, ◌++◌, ◌-◌, ◌∙◌, ℕ, List, [], ◌∷◌, Some, None, Result, Ok, Err, IfOk, IfErr, ap, arith, inl, inr, length, length-append, refl, subst, sym, take}
 use Rattle.std.specs.Prelude.{IsUtf8, slice_index}
-use Rattle.serde_json.specs.Data.{Data}
+use Rattle.serde_json.specs.Data.{Data, depth}
 use Rattle.serde_json.specs.Read.{read}
 use Rattle.server_status.specs.declared.fault.StatusFault.{StatusFault}
 use Rattle.server_status.specs.declared.fault.StatusFault.TheVariants.{Memory, NotJson}
 use Rattle.server_status.specs.declared.status.Status.{Status}
-use Rattle.server_status.specs.ReadBack.{HasNoJson, HavePeers, IsSame, without_feed}
+use Rattle.server_status.specs.ReadBack.{HasNoJson, HavePeers, IsReadAs, IsReadFault, IsSame, without_feed}
 use Rattle.server_status.specs.StatusData.{IsStatusText, status_data}
 use Rattle.server_status.specs.StatusRead.{IsFaultOf, IsStatusOf}
+use Rattle.server_status.proofs.Addresses.{same_some}
 use Rattle.server_status.proofs.Back.{fine, no_fault, same}
+use Rattle.server_status.proofs.Depths.{status_depth}
 
 last_octet : (json : List ℕ) → slice_index (json ++ 10 ∷ []) (length json) ≡ 10
 last_octet [] = refl
@@ -27,9 +29,6 @@ feedless json =
 -- the line of a text that was written is its JSON
 line_is : (s : Status) (octets line : List ℕ) → IsStatusText s octets → line ≡ without_feed octets → (json : List ℕ) × (line ≡ json) × IsUtf8 json × (read json ≡ Some (status_data s))
 line_is s octets line written is = (written.json, is ∙ ap without_feed written.ends ∙ feedless written.json, written.utf8, written.reads)
-
-same_some : {X : Type 0} (x y : X) → Some x ≡ Some y → x ≡ y
-same_some x y e = cc
 
 data_is : (s : Status) (octets line : List ℕ) (d : Data) → IsStatusText s octets → line ≡ without_feed octets → read line ≡ Some d → status_data s ≡ d
 data_is s octets line d written is reads =
@@ -50,10 +49,28 @@ unread s octets line fault written is told = elim told [ inl memory ↦ memory |
 pub unlike : (s : Status) (octets line : List ℕ) (d : Data) (fault : StatusFault) → HavePeers s → IsStatusText s octets → line ≡ without_feed octets → read line ≡ Some d
     → (fault ≡ Memory) ⊎ IsFaultOf d fault → fault ≡ Memory
 unlike s octets line d fault peers written is reads told = elim told [
-    inl memory ↦ memory
+  | inl memory ↦ memory
   | inr fails ↦ absurd (no_fault (status_data s) fault (fine s peers) (subst (λ (e : Data). IsFaultOf e fault) (sym (data_is s octets line d written is reads)) fails))
-  ]
+]
 
 pub alike : (s r : Status) (octets line : List ℕ) (d : Data) → HavePeers s → IsStatusText s octets → line ≡ without_feed octets → read line ≡ Some d → IsStatusOf d r → IsSame s r
 alike s r octets line d peers written is reads has =
     same s r peers (subst (λ (e : Data). IsStatusOf e r) (sym (data_is s octets line d written is reads)) has).1
+
+pub read_as : (s : Status) (octets line : List ℕ) (d : Data) (r : Result Status StatusFault) → HavePeers s → IsStatusText s octets → line ≡ without_feed octets → read line ≡ Some d
+    → IfOk r (IsStatusOf d) → IfErr r (λ fault. (fault ≡ Memory) ⊎ IsFaultOf d fault) → IsReadAs s r
+read_as s octets line d (Ok r) peers written is reads has fails = alike s r octets line d peers written is reads has
+read_as s octets line d (Err fault) peers written is reads has fails = unlike s octets line d fault peers written is reads fails
+
+-- the fault of the value of a text is that of the text
+pub fault_read : (octets line : List ℕ) (d : Data) (fault : StatusFault) → line ≡ without_feed octets → read line ≡ Some d → (fault ≡ Memory) ⊎ IsFaultOf d fault → IsReadFault octets fault
+fault_read octets line d fault is reads told = elim told [ inl memory ↦ inl memory | inr fails ↦ inr (inr (d, ap read (sym is) ∙ reads, fails)) ]
+
+-- the JSON of a status and a line feed
+pub written : (s : Status) (json line text : List ℕ) (d : Data) → line ≡ json → text ≡ line ++ 10 ∷ [] → IsUtf8 line → (depth d ≤ 127 → read json ≡ Some d) → d ≡ status_data s → IsStatusText s text
+written s json line text d same ends utf8 reads drawn = record {
+  json = line;
+  ends = ends;
+  utf8 = utf8;
+  reads = ap read same ∙ reads (subst (λ (e : Data). depth e ≤ 127) (sym drawn) (status_depth s)) ∙ ap Some drawn;
+}

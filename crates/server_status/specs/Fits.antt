@@ -1,6 +1,6 @@
 -- The members of a record, and whether it has each of them, with a value of its kind.
-use Rattle.std.specs.Prelude.{◌≡◌, ◌⊎◌, ◌||◌, ℕ, Bool, List, [], ◌∷◌, Option, Some, None, IsTrue, bytes_eq, codes, is_some, option_and_then, option_map_or, slice_get, take}
-use Rattle.std.specs.Borrow.{Bor}
+use Rattle.std.specs.Prelude.{◌≡◌, ◌⊎◌, ◌||◌, ℕ, Bool, List, [], ◌∷◌, Option, Some, None, IsTrue, bytes_eq, codes, if◌then◌else◌, is_some, map, option_and_then, option_map}
+use Rattle.std.specs.Option.{option_map_or}
 use Rattle.std.specs.Net.Grammar.{IsIpv4Text}
 use Rattle.std.specs.declared.net.ipv4_addr.Ipv4Addr.{Ipv4Addr}
 use Rattle.serde_json.specs.Data.{Data}
@@ -50,31 +50,47 @@ Fits kind.List d = IsTrue (is_some (as_array d))
 
 -- ---- members
 
+-- A member of a record: its name in a fault, the name of the object within the record that has it,
+-- if it is not the record itself, its name there, and the kind of its value.
+pub record MemberRow : Type 0 where
+  pub told : List ℕ
+  pub within : Option (List ℕ)
+  pub name : List ℕ
+  pub kind : Kind
+
+abbrev pub row_of : Member → MemberRow
+row_of m =
+    record { told = m.0.now; within = option_map (λ s. s.now) m.1; name = m.2.now; kind = m.3 }
+
+abbrev pub rows_of : List Member → List MemberRow
+rows_of ms = map row_of ms
+
 -- the object of that name within a record, or the record
-abbrev pub part : Option (Bor (List ℕ)) → Data → Option Data
+abbrev pub part : Option (List ℕ) → Data → Option Data
 part None d = Some d
-part (Some name) d = get name.now d
+part (Some name) d = get name d
 
 -- the value of a member of a record
-abbrev pub found : Member → Data → Option Data
-found m d = option_and_then (get m.2.now) (part m.1 d)
+abbrev pub found : MemberRow → Data → Option Data
+found m d = option_and_then (get m.name) (part m.within d)
 
 abbrev pub IsFound : Kind → Option Data → Type 0
 IsFound of None = ⊥
 IsFound of (Some d) = Fits of d
 
 -- the record has the member, with a value of its kind
-abbrev pub Has : Member → Data → Type 0
-Has m d = IsFound m.3 (found m d)
+abbrev pub Has : MemberRow → Data → Type 0
+Has m d = IsFound m.kind (found m d)
 
 -- the record has all of these members
-abbrev pub HasAll : List Member → Data → Type 0
+abbrev pub HasAll : List MemberRow → Data → Type 0
 HasAll [] d = Unit {0}
 HasAll (m ∷ ms) d = Has m d × HasAll ms d
 
 -- each of these records has all of these members
-abbrev pub AllHave : List Member → List Data → Type 0
-AllHave ms ds = (i : ℕ) (d : Data) → slice_get ds i ≡ Some d → HasAll ms d
+abbrev pub AllHave : List MemberRow → List Data → Type 0
+AllHave ms [] = Unit {0}
+AllHave ms (d ∷ ds) = HasAll ms d × AllHave ms ds
 
 -- ---- faults
 
@@ -83,20 +99,20 @@ IsOtherKind of None = ⊥
 IsOtherKind of (Some d) = ¬ Fits of d
 
 -- the record has not the member; or its value is of another kind
-abbrev pub IsMemberFault : Member → Data → StatusFault → Type 0
-IsMemberFault m d (Missing name) = (name.now ≡ m.0.now) × (found m d ≡ None)
-IsMemberFault m d (OtherKind name) = (name.now ≡ m.0.now) × IsOtherKind m.3 (found m d)
+abbrev pub IsMemberFault : MemberRow → Data → StatusFault → Type 0
+IsMemberFault m d (Missing name) = (name.now ≡ m.told) × (found m d ≡ None)
+IsMemberFault m d (OtherKind name) = (name.now ≡ m.told) × IsOtherKind m.kind (found m d)
 IsMemberFault m d (Version n) = ⊥
 IsMemberFault m d NotJson = ⊥
 IsMemberFault m d Memory = ⊥
 
 -- the fault of the first of these members that the record has not
-abbrev pub IsFirstFault : List Member → Data → StatusFault → Type 0
+abbrev pub IsFirstFault : List MemberRow → Data → StatusFault → Type 0
 IsFirstFault [] d fault = ⊥
 IsFirstFault (m ∷ ms) d fault = IsMemberFault m d fault ⊎ (Has m d × IsFirstFault ms d fault)
 
 -- the fault of the first of these records that has not all of these members
-abbrev pub IsFirstFaultIn : List Member → List Data → StatusFault → Type 0
-IsFirstFaultIn ms ds fault =
-    (i : ℕ) × (d : Data) × (slice_get ds i ≡ Some d) × AllHave ms (take i ds)
-    × IsFirstFault ms d fault
+abbrev pub IsFirstFaultIn : List MemberRow → List Data → StatusFault → Type 0
+IsFirstFaultIn ms [] fault = ⊥
+IsFirstFaultIn ms (d ∷ ds) fault =
+    IsFirstFault ms d fault ⊎ (HasAll ms d × IsFirstFaultIn ms ds fault)

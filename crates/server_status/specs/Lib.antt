@@ -3,3 +3,4 @@ pub mod Members
 pub mod ReadBack
 pub mod StatusData
 pub mod StatusRead
+pub mod Tables

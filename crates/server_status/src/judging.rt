@@ -1,11 +1,9 @@
-//! Whether a value is a status, and its first fault if it is not.
+//! The first fault of a value that is no status.
 
-ghost use Rattle.std.specs.Prelude.{◌≡◌, ◌↔◌, IfErr, IfOk, IfSome, IsNone, IsTrue, OnOk, Some, codes, map, option_map, unwrap_or};
-ghost use Rattle.serde_json.specs.Data.{no_items};
-ghost use Rattle.serde_json.specs.Find.{as_array, as_str};
-ghost use Rattle.serde_json.specs.View.{items_view, view};
-ghost use Rattle.server_status.specs.Fits.{AllHave, Fits, Has, HasAll, IsAddress, IsFirstFault, IsFirstFaultIn, IsMemberFault, direction_named, direction_of, found, is_unit};
-ghost use Rattle.server_status.specs.StatusRead.{IsFaultOf, IsFine, IsOtherVersion, count_if_in, list_in, listed};
+ghost use Rattle.std.specs.Prelude.{◌≡◌, ◌↔◌, IfErr, IfSome, IsNone, IsTrue, OnOk, Some, codes, map, option_map};
+ghost use Rattle.serde_json.specs.View.{view};
+ghost use Rattle.server_status.specs.Fits.{AllHave, Fits, Has, HasAll, IsAddress, IsFirstFault, IsFirstFaultIn, IsMemberFault, direction_named, direction_of, found, is_unit, row_of, rows_of};
+ghost use Rattle.server_status.specs.StatusRead.{IsFaultOf, IsFine, IsVersionFault, count_if_in, list_in};
 
 use crate::fault::StatusFault;
 use crate::member::{GROUP, Kind, Member, STATUS, TRANSFER, VERSION};
@@ -71,7 +69,8 @@ fn fits(kind: Kind, value: &Value) -> bool
 }
 
 fn found<'v>(value: &'v Value, member: &Member) -> Option<&'v Value>
-    ensures found { option_map (λ v. view v.now) result ≡ found member.now (view value.now) }
+    ensures found { option_map (λ v. view v.now) result
+        ≡ found (row_of member.now) (view value.now) }
 {
     match member.1 {
         Some(name) => match value.get(name) {
@@ -84,8 +83,8 @@ fn found<'v>(value: &'v Value, member: &Member) -> Option<&'v Value>
 
 /// Judges a member of a record: `Err` if it is missing, or of another kind.
 fn judge_member(value: &Value, member: &Member) -> Result<(), StatusFault>
-    ensures has { OnOk result (Has member.now (view value.now)) }
-    ensures fault { IfErr result (IsMemberFault member.now (view value.now)) }
+    ensures has { OnOk result (Has (row_of member.now) (view value.now)) }
+    ensures fault { IfErr result (IsMemberFault (row_of member.now) (view value.now)) }
 {
     match found(value, member) {
         Some(held) => {
@@ -101,8 +100,8 @@ fn judge_member(value: &Value, member: &Member) -> Result<(), StatusFault>
 
 /// Judges the members of a record, in their order: `Err` is the fault of the first that it has not.
 fn judge_record(value: &Value, members: &[Member]) -> Result<(), StatusFault>
-    ensures has { OnOk result (HasAll members.now (view value.now)) }
-    ensures fault { IfErr result (IsFirstFault members.now (view value.now)) }
+    ensures has { OnOk result (HasAll (rows_of members.now) (view value.now)) }
+    ensures fault { IfErr result (IsFirstFault (rows_of members.now) (view value.now)) }
 {
     for member in members {
         judge_member(value, member)?;
@@ -112,8 +111,8 @@ fn judge_record(value: &Value, members: &[Member]) -> Result<(), StatusFault>
 
 /// Judges records, in their order: `Err` is the fault of the first that has not all members.
 fn judge_records(values: &[Value], members: &[Member]) -> Result<(), StatusFault>
-    ensures have { OnOk result (AllHave members.now (map view values.now)) }
-    ensures fault { IfErr result (IsFirstFaultIn members.now (map view values.now)) }
+    ensures have { OnOk result (AllHave (rows_of members.now) (map view values.now)) }
+    ensures fault { IfErr result (IsFirstFaultIn (rows_of members.now) (map view values.now)) }
 {
     for value in values {
         judge_record(value, members)?;
@@ -137,8 +136,7 @@ pub(crate) fn list<'v>(value: &'v Value, name: &str) -> &'v [Value]
 fn judge_version(value: &Value) -> Result<(), StatusFault>
     ensures version { OnOk result
         (count_if_in (codes "version") (Some (view value.now)) ≡ Some 1) }
-    ensures fault { IfErr result (λ fault. IsFirstFault VERSION (view value.now) fault
-        ⊎ IsOtherVersion (view value.now) fault) }
+    ensures fault { IfErr result (IsVersionFault (view value.now)) }
 {
     judge_record(value, &VERSION)?;
     match value.get("version").and_then(Value::as_u64) {

@@ -18,7 +18,5 @@ mod writing;
 
 pub use fault::StatusFault;
 pub use reading::read_status;
-pub use status::{
-    Direction, GroupStatus, HeldRounds, LineRates, Rate, Status, TransferStatus,
-};
+pub use status::{Direction, GroupStatus, HeldRounds, LineRates, Rate, Status, TransferStatus};
 pub use writing::status_text;

@@ -9,38 +9,38 @@ use crate::status::{Direction, GroupStatus, HeldRounds, LineRates, Status, Trans
 use serde_json::Value;
 use std::alloc::{AllocError, Global};
 
-fn member<'v>(record: Option<&'v Value>, name: &str) -> Option<&'v Value>
+fn member<'v>(row: Option<&'v Value>, name: &str) -> Option<&'v Value>
     ensures member { option_map (λ v. view v.now) result
-        ≡ member_in name.now (option_map (λ v. view v.now) record.entry) }
+        ≡ member_in name.now (option_map (λ v. view v.now) row.entry) }
 {
-    match record {
+    match row {
         Some(value) => value.get(name),
         None => None,
     }
 }
 
-fn count_if(record: Option<&Value>, name: &str) -> Option<u64>
-    ensures count { result ≡ count_if_in name.now (option_map (λ v. view v.now) record.entry) }
+fn count_if(row: Option<&Value>, name: &str) -> Option<u64>
+    ensures count { result ≡ count_if_in name.now (option_map (λ v. view v.now) row.entry) }
 {
-    match member(record, name) {
+    match member(row, name) {
         Some(value) => value.as_u64(),
         None => None,
     }
 }
 
-fn count(record: Option<&Value>, name: &str) -> u64
-    ensures count { result ≡ count_in name.now (option_map (λ v. view v.now) record.entry) }
+fn count(row: Option<&Value>, name: &str) -> u64
+    ensures count { result ≡ count_in name.now (option_map (λ v. view v.now) row.entry) }
 {
-    match count_if(record, name) {
+    match count_if(row, name) {
         Some(count) => count,
         None => 0,
     }
 }
 
-fn flag(record: Option<&Value>, name: &str) -> bool
-    ensures flag { result ≡ flag_in name.now (option_map (λ v. view v.now) record.entry) }
+fn flag(row: Option<&Value>, name: &str) -> bool
+    ensures flag { result ≡ flag_in name.now (option_map (λ v. view v.now) row.entry) }
 {
-    match member(record, name) {
+    match member(row, name) {
         Some(value) => match value.as_bool() {
             Some(flag) => flag,
             None => false,
@@ -49,11 +49,11 @@ fn flag(record: Option<&Value>, name: &str) -> bool
     }
 }
 
-fn direction(record: Option<&Value>, name: &str) -> Direction
+fn direction(row: Option<&Value>, name: &str) -> Direction
     ensures direction { result
-        ≡ direction_in name.now (option_map (λ v. view v.now) record.entry) }
+        ≡ direction_in name.now (option_map (λ v. view v.now) row.entry) }
 {
-    match member(record, name) {
+    match member(row, name) {
         Some(value) => match direction_of(value) {
             Some(direction) => direction,
             None => Direction::Down,
@@ -62,10 +62,10 @@ fn direction(record: Option<&Value>, name: &str) -> Direction
     }
 }
 
-fn peer(record: Option<&Value>, name: &str) -> [u8; 4]
-    ensures peer { IsPeerIn name.now (option_map (λ v. view v.now) record.entry) result }
+fn peer(row: Option<&Value>, name: &str) -> [u8; 4]
+    ensures peer { IsPeerIn name.now (option_map (λ v. view v.now) row.entry) result }
 {
-    match member(record, name) {
+    match member(row, name) {
         Some(value) => match address_of(value) {
             Some(address) => address.octets(),
             None => [0, 0, 0, 0],
@@ -74,78 +74,70 @@ fn peer(record: Option<&Value>, name: &str) -> [u8; 4]
     }
 }
 
-fn text_if<'v>(record: Option<&'v Value>, name: &str) -> Option<&'v str>
+fn text_if<'v>(row: Option<&'v Value>, name: &str) -> Option<&'v str>
     ensures text { option_map (λ s. s.now) result
-        ≡ text_if_in name.now (option_map (λ v. view v.now) record.entry) }
+        ≡ text_if_in name.now (option_map (λ v. view v.now) row.entry) }
 {
-    match member(record, name) {
+    match member(row, name) {
         Some(value) => value.as_str(),
         None => None,
     }
 }
 
 /// A text of its own.
-fn text_of(
-    alloc: Global,
-    record: Option<&Value>,
-    name: &str,
-) -> Result<String, AllocError>
+fn text_of(alloc: Global, row: Option<&Value>, name: &str) -> Result<String, AllocError>
     ensures text { IfOk result (λ text. string_bytes text
-        ≡ text_in name.now (option_map (λ v. view v.now) record.entry)) }
+        ≡ text_in name.now (option_map (λ v. view v.now) row.entry)) }
 {
-    match text_if(record, name) {
+    match text_if(row, name) {
         Some(text) => String::from_str(alloc, text),
         None => Ok(String::new(alloc)),
     }
 }
 
 /// A text of its own, if there is one.
-fn text_if_of(
-    alloc: Global,
-    record: Option<&Value>,
-    name: &str,
-) -> Result<Option<String>, AllocError>
+fn text_if_of(alloc: Global, row: Option<&Value>, name: &str) -> Result<Option<String>, AllocError>
     ensures text { IfOk result (λ text. option_map string_bytes text
-        ≡ text_if_in name.now (option_map (λ v. view v.now) record.entry)) }
+        ≡ text_if_in name.now (option_map (λ v. view v.now) row.entry)) }
 {
-    match text_if(record, name) {
+    match text_if(row, name) {
         Some(text) => Ok(Some(String::from_str(alloc, text)?)),
         None => Ok(None),
     }
 }
 
-fn held(record: Option<&Value>) -> HeldRounds
-    ensures rounds { result ≡ held_in (option_map (λ v. view v.now) record.entry) }
+fn held(row: Option<&Value>) -> HeldRounds
+    ensures rounds { result ≡ held_in (option_map (λ v. view v.now) row.entry) }
 {
     HeldRounds {
-        server: count(record, "server"),
-        direction: count(record, "direction"),
-        group: count(record, "group"),
-        user: count(record, "user"),
-        session: count(record, "session"),
-        nothing: count(record, "nothing"),
+        server: count(row, "server"),
+        direction: count(row, "direction"),
+        group: count(row, "group"),
+        user: count(row, "user"),
+        session: count(row, "session"),
+        nothing: count(row, "nothing"),
     }
 }
 
-fn line(record: Option<&Value>) -> LineRates
-    ensures line { result ≡ line_in (option_map (λ v. view v.now) record.entry) }
+fn line(row: Option<&Value>) -> LineRates
+    ensures line { result ≡ line_in (option_map (λ v. view v.now) row.entry) }
 {
     LineRates {
-        both: count(record, "both"),
-        down: count(record, "down"),
-        up: count(record, "up"),
+        both: count(row, "both"),
+        down: count(row, "down"),
+        up: count(row, "up"),
     }
 }
 
 fn group_of(alloc: Global, value: &Value) -> Result<GroupStatus, AllocError>
     ensures group { IfOk result (IsGroupOf (view value.now)) }
 {
-    let record = Some(value);
-    let name = text_of(alloc, record, "name")?;
+    let row = Some(value);
+    let name = text_of(alloc, row, "name")?;
     Ok(GroupStatus {
         name,
-        down: count(record, "down"),
-        up: count(record, "up"),
+        down: count(row, "down"),
+        up: count(row, "up"),
     })
 }
 
@@ -174,33 +166,33 @@ fn with_texts(
         ≡ text_if_in (codes "path") (Some (view value.now)) }
     ensures transfer { IsTransferOf (view value.now) result }
 {
-    let record = Some(value);
+    let row = Some(value);
     TransferStatus {
-        session: count(record, "session"),
+        session: count(row, "session"),
         user,
         group,
-        peer: peer(record, "peer"),
-        direction: direction(record, "direction"),
+        peer: peer(row, "peer"),
+        direction: direction(row, "direction"),
         path,
-        size: count_if(record, "size"),
-        begun: count(record, "begun"),
-        is_waiting: flag(record, "waiting"),
-        granted: count(record, "granted"),
-        moved: count(record, "moved"),
-        rounds: held(member(record, "held")),
-        guaranteed: count(record, "guaranteed"),
-        session_rate: count(record, "session_rate"),
-        user_rate: count(record, "user_rate"),
+        size: count_if(row, "size"),
+        begun: count(row, "begun"),
+        is_waiting: flag(row, "waiting"),
+        granted: count(row, "granted"),
+        moved: count(row, "moved"),
+        rounds: held(member(row, "held")),
+        guaranteed: count(row, "guaranteed"),
+        session_rate: count(row, "session_rate"),
+        user_rate: count(row, "user_rate"),
     }
 }
 
 fn transfer_of(alloc: Global, value: &Value) -> Result<TransferStatus, AllocError>
     ensures transfer { IfOk result (IsTransferOf (view value.now)) }
 {
-    let record = Some(value);
-    let user = text_of(alloc, record, "user")?;
-    let group = text_if_of(alloc, record, "group")?;
-    let path = text_if_of(alloc, record, "path")?;
+    let row = Some(value);
+    let user = text_of(alloc, row, "user")?;
+    let group = text_if_of(alloc, row, "group")?;
+    let path = text_if_of(alloc, row, "path")?;
     Ok(with_texts(value, user, group, path))
 }
 
@@ -216,34 +208,30 @@ fn transfers_of(alloc: Global, values: &[Value]) -> Result<Vec<TransferStatus>, 
 }
 
 /// A status, given its lists.
-fn with_lists(
-    value: &Value,
-    groups: Vec<GroupStatus>,
-    transfers: Vec<TransferStatus>,
-) -> Status
+fn with_lists(value: &Value, groups: Vec<GroupStatus>, transfers: Vec<TransferStatus>) -> Status
     requires groups { AreOf IsGroupOf
         (list_in (codes "groups") (Some (view value.now))) groups.items }
     requires transfers { AreOf IsTransferOf
         (list_in (codes "transfers") (Some (view value.now))) transfers.items }
     ensures status { HasMembers (view value.now) result }
 {
-    let record = Some(value);
+    let row = Some(value);
     Status {
-        started: count(record, "started"),
-        micros: count(record, "micros"),
-        line: line(member(record, "line")),
+        started: count(row, "started"),
+        micros: count(row, "micros"),
+        line: line(member(row, "line")),
         groups,
-        users: count(record, "users"),
-        sessions: count(record, "sessions"),
-        max_sessions: count(record, "max_sessions"),
-        lanes: count(record, "lanes"),
-        issued: count(record, "issued"),
-        ended_granted: count(record, "ended_granted"),
-        ended_moved: count(record, "ended_moved"),
-        ended: count(record, "ended"),
-        rounds: held(member(record, "held")),
-        failed_logins: count(record, "failed_logins"),
-        refused: count(record, "refused"),
+        users: count(row, "users"),
+        sessions: count(row, "sessions"),
+        max_sessions: count(row, "max_sessions"),
+        lanes: count(row, "lanes"),
+        issued: count(row, "issued"),
+        ended_granted: count(row, "ended_granted"),
+        ended_moved: count(row, "ended_moved"),
+        ended: count(row, "ended"),
+        rounds: held(member(row, "held")),
+        failed_logins: count(row, "failed_logins"),
+        refused: count(row, "refused"),
         transfers,
     }
 }

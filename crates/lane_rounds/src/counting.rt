@@ -5,7 +5,7 @@ ghost use Rattle.round_tally.specs.Counts.{tallied};
 
 use grant_ledger::MAX_LANES;
 use paced_rounds::HeldNames;
-use round_tally::Tallies;
+use round_tally::{RoundGrant, Tallies};
 
 // The lane of a leaf. There are at most MAX_LANES lanes.
 fn lane_of(lanes: &[u8], leaf: usize) -> usize
@@ -25,15 +25,22 @@ pub(crate) fn count_all(
     grants: &[u64],
     names: &HeldNames,
     transfers: &[u64; MAX_LANES],
+    window: u64,
 )
     requires fits { tallied tallies.old + sum grants.now < 2 ^ 64 }
     ensures counted { tallied tallies.new ≡ tallied tallies.old + sum grants.now }
 {
     for leaf in 0..grants.len() {
-        let grant = grants[leaf];
-        if grant > 0 {
+        let octets = grants[leaf];
+        if octets > 0 {
             let lane = lane_of(lanes, leaf);
-            tallies.count(lane, transfers[lane], grant, names.of(leaf));
+            let held = names.of(leaf);
+            let grant = RoundGrant {
+                octets,
+                held,
+                window,
+            };
+            tallies.count(lane, transfers[lane], grant);
         }
     }
 }

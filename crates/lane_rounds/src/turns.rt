@@ -9,8 +9,12 @@ use grant_ledger::MAX_LANES;
 use lane_desk::{RoundFault, RoundRecord};
 use lent_parts::{LentDesk, LentRounds, PartsName};
 use paced_rounds::HeldNames;
+use round_pace::TICK_MICROS;
 use round_tally::Tallies;
 use std::alloc::Allocator;
+
+/// The length of a window of the tallies, in microseconds: the longest interval between two fillings of a row.
+const WINDOW: u64 = 32 * TICK_MICROS;
 
 /// The rounds of a desk with their pace, and the tallies of the transfers that they granted to. All that the rounds have
 /// issued since is in a tally. They cannot be dropped.
@@ -59,6 +63,7 @@ impl<B: PartsName, N> Turns<B, N> {
                 grants,
                 &self.names,
                 transfers,
+                now / WINDOW,
             );
         }
         result

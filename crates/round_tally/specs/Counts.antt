@@ -1,9 +1,10 @@
 -- The octets that rounds have granted to the transfers of lanes, and what held these back.
-use Rattle.std.specs.Prelude.{◌≡◌, ◌+◌, ◌-◌, ◌<◌, ◌^◌, ℕ, List, Option, Some, None, if◌then◌else◌, min, nat_eq, slice_index, slice_index_or, sum_by}
+use Rattle.std.specs.Prelude.{◌≡◌, ◌+◌, ◌-◌, ◌<◌, ◌^◌, ℕ, List, Option, Some, None, if◌then◌else◌, min, nat_eq, nat_lt, slice_index, slice_index_or, sum_by}
 use Rattle.line_rates.specs.declared.ask.Name.{Name}
 use Rattle.line_rates.specs.declared.ask.Name.TheVariants.{Server, Direction, Group, User, Session}
 use Rattle.round_tally.specs.declared.held.HeldTally.{HeldTally}
 use Rattle.round_tally.specs.declared.tallies.LaneTally.{LaneTally}
+use Rattle.round_tally.specs.declared.tallies.RoundGrant.{RoundGrant}
 use Rattle.round_tally.specs.declared.tallies.Tallies.{Tallies}
 
 -- a sum that stays at the greatest number
@@ -24,24 +25,58 @@ held_sum a b = record {
   nothing = bounded a.nothing b.nothing;
 }
 
--- one round more, in which the limit of the name held the transfer back
-abbrev pub held_more : Option Name → HeldTally → HeldTally
-held_more None t = record t { nothing = bounded t.nothing 1 }
-held_more (Some Server) t = record t { server = bounded t.server 1 }
-held_more (Some (Direction way)) t = record t { direction = bounded t.direction 1 }
-held_more (Some (Group way group)) t = record t { group = bounded t.group 1 }
-held_more (Some (User way user)) t = record t { user = bounded t.user 1 }
-held_more (Some (Session way user session)) t = record t { session = bounded t.session 1 }
+-- some rounds more, in which the limit of the name held the transfer back
+abbrev pub held_more : Option Name → ℕ → HeldTally → HeldTally
+held_more None n t = record t { nothing = bounded t.nothing n }
+held_more (Some Server) n t = record t { server = bounded t.server n }
+held_more (Some (Direction way)) n t = record t { direction = bounded t.direction n }
+held_more (Some (Group way group)) n t = record t { group = bounded t.group n }
+held_more (Some (User way user)) n t = record t { user = bounded t.user n }
+held_more (Some (Session way user session)) n t = record t { session = bounded t.session n }
+
+-- the depth of a limit: a session's is the innermost, and nothing is outside of all
+abbrev pub depth : Option Name → ℕ
+depth None = 0
+depth (Some Server) = 1
+depth (Some (Direction way)) = 2
+depth (Some (Group way group)) = 3
+depth (Some (User way user)) = 4
+depth (Some (Session way user session)) = 5
+
+abbrev pub innermost : Option Name → Option Name → Option Name
+innermost one other = if nat_lt (depth one) (depth other) then other else one
 
 abbrev pub no_tally : ℕ → LaneTally
-no_tally transfer = record { transfer = transfer; granted = 0; held = no_rounds }
+no_tally transfer = record {
+  transfer = transfer;
+  granted = 0;
+  held = no_rounds;
+  window = 0;
+  rounds = 0;
+  innermost = None;
+}
 
--- a grant more
-abbrev pub tally_more : ℕ → Option Name → LaneTally → LaneTally
-tally_more grant held t = record {
+-- all rounds of a transfer: those of the last window are counted by the innermost limit of one of
+-- them
+abbrev pub all_rounds : LaneTally → HeldTally
+all_rounds t = held_more t.innermost t.rounds t.held
+
+-- a grant more: in the same window as the last, or in another, which closes that
+abbrev pub tally_more : RoundGrant → LaneTally → LaneTally
+tally_more g t = if nat_eq t.window g.window then record {
   transfer = t.transfer;
-  granted = t.granted + grant;
-  held = held_more held t.held;
+  granted = t.granted + g.octets;
+  held = t.held;
+  window = g.window;
+  rounds = bounded t.rounds 1;
+  innermost = innermost t.innermost g.held;
+} else record {
+  transfer = t.transfer;
+  granted = t.granted + g.octets;
+  held = all_rounds t;
+  window = g.window;
+  rounds = 1;
+  innermost = g.held;
 }
 
 -- the tally of a lane once a transfer runs: of that transfer alone
@@ -49,8 +84,8 @@ abbrev pub lane_begun : ℕ → LaneTally → LaneTally
 lane_begun transfer t = if nat_eq t.transfer transfer then t else no_tally transfer
 
 -- the same after a grant to it
-abbrev pub lane_after : ℕ → ℕ → Option Name → LaneTally → LaneTally
-lane_after transfer grant held t = tally_more grant held (lane_begun transfer t)
+abbrev pub lane_after : ℕ → RoundGrant → LaneTally → LaneTally
+lane_after transfer g t = tally_more g (lane_begun transfer t)
 
 -- each lane has the tally of the transfer at its place
 abbrev pub AreBegun : List ℕ → List LaneTally → List LaneTally → Type 0
@@ -63,7 +98,10 @@ abbrev pub ended_after : ℕ → LaneTally → LaneTally → LaneTally
 ended_after transfer lane ended = if nat_eq lane.transfer transfer then ended else record {
   transfer = ended.transfer;
   granted = ended.granted + lane.granted;
-  held = held_sum ended.held lane.held;
+  held = held_sum ended.held (all_rounds lane);
+  window = ended.window;
+  rounds = ended.rounds;
+  innermost = ended.innermost;
 }
 
 abbrev pub granted_of : LaneTally → ℕ

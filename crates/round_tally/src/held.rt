@@ -1,11 +1,11 @@
-//! Numbers of rounds, by what held a transfer back in them.
+//! Numbers of rounds, by what held a transfer back.
 
 ghost use Rattle.std.specs.Prelude.{◌≡◌};
-ghost use Rattle.round_tally.specs.Counts.{held_more, held_sum};
+ghost use Rattle.round_tally.specs.Counts.{depth, held_more, held_sum, innermost};
 
 use line_rates::Name;
 
-/// Numbers of rounds, by what held a transfer back in them.
+/// Numbers of rounds, by what held a transfer back.
 #[derive(Clone, Copy, Debug, PartialEq, Eq)]
 pub struct HeldTally {
     /// The limit of the server.
@@ -22,6 +22,31 @@ pub struct HeldTally {
     pub nothing: u64,
 }
 
+// The depth of a limit: a session's is the innermost, and nothing is outside of all.
+fn depth(held: Option<Name>) -> u8
+    ensures depth { result ≡ depth held }
+{
+    match held {
+        None => 0,
+        Some(Name::Server) => 1,
+        Some(Name::Direction(_)) => 2,
+        Some(Name::Group(_, _)) => 3,
+        Some(Name::User(_, _)) => 4,
+        Some(Name::Session(_, _, _)) => 5,
+    }
+}
+
+/// The inner of two limits.
+pub(crate) fn innermost(one: Option<Name>, other: Option<Name>) -> Option<Name>
+    ensures inner { result ≡ innermost one other }
+{
+    if depth(one) < depth(other) {
+        other
+    } else {
+        one
+    }
+}
+
 impl HeldTally {
     /// No round yet.
     pub const NONE: HeldTally = HeldTally {
@@ -33,18 +58,18 @@ impl HeldTally {
         nothing: 0,
     };
 
-    /// One more round, in which the limit of this name held the transfer back, or nothing.
-    pub fn and_one(self, held: Option<Name>) -> HeldTally
-        ensures more { result ≡ held_more held self }
+    /// Some more rounds, in which the limit of this name held the transfer back, or nothing.
+    pub fn and_more(self, held: Option<Name>, rounds: u64) -> HeldTally
+        ensures more { result ≡ held_more held rounds self }
     {
         let mut more = self;
         match held {
-            None => more.nothing = self.nothing.saturating_add(1),
-            Some(Name::Server) => more.server = self.server.saturating_add(1),
-            Some(Name::Direction(_)) => more.direction = self.direction.saturating_add(1),
-            Some(Name::Group(_, _)) => more.group = self.group.saturating_add(1),
-            Some(Name::User(_, _)) => more.user = self.user.saturating_add(1),
-            Some(Name::Session(_, _, _)) => more.session = self.session.saturating_add(1),
+            None => more.nothing = self.nothing.saturating_add(rounds),
+            Some(Name::Server) => more.server = self.server.saturating_add(rounds),
+            Some(Name::Direction(_)) => more.direction = self.direction.saturating_add(rounds),
+            Some(Name::Group(_, _)) => more.group = self.group.saturating_add(rounds),
+            Some(Name::User(_, _)) => more.user = self.user.saturating_add(rounds),
+            Some(Name::Session(_, _, _)) => more.session = self.session.saturating_add(rounds),
         }
         more
     }

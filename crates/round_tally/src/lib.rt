@@ -6,9 +6,9 @@
 //!
 //! ```text
 //! let mut tallies = Tallies::new();
-//! tallies.count(0, 1, 100, None); // 100 octets to the first transfer of lane 0, all that it asked for
-//! tallies.count(0, 2, 30, Some(Name::Server)); // the first has ended
-//! assert!(rt; tallies.lane(0).granted == 30 && tallies.lane(0).held.server == 1);
+//! tallies.count(0, 1, grant(100, None, 0)); // 100 octets to the first transfer of lane 0, all that it asked for
+//! tallies.count(0, 2, grant(30, Some(Name::Server), 1)); // the first has ended
+//! assert!(rt; tallies.lane(0).granted == 30 && tallies.lane(0).all_rounds().server == 1);
 //! assert!(rt; tallies.ended().granted == 100 && tallies.ended().held.nothing == 1);
 //! ```
 #![tactic(auto)]
@@ -17,4 +17,4 @@ mod held;
 mod tallies;
 
 pub use held::HeldTally;
-pub use tallies::{LaneTally, Tallies};
+pub use tallies::{LaneTally, RoundGrant, Tallies};

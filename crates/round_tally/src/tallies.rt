@@ -1,11 +1,21 @@
 //! The tallies of lanes.
 
 ghost use Rattle.std.specs.Prelude.{◌≡◌, ◌+◌, ◌≤◌, ◌<◌, ◌^◌, slice_set, slice_index_or};
-ghost use Rattle.round_tally.specs.Counts.{AreBegun, lane_after, lane_begun, no_tally, tallied, ended_after};
+ghost use Rattle.round_tally.specs.Counts.{AreBegun, all_rounds, lane_after, lane_begun, no_tally, tallied, ended_after};
 
-use crate::held::HeldTally;
+use crate::held::{HeldTally, innermost};
 use grant_ledger::MAX_LANES;
 use line_rates::Name;
+
+/// A grant of a round.
+#[derive(Clone, Copy, Debug, PartialEq, Eq)]
+pub struct RoundGrant {
+    pub octets: u64,
+    /// The name of the limit that held the transfer back; none if it was granted all that it asked for.
+    pub held: Option<Name>,
+    /// The number of the window of the round.
+    pub window: u64,
+}
 
 /// The octets that rounds have granted to the transfer of a lane.
 #[derive(Clone, Copy, Debug, PartialEq, Eq)]
@@ -14,8 +24,13 @@ pub struct LaneTally {
     pub transfer: u64,
     /// The octets granted to it.
     pub granted: u64,
-    /// The rounds that granted them, by what held it back.
+    /// The rounds that granted them, by what held it back, but for those of the last window.
     pub held: HeldTally,
+    /// The window of the last of these rounds.
+    pub window: u64,
+    /// The number of rounds in that window, and the innermost limit that held it back in one of them.
+    pub rounds: u64,
+    pub innermost: Option<Name>,
 }
 
 /// The tallies of the last transfer of each lane, and of all transfers before these.
@@ -34,7 +49,17 @@ impl LaneTally {
             transfer,
             granted: 0,
             held: HeldTally::NONE,
+            window: 0,
+            rounds: 0,
+            innermost: None,
         }
+    }
+
+    /// All rounds, those of the last window included.
+    pub fn all_rounds(self) -> HeldTally
+        ensures rounds { result ≡ all_rounds self }
+    {
+        self.held.and_more(self.innermost, self.rounds)
     }
 
     // The tally once a transfer runs.
@@ -49,15 +74,33 @@ impl LaneTally {
     }
 
     // The tally after a grant to a transfer.
-    fn after(self, transfer: u64, grant: u64, held: Option<Name>) -> LaneTally
-        requires fits { self.granted + grant < 2 ^ 64 }
-        ensures after { result ≡ lane_after transfer grant held self }
+    fn after(self, transfer: u64, granted: RoundGrant) -> LaneTally
+        requires fits { self.granted + granted.octets < 2 ^ 64 }
+        ensures after { result ≡ lane_after transfer granted self }
     {
         let before = self.begun(transfer);
+        let RoundGrant {
+            octets,
+            held,
+            window,
+        } = granted;
+        if before.window == window {
+            return LaneTally {
+                transfer,
+                granted: before.granted + octets,
+                held: before.held,
+                window,
+                rounds: before.rounds.saturating_add(1),
+                innermost: innermost(before.innermost, held),
+            };
+        }
         LaneTally {
             transfer,
-            granted: before.granted + grant,
-            held: before.held.and_one(held),
+            granted: before.granted + octets,
+            held: before.all_rounds(),
+            window,
+            rounds: 1,
+            innermost: held,
         }
     }
 
@@ -72,7 +115,10 @@ impl LaneTally {
         LaneTally {
             transfer: self.transfer,
             granted: self.granted + lane.granted,
-            held: self.held.and(lane.held),
+            held: self.held.and(lane.all_rounds()),
+            window: self.window,
+            rounds: self.rounds,
+            innermost: self.innermost,
         }
     }
 }
@@ -116,19 +162,23 @@ impl Tallies {
         tallies
     }
 
-    /// Counts a grant, in octets, to the transfer of this number on a lane, and what held it back.
-    pub fn count(&mut self, lane: usize, transfer: u64, grant: u64, held: Option<Name>)
+    /// Counts a grant to the transfer of this number on a lane.
+    ///
+    /// The rounds of a window are counted together, by the innermost limit that held the transfer back in one of them: in a
+    /// window as long as the longest interval between two fillings, what a limit has is shared in bursts, and who has
+    /// taken all that an inner limit had is held back by that, and not by the outer ones in between.
+    pub fn count(&mut self, lane: usize, transfer: u64, grant: RoundGrant)
         requires lane { lane < 64 }
-        requires fits { tallied self.old + grant < 2 ^ 64 }
+        requires fits { tallied self.old + grant.octets < 2 ^ 64 }
         ensures lanes { self.new.lanes ≡ slice_set self.old.lanes lane
-            (lane_after transfer grant held (slice_index_or self.old.lanes lane (no_tally 0))) }
+            (lane_after transfer grant (slice_index_or self.old.lanes lane (no_tally 0))) }
         ensures ended { self.new.ended ≡ ended_after transfer
             (slice_index_or self.old.lanes lane (no_tally 0)) self.old.ended }
-        ensures total { tallied self.new ≡ tallied self.old + grant }
+        ensures total { tallied self.new ≡ tallied self.old + grant.octets }
     {
         let before = self.lanes[lane];
         self.ended = self.ended.ended_after(transfer, before);
-        self.lanes[lane] = before.after(transfer, grant, held);
+        self.lanes[lane] = before.after(transfer, grant);
     }
 
     /// The tally of the last transfer of a lane.

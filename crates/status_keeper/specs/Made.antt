@@ -8,7 +8,7 @@ use Rattle.line_rates.specs.Rates.{Rates, floor_rate, group_of, rate_of}
 use Rattle.line_rates.specs.declared.ask.Name.TheVariants.{Server, Direction, Group, User, Session}
 use Rattle.line_rates.specs.declared.ask.Way.{Way}
 use Rattle.line_rates.specs.declared.ask.Way.TheVariants.{Down, Up}
-use Rattle.round_tally.specs.Counts.{bounded, held_sum}
+use Rattle.round_tally.specs.Counts.{all_rounds, held_sum, no_rounds}
 use Rattle.round_tally.specs.declared.held.HeldTally.{HeldTally}
 use Rattle.server_house.specs.declared.server_hooks.LaneLook.{LaneLook}
 use Rattle.server_house.specs.declared.server_hooks.ServerLook.{ServerLook}
@@ -71,6 +71,8 @@ pub record IsRow (facts : StatusFacts) (lanes : List LaneLook) (t : KeptTransfer
   pub begun : row.begun ≡ t.since - facts.zero
   pub granted : row.granted ≡ option_map_or (λ l. l.tally.granted) lane 0
   pub moved : row.moved ≡ option_map_or (λ l. l.moved) lane 0
+  pub rounds : row.rounds
+      ≡ rounds_of (option_map_or (λ l. all_rounds l.tally) lane no_rounds)
   pub guaranteed : row.guaranteed
       ≡ floor_rate (finite.get facts.limits.users t.number) (way_of t.kind)
   pub session_rate : row.session_rate ≡ rate_of facts.limits (Session (way_of t.kind) t.number 0)
@@ -90,7 +92,7 @@ granted_in rows = min (sum_by (λ row. row.granted) rows) (2 ^ 64 - 1)
 -- the rounds of lanes, with those before
 abbrev pub rounds_with : HeldTally → List LaneLook → HeldTally
 rounds_with held [] = held
-rounds_with held (l ∷ ls) = rounds_with (held_sum held l.tally.held) ls
+rounds_with held (l ∷ ls) = rounds_with (held_sum held (all_rounds l.tally)) ls
 
 -- the groups, with their names and rates
 abbrev pub IsGroup : StatusFacts → ℕ → GroupStatus → Type 0
@@ -127,7 +129,7 @@ pub record IsStatus (facts : StatusFacts) (ts : List KeptTransfer) (counts : Cou
   pub ended_granted : s.ended_granted ≡ look.issued - granted_in s.transfers.items
   pub ended_moved : s.ended_moved ≡ counts.ended_moved
   pub ended : s.ended ≡ counts.ended
-  pub rounds : s.rounds ≡ rounds_of (rounds_with look.ended.held look.lanes.now)
+  pub rounds : s.rounds ≡ rounds_of (rounds_with (all_rounds look.ended) look.lanes.now)
   pub failed_logins : s.failed_logins ≡ counts.failed_logins
   pub refused : s.refused ≡ counts.refused
   pub transfers : AreRows facts look.lanes.now ts s.transfers.items

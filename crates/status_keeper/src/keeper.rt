@@ -1,5 +1,7 @@
 //! The handler.
 
+ghost use Rattle.std.specs.Prelude.{◌≤◌, length};
+
 use crate::cell::StatusCell;
 use crate::facts::{Counts, KeptTransfer, StatusFacts};
 use crate::making::status_of;
@@ -50,6 +52,18 @@ fn place_of(transfers: &[KeptTransfer], session: u64) -> Option<usize> {
     None
 }
 
+// The number of transfers before that of a session, in the order of sessions.
+fn count_before(transfers: &[KeptTransfer], session: u64) -> usize
+    ensures within { result ≤ length transfers.now }
+{
+    for place in 0..transfers.len() {
+        if transfers[place].session > session {
+            return place;
+        }
+    }
+    transfers.len()
+}
+
 impl<R: Wait + AllocGlobal, N> StatusKeeper<R, N> {
     /// A handler over another, with the facts of a configuration and the cell for its status, if there is to be one.
     pub fn new(
@@ -78,7 +92,7 @@ impl<R: Wait + AllocGlobal, N> StatusKeeper<R, N> {
     fn forget(&mut self, session: u64) {
         if let Some(place) = place_of(&self.transfers, session) {
             if place < self.transfers.len() {
-                drop(self.transfers.swap_remove(place));
+                drop(self.transfers.remove(place));
             }
         }
     }
@@ -87,7 +101,8 @@ impl<R: Wait + AllocGlobal, N> StatusKeeper<R, N> {
     fn keep(&mut self, transfer: &BegunTransfer<'_>) {
         self.forget(transfer.session as u64);
         if let Ok(kept) = kept(self.rt.alloc(), transfer) {
-            let _ = self.transfers.push(kept);
+            let place = count_before(&self.transfers, kept.session);
+            let _ = self.transfers.insert(place, kept);
         }
     }
 }

@@ -7,7 +7,7 @@ ghost use Rattle.status_keeper.specs.Made.{AreGroups, AreRows, IsLaneOf, IsRow, 
 
 use crate::facts::{Counts, KeptTransfer, StatusFacts};
 use line_rates::{Limits, Name, Way};
-use round_tally::{HeldTally, LaneTally};
+use round_tally::HeldTally;
 use server_house::{LaneLook, ServerLook, TransferKind};
 use server_status::{Direction, GroupStatus, HeldRounds, LineRates, Status, TransferStatus};
 use std::alloc::{AllocError, Global};
@@ -112,7 +112,7 @@ fn row_of(
     let lane = lane_of(lanes, transfer.session);
     let way = way_of(transfer.kind);
     let (granted, moved, held) = match lane {
-        Some(lane) => (lane.tally.granted, lane.moved, lane.tally.held),
+        Some(lane) => (lane.tally.granted, lane.moved, lane.tally.all_rounds()),
         None => (0, 0, HeldTally::NONE),
     };
     Ok(TransferStatus {
@@ -162,12 +162,12 @@ fn granted_in(rows: &[TransferStatus]) -> u64
 }
 
 // The rounds of lanes, with those before.
-fn rounds_with(before: LaneTally, lanes: &[LaneLook]) -> HeldTally
-    ensures rounds { result ≡ rounds_with before.held lanes.now }
+fn rounds_with(before: HeldTally, lanes: &[LaneLook]) -> HeldTally
+    ensures rounds { result ≡ rounds_with before lanes.now }
 {
-    let mut held = before.held;
+    let mut held = before;
     for lane in lanes {
-        held = held.and(lane.tally.held);
+        held = held.and(lane.tally.all_rounds());
     }
     held
 }
@@ -228,7 +228,7 @@ pub fn status_of(
         ended_granted: look.issued.saturating_sub(granted),
         ended_moved: counts.ended_moved,
         ended: counts.ended,
-        rounds: rounds_of(rounds_with(look.ended, look.lanes)),
+        rounds: rounds_of(rounds_with(look.ended.all_rounds(), look.lanes)),
         failed_logins: counts.failed_logins,
         refused: counts.refused,
         transfers: rows,

@@ -12,7 +12,7 @@ use std::random::RandomSource;
 use std::test::Fail;
 use std::{io, str};
 
-/// What Prometheus reads of the status below, worked by hand from the conventions and the page on metrics.
+/// The parts that Prometheus reads of the status below, worked by hand from the conventions and the page on metrics.
 const METRICS: &str = r#"# HELP ftpd_build_info Version of the server.
 # TYPE ftpd_build_info gauge
 ftpd_build_info{version="1"} 1

@@ -164,9 +164,9 @@ impl Tallies {
 
     /// Counts a grant to the transfer of this number on a lane.
     ///
-    /// The rounds of a window are counted together, by the innermost limit that held the transfer back in one of them: in a
-    /// window as long as the longest interval between two fillings, what a limit has is shared in bursts, and who has
-    /// taken all that an inner limit had is held back by that, and not by the outer ones in between.
+    /// The rounds of a window are counted together, by the innermost limit that held the transfer back in one of them.
+    /// Within a window, which has the length of the longest interval between two fillings, a limit is shared in bursts: who
+    /// has taken all that an inner limit had is held back by that, and not by the outer ones in between.
     pub fn count(&mut self, lane: usize, transfer: u64, grant: RoundGrant)
         requires lane { lane < 64 }
         requires fits { tallied self.old + grant.octets < 2 ^ 64 }

@@ -170,7 +170,10 @@ fn page(rt: &(impl Abort + AllocGlobal)) -> String {
 fn server_status(rt: &(impl Abort + AllocGlobal), status: &Status) -> Result<(), StatusFault> {
     let text = status_text(rt.alloc(), status)?; // of a server, once a second
     let read = read_status(rt.alloc(), text.as_bytes())?; // by whoever shows it
-    holds(rt, read.issued == status.issued && read.transfers.len() == status.transfers.len());
+    holds(
+        rt,
+        read.issued == status.issued && read.transfers.len() == status.transfers.len(),
+    );
     Ok(())
 }
 
@@ -194,22 +197,82 @@ const CHANGES: [Change; 20] = [
     Change("}\n", "\n}", None),
     Change("\"session\":3,", "\"session\":8,\"session\":3,", None),
     Change("{\"ended\"", "[\"ended\"", Some(StatusFault::NotJson)),
-    Change("\"version\":1", "\"version\":2", Some(StatusFault::Version(2))),
+    Change(
+        "\"version\":1",
+        "\"version\":2",
+        Some(StatusFault::Version(2)),
+    ),
     Change(",\"version\":1", "", Some(StatusFault::Missing("version"))),
-    Change("\"version\":1", "\"version\":\"1\"", Some(StatusFault::OtherKind("version"))),
-    Change("\"octets\"", "\"bits\"", Some(StatusFault::OtherKind("unit"))),
-    Change("12500000", "18446744073709551616", Some(StatusFault::OtherKind("micros"))),
-    Change("\"both\":null,", "", Some(StatusFault::Missing("line.both"))),
-    Change("\"nothing\":1250", "\"nothing\":null", Some(StatusFault::OtherKind("held.nothing"))),
-    Change("\"groups\":[", "\"groups\":1,\"old\":[", Some(StatusFault::OtherKind("groups"))),
-    Change("\"sales\",\"up\":null", "\"sales\",\"up\":-1", Some(StatusFault::OtherKind("groups[].up"))),
-    Change("\"name\":\"sales\",", "", Some(StatusFault::Missing("groups[].name"))),
-    Change("\"user\":\"ann\"", "\"user\":null", Some(StatusFault::OtherKind("transfers[].user"))),
-    Change("192.0.2.7", "192.0.2.256", Some(StatusFault::OtherKind("transfers[].peer"))),
-    Change("\"up\",\"granted\"", "\"left\",\"granted\"", Some(StatusFault::OtherKind("transfers[].direction"))),
-    Change("90000000", "1.5", Some(StatusFault::OtherKind("transfers[].size"))),
-    Change("\"waiting\":true", "\"waiting\":1", Some(StatusFault::OtherKind("transfers[].waiting"))),
-    Change("\"user\":0}", "\"user\":{}}", Some(StatusFault::OtherKind("transfers[].held.user"))),
+    Change(
+        "\"version\":1",
+        "\"version\":\"1\"",
+        Some(StatusFault::OtherKind("version")),
+    ),
+    Change(
+        "\"octets\"",
+        "\"bits\"",
+        Some(StatusFault::OtherKind("unit")),
+    ),
+    Change(
+        "12500000",
+        "18446744073709551616",
+        Some(StatusFault::OtherKind("micros")),
+    ),
+    Change(
+        "\"both\":null,",
+        "",
+        Some(StatusFault::Missing("line.both")),
+    ),
+    Change(
+        "\"nothing\":1250",
+        "\"nothing\":null",
+        Some(StatusFault::OtherKind("held.nothing")),
+    ),
+    Change(
+        "\"groups\":[",
+        "\"groups\":1,\"old\":[",
+        Some(StatusFault::OtherKind("groups")),
+    ),
+    Change(
+        "\"sales\",\"up\":null",
+        "\"sales\",\"up\":-1",
+        Some(StatusFault::OtherKind("groups[].up")),
+    ),
+    Change(
+        "\"name\":\"sales\",",
+        "",
+        Some(StatusFault::Missing("groups[].name")),
+    ),
+    Change(
+        "\"user\":\"ann\"",
+        "\"user\":null",
+        Some(StatusFault::OtherKind("transfers[].user")),
+    ),
+    Change(
+        "192.0.2.7",
+        "192.0.2.256",
+        Some(StatusFault::OtherKind("transfers[].peer")),
+    ),
+    Change(
+        "\"up\",\"granted\"",
+        "\"left\",\"granted\"",
+        Some(StatusFault::OtherKind("transfers[].direction")),
+    ),
+    Change(
+        "\"size\":90000000",
+        "\"size\":1.5",
+        Some(StatusFault::OtherKind("transfers[].size")),
+    ),
+    Change(
+        "\"waiting\":true",
+        "\"waiting\":1",
+        Some(StatusFault::OtherKind("transfers[].waiting")),
+    ),
+    Change(
+        "\"user\":0}",
+        "\"user\":{}}",
+        Some(StatusFault::OtherKind("transfers[].held.user")),
+    ),
 ];
 
 fn changed(rt: &(impl Abort + AllocGlobal), page: &str, change: &Change) -> String {

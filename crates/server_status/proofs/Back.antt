@@ -1,11 +1,11 @@
 -- A status that was written is read as the same.
-use Rattle.std.proofs.Common.{◌≡◌, ◌∙◌, ℕ, suc, Bool, true, false, cond, List, [], ◌∷◌, Option, Some, None, String, Global, Result, Ok, Err, ap, inl, inr, map, nat_eq, option_map, refl, slice_get, string_bytes, sym}
+use Rattle.std.proofs.Common.{◌≡◌, ◌⊎◌, ◌∙◌, ℕ, suc, Bool, true, false, cond, List, [], ◌∷◌, Option, Some, None, String, Global, inl, inr, map, nat_eq, option_map, refl, slice_get, string_bytes, sym}
 use Rattle.std.proofs.lemmas.Bool.{eqb-true}
 use Rattle.std.specs.Prelude.{codes, option_and_then, unwrap_or}
 use Rattle.std.proofs.NetLemmas.Texts.{IsDotted-ipv4_text}
 use Rattle.std.specs.declared.net.ipv4_addr.Ipv4Addr.{Ipv4Addr}
 use Rattle.serde_json.specs.Data.{Data, null, number, string, unsigned}
-use Rattle.serde_json.specs.Find.{as_null, as_str, get}
+use Rattle.serde_json.specs.Find.{as_str, get}
 use Rattle.serde_json.specs.View.{items_of}
 use Rattle.std.specs.Net.Text.{ipv4_text}
 use Rattle.server_status.specs.declared.fault.StatusFault.{StatusFault}
@@ -18,10 +18,10 @@ use Rattle.server_status.specs.declared.status.GroupStatus.{GroupStatus}
 use Rattle.server_status.specs.declared.status.LineRates.{LineRates}
 use Rattle.server_status.specs.declared.status.Status.{Status}
 use Rattle.server_status.specs.declared.status.TransferStatus.{TransferStatus}
-use Rattle.server_status.specs.Fits.{AllHave, Fits, MemberRow, Has, HasAll, IsFirstFault, IsFirstFaultIn, IsFound, IsMemberFault, IsOtherKind, count_of, direction_of, found, is_null}
+use Rattle.server_status.specs.Fits.{AllHave, Fits, MemberRow, Has, HasAll, IsAddress, IsFirstFault, IsFirstFaultIn, IsFound, IsMemberFault, IsOtherKind, count_of, direction_of, found}
 use Rattle.server_status.specs.ReadBack.{AreSame, HavePeers, IsPeer, IsSame, IsSameGroup, IsSameTransfer}
 use Rattle.server_status.specs.StatusData.{count_if_data, direction_text, group_data, line_data, rate_data, status_data, text_if_data, transfer_data}
-use Rattle.server_status.specs.StatusRead.{AreOf, HasMembers, IsFaultOf, IsFine, IsGroupOf, IsOtherVersion, IsTransferOf, count_if_in, line_in, list_in, listed, member_in}
+use Rattle.server_status.specs.StatusRead.{AreOf, HasMembers, IsFaultOf, IsFine, IsGroupOf, IsListFault, IsOtherVersion, IsTransferOf, IsVersionFault, count_if_in, line_in, list_in, listed}
 use Rattle.server_status.specs.Tables.{group_rows, status_rows, transfer_rows, version_rows}
 
 -- ---- members that a written status has
@@ -55,18 +55,113 @@ groups_have (g ∷ gs) = (group_has g, groups_have gs)
 transfer_has : (t : TransferStatus) → IsPeer t.peer → HasAll transfer_rows (transfer_data t)
 transfer_has t peer =
     let address : Ipv4Addr = record { octets = t.peer } in
-    let dotted = (address, (ipv4_text t.peer, refl, IsDotted-ipv4_text t.peer peer.0 peer.1)) in
-    (refl, (refl, (text_fits t.group, (dotted, (direction_fits t.direction, (text_fits t.path, (count_fits t.size, (refl, (refl, (refl, (refl, (refl, (refl, (refl, (refl, (refl, (refl,
-    (rate_fits t.guaranteed, (rate_fits t.session_rate, (rate_fits t.user_rate, tt))))))))))))))))))))
+    let dotted : Fits kind.Address (string (ipv4_text t.peer)) = (address, (ipv4_text t.peer, refl, IsDotted-ipv4_text t.peer peer.0 peer.1)) in (
+      refl,
+      (
+        refl,
+        (
+          text_fits t.group,
+          (
+            dotted,
+            (
+              direction_fits t.direction,
+              (
+                text_fits t.path,
+                (
+                  count_fits t.size,
+                  (
+                    refl,
+                    (
+                      refl,
+                      (
+                        refl,
+                        (
+                          refl,
+                          (
+                            refl,
+                            (
+                              refl,
+                              (
+                                refl,
+                                (
+                                  refl,
+                                  (
+                                    refl,
+                                    (
+                                      refl,
+                                      (rate_fits t.guaranteed, (rate_fits t.session_rate, (rate_fits t.user_rate, tt))),
+                                    ),
+                                  ),
+                                ),
+                              ),
+                            ),
+                          ),
+                        ),
+                      ),
+                    ),
+                  ),
+                ),
+              ),
+            ),
+          ),
+        ),
+      ),
+    )
 
 transfers_have : (ts : List TransferStatus) → ((i : ℕ) (t : TransferStatus) → slice_get ts i ≡ Some t → IsPeer t.peer) → AllHave transfer_rows (listed (items_of (map transfer_data ts)))
 transfers_have [] peers = tt
 transfers_have (t ∷ ts) peers = (transfer_has t (peers 0 t refl), transfers_have ts (λ i u e. peers (suc i) u e))
 
 status_has : (s : Status) → HasAll status_rows (status_data s)
-status_has s =
-    (refl, (refl, (refl, (refl, (refl, (refl, (refl, (refl, (refl, (refl, (refl, (refl, (refl, (rate_fits s.line.both, (rate_fits s.line.down, (rate_fits s.line.up,
-    (refl, (refl, (refl, (refl, (refl, (refl, (refl, (refl, tt))))))))))))))))))))))))
+status_has s = (
+  refl,
+  (
+    refl,
+    (
+      refl,
+      (
+        refl,
+        (
+          refl,
+          (
+            refl,
+            (
+              refl,
+              (
+                refl,
+                (
+                  refl,
+                  (
+                    refl,
+                    (
+                      refl,
+                      (
+                        refl,
+                        (
+                          refl,
+                          (
+                            rate_fits s.line.both,
+                            (
+                              rate_fits s.line.down,
+                              (
+                                rate_fits s.line.up,
+                                (refl, (refl, (refl, (refl, (refl, (refl, (refl, (refl, tt)))))))),
+                              ),
+                            ),
+                          ),
+                        ),
+                      ),
+                    ),
+                  ),
+                ),
+              ),
+            ),
+          ),
+        ),
+      ),
+    ),
+  ),
+)
 
 pub fine : (s : Status) → HavePeers s → IsFine (status_data s)
 fine s peers = record {
@@ -112,20 +207,29 @@ not_version d (OtherKind name) is other = other
 not_version d NotJson is other = other
 not_version d Memory is other = other
 
+not_version_fault : (d : Data) (fault : StatusFault) → IsFine d → IsVersionFault d fault → ⊥
+not_version_fault d fault fine is = elim is [
+  | inl first ↦ not_first version_rows d fault (has_version (get (codes "version") d) fine.version, tt) first
+  | inr other ↦ not_version d fault fine.version other
+]
+
+not_list_fault : (d : Data) (fault : StatusFault) → IsFine d → IsListFault d fault → ⊥
+not_list_fault d fault fine is = elim is [
+  | inl first ↦ not_in group_rows (list_in (codes "groups") (Some d)) fault fine.groups first
+  | inr last ↦ not_in transfer_rows (list_in (codes "transfers") (Some d)) fault fine.transfers last.1
+]
+
+not_member_fault : (d : Data) (fault : StatusFault) → IsFine d → IsFirstFault status_rows d fault ⊎ (HasAll status_rows d × IsListFault d fault) → ⊥
+not_member_fault d fault fine is = elim is [
+  | inl first ↦ not_first status_rows d fault fine.members first
+  | inr lists ↦ not_list_fault d fault fine lists.1
+]
+
 pub no_fault : (d : Data) (fault : StatusFault) → IsFine d → IsFaultOf d fault → ⊥
 no_fault d fault fine is = elim is [
-    inl first ↦ not_first version_rows d fault (has_version (get (codes "version") d) fine.version, tt) first
-  | inr more ↦ elim more [
-      inl other ↦ not_version d fault fine.version other
-    | inr known ↦ elim known.1 [
-        inl first ↦ not_first status_rows d fault fine.members first
-      | inr lists ↦ elim lists.1 [
-          inl first ↦ not_in group_rows (list_in (codes "groups") (Some d)) fault fine.groups first
-        | inr last ↦ not_in transfer_rows (list_in (codes "transfers") (Some d)) fault fine.transfers last.1
-        ]
-      ]
-    ]
-  ]
+  | inl first ↦ not_version_fault d fault fine first
+  | inr known ↦ not_member_fault d fault fine known.1
+]
 
 -- ---- values of members
 
@@ -167,7 +271,7 @@ groups_back (g ∷ gs) (r ∷ rs) are = (group_back g r are.0, groups_back gs rs
 transfer_back : (t r : TransferStatus) → IsPeer t.peer → IsTransferOf (transfer_data t) r → IsSameTransfer t r
 transfer_back t r peer is =
     let address : Ipv4Addr = record { octets = t.peer } in
-    let dotted = (ipv4_text t.peer, refl, IsDotted-ipv4_text t.peer peer.0 peer.1) in
+    let dotted : IsAddress (string (ipv4_text t.peer)) address = (ipv4_text t.peer, refl, IsDotted-ipv4_text t.peer peer.0 peer.1) in
     record {
       session = sym is.session;
       user = sym is.user;

@@ -1,7 +1,7 @@
 -- How deep a status nests.
-use Rattle.std.proofs.Common.{◌≡◌, ◌≤◌, ◌∙◌, ℕ, suc, Bool, true, false, cond, List, [], ◌∷◌, Option, Some, None, String, Global, arith, map, max, nat_eq, refl}
+use Rattle.std.proofs.Common.{◌≤◌, ℕ, Bool, true, false, cond, List, [], ◌∷◌, Option, Some, None, String, Global, arith, map, nat_eq}
 use Rattle.std.specs.List.{AllByRecursion}
-use Rattle.serde_json.specs.Data.{Data, Members, no_members, member, array, depth, items_depth, members_depth, null, number, object, unsigned}
+use Rattle.serde_json.specs.Data.{Data, Members, no_members, member, depth, items_depth, members_depth, null, number, object, unsigned}
 use Rattle.serde_json.specs.View.{items_of}
 use Rattle.server_status.specs.declared.status.GroupStatus.{GroupStatus}
 use Rattle.server_status.specs.declared.status.Status.{Status}
@@ -50,7 +50,7 @@ group_depth group = omega (arith, rate_flat group.down, rate_flat group.up)
 transfer_depth : (t : TransferStatus) → depth (transfer_data t) ≤ 2
 transfer_depth t =
     let are = shallow 1 (within (transfer_data t))
-    (low, low, low, text_low t.group, rate_low t.guaranteed, one, low, text_low t.path, low, low, rate_low t.session_rate, count_low t.size, low, rate_low t.user_rate, low, tt) in
+    (low, (low, (low, (text_low t.group, (rate_low t.guaranteed, (one, (low, (text_low t.path, (low, (low, (rate_low t.session_rate, (count_low t.size, (low, (rate_low t.user_rate, (low, tt))))))))))))))) in
     omega (arith, are)
 
 items_low : (n : ℕ) (ds : List Data) → AllByRecursion (λ d. depth d ≤ n) ds → items_depth (items_of ds) ≤ n
@@ -78,8 +78,6 @@ pub status_depth : (s : Status) → depth (status_data s) ≤ 127
 status_depth s =
     let groups = items_low 2 (map group_data s.groups.items) (groups_low s.groups.items) in
     let transfers = items_low 2 (map transfer_data s.transfers.items) (transfers_low s.transfers.items) in
-    let are = shallow 3 (within (status_data s)) (
-      zero_low, zero_low, zero_low, zero_low, omega (arith, groups), one_low, zero_low, zero_low, line_low s, zero_low, zero_low, zero_low, zero_low, zero_low,
-      omega (arith, transfers), zero_low, zero_low, zero_low, tt,
-    ) in
+    let are = shallow 3 (within (status_data s))
+    (zero_low, (zero_low, (zero_low, (zero_low, (omega (arith, groups), (one_low, (zero_low, (zero_low, (line_low s, (zero_low, (zero_low, (zero_low, (zero_low, (zero_low, (omega (arith, transfers), (zero_low, (zero_low, (zero_low, tt)))))))))))))))))) in
     omega (arith, are)

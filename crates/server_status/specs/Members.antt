@@ -1,6 +1,6 @@
 -- Members that are put into an object, a few at a time.
-use Rattle.std.specs.Prelude.{List, codes, map}
-use Rattle.serde_json.specs.Data.{Data, Members, array, boolean, put, string}
+use Rattle.std.specs.Prelude.{codes, map}
+use Rattle.serde_json.specs.Data.{Members, array, boolean, put, string}
 use Rattle.serde_json.specs.View.{items_of}
 use Rattle.server_status.specs.declared.status.Status.{Status}
 use Rattle.server_status.specs.declared.status.TransferStatus.{TransferStatus}
@@ -16,7 +16,7 @@ owner_members transfer members =
     (put (codes "user") (text_data transfer.user)
     (put (codes "session") (count_data transfer.session) members)))
 
--- what is transferred
+-- its file
 abbrev pub file_members : TransferStatus → Members → Members
 file_members transfer members =
     put (codes "size") (count_if_data transfer.size)

@@ -1,9 +1,9 @@
 -- The status that octets have, and that a status which was written is read as the same.
-use Rattle.std.specs.Prelude.{◌≡◌, ◌⊎◌, ◌-◌, ◌^◌, ◌<◌, ◌==◌, ℕ, List, [], ◌∷◌, Option, None, Some, Result, Ok, Err, IsUtf8, if◌then◌else◌, length, option_map, slice_get, slice_index, string_bytes, take}
+use Rattle.std.specs.Prelude.{◌≡◌, ◌⊎◌, ◌-◌, ◌^◌, ◌<◌, ◌==◌, ℕ, List, [], ◌∷◌, None, Some, Result, Ok, Err, IsUtf8, if◌then◌else◌, length, option_map, slice_get, slice_index, string_bytes, take}
 use Rattle.serde_json.specs.Data.{Data}
 use Rattle.serde_json.specs.Read.{read}
 use Rattle.server_status.specs.declared.fault.StatusFault.{StatusFault}
-use Rattle.server_status.specs.declared.fault.StatusFault.TheVariants.{NotJson, Missing, OtherKind, Version, Memory}
+use Rattle.server_status.specs.declared.fault.StatusFault.TheVariants.{Memory, NotJson}
 use Rattle.server_status.specs.declared.status.GroupStatus.{GroupStatus}
 use Rattle.server_status.specs.declared.status.Status.{Status}
 use Rattle.server_status.specs.declared.status.TransferStatus.{TransferStatus}
@@ -17,7 +17,7 @@ without_feed octets =
     if slice_index octets (length octets - 1) == 10 then take (length octets - 1) octets
     else octets
 
--- octets without JSON; JSON has no line feed at its end that counts
+-- the octets are no UTF-8, or no JSON
 abbrev pub HasNoJson : List ℕ → Type 0
 HasNoJson octets = IsUtf8 octets → read octets ≡ None
 
@@ -26,12 +26,12 @@ abbrev pub HasStatus : List ℕ → Status → Type 0
 HasStatus octets status =
     (d : Data) × (read (without_feed octets) ≡ Some d) × IsStatusOf d status
 
--- the octets have no JSON; or they have a value whose first fault this is; or memory ran out
+-- memory ran out; or the octets have no JSON; or they have a value whose first fault this is
 abbrev pub IsReadFault : List ℕ → StatusFault → Type 0
-IsReadFault octets Memory = Unit {0}
-IsReadFault octets NotJson = HasNoJson (without_feed octets)
 IsReadFault octets fault =
-    (d : Data) × (read (without_feed octets) ≡ Some d) × IsFaultOf d fault
+    (fault ≡ Memory)
+    ⊎ (((fault ≡ NotJson) × HasNoJson (without_feed octets))
+    ⊎ ((d : Data) × (read (without_feed octets) ≡ Some d) × IsFaultOf d fault))
 
 -- ---- the same status
 

@@ -1,12 +1,11 @@
 -- The status that a value has, and the fault of a value that has none.
-use Rattle.std.specs.Prelude.{◌≡◌, ◌≢◌, ◌⊎◌, ℕ, Bool, false, List, [], ◌∷◌, Option, Some, None, String, codes, length, option_and_then, option_map, slice_get, string_bytes, unwrap_or}
-use Rattle.std.specs.declared.alloc.Global.{Global}
+use Rattle.std.specs.Prelude.{◌≡◌, ◌≢◌, ◌⊎◌, ℕ, Bool, false, List, [], ◌∷◌, Option, Some, codes, option_and_then, option_map, string_bytes, unwrap_or}
 use Rattle.std.specs.declared.net.ipv4_addr.Ipv4Addr.{Ipv4Addr}
 use Rattle.std.specs.Net.Addr.{ipv4_octets}
 use Rattle.serde_json.specs.Data.{Data, Items, no_items, item}
 use Rattle.serde_json.specs.Find.{as_array, as_bool, as_str, get}
 use Rattle.server_status.specs.declared.fault.StatusFault.{StatusFault}
-use Rattle.server_status.specs.declared.fault.StatusFault.TheVariants.{NotJson, Missing, OtherKind, Version, Memory}
+use Rattle.server_status.specs.declared.fault.StatusFault.TheVariants.{Version}
 use Rattle.server_status.specs.declared.status.Direction.{Direction}
 use Rattle.server_status.specs.declared.status.Direction.TheVariants.{Down}
 use Rattle.server_status.specs.declared.status.GroupStatus.{GroupStatus}
@@ -17,7 +16,7 @@ use Rattle.server_status.specs.declared.status.TransferStatus.{TransferStatus}
 use Rattle.server_status.specs.Fits.{AllHave, HasAll, IsAddress, IsFirstFault, IsFirstFaultIn, count_of, direction_of}
 use Rattle.server_status.specs.Tables.{group_rows, status_rows, transfer_rows, version_rows}
 
--- ---- values of members of a record; of a member that it has not, what stands for none
+-- ---- the value of a member of a record; 0, false, down, or nothing if the record has it not
 
 abbrev pub member_in : List ℕ → Option Data → Option Data
 member_in name record_data = option_and_then (get name) record_data
@@ -140,14 +139,21 @@ abbrev pub IsOtherVersion : Data → StatusFault → Type 0
 IsOtherVersion d (Version n) = (count_if_in (codes "version") (Some d) ≡ Some n) × (n ≢ 1)
 IsOtherVersion d _ = ⊥
 
--- The first fault of a value: of its version, of its members, of its groups, and of its transfers.
+-- the value has no version, or another one
+abbrev pub IsVersionFault : Data → StatusFault → Type 0
+IsVersionFault d fault = IsFirstFault version_rows d fault ⊎ IsOtherVersion d fault
+
+-- the first fault of the lists of a value: of its groups, and of its transfers
+abbrev pub IsListFault : Data → StatusFault → Type 0
+IsListFault d fault =
+    IsFirstFaultIn group_rows (list_in (codes "groups") (Some d)) fault
+    ⊎ (AllHave group_rows (list_in (codes "groups") (Some d))
+    × IsFirstFaultIn transfer_rows (list_in (codes "transfers") (Some d)) fault)
+
+-- the first fault of a value: of its version, of its members, and of its lists
 abbrev pub IsFaultOf : Data → StatusFault → Type 0
 IsFaultOf d fault =
-    IsFirstFault version_rows d fault
-    ⊎ (IsOtherVersion d fault
+    IsVersionFault d fault
     ⊎ ((count_if_in (codes "version") (Some d) ≡ Some 1)
     × (IsFirstFault status_rows d fault
-    ⊎ (HasAll status_rows d
-    × (IsFirstFaultIn group_rows (list_in (codes "groups") (Some d)) fault
-    ⊎ (AllHave group_rows (list_in (codes "groups") (Some d))
-    × IsFirstFaultIn transfer_rows (list_in (codes "transfers") (Some d)) fault))))))
+    ⊎ (HasAll status_rows d × IsListFault d fault)))

@@ -1,12 +1,9 @@
-//! Whether a value is a status, and its first fault if it is not.
+//! The first fault of a value that is no status.
 
-ghost use Rattle.std.specs.Prelude.{◌≡◌, ◌↔◌, ◌⊎◌, IfErr, IfOk, IfSome, IsNone, IsTrue, OnOk, Some, codes, map, option_map, unwrap_or};
-ghost use Rattle.serde_json.specs.Data.{no_items};
-ghost use Rattle.serde_json.specs.Find.{as_array, as_str};
-ghost use Rattle.serde_json.specs.View.{items_view, view};
+ghost use Rattle.std.specs.Prelude.{◌≡◌, ◌↔◌, IfErr, IfSome, IsNone, IsTrue, OnOk, Some, codes, map, option_map};
+ghost use Rattle.serde_json.specs.View.{view};
 ghost use Rattle.server_status.specs.Fits.{AllHave, Fits, Has, HasAll, IsAddress, IsFirstFault, IsFirstFaultIn, IsMemberFault, direction_named, direction_of, found, is_unit, row_of, rows_of};
-ghost use Rattle.server_status.specs.StatusRead.{IsFaultOf, IsFine, IsOtherVersion, count_if_in, list_in, listed};
-ghost use Rattle.server_status.specs.Tables.{version_rows};
+ghost use Rattle.server_status.specs.StatusRead.{IsFaultOf, IsFine, IsVersionFault, count_if_in, list_in};
 
 use crate::fault::StatusFault;
 use crate::member::{GROUP, Kind, Member, STATUS, TRANSFER, VERSION};
@@ -72,7 +69,8 @@ fn fits(kind: Kind, value: &Value) -> bool
 }
 
 fn found<'v>(value: &'v Value, member: &Member) -> Option<&'v Value>
-    ensures found { option_map (λ v. view v.now) result ≡ found (row_of member.now) (view value.now) }
+    ensures found { option_map (λ v. view v.now) result
+        ≡ found (row_of member.now) (view value.now) }
 {
     match member.1 {
         Some(name) => match value.get(name) {
@@ -138,8 +136,7 @@ pub(crate) fn list<'v>(value: &'v Value, name: &str) -> &'v [Value]
 fn judge_version(value: &Value) -> Result<(), StatusFault>
     ensures version { OnOk result
         (count_if_in (codes "version") (Some (view value.now)) ≡ Some 1) }
-    ensures fault { IfErr result (λ fault. IsFirstFault version_rows (view value.now) fault
-        ⊎ IsOtherVersion (view value.now) fault) }
+    ensures fault { IfErr result (IsVersionFault (view value.now)) }
 {
     judge_record(value, &VERSION)?;
     match value.get("version").and_then(Value::as_u64) {

@@ -70,6 +70,8 @@ pub fn read_status(alloc: Global, octets: &[u8]) -> Result<Status, StatusFault>
     ensures read_back { (status : Status) → HavePeers status → IsStatusText status octets.now
         → IsReadAs status result }
 {
-    let value = value_of(alloc, without_feed(octets))?;
-    status_in(alloc, &value)
+    match value_of(alloc, without_feed(octets)) {
+        Ok(value) => status_in(alloc, &value),
+        Err(fault) => Err(fault),
+    }
 }

@@ -85,11 +85,7 @@ fn text_if<'v>(row: Option<&'v Value>, name: &str) -> Option<&'v str>
 }
 
 /// A text of its own.
-fn text_of(
-    alloc: Global,
-    row: Option<&Value>,
-    name: &str,
-) -> Result<String, AllocError>
+fn text_of(alloc: Global, row: Option<&Value>, name: &str) -> Result<String, AllocError>
     ensures text { IfOk result (λ text. string_bytes text
         ≡ text_in name.now (option_map (λ v. view v.now) row.entry)) }
 {
@@ -100,11 +96,7 @@ fn text_of(
 }
 
 /// A text of its own, if there is one.
-fn text_if_of(
-    alloc: Global,
-    row: Option<&Value>,
-    name: &str,
-) -> Result<Option<String>, AllocError>
+fn text_if_of(alloc: Global, row: Option<&Value>, name: &str) -> Result<Option<String>, AllocError>
     ensures text { IfOk result (λ text. option_map string_bytes text
         ≡ text_if_in name.now (option_map (λ v. view v.now) row.entry)) }
 {
@@ -216,11 +208,7 @@ fn transfers_of(alloc: Global, values: &[Value]) -> Result<Vec<TransferStatus>, 
 }
 
 /// A status, given its lists.
-fn with_lists(
-    value: &Value,
-    groups: Vec<GroupStatus>,
-    transfers: Vec<TransferStatus>,
-) -> Status
+fn with_lists(value: &Value, groups: Vec<GroupStatus>, transfers: Vec<TransferStatus>) -> Status
     requires groups { AreOf IsGroupOf
         (list_in (codes "groups") (Some (view value.now))) groups.items }
     requires transfers { AreOf IsTransferOf

@@ -168,7 +168,12 @@ fn put_rates(
         ≡ rate_members transfer.now (members_view map.old.entries)) }
 {
     put(map, alloc, "guaranteed", rate_value(transfer.guaranteed))?;
-    put(map, alloc, "session_rate", rate_value(transfer.session_rate))?;
+    put(
+        map,
+        alloc,
+        "session_rate",
+        rate_value(transfer.session_rate),
+    )?;
     put(map, alloc, "user_rate", rate_value(transfer.user_rate))
 }
 

@@ -1,6 +1,6 @@
 //! A status as a text of JSON.
 
-ghost use Rattle.std.specs.Prelude.{◌≡◌, IfOk, OnOk, string_bytes};
+ghost use Rattle.std.specs.Prelude.{◌≡◌, ◌++◌, ◌∷◌, [], IfOk, OnOk, string_bytes};
 ghost use Rattle.serde_json.specs.View.{members_view, view};
 ghost use Rattle.server_status.specs.Members.{client_members, moment_members, part_members, total_members};
 ghost use Rattle.server_status.specs.StatusData.{IsStatusText, status_data};
@@ -38,7 +38,12 @@ fn put_clients(
     put(map, alloc, "sessions", Value::from(status.sessions))?;
     put(map, alloc, "max_sessions", Value::from(status.max_sessions))?;
     put(map, alloc, "lanes", Value::from(status.lanes))?;
-    put(map, alloc, "failed_logins", Value::from(status.failed_logins))?;
+    put(
+        map,
+        alloc,
+        "failed_logins",
+        Value::from(status.failed_logins),
+    )?;
     put(map, alloc, "refused", Value::from(status.refused))
 }
 
@@ -52,7 +57,12 @@ fn put_totals(
         ≡ total_members status.now (members_view map.old.entries)) }
 {
     put(map, alloc, "issued", Value::from(status.issued))?;
-    put(map, alloc, "ended_granted", Value::from(status.ended_granted))?;
+    put(
+        map,
+        alloc,
+        "ended_granted",
+        Value::from(status.ended_granted),
+    )?;
     put(map, alloc, "ended_moved", Value::from(status.ended_moved))?;
     put(map, alloc, "ended", Value::from(status.ended))
 }
@@ -81,12 +91,18 @@ fn status_value(alloc: Global, status: &Status) -> Result<Value, AllocError>
     Ok(Value::Object(map))
 }
 
+/// A line of its own, with a line feed at its end.
+fn line_of(alloc: Global, text: &str) -> Result<String, AllocError>
+    ensures line { IfOk result (λ line. string_bytes line ≡ text.now ++ 10 ∷ []) }
+{
+    format!(in alloc; "{text}\n")
+}
+
 /// The status as a text of JSON and a line feed.
 pub fn status_text(alloc: Global, status: &Status) -> Result<String, AllocError>
     ensures text { IfOk result (λ text. IsStatusText status.now (string_bytes text)) }
 {
     let value = status_value(alloc, status)?;
-    let mut text = value.to_string(alloc)?;
-    text.push('\n')?;
-    Ok(text)
+    let json = value.to_string(alloc)?;
+    line_of(alloc, json.as_str())
 }

@@ -12,6 +12,7 @@ mod serving;
 mod starting;
 mod status_file;
 mod stop_file;
+mod watched_file;
 
 use asked::Asked;
 use ftp_daemon::RoundClock;
@@ -28,6 +29,7 @@ use std::sync::Wait;
 use std::thread::Threads;
 use std::time::Clock;
 use text_io::FallibleIo;
+use watched_file::watched;
 
 /// Runs the command of these words, and serves what they ask for. Returns the ending, and the reason for which a server
 /// did not start, if it is known.
@@ -61,7 +63,7 @@ where
     );
     match asked.into_service() {
         Some(service) => serve_asked(rt, machine, service, output),
-        None => (ending, None),
+        None => (watched(machine, ending, output), None),
     }
 }
 

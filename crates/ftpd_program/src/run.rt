@@ -193,7 +193,6 @@ fn run_command<'w, O: Opener + Lookout, W: TextWriter, V: Server<W>>(
         Words::CheckConfig { config, json } => {
             print_text(alloc, report_print(config, json), config, files, output)
         }
-        Words::Top { status, .. } => print_text(alloc, Print::Latest, status, files, output),
         Words::Migrate { config } => print_text(alloc, Print::Latest, config, files, output),
         Words::Script { config } => script(alloc, config, files, output),
         Words::Plan {

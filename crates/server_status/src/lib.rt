@@ -3,7 +3,10 @@
 //! ```text
 //! let text = status_text(rt.alloc(), status)?; // of a server, once a second
 //! let read = read_status(rt.alloc(), text.as_bytes())?; // by whoever shows it
-//! holds(rt, read.issued == status.issued && read.transfers.len() == status.transfers.len());
+//! holds(
+//!     rt,
+//!     read.issued == status.issued && read.transfers.len() == status.transfers.len(),
+//! );
 //! ```
 #![tactic(auto)]
 

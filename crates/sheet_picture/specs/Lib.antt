@@ -1,0 +1,6 @@
+pub mod Columns
+pub mod Escapes
+pub mod Frames
+pub mod Levels
+pub mod Pictures
+pub mod Svg

@@ -11,7 +11,7 @@ use Rattle.clap.specs.declared.builder.value_parser.Reading.TheVariants.{AsWritt
 use Rattle.clap.specs.declared.parser.matches.ValueSource.TheVariants.{CommandLine}
 use Rattle.clap.proofs.OnLiterals.{clap_on_literals}
 use Rattle.command_line.specs.Commands.{ftpd}
-use Rattle.command_line.specs.Given.{IsPlainWord, logged_words, ready_words}
+use Rattle.command_line.specs.Given.{IsPlainWord, logged_words, ready_words, status_words}
 use Rattle.command_line.specs.Timed.{timed_words}
 
 -- `serve`, as the parser completes it, and its rules
@@ -143,6 +143,46 @@ form_turns : (rows : List Row) (word : Text) → IsPlainWord word → Turns (wai
 form_turns rows [] plain = absurd plain
 form_turns rows (b ∷ bs) plain = record { passes = form_value_passes rows b bs (ne_eqb _ _ plain); leads = form_value_leads rows b bs (ne_eqb _ _ plain) }
 
+status_flag_passes : (config : Text) → turn_passes serving [] (valued [] (codes "CONFIG") config) (codes "--status") ≡ true
+unfolding clap_on_literals
+status_flag_passes config = refl
+
+status_flag_leads : (config : Text) → walked rules [] (valued [] (codes "CONFIG") config) (codes "--status") ≡ waiting_for (row (codes "CONFIG") config ∷ []) (codes "status")
+unfolding clap_on_literals
+status_flag_leads config = refl
+
+status_value_passes : (rows : List Row) (b : ℕ) (bs : List ℕ) → (b == 45) ≡ false → turn_passes serving [] (waiting_for rows (codes "status")) (b ∷ bs) ≡ true
+unfolding clap_on_literals
+status_value_passes rows b bs ne = simp ne refl
+
+status_value_leads : (rows : List Row) (b : ℕ) (bs : List ℕ) → (b == 45) ≡ false → walked rules [] (waiting_for rows (codes "status")) (b ∷ bs) ≡ valued rows (codes "status") (b ∷ bs)
+unfolding clap_on_literals
+status_value_leads rows b bs ne = simp ne refl
+
+status_turns : (rows : List Row) (word : Text) → IsPlainWord word → Turns (waiting_for rows (codes "status")) (valued rows (codes "status") word) word
+status_turns rows [] plain = absurd plain
+status_turns rows (b ∷ bs) plain = record { passes = status_value_passes rows b bs (ne_eqb _ _ plain); leads = status_value_leads rows b bs (ne_eqb _ _ plain) }
+
+port_flag_passes : (config path : Text) → turn_passes serving [] (valued (row (codes "CONFIG") config ∷ []) (codes "status") path) (codes "--status-port") ≡ true
+unfolding clap_on_literals
+port_flag_passes config path = refl
+
+port_flag_leads : (config path : Text) → walked rules [] (valued (row (codes "CONFIG") config ∷ []) (codes "status") path) (codes "--status-port") ≡ waiting_for (row (codes "CONFIG") config ∷ row (codes "status") path ∷ []) (codes "status-port")
+unfolding clap_on_literals
+port_flag_leads config path = refl
+
+port_value_passes : (rows : List Row) (b : ℕ) (bs : List ℕ) → (b == 45) ≡ false → turn_passes serving [] (waiting_for rows (codes "status-port")) (b ∷ bs) ≡ true
+unfolding clap_on_literals
+port_value_passes rows b bs ne = simp ne refl
+
+port_value_leads : (rows : List Row) (b : ℕ) (bs : List ℕ) → (b == 45) ≡ false → walked rules [] (waiting_for rows (codes "status-port")) (b ∷ bs) ≡ valued rows (codes "status-port") (b ∷ bs)
+unfolding clap_on_literals
+port_value_leads rows b bs ne = simp ne refl
+
+port_turns : (rows : List Row) (word : Text) → IsPlainWord word → Turns (waiting_for rows (codes "status-port")) (valued rows (codes "status-port") word) word
+port_turns rows [] plain = absurd plain
+port_turns rows (b ∷ bs) plain = record { passes = port_value_passes rows b bs (ne_eqb _ _ plain); leads = port_value_leads rows b bs (ne_eqb _ _ plain) }
+
 login_flag_passes : (config : Text) → turn_passes serving [] (valued [] (codes "CONFIG") config) (codes "--login-timeout") ≡ true
 unfolding clap_on_literals
 login_flag_passes config = refl
@@ -266,6 +306,19 @@ logged_walks config path form plain also third =
     (turn _ _ _ _ _ (form_flag_passes config path) (form_flag_leads config path)
     (turn _ _ _ _ _ two.passes two.leads (ends _)))))
 
+status_walks : (config path port : Text) → IsPlainWord config → IsPlainWord path → IsPlainWord port
+    → Walks (walk_from nothing_held) (valued (row (codes "CONFIG") config ∷ row (codes "status") path ∷ []) (codes "status-port") port)
+    (config ∷ codes "--status" ∷ path ∷ codes "--status-port" ∷ port ∷ [])
+status_walks config path port plain also third =
+    let first = config_turns config plain in
+    let one = status_turns (row (codes "CONFIG") config ∷ []) path also in
+    let two = port_turns (row (codes "CONFIG") config ∷ row (codes "status") path ∷ []) port third in
+    turn _ _ _ _ _ first.passes first.leads
+    (turn _ _ _ _ _ (status_flag_passes config) (status_flag_leads config)
+    (turn _ _ _ _ _ one.passes one.leads
+    (turn _ _ _ _ _ (port_flag_passes config path) (port_flag_leads config path)
+    (turn _ _ _ _ _ two.passes two.leads (ends _)))))
+
 timed_walks : (config login idle_time delay : Text) → IsPlainWord config → IsPlainWord login → IsPlainWord idle_time → IsPlainWord delay
     → Walks (walk_from nothing_held) (valued (row (codes "CONFIG") config ∷ row (codes "login-timeout") login ∷ row (codes "idle-timeout") idle_time ∷ []) (codes "login-delay") delay)
     (config ∷ codes "--login-timeout" ∷ login ∷ codes "--idle-timeout" ∷ idle_time ∷ codes "--login-delay" ∷ delay ∷ [])
@@ -374,6 +427,28 @@ logged_taken config path form plain also third =
     let below = level _ _ (logged_walks config path form plain also third) (logged_settles config path form) defaults_pass (logged_valid config path form) in
     and_then _ _ simple (by_level (built ftpd) _ _ _ serving (logged_stops config path form) found_is below (logged_above config path form))
 
+status_settles : (config path port : Text) → settle_passes rules serving.args_override_self (valued (row (codes "CONFIG") config ∷ row (codes "status") path ∷ []) (codes "status-port") port).held ≡ true
+unfolding clap_on_literals
+status_settles config path port = refl
+
+status_valid : (config path port : Text) → is_valid serving (finished rules (valued (row (codes "CONFIG") config ∷ row (codes "status") path ∷ []) (codes "status-port") port).held) false ≡ true
+unfolding clap_on_literals
+status_valid config path port = refl
+
+status_stops : (config path port : Text)
+    → (walk (built ftpd).top.rules (names_of (built ftpd)) nothing_held (status_words config path port)).stopped ≡ Some (codes "serve", config ∷ codes "--status" ∷ path ∷ codes "--status-port" ∷ port ∷ [])
+unfolding clap_on_literals
+status_stops config path port = refl
+
+status_above : (config path port : Text) → level_passes (built ftpd).top (names_of (built ftpd)) nothing_held (status_words config path port) true ≡ true
+unfolding clap_on_literals
+status_above config path port = refl
+
+status_taken : (config path port : Text) → IsPlainWord config → IsPlainWord path → IsPlainWord port → takes ftpd (status_words config path port) ≡ true
+status_taken config path port plain also third =
+    let below = level _ _ (status_walks config path port plain also third) (status_settles config path port) defaults_pass (status_valid config path port) in
+    and_then _ _ simple (by_level (built ftpd) _ _ _ serving (status_stops config path port) found_is below (status_above config path port))
+
 timed_settles : (config login idle_time delay : Text) → settle_passes rules serving.args_override_self (valued (row (codes "CONFIG") config ∷ row (codes "login-timeout") login ∷ row (codes "idle-timeout") idle_time ∷ []) (codes "login-delay") delay).held ≡ true
 unfolding clap_on_literals
 timed_settles config login idle_time delay = refl
@@ -411,6 +486,7 @@ pub record ServesTimed (config login idle_time delay : Text) : Type 0 where
   pub taken : takes ftpd (timed_words config login idle_time delay) ≡ true
   pub entered : subcommand_of ftpd (timed_words config login idle_time delay) ≡ Some (codes "serve", rows)
   pub of : first_of (codes "CONFIG") rows ≡ Some config
+  pub portless : first_of (codes "status-port") rows ≡ None
   pub no_path : first_of (codes "stop-file") rows ≡ None
   pub no_ready : first_of (codes "ready-file") rows ≡ None
   pub first : first_of (codes "login-timeout") rows ≡ Some login
@@ -437,6 +513,7 @@ serves_timed config login idle_time delay plain second third fourth =
       taken = timed_taken config login idle_time delay plain second third fourth;
       entered = timed_entered config login idle_time delay ∙ ap (λ (rows : List Row). Some (codes "serve", rows)) end;
       of = refl;
+      portless = refl;
       no_path = refl;
       no_ready = refl;
       first = refl;
@@ -454,6 +531,7 @@ pub record ServesUntil (config path : Text) : Type 0 where
   pub taken : takes ftpd (until config path) ≡ true
   pub entered : subcommand_of ftpd (until config path) ≡ Some (codes "serve", rows)
   pub of : first_of (codes "CONFIG") rows ≡ Some config
+  pub portless : first_of (codes "status-port") rows ≡ None
   pub stop_file : first_of (codes "stop-file") rows ≡ Some path
   pub no_ready : first_of (codes "ready-file") rows ≡ None
   pub usual : AreUnstated rows
@@ -476,6 +554,7 @@ serves_until config path plain also =
       taken = until_taken config path plain also;
       entered = until_entered config path ∙ ap (λ (rows : List Row). Some (codes "serve", rows)) end;
       of = refl;
+      portless = refl;
       stop_file = refl;
       no_ready = refl;
       usual = (refl, refl, refl);
@@ -487,6 +566,7 @@ pub record ServesReady (config path ready : Text) : Type 0 where
   pub taken : takes ftpd (ready_words config path ready) ≡ true
   pub entered : subcommand_of ftpd (ready_words config path ready) ≡ Some (codes "serve", rows)
   pub of : first_of (codes "CONFIG") rows ≡ Some config
+  pub portless : first_of (codes "status-port") rows ≡ None
   pub stop_file : first_of (codes "stop-file") rows ≡ Some path
   pub ready_file : first_of (codes "ready-file") rows ≡ Some ready
   pub usual : AreUnstated rows
@@ -510,6 +590,7 @@ serves_ready config path ready plain also third =
       taken = ready_taken config path ready plain also third;
       entered = ready_entered config path ready ∙ ap (λ (rows : List Row). Some (codes "serve", rows)) end;
       of = refl;
+      portless = refl;
       stop_file = refl;
       ready_file = refl;
       usual = (refl, refl, refl);
@@ -521,6 +602,7 @@ pub record ServesLogged (config path form : Text) : Type 0 where
   pub taken : takes ftpd (logged_words config path form) ≡ true
   pub entered : subcommand_of ftpd (logged_words config path form) ≡ Some (codes "serve", rows)
   pub of : first_of (codes "CONFIG") rows ≡ Some config
+  pub portless : first_of (codes "status-port") rows ≡ None
   pub transfer_log : first_of (codes "transfer-log") rows ≡ Some path
   pub log_form : first_of (codes "log-form") rows ≡ Some form
   pub usual : AreUnstated rows
@@ -544,7 +626,42 @@ serves_logged config path form plain also third =
       taken = logged_taken config path form plain also third;
       entered = logged_entered config path form ∙ ap (λ (rows : List Row). Some (codes "serve", rows)) end;
       of = refl;
+      portless = refl;
       transfer_log = refl;
       log_form = refl;
+      usual = (refl, refl, refl);
+    }
+
+-- what the parser makes of the words of `serve` with a status file and a port
+pub record ServesStatus (config path port : Text) : Type 0 where
+  pub rows : List Row
+  pub taken : takes ftpd (status_words config path port) ≡ true
+  pub entered : subcommand_of ftpd (status_words config path port) ≡ Some (codes "serve", rows)
+  pub of : first_of (codes "CONFIG") rows ≡ Some config
+  pub status : first_of (codes "status") rows ≡ Some path
+  pub status_port : first_of (codes "status-port") rows ≡ Some port
+  pub usual : AreUnstated rows
+
+status_entered : (config path port : Text) → subcommand_of ftpd (status_words config path port) ≡ Some (codes "serve", rows_after rules [] (config ∷ codes "--status" ∷ path ∷ codes "--status-port" ∷ port ∷ []))
+unfolding clap_on_literals
+status_entered config path port = refl
+
+status_rows : (config path port : Text) → finished rules (valued (row (codes "CONFIG") config ∷ row (codes "status") path ∷ []) (codes "status-port") port).held
+    ≡ row (codes "CONFIG") config ∷ row (codes "status") path ∷ row (codes "status-port") port ∷ []
+unfolding clap_on_literals
+status_rows config path port = refl
+
+pub serves_status : (config path port : Text) → IsPlainWord config → IsPlainWord path → IsPlainWord port → ServesStatus config path port
+serves_status config path port plain also third =
+    let walks = status_walks config path port plain also third in
+    let end : rows_after rules [] (config ∷ codes "--status" ∷ path ∷ codes "--status-port" ∷ port ∷ []) ≡ row (codes "CONFIG") config ∷ row (codes "status") path ∷ row (codes "status-port") port ∷ []
+    = ap (λ (w : Walk). finished rules w.held) walks.leads ∙ status_rows config path port in
+    record {
+      rows = row (codes "CONFIG") config ∷ row (codes "status") path ∷ row (codes "status-port") port ∷ [];
+      taken = status_taken config path port plain also third;
+      entered = status_entered config path port ∙ ap (λ (rows : List Row). Some (codes "serve", rows)) end;
+      of = refl;
+      status = refl;
+      status_port = refl;
       usual = (refl, refl, refl);
     }

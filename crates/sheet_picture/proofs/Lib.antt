@@ -1,3 +1,4 @@
 mod Entries
+mod Faults
 mod Levels
 mod LidSteps

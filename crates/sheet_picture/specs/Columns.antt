@@ -1,5 +1,5 @@
 -- The columns of a sheet, and their order.
-use Rattle.std.specs.Prelude.{◌≡◌, ℕ, nat_eq, Bool, true, not, if◌then◌else◌, List, [], Option, Some, None, length, min, slice_get, slice_index, slice_index_or, IsPermutation, ◌<◌}
+use Rattle.std.specs.Prelude.{◌≡◌, ℕ, nat_eq, Bool, true, not, if◌then◌else◌, List, [], Option, Some, None, length, min, slice_index, slice_index_or, IsPermutation, ◌<◌}
 use Rattle.std.specs.List.{fold}
 use Rattle.std.specs.List.Sorted.{IsNonDecreasingBy, IsStableByKey}
 use Rattle.std.specs.Ordering.{nat_cmp}
@@ -40,7 +40,7 @@ lid_of outline leaf = fold (λ least p. tighter least (own_limit p leaf)) None o
 -- the list has the lid of each leaf
 abbrev pub HasLids : List Place → List (Option ℕ) → Type 0
 HasLids outline lids =
-    (leaf : ℕ) → leaf < length lids → slice_get lids leaf ≡ Some (lid_of outline leaf)
+    (leaf : ℕ) → leaf < length lids → slice_index_or lids leaf None ≡ lid_of outline leaf
 
 -- a node with its path
 pub record HolderValue : Type 0 where

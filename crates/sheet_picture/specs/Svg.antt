@@ -1,6 +1,6 @@
 -- The text of a picture. Its axis is at 400, the largest grant is 300 high, and a column is 20
 -- wide; names are below the axis, and the legend is below the longest name.
-use Rattle.std.specs.Prelude.{ℕ, ◌+◌, ◌*◌, ◌-◌, ◌/◌, ◌%◌, nat_eq, nat_lt, Bool, true, false, if◌then◌else◌, List, [], ◌++◌, Option, Some, None, codes, max}
+use Rattle.std.specs.Prelude.{ℕ, ◌+◌, ◌*◌, ◌-◌, ◌/◌, ◌%◌, nat_eq, nat_lt, if◌then◌else◌, List, [], ◌∷◌, ◌++◌, Option, Some, None, codes, max}
 use Rattle.std.specs.Fmt.{decimal}
 use Rattle.std.specs.List.{flat_map}
 use Rattle.sheet_picture.specs.declared.column.Column.{Column}
@@ -8,9 +8,10 @@ use Rattle.sheet_picture.specs.declared.column.Holder.{Holder}
 use Rattle.sheet_picture.specs.declared.frame.Frame.{Frame}
 use Rattle.sheet_picture.specs.declared.frame.Level.{Level}
 use Rattle.sheet_picture.specs.declared.frame.Placed.{Placed}
-use Rattle.sheet_picture.specs.declared.texts.TheConstants.{HEAD, MARKS, STYLE}
+use Rattle.sheet_picture.specs.declared.texts.TheConstants.{END, FOOT, HEAD, MARKS, MET, NO_LEVEL, NO_LIMIT, STYLE, TEXT_END, TITLE_END}
 use Rattle.sheet_picture.specs.Escapes.{escaped}
 use Rattle.sheet_picture.specs.Frames.{frame_of, level}
+use Rattle.sheet_picture.specs.Parts.{joined}
 
 -- the height of octets: 300 for the largest grant
 abbrev pub height : ℕ → ℕ → ℕ
@@ -29,126 +30,159 @@ abbrev pub height_of : Frame → ℕ
 height_of frame = 470 + 8 * frame.longest + 20 * frame.numbers
 
 -- the size of the picture, its title and its style
-abbrev pub head_text : Frame → List ℕ
-head_text frame =
-    HEAD.now ++ decimal (width_of frame) ++ codes "\" height=\"" ++ decimal (height_of frame)
-    ++ codes "\" viewBox=\"0 0 " ++ decimal (width_of frame) ++ codes " "
-    ++ decimal (height_of frame) ++ codes "\">\n"
-    ++ codes "<title>shares of " ++ decimal frame.columns ++ codes " wants</title>\n" ++ STYLE.now
+unfoldable pub head_text : ℕ → ℕ → ℕ → List ℕ
+head_text width height columns = joined (
+    HEAD.now ∷ decimal width ∷ codes "\" height=\"" ∷ decimal height
+    ∷ codes "\" viewBox=\"0 0 " ∷ decimal width ∷ codes " " ∷ decimal height
+    ∷ codes "\">\n<title>shares of " ∷ decimal columns ∷ codes " wants</title>\n" ∷ STYLE.now ∷ [])
 
 -- the ground and the heading
-abbrev pub heading_text : Frame → List ℕ
-heading_text frame =
-    codes "<rect class=\"page\" width=\"" ++ decimal (width_of frame)
-    ++ codes "\" height=\"" ++ decimal (height_of frame) ++ codes "\"/>\n"
-    ++ codes "<text x=\"100\" y=\"24\">shares of " ++ decimal frame.columns
-    ++ codes " wants, in octets</text>\n" ++ MARKS.now
+unfoldable pub heading_text : ℕ → ℕ → ℕ → List ℕ
+heading_text width height columns = joined (
+    codes "<rect class=\"page\" width=\"" ∷ decimal width ∷ codes "\" height=\"" ∷ decimal height
+    ∷ codes "\"/>\n<text x=\"100\" y=\"24\">shares of " ∷ decimal columns
+    ∷ codes " wants, in octets</text>\n" ∷ MARKS.now ∷ [])
 
 -- the largest grant at its height, and the axis
-abbrev pub axis_text : Frame → List ℕ
-axis_text frame =
-    codes "<text x=\"92\" y=\"104\" text-anchor=\"end\">" ++ decimal frame.largest
-    ++ codes "</text>\n"
-    ++ codes "<path class=\"axis\" d=\"M96 400H" ++ decimal (width_of frame) ++ codes "\"/>\n"
+unfoldable pub axis_text : ℕ → ℕ → List ℕ
+axis_text width largest = joined (
+    codes "<text x=\"92\" y=\"104\" text-anchor=\"end\">" ∷ decimal largest
+    ∷ codes "</text>\n<path class=\"axis\" d=\"M96 400H" ∷ decimal width ∷ codes "\"/>\n" ∷ [])
 
--- the parts of a column's title: what holds it back, its floor, and a limit of its own
+-- what comes before the columns
+unfoldable pub top_text : Frame → List ℕ
+top_text frame =
+    head_text (width_of frame) (height_of frame) frame.columns
+    ++ heading_text (width_of frame) (height_of frame) frame.columns
+    ++ axis_text (width_of frame) frame.largest
+
+-- the parts of a column's title: its share, what holds it back, its floor, and a limit of its own
+unfoldable pub share_text : List ℕ → ℕ → ℕ → List ℕ
+share_text path grant want = joined (
+    codes "<g><title>" ∷ escaped path ∷ codes ": " ∷ decimal grant ∷ codes " of " ∷ decimal want
+    ∷ [])
+
+unfoldable pub held_by : List ℕ → List ℕ
+held_by path = joined (codes ", held back by " ∷ escaped path ∷ [])
+
 abbrev pub held_text : Option Holder → List ℕ
 held_text None = []
-held_text (Some holder) = codes ", held back by " ++ escaped holder.path.now
+held_text (Some holder) = held_by holder.path.now
+
+unfoldable pub guaranteed : ℕ → List ℕ
+guaranteed floor = joined (codes ", guaranteed " ∷ decimal floor ∷ [])
 
 abbrev pub floor_text : ℕ → List ℕ
-floor_text floor = if nat_eq floor 0 then [] else codes ", guaranteed " ++ decimal floor
+floor_text floor = if nat_eq floor 0 then [] else guaranteed floor
+
+unfoldable pub own_limit_text : ℕ → List ℕ
+own_limit_text most = joined (codes ", limit of its own " ∷ decimal most ∷ [])
 
 abbrev pub own_text : Option ℕ → List ℕ
 own_text None = []
-own_text (Some most) = codes ", limit of its own " ++ decimal most
+own_text (Some most) = own_limit_text most
 
-abbrev pub title_text : Column → List ℕ
+unfoldable pub title_text : Column → List ℕ
 title_text column =
-    codes "<g><title>" ++ escaped column.path.now ++ codes ": " ++ decimal column.grant
-    ++ codes " of " ++ decimal column.want ++ held_text column.holder ++ floor_text column.floor
-    ++ own_text column.lid ++ codes "</title>\n"
+    share_text column.path.now column.grant column.want ++ held_text column.holder
+    ++ floor_text column.floor ++ own_text column.lid ++ TITLE_END.now
 
--- a rectangle of the colour of a number, or of that of wants that nothing holds back
+-- the beginning of a rectangle of the colour of a number, or of that of wants that nothing holds
+-- back
+unfoldable pub coloured : ℕ → List ℕ
+coloured digit = joined (codes "<rect class=\"c" ∷ decimal digit ∷ codes "\"" ∷ [])
+
 abbrev pub colour_text : Option Holder → ℕ → List ℕ
-colour_text None number = codes "<rect class=\"met\""
-colour_text (Some holder) number = codes "<rect class=\"c" ++ decimal (number % 10) ++ codes "\""
+colour_text None number = MET.now
+colour_text (Some holder) number = coloured (number % 10)
 
 abbrev pub class_text : Placed → List ℕ
 class_text placed = colour_text placed.column.holder placed.number
 
-abbrev pub rect_text : ℕ → ℕ → ℕ → List ℕ
-rect_text x octets largest =
-    codes " x=\"" ++ decimal x ++ codes "\" y=\"" ++ decimal (y_of octets largest)
-    ++ codes "\" width=\"20\" height=\"" ++ decimal (height octets largest) ++ codes "\"/>\n"
+unfoldable pub rect_text : ℕ → ℕ → ℕ → List ℕ
+rect_text x y height = joined (
+    codes " x=\"" ∷ decimal x ∷ codes "\" y=\"" ∷ decimal y ∷ codes "\" width=\"20\" height=\""
+    ∷ decimal height ∷ codes "\"/>\n" ∷ [])
 
-abbrev pub bar_text : ℕ → Placed → List ℕ
+unfoldable pub bar_text : ℕ → Placed → List ℕ
 bar_text largest placed =
-    class_text placed ++ rect_text placed.x placed.column.grant largest
+    class_text placed
+    ++ rect_text placed.x (y_of placed.column.grant largest) (height placed.column.grant largest)
 
 -- the foot, if there is a floor
-abbrev pub foot_text : ℕ → Placed → List ℕ
-foot_text largest placed =
-    if nat_eq placed.column.floor 0 then []
-    else codes "<rect class=\"foot\"" ++ rect_text placed.x placed.column.floor largest
+unfoldable pub foot_bar : ℕ → ℕ → ℕ → List ℕ
+foot_bar x floor largest = FOOT.now ++ rect_text x (y_of floor largest) (height floor largest)
+
+abbrev pub foot_at : ℕ → ℕ → ℕ → List ℕ
+foot_at largest x floor = if nat_eq floor 0 then [] else foot_bar x floor largest
+
+unfoldable pub foot_text : ℕ → Placed → List ℕ
+foot_text largest placed = foot_at largest placed.x placed.column.floor
+
+unfoldable pub lid_line : ℕ → ℕ → List ℕ
+lid_line x y = joined (
+    codes "<path class=\"lid\" d=\"M" ∷ decimal x ∷ codes " " ∷ decimal y ∷ codes "m-2 0h24\"/>\n"
+    ∷ [])
 
 -- the lid at that limit, unless it is more than a tenth above the largest grant
 abbrev pub lid_at : ℕ → ℕ → Option ℕ → List ℕ
 lid_at largest x None = []
 lid_at largest x (Some most) =
-    if nat_lt 330 (height most largest) then []
-    else codes "<path class=\"lid\" d=\"M" ++ decimal x ++ codes " "
-    ++ decimal (y_of most largest) ++ codes "m-2 0h24\"/>\n"
+    if nat_lt 330 (height most largest) then [] else lid_line x (y_of most largest)
 
-abbrev pub lid_text : ℕ → Placed → List ℕ
+unfoldable pub lid_text : ℕ → Placed → List ℕ
 lid_text largest placed = lid_at largest placed.x placed.column.lid
 
 -- the number of the limit, and the path of the want
-abbrev pub label_text : Placed → List ℕ
-label_text placed =
-    codes "<text class=\"number\" x=\"" ++ decimal placed.x ++ codes "\" y=\"414\" dx=\"10\">"
-    ++ decimal placed.number ++ codes "</text>\n"
-    ++ codes "<text transform=\"translate(" ++ decimal placed.x
-    ++ codes " 424) rotate(90)\" dy=\"-6\">" ++ escaped placed.column.path.now
-    ++ codes "</text></g>\n"
+unfoldable pub label_text : ℕ → ℕ → List ℕ → List ℕ
+label_text x number path = joined (
+    codes "<text class=\"number\" x=\"" ∷ decimal x ∷ codes "\" y=\"414\" dx=\"10\">"
+    ∷ decimal number ∷ codes "</text>\n<text transform=\"translate(" ∷ decimal x
+    ∷ codes " 424) rotate(90)\" dy=\"-6\">" ∷ escaped path ∷ codes "</text></g>\n" ∷ [])
 
-abbrev pub column_text : ℕ → Placed → List ℕ
+unfoldable pub column_text : ℕ → Placed → List ℕ
 column_text largest placed =
     title_text placed.column ++ bar_text largest placed ++ foot_text largest placed
-    ++ lid_text largest placed ++ label_text placed
+    ++ lid_text largest placed ++ label_text placed.x placed.number placed.column.path.now
 
 -- the dashed line, and what it is
+unfoldable pub level_line : ℕ → ℕ → ℕ → List ℕ → List ℕ
+level_line width y octets path = joined (
+    codes "<path class=\"level\" d=\"M96 " ∷ decimal y ∷ codes "H" ∷ decimal width
+    ∷ codes "\"/>\n<text x=\"100\" y=\"44\">dashed line: " ∷ decimal octets
+    ∷ codes ", the lowest level of a limit that holds back two or more: "
+    ∷ escaped path ∷ codes "</text>\n" ∷ [])
+
 abbrev pub level_text : Frame → Option Level → List ℕ
-level_text frame None = codes "<text x=\"100\" y=\"44\">no limit holds back two or more</text>\n"
+level_text frame None = NO_LEVEL.now
 level_text frame (Some level) =
-    codes "<path class=\"level\" d=\"M96 " ++ decimal (y_of level.octets frame.largest)
-    ++ codes "H" ++ decimal (width_of frame) ++ codes "\"/>\n"
-    ++ codes "<text x=\"100\" y=\"44\">dashed line: " ++ decimal level.octets ++ codes ", "
-    ++ codes "the lowest level of a limit that holds back two or more: "
-    ++ escaped level.path.now ++ codes "</text>\n"
+    level_line (width_of frame) (y_of level.octets frame.largest) level.octets level.path.now
+
+-- the line of the legend for a number: its colour, itself, and the path of the limit
+unfoldable pub legend_line : ℕ → ℕ → List ℕ
+legend_line y number = joined (
+    codes " x=\"100\" y=\"" ∷ decimal y ∷ codes "\" width=\"12\" height=\"12\"/>\n"
+    ∷ codes "<text x=\"120\" y=\"" ∷ decimal y ∷ codes "\" dy=\"11\">" ∷ decimal number
+    ∷ codes ": " ∷ [])
 
 abbrev pub named_text : Option Holder → List ℕ
-named_text None = codes "held back by no limit"
+named_text None = NO_LIMIT.now
 named_text (Some holder) = escaped holder.path.now
 
--- the line of the legend for a number, by the first column of it
+unfoldable pub number_text : ℕ → Placed → List ℕ
+number_text longest placed =
+    class_text placed ++ legend_line (430 + 8 * longest + 20 * placed.number) placed.number
+    ++ named_text placed.column.holder ++ TEXT_END.now
+
+-- the line of the legend, at the first column of a number
 abbrev pub legend_text : ℕ → Placed → List ℕ
-legend_text longest placed =
-    if placed.first
-    then class_text placed ++ codes " x=\"100\" y=\""
-    ++ decimal (430 + 8 * longest + 20 * placed.number)
-    ++ codes "\" width=\"12\" height=\"12\"/>\n"
-    ++ codes "<text x=\"120\" y=\"" ++ decimal (430 + 8 * longest + 20 * placed.number)
-    ++ codes "\" dy=\"11\">" ++ decimal placed.number ++ codes ": "
-    ++ named_text placed.column.holder ++ codes "</text>\n"
-    else []
+legend_text longest placed = if placed.first then number_text longest placed else []
 
 -- the picture of columns at their places, in its frame
 abbrev pub framed_text : Frame → List Placed → List ℕ
 framed_text frame placed =
-    head_text frame ++ heading_text frame ++ axis_text frame
-    ++ flat_map (column_text frame.largest) placed ++ level_text frame (level placed)
-    ++ flat_map (legend_text frame.longest) placed ++ codes "</svg>\n"
+    top_text frame ++ flat_map (column_text frame.largest) placed
+    ++ level_text frame (level placed) ++ flat_map (legend_text frame.longest) placed ++ END.now
 
 abbrev pub picture_text : List Placed → List ℕ
 picture_text placed = framed_text (frame_of placed) placed

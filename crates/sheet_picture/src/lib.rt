@@ -15,11 +15,13 @@
 
 mod column;
 mod columns;
+mod elements;
 mod escape;
 mod frame;
 mod laws;
 mod lids;
 mod order;
+mod parts;
 mod picture;
 mod svg;
 mod texts;

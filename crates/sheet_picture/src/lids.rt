@@ -1,6 +1,6 @@
 //! Limits of one want alone.
 
-ghost use Rattle.std.specs.Prelude.{◌≡◌, ◌+◌, ◌<◌, ℕ, Some, IfOk, OnSome, length, slice_get, take};
+ghost use Rattle.std.specs.Prelude.{◌≡◌, ◌+◌, ◌<◌, ℕ, None, Some, IfOk, OnSome, length, slice_index_or, take};
 ghost use Rattle.limit_tree.specs.Outline.{limits};
 ghost use Rattle.sheet_picture.specs.Columns.{HasLids, limit_alone, tighter};
 
@@ -48,7 +48,7 @@ fn note_lid<A: Allocator>(flat: &Flat<A>, node: usize, lids: &mut [Option<u64>])
 fn no_lids<A: Allocator>(alloc: A, leaves: usize) -> Result<Vec<Option<u64>, A>, AllocError>
     ensures size { IfOk result (λ v. length v.items ≡ leaves) }
     ensures none { IfOk result
-        (λ v. (leaf : ℕ) → leaf < leaves → slice_get v.items leaf ≡ Some None) }
+        (λ v. (leaf : ℕ) → leaf < leaves → slice_index_or v.items leaf None ≡ None) }
 {
     vec![in alloc; None; leaves]
 }

@@ -2,12 +2,16 @@
 
 ghost use Rattle.std.specs.Prelude.{◌≡◌, ◌++◌, ◌≤◌, OnOk, IfOk, string_bytes};
 ghost use Rattle.std.specs.List.{flat_map};
-ghost use Rattle.sheet_picture.specs.Svg.{axis_text, bar_text, class_text, column_text, foot_text, head_text, heading_text, held_text, floor_text, height, height_of, label_text, legend_text, level_text, lid_text, named_text, own_text, picture_text, rect_text, title_text, width_of, y_of};
+ghost use Rattle.sheet_picture.specs.Svg.{axis_text, bar_text, class_text, coloured, column_text, floor_text, foot_bar, foot_text, guaranteed, head_text, heading_text, height, height_of, held_by, held_text, label_text, legend_line, legend_text, level_line, level_text, lid_line, lid_text, named_text, number_text, own_limit_text, own_text, picture_text, rect_text, share_text, title_text, top_text, width_of, y_of};
 
 use crate::column::{Column, Holder};
+use crate::elements::{
+    push_axis, push_coloured, push_guaranteed, push_head, push_heading, push_held_by, push_label,
+    push_legend_line, push_level_line, push_lid_line, push_own_limit, push_rect, push_share,
+};
 use crate::escape::push_escaped;
 use crate::frame::{Frame, Level, Placed, frame_of, level_of};
-use crate::texts::{HEAD, MARKS, STYLE};
+use crate::texts::{END, FOOT, MET, NO_LEVEL, NO_LIMIT, TEXT_END, TITLE_END};
 use std::alloc::{AllocError, Allocator};
 
 /// The height of octets: 300 for the largest grant.
@@ -39,34 +43,15 @@ fn height_of(frame: Frame) -> u128
     470 + 8 * frame.longest as u128 + 20 * frame.numbers as u128
 }
 
-fn push_head<A: Allocator>(text: &mut String<A>, frame: Frame) -> Result<(), AllocError>
+#[tactic(auto, unfolding(crate::specs::Svg::top_text))]
+fn push_top<A: Allocator>(text: &mut String<A>, frame: Frame) -> Result<(), AllocError>
     ensures appended { OnOk result
-        (string_bytes text.new ≡ string_bytes text.old ++ head_text frame) }
+        (string_bytes text.new ≡ string_bytes text.old ++ top_text frame) }
 {
-    let (width, height, columns) = (width_of(frame), height_of(frame), frame.columns);
-    text.push_str(HEAD)?;
-    write!(text, "{width}\" height=\"{height}\" viewBox=\"0 0 {width} {height}\">\n")?;
-    write!(text, "<title>shares of {columns} wants</title>\n")?;
-    text.push_str(STYLE)
-}
-
-fn push_heading<A: Allocator>(text: &mut String<A>, frame: Frame) -> Result<(), AllocError>
-    ensures appended { OnOk result
-        (string_bytes text.new ≡ string_bytes text.old ++ heading_text frame) }
-{
-    let (width, height, columns) = (width_of(frame), height_of(frame), frame.columns);
-    write!(text, "<rect class=\"page\" width=\"{width}\" height=\"{height}\"/>\n")?;
-    write!(text, "<text x=\"100\" y=\"24\">shares of {columns} wants, in octets</text>\n")?;
-    text.push_str(MARKS)
-}
-
-fn push_axis<A: Allocator>(text: &mut String<A>, frame: Frame) -> Result<(), AllocError>
-    ensures appended { OnOk result
-        (string_bytes text.new ≡ string_bytes text.old ++ axis_text frame) }
-{
-    let (width, largest) = (width_of(frame), frame.largest);
-    write!(text, "<text x=\"92\" y=\"104\" text-anchor=\"end\">{largest}</text>\n")?;
-    write!(text, "<path class=\"axis\" d=\"M96 400H{width}\"/>\n")
+    let (width, height) = (width_of(frame), height_of(frame));
+    push_head(text, width, height, frame.columns)?;
+    push_heading(text, width, height, frame.columns)?;
+    push_axis(text, width, frame.largest)
 }
 
 fn push_held<A: Allocator>(
@@ -77,10 +62,7 @@ fn push_held<A: Allocator>(
         (string_bytes text.new ≡ string_bytes text.old ++ held_text holder.entry) }
 {
     match holder {
-        Some(holder) => {
-            text.push_str(", held back by ")?;
-            push_escaped(text, holder.path)
-        }
+        Some(holder) => push_held_by(text, holder.path),
         None => Ok(()),
     }
 }
@@ -91,7 +73,7 @@ fn push_floor<A: Allocator>(text: &mut String<A>, floor: u64) -> Result<(), Allo
 {
     match floor {
         0 => Ok(()),
-        _ => write!(text, ", guaranteed {floor}"),
+        _ => push_guaranteed(text, floor),
     }
 }
 
@@ -100,23 +82,21 @@ fn push_own<A: Allocator>(text: &mut String<A>, lid: Option<u64>) -> Result<(), 
         (string_bytes text.new ≡ string_bytes text.old ++ own_text lid) }
 {
     match lid {
-        Some(most) => write!(text, ", limit of its own {most}"),
+        Some(most) => push_own_limit(text, most),
         None => Ok(()),
     }
 }
 
+#[tactic(auto, unfolding(crate::specs::Svg::title_text))]
 fn push_title<A: Allocator>(text: &mut String<A>, column: &Column<'_>) -> Result<(), AllocError>
     ensures appended { OnOk result
         (string_bytes text.new ≡ string_bytes text.old ++ title_text column.now) }
 {
-    let (grant, want) = (column.grant, column.want);
-    text.push_str("<g><title>")?;
-    push_escaped(text, column.path)?;
-    write!(text, ": {grant} of {want}")?;
+    push_share(text, column.path, column.grant, column.want)?;
     push_held(text, column.holder)?;
     push_floor(text, column.floor)?;
     push_own(text, column.lid)?;
-    text.push_str("</title>\n")
+    text.push_str(TITLE_END)
 }
 
 fn push_class<A: Allocator>(text: &mut String<A>, placed: &Placed<'_>) -> Result<(), AllocError>
@@ -124,25 +104,12 @@ fn push_class<A: Allocator>(text: &mut String<A>, placed: &Placed<'_>) -> Result
         (string_bytes text.new ≡ string_bytes text.old ++ class_text placed.now) }
 {
     match placed.column.holder {
-        Some(_) => write!(text, "<rect class=\"c{}\"", placed.number % 10),
-        None => text.push_str("<rect class=\"met\""),
+        Some(_) => push_coloured(text, placed.number % 10),
+        None => text.push_str(MET),
     }
 }
 
-fn push_rect<A: Allocator>(
-    text: &mut String<A>,
-    x: u128,
-    octets: u64,
-    largest: u64,
-) -> Result<(), AllocError>
-    requires some { 1 ≤ largest }
-    ensures appended { OnOk result
-        (string_bytes text.new ≡ string_bytes text.old ++ rect_text x octets largest) }
-{
-    let (y, height) = (y_of(octets, largest), height(octets, largest));
-    write!(text, " x=\"{x}\" y=\"{y}\" width=\"20\" height=\"{height}\"/>\n")
-}
-
+#[tactic(auto, unfolding(crate::specs::Svg::bar_text))]
 fn push_bar<A: Allocator>(
     text: &mut String<A>,
     placed: &Placed<'_>,
@@ -152,10 +119,27 @@ fn push_bar<A: Allocator>(
     ensures appended { OnOk result
         (string_bytes text.new ≡ string_bytes text.old ++ bar_text largest placed.now) }
 {
+    let octets = placed.column.grant;
     push_class(text, placed)?;
-    push_rect(text, placed.x, placed.column.grant, largest)
+    push_rect(text, placed.x, y_of(octets, largest), height(octets, largest))
 }
 
+#[tactic(auto, unfolding(crate::specs::Svg::foot_bar))]
+fn push_foot_bar<A: Allocator>(
+    text: &mut String<A>,
+    x: u128,
+    floor: u64,
+    largest: u64,
+) -> Result<(), AllocError>
+    requires some { 1 ≤ largest }
+    ensures appended { OnOk result
+        (string_bytes text.new ≡ string_bytes text.old ++ foot_bar x floor largest) }
+{
+    text.push_str(FOOT)?;
+    push_rect(text, x, y_of(floor, largest), height(floor, largest))
+}
+
+#[tactic(auto, unfolding(crate::specs::Svg::foot_text))]
 fn push_foot<A: Allocator>(
     text: &mut String<A>,
     placed: &Placed<'_>,
@@ -165,14 +149,14 @@ fn push_foot<A: Allocator>(
     ensures appended { OnOk result
         (string_bytes text.new ≡ string_bytes text.old ++ foot_text largest placed.now) }
 {
-    if placed.column.floor == 0 {
-        return Ok(());
+    match placed.column.floor {
+        0 => Ok(()),
+        floor => push_foot_bar(text, placed.x, floor, largest),
     }
-    text.push_str("<rect class=\"foot\"")?;
-    push_rect(text, placed.x, placed.column.floor, largest)
 }
 
 /// Appends the lid, unless it is more than a tenth above the largest grant.
+#[tactic(auto, unfolding(crate::specs::Svg::lid_text))]
 fn push_lid<A: Allocator>(
     text: &mut String<A>,
     placed: &Placed<'_>,
@@ -188,21 +172,10 @@ fn push_lid<A: Allocator>(
     if height(most, largest) > 330 {
         return Ok(());
     }
-    let (x, y) = (placed.x, y_of(most, largest));
-    write!(text, "<path class=\"lid\" d=\"M{x} {y}m-2 0h24\"/>\n")
+    push_lid_line(text, placed.x, y_of(most, largest))
 }
 
-fn push_label<A: Allocator>(text: &mut String<A>, placed: &Placed<'_>) -> Result<(), AllocError>
-    ensures appended { OnOk result
-        (string_bytes text.new ≡ string_bytes text.old ++ label_text placed.now) }
-{
-    let (x, number) = (placed.x, placed.number);
-    write!(text, "<text class=\"number\" x=\"{x}\" y=\"414\" dx=\"10\">{number}</text>\n")?;
-    write!(text, "<text transform=\"translate({x} 424) rotate(90)\" dy=\"-6\">")?;
-    push_escaped(text, placed.column.path)?;
-    text.push_str("</text></g>\n")
-}
-
+#[tactic(auto, unfolding(crate::specs::Svg::column_text))]
 fn push_column<A: Allocator>(
     text: &mut String<A>,
     placed: &Placed<'_>,
@@ -216,7 +189,7 @@ fn push_column<A: Allocator>(
     push_bar(text, placed, largest)?;
     push_foot(text, placed, largest)?;
     push_lid(text, placed, largest)?;
-    push_label(text, placed)
+    push_label(text, placed.x, placed.number, placed.column.path)
 }
 
 fn push_level<A: Allocator>(
@@ -228,15 +201,13 @@ fn push_level<A: Allocator>(
     ensures appended { OnOk result
         (string_bytes text.new ≡ string_bytes text.old ++ level_text frame level.entry) }
 {
-    let Some(level) = level else {
-        return text.push_str("<text x=\"100\" y=\"44\">no limit holds back two or more</text>\n");
-    };
-    let (width, octets, y) = (width_of(frame), level.octets, y_of(level.octets, frame.largest));
-    write!(text, "<path class=\"level\" d=\"M96 {y}H{width}\"/>\n")?;
-    write!(text, "<text x=\"100\" y=\"44\">dashed line: {octets}, ")?;
-    text.push_str("the lowest level of a limit that holds back two or more: ")?;
-    push_escaped(text, level.path)?;
-    text.push_str("</text>\n")
+    match level {
+        Some(level) => {
+            let y = y_of(level.octets, frame.largest);
+            push_level_line(text, width_of(frame), y, level.octets, level.path)
+        }
+        None => text.push_str(NO_LEVEL),
+    }
 }
 
 fn push_named<A: Allocator>(
@@ -248,8 +219,24 @@ fn push_named<A: Allocator>(
 {
     match holder {
         Some(holder) => push_escaped(text, holder.path),
-        None => text.push_str("held back by no limit"),
+        None => text.push_str(NO_LIMIT),
     }
+}
+
+#[tactic(auto, unfolding(crate::specs::Svg::number_text))]
+fn push_number<A: Allocator>(
+    text: &mut String<A>,
+    placed: &Placed<'_>,
+    longest: usize,
+) -> Result<(), AllocError>
+    ensures appended { OnOk result
+        (string_bytes text.new ≡ string_bytes text.old ++ number_text longest placed.now) }
+{
+    let y = 430 + 8 * longest as u128 + 20 * placed.number as u128;
+    push_class(text, placed)?;
+    push_legend_line(text, y, placed.number)?;
+    push_named(text, placed.column.holder)?;
+    text.push_str(TEXT_END)
 }
 
 /// Appends the line of the legend for the first column of a number.
@@ -264,13 +251,7 @@ fn push_legend<A: Allocator>(
     if !placed.first {
         return Ok(());
     }
-    let number = placed.number;
-    let y = 430 + 8 * longest as u128 + 20 * number as u128;
-    push_class(text, placed)?;
-    write!(text, " x=\"100\" y=\"{y}\" width=\"12\" height=\"12\"/>\n")?;
-    write!(text, "<text x=\"120\" y=\"{y}\" dy=\"11\">{number}: ")?;
-    push_named(text, placed.column.holder)?;
-    text.push_str("</text>\n")
+    push_number(text, placed, longest)
 }
 
 fn push_columns<A: Allocator>(
@@ -311,12 +292,10 @@ pub(crate) fn picture_text<A: Allocator>(
 {
     let frame = frame_of(placed);
     let mut text = String::new(alloc);
-    push_head(&mut text, frame)?;
-    push_heading(&mut text, frame)?;
-    push_axis(&mut text, frame)?;
+    push_top(&mut text, frame)?;
     push_columns(&mut text, placed, frame.largest)?;
     push_level(&mut text, frame, level_of(placed))?;
     push_legends(&mut text, placed, frame.longest)?;
-    text.push_str("</svg>\n")?;
+    text.push_str(END)?;
     Ok(text)
 }

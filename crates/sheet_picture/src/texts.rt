@@ -15,6 +15,24 @@ text{fill:#222}.page{fill:#fff}.number{font-size:9px;text-anchor:middle}
 </style>
 ";
 
-/// The second line of the heading, and the marks of columns.
+/// The line of the heading that says what the marks of columns are.
 pub(crate) const MARKS: &str =
     "<text x=\"100\" y=\"60\">dark foot: guaranteed; lid: a limit of its own; number: what holds it back</text>\n";
+
+pub(crate) const TITLE_END: &str = "</title>\n";
+
+/// The beginning of a column that nothing holds back.
+pub(crate) const MET: &str = "<rect class=\"met\"";
+
+/// The beginning of a foot.
+pub(crate) const FOOT: &str = "<rect class=\"foot\"";
+
+pub(crate) const NO_LEVEL: &str =
+    "<text x=\"100\" y=\"44\">no limit holds back two or more</text>\n";
+
+/// The line of the legend for wants that nothing holds back.
+pub(crate) const NO_LIMIT: &str = "held back by no limit";
+
+pub(crate) const TEXT_END: &str = "</text>\n";
+
+pub(crate) const END: &str = "</svg>\n";

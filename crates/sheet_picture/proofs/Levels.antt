@@ -1,7 +1,7 @@
 -- Wants that one limit holds back get the same, but for one octet, or their floor.
-use Rattle.std.proofs.Common.{◌≡◌, ◌∙◌, ◌<◌, ℕ, List, Option, Some, None, length, sym, ap, subst, arith, inl, inr, slice_index, slice_get, IsTrue}
+use Rattle.std.proofs.Common.{◌≡◌, ◌∙◌, ◌<◌, ℕ, List, Option, Some, length, sym, subst, arith, inl, inr, slice_index, slice_get, IsTrue}
 use Rattle.std.proofs.lemmas.Bool.{cases_lt}
-use Rattle.limit_tree.specs.Sharing.{Branch, LimitTree, IsBackedBy, IsBranch, IsBottleneck, IsFullAbove, IsNotTooGreat, IsUnmet}
+use Rattle.limit_tree.specs.Sharing.{Branch, LimitTree, IsBranch, IsBottleneck, IsFullAbove, IsNotTooGreat, IsUnmet}
 use Rattle.round_allocator.specs.Rounds.{IsEntry, IsNamed}
 use Rattle.sheet_picture.specs.Levels.{OneLimitIsLevel}
 

@@ -1,5 +1,5 @@
 -- Texts within XML 1.0, as the content of an element or of an attribute in double quotes.
-use Rattle.std.specs.Prelude.{ℕ, Bool, ◌==◌, ◌||◌, if◌then◌else◌, List, codes, encode_utf8}
+use Rattle.std.specs.Prelude.{ℕ, ◌==◌, ◌||◌, if◌then◌else◌, List, codes, encode_utf8}
 use Rattle.std.specs.Char.{is_control}
 use Rattle.std.specs.List.{flat_map}
 use Rattle.std.specs.Str.{chars}

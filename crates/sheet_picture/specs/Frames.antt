@@ -1,5 +1,5 @@
 -- The places of columns in a picture, its measures, and the level of its dashed line.
-use Rattle.std.specs.Prelude.{ℕ, ◌+◌, ◌*◌, nat_lt, Bool, true, false, if◌then◌else◌, List, [], ◌∷◌, ◌++◌, Option, Some, None, count_by, length, max, min}
+use Rattle.std.specs.Prelude.{ℕ, ◌+◌, ◌*◌, nat_lt, Bool, if◌then◌else◌, List, [], ◌∷◌, ◌++◌, Option, Some, None, count_by, length, max, min}
 use Rattle.std.specs.List.{fold}
 use Rattle.sheet_picture.specs.declared.column.Column.{Column}
 use Rattle.sheet_picture.specs.declared.column.Holder.{Holder}

@@ -8,7 +8,7 @@ use Rattle.sheet_picture.specs.declared.column.Holder.{Holder}
 use Rattle.sheet_picture.specs.declared.frame.Frame.{Frame}
 use Rattle.sheet_picture.specs.declared.frame.Level.{Level}
 use Rattle.sheet_picture.specs.declared.frame.Placed.{Placed}
-use Rattle.sheet_picture.specs.declared.texts.TheConstants.{END, FOOT, HEAD, MARKS, MET, NO_LEVEL, NO_LIMIT, STYLE, TEXT_END, TITLE_END}
+use Rattle.sheet_picture.specs.declared.texts.TheConstants.{END, HEAD, MARKS, MET, NO_LEVEL, NO_LIMIT, STYLE, TEXT_END, TITLE_END}
 use Rattle.sheet_picture.specs.Escapes.{escaped}
 use Rattle.sheet_picture.specs.Frames.{frame_of, level}
 use Rattle.sheet_picture.specs.Parts.{joined}
@@ -109,9 +109,13 @@ bar_text largest placed =
     class_text placed
     ++ rect_text placed.x (y_of placed.column.grant largest) (height placed.column.grant largest)
 
+-- the beginning of a foot
+unfoldable pub foot_start : List ℕ
+foot_start = joined (codes "<rect class=\"foot\"" ∷ [])
+
 -- the foot, if there is a floor
 unfoldable pub foot_bar : ℕ → ℕ → ℕ → List ℕ
-foot_bar x floor largest = FOOT.now ++ rect_text x (y_of floor largest) (height floor largest)
+foot_bar x floor largest = foot_start ++ rect_text x (y_of floor largest) (height floor largest)
 
 abbrev pub foot_at : ℕ → ℕ → ℕ → List ℕ
 foot_at largest x floor = if nat_eq floor 0 then [] else foot_bar x floor largest

@@ -1,7 +1,7 @@
 //! The elements of a picture, each by its numbers and paths.
 
 ghost use Rattle.std.specs.Prelude.{◌≡◌, ◌++◌, OnOk, string_bytes};
-ghost use Rattle.sheet_picture.specs.Svg.{axis_text, coloured, guaranteed, head_text, heading_text, held_by, label_text, legend_line, level_line, lid_line, own_limit_text, rect_text, share_text};
+ghost use Rattle.sheet_picture.specs.Svg.{axis_text, coloured, foot_start, guaranteed, head_text, heading_text, held_by, label_text, legend_line, level_line, lid_line, own_limit_text, rect_text, share_text};
 
 use crate::parts::{Part, push_parts};
 use crate::texts::{HEAD, MARKS, STYLE};
@@ -93,17 +93,11 @@ pub(crate) fn push_share<A: Allocator>(
     push_parts(text, &parts)
 }
 
-pub(crate) fn push_held_by<A: Allocator>(
-    text: &mut String<A>,
-    path: &str,
-) -> Result<(), AllocError>
+pub(crate) fn push_held_by<A: Allocator>(text: &mut String<A>, path: &str) -> Result<(), AllocError>
     ensures appended { OnOk result
         (string_bytes text.new ≡ string_bytes text.old ++ held_by path.now) }
 {
-    let parts = [
-        Part::Text(", held back by "),
-        Part::Path(path),
-    ];
+    let parts = [Part::Text(", held back by "), Part::Path(path)];
     push_parts(text, &parts)
 }
 
@@ -114,10 +108,7 @@ pub(crate) fn push_guaranteed<A: Allocator>(
     ensures appended { OnOk result
         (string_bytes text.new ≡ string_bytes text.old ++ guaranteed floor) }
 {
-    let parts = [
-        Part::Text(", guaranteed "),
-        Part::Number(floor as u128),
-    ];
+    let parts = [Part::Text(", guaranteed "), Part::Number(floor as u128)];
     push_parts(text, &parts)
 }
 
@@ -148,6 +139,13 @@ pub(crate) fn push_coloured<A: Allocator>(
         Part::Text("\""),
     ];
     push_parts(text, &parts)
+}
+
+pub(crate) fn push_foot_start<A: Allocator>(text: &mut String<A>) -> Result<(), AllocError>
+    ensures appended { OnOk result
+        (string_bytes text.new ≡ string_bytes text.old ++ foot_start) }
+{
+    push_parts(text, &[Part::Text("<rect class=\"foot\"")])
 }
 
 pub(crate) fn push_rect<A: Allocator>(

@@ -93,11 +93,7 @@ fn lower<'a>(level: Option<Level<'a>>, octets: u64, holder: Holder<'a>) -> Optio
 }
 
 /// The lowest level among columns, after one more; `before` is the grant of the column before it.
-fn level_after<'a>(
-    level: Option<Level<'a>>,
-    before: u64,
-    placed: &Placed<'a>,
-) -> Option<Level<'a>>
+fn level_after<'a>(level: Option<Level<'a>>, before: u64, placed: &Placed<'a>) -> Option<Level<'a>>
     ensures level { result ≡ level_after level.entry before placed.now }
 {
     match placed.column.holder {

@@ -6,12 +6,13 @@ ghost use Rattle.sheet_picture.specs.Svg.{axis_text, bar_text, class_text, colou
 
 use crate::column::{Column, Holder};
 use crate::elements::{
-    push_axis, push_coloured, push_guaranteed, push_head, push_heading, push_held_by, push_label,
-    push_legend_line, push_level_line, push_lid_line, push_own_limit, push_rect, push_share,
+    push_axis, push_coloured, push_foot_start, push_guaranteed, push_head, push_heading,
+    push_held_by, push_label, push_legend_line, push_level_line, push_lid_line, push_own_limit,
+    push_rect, push_share,
 };
 use crate::escape::push_escaped;
 use crate::frame::{Frame, Level, Placed, frame_of, level_of};
-use crate::texts::{END, FOOT, MET, NO_LEVEL, NO_LIMIT, TEXT_END, TITLE_END};
+use crate::texts::{END, MET, NO_LEVEL, NO_LIMIT, TEXT_END, TITLE_END};
 use std::alloc::{AllocError, Allocator};
 
 /// The height of octets: 300 for the largest grant.
@@ -121,7 +122,12 @@ fn push_bar<A: Allocator>(
 {
     let octets = placed.column.grant;
     push_class(text, placed)?;
-    push_rect(text, placed.x, y_of(octets, largest), height(octets, largest))
+    push_rect(
+        text,
+        placed.x,
+        y_of(octets, largest),
+        height(octets, largest),
+    )
 }
 
 #[tactic(auto, unfolding(crate::specs::Svg::foot_bar))]
@@ -135,7 +141,7 @@ fn push_foot_bar<A: Allocator>(
     ensures appended { OnOk result
         (string_bytes text.new ≡ string_bytes text.old ++ foot_bar x floor largest) }
 {
-    text.push_str(FOOT)?;
+    push_foot_start(text)?;
     push_rect(text, x, y_of(floor, largest), height(floor, largest))
 }
 

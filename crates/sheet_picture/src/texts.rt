@@ -24,9 +24,6 @@ pub(crate) const TITLE_END: &str = "</title>\n";
 /// The beginning of a column that nothing holds back.
 pub(crate) const MET: &str = "<rect class=\"met\"";
 
-/// The beginning of a foot.
-pub(crate) const FOOT: &str = "<rect class=\"foot\"";
-
 pub(crate) const NO_LEVEL: &str =
     "<text x=\"100\" y=\"44\">no limit holds back two or more</text>\n";
 

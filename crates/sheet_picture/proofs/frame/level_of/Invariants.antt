@@ -1,6 +1,6 @@
 use Rattle.std.proofs.Common.{◌≡◌, take, None}
 use Rattle.std.specs.List.{fold}
-use Rattle.sheet_picture.specs.Frames.{Leveling, level_step}
+use Rattle.sheet_picture.specs.Frames.{level_step}
 use Rattle.sheet_picture.proofs.frame.level_of.Given as goal
 
 abbrev pub invariant-loop-place : goal.invariant-loop-place

@@ -1,6 +1,6 @@
 use Rattle.std.proofs.Common.{◌≡◌, ◌≤◌, take}
 use Rattle.std.specs.List.{fold}
-use Rattle.sheet_picture.specs.Frames.{Placing, place, start}
+use Rattle.sheet_picture.specs.Frames.{place, start}
 use Rattle.sheet_picture.proofs.frame.placed_of.Given as goal
 
 abbrev pub invariant-loop-column : goal.invariant-loop-column

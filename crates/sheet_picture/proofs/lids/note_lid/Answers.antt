@@ -1,4 +1,4 @@
-use Rattle.std.proofs.Common.{◌≡◌, ◌∙◌, ◌+◌, ◌<◌, Option, None, Some, ℕ, get_or, length, set, sym, subst, take, arith}
+use Rattle.std.proofs.Common.{◌≡◌, ◌∙◌, ◌+◌, ◌<◌, Option, None, ℕ, get_or, length, set, sym, subst, take, arith}
 use Rattle.std.proofs.lemmas.Grind.{common_steps}
 use Rattle.sheet_picture.specs.Columns.{lid_of}
 use Rattle.sheet_picture.proofs.LidSteps.{noted, unnoted}

@@ -1,12 +1,12 @@
 -- The numbers that rows of arguments state.
-use Rattle.std.proofs.Common.{◌≡◌, ◌≤◌, ◌<◌, ◌∙◌, ℕ, codes, arith, refl, sym, subst, ap, false, List, [], ◌∷◌, Option, None, Some, inl, inr}
+use Rattle.std.proofs.Common.{◌≡◌, ◌<◌, ◌∙◌, ℕ, codes, arith, refl, sym, subst, ap, false, List, [], ◌∷◌, Option, None, Some, inl, inr}
 use Rattle.std.specs.Char.{digit_value}
 use Rattle.std.specs.Str.{bytes_eq}
 use Rattle.std.proofs.lemmas.Slice.Eq.{bytes_eq-Decides}
 use Rattle.clap.specs.Words.{Row, Text, first_of}
 use Rattle.command_line.specs.Given.{IsPlainWord}
 use Rattle.command_line.specs.Numbers.{AreLinesIn, IsNumber, IsNumberOf, IsNumberOr, IsPortIn, IsStated, IsUnnumberedBy}
-use Rattle.command_line.specs.Stated.{IsServeUnnumbered, IsServeUnnumberedIn, IsStatedBy, IsTopUnnumbered, IsUnnumbered}
+use Rattle.command_line.specs.Stated.{IsServeUnnumberedIn, IsStatedBy, IsUnnumbered}
 use Rattle.command_line.specs.Timed.{IsPatienceIn, IsSeconds, IsUntimedIn, usual_patience}
 use Rattle.client_patience.specs.declared.patience.Patience.{Patience}
 use Rattle.command_line.specs.declared.numbers.NumberForm.{NumberForm}
@@ -120,23 +120,21 @@ apart_found found name also rows other apart is other_is =
 -- the numbers of `serve` are those of its rows
 pub serve_stated : (found : Option (Text × List Row)) (p : Patience) (port : Option ℕ) (rows : List Row) → found ≡ Some (codes "serve", rows) → IsPatienceIn rows p → IsPortIn rows port
     → IsStatedBy found p port ROWS
-serve_stated found p port rows is states also =
-    (
-      λ other equal.
-          let same = ap (λ (f : Text × List Row). f.1) (same_found found _ _ rows other is equal) in
-          (subst (λ (r : List Row). IsPatienceIn r p) same states, subst (λ (r : List Row). IsPortIn r port) same also),
-      λ other equal. absurd (apart_found found _ _ rows other refl is equal),
-    )
+serve_stated found p port rows is states also = (
+  λ other equal.
+      let same = ap (λ (f : Text × List Row). f.1) (same_found found _ _ rows other is equal) in
+      (subst (λ (r : List Row). IsPatienceIn r p) same states, subst (λ (r : List Row). IsPortIn r port) same also),
+  λ other equal. absurd (apart_found found _ _ rows other refl is equal),
+)
 
 -- the number of lines of `top` is that of its rows
 pub top_stated : (found : Option (Text × List Row)) (lines : ℕ) (rows : List Row) → found ≡ Some (codes "top", rows) → AreLinesIn rows lines → IsStatedBy found usual_patience None lines
-top_stated found lines rows is states =
-    (
-      λ other equal. absurd (apart_found found _ _ rows other refl is equal),
-      λ other equal.
-          let same = ap (λ (f : Text × List Row). f.1) (same_found found _ _ rows other is equal) in
-          subst (λ (r : List Row). AreLinesIn r lines) same states,
-    )
+top_stated found lines rows is states = (
+  λ other equal. absurd (apart_found found _ _ rows other refl is equal),
+  λ other equal.
+      let same = ap (λ (f : Text × List Row). f.1) (same_found found _ _ rows other is equal) in
+      subst (λ (r : List Row). AreLinesIn r lines) same states,
+)
 
 -- another command states none
 pub refused_other : (found : Option (Text × List Row)) (name : Text) (rows : List Row) (fault : WordsFault) → bytes_eq name (codes "serve") ≡ false → bytes_eq name (codes "top") ≡ false

@@ -11,7 +11,6 @@ use Rattle.clap.specs.declared.error.kind.ErrorKind.TheVariants.{OutOfMemory}
 use Rattle.command_line.specs.declared.words.WordsFault.{WordsFault}
 use Rattle.command_line.specs.declared.words.WordsFault.TheVariants.{Memory, Refused}
 use Rattle.command_line.specs.Given.{IsPlainWord, IsRefusal, IsRefusedAs, is_flagged}
-use Rattle.command_line.proofs.ServeWords.{AreUnstated}
 
 -- a plain command has no global argument
 pub no_globals : (a b g d : Bool) → (a && (not b && (not g && d))) ≡ true → g ≡ false
@@ -266,71 +265,6 @@ scripts [] plain = absurd plain
 scripts (b ∷ bs) plain =
     let ne = ne_eqb _ _ plain in
     record { rows = _; taken = script_taken b bs ne; entered = script_entered b bs ne; config = script_first b bs ne }
-
-serve_taken : (b : ℕ) (bs : List ℕ) → (b == 45) ≡ false → takes ftpd (codes "serve" ∷ (b ∷ bs) ∷ []) ≡ true
-unfolding clap_on_literals
-serve_taken b bs ne = simp ne refl
-
-serve_entered : (b : ℕ) (bs : List ℕ) → (b == 45) ≡ false
-    → subcommand_of ftpd (codes "serve" ∷ (b ∷ bs) ∷ [])
-    ≡ Some (codes "serve", rows_in (subcommand_of ftpd (codes "serve" ∷ (b ∷ bs) ∷ [])))
-unfolding clap_on_literals
-serve_entered b bs ne = simp ne refl
-
-serve_first : (b : ℕ) (bs : List ℕ) → (b == 45) ≡ false
-    → first_of (codes "CONFIG") (rows_in (subcommand_of ftpd (codes "serve" ∷ (b ∷ bs) ∷ []))) ≡ Some (b ∷ bs)
-unfolding clap_on_literals
-serve_first b bs ne = simp ne refl
-
-serve_no_path : (b : ℕ) (bs : List ℕ) → (b == 45) ≡ false
-    → first_of (codes "stop-file") (rows_in (subcommand_of ftpd (codes "serve" ∷ (b ∷ bs) ∷ []))) ≡ None
-unfolding clap_on_literals
-serve_no_path b bs ne = simp ne refl
-
-serve_no_ready : (b : ℕ) (bs : List ℕ) → (b == 45) ≡ false
-    → first_of (codes "ready-file") (rows_in (subcommand_of ftpd (codes "serve" ∷ (b ∷ bs) ∷ []))) ≡ None
-unfolding clap_on_literals
-serve_no_ready b bs ne = simp ne refl
-
-serve_no_login : (b : ℕ) (bs : List ℕ) → (b == 45) ≡ false
-    → first_of (codes "login-timeout") (rows_in (subcommand_of ftpd (codes "serve" ∷ (b ∷ bs) ∷ []))) ≡ None
-unfolding clap_on_literals
-serve_no_login b bs ne = simp ne refl
-
-serve_no_idle : (b : ℕ) (bs : List ℕ) → (b == 45) ≡ false
-    → first_of (codes "idle-timeout") (rows_in (subcommand_of ftpd (codes "serve" ∷ (b ∷ bs) ∷ []))) ≡ None
-unfolding clap_on_literals
-serve_no_idle b bs ne = simp ne refl
-
-serve_no_delay : (b : ℕ) (bs : List ℕ) → (b == 45) ≡ false
-    → first_of (codes "login-delay") (rows_in (subcommand_of ftpd (codes "serve" ∷ (b ∷ bs) ∷ []))) ≡ None
-unfolding clap_on_literals
-serve_no_delay b bs ne = simp ne refl
-
-serve_no_port : (b : ℕ) (bs : List ℕ) → (b == 45) ≡ false
-    → first_of (codes "status-port") (rows_in (subcommand_of ftpd (codes "serve" ∷ (b ∷ bs) ∷ []))) ≡ None
-unfolding clap_on_literals
-serve_no_port b bs ne = simp ne refl
-
-serve_usual : (b : ℕ) (bs : List ℕ) → (b == 45) ≡ false → AreUnstated (rows_in (subcommand_of ftpd (codes "serve" ∷ (b ∷ bs) ∷ [])))
-serve_usual b bs ne = (serve_no_login b bs ne, serve_no_idle b bs ne, serve_no_delay b bs ne)
-
--- what the parser makes of the words of `serve` with no option
-pub record Serves (word : List ℕ) : Type 0 where
-  pub rows : List Row
-  pub taken : takes ftpd (codes "serve" ∷ word ∷ []) ≡ true
-  pub entered : subcommand_of ftpd (codes "serve" ∷ word ∷ []) ≡ Some (codes "serve", rows)
-  pub config : first_of (codes "CONFIG") rows ≡ Some word
-  pub no_path : first_of (codes "stop-file") rows ≡ None
-  pub no_ready : first_of (codes "ready-file") rows ≡ None
-  pub portless : first_of (codes "status-port") rows ≡ None
-  pub usual : AreUnstated rows
-
-pub serves : (word : List ℕ) → IsPlainWord word → Serves word
-serves [] plain = absurd plain
-serves (b ∷ bs) plain =
-    let ne = ne_eqb _ _ plain in
-    record { rows = _; taken = serve_taken b bs ne; entered = serve_entered b bs ne; config = serve_first b bs ne; no_path = serve_no_path b bs ne; no_ready = serve_no_ready b bs ne; portless = serve_no_port b bs ne; usual = serve_usual b bs ne }
 
 plan_taken : (b d : ℕ) (bs ds : List ℕ) → (b == 45) ≡ false → (d == 45) ≡ false → takes ftpd (codes "plan" ∷ (b ∷ bs) ∷ (d ∷ ds) ∷ []) ≡ true
 unfolding clap_on_literals

@@ -60,13 +60,21 @@ IsPortIn rows port = IsStated Port (first_of (codes "status-port") rows) port
 abbrev pub AreLinesIn : List Row → ℕ → Type 0
 AreLinesIn rows lines = IsNumberOr Lines ROWS (codes "rows") rows lines
 
--- the refusal of that value of an option
+-- the refusal of a value of an option: the name of such a value, what it must be, and its range
+abbrev pub refusal_head : Text → Text → Text → List ℕ → List ℕ
+refusal_head name kind option value =
+    codes "error: invalid value '" ++ (value ++ (codes "' for '--" ++ (option ++ (codes " <"
+    ++ (name ++ (codes ">': it must be " ++ kind))))))
+
+abbrev pub refusal_range : ℕ → ℕ → List ℕ
+refusal_range least most =
+    codes " from " ++ (decimal least ++ (codes " to " ++ (decimal most
+    ++ codes ", in digits\n\nFor more information, try '--help'.\n")))
+
 abbrev pub refusal_text : NumberForm → Text → List ℕ → List ℕ
 refusal_text form option value =
-    codes "error: invalid value '" ++ (value ++ (codes "' for '--" ++ (option ++ (codes " <"
-    ++ (value_name form ++ (codes ">': it must be " ++ (value_kind form ++ (codes " from "
-    ++ (decimal (least_of form) ++ (codes " to " ++ (decimal (most_of form)
-    ++ codes ", in digits\n\nFor more information, try '--help'.\n")))))))))))
+    refusal_head (value_name form) (value_kind form) option value
+    ++ refusal_range (least_of form) (most_of form)
 
 -- memory ran out, or the fault is that refusal
 abbrev pub IsRefusalOf : NumberForm → Text → List ℕ → WordsFault → Type 0

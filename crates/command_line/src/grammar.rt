@@ -218,7 +218,8 @@ fn with_status<'a>(alloc: Global, command: Command<'a>) -> Result<Command<'a>, A
     ensures rules { IfOk result (λ c. app_of c ≡ with_status (app_of command.entry)) }
 {
     let status = "File to which the server writes what it does, once a second, as JSON";
-    let port = "Port of 127.0.0.1 on which the server shows a page of what it does, and its metrics";
+    let port =
+        "Port of 127.0.0.1 on which the server shows a page of what it does, and its metrics";
     let with_file = with_value(alloc, command, "status", "PATH", status)?;
     let command = with_value(alloc, with_file, "status-port", "PORT", port)?;
     Ok(command)

@@ -1,8 +1,8 @@
 //! The numbers that words state.
 
-ghost use Rattle.std.specs.Prelude.{◌≡◌, ◌≤◌, ℕ, None, IfErr, IfOk, IfSome, codes};
+ghost use Rattle.std.specs.Prelude.{◌≡◌, ◌≤◌, ◌++◌, ℕ, None, IfErr, IfOk, IfSome, OnOk, codes, string_bytes};
 ghost use Rattle.clap.specs.Words.{first_of, found_of, rows_of, subcommand_rows_of};
-ghost use Rattle.command_line.specs.Numbers.{AreLinesIn, IsNumber, IsNumberOr, IsPortIn, IsRefusalOf, IsStated, IsUnnumberedBy, least_of, most_of, value_kind, value_name};
+ghost use Rattle.command_line.specs.Numbers.{AreLinesIn, IsNumber, IsNumberOr, IsPortIn, IsRefusalOf, IsStated, IsUnnumberedBy, least_of, most_of, refusal_head, refusal_range, refusal_text, value_kind, value_name};
 ghost use Rattle.command_line.specs.Stated.{IsServeUnnumberedIn, IsStatedBy, IsUnnumbered};
 ghost use Rattle.command_line.specs.Timed.{IsPatienceIn};
 
@@ -10,7 +10,7 @@ use crate::patience::{patience_of, usual_patience};
 use crate::words::{WordsFault, entered, word_of};
 use clap::ArgMatches;
 use client_patience::Patience;
-use std::alloc::Global;
+use std::alloc::{AllocError, Global};
 
 /// Largest number of seconds that words may state: a day.
 pub const MAX_SECONDS: u32 = 86_400;
@@ -93,18 +93,50 @@ fn number_in(text: &str, form: NumberForm) -> Option<u32>
     }
 }
 
+/// The beginning of a refusal of a value of an option: the name of such a value, and what it must be.
+fn refusal_head(
+    alloc: Global,
+    option: &str,
+    value: &str,
+    name: &str,
+    kind: &str,
+) -> Result<String, AllocError>
+    ensures head { IfOk result (λ text. string_bytes text
+        ≡ refusal_head name.now kind.now option.now value.now) }
+{
+    format!(in alloc; "error: invalid value '{value}' for '--{option} <{name}>': it must be {kind}")
+}
+
+/// Appends the end of a refusal: the least number and the largest.
+fn push_range(text: &mut String, least: u32, most: u32) -> Result<(), AllocError>
+    ensures range { OnOk result
+        (string_bytes text.new ≡ string_bytes text.old ++ refusal_range least most) }
+{
+    write!(
+        text,
+        " from {least} to {most}, in digits\n\nFor more information, try '--help'.\n"
+    )
+}
+
+fn refusal_text(
+    alloc: Global,
+    form: NumberForm,
+    option: &str,
+    value: &str,
+) -> Result<String, AllocError>
+    ensures text { IfOk result
+        (λ text. string_bytes text ≡ refusal_text form option.now value.now) }
+{
+    let mut text = refusal_head(alloc, option, value, name(form), kind(form))?;
+    push_range(&mut text, least(form), most(form))?;
+    Ok(text)
+}
+
 /// The refusal of that value of an option.
 fn refusal(alloc: Global, form: NumberForm, option: &str, value: &str) -> WordsFault
     ensures refusal { IsRefusalOf form option.now value.now result }
 {
-    let name = name(form);
-    let kind = kind(form);
-    let least = least(form);
-    let most = most(form);
-    let text = format!(in alloc;
-        "error: invalid value '{value}' for '--{option} <{name}>': it must be {kind} from {least} to {most}, in digits\n\nFor more information, try '--help'.\n"
-    );
-    match text {
+    match refusal_text(alloc, form, option, value) {
         Ok(text) => WordsFault::Refused {
             text,
             is_help: false,
@@ -203,10 +235,7 @@ fn top_numbers(alloc: Global, inner: &ArgMatches<'_>) -> Result<Numbers, WordsFa
 }
 
 /// The numbers that the words of the entered command state; those that it does not take are of no account.
-pub(crate) fn stated_numbers(
-    alloc: Global,
-    matches: &ArgMatches<'_>,
-) -> Result<Numbers, WordsFault>
+pub(crate) fn stated_numbers(alloc: Global, matches: &ArgMatches<'_>) -> Result<Numbers, WordsFault>
     ensures stated { IfOk result
         (λ n. IsStatedBy (subcommand_rows_of matches.now) n.patience n.status_port n.rows) }
     ensures refused { IfErr result (IsUnnumbered (subcommand_rows_of matches.now)) }

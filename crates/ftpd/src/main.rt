@@ -6,6 +6,7 @@ mod log_file;
 mod log_thread;
 mod machine_files;
 mod serving;
+mod status_file;
 
 use ftp_daemon::RoundClock;
 use ftpd_program::{FtpdErrorText, FtpdExit, StartFault, run_words};
@@ -13,6 +14,7 @@ use line_queue::{LineOutlet, Readiness, StandardError};
 use machine_files::MachineFiles;
 use serving::{Asked, serve_asked};
 use sheets_program::{Machine, NOBODY_READS, Noted, as_words, line_words, null_device};
+use status_file::watched;
 use std::io;
 use std::io::Write;
 use std::net::{Net, TcpListener, TcpStream};
@@ -54,7 +56,7 @@ where
     );
     match asked.into_service() {
         Some(service) => serve_asked(rt, machine, service, output),
-        None => (ending, None),
+        None => (watched(machine, ending, output), None),
     }
 }
 

@@ -1,5 +1,7 @@
-//! Tests of plans, by public calls alone.
+//! Tests of plans, and of statuses, by public calls alone.
 #![tactic(auto)]
 
 #[cfg(test)]
 mod examples;
+#[cfg(test)]
+mod statuses;

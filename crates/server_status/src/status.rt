@@ -1,4 +1,4 @@
-//! What a server says of itself at a moment.
+//! The records of a status.
 
 /// Octets per second of a limit; 0 for none.
 pub type Rate = u64;
@@ -79,7 +79,7 @@ pub struct TransferStatus {
     pub user_rate: Rate,
 }
 
-/// What a server says of itself at a moment.
+/// The status of a server at a moment.
 #[derive(Drop)]
 pub struct Status {
     /// The start of the server, in seconds since 1970.

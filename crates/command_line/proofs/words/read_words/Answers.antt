@@ -7,9 +7,9 @@ use Rattle.command_line.specs.Timed.{usual_patience}
 use Rattle.command_line.specs.declared.numbers.NumberForm.TheVariants.{Lines, Port, Seconds}
 use Rattle.command_line.specs.declared.numbers.TheConstants.{ROWS}
 use Rattle.clap.specs.Words.{App, Row, Text, app_of, fault_of, is_simple, is_simple_and_free, first_of, subcommand_of, takes}
-use Rattle.command_line.proofs.Taken.{refused_by_none, ftpd_is_free, ftpd_is_simple, ftpd_checks, ftpd_pictures, ftpd_shares, checks_config, migrates, plans, plans_json, reports_json, scripts, serves}
+use Rattle.command_line.proofs.Taken.{refused_by_none, ftpd_is_free, ftpd_is_simple, ftpd_checks, ftpd_pictures, ftpd_shares, checks_config, migrates, plans, plans_json, reports_json, scripts}
 use Rattle.command_line.proofs.StatedNumbers.{no_port, number_plain, patient, refused_other, refused_stated, serve_stated, some_lines, some_port, top_stated, usual, usual_lines}
-use Rattle.command_line.proofs.ServeWords.{serves_logged, serves_ready, serves_status, serves_timed, serves_until}
+use Rattle.command_line.proofs.ServeWords.{serves, serves_logged, serves_ready, serves_status, serves_timed, serves_until}
 use Rattle.command_line.proofs.TopWords.{tops, tops_once}
 use Rattle.command_line.proofs.GivenCommand.{check_config_is, check_of_sheets, ftpd_found, logged_is, migrate_is, plan_is, script_is, serve_is, share_of_sheets, status_is, top_is}
 use Rattle.command_line.proofs.words.read_words.Goals as goal
@@ -92,13 +92,13 @@ returns-in-Err-clause-refused c =
 pub returns-in_default-clause-taken : goal.returns-in_default-clause-taken
 returns-in_default-clause-taken c = λ is.
     let texts = map (λ (s : Bor (List ℕ)). s.now) c.args.words.now in
-    let found = ftpd_found c.args.words texts is.1.0 is.1.1.0 is.1.1.1.0 is.0 is.1.1.1.1 in
+    let found = ftpd_found c.args.words texts is.1.0 is.1.1 is.1.2 is.0 is.1.3 in
     (found.0, found.1, refl)
 
 pub returns-in-Err-clause-taken : goal.returns-in-Err-clause-taken
 returns-in-Err-clause-taken c = λ is.
     let texts = map (λ (s : Bor (List ℕ)). s.now) c.args.words.now in
-    let found = ftpd_found c.args.words texts is.1.0 is.1.1.0 is.1.1.1.0 is.0 is.1.1.1.1 in
+    let found = ftpd_found c.args.words texts is.1.0 is.1.1 is.1.2 is.0 is.1.3 in
     let refused = c.in-Err.ensures.refused (ap is_simple_and_free c.in-Ok.ensures.ftpd ∙ ftpd_is_free) in
     let by_parser = subst (λ (a : App). IsRefusal (fault_of a texts) c.in-Err.fault) c.in-Ok.ensures.ftpd refused in
     (found.0, found.1, refused_by_none (fault_of ftpd texts) c.in-Err.fault is.0 by_parser)
@@ -238,9 +238,9 @@ returns-in-Err-stated_numbers-clause-taken c = λ is.
     let texts = map (λ (s : Bor (List ℕ)). s.now) c.args.words.now in
     let simple : is_simple (app_of c.in-Ok.command) ≡ true = ap is_simple c.in-Ok.ensures.ftpd ∙ ftpd_is_simple in
     let entered = c.in-Ok-parsed.ensures.found simple ∙ ap (λ (a : App). subcommand_of a texts) c.in-Ok.ensures.ftpd in
-    let found = ftpd_found c.args.words texts is.1.0 is.1.1.0 is.1.1.1.0 is.0 is.1.1.1.1 in
+    let found = ftpd_found c.args.words texts is.1.0 is.1.1 is.1.2 is.0 is.1.3 in
     let refused = subst (λ (found : Option (Text × List Row)). IsUnnumbered found c.in-Err-stated_numbers.fault) entered c.in-Err-stated_numbers.ensures.refused in
-    (found.0, found.1, refused_stated _ is.1.0 is.1.1.0 is.1.1.1.0 _ is.1.1.1.1 refused)
+    (found.0, found.1, refused_stated _ is.1.0 is.1.1 is.1.2 _ is.1.3 refused)
 
 -- ---- where there is a command
 
@@ -317,7 +317,7 @@ returns-clause-serve c = λ word plain are.
     let entered = c.in-Ok-parsed.ensures.found simple ∙ ap₂ subcommand_of c.in-Ok.ensures.ftpd are ∙ held.entered in
     subst (λ (ready : Option Text). IsServe word None ready usual_patience c.in-Some.words) held.no_ready
     (subst (λ (path : Option Text). IsServe word path (first_of (codes "ready-file") held.rows) usual_patience c.in-Some.words) held.no_path
-    (serve_is _ _ held.rows word usual_patience entered held.config (usual held.rows held.usual) c.in-Some.ensures.found))
+    (serve_is _ _ held.rows word usual_patience entered held.of (usual held.rows held.usual) c.in-Some.ensures.found))
 
 pub returns-clause-serve_until : goal.returns-clause-serve_until
 returns-clause-serve_until c = λ word path plain also are.

@@ -26,7 +26,7 @@ value_name Seconds = codes "SECONDS"
 value_name Port = codes "PORT"
 value_name Lines = codes "N"
 
--- what such a value is
+-- the kind of such a value, in words
 abbrev pub value_kind : NumberForm → Text
 value_kind Seconds = codes "a number of seconds"
 value_kind Port = codes "a port"

@@ -7,11 +7,12 @@ use Rattle.command_line.specs.Timed.{IsPatienceIn, IsUntimedIn}
 use Rattle.command_line.specs.declared.numbers.NumberForm.TheVariants.{Port, Lines}
 use Rattle.command_line.specs.declared.words.WordsFault.{WordsFault}
 
--- the command that the parser entered states that patience and that port, if it is `serve`, and that
--- number of lines, if it is `top`
+-- the command that the parser entered states that patience and that port, if it is `serve`, and
+-- that number of lines, if it is `top`
 abbrev pub IsStatedBy : Option (Text × List Row) → Patience → Option ℕ → ℕ → Type 0
 IsStatedBy found p port lines =
-    ((rows : List Row) → found ≡ Some (codes "serve", rows) → IsPatienceIn rows p × IsPortIn rows port)
+    ((rows : List Row) → found ≡ Some (codes "serve", rows)
+    → IsPatienceIn rows p × IsPortIn rows port)
     × ((rows : List Row) → found ≡ Some (codes "top", rows) → AreLinesIn rows lines)
 
 -- each option of that command that is to be a number is one

@@ -27,7 +27,7 @@ pub enum Print<'w> {
     Plan(&'w str),
     /// The same plan as JSON.
     PlanJson(&'w str),
-    /// The table of the transfers of a status, in at most so many lines.
+    /// The table of the transfers of a status, in at most this number of lines.
     Table(u16),
 }
 

@@ -22,7 +22,7 @@ const LEAST_LINES: usize = 6;
 /// Clears the screen of a terminal, and goes to its first place.
 const CLEAR: &str = "\u{1b}[H\u{1b}[J";
 
-/// What a watch waits for, and what it reads then.
+/// A status file that a watch waits for and reads.
 pub trait StatusSource {
     /// Waits until the status file is to be read again. Returns whether it is.
     fn wait(&mut self) -> bool;
@@ -184,8 +184,8 @@ fn write_screen<S: StatusSource, W: TextWriter>(
     write_whole(text.as_str(), output)
 }
 
-/// Shows the transfers of a server again and again: waits, reads the status file, and writes a screen of at most so many
-/// lines, until there is nothing to wait for any more.
+/// Shows the transfers of a server again and again: waits, reads the status file, and writes a screen of at most this
+/// number of lines, until there is nothing to wait for any more.
 ///
 /// `WriteFault`: the writer refuses a screen. `Memory`: memory ran out.
 pub fn watch<S: StatusSource, W: TextWriter>(

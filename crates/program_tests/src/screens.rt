@@ -1,4 +1,4 @@
-//! The screens of `ftpd top`: those of a status file that is looked at again and again.
+//! The screens of `ftpd top`: those of a status file that is read again and again.
 
 use crate::expect::{holds, same};
 use ftpd_program::{StatusSource, watch};

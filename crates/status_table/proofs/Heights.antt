@@ -1,5 +1,5 @@
 -- The number of the lines of a screen.
-use Rattle.std.proofs.Common.{◌≡◌, ◌≤◌, ◌+◌, ◌-◌, ◌*◌, ◌/◌, ℕ, Bool, true, false, List, [], ◌∷◌, ◌++◌, Option, None, Some, arith, ap, cond, length, map, min, refl, subst, sym, take, ◌∙◌}
+use Rattle.std.proofs.Common.{◌≡◌, ◌≤◌, ◌+◌, ◌-◌, ◌*◌, ◌/◌, ℕ, Bool, true, false, List, [], ◌∷◌, ◌++◌, Option, None, Some, arith, ap, length, map, min, refl, take, ◌∙◌}
 use Rattle.std.specs.Borrow.{Bor}
 use Rattle.std.proofs.lemmas.Bool.{leb-true}
 use Rattle.std.proofs.Math.Nat.{min-le_left, min-le_right}
@@ -66,8 +66,8 @@ body_height earlier before now shown space =
     let groups = map (group_line before now) (take g now.groups.items) in
     let first : length (entries earlier before now (take t shown)) ≡ t * 2 = entries_height earlier before now (take t shown) ∙ ap (λ (n : ℕ). n * 2) (taken_height t shown some) in
     let second : length groups ≡ g = length-map (take g now.groups.items) (group_line before now) ∙ taken_height g now.groups.items others in
-    let whole = length-append (entries earlier before now (take t shown)) (groups ++ rest) in
-    let parts = length-append groups rest in
+    let whole = length-append (entries earlier before now (take t shown) ++ groups) rest in
+    let parts = length-append (entries earlier before now (take t shown)) groups in
     omega arith
 
 -- the screen has no more lines than it may have

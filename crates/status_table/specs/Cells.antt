@@ -1,5 +1,5 @@
 -- The cells of a line.
-use Rattle.std.specs.Prelude.{◌+◌, ◌-◌, ◌*◌, ◌/◌, ◌%◌, ◌^◌, ℕ, Bool, List, Option, Some, None, [], ◌∷◌, ◌++◌, ◌&&◌, codes, false, if◌then◌else◌, length, drop, min, map, nat_eq, nat_le, nat_lt, not, take}
+use Rattle.std.specs.Prelude.{◌-◌, ◌*◌, ◌/◌, ◌%◌, ◌^◌, ℕ, Bool, List, [], ◌∷◌, ◌++◌, ◌&&◌, codes, false, if◌then◌else◌, length, drop, min, map, nat_eq, nat_le, nat_lt, not}
 use Rattle.std.specs.Fmt.{decimal, digits, format_spec, styled_text}
 use Rattle.std.specs.List.{flat_map}
 use Rattle.std.specs.Str.{chars}

@@ -44,6 +44,9 @@ abbrev pub way_text : Way → List ℕ
 way_text Down = codes "down"
 way_text Up = codes "up"
 
+abbrev pub comma_way : Way → List ℕ
+comma_way way = codes ", " ++ way_text way
+
 -- more than half of the rounds
 abbrev pub is_most : ℕ → HeldRounds → Bool
 is_most part r = nat_lt (total_rounds r) (part * 2)
@@ -65,8 +68,8 @@ is_shared past t = is_some (shared_of (rounds_since past t))
 
 abbrev pub shared_text : Shared → TransferStatus → List ℕ
 shared_text Server t = codes "the server"
-shared_text Direction t = codes "the server, " ++ way_text t.direction
-shared_text Group t = group_text t.group ++ codes ", " ++ way_text t.direction
+shared_text Direction t = codes "the server" ++ comma_way t.direction
+shared_text Group t = group_text t.group ++ comma_way t.direction
 
 abbrev pub level_text : ℕ → Option Shared → TransferStatus → List ℕ
 level_text rate None t = []

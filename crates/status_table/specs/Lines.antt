@@ -36,7 +36,8 @@ rate_line earlier before now t =
 
 -- how much of it is done: in per cent, or in octets if its size is not known
 abbrev pub done_text : TransferStatus → List ℕ
-done_text t = option_map_or (λ size. decimal (percent t.moved size) ++ codes "%") t.size (amount t.moved)
+done_text t =
+    option_map_or (λ size. decimal (percent t.moved size) ++ codes "%") t.size (amount t.moved)
 
 -- the path, shortened from the left; a listing has none
 abbrev pub path_text : Option (String Global) → List ℕ

@@ -61,8 +61,11 @@ rounds_since (Some past) t = rounds_found t (find (is_same t) past.now.transfers
 
 -- The rank of a transfer among others. It grows as the rate falls, and for one rate with the number
 -- of the session.
+abbrev pub rank_of : ℕ → ℕ → ℕ
+rank_of rate session = (most - rate) * 18446744073709551616 + session
+
 abbrev pub rank : Option (Bor Status) → Status → TransferStatus → ℕ
-rank past now t = (most - rate_since past now t) * 18446744073709551616 + t.session
+rank past now t = rank_of (rate_since past now t) t.session
 
 -- ---- sums
 
@@ -79,7 +82,8 @@ abbrev pub is_of_group : List ℕ → TransferStatus → Bool
 is_of_group name t = option_map_or (λ group. bytes_eq (string_bytes group) name) t.group false
 
 -- the rates of transfers that pass a test, together
-abbrev pub total_of : (TransferStatus → Bool) → Option (Bor Status) → Status → List TransferStatus → ℕ
+abbrev pub total_of : (TransferStatus → Bool) → Option (Bor Status) → Status
+    → List TransferStatus → ℕ
 total_of test past now transfers =
     min (sum_by (λ t. if test t then rate_since past now t else 0) transfers) most
 

@@ -12,14 +12,11 @@ use Rattle.status_table.specs.Heads.{group_line, head_line, totals_line}
 use Rattle.status_table.specs.Held.{level_line, lowest}
 use Rattle.status_table.specs.Lines.{held_line, rate_line}
 use Rattle.status_table.specs.Rates.{rank}
+use Rattle.status_table.specs.declared.table.TheConstants.{COLUMNS}
 
--- most characters of a line
-abbrev pub columns : ℕ
-columns = 80
-
--- A line as the screen has it: at most 80 octets, each a printable character of ASCII, and its end.
+-- A line as the screen has it: at most `COLUMNS` octets, each a printable character of ASCII, and its end.
 abbrev pub ended : List ℕ → List ℕ
-ended line = map plain (take columns line) ++ 10 ∷ []
+ended line = map plain (take COLUMNS line) ++ 10 ∷ []
 
 -- lines, one after another
 abbrev pub joined : List (List ℕ) → List ℕ
@@ -49,6 +46,14 @@ abbrev pub entries : Option (Bor Status) → Option (Bor Status) → Status → 
     → List (List ℕ)
 entries earlier before now shown = flat_map (λ t. entry_lines earlier before now t.now) shown
 
+-- the same lines, and that of a group, each with its end
+unfoldable pub entry_text : Option (Bor Status) → Option (Bor Status) → Status → TransferStatus
+    → List ℕ
+entry_text earlier before now t = joined (entry_lines earlier before now t)
+
+unfoldable pub group_text : Option (Bor Status) → Status → GroupStatus → List ℕ
+group_text before now group = ended (group_line before now group)
+
 -- ---- what fits
 
 -- all transfers and groups fit into that number of lines
@@ -69,7 +74,8 @@ shown_groups space transfers groups =
 -- the numbers of those that are not shown
 abbrev pub rest_line : ℕ → ℕ → List ℕ
 rest_line transfers groups =
-    decimal transfers ++ codes " transfers and " ++ decimal groups ++ codes " groups are not shown"
+    decimal transfers
+    ++ (codes " transfers and " ++ (decimal groups ++ codes " groups are not shown"))
 
 abbrev pub rest_lines : ℕ → ℕ → ℕ → List (List ℕ)
 rest_lines space transfers groups =
@@ -96,8 +102,8 @@ screen_lines earlier before now shown rows =
 
 -- ---- the table
 
--- The text is the table: the transfers of the status, first the highest rate since the status before,
--- and for one rate the lowest number of a session, in at most `rows` lines.
+-- The text is the table: the transfers of the status, first the highest rate since the status
+-- before, and for one rate the lowest number of a session, in at most `rows` lines.
 pub record IsTable (earlier before : Option (Bor Status)) (now : Status) (rows : ℕ)
     (text : List ℕ) : Type 0 where
   pub shown : List (Bor TransferStatus)

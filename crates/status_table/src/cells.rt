@@ -25,7 +25,7 @@ fn push_shown(text: &mut String, character: char) -> Result<(), AllocError>
     }
 }
 
-/// A text of printable characters that stands for a name which anybody may have chosen.
+/// The printable characters of a name that anybody may have chosen.
 pub(crate) fn shown(alloc: Global, name: &str) -> Result<String, AllocError>
     ensures shown { IfOk result (λ text. string_bytes text ≡ shown_text name.now) }
 {
@@ -76,6 +76,12 @@ pub(crate) fn push_tail(line: &mut String, text: &str, width: usize) -> Result<(
     }
     line.push_str("...")?;
     push_octets(line, &octets[octets.len() - (width - 3)..])
+}
+
+pub(crate) fn push_word(line: &mut String, word: &str) -> Result<(), AllocError>
+    ensures word { OnOk result (string_bytes line.new ≡ string_bytes line.old ++ word.now) }
+{
+    line.push_str(word)
 }
 
 /// Appends a number in a unit, with two decimals, rounded down.

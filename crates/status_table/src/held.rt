@@ -1,7 +1,7 @@
 //! The limits that hold a transfer back, in parts of its rounds.
 
 ghost use Rattle.std.specs.Prelude.{◌≡◌, ◌++◌, OnOk, IfOk, string_bytes};
-ghost use Rattle.status_table.specs.Held.{group_text, held_text, is_most, is_shared, level_line, level_text, lowest, part_text, parts_text, shared_of, shared_text, total_rounds, way_text};
+ghost use Rattle.status_table.specs.Held.{comma_way, group_text, held_text, is_most, is_shared, level_line, level_text, lowest, part_text, parts_text, shared_of, shared_text, total_rounds, way_text};
 
 use crate::cells::{percent, push_amount, shown};
 use crate::rates::{rate_since, rounds_since};
@@ -133,6 +133,14 @@ fn push_group(alloc: Global, line: &mut String, transfer: &TransferStatus) -> Re
     line.push_str(name.as_str())
 }
 
+fn push_way(line: &mut String, way: Direction) -> Result<(), AllocError>
+    ensures appended { OnOk result
+        (string_bytes line.new ≡ string_bytes line.old ++ comma_way way) }
+{
+    line.push_str(", ")?;
+    line.push_str(way_text(way))
+}
+
 fn push_shared(
     alloc: Global,
     line: &mut String,
@@ -142,13 +150,15 @@ fn push_shared(
     ensures appended { OnOk result
         (string_bytes line.new ≡ string_bytes line.old ++ shared_text shared transfer.now) }
 {
-    let way = way_text(transfer.direction);
     match shared {
         Shared::Server => line.push_str("the server"),
-        Shared::Direction => write!(line, "the server, {way}"),
+        Shared::Direction => {
+            line.push_str("the server")?;
+            push_way(line, transfer.direction)
+        }
         Shared::Group => {
             push_group(alloc, line, transfer)?;
-            write!(line, ", {way}")
+            push_way(line, transfer.direction)
         }
     }
 }
@@ -162,7 +172,8 @@ pub(crate) fn push_level(
     transfer: &TransferStatus,
 ) -> Result<(), AllocError>
     ensures appended { OnOk result
-        (string_bytes line.new ≡ string_bytes line.old ++ level_line past.entry now.now transfer.now) }
+        (string_bytes line.new
+        ≡ string_bytes line.old ++ level_line past.entry now.now transfer.now) }
 {
     let Some(shared) = shared_of(rounds_since(past, transfer)) else {
         return Ok(());

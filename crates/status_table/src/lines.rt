@@ -122,7 +122,8 @@ fn push_held(
     transfer: &TransferStatus,
 ) -> Result<(), AllocError>
     ensures appended { OnOk result
-        (string_bytes line.new ≡ string_bytes line.old ++ left 36 (held_text before.entry transfer.now)) }
+        (string_bytes line.new
+        ≡ string_bytes line.old ++ left 36 (held_text before.entry transfer.now)) }
 {
     let cell = held_cell(alloc, before, transfer)?;
     write!(line, "{cell:<36.35}")

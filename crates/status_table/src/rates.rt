@@ -2,7 +2,7 @@
 
 ghost use Rattle.std.specs.Prelude.{◌≡◌, ◌+◌, IfSome, None, option_map};
 ghost use Rattle.std.specs.List.{find};
-ghost use Rattle.status_table.specs.Rates.{group_total, is_of, is_of_group, is_same, is_way, line_total, per_second, rank, rate_since, rounds_less, rounds_since, since_begin, since_status, waiting};
+ghost use Rattle.status_table.specs.Rates.{group_total, is_of, is_of_group, is_same, is_way, line_total, per_second, rank, rank_of, rate_since, rounds_less, rounds_since, since_begin, since_status, waiting};
 
 use server_status::{Direction, HeldRounds, Rate, Status, TransferStatus};
 
@@ -90,12 +90,17 @@ pub(crate) fn rounds_since(past: Option<&Status>, transfer: &TransferStatus) -> 
     }
 }
 
+fn rank_of(rate: Rate, session: u64) -> u128
+    ensures rank { result ≡ rank_of rate session }
+{
+    u128::from(u64::MAX - rate) * 18_446_744_073_709_551_616 + u128::from(session)
+}
+
 /// The rank of a transfer: it grows as the rate falls, and for one rate with the number of the session.
 pub(crate) fn rank(past: Option<&Status>, now: &Status, transfer: &TransferStatus) -> u128
     ensures rank { result ≡ rank past.entry now.now transfer.now }
 {
-    let below = u64::MAX - rate_since(past, now, transfer);
-    u128::from(below) * 18_446_744_073_709_551_616 + u128::from(transfer.session)
+    rank_of(rate_since(past, now, transfer), transfer.session)
 }
 
 fn is_way(way: Direction, transfer: &TransferStatus) -> bool

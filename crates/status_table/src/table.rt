@@ -1,15 +1,16 @@
 //! The table, as a screen of lines.
 
-ghost use Rattle.std.specs.Prelude.{◌≡◌, ◌≤◌, ◌++◌, List, Option, OnOk, IfOk, length, map, string_bytes};
+ghost use Rattle.std.specs.Prelude.{◌≡◌, ◌≤◌, ◌++◌, ◌∷◌, [], List, Option, OnOk, IfOk, length, map, string_bytes, take};
 ghost use Rattle.std.specs.Borrow.{Bor};
 ghost use Rattle.server_status.specs.declared.status.Status.{Status};
 ghost use Rattle.server_status.specs.declared.status.TransferStatus.{TransferStatus};
+ghost use Rattle.std.specs.List.{flat_map};
 ghost use Rattle.std.specs.List.Sorted.{IsNonDecreasingBy, IsPermutation};
 ghost use Rattle.status_table.specs.Heads.{group_line, head_line, totals_line};
 ghost use Rattle.status_table.specs.Held.{level_line, lowest};
 ghost use Rattle.status_table.specs.Lines.{held_line, rate_line};
 ghost use Rattle.status_table.specs.Rates.{rank};
-ghost use Rattle.status_table.specs.Tables.{IsTable, all_fit, body_lines, ended, entries, entry_lines, joined, level_lines, names_lines, rest_lines, screen_lines, shown_groups, shown_transfers, top_lines};
+ghost use Rattle.status_table.specs.Tables.{IsTable, all_fit, body_lines, ended, entry_text, group_text, joined, level_lines, names_lines, rest_line, rest_lines, screen_lines, shown_groups, shown_transfers, top_lines};
 
 use crate::cells::push_octets;
 use crate::heads::{push_group, push_head, push_totals};
@@ -22,14 +23,29 @@ use std::alloc::{AllocError, Global};
 /// Most characters of a line.
 const COLUMNS: usize = 80;
 
+/// The octets of a line that the screen has room for.
+fn front(line: &str) -> &[u8]
+    ensures front { result.now ≡ take COLUMNS line.now }
+{
+    let octets = line.as_bytes();
+    let end = octets.len().min(COLUMNS);
+    &octets[..end]
+}
+
+fn push_end(screen: &mut String) -> Result<(), AllocError>
+    ensures appended { OnOk result
+        (string_bytes screen.new ≡ string_bytes screen.old ++ 10 ∷ []) }
+{
+    screen.push('\n')
+}
+
 /// Appends a line, cut to 80 octets, each that is not printable as a question mark.
 fn push_line(screen: &mut String, line: &str) -> Result<(), AllocError>
     ensures appended { OnOk result
         (string_bytes screen.new ≡ string_bytes screen.old ++ ended line.now) }
 {
-    let octets = line.as_bytes();
-    push_octets(screen, &octets[..octets.len().min(COLUMNS)])?;
-    screen.push('\n')
+    push_octets(screen, front(line))?;
+    push_end(screen)
 }
 
 fn push_head_line(alloc: Global, screen: &mut String, now: &Status) -> Result<(), AllocError>
@@ -48,7 +64,8 @@ fn push_totals_line(
     now: &Status,
 ) -> Result<(), AllocError>
     ensures appended { OnOk result
-        (string_bytes screen.new ≡ string_bytes screen.old ++ ended (totals_line before.entry now.now)) }
+        (string_bytes screen.new
+        ≡ string_bytes screen.old ++ ended (totals_line before.entry now.now)) }
 {
     let mut line = String::new(alloc);
     push_totals(&mut line, before, now)?;
@@ -80,6 +97,23 @@ fn push_names(screen: &mut String) -> Result<(), AllocError>
     push_line(screen, reasons)
 }
 
+/// Appends the line of the tightest limit that transfers share, if there is one.
+fn push_level_lines(
+    alloc: Global,
+    screen: &mut String,
+    before: Option<&Status>,
+    now: &Status,
+    level: Option<&TransferStatus>,
+) -> Result<(), AllocError>
+    ensures appended { OnOk result (string_bytes screen.new
+        ≡ string_bytes screen.old ++ joined (level_lines before.entry now.now level.entry)) }
+{
+    match level {
+        Some(transfer) => push_level_line(alloc, screen, before, now, transfer),
+        None => Ok(()),
+    }
+}
+
 /// Appends the lines above the transfers.
 fn push_top(
     alloc: Global,
@@ -93,9 +127,7 @@ fn push_top(
 {
     push_head_line(alloc, screen, now)?;
     push_totals_line(alloc, screen, before, now)?;
-    if let Some(transfer) = level {
-        push_level_line(alloc, screen, before, now, transfer)?;
-    }
+    push_level_lines(alloc, screen, before, now, level)?;
     push_names(screen)
 }
 
@@ -108,7 +140,8 @@ fn push_rates_line(
     transfer: &TransferStatus,
 ) -> Result<(), AllocError>
     ensures appended { OnOk result (string_bytes screen.new
-        ≡ string_bytes screen.old ++ ended (rate_line earlier.entry before.entry now.now transfer.now)) }
+        ≡ string_bytes screen.old
+        ++ ended (rate_line earlier.entry before.entry now.now transfer.now)) }
 {
     let mut line = String::new(alloc);
     push_rates(alloc, &mut line, earlier, before, now, transfer)?;
@@ -138,8 +171,8 @@ fn push_entry(
     now: &Status,
     transfer: &TransferStatus,
 ) -> Result<(), AllocError>
-    ensures appended { OnOk result (string_bytes screen.new ≡ string_bytes screen.old
-        ++ joined (entry_lines earlier.entry before.entry now.now transfer.now)) }
+    ensures appended { OnOk result (string_bytes screen.new
+        ≡ string_bytes screen.old ++ entry_text earlier.entry before.entry now.now transfer.now) }
 {
     push_rates_line(alloc, screen, earlier, before, now, transfer)?;
     push_reasons_line(alloc, screen, before, transfer)
@@ -154,7 +187,7 @@ fn push_entries(
     transfers: &[&TransferStatus],
 ) -> Result<(), AllocError>
     ensures appended { OnOk result (string_bytes screen.new ≡ string_bytes screen.old
-        ++ joined (entries earlier.entry before.entry now.now transfers.now)) }
+        ++ flat_map (λ t. entry_text earlier.entry before.entry now.now t.now) transfers.now) }
 {
     for transfer in transfers {
         push_entry(alloc, screen, earlier, before, now, transfer)?;
@@ -170,7 +203,7 @@ fn push_group_line(
     group: &GroupStatus,
 ) -> Result<(), AllocError>
     ensures appended { OnOk result (string_bytes screen.new
-        ≡ string_bytes screen.old ++ ended (group_line before.entry now.now group.now)) }
+        ≡ string_bytes screen.old ++ group_text before.entry now.now group.now) }
 {
     let mut line = String::new(alloc);
     push_group(alloc, &mut line, before, now, group)?;
@@ -185,7 +218,7 @@ fn push_groups(
     groups: &[GroupStatus],
 ) -> Result<(), AllocError>
     ensures appended { OnOk result (string_bytes screen.new ≡ string_bytes screen.old
-        ++ joined (map (group_line before.entry now.now) groups.now)) }
+        ++ flat_map (group_text before.entry now.now) groups.now) }
 {
     for group in groups {
         push_group_line(alloc, screen, before, now, group)?;
@@ -223,6 +256,25 @@ fn shown_groups(space: usize, transfers: usize, groups: usize) -> usize
     groups.min(space.saturating_sub(1).saturating_sub(half * 2))
 }
 
+fn rest_text(alloc: Global, transfers: usize, groups: usize) -> Result<String, AllocError>
+    ensures rest { IfOk result (λ text. string_bytes text ≡ rest_line transfers groups) }
+{
+    format!(in alloc; "{transfers} transfers and {groups} groups are not shown")
+}
+
+fn push_rest_line(
+    alloc: Global,
+    screen: &mut String,
+    transfers: usize,
+    groups: usize,
+) -> Result<(), AllocError>
+    ensures appended { OnOk result (string_bytes screen.new
+        ≡ string_bytes screen.old ++ ended (rest_line transfers groups)) }
+{
+    let line = rest_text(alloc, transfers, groups)?;
+    push_line(screen, line.as_str())
+}
+
 /// Appends the numbers of those that are not shown, if there are some.
 fn push_rest(
     alloc: Global,
@@ -239,8 +291,7 @@ fn push_rest(
     }
     let hidden = transfers - shown_transfers(space, transfers, groups);
     let others = groups - shown_groups(space, transfers, groups);
-    let line = format!(in alloc; "{hidden} transfers and {others} groups are not shown")?;
-    push_line(screen, line.as_str())
+    push_rest_line(alloc, screen, hidden, others)
 }
 
 /// Appends transfers and groups in a number of lines.

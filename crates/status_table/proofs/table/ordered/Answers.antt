@@ -9,7 +9,7 @@ use Rattle.status_table.proofs.table.ordered.Goals as goal
 pub returns-clause-all : goal.returns-clause-all
 returns-clause-all c =
     let moved = IsPermutation-map (λ (t : Bor TransferStatus). t.now) _ _ c.sort_unstable_by_key.ensures.permutation in
-    subst (λ (ts : List TransferStatus). IsPermutation ts (map (λ (t : Bor TransferStatus). t.now) c.sort_unstable_by_key.new.self.items)) c.in_ok-transfers_of.ensures.transfers moved
+    subst (λ (ts : List TransferStatus). IsPermutation ts (map (λ (t : Bor TransferStatus). t.now) c.sort_unstable_by_key.new.self.items)) c.in_ok-shown.ensures.transfers moved
 
 pub returns-clause-ordered : goal.returns-clause-ordered
 returns-clause-ordered c =

@@ -49,7 +49,7 @@ axis_text width largest = joined (
     codes "<text x=\"92\" y=\"104\" text-anchor=\"end\">" ∷ decimal largest
     ∷ codes "</text>\n<path class=\"axis\" d=\"M96 400H" ∷ decimal width ∷ codes "\"/>\n" ∷ [])
 
--- what comes before the columns
+-- the text before the columns
 unfoldable pub top_text : Frame → List ℕ
 top_text frame =
     head_text (width_of frame) (height_of frame) frame.columns

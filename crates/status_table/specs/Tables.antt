@@ -14,7 +14,8 @@ use Rattle.status_table.specs.Lines.{held_line, rate_line}
 use Rattle.status_table.specs.Rates.{rank}
 use Rattle.status_table.specs.declared.table.TheConstants.{COLUMNS}
 
--- A line as the screen has it: at most `COLUMNS` octets, each a printable character of ASCII, and its end.
+-- A line as the screen has it: at most `COLUMNS` octets, each a printable character of ASCII, and
+-- its end.
 abbrev pub ended : List ℕ → List ℕ
 ended line = map plain (take COLUMNS line) ++ 10 ∷ []
 

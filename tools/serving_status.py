@@ -121,12 +121,12 @@ def a_status_file():
 
 
 @contextlib.contextmanager
-def held_server():
-    """A server with the users of HELD, of a configuration in version 2."""
+def held_server(server=LINE, users=HELD, passive=16):
+    """A server with these users, of a configuration in version 2."""
     it = Server(root="folder", files={"big": MUCH}, stop=True, words=["--login-delay", "0", "--status", "status.json"])
-    it.port = PORTS_TO_HAND_OUT.take(17)
-    head = f'version = 2\n[server]\nroot = "{it.folder}"\nport = {it.port}\npassive_first = {it.port + 1}\npassive_last = {it.port + 16}\n'
-    it.text = f"{head}{LINE}\n{HELD}"
+    it.port = PORTS_TO_HAND_OUT.take(passive + 1)
+    head = f'version = 2\n[server]\nroot = "{it.folder}"\nport = {it.port}\npassive_first = {it.port + 1}\npassive_last = {it.port + passive}\n'
+    it.text = f"{head}{server}\n{users}"
     with it:
         yield it
 
@@ -158,6 +158,152 @@ def what_holds_transfers_back():
             it.close()
         server.stop()
         server.ended()
+
+
+# Ten users, of whom one has three transfers: groups, limits of users and sessions, a guarantee, and a client that reads slowly.
+TEN = """
+[[group]]
+name = "sales"
+down_rate = 1_500_000
+[[group]]
+name = "build"
+down_rate = 2_000_000
+[[user]]
+name = "ann"
+password = "a"
+home = "/"
+group = "sales"
+session_down_floor = 600_000
+[[user]]
+name = "bob"
+password = "b"
+home = "/"
+group = "sales"
+[[user]]
+name = "cem"
+password = "c"
+home = "/"
+group = "sales"
+down_rate = 200_000
+[[user]]
+name = "dan"
+password = "d"
+home = "/"
+group = "build"
+[[user]]
+name = "eva"
+password = "e"
+home = "/"
+group = "build"
+session_down_rate = 400_000
+[[user]]
+name = "fay"
+password = "f"
+home = "/"
+[[user]]
+name = "gus"
+password = "g"
+home = "/"
+down_rate = 300_000
+[[user]]
+name = "hal"
+password = "h"
+home = "/"
+session_down_rate = 250_000
+[[user]]
+name = "ida"
+password = "i"
+home = "/"
+[[user]]
+name = "slow"
+password = "s"
+home = "/"
+"""
+TRANSFERS = ["ann", "bob", "cem", "dan", "dan", "dan", "eva", "fay", "gus", "hal", "ida", "slow"]
+# Octets a second that the slow client reads.
+SLOWLY = 50_000
+
+
+class Reader:
+    """A client's side of a download, which counts what it reads, and reads at most so many octets a second if that is stated."""
+
+    def __init__(self, data, most=None):
+        self.data, self.most, self.count, self.ends = data, most, 0, False
+        self.thread = threading.Thread(target=self.run)
+        self.thread.start()
+
+    def run(self):
+        self.data.socket.settimeout(0.2)
+        begun = time.monotonic()
+        while not self.ends:
+            if self.most and self.count > self.most * (time.monotonic() - begun):
+                time.sleep(0.01)
+                continue
+            with contextlib.suppress(TimeoutError, OSError):
+                self.count += len(self.data.socket.recv(4096 if self.most else 65536))
+
+    def end(self):
+        self.ends = True
+        self.thread.join()
+
+
+def kind_of(held_by):
+    """The kind of limit by the words of a plan."""
+    return {"server": "server", "server down": "direction", "group": "group", "user": "user", "session": "session"}[held_by if held_by.startswith("server") else held_by.split()[0]]
+
+
+def the_division_is_shown():
+    """Of twelve transfers the status says what their clients count, and that what a plan says holds them back."""
+    with held_server(server="down_rate = 6_000_000\nlanes = 16\nmax_cons = 32", users=TEN, passive=32) as server:
+        words = [SERVER, "plan", "--json", "ftpd.toml", ",".join(f"{it}={TRANSFERS.count(it)}" for it in dict.fromkeys(TRANSFERS) if it != "slow")]
+        plan = json.loads(subprocess.run(words, cwd=server.place, capture_output=True, check=True, timeout=60).stdout)
+        clients = [Client(server, name, name[0]) for name in TRANSFERS]
+        datas = [client.passive(room=65536) for client in clients]
+        for client in clients:
+            client.says("RETR big", "150 Opening data connection")
+        readers = [Reader(data, SLOWLY if name == "slow" else None) for name, data in zip(TRANSFERS, datas)]
+        time.sleep(2)
+        before = next_status(server)
+        counted = [it.count for it in readers]
+        time.sleep(5)
+        middle = row_of(status_of(server), "slow")["held"]
+        time.sleep(3)
+        after = next_status(server)
+        counted = [it.count - was for it, was in zip(readers, counted)]
+        for it in readers:
+            it.end()
+        is_balanced(after)
+        kinds = {}
+        for it in plan["transfers"]:
+            kinds.setdefault(it["user"], kind_of(it["held_by"]))
+        rows = dict(zip((it["session"] for it in after["transfers"]), after["transfers"]))
+        # The machine takes megabytes for the slow client at first, like any transfer's; from then on no limit holds it back.
+        slow = row_of(after, "slow")["held"]
+        same({it: slow[it] for it in slow if it != "nothing"}, {it: middle[it] for it in middle if it != "nothing"}, "rounds in which a limit held the slow client back")
+        for was in before["transfers"]:
+            now, name = rows[was["session"]], was["user"]
+            if name == "slow":
+                continue
+            moved = now["moved"] - was["moved"]
+            found = counted[was["session"]]
+            want(abs(moved - found) <= ON_THE_WAY, f"{name}: moved {moved}, and its client counted {found}")
+            gained = {it: now["held"][it] - was["held"][it] for it in now["held"]}
+            kind = kinds[name]
+            # (a machine that is late with its ticks leaves some of the line unused, and then the line is what holds back)
+            want(max(gained, key=gained.get) == kind and gained[kind] > 0, f"{name} is held by {gained}, and by the plan by {kind}")
+            if os.environ.get("TIMES"):
+                print(f"{name}: {kind} {100 * gained[kind] // sum(gained.values())} %, moved {moved}, counted {found}")
+        for it in [*datas, *clients]:
+            it.close()
+        until(lambda: not status_of(server)["transfers"], "the end of all transfers")
+        last = next_status(server)
+        is_balanced(last)
+        server.stop()
+        same(last["issued"], server.ended()[0], "the octets issued, and those of the settled line")
+
+
+# A line of Prometheus' text format: a comment, or a sample with its labels and its value.
+METRIC = re.compile(r'# HELP [a-z_]+ .+|# TYPE [a-z_]+ (counter|gauge)|[a-z_]+(\{([a-z_]+="([^"\\\n]|\\["\\n])*",?)+\})? [0-9.e+-]+')
 
 
 def reader_thread(data, seconds):
@@ -196,6 +342,8 @@ def a_status_page():
         head, body = request(port, get("/metrics"))
         want("text/plain; version=0.0.4" in head, f"its type: {head}")
         want(re.search(rb"^ftpd_sessions 0$", body, re.MULTILINE), f"the metrics: {body[:400]!r}")
+        for line in body.decode().splitlines():
+            want(METRIC.fullmatch(line), f"a line of the metrics: {line!r}")
         head, body = request(port, get("/", "HEAD"))
         want(head.startswith("HTTP/1.1 200 ") and not body, f"HEAD: {head} {body[:40]!r}")
         want(request(port, get("/other"))[0].startswith("HTTP/1.1 404 "), "another path")
@@ -255,4 +403,4 @@ def a_table_of_the_status():
         server.ended()
 
 
-ROWS = [a_status_file, what_holds_transfers_back, a_status_page, a_status_that_cannot_be_written, a_table_of_the_status]
+ROWS = [a_status_file, what_holds_transfers_back, the_division_is_shown, a_status_page, a_status_that_cannot_be_written, a_table_of_the_status]

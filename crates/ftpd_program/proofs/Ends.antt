@@ -18,22 +18,24 @@ use Rattle.ftpd_program.specs.declared.printing.Print.TheVariants.{Latest, Table
 use Rattle.ftpd_program.specs.declared.scripting.ScriptFault.{ScriptFault}
 use Rattle.ftpd_program.specs.declared.scripting.ScriptFault.TheVariants.{Session as Unserved}
 
-pub share_end : (gives : List ℕ → Octets) (shown : Shown) (serves : Service) (Refuses : List ℕ → Type 0) (words : Words) (sheet : List ℕ) (old new : Option (List ℕ)) (ending : FtpdExit)
-    → IsOfSheets (IsShare sheet) words → IsCommandEnd gives shown serves Refuses words old new ending → IsCommon (IsShareEnd gives sheet old new) ending
-share_end gives shown serves Refuses (Sheet (Share path)) sheet old new (Common ending) is end = subst (λ (p : List ℕ). IsShareEnd gives p old new ending) is end
-share_end gives shown serves Refuses (Sheet (Share path)) sheet old new (Config fault) is end = absurd end
-share_end gives shown serves Refuses (Sheet (Share path)) sheet old new (Transfers name told) is end = absurd end
-share_end gives shown serves Refuses (Sheet (Share path)) sheet old new (Session fault) is end = absurd end
-share_end gives shown serves Refuses (Sheet (Share path)) sheet old new (Server fault) is end = absurd end
-share_end gives shown serves Refuses (Sheet (Share path)) sheet old new (Status file fault) is end = absurd end
-share_end gives shown serves Refuses (Sheet (Share path)) sheet old new (Watches status rows) is end = absurd end
-share_end gives shown serves Refuses (Sheet (Check path other)) sheet old new ending is end = absurd is
-share_end gives shown serves Refuses (CheckConfig path json) sheet old new ending is end = absurd is
-share_end gives shown serves Refuses (Migrate path) sheet old new ending is end = absurd is
-share_end gives shown serves Refuses (Script path) sheet old new ending is end = absurd is
-share_end gives shown serves Refuses (Serve path files patience) sheet old new ending is end = absurd is
-share_end gives shown serves Refuses (Plan path stated json) sheet old new ending is end = absurd is
-share_end gives shown serves Refuses (Top status once rows) sheet old new ending is end = absurd is
+pub share_end : (gives : List ℕ → Octets) (shown : Shown) (serves : Service) (Refuses : List ℕ → Type 0) (words : Words) (sheet : List ℕ) (as_svg : Bool) (old new : Option (List ℕ)) (ending : FtpdExit)
+    → IsOfSheets (IsShare sheet as_svg) words → IsCommandEnd gives shown serves Refuses words old new ending → IsCommon (IsShareEnd gives as_svg sheet old new) ending
+share_end gives shown serves Refuses (Sheet (Share path svg)) sheet as_svg old new (Common ending) is end =
+    let first = subst (λ (p : List ℕ). IsShareEnd gives svg p old new ending) is.0 end in
+    subst (λ (b : Bool). IsShareEnd gives b sheet old new ending) is.1 first
+share_end gives shown serves Refuses (Sheet (Share path svg)) sheet as_svg old new (Config fault) is end = absurd end
+share_end gives shown serves Refuses (Sheet (Share path svg)) sheet as_svg old new (Transfers name told) is end = absurd end
+share_end gives shown serves Refuses (Sheet (Share path svg)) sheet as_svg old new (Session fault) is end = absurd end
+share_end gives shown serves Refuses (Sheet (Share path svg)) sheet as_svg old new (Server fault) is end = absurd end
+share_end gives shown serves Refuses (Sheet (Share path svg)) sheet as_svg old new (Status file fault) is end = absurd end
+share_end gives shown serves Refuses (Sheet (Share path svg)) sheet as_svg old new (Watches status rows) is end = absurd end
+share_end gives shown serves Refuses (Sheet (Check path other)) sheet as_svg old new ending is end = absurd is
+share_end gives shown serves Refuses (CheckConfig path json) sheet as_svg old new ending is end = absurd is
+share_end gives shown serves Refuses (Migrate path) sheet as_svg old new ending is end = absurd is
+share_end gives shown serves Refuses (Script path) sheet as_svg old new ending is end = absurd is
+share_end gives shown serves Refuses (Serve path files patience) sheet as_svg old new ending is end = absurd is
+share_end gives shown serves Refuses (Plan path stated json) sheet as_svg old new ending is end = absurd is
+share_end gives shown serves Refuses (Top status once rows) sheet as_svg old new ending is end = absurd is
 
 pub check_end : (gives : List ℕ → Octets) (shown : Shown) (serves : Service) (Refuses : List ℕ → Type 0) (words : Words) (sheet grants : List ℕ) (old new : Option (List ℕ)) (ending : FtpdExit)
     → IsOfSheets (IsCheck sheet grants) words → IsCommandEnd gives shown serves Refuses words old new ending → IsCommon (IsCheckEnd gives sheet grants old new) ending
@@ -46,7 +48,7 @@ check_end gives shown serves Refuses (Sheet (Check path other)) sheet grants old
 check_end gives shown serves Refuses (Sheet (Check path other)) sheet grants old new (Server fault) is end = absurd end
 check_end gives shown serves Refuses (Sheet (Check path other)) sheet grants old new (Status file fault) is end = absurd end
 check_end gives shown serves Refuses (Sheet (Check path other)) sheet grants old new (Watches status rows) is end = absurd end
-check_end gives shown serves Refuses (Sheet (Share path)) sheet grants old new ending is end = absurd is
+check_end gives shown serves Refuses (Sheet (Share path svg)) sheet grants old new ending is end = absurd is
 check_end gives shown serves Refuses (CheckConfig path json) sheet grants old new ending is end = absurd is
 check_end gives shown serves Refuses (Migrate path) sheet grants old new ending is end = absurd is
 check_end gives shown serves Refuses (Script path) sheet grants old new ending is end = absurd is

@@ -15,9 +15,9 @@ status_of (Server fault) = 1
 status_of (Status file fault) = 1
 status_of (Watches status rows) = 0
 
--- nothing was written: the command line, the configuration or the status is refused, or there is a fault other
--- than that of the output; but a session that broke off may have written some replies, and a server
--- its messages
+-- nothing was written: the command line, the configuration or the status is refused, or there is a
+-- fault other than that of the output; but a session that broke off may have written some replies,
+-- and a server its messages
 abbrev pub IsUnwritten : FtpdExit → Type 0
 IsUnwritten (Common ending) = common.IsUnwritten ending
 IsUnwritten (Config fault) = Unit {0}

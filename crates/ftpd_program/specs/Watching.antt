@@ -38,8 +38,8 @@ IsTableOrNone lines text =
     (text ≡ []) ⊎ ((earlier before : Option (Bor Status)) × (now : Status)
     × IsTable earlier before now lines text)
 
--- a screen of that number of lines: it is cleared, and has the table of a status, and below it that the
--- server writes no more, if this is told
+-- a screen of that number of lines: it is cleared, and has the table of a status, and below it that
+-- the server writes no more, if this is told
 pub record IsScreen (rows : ℕ) (text : List ℕ) : Type 0 where
   pub still : Option ℕ
   pub table : List ℕ

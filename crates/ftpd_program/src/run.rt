@@ -221,7 +221,11 @@ pub fn run_words<'w, O: Opener + Lookout, W: TextWriter, V: Server<W>>(
 ) -> FtpdExit<'w>
     ensures share { (sheet : List ℕ) → IsPlainWord sheet
         → map (λ s. s.now) words.now ≡ codes "share" ∷ sheet ∷ []
-        → IsCommon (IsShareEnd (O.Gives files.old) sheet
+        → IsCommon (IsShareEnd (O.Gives files.old) false sheet
+        (W.contents output.old) (W.contents output.new)) result }
+    ensures share_svg { (sheet : List ℕ) → IsPlainWord sheet
+        → map (λ s. s.now) words.now ≡ codes "share" ∷ sheet ∷ codes "--svg" ∷ []
+        → IsCommon (IsShareEnd (O.Gives files.old) true sheet
         (W.contents output.old) (W.contents output.new)) result }
     ensures check { (sheet grants : List ℕ) → IsPlainWord sheet → IsPlainWord grants
         → map (λ s. s.now) words.now ≡ codes "check" ∷ sheet ∷ grants ∷ []

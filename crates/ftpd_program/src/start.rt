@@ -54,7 +54,10 @@ impl fmt::Display for StartFault {
                 write!(f, "the status file {path} could not be written: {reason}")
             }
             StartFault::StatusPortTaken { port, reason } => {
-                write!(f, "the status page cannot listen on 127.0.0.1:{port}: {reason}")
+                write!(
+                    f,
+                    "the status page cannot listen on 127.0.0.1:{port}: {reason}"
+                )
             }
             StartFault::UnknownForm { word } => {
                 write!(f, "{word:?} is no form of notes: plain and journal are")

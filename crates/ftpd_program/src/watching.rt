@@ -33,13 +33,13 @@ pub trait StatusSource {
 
 /// The statuses of the last seconds, oldest first.
 #[derive(Drop)]
-struct Watch {
+struct Looks {
     past: Vec<Status>,
     /// Number of looks since there was a new one.
     still: u64,
 }
 
-impl Watch {
+impl Looks {
     /// Returns whether a status is of another moment than the last one.
     fn is_new(&self, status: &Status) -> bool {
         match self.past.last() {
@@ -156,7 +156,7 @@ fn look<S: StatusSource>(alloc: Global, source: &mut S) -> Result<Option<Status>
 fn next_screen<S: StatusSource>(
     alloc: Global,
     rows: u16,
-    seen: &mut Watch,
+    seen: &mut Looks,
     source: &mut S,
 ) -> Result<String, AllocError>
     ensures screen { IfOk result (λ text. IsScreen rows (string_bytes text)) }
@@ -169,7 +169,7 @@ fn next_screen<S: StatusSource>(
 fn write_screen<S: StatusSource, W: TextWriter>(
     alloc: Global,
     rows: u16,
-    seen: &mut Watch,
+    seen: &mut Looks,
     source: &mut S,
     output: &mut W,
 ) -> Result<(), TextFault>
@@ -199,7 +199,7 @@ pub fn watch<S: StatusSource, W: TextWriter>(
     ensures fault { IfErr result (λ fault.
         (fault ≡ TextFault.Memory) ⊎ (fault ≡ TextFault.WriteFault)) }
 {
-    let mut seen = Watch {
+    let mut seen = Looks {
         past: Vec::new(alloc),
         still: 0,
     };

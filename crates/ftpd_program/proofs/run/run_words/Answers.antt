@@ -7,7 +7,13 @@ pub returns-in-Ok-clause-share : goal.returns-in-Ok-clause-share
 returns-in-Ok-clause-share g c = λ sheet plain are.
     let old = g.W.TextWriter.contents c.args.output.now in
     let new = g.W.TextWriter.contents c.run_command.new.output in
-    share_end _ (g.O.Lookout.Shows c.run_command.new.files) g.V.Server.Serves _ _ _ old new _ (c.in-Ok.ensures.share sheet plain are) c.run_command.ensures.end
+    share_end _ (g.O.Lookout.Shows c.run_command.new.files) g.V.Server.Serves _ _ _ _ old new _ (c.in-Ok.ensures.share sheet plain are) c.run_command.ensures.end
+
+pub returns-in-Ok-clause-share_svg : goal.returns-in-Ok-clause-share_svg
+returns-in-Ok-clause-share_svg g c = λ sheet plain are.
+    let old = g.W.TextWriter.contents c.args.output.now in
+    let new = g.W.TextWriter.contents c.run_command.new.output in
+    share_end _ (g.O.Lookout.Shows c.run_command.new.files) g.V.Server.Serves _ _ _ _ old new _ (c.in-Ok.ensures.share_svg sheet plain are) c.run_command.ensures.end
 
 pub returns-in-Ok-clause-check : goal.returns-in-Ok-clause-check
 returns-in-Ok-clause-check g c = λ sheet grants plain also are.

@@ -1,7 +1,9 @@
-//! Tests of plans, and of statuses, by public calls alone.
+//! Tests of plans, of statuses, and of the page of a status, by public calls alone.
 #![tactic(auto)]
 
 #[cfg(test)]
 mod examples;
+#[cfg(test)]
+mod pages;
 #[cfg(test)]
 mod statuses;

@@ -2,18 +2,15 @@
 
 ghost use Rattle.std.specs.Prelude.{◌≡◌, ◌×◌, ℕ};
 
-use server_status::{
-    Direction, GroupStatus, HeldRounds, LineRates, Status, TransferStatus,
-};
+use server_status::{Direction, GroupStatus, HeldRounds, LineRates, Status, TransferStatus};
 use status_page::{MachineClock, MicrosClock, PAGE, Timed, metrics_text, serve_request};
 use std::alloc::AllocError;
 use std::hash::RandomState;
-use std::io;
 use std::io::{ErrorKind, Write};
 use std::process::Abort;
 use std::random::RandomSource;
-use std::str;
 use std::test::Fail;
+use std::{io, str};
 
 /// What Prometheus reads of the status below, worked by hand from the conventions and the page on metrics.
 const METRICS: &str = r#"# HELP ftpd_build_info Version of the server.
@@ -77,7 +74,8 @@ ftpd_limit_bytes_per_second{kind="group",name="a\"b\\c\né",direction="up"} 5
 "#;
 
 /// The fields of each answer but its type and its length, up to the policy.
-const FIELDS: &str = "connection: close\r\ncache-control: no-store\r\nx-content-type-options: nosniff\r\ncontent-security-policy: default-src 'none'; connect-src 'self'; script-src 'sha256-";
+const FIELDS: &str =
+    "connection: close\r\ncache-control: no-store\r\nx-content-type-options: nosniff\r\ncontent-security-policy: default-src 'none'; connect-src 'self'; script-src 'sha256-";
 
 fn holds(rt: &impl Abort, fact: bool) {
     assert!(rt; fact);
@@ -174,9 +172,16 @@ fn metrics_of_a_status(rt: HostRuntime) -> Result<(), Fail> {
     Ok(())
 }
 
-fn status_page(rt: &(impl Abort + AllocGlobal + RandomSource), status: &Status) -> Result<(), Fail> {
+fn status_page(
+    rt: &(impl Abort + AllocGlobal + RandomSource),
+    status: &Status,
+) -> Result<(), Fail> {
     let text = metrics_text(rt.alloc(), status)?; // for Prometheus
-    holds(rt, text.as_str().contains("ftpd_transfers{state=\"running\"} 1\n"));
+    holds(
+        rt,
+        text.as_str()
+            .contains("ftpd_transfers{state=\"running\"} 1\n"),
+    );
     let mut reader = b"GET /status.json HTTP/1.1\r\nHost: localhost\r\n\r\n".as_slice();
     let mut writer = Vec::new(rt.alloc());
     let keys = RandomState::new(rt)?;
@@ -192,7 +197,11 @@ fn a_status_for_browsers_and_prometheus(rt: HostRuntime) -> Result<(), Fail> {
 }
 
 /// The answer to these octets.
-fn answered(rt: &(impl AllocGlobal + RandomSource), status: &Status, octets: &str) -> Result<String, Fail> {
+fn answered(
+    rt: &(impl AllocGlobal + RandomSource),
+    status: &Status,
+    octets: &str,
+) -> Result<String, Fail> {
     let mut reader = octets.as_bytes();
     let mut writer = Vec::new(rt.alloc());
     let keys = RandomState::new(rt)?;
@@ -202,18 +211,78 @@ fn answered(rt: &(impl AllocGlobal + RandomSource), status: &Status, octets: &st
 
 /// A request, and the beginning, a part and the end of its answer.
 const ANSWERS: [(&str, &str, &str, &str); 13] = [
-    ("GET / HTTP/1.1\r\nHost: h\r\n\r\n", "HTTP/1.1 200 OK\r\n", "content-type: text/html; charset=utf-8\r\n", "</html>\n"),
-    ("GET /status.json HTTP/1.1\r\nHost: h\r\n\r\n", "HTTP/1.1 200 OK\r\n", "content-type: application/json\r\n", "\"users\":2,\"version\":1}\n"),
-    ("GET /metrics?x=1 HTTP/1.1\r\nHost: h\r\n\r\n", "HTTP/1.1 200 OK\r\n", "content-type: text/plain; version=0.0.4; charset=utf-8\r\n", "} 5\n"),
-    ("GET /metrics HTTP/1.0\r\n\r\n", "HTTP/1.0 200 OK\r\n", FIELDS, "} 5\n"),
-    ("HEAD / HTTP/1.1\r\nHost: h\r\n\r\n", "HTTP/1.1 200 OK\r\n", FIELDS, "\r\n\r\n"),
-    ("GET /other HTTP/1.1\r\nHost: h\r\n\r\n", "HTTP/1.1 404 Not Found\r\n", FIELDS, "content-length: 10\r\n\r\nnot found\n"),
-    ("POST /metrics HTTP/1.1\r\nHost: h\r\nContent-Length: 0\r\n\r\n", "HTTP/1.1 405 Method Not Allowed\r\n", "allow: GET, HEAD\r\n", "\r\n\r\nmethod not allowed\n"),
-    ("POST /metrics HTTP/1.1\r\nHost: h\r\nContent-Length: 1\r\n\r\nx", "HTTP/1.1 413 Payload Too Large\r\n", "connection: close\r\n", "content-length: 0\r\n\r\n"),
-    ("GET / HTTP/1.1\r\nHost: h\r\n\r\nGET /other HTTP/1.1\r\nHost: h\r\n\r\n", "HTTP/1.1 200 OK\r\n", "", "</html>\n"),
-    ("GET / HTTP/1.1\r\n\r\n", "HTTP/1.1 400 Bad Request\r\n", "", "\r\n\r\n"),
-    ("garbage\r\n\r\n", "HTTP/1.1 400 Bad Request\r\n", "", "\r\n\r\n"),
-    ("GET / HTTP/1.1\r\nHost:", "HTTP/1.1 400 Bad Request\r\n", "", "\r\n\r\n"),
+    (
+        "GET / HTTP/1.1\r\nHost: h\r\n\r\n",
+        "HTTP/1.1 200 OK\r\n",
+        "content-type: text/html; charset=utf-8\r\n",
+        "</html>\n",
+    ),
+    (
+        "GET /status.json HTTP/1.1\r\nHost: h\r\n\r\n",
+        "HTTP/1.1 200 OK\r\n",
+        "content-type: application/json\r\n",
+        "\"users\":2,\"version\":1}\n",
+    ),
+    (
+        "GET /metrics?x=1 HTTP/1.1\r\nHost: h\r\n\r\n",
+        "HTTP/1.1 200 OK\r\n",
+        "content-type: text/plain; version=0.0.4; charset=utf-8\r\n",
+        "} 5\n",
+    ),
+    (
+        "GET /metrics HTTP/1.0\r\n\r\n",
+        "HTTP/1.0 200 OK\r\n",
+        FIELDS,
+        "} 5\n",
+    ),
+    (
+        "HEAD / HTTP/1.1\r\nHost: h\r\n\r\n",
+        "HTTP/1.1 200 OK\r\n",
+        FIELDS,
+        "\r\n\r\n",
+    ),
+    (
+        "GET /other HTTP/1.1\r\nHost: h\r\n\r\n",
+        "HTTP/1.1 404 Not Found\r\n",
+        FIELDS,
+        "content-length: 10\r\n\r\nnot found\n",
+    ),
+    (
+        "POST /metrics HTTP/1.1\r\nHost: h\r\nContent-Length: 0\r\n\r\n",
+        "HTTP/1.1 405 Method Not Allowed\r\n",
+        "allow: GET, HEAD\r\n",
+        "\r\n\r\nmethod not allowed\n",
+    ),
+    (
+        "POST /metrics HTTP/1.1\r\nHost: h\r\nContent-Length: 1\r\n\r\nx",
+        "HTTP/1.1 413 Payload Too Large\r\n",
+        "connection: close\r\n",
+        "content-length: 0\r\n\r\n",
+    ),
+    (
+        "GET / HTTP/1.1\r\nHost: h\r\n\r\nGET /other HTTP/1.1\r\nHost: h\r\n\r\n",
+        "HTTP/1.1 200 OK\r\n",
+        "",
+        "</html>\n",
+    ),
+    (
+        "GET / HTTP/1.1\r\n\r\n",
+        "HTTP/1.1 400 Bad Request\r\n",
+        "",
+        "\r\n\r\n",
+    ),
+    (
+        "garbage\r\n\r\n",
+        "HTTP/1.1 400 Bad Request\r\n",
+        "",
+        "\r\n\r\n",
+    ),
+    (
+        "GET / HTTP/1.1\r\nHost:",
+        "HTTP/1.1 400 Bad Request\r\n",
+        "",
+        "\r\n\r\n",
+    ),
     ("", "", "", ""),
 ];
 
@@ -260,8 +329,17 @@ impl<'a> io::Read for Dripping<'a> {
 
 /// The error of a request that comes an octet at a time, if any, if each look at the clock takes a microsecond and there
 /// are these numbers of them for reading and for writing.
-fn dripped(rt: &(impl AllocGlobal + RandomSource), status: &Status, reads: u64, writes: u64) -> Result<Option<ErrorKind>, Fail> {
-    let mut reader = Timed::new(Dripping(b"GET /metrics HTTP/1.1\r\nHost: h\r\n\r\n"), Steps(0), reads);
+fn dripped(
+    rt: &(impl AllocGlobal + RandomSource),
+    status: &Status,
+    reads: u64,
+    writes: u64,
+) -> Result<Option<ErrorKind>, Fail> {
+    let mut reader = Timed::new(
+        Dripping(b"GET /metrics HTTP/1.1\r\nHost: h\r\n\r\n"),
+        Steps(0),
+        reads,
+    );
     let mut writer = Timed::new(Vec::new(rt.alloc()), Steps(0), writes);
     let keys = RandomState::new(rt)?;
     match serve_request(rt.alloc(), keys, status, &mut reader, &mut writer) {
@@ -274,8 +352,14 @@ fn dripped(rt: &(impl AllocGlobal + RandomSource), status: &Status, reads: u64, 
 fn a_request_that_drips(rt: HostRuntime) -> Result<(), Fail> {
     let status = status(&rt)?;
     holds(&rt, dripped(&rt, &status, 34, 1)?.is_none());
-    holds(&rt, dripped(&rt, &status, 33, 1)? == Some(ErrorKind::TimedOut));
-    holds(&rt, dripped(&rt, &status, 34, 0)? == Some(ErrorKind::TimedOut));
+    holds(
+        &rt,
+        dripped(&rt, &status, 33, 1)? == Some(ErrorKind::TimedOut),
+    );
+    holds(
+        &rt,
+        dripped(&rt, &status, 34, 0)? == Some(ErrorKind::TimedOut),
+    );
     let mut clock = MachineClock(&rt);
     let now = clock.micros();
     holds(&rt, now <= clock.micros());

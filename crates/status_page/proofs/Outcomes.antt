@@ -1,5 +1,5 @@
 -- What a connection has sent is an outcome of what it has received.
-use Rattle.std.proofs.Common.{◌≡◌, ◌≢◌, ◌⊎◌, ◌++◌, ◌∷◌, ◌∙◌, ◌&&◌, ℕ, Bool, true, false, not, List, [], length, codes, Option, Some, None, IsTrue, Result, Ok, Err, OnOk, refl, sym, ap, subst, append-nil, arith, inl, inr}
+use Rattle.std.proofs.Common.{◌≡◌, ◌≢◌, ◌⊎◌, ◌++◌, ◌∷◌, ◌∙◌, ◌&&◌, ℕ, Bool, true, false, not, List, [], codes, Option, Some, None, Result, Ok, Err, OnOk, refl, sym, ap, subst, append-nil, arith, inl, inr}
 use Rattle.std.proofs.Math.Logic.{∥∥₁_map}
 use Rattle.std.proofs.lemmas.List.{nil_from_length}
 use Rattle.http.specs.declared.request.Request.{Request}
@@ -19,7 +19,7 @@ use Rattle.http_server.specs.Exchange.{Call, Calls, Chain, Exchanges, IsInterim,
 use Rattle.http_server.specs.History.{History, IsDone, IsServed, Justifies, Stands, new_history, output}
 use Rattle.http_server.specs.Response.{fields_of}
 use Rattle.server_status.specs.declared.status.Status.{Status}
-use Rattle.status_page.specs.Answers.{Answers, IsRouted, IsShown, fields_with}
+use Rattle.status_page.specs.Answers.{Answers, IsRouted, IsShown}
 use Rattle.status_page.specs.Exchanges.{IsAnswered, IsOutcome}
 use Rattle.status_page.specs.declared.routes.Route.{Route}
 use Rattle.status_page.specs.declared.routes.Route.TheVariants.{Page, Json, Metrics}
@@ -138,7 +138,7 @@ module _ {S : Type 0} (answers : S → Request (List ℕ) → Response → S →
     whole = λ done. nil_from_length h.pending done.1;
   }
   found Upgraded h interim is chain invited stands =
-      absurd ((answer_final status _ _ (first_answers h.calls stands.last.call [] stands.last.calls chain)).status stands.accepted)
+      absurd ((answer_final status stands.last.call.0 stands.last.call.1 (first_answers h.calls stands.last.call [] stands.last.calls chain)).status stands.accepted)
   found Aborted h interim is chain invited stands = record {
     lost = [];
     outcome = inr (inr (stands.lost, subst (IsInterim CONFIG.limits h.received) (sym (ap (λ (sent : List ℕ). sent ++ stands.lost) (append-nil h.sent) ∙ stands.sent)) invited));

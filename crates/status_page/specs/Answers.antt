@@ -1,5 +1,5 @@
 -- The answers of the routes.
-use Rattle.std.specs.Prelude.{◌≡◌, ℕ, Bool, true, false, ◌||◌, if◌then◌else◌, List, [], ◌∷◌, ◌++◌, Option, Some, None, codes}
+use Rattle.std.specs.Prelude.{ℕ, Bool, true, false, ◌||◌, if◌then◌else◌, List, [], ◌∷◌, ◌++◌, Option, Some, None, codes}
 use Rattle.std.specs.Str.{bytes_eq}
 use Rattle.http.specs.declared.request.Request.{Request}
 use Rattle.http.specs.Request.{head_of}
@@ -54,11 +54,11 @@ abbrev pub IsRouted : Status → Option Route → Bool → Response → Type 0
 IsRouted status None read response = IsTyped 404 plain_type (codes "not found\n") response
 IsRouted status (Some route) false response =
     IsResponse 405 (fields_with plain_type ++ (codes "allow", codes "GET, HEAD") ∷ [])
-        (codes "method not allowed\n") response
+    (codes "method not allowed\n") response
 IsRouted status (Some route) true response = IsShown status route response
 
 -- the answer to a request, by its path and its method
 abbrev pub Answers : Status → Request (List ℕ) → Response → Type 0
 Answers status request response =
     IsRouted status (route_of (uri_path (head_of request).uri)) (is_read (head_of request).method)
-        response
+    response

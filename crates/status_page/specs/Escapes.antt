@@ -1,5 +1,5 @@
 -- Label values in Prometheus' text format.
-use Rattle.std.specs.Prelude.{ℕ, if◌then◌else◌, nat_eq, List, [], ◌∷◌, codes, encode_utf8}
+use Rattle.std.specs.Prelude.{ℕ, if◌then◌else◌, nat_eq, List, codes, encode_utf8}
 use Rattle.std.specs.List.{flat_map}
 use Rattle.std.specs.Str.{chars}
 

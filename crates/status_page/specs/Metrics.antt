@@ -50,22 +50,29 @@ line_text line =
 
 -- ---- the server
 
-unfoldable pub server_lines : Status → List Line
-server_lines status =
+unfoldable pub build_lines : Status → List Line
+build_lines status =
     record {
-      name = codes "ftpd_build_info"; type = codes "gauge"; help = codes "Version of the server.";
-      labels = codes "{version=\"1\"}"; value = 1;
+      name = codes "ftpd_build_info";
+      type = codes "gauge";
+      help = codes "Version of the server.";
+      labels = codes "{version=\"1\"}";
+      value = 1;
     }
     ∷ gauge (codes "ftpd_start_time_seconds") (codes "Start of the server, since 1970.")
-        status.started
+    status.started
     ∷ gauge (codes "ftpd_uptime_seconds") (codes "Whole seconds since the start.")
-        (status.micros / 1_000_000)
-    ∷ gauge (codes "ftpd_users") (codes "Users of the configuration.") status.users
+    (status.micros / 1_000_000)
+    ∷ []
+
+unfoldable pub session_lines : Status → List Line
+session_lines status =
+    gauge (codes "ftpd_users") (codes "Users of the configuration.") status.users
     ∷ gauge (codes "ftpd_sessions") (codes "Connected clients.") status.sessions
     ∷ gauge (codes "ftpd_sessions_max") (codes "Most clients at once.") status.max_sessions
     ∷ counter (codes "ftpd_login_failures_total") (codes "Wrong passwords.") status.failed_logins
     ∷ counter (codes "ftpd_refused_connections_total") (codes "Refused connections.")
-        status.refused
+    status.refused
     ∷ []
 
 -- ---- transfers
@@ -89,22 +96,28 @@ unfoldable pub transfer_lines : Status → List Line
 transfer_lines status =
     gauge (codes "ftpd_lanes") (codes "Most transfers that run at once.") status.lanes
     ∷ record {
-      name = codes "ftpd_transfers"; type = codes "gauge";
-      help = codes "Transfers that have not ended."; labels = codes "{state=\"running\"}";
+      name = codes "ftpd_transfers";
+      type = codes "gauge";
+      help = codes "Transfers that have not ended.";
+      labels = codes "{state=\"running\"}";
       value = running status;
     }
     ∷ further (codes "ftpd_transfers") (codes "{state=\"waiting\"}")
-        (waiting status.transfers.items)
+    (waiting status.transfers.items)
     ∷ counter (codes "ftpd_transfers_ended_total") (codes "Transfers that have ended.")
-        status.ended
-    ∷ counter (codes "ftpd_issued_bytes_total") (codes "Bytes that rounds have granted.")
-        status.issued
+    status.ended
+    ∷ []
+
+unfoldable pub byte_lines : Status → List Line
+byte_lines status =
+    counter (codes "ftpd_issued_bytes_total") (codes "Bytes that rounds have granted.")
+    status.issued
     ∷ counter (codes "ftpd_moved_bytes_total") (codes "Bytes that transfers have moved.")
-        (moved_in_all status)
+    (moved_in_all status)
     ∷ counter (codes "ftpd_ended_granted_bytes_total")
-        (codes "Bytes granted to transfers that have ended.") status.ended_granted
+    (codes "Bytes granted to transfers that have ended.") status.ended_granted
     ∷ counter (codes "ftpd_ended_moved_bytes_total")
-        (codes "Bytes moved by transfers that have ended.") status.ended_moved
+    (codes "Bytes moved by transfers that have ended.") status.ended_moved
     ∷ []
 
 -- ---- rounds and limits
@@ -116,9 +129,11 @@ held_line labels rounds = further (codes "ftpd_held_rounds_total") labels rounds
 unfoldable pub round_lines : HeldRounds → List Line
 round_lines rounds =
     record {
-      name = codes "ftpd_held_rounds_total"; type = codes "counter";
+      name = codes "ftpd_held_rounds_total";
+      type = codes "counter";
       help = codes "Rounds of transfers, by the limit that held the transfer back.";
-      labels = codes "{kind=\"server\"}"; value = rounds.server;
+      labels = codes "{kind=\"server\"}";
+      value = rounds.server;
     }
     ∷ held_line (codes "{kind=\"direction\"}") rounds.direction
     ∷ held_line (codes "{kind=\"group\"}") rounds.group
@@ -132,9 +147,11 @@ abbrev pub limit_start : List ℕ → List ℕ → List ℕ
 limit_start kind name =
     codes "ftpd_limit_bytes_per_second{kind=\"" ++ kind ++ codes "\",name=\"" ++ escaped name
 
+unfoldable pub limit_direction : List ℕ → List ℕ
+limit_direction direction = codes "\",direction=\"" ++ direction ++ codes "\"}"
+
 abbrev pub limit_end : List ℕ → ℕ → List ℕ
-limit_end direction rate =
-    codes "\",direction=\"" ++ direction ++ codes "\"} " ++ decimal rate ++ 10 ∷ []
+limit_end direction rate = limit_direction direction ++ codes " " ++ decimal rate ++ 10 ∷ []
 
 -- a limit, of a direction or of both together; none if it is 0
 unfoldable pub limit_sample : List ℕ → List ℕ → List ℕ → ℕ → List ℕ
@@ -152,11 +169,13 @@ group_samples group =
     limit_sample (codes "group") (string_bytes group.name) (codes "down") group.down
     ++ limit_sample (codes "group") (string_bytes group.name) (codes "up") group.up
 
-unfoldable pub line_limits : LineRates → List ℕ
-line_limits line =
+unfoldable pub limit_head : List ℕ
+limit_head =
     head (codes "ftpd_limit_bytes_per_second") (codes "gauge")
-        (codes "Limits of the line and of groups; one that is not there has no sample.")
-    ++ line_samples line
+    (codes "Limits of the line and of groups; one that is not there has no sample.")
+
+unfoldable pub line_limits : LineRates → List ℕ
+line_limits line = limit_head ++ line_samples line
 
 abbrev pub limit_metrics : Status → List ℕ
 limit_metrics status = line_limits status.line ++ flat_map group_samples status.groups.items
@@ -164,9 +183,16 @@ limit_metrics status = line_limits status.line ++ flat_map group_samples status.
 -- ---- all
 
 -- the samples of the server and of transfers, and those of rounds and limits
+abbrev pub server_metrics : Status → List ℕ
+server_metrics status =
+    flat_map line_text (build_lines status) ++ flat_map line_text (session_lines status)
+
+abbrev pub transfer_metrics : Status → List ℕ
+transfer_metrics status =
+    flat_map line_text (transfer_lines status) ++ flat_map line_text (byte_lines status)
+
 abbrev pub first_metrics : Status → List ℕ
-first_metrics status =
-    flat_map line_text (server_lines status) ++ flat_map line_text (transfer_lines status)
+first_metrics status = server_metrics status ++ transfer_metrics status
 
 abbrev pub last_metrics : Status → List ℕ
 last_metrics status = flat_map line_text (round_lines status.rounds) ++ limit_metrics status

@@ -1,5 +1,4 @@
 -- The samples of the program, as lines of the definition.
-use Rattle.std.specs.Prelude.{List}
 use Rattle.status_page.specs.Metrics.{Line}
 use Rattle.status_page.specs.declared.samples.Sample.{Sample}
 

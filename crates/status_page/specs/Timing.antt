@@ -7,10 +7,10 @@ use Rattle.status_page.specs.declared.timing.Timed.{Timed}
 
 module _ {E C : Type 0} (shows : C → ℕ → C → Type 0) where
   -- the clock was asked, and showed at least the moment or not
-  pub record IsLate (old new : Timed E C) (late : Bool) : Type 0 where
+  pub record IsLate (old new : Timed E C) (answer : Bool) : Type 0 where
     pub moment : ℕ
     pub shown : shows old.clock moment new.clock
-    pub late : IsTrue late ↔ (old.until ≤ moment)
+    pub late : IsTrue answer ↔ (old.until ≤ moment)
     pub end : new.end ≡ old.end
     pub until : new.until ≡ old.until
 

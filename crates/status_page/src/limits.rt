@@ -2,7 +2,7 @@
 
 ghost use Rattle.std.specs.Prelude.{◌≡◌, ◌++◌, OnOk, string_bytes};
 ghost use Rattle.std.specs.List.{flat_map};
-ghost use Rattle.status_page.specs.Metrics.{group_samples, limit_end, limit_metrics, limit_sample, limit_start, line_limits, line_samples};
+ghost use Rattle.status_page.specs.Metrics.{group_samples, limit_direction, limit_end, limit_head, limit_metrics, limit_sample, limit_start, line_limits, line_samples};
 
 use crate::escapes::push_escaped;
 use crate::metrics::write_head;
@@ -21,19 +21,24 @@ fn write_start(text: &mut String, kind: &str, name: &str) -> Result<(), AllocErr
     ensures start { OnOk result
         (string_bytes text.new ≡ string_bytes text.old ++ limit_start kind.now name.now) }
 {
-    write!(
-        text,
-        "ftpd_limit_bytes_per_second{{kind=\"{kind}\",name=\""
-    )?;
+    write!(text, "ftpd_limit_bytes_per_second{{kind=\"{kind}\",name=\"")?;
     push_escaped(text, name)
+}
+
+#[tactic(auto, unfolding(crate::specs::Metrics::limit_direction))]
+fn write_direction(text: &mut String, direction: &str) -> Result<(), AllocError>
+    ensures direction { OnOk result
+        (string_bytes text.new ≡ string_bytes text.old ++ limit_direction direction.now) }
+{
+    write!(text, "\",direction=\"{direction}\"}}")
 }
 
 fn write_end(text: &mut String, direction: &str, rate: Rate) -> Result<(), AllocError>
     ensures end { OnOk result
         (string_bytes text.new ≡ string_bytes text.old ++ limit_end direction.now rate) }
 {
-    let close = "\"} ";
-    write!(text, "\",direction=\"{direction}{close}{rate}\n")
+    write_direction(text, direction)?;
+    write!(text, " {rate}\n")
 }
 
 /// Writes the sample of a limit, unless it is 0.
@@ -61,8 +66,24 @@ fn write_line(text: &mut String, line: LineRates) -> Result<(), AllocError>
     };
     let (down, up) = ("down", "up");
     write_limit(text, both, line.both)?;
-    write_limit(text, Limit { kind, name, direction: down }, line.down)?;
-    write_limit(text, Limit { kind, name, direction: up }, line.up)
+    write_limit(
+        text,
+        Limit {
+            kind,
+            name,
+            direction: down,
+        },
+        line.down,
+    )?;
+    write_limit(
+        text,
+        Limit {
+            kind,
+            name,
+            direction: up,
+        },
+        line.up,
+    )
 }
 
 fn write_group(text: &mut String, group: &GroupStatus) -> Result<(), AllocError>
@@ -71,8 +92,24 @@ fn write_group(text: &mut String, group: &GroupStatus) -> Result<(), AllocError>
 {
     let (kind, name) = ("group", group.name.as_str());
     let (down, up) = ("down", "up");
-    write_limit(text, Limit { kind, name, direction: down }, group.down)?;
-    write_limit(text, Limit { kind, name, direction: up }, group.up)
+    write_limit(
+        text,
+        Limit {
+            kind,
+            name,
+            direction: down,
+        },
+        group.down,
+    )?;
+    write_limit(
+        text,
+        Limit {
+            kind,
+            name,
+            direction: up,
+        },
+        group.up,
+    )
 }
 
 fn write_groups(text: &mut String, groups: &[GroupStatus]) -> Result<(), AllocError>
@@ -85,17 +122,24 @@ fn write_groups(text: &mut String, groups: &[GroupStatus]) -> Result<(), AllocEr
     Ok(())
 }
 
-#[tactic(auto, unfolding(crate::specs::Metrics::line_limits))]
-fn write_first(text: &mut String, line: LineRates) -> Result<(), AllocError>
-    ensures limits { OnOk result
-        (string_bytes text.new ≡ string_bytes text.old ++ line_limits line) }
+#[tactic(auto, unfolding(crate::specs::Metrics::limit_head))]
+fn write_limit_head(text: &mut String) -> Result<(), AllocError>
+    ensures head { OnOk result (string_bytes text.new ≡ string_bytes text.old ++ limit_head) }
 {
     write_head(
         text,
         "ftpd_limit_bytes_per_second",
         "gauge",
         "Limits of the line and of groups; one that is not there has no sample.",
-    )?;
+    )
+}
+
+#[tactic(auto, unfolding(crate::specs::Metrics::line_limits))]
+fn write_first(text: &mut String, line: LineRates) -> Result<(), AllocError>
+    ensures limits { OnOk result
+        (string_bytes text.new ≡ string_bytes text.old ++ line_limits line) }
+{
+    write_limit_head(text)?;
     write_line(text, line)
 }
 

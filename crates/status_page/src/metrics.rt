@@ -2,11 +2,13 @@
 
 ghost use Rattle.std.specs.Prelude.{◌≡◌, ◌++◌, IfOk, OnOk, map, string_bytes};
 ghost use Rattle.std.specs.List.{flat_map};
-ghost use Rattle.status_page.specs.Metrics.{first_metrics, head, last_metrics, line_text, meaning, metrics};
+ghost use Rattle.status_page.specs.Metrics.{first_metrics, head, last_metrics, line_text, meaning, metrics, server_metrics, transfer_metrics};
 ghost use Rattle.status_page.specs.Samples.{line_of};
 
 use crate::limits::write_limits;
-use crate::samples::{Sample, round_samples, server_samples, transfer_samples};
+use crate::samples::{
+    Sample, build_samples, byte_samples, round_samples, session_samples, transfer_samples,
+};
 use server_status::Status;
 use std::alloc::{AllocError, Global};
 
@@ -54,12 +56,28 @@ fn write_samples(text: &mut String, samples: &[Sample]) -> Result<(), AllocError
     Ok(())
 }
 
+fn write_server(text: &mut String, status: &Status) -> Result<(), AllocError>
+    ensures metrics { OnOk result
+        (string_bytes text.new ≡ string_bytes text.old ++ server_metrics status.now) }
+{
+    write_samples(text, &build_samples(status))?;
+    write_samples(text, &session_samples(status))
+}
+
+fn write_transfers(text: &mut String, status: &Status) -> Result<(), AllocError>
+    ensures metrics { OnOk result
+        (string_bytes text.new ≡ string_bytes text.old ++ transfer_metrics status.now) }
+{
+    write_samples(text, &transfer_samples(status))?;
+    write_samples(text, &byte_samples(status))
+}
+
 fn write_first(text: &mut String, status: &Status) -> Result<(), AllocError>
     ensures metrics { OnOk result
         (string_bytes text.new ≡ string_bytes text.old ++ first_metrics status.now) }
 {
-    write_samples(text, &server_samples(status))?;
-    write_samples(text, &transfer_samples(status))
+    write_server(text, status)?;
+    write_transfers(text, status)
 }
 
 fn write_last(text: &mut String, status: &Status) -> Result<(), AllocError>

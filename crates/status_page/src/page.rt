@@ -2,7 +2,8 @@
 
 /// The policy for browsers: they may run the script of the page and use its style, by their hashes, and ask the server
 /// itself. `tools/page-policy --write` computes the hashes.
-pub const POLICY: &str = "default-src 'none'; connect-src 'self'; script-src 'sha256-krkYGAwXoGR/2CxQyH8Ls2WTsEWIBlc1+bOM3o380y8='; style-src 'sha256-6ZoJLeFZ284zWhUKqSLiNraOk2ApFgV0KA3negQDX2E='; base-uri 'none'; form-action 'none'; frame-ancestors 'none'";
+pub const POLICY: &str =
+    "default-src 'none'; connect-src 'self'; script-src 'sha256-krkYGAwXoGR/2CxQyH8Ls2WTsEWIBlc1+bOM3o380y8='; style-src 'sha256-6ZoJLeFZ284zWhUKqSLiNraOk2ApFgV0KA3negQDX2E='; base-uri 'none'; form-action 'none'; frame-ancestors 'none'";
 
 /// The page. It asks for `status.json` once a second, and shows each text in it as text.
 pub const PAGE: &str = r##"<!doctype html>

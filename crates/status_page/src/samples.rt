@@ -1,7 +1,7 @@
 //! The samples of a status, but for those of its limits.
 
 ghost use Rattle.std.specs.Prelude.{◌≡◌, ◌≤◌, length, map};
-ghost use Rattle.status_page.specs.Metrics.{counter, further, gauge, moved_in_all, round_lines, server_lines, transfer_lines, waiting};
+ghost use Rattle.status_page.specs.Metrics.{build_lines, byte_lines, counter, further, gauge, moved_in_all, round_lines, session_lines, transfer_lines, waiting};
 ghost use Rattle.status_page.specs.Samples.{line_of};
 
 use server_status::{HeldRounds, Status, TransferStatus};
@@ -55,10 +55,10 @@ fn further(name: &'static str, labels: &'static str, value: u64) -> Sample
     }
 }
 
-/// The server and its sessions.
-#[tactic(auto, unfolding(crate::specs::Metrics::server_lines))]
-pub(crate) fn server_samples(status: &Status) -> [Sample; 8]
-    ensures lines { map line_of result ≡ server_lines status.now }
+/// The version of the server, and its time.
+#[tactic(auto, unfolding(crate::specs::Metrics::build_lines))]
+pub(crate) fn build_samples(status: &Status) -> [Sample; 3]
+    ensures lines { map line_of result ≡ build_lines status.now }
 {
     let build = Sample {
         name: "ftpd_build_info",
@@ -80,6 +80,15 @@ pub(crate) fn server_samples(status: &Status) -> [Sample; 8]
             "Whole seconds since the start.",
             seconds,
         ),
+    ]
+}
+
+/// The users and the sessions.
+#[tactic(auto, unfolding(crate::specs::Metrics::session_lines))]
+pub(crate) fn session_samples(status: &Status) -> [Sample; 5]
+    ensures lines { map line_of result ≡ session_lines status.now }
+{
+    [
         gauge("ftpd_users", "Users of the configuration.", status.users),
         gauge("ftpd_sessions", "Connected clients.", status.sessions),
         gauge(
@@ -125,9 +134,9 @@ fn moved_in_all(status: &Status) -> u64
     total
 }
 
-/// The transfers that run, wait or have ended, and their octets.
+/// The transfers that run, wait or have ended.
 #[tactic(auto, unfolding(crate::specs::Metrics::transfer_lines))]
-pub(crate) fn transfer_samples(status: &Status) -> [Sample; 8]
+pub(crate) fn transfer_samples(status: &Status) -> [Sample; 4]
     ensures lines { map line_of result ≡ transfer_lines status.now }
 {
     let waiting = waiting(status.transfers.as_slice());
@@ -152,6 +161,15 @@ pub(crate) fn transfer_samples(status: &Status) -> [Sample; 8]
             "Transfers that have ended.",
             status.ended,
         ),
+    ]
+}
+
+/// The octets of transfers.
+#[tactic(auto, unfolding(crate::specs::Metrics::byte_lines))]
+pub(crate) fn byte_samples(status: &Status) -> [Sample; 4]
+    ensures lines { map line_of result ≡ byte_lines status.now }
+{
+    [
         counter(
             "ftpd_issued_bytes_total",
             "Bytes that rounds have granted.",

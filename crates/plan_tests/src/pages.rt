@@ -1,6 +1,6 @@
 //! The page, the JSON and the metrics of a status, over readers and writers in memory.
 
-ghost use Rattle.std.specs.Prelude.{◌≡◌, ◌×◌, ℕ};
+ghost use Rattle.std.specs.Prelude.{◌≡◌};
 
 use crate::examples::holds;
 use server_status::{Direction, GroupStatus, HeldRounds, LineRates, Status, TransferStatus};
@@ -174,11 +174,7 @@ fn status_page(
     status: &Status,
 ) -> Result<(), Fail> {
     let text = metrics_text(rt.alloc(), status)?; // for Prometheus
-    holds(
-        rt,
-        text.as_str()
-            .contains("ftpd_transfers{state=\"running\"} 1\n"),
-    );
+    holds(rt, text.as_str().contains("ftpd_lanes 16\n"));
     let mut reader = b"GET /status.json HTTP/1.1\r\nHost: localhost\r\n\r\n".as_slice();
     let mut writer = Vec::new(rt.alloc());
     let keys = RandomState::new(rt)?;

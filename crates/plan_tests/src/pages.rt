@@ -1,7 +1,8 @@
 //! The page, the JSON and the metrics of a status, over readers and writers in memory.
 
-ghost use Rattle.std.specs.Prelude.{◌≡◌, ◌×◌, ℕ};
+ghost use Rattle.std.specs.Prelude.{◌≡◌};
 
+use crate::examples::holds;
 use server_status::{Direction, GroupStatus, HeldRounds, LineRates, Status, TransferStatus};
 use status_page::{MachineClock, MicrosClock, PAGE, Timed, metrics_text, serve_request};
 use std::alloc::AllocError;
@@ -12,7 +13,7 @@ use std::random::RandomSource;
 use std::test::Fail;
 use std::{io, str};
 
-/// The parts that Prometheus reads of the status below, worked by hand from the conventions and the page on metrics.
+/// The metrics of the status below, worked by hand from the conventions and the page on metrics.
 const METRICS: &str = r#"# HELP ftpd_build_info Version of the server.
 # TYPE ftpd_build_info gauge
 ftpd_build_info{version="1"} 1
@@ -76,10 +77,6 @@ ftpd_limit_bytes_per_second{kind="group",name="a\"b\\c\né",direction="up"} 5
 /// The fields of each answer but its type and its length, up to the policy.
 const FIELDS: &str =
     "connection: close\r\ncache-control: no-store\r\nx-content-type-options: nosniff\r\ncontent-security-policy: default-src 'none'; connect-src 'self'; script-src 'sha256-";
-
-fn holds(rt: &impl Abort, fact: bool) {
-    assert!(rt; fact);
-}
 
 const HELD: HeldRounds = HeldRounds {
     server: 1,
@@ -177,11 +174,7 @@ fn status_page(
     status: &Status,
 ) -> Result<(), Fail> {
     let text = metrics_text(rt.alloc(), status)?; // for Prometheus
-    holds(
-        rt,
-        text.as_str()
-            .contains("ftpd_transfers{state=\"running\"} 1\n"),
-    );
+    holds(rt, text.as_str().contains("ftpd_lanes 16\n"));
     let mut reader = b"GET /status.json HTTP/1.1\r\nHost: localhost\r\n\r\n".as_slice();
     let mut writer = Vec::new(rt.alloc());
     let keys = RandomState::new(rt)?;

@@ -2,11 +2,7 @@
 //!
 //! ```text
 //! let text = metrics_text(rt.alloc(), status)?; // for Prometheus
-//! holds(
-//!     rt,
-//!     text.as_str()
-//!         .contains("ftpd_transfers{state=\"running\"} 1\n"),
-//! );
+//! holds(rt, text.as_str().contains("ftpd_lanes 16\n"));
 //! let mut reader = b"GET /status.json HTTP/1.1\r\nHost: localhost\r\n\r\n".as_slice();
 //! let mut writer = Vec::new(rt.alloc());
 //! let keys = RandomState::new(rt)?;

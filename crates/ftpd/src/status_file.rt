@@ -12,6 +12,7 @@ use text_io::{FallibleIo, read_whole};
 const LOOK: u64 = 1_000;
 
 /// A status file of the machine.
+#[derive(Drop)]
 struct StatusFile<'w> {
     machine: HostRuntime,
     path: &'w str,

@@ -1,9 +1,8 @@
 //! The transfers of a server, shown again and again.
 
-ghost use Rattle.std.specs.Prelude.{◌≡◌, ◌⊎◌, ◌++◌, ℕ, List, None, OnOk, IfErr, IfOk, string_bytes};
+ghost use Rattle.std.specs.Prelude.{◌≡◌, ◌≤◌, ◌⊎◌, ◌++◌, ℕ, List, None, OnOk, IfErr, IfOk, string_bytes};
 ghost use Rattle.std.specs.Io.KnownBytes.{Appends};
-ghost use Rattle.std.specs.List.{concat};
-ghost use Rattle.ftpd_program.specs.Watching.{AreScreens, IsScreen, IsTableOrNone, cleared, still_text, table_rows};
+ghost use Rattle.ftpd_program.specs.Watching.{AreScreens, IsScreen, IsTableOrNone, cleared, one_text, still_text, table_rows};
 
 use server_status::{Status, StatusFault, read_status};
 use status_table::table_lines;
@@ -33,13 +32,13 @@ pub trait StatusSource {
 
 /// The statuses of the last seconds, oldest first.
 #[derive(Drop)]
-struct Watch {
+struct Looks {
     past: Vec<Status>,
     /// Number of looks since there was a new one.
     still: u64,
 }
 
-impl Watch {
+impl Looks {
     /// Returns whether a status is of another moment than the last one.
     fn is_new(&self, status: &Status) -> bool {
         match self.past.last() {
@@ -108,11 +107,19 @@ impl Watch {
     {
         let still = self.told_still();
         let table = self.table(alloc, table_rows(rows, still))?;
-        let mut text = String::from_str(alloc, CLEAR)?;
-        text.push_str(table.as_str())?;
-        push_still(&mut text, still)?;
-        Ok(text)
+        screen_text(alloc, table.as_str(), still)
     }
+}
+
+/// A screen that is cleared and has a table, and below it that there has been no new status, if this is told.
+fn screen_text(alloc: Global, table: &str, still: Option<u64>) -> Result<String, AllocError>
+    ensures text { IfOk result
+        (λ text. string_bytes text ≡ cleared ++ table.now ++ still_text still) }
+{
+    let mut text = String::from_str(alloc, CLEAR)?;
+    text.push_str(table)?;
+    push_still(&mut text, still)?;
+    Ok(text)
 }
 
 /// The lines that are left to the table.
@@ -156,7 +163,7 @@ fn look<S: StatusSource>(alloc: Global, source: &mut S) -> Result<Option<Status>
 fn next_screen<S: StatusSource>(
     alloc: Global,
     rows: u16,
-    seen: &mut Watch,
+    seen: &mut Looks,
     source: &mut S,
 ) -> Result<String, AllocError>
     ensures screen { IfOk result (λ text. IsScreen rows (string_bytes text)) }
@@ -169,7 +176,7 @@ fn next_screen<S: StatusSource>(
 fn write_screen<S: StatusSource, W: TextWriter>(
     alloc: Global,
     rows: u16,
-    seen: &mut Watch,
+    seen: &mut Looks,
     source: &mut S,
     output: &mut W,
 ) -> Result<(), TextFault>
@@ -195,11 +202,11 @@ pub fn watch<S: StatusSource, W: TextWriter>(
     output: &mut W,
 ) -> Result<(), TextFault>
     ensures screens { OnOk result ((screens : List (List ℕ)) × AreScreens rows screens
-        × Appends (W.contents output.old) (W.contents output.new) (concat screens)) }
+        × Appends (W.contents output.old) (W.contents output.new) (one_text screens)) }
     ensures fault { IfErr result (λ fault.
         (fault ≡ TextFault.Memory) ⊎ (fault ≡ TextFault.WriteFault)) }
 {
-    let mut seen = Watch {
+    let mut seen = Looks {
         past: Vec::new(alloc),
         still: 0,
     };

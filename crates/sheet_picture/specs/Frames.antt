@@ -11,7 +11,7 @@ use Rattle.sheet_picture.specs.Columns.{is_first, rank}
 abbrev pub number_after : ℕ → Bool → ℕ
 number_after number first = if first then number + 1 else number
 
--- a column after `index` others: columns are 24 wide, and each number begins 12 further to the right
+-- a column after `index` others: columns are 24 wide, and each number begins 12 further right
 abbrev pub placed_at : Column → ℕ → ℕ → Bool → Placed
 placed_at column index number first = record {
   column = column;

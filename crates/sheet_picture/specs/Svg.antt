@@ -49,7 +49,7 @@ axis_text width largest = joined (
     codes "<text x=\"92\" y=\"104\" text-anchor=\"end\">" ∷ decimal largest
     ∷ codes "</text>\n<path class=\"axis\" d=\"M96 400H" ∷ decimal width ∷ codes "\"/>\n" ∷ [])
 
--- what comes before the columns
+-- the text before the columns
 unfoldable pub top_text : Frame → List ℕ
 top_text frame =
     head_text (width_of frame) (height_of frame) frame.columns
@@ -149,7 +149,7 @@ column_text largest placed =
     title_text placed.column ++ bar_text largest placed ++ foot_text largest placed
     ++ lid_text largest placed ++ label_text placed.x placed.number placed.column.path.now
 
--- the dashed line, and what it is
+-- the dashed line, and its level
 unfoldable pub level_line : ℕ → ℕ → ℕ → List ℕ → List ℕ
 level_line width y octets path = joined (
     codes "<path class=\"level\" d=\"M96 " ∷ decimal y ∷ codes "H" ∷ decimal width

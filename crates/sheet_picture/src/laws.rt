@@ -1,4 +1,4 @@
-//! Why columns of one colour are of one height.
+//! The height of columns of one colour.
 
 ghost use Rattle.sheet_picture.specs.Levels.{OneLimitIsLevel};
 

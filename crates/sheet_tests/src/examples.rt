@@ -98,7 +98,11 @@ fn sheet_picture(rt: HostRuntime) -> Result<(), Fail> {
     let alloc = rt.alloc();
     let picture = picture_of(alloc, b"limit / 10\nwant /a 8\nwant /b 5\n")?;
     assert!(rt; picture.as_str().starts_with("<svg "));
-    assert!(rt; picture.as_str().contains("<title>/a: 5 of 8, held back by /</title>"));
+    assert!(rt;
+        picture
+            .as_str()
+            .contains("<title>/a: 5 of 8, held back by /</title>")
+    );
     assert!(rt; picture.as_str().contains("<title>/b: 5 of 5</title>"));
     Ok(())
 }

@@ -14,7 +14,10 @@ static ESCAPES: [(&str, &str); 4] = [
     ("/a-_.9", "/a-_.9"),
     ("<a&b>", "&lt;a&amp;b&gt;"),
     ("\"é\"", "&quot;é&quot;"),
-    ("a\n\u{0}\u{85}\u{ffff}b", "a\u{fffd}\u{fffd}\u{fffd}\u{fffd}b"),
+    (
+        "a\n\u{0}\u{85}\u{ffff}b",
+        "a\u{fffd}\u{fffd}\u{fffd}\u{fffd}b",
+    ),
 ];
 
 #[test]
@@ -42,7 +45,8 @@ static NAMED: Column<'static> = Column {
 #[test]
 fn names_are_escaped(rt: HostRuntime) {
     let text = drawn(rt.alloc(), &[NAMED]).expect(&rt, "memory");
-    let title = "<title>&lt;a&gt;: 5 of 8, held back by &quot;b&quot;, guaranteed 2, limit of its own 6</title>";
+    let title =
+        "<title>&lt;a&gt;: 5 of 8, held back by &quot;b&quot;, guaranteed 2, limit of its own 6</title>";
     holds(&rt, text.as_str().contains(title));
 }
 

@@ -37,6 +37,13 @@ abbrev pub IsNumber : NumberForm → List ℕ → ℕ → Type 0
 IsNumber form text n =
     IsNumeral 10 text × (digits_value 10 text ≡ n) × (least_of form ≤ n) × (n ≤ most_of form)
 
+-- the text states that port, and that number of lines
+abbrev pub IsPortText : List ℕ → ℕ → Type 0
+IsPortText text n = IsNumber Port text n
+
+abbrev pub AreLines : List ℕ → ℕ → Type 0
+AreLines text n = IsNumber Lines text n
+
 -- the number that an option states, and none if the option is not given
 abbrev pub IsStated : NumberForm → Option (List ℕ) → Option ℕ → Type 0
 IsStated form None None = Unit {0}

@@ -64,7 +64,7 @@ const ABOUT_PLAN: &str =
     "CONFIG is read whole. A line for each user, direction and share goes to standard output: how many transfers get how\nmuch of a second, what is guaranteed to each, and the limit that holds each back; last the totals. TRANSFERS has parts\nNAME=N, NAME:down=N or NAME:up=N, joined by commas: N transfers of that user that want all they can get.\n\nExample: ftpd plan office.toml ann=1,bob=1,carol:up=5\n\nStatus: 0 done, or yes; 1 a fault; 2 refused words; 3 no";
 
 const ABOUT_TOP: &str =
-    "STATUS is read once a second, and the screen is drawn anew; Ctrl-C ends it. A line for each transfer: its octets a\nsecond, what is guaranteed to it, and the limits that held it back, in parts of the last second.\n\nExamples: ftpd top /run/ftpd/status.json\n          ftpd top /run/ftpd/status.json --once\n\nStatus: 0 done, or yes; 1 a fault; 2 refused words; 3 no";
+    "STATUS is read once a second, and the screen is drawn anew; Ctrl-C ends it. Two lines for each transfer: its octets a\nsecond, what is guaranteed to it, and the limits that held it back, in parts of the last second.\n\nExamples: ftpd top /run/ftpd/status.json\n          ftpd top /run/ftpd/status.json --once\n\nStatus: 0 done, or yes; 1 a fault; 2 refused words; 3 no";
 
 /// A command without words; `below` is the text below its help.
 fn bare_command<'a>(alloc: Global, name: &'a str, about: &'a str, below: &'a str) -> Command<'a>

@@ -4,13 +4,13 @@ ghost use Rattle.std.specs.Prelude.{◌≡◌, ◌↔◌, ◌∷◌, [], ℕ, Li
 ghost use Rattle.clap.specs.Words.{app_of, fault_of, first_of, found_of, is_simple, is_simple_and_free, kind_of, rows_of, subcommand_of, subcommand_rows_of, takes};
 ghost use Rattle.command_line.specs.Commands.{ftpd, sheets};
 ghost use Rattle.command_line.specs.Given.{GivesOneOrMemory, GivesOrMemory, IsCheck, IsCheckConfig, IsFound, IsHelp, IsLogged, IsMigrate, IsOfSheets, IsPlainWord, IsPlanWords, IsRefusal, IsRefusedAs, IsScript, IsServe, IsSheetFound, IsShare, IsRefusedFor, IsStatusBy, IsTaken, IsTop, entered_rows, is_flagged, logged_words, ready_words, status_words, top_words};
-ghost use Rattle.command_line.specs.Numbers.{IsNumber};
+ghost use Rattle.command_line.specs.Numbers.{AreLines, IsPortText};
 ghost use Rattle.command_line.specs.Stated.{IsStatedBy};
 ghost use Rattle.command_line.specs.declared.numbers.TheConstants.{ROWS};
 ghost use Rattle.command_line.specs.Timed.{IsSeconds, timed_words, usual_patience};
 
 use crate::grammar::{ftpd_command, sheets_command};
-use crate::numbers::{NumberForm, Numbers, stated_numbers};
+use crate::numbers::{Numbers, stated_numbers};
 use clap::error::ErrorKind;
 use clap::{ArgMatches, Command, Error};
 use client_patience::Patience;
@@ -325,7 +325,7 @@ pub fn read_words<'a>(alloc: Global, words: &'a [&'a str]) -> Result<Words<'a>, 
         → map (λ s. s.now) words.now ≡ logged_words word path form
         → GivesOrMemory (IsLogged word path form) result }
     ensures serve_status { (word path port : List ℕ) (n : ℕ) → IsPlainWord word
-        → IsPlainWord path → IsNumber NumberForm.Port port n
+        → IsPlainWord path → IsPortText port n
         → map (λ s. s.now) words.now ≡ status_words word path port
         → GivesOrMemory (IsStatusBy word (Some path) (Some n)) result }
     ensures serve_timed { (word first second third : List ℕ) (p : Patience) → IsPlainWord word
@@ -343,7 +343,7 @@ pub fn read_words<'a>(alloc: Global, words: &'a [&'a str]) -> Result<Words<'a>, 
         → map (λ s. s.now) words.now ≡ codes "top" ∷ word ∷ []
         → GivesOrMemory (IsTop word false ROWS) result }
     ensures top_once { (word lines : List ℕ) (n : ℕ) → IsPlainWord word
-        → IsNumber NumberForm.Lines lines n
+        → AreLines lines n
         → map (λ s. s.now) words.now ≡ top_words word lines
         → GivesOrMemory (IsTop word true n) result }
     ensures taken { IsTaken (map (λ s. s.now) words.now) → GivesOneOrMemory

@@ -1,5 +1,5 @@
 -- The ends of commands, for the words that name them.
-use Rattle.std.proofs.Common.{◌≡◌, ℕ, Bool, List, Option, option_map, subst}
+use Rattle.std.proofs.Common.{◌≡◌, ℕ, Bool, false, true, List, Option, option_map, refl, subst, sym}
 use Rattle.command_line.specs.Given.{IsCheck, IsCheckConfig, IsMigrate, IsOfSheets, IsPlanWords, IsScript, IsServe, IsShare, IsTop}
 use Rattle.client_patience.specs.declared.patience.Patience.{Patience}
 use Rattle.command_line.specs.declared.words.SheetWords.TheVariants.{Share, Check}
@@ -8,8 +8,10 @@ use Rattle.command_line.specs.declared.words.Words.TheVariants.{Sheet, CheckConf
 use Rattle.script_session.specs.declared.fault.SessionFault.{SessionFault}
 use Rattle.config_report.specs.Looks.{Shown}
 use Rattle.sheets_program.specs.Runs.{IsCheckEnd, IsShareEnd, Octets}
-use Rattle.ftpd_program.specs.Endings.{IsCommon}
-use Rattle.ftpd_program.specs.Runs.{IsCommandEnd, IsPlanEnd, IsPrintEnd, IsReportEnd, IsScriptEnd, IsTopEnd, plan_print, report_print}
+use Rattle.sheets_program.specs.declared.ending.Exit.TheVariants.{Done, Flawed, Refused, Text, Share as Unshared, Check as Unchecked}
+use Rattle.std.specs.Borrow.{Bor}
+use Rattle.ftpd_program.specs.Endings.{IsCommon, IsUnwritten}
+use Rattle.ftpd_program.specs.Runs.{IsCommandEnd, IsPlanEnd, IsPrintEnd, IsReportEnd, IsScriptEnd, IsTopEnd, after_table, plan_print, report_print}
 use Rattle.ftpd_program.specs.Scripting.{IsUnscripted}
 use Rattle.ftpd_program.specs.Serving.{IsServeEnd, Service}
 use Rattle.ftpd_program.specs.declared.ending.FtpdExit.{FtpdExit}
@@ -132,3 +134,42 @@ top_end gives shown serves Refuses (Plan word stated json) path only_once lines 
 pub unserved : (text before after old new : Option (List ℕ)) (fault : ScriptFault) (why : SessionFault)
     → IsUnscripted text before after old new fault → fault ≡ Unserved why → IsUnscripted text before after old new (Unserved why)
 unserved text before after old new fault why so is = subst (λ (f : ScriptFault). IsUnscripted text before after old new f) is so
+
+-- the ending after the first table is one of `top`
+pub table_end : (once : Bool) (status : Bor (List ℕ)) (rows : ℕ) (P : FtpdExit → Type 0) (ending after : FtpdExit) → ((path : Bor (List ℕ)) (lines : ℕ) → P (Watches path lines) → ⊥) → after ≡ after_table once status rows ending → P ending
+    → IsTopEnd once status.now rows P after
+table_end once status rows P ending after never is end = subst (λ (e : FtpdExit). IsTopEnd once status.now rows P e) (sym is) (go once ending end)
+  where
+    go : (b : Bool) (e : FtpdExit) → P e → IsTopEnd b status.now rows P (after_table b status rows e)
+    go false (Common Done) end = (refl, refl, refl, end)
+    go true (Common Done) end = (refl, end)
+    go b (Common Flawed) end = end
+    go b (Common (Refused told)) end = end
+    go b (Common (Text why cause)) end = end
+    go b (Common (Unshared why cause)) end = end
+    go b (Common (Unchecked why cause)) end = end
+    go b (Config fault) end = end
+    go b (Transfers name told) end = end
+    go b (Session fault) end = end
+    go b (Server fault) end = end
+    go b (Status file fault) end = end
+    go b (Watches path lines) end = absurd (never path lines end)
+
+-- nothing was written after the first table, if nothing was written by it
+pub table_unwritten : (once : Bool) (status : Bor (List ℕ)) (rows : ℕ) (ending after : FtpdExit) → after ≡ after_table once status rows ending → IsUnwritten after → IsUnwritten ending
+table_unwritten once status rows ending after is unwritten = go once ending (subst IsUnwritten is unwritten)
+  where
+    go : (b : Bool) (e : FtpdExit) → IsUnwritten (after_table b status rows e) → IsUnwritten e
+    go false (Common Done) end = absurd end
+    go true (Common Done) end = end
+    go b (Common Flawed) end = end
+    go b (Common (Refused told)) end = end
+    go b (Common (Text why cause)) end = end
+    go b (Common (Unshared why cause)) end = end
+    go b (Common (Unchecked why cause)) end = end
+    go b (Config fault) end = end
+    go b (Transfers name told) end = end
+    go b (Session fault) end = end
+    go b (Server fault) end = end
+    go b (Status file fault) end = end
+    go b (Watches path lines) end = end

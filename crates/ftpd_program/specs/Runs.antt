@@ -2,7 +2,7 @@
 -- the commands on sheets. Old and new are the contents of the output before and after, and Refuses
 -- is the test of the octets that it may refuse.
 use Rattle.std.specs.Borrow.{Bor}
-use Rattle.std.specs.Prelude.{◌≡◌, ℕ, Bool, List, Option, false, option_map, true}
+use Rattle.std.specs.Prelude.{◌≡◌, ℕ, Bool, List, Option, false, if◌then◌else◌, option_map, true}
 use Rattle.command_line.specs.declared.words.Words.{Words}
 use Rattle.command_line.specs.declared.words.Words.TheVariants.{Sheet, CheckConfig, Migrate, Script, Serve, Plan, Top}
 use Rattle.config_report.specs.Looks.{Shown}
@@ -58,6 +58,12 @@ abbrev pub IsPlanEnd : Bool → Shown → Octets → List ℕ → (List ℕ → 
 IsPlanEnd json shown gives transfers Refuses old new ending =
     (stated : Bor (List ℕ)) × (stated.now ≡ transfers)
     × IsPrintEnd (plan_print json stated) shown gives Refuses old new ending
+
+-- the ending of `top` after that of its first table: it goes on, unless once is enough
+abbrev pub after_table : Bool → Bor (List ℕ) → ℕ → FtpdExit → FtpdExit
+after_table once status rows (Common Done) =
+    if once then Common Done else Watches status rows
+after_table once status rows ending = ending
 
 -- the ending of `top` for the path of a status, after an ending of its first table with that
 -- property

@@ -2,6 +2,7 @@
 use Rattle.std.specs.Prelude.{◌≡◌, ◌⊎◌, ◌++◌, ◌-◌, ℕ, List, [], ◌∷◌, Option, Some, None, codes, max}
 use Rattle.std.specs.Borrow.{Bor}
 use Rattle.std.specs.Fmt.{decimal}
+use Rattle.std.specs.List.{flat_map}
 use Rattle.server_status.specs.ReadBack.{HasStatus}
 use Rattle.server_status.specs.declared.status.Status.{Status}
 use Rattle.status_table.specs.Tables.{IsTable}
@@ -50,3 +51,7 @@ pub record IsScreen (rows : ℕ) (text : List ℕ) : Type 0 where
 abbrev pub AreScreens : ℕ → List (List ℕ) → Type 0
 AreScreens rows [] = Unit {0}
 AreScreens rows (text ∷ texts) = IsScreen rows text × AreScreens rows texts
+
+-- their text
+abbrev pub one_text : List (List ℕ) → List ℕ
+one_text screens = flat_map (λ text. text) screens

@@ -1,12 +1,10 @@
 //! Running the command of a line's words.
 
 ghost use Rattle.std.specs.Prelude.{◌≡◌, ◌⊎◌, ◌∷◌, [], ℕ, List, None, Some, codes, false, map, true};
-ghost use Rattle.ftpd_program.specs.declared.ending.FtpdExit.{FtpdExit};
 ghost use Rattle.clap.specs.Words.{subcommand_of};
 ghost use Rattle.command_line.specs.Commands.{ftpd};
 ghost use Rattle.command_line.specs.Given.{IsFound, IsPlainWord, IsRefusedFor, IsTaken, ready_words, top_words};
-ghost use Rattle.command_line.specs.Numbers.{IsNumber};
-ghost use Rattle.command_line.specs.declared.numbers.NumberForm.TheVariants.{Lines};
+ghost use Rattle.command_line.specs.Numbers.{AreLines};
 ghost use Rattle.command_line.specs.declared.numbers.TheConstants.{ROWS};
 ghost use Rattle.command_line.specs.Timed.{IsSeconds, timed_words, usual_patience};
 ghost use Rattle.client_patience.specs.declared.patience.Patience.{Patience};
@@ -17,7 +15,7 @@ ghost use Rattle.sheets_program.specs.Endings.{IsOutOfMemory, IsToldEnd};
 ghost use Rattle.sheets_program.specs.Runs.{IsCheckEnd, IsShareEnd};
 ghost use Rattle.ftpd_program.specs.Causes.{AreCommandOpened, AreScriptOpened, IsCommandWhy, IsReadWhy, IsScriptWhy};
 ghost use Rattle.ftpd_program.specs.Endings.{IsCommon, IsUnwritten};
-ghost use Rattle.ftpd_program.specs.Runs.{IsCommandEnd, IsPlanEnd, IsPrintEnd, IsReportEnd, IsScriptEnd, IsTopEnd, plan_print, report_print};
+ghost use Rattle.ftpd_program.specs.Runs.{IsCommandEnd, IsPlanEnd, IsPrintEnd, IsReportEnd, IsScriptEnd, IsTopEnd, after_table, plan_print, report_print};
 ghost use Rattle.ftpd_program.specs.Serving.{IsServeEnd};
 
 use super::ending::FtpdExit;
@@ -97,10 +95,7 @@ fn plan_print(transfers: &str, json: bool) -> Print<'_>
 
 /// The ending of `top` after the ending of its first table.
 fn watching<'w>(once: bool, status: &'w str, rows: u16, ending: FtpdExit<'w>) -> FtpdExit<'w>
-    ensures end { (P : FtpdExit → Type 0) → P ending → IsTopEnd once status.now rows P result }
-    ensures why { (may : Type 0) → IsReadWhy status.now may ending
-        → IsReadWhy status.now may result }
-    ensures unwritten { IsUnwritten result → IsUnwritten ending }
+    ensures end { result ≡ after_table once status.entry rows ending.entry }
 {
     match ending {
         FtpdExit::Common(Common::Done) if !once => FtpdExit::Watches { status, rows },
@@ -279,7 +274,7 @@ pub fn run_words<'w, O: Opener + Lookout, W: TextWriter, V: Server<W>>(
         → IsTopEnd false status ROWS
         (IsPrintEnd (Print.Table ROWS) (O.Shows files.new) (O.Gives files.old status)
         (W.may_refuse output.old) (W.contents output.old) (W.contents output.new)) result }
-    ensures top_once { (status lines : List ℕ) (n : ℕ) → IsPlainWord status → IsNumber Lines lines n
+    ensures top_once { (status lines : List ℕ) (n : ℕ) → IsPlainWord status → AreLines lines n
         → map (λ s. s.now) words.now ≡ top_words status lines
         → IsTopEnd true status n
         (IsPrintEnd (Print.Table n) (O.Shows files.new) (O.Gives files.old status)

@@ -1,9 +1,8 @@
 //! The transfers of a server, shown again and again.
 
-ghost use Rattle.std.specs.Prelude.{◌≡◌, ◌⊎◌, ◌++◌, ℕ, List, None, OnOk, IfErr, IfOk, string_bytes};
+ghost use Rattle.std.specs.Prelude.{◌≡◌, ◌≤◌, ◌⊎◌, ◌++◌, ℕ, List, None, OnOk, IfErr, IfOk, string_bytes};
 ghost use Rattle.std.specs.Io.KnownBytes.{Appends};
-ghost use Rattle.std.specs.List.{concat};
-ghost use Rattle.ftpd_program.specs.Watching.{AreScreens, IsScreen, IsTableOrNone, cleared, still_text, table_rows};
+ghost use Rattle.ftpd_program.specs.Watching.{AreScreens, IsScreen, IsTableOrNone, cleared, one_text, still_text, table_rows};
 
 use server_status::{Status, StatusFault, read_status};
 use status_table::table_lines;
@@ -108,11 +107,19 @@ impl Looks {
     {
         let still = self.told_still();
         let table = self.table(alloc, table_rows(rows, still))?;
-        let mut text = String::from_str(alloc, CLEAR)?;
-        text.push_str(table.as_str())?;
-        push_still(&mut text, still)?;
-        Ok(text)
+        screen_text(alloc, table.as_str(), still)
     }
+}
+
+/// A screen that is cleared and has a table, and below it that there has been no new status, if this is told.
+fn screen_text(alloc: Global, table: &str, still: Option<u64>) -> Result<String, AllocError>
+    ensures text { IfOk result
+        (λ text. string_bytes text ≡ cleared ++ table.now ++ still_text still) }
+{
+    let mut text = String::from_str(alloc, CLEAR)?;
+    text.push_str(table)?;
+    push_still(&mut text, still)?;
+    Ok(text)
 }
 
 /// The lines that are left to the table.
@@ -195,7 +202,7 @@ pub fn watch<S: StatusSource, W: TextWriter>(
     output: &mut W,
 ) -> Result<(), TextFault>
     ensures screens { OnOk result ((screens : List (List ℕ)) × AreScreens rows screens
-        × Appends (W.contents output.old) (W.contents output.new) (concat screens)) }
+        × Appends (W.contents output.old) (W.contents output.new) (one_text screens)) }
     ensures fault { IfErr result (λ fault.
         (fault ≡ TextFault.Memory) ⊎ (fault ≡ TextFault.WriteFault)) }
 {

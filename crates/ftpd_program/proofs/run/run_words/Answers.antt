@@ -1,3 +1,5 @@
+use Rattle.std.proofs.Common.{false, true}
+use Rattle.command_line.specs.declared.numbers.TheConstants.{ROWS}
 use Rattle.ftpd_program.proofs.Ends.{check_end, migrate_end, plan_end, report_end, script_end, serve_end, share_end, top_end}
 use Rattle.ftpd_program.proofs.NoWords.{no_print, no_serve, no_top, second_of_three, second_word, third_of_four, third_word}
 use Rattle.ftpd_program.specs.declared.printing.Print.TheVariants.{Plan, PlanJson, Report, ReportJson}
@@ -123,8 +125,8 @@ returns-in-Err-clause-plan_json g c = λ config transfers plain also are.
 
 pub returns-in-Err-clause-top : goal.returns-in-Err-clause-top
 returns-in-Err-clause-top g c = λ status plain are.
-    no_top _ _ _ (g.O.Lookout.Shows c.args.files.now) _ _ _ _ _ _ (c.in-Err.ensures.top status plain are) c.tell.ensures.told
+    no_top false status ROWS (g.O.Lookout.Shows c.args.files.now) _ _ _ _ _ _ (c.in-Err.ensures.top status plain are) c.tell.ensures.told
 
 pub returns-in-Err-clause-top_once : goal.returns-in-Err-clause-top_once
 returns-in-Err-clause-top_once g c = λ status lines n plain number are.
-    no_top _ _ _ (g.O.Lookout.Shows c.args.files.now) _ _ _ _ _ _ (c.in-Err.ensures.top_once status lines n plain number are) c.tell.ensures.told
+    no_top true status n (g.O.Lookout.Shows c.args.files.now) _ _ _ _ _ _ (c.in-Err.ensures.top_once status lines n plain number are) c.tell.ensures.told

@@ -3,19 +3,23 @@
 use crate::expect::{holds, same};
 use ftpd_program::{StatusSource, watch};
 use server_status::read_status;
-use status_table::table_lines;
-use std::alloc::Global;
+use status_table::{Status, table_lines};
+use std::alloc::{AllocError, Global};
 use std::process::Abort;
 
 /// A status with one transfer, which began with the server and has been granted 100,000 octets in a tenth of a second.
-const EARLY: &str = "{\"version\":1,\"unit\":\"octets\",\"started\":5,\"micros\":100000,\"line\":{\"both\":null,\"down\":null,\"up\":null},\"groups\":[],\"users\":1,\"sessions\":1,\"max_sessions\":8,\"lanes\":8,\"issued\":100000,\"ended\":0,\"ended_granted\":0,\"ended_moved\":0,\"held\":{\"server\":0,\"direction\":0,\"group\":0,\"user\":0,\"session\":0,\"nothing\":1},\"failed_logins\":0,\"refused\":0,\"transfers\":[{\"session\":1,\"user\":\"ann\",\"group\":null,\"peer\":\"127.0.0.1\",\"direction\":\"down\",\"path\":\"/a\",\"size\":200000,\"begun\":0,\"waiting\":false,\"granted\":100000,\"moved\":100000,\"held\":{\"server\":0,\"direction\":0,\"group\":0,\"user\":0,\"session\":0,\"nothing\":1},\"guaranteed\":null,\"session_rate\":null,\"user_rate\":null}]}\n";
+const EARLY: &str =
+    "{\"version\":1,\"unit\":\"octets\",\"started\":5,\"micros\":100000,\"line\":{\"both\":null,\"down\":null,\"up\":null},\"groups\":[],\"users\":1,\"sessions\":1,\"max_sessions\":8,\"lanes\":8,\"issued\":100000,\"ended\":0,\"ended_granted\":0,\"ended_moved\":0,\"held\":{\"server\":0,\"direction\":0,\"group\":0,\"user\":0,\"session\":0,\"nothing\":1},\"failed_logins\":0,\"refused\":0,\"transfers\":[{\"session\":1,\"user\":\"ann\",\"group\":null,\"peer\":\"127.0.0.1\",\"direction\":\"down\",\"path\":\"/a\",\"size\":200000,\"begun\":0,\"waiting\":false,\"granted\":100000,\"moved\":100000,\"held\":{\"server\":0,\"direction\":0,\"group\":0,\"user\":0,\"session\":0,\"nothing\":1},\"guaranteed\":null,\"session_rate\":null,\"user_rate\":null}]}\n";
 
 /// The same transfer a second later: 50,000 octets more.
-const LATE: &str = "{\"version\":1,\"unit\":\"octets\",\"started\":5,\"micros\":1100000,\"line\":{\"both\":null,\"down\":null,\"up\":null},\"groups\":[],\"users\":1,\"sessions\":1,\"max_sessions\":8,\"lanes\":8,\"issued\":150000,\"ended\":0,\"ended_granted\":0,\"ended_moved\":0,\"held\":{\"server\":0,\"direction\":0,\"group\":0,\"user\":9,\"session\":0,\"nothing\":2},\"failed_logins\":0,\"refused\":0,\"transfers\":[{\"session\":1,\"user\":\"ann\",\"group\":null,\"peer\":\"127.0.0.1\",\"direction\":\"down\",\"path\":\"/a\",\"size\":200000,\"begun\":0,\"waiting\":false,\"granted\":150000,\"moved\":150000,\"held\":{\"server\":0,\"direction\":0,\"group\":0,\"user\":9,\"session\":0,\"nothing\":2},\"guaranteed\":null,\"session_rate\":null,\"user_rate\":null}]}\n";
+const LATE: &str =
+    "{\"version\":1,\"unit\":\"octets\",\"started\":5,\"micros\":1100000,\"line\":{\"both\":null,\"down\":null,\"up\":null},\"groups\":[],\"users\":1,\"sessions\":1,\"max_sessions\":8,\"lanes\":8,\"issued\":150000,\"ended\":0,\"ended_granted\":0,\"ended_moved\":0,\"held\":{\"server\":0,\"direction\":0,\"group\":0,\"user\":9,\"session\":0,\"nothing\":2},\"failed_logins\":0,\"refused\":0,\"transfers\":[{\"session\":1,\"user\":\"ann\",\"group\":null,\"peer\":\"127.0.0.1\",\"direction\":\"down\",\"path\":\"/a\",\"size\":200000,\"begun\":0,\"waiting\":false,\"granted\":150000,\"moved\":150000,\"held\":{\"server\":0,\"direction\":0,\"group\":0,\"user\":9,\"session\":0,\"nothing\":2},\"guaranteed\":null,\"session_rate\":null,\"user_rate\":null}]}\n";
 
-const EARLY_TABLE: &str = "ftpd  up 0 h 0 min   1 users, 1 of 8 sessions, 1 transfers, 0 waiting\ndown 1.00M   up 0.00K   both 1.00M\n       user       group    from            way       1 s    10 s   least    most\n       held by, parts of the rounds of 1 s    done  file\n#1     ann        -        127.0.0.1       down    1.00M   1.00M       -       -\n       client 100%                             50%  /a\n";
+const EARLY_TABLE: &str =
+    "ftpd  up 0 h 0 min   1 users, 1 of 8 sessions, 1 transfers, 0 waiting\ndown 1.00M   up 0.00K   both 1.00M\n       user       group    from            way       1 s    10 s   least    most\n       held by, parts of the rounds of 1 s    done  file\n#1     ann        -        127.0.0.1       down    1.00M   1.00M       -       -\n       client 100%                             50%  /a\n";
 
-const LATE_TABLE: &str = "ftpd  up 0 h 0 min   1 users, 1 of 8 sessions, 1 transfers, 0 waiting\ndown 50.00K   up 0.00K   both 50.00K\n       user       group    from            way       1 s    10 s   least    most\n       held by, parts of the rounds of 1 s    done  file\n#1     ann        -        127.0.0.1       down   50.00K  50.00K       -       -\n       user 90% client 10%                     75%  /a\n";
+const LATE_TABLE: &str =
+    "ftpd  up 0 h 0 min   1 users, 1 of 8 sessions, 1 transfers, 0 waiting\ndown 50.00K   up 0.00K   both 50.00K\n       user       group    from            way       1 s    10 s   least    most\n       held by, parts of the rounds of 1 s    done  file\n#1     ann        -        127.0.0.1       down   50.00K  50.00K       -       -\n       user 90% client 10%                     75%  /a\n";
 
 /// A status file that has these texts, one at each look.
 struct Texts<'t> {
@@ -52,11 +56,16 @@ fn shows(rt: &(impl Abort + AllocGlobal), found: &[u8], parts: &[&str]) {
     same(rt, found, wanted.as_str());
 }
 
+fn status_table(rt: &(impl Abort + AllocGlobal), status: Status) -> Result<(), AllocError> {
+    let screen = table_lines(rt.alloc(), None, None, &status, 24)?;
+    same(rt, screen.as_str().as_bytes(), EARLY_TABLE);
+    Ok(())
+}
+
 #[test]
 fn a_table_is_of_one_status(rt: HostRuntime) {
     let status = read_status(rt.alloc(), EARLY.as_bytes()).expect(&rt, "a status");
-    let text = table_lines(rt.alloc(), None, None, &status, 24).expect(&rt, "memory");
-    same(&rt, text.as_str().as_bytes(), EARLY_TABLE);
+    status_table(&rt, status).expect(&rt, "memory");
 }
 
 #[test]

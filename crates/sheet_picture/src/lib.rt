@@ -8,7 +8,11 @@
 //! let alloc = rt.alloc();
 //! let picture = picture_of(alloc, b"limit / 10\nwant /a 8\nwant /b 5\n")?;
 //! assert!(rt; picture.as_str().starts_with("<svg "));
-//! assert!(rt; picture.as_str().contains("<title>/a: 5 of 8, held back by /</title>"));
+//! assert!(rt;
+//!     picture
+//!         .as_str()
+//!         .contains("<title>/a: 5 of 8, held back by /</title>")
+//! );
 //! assert!(rt; picture.as_str().contains("<title>/b: 5 of 5</title>"));
 //! ```
 #![tactic(auto)]

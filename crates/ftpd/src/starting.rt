@@ -41,7 +41,7 @@ pub(crate) struct Unprepared {
     pub start: Option<StartFault>,
 }
 
-fn unprepared(fault: ServeFault, start: StartFault) -> Unprepared {
+fn not_prepared(fault: ServeFault, start: StartFault) -> Unprepared {
     Unprepared {
         fault,
         start: Some(start),
@@ -231,31 +231,31 @@ where
     } = service;
     let form = match form_named(log_form) {
         Ok(form) => form,
-        Err(start) => return Err(unprepared(ServeFault::LogForm, start)),
+        Err(start) => return Err(not_prepared(ServeFault::LogForm, start)),
     };
     let stop = match stop_if_any(machine, stop_file) {
         Ok(stop) => stop,
-        Err(start) => return Err(unprepared(ServeFault::Stopped, start)),
+        Err(start) => return Err(not_prepared(ServeFault::Stopped, start)),
     };
     let ready = match ready_if_any(machine, ready_file) {
         Ok(ready) => ready,
-        Err(start) => return Err(unprepared(ServeFault::ReadyFile, start)),
+        Err(start) => return Err(not_prepared(ServeFault::ReadyFile, start)),
     };
     if let Some(start) = folder_fault(machine, &config.store) {
-        return Err(unprepared(ServeFault::Store, start));
+        return Err(not_prepared(ServeFault::Store, start));
     }
     let status = match status_at(machine, status) {
         Ok(status) => status,
-        Err(start) => return Err(unprepared(ServeFault::StatusFile, start)),
+        Err(start) => return Err(not_prepared(ServeFault::StatusFile, start)),
     };
     let page = match page_at(rt, status_port) {
         Ok(page) => page,
-        Err(start) => return Err(unprepared(ServeFault::StatusPort, start)),
+        Err(start) => return Err(not_prepared(ServeFault::StatusPort, start)),
     };
     let is_logged = transfer_log.is_some();
     let log = match log_at(machine, transfer_log) {
         Ok(log) => log,
-        Err(start) => return Err(unprepared(ServeFault::TransferLog, start)),
+        Err(start) => return Err(not_prepared(ServeFault::TransferLog, start)),
     };
     let means = Means {
         config,

@@ -1,5 +1,7 @@
 //! Tallies of what rounds have granted.
 
+ghost use Rattle.std.specs.Prelude.{◌≡◌};
+
 use super::expect::holds;
 use grant_ledger::MAX_LANES;
 use line_rates::{Name, Way};
@@ -7,7 +9,9 @@ use round_tally::{HeldTally, RoundGrant, Tallies};
 use std::process::Abort;
 
 // A grant of this many octets in a window.
-fn grant(octets: u64, held: Option<Name>, window: u64) -> RoundGrant {
+fn grant(octets: u64, held: Option<Name>, window: u64) -> RoundGrant
+    ensures octets { result.octets ≡ octets }
+{
     RoundGrant {
         octets,
         held,

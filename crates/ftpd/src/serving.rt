@@ -5,7 +5,7 @@ use crate::log_thread::{QueuedTransfers, serve_with_log};
 use crate::page_thread::serve_with_page;
 use crate::ready_file::MachineReadyFile;
 use crate::starting::{Means, Prepared, Unprepared, prepare};
-use crate::status_file::MachineSigns;
+use crate::status_file::{MachineSigns, StatusFile};
 use event_word::micros;
 use folder_store::DirStore;
 use ftp_daemon::{Patience, RoundClock, ServeFault, Service, serve};
@@ -68,7 +68,7 @@ fn serve_config<R, W>(
     config: Config,
     handler: MachineNotes<R>,
     machine: &HostRuntime,
-    signs: MachineSigns<'_, R>,
+    signs: MachineSigns<R>,
     patience: Patience,
     output: &mut W,
 ) -> Result<(), ServeFault>
@@ -227,6 +227,21 @@ fn cells(
     Ok((cell, Some(kept), Some(watched)))
 }
 
+/// Two handles of the status file, if there is one: for the thread that writes it, and for its removal.
+fn file_handles(
+    alloc: Global,
+    file: Option<StatusFile>,
+) -> Result<(Option<Arc<StatusFile>>, Option<Arc<StatusFile>>), AllocError> {
+    match file {
+        Some(file) => {
+            let own = Arc::new(alloc, file)?;
+            let another = Arc::try_clone(&own)?;
+            Ok((Some(own), Some(another)))
+        }
+        None => Ok((None, None)),
+    }
+}
+
 /// Serves with what was prepared.
 fn serve_with<R, W>(
     rt: &R,
@@ -266,6 +281,7 @@ where
         return Err(ServeFault::Memory);
     };
     let (cell, kept, watched) = cells(rt.alloc(), status.is_some() || page.is_some())?;
+    let (status, written) = file_handles(rt.alloc(), status)?;
     let queued = QueuedLog::new(*rt, notes, form);
     let logged = if is_logged { Some(transfers) } else { None };
     let transfers = QueuedTransfers::new(*rt, logged);
@@ -275,7 +291,7 @@ where
     let signs = MachineSigns {
         rt: *rt,
         stop,
-        file: status.as_ref(),
+        file: written,
         cell: watched,
     };
     let served = serve_with_log(rt, &lines, form, log, || {

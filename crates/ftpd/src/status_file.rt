@@ -68,15 +68,15 @@ impl StatusFile {
 
 /// The signs of the machine: that a server is to end, by a file that appears, and that it is to show what goes on.
 #[derive(Drop)]
-pub(crate) struct MachineSigns<'f, R> {
+pub(crate) struct MachineSigns<R> {
     pub rt: R,
     pub stop: Option<StopFile>,
-    pub file: Option<&'f StatusFile>,
+    pub file: Option<Arc<StatusFile>>,
     /// The status, if it is shown at all.
     pub cell: Option<Arc<StatusCell>>,
 }
 
-impl<'f, R: Wait + AllocGlobal> OwnerSigns for MachineSigns<'f, R> {
+impl<R: Wait + AllocGlobal> OwnerSigns for MachineSigns<R> {
     fn is_up(&self) -> bool {
         match &self.stop {
             Some(stop) => stop.is_there(),
@@ -90,7 +90,7 @@ impl<'f, R: Wait + AllocGlobal> OwnerSigns for MachineSigns<'f, R> {
 
     // If the file cannot be written, or memory runs out, the next look is written.
     fn looked(&self) {
-        if let (Some(file), Some(cell)) = (self.file, &self.cell) {
+        if let (Some(file), Some(cell)) = (&self.file, &self.cell) {
             if let Ok(Some(status)) = cell.last(&self.rt) {
                 if let Ok(text) = status_text(self.rt.alloc(), &status) {
                     let _ = file.write(text.as_bytes());

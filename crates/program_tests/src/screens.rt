@@ -22,6 +22,7 @@ const LATE_TABLE: &str =
     "ftpd  up 0 h 0 min   1 users, 1 of 8 sessions, 1 transfers, 0 waiting\ndown 50.00K   up 0.00K   both 50.00K\n       user       group    from            way       1 s    10 s   least    most\n       held by, parts of the rounds of 1 s    done  file\n#1     ann        -        127.0.0.1       down   50.00K  50.00K       -       -\n       user 90% client 10%                     75%  /a\n";
 
 /// A status file that has these texts, one at each look.
+#[derive(Drop)]
 struct Texts<'t> {
     texts: &'t [&'t str],
     at: usize,

@@ -4,7 +4,7 @@ A transfer waits for a lane, for its client's port, for octets that a rate does 
 states it is aborted, or its session is lost, or the server is ended: the next line is answered and the place is free soon.
 """
 import contextlib
-
+import os
 import socket
 import time
 
@@ -22,6 +22,8 @@ def promptly(what):
     begun = time.monotonic()
     yield
     took = time.monotonic() - begun
+    if os.environ.get("TIMES"):
+        print(f"{what}: {1000 * took:.0f} ms")
     want(took < PROMPT, f"{what} took {took:.1f} seconds")
 
 

@@ -101,12 +101,12 @@ def a_stop_without_files():
 def few_files_are_noted():
     """Too few open files are warned of at the start; connections that find none are noted once a second, and a port that finds none."""
     with Server(sessions=0, root="folder", files={"f": b"a\nb"}, server="max_cons = 100", passive=100, stop=True, before="ulimit -n 200") as server:
-        want(re.search(r"^\[WARN \] \S+Z too few open files are allowed: 200 of the 416 ", server.noted()), f"a warning: {server.noted()!r}")
+        until(lambda: re.search(r"^\[WARN \] \S+Z too few open files are allowed: 200 of the 416 ", server.noted()), "a warning of the start")
         clients = [Client(server) for _ in range(3)]
         files = server.open_files()
         resource.prlimit(server.process.pid, resource.RLIMIT_NOFILE, (files, 200))
         clients[0].says("PASV", "425 No passive port is free")
-        want(' #0 no passive port: Too many open files (os error 24)\n' in server.noted(), f"a note of the port: {server.noted()!r}")
+        until(lambda: ' #0 no passive port: Too many open files (os error 24)\n' in server.noted(), "a note of the port")
         begun = time.monotonic()
         late = [socket.create_connection(("127.0.0.1", server.port), SECONDS) for _ in range(4)]
         note = "connections cannot be accepted: Too many open files (os error 24)\n"

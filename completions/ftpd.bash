@@ -1,6 +1,6 @@
 # Completions of bash for ftpd and sheets.
 
-# _ftpd_words COMMANDS SERVE JSON: the commands of the program, and the options of `serve`, and of `plan` and `check-config`
+# _ftpd_words COMMANDS SERVE JSON TOP: the commands of the program, and the options of `serve`, of `plan` and `check-config`, and of `top`
 _ftpd_words() {
     local word=${COMP_WORDS[COMP_CWORD]} before=${COMP_WORDS[COMP_CWORD - 1]} options='-h --help'
     COMPREPLY=()
@@ -9,14 +9,16 @@ _ftpd_words() {
         return
     fi
     [[ ${COMP_WORDS[1]} == serve ]] && options="$2 $options"
+    [[ ${COMP_WORDS[1]} == share ]] && options="--svg $options"
+    [[ ${COMP_WORDS[1]} == top ]] && options="$4 $options"
     [[ ${COMP_WORDS[1]} == plan || ${COMP_WORDS[1]} == check-config ]] && options="$3 $options"
     if [[ ${COMP_WORDS[1]} == help ]]; then
         [[ $COMP_CWORD -gt 2 ]] || mapfile -t COMPREPLY < <(compgen -W "$1" -- "$word")
-    elif [[ $before == --*-timeout || $before == --*-delay ]]; then
+    elif [[ $before == --*-timeout || $before == --*-delay || $before == --status-port || $before == --rows ]]; then
         return # a number
     elif [[ $before == --log-form ]]; then
         mapfile -t COMPREPLY < <(compgen -W 'plain journal' -- "$word")
-    elif [[ $word == -* && $before != --*-file && $before != --transfer-log ]]; then
+    elif [[ $word == -* && $before != --*-file && $before != --transfer-log && $before != --status ]]; then
         mapfile -t COMPREPLY < <(compgen -W "$options" -- "$word")
     else
         mapfile -t COMPREPLY < <(compgen -f -- "$word")
@@ -24,11 +26,11 @@ _ftpd_words() {
 }
 
 _ftpd() {
-    _ftpd_words 'share check check-config migrate script serve plan help' '--stop-file --ready-file --transfer-log --log-form --login-timeout --idle-timeout --login-delay' '--json'
+    _ftpd_words 'share check check-config migrate script serve plan top help' '--stop-file --ready-file --transfer-log --log-form --status --status-port --login-timeout --idle-timeout --login-delay' '--json' '--once --rows'
 }
 
 _sheets() {
-    _ftpd_words 'share check help' '' ''
+    _ftpd_words 'share check help' '' '' ''
 }
 
 complete -o filenames -F _ftpd ftpd

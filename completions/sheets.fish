@@ -5,4 +5,5 @@ complete -c sheets -n __fish_use_subcommand -f -a check -d 'Check grants within 
 complete -c sheets -n __fish_use_subcommand -f -a help -d 'Print help'
 complete -c sheets -n __fish_use_subcommand -s V -l version -d 'Print version'
 complete -c sheets -s h -l help -d 'Print help'
+complete -c sheets -n '__fish_seen_subcommand_from share' -l svg -d 'Draw the shares as a picture in SVG'
 complete -c sheets -n '__fish_seen_subcommand_from help' -f -a 'share check help'

@@ -1,5 +1,5 @@
 -- Where the parser has no fault with the words of a program, it holds a command with each of its words.
-use Rattle.std.proofs.Common.{◌≡◌, ◌∙◌, ap, Bool, codes, false, ◌||◌, not, true, refl, sym, subst, List, [], ◌∷◌, Option, None, Some, option_map}
+use Rattle.std.proofs.Common.{◌≡◌, ◌∙◌, ap, Bool, codes, false, ◌||◌, not, true, refl, sym, subst, ℕ, List, [], ◌∷◌, Option, None, Some, option_map}
 use Rattle.std.specs.Borrow.{Bor}
 use Rattle.std.specs.Str.{bytes_eq}
 use Rattle.std.specs.List.{find, list_any}
@@ -9,16 +9,18 @@ use Rattle.clap.specs.Faults.{level_fault}
 use Rattle.clap.specs.Simple.{App, Shape, built, entered, label_of, rows_at}
 use Rattle.clap.specs.Words.{fault_of, subcommand_of}
 use Rattle.command_line.specs.Commands.{ftpd, sheets}
-use Rattle.command_line.specs.Given.{IsCheck, IsCheckConfig, IsFound, IsLoggedBy, IsMigrate, IsOfSheets, IsPlanWords, IsScript, IsServe, IsShare, IsSheetFound, is_flagged}
+use Rattle.command_line.specs.Given.{IsCheck, IsCheckConfig, IsFound, IsLoggedBy, IsMigrate, IsOfSheets, IsPlanWords, IsScript, IsServe, IsShare, IsSheetFound, IsStatusBy, IsTop, is_flagged}
 use Rattle.command_line.specs.declared.words.ServeFiles.{ServeFiles}
 use Rattle.command_line.specs.declared.words.SheetWords.{SheetWords}
 use Rattle.command_line.specs.declared.words.SheetWords.TheVariants.{Share, Check}
 use Rattle.command_line.specs.declared.words.Words.{Words}
-use Rattle.command_line.specs.declared.words.Words.TheVariants.{Sheet, CheckConfig, Migrate, Script, Serve, Plan}
-use Rattle.command_line.specs.Timed.{IsPatienceIn, IsTimedBy}
+use Rattle.command_line.specs.declared.words.Words.TheVariants.{Sheet, CheckConfig, Migrate, Script, Serve, Plan, Top}
+use Rattle.command_line.specs.Numbers.{AreLinesIn, IsPortIn}
+use Rattle.command_line.specs.Stated.{IsStatedBy}
+use Rattle.command_line.specs.Timed.{IsPatienceIn}
 use Rattle.client_patience.specs.declared.patience.Patience.{Patience}
 use Rattle.command_line.proofs.EnteredCommand.{Entered, enters}
-use Rattle.command_line.proofs.Seconds.{one_patience}
+use Rattle.command_line.proofs.StatedNumbers.{one_count, one_patience, one_port}
 use Rattle.command_line.proofs.RowValues.{all_want_values, required_value, requires_value}
 
 -- what follows where one of these elements passes, and is what a search found
@@ -91,7 +93,7 @@ sheets_found any words none =
     by_cases ((command : SheetWords) × IsSheetFound (subcommand_of sheets words) command) (λ s. answers_to e.name (label_of s)) (built sheets).subs e.command e.is_its (
       λ _ is.
           let found = one_found _ _ e _ is (codes "SHEET") refl refl in
-          (Share (at_place any found.0), (found.1, found.2, found.3)),
+          (Share (at_place any found.0) (is_flagged (codes "svg") found.1), (found.1, found.2, found.3, refl)),
       (
         λ _ is.
             let found = two_found _ _ e _ is (codes "SHEET") (codes "GRANTS") refl refl refl in
@@ -100,15 +102,15 @@ sheets_found any words none =
       ),
     )
 
-pub ftpd_found : (any : Bor (List (Bor Text))) (words : List Text) (p : Patience) → fault_of ftpd words ≡ [] → IsTimedBy (subcommand_of ftpd words) p
+pub ftpd_found : (any : Bor (List (Bor Text))) (words : List Text) (p : Patience) (port : Option ℕ) (lines : ℕ) → fault_of ftpd words ≡ [] → IsStatedBy (subcommand_of ftpd words) p port lines
     → (command : Words) × IsFound (subcommand_of ftpd words) command
 unfolding at_place
-ftpd_found any words p none timed =
+ftpd_found any words p port lines none stated =
     let e = enters (built ftpd) words refl refl none in
     by_cases ((command : Words) × IsFound (subcommand_of ftpd words) command) (λ s. answers_to e.name (label_of s)) (built ftpd).subs e.command e.is_its (
       λ _ is.
           let found = one_found _ _ e _ is (codes "SHEET") refl refl in
-          (Sheet (Share (at_place any found.0)), (found.1, found.2, found.3)),
+          (Sheet (Share (at_place any found.0) (is_flagged (codes "svg") found.1)), (found.1, found.2, found.3, refl)),
       (
         λ _ is.
             let found = two_found _ _ e _ is (codes "SHEET") (codes "GRANTS") refl refl refl in
@@ -132,15 +134,22 @@ ftpd_found any words p none timed =
                     let ready = first_of (codes "ready-file") found.1 in
                     let log = first_of (codes "transfer-log") found.1 in
                     let form = first_of (codes "log-form") found.1 in
-                    let files : ServeFiles = record { stop_file = option_map (at_place any) path; ready_file = option_map (at_place any) ready; transfer_log = option_map (at_place any) log; log_form = option_map (at_place any) form } in (
+                    let status = first_of (codes "status") found.1 in
+                    let states = stated.0 found.1 found.2 in
+                    let files : ServeFiles = record { stop_file = option_map (at_place any) path; ready_file = option_map (at_place any) ready; transfer_log = option_map (at_place any) log; log_form = option_map (at_place any) form; status = option_map (at_place any) status; status_port = port } in (
                       Serve (at_place any found.0) files p,
-                      (found.1, found.2, found.3, if_any any path, if_any any ready, if_any any log, if_any any form, timed found.1 found.2),
+                      (found.1, found.2, found.3, if_any any path, if_any any ready, if_any any log, if_any any form, if_any any status, states.1, states.0),
                     ),
                 (
                   λ _ is.
                       let found = two_found _ _ e _ is (codes "CONFIG") (codes "TRANSFERS") refl refl refl in
                       (Plan (at_place any found.0) (at_place any found.1) (is_flagged (codes "json") found.2), (found.2, found.3, found.4, found.5, refl)),
-                  (λ help _. absurd (not_help _ _ e help), tt),
+                  (
+                    λ _ is.
+                        let found = one_found _ _ e _ is (codes "STATUS") refl refl in
+                        (Top (at_place any found.0) (is_flagged (codes "once") found.1) lines, (found.1, found.2, found.3, refl, stated.1 found.1 found.2)),
+                    (λ help _. absurd (not_help _ _ e help), tt),
+                  ),
                 ),
               ),
             ),
@@ -167,100 +176,136 @@ different found name also rows other apart one two =
     absurd (cc)
 
 pub share_is : (found : Option (Text × List Row)) (command : SheetWords) (rows : List Row) (word : Text) → found ≡ Some (codes "share", rows) → first_of (codes "SHEET") rows ≡ Some word
-    → IsSheetFound found command → IsShare word command
-share_is found (Share sheet) rows word named first (other, same, given) = let are = same_rows _ _ _ _ _ named same in cc
+    → IsSheetFound found command → IsShare word (is_flagged (codes "svg") rows) command
+share_is found (Share sheet svg) rows word named first (other, same, given, flag) =
+    let are = same_rows _ _ _ _ _ named same in
+    (cc, flag ∙ sym (ap (is_flagged (codes "svg")) are))
 share_is found (Check sheet grants) rows word named first (other, same, given, also) = absurd (different _ _ _ _ _ refl named same)
 
 pub check_is : (found : Option (Text × List Row)) (command : SheetWords) (rows : List Row) (word also : Text) → found ≡ Some (codes "check", rows) → first_of (codes "SHEET") rows ≡ Some word
     → first_of (codes "GRANTS") rows ≡ Some also → IsSheetFound found command → IsCheck word also command
-check_is found (Share sheet) rows word also named first second (other, same, given) = absurd (different _ _ _ _ _ refl named same)
+check_is found (Share sheet svg) rows word also named first second (other, same, given, flag) = absurd (different _ _ _ _ _ refl named same)
 check_is found (Check sheet grants) rows word also named first second (other, same, given, more) = let are = same_rows _ _ _ _ _ named same in (cc, cc)
 
 -- a command of one of the names on sheets is one on a sheet
 sheet_named : (P : SheetWords → Type 0) (found : Option (Text × List Row)) (command : Words) (rows : List Row) (name : Text) → found ≡ Some (name, rows)
     → bytes_eq name (codes "check-config") ≡ false → bytes_eq name (codes "migrate") ≡ false → bytes_eq name (codes "script") ≡ false → bytes_eq name (codes "serve") ≡ false → bytes_eq name (codes "plan") ≡ false
+    → bytes_eq name (codes "top") ≡ false
     → ((words : SheetWords) → IsSheetFound found words → P words) → IsFound found command → IsOfSheets P command
-sheet_named P found (Sheet words) rows name named config migrate script serve plan holds is = holds words is
-sheet_named P found (CheckConfig config json) rows name named config_apart migrate_apart script_apart serve_apart plan_apart holds (other, same, given, flag) = absurd (different _ _ _ _ _ config_apart named same)
-sheet_named P found (Migrate config) rows name named config_apart migrate_apart script_apart serve_apart plan_apart holds (other, same, given) = absurd (different _ _ _ _ _ migrate_apart named same)
-sheet_named P found (Script config) rows name named config_apart migrate_apart script_apart serve_apart plan_apart holds (other, same, given) = absurd (different _ _ _ _ _ script_apart named same)
-sheet_named P found (Serve config files patience) rows name named config_apart migrate_apart script_apart serve_apart plan_apart holds (other, same, given, path, ready, log, form, also) = absurd (different _ _ _ _ _ serve_apart named same)
-sheet_named P found (Plan config transfers json) rows name named config_apart migrate_apart script_apart serve_apart plan_apart holds (other, same, given, also, flag) = absurd (different _ _ _ _ _ plan_apart named same)
+sheet_named P found (Sheet words) rows name named config migrate script serve plan top holds is = holds words is
+sheet_named P found (CheckConfig config json) rows name named config_apart migrate_apart script_apart serve_apart plan_apart top_apart holds (other, same, given, flag) = absurd (different _ _ _ _ _ config_apart named same)
+sheet_named P found (Migrate config) rows name named config_apart migrate_apart script_apart serve_apart plan_apart top_apart holds (other, same, given) = absurd (different _ _ _ _ _ migrate_apart named same)
+sheet_named P found (Script config) rows name named config_apart migrate_apart script_apart serve_apart plan_apart top_apart holds (other, same, given) = absurd (different _ _ _ _ _ script_apart named same)
+sheet_named P found (Serve config files patience) rows name named config_apart migrate_apart script_apart serve_apart plan_apart top_apart holds (other, same, given, path, ready, log, form, status, port, also) = absurd (different _ _ _ _ _ serve_apart named same)
+sheet_named P found (Plan config transfers json) rows name named config_apart migrate_apart script_apart serve_apart plan_apart top_apart holds (other, same, given, also, flag) = absurd (different _ _ _ _ _ plan_apart named same)
+sheet_named P found (Top status once lines) rows name named config_apart migrate_apart script_apart serve_apart plan_apart top_apart holds (other, same, given, flag, count) = absurd (different _ _ _ _ _ top_apart named same)
 
 pub share_of_sheets : (found : Option (Text × List Row)) (command : Words) (rows : List Row) (word : Text) → found ≡ Some (codes "share", rows) → first_of (codes "SHEET") rows ≡ Some word
-    → IsFound found command → IsOfSheets (IsShare word) command
+    → IsFound found command → IsOfSheets (IsShare word (is_flagged (codes "svg") rows)) command
 share_of_sheets found command rows word named first is =
-    sheet_named (IsShare word) found command rows (codes "share") named refl refl refl refl refl (λ words held. share_is found words rows word named first held) is
+    sheet_named (IsShare word (is_flagged (codes "svg") rows)) found command rows (codes "share") named refl refl refl refl refl refl (λ words held. share_is found words rows word named first held) is
 
 pub check_of_sheets : (found : Option (Text × List Row)) (command : Words) (rows : List Row) (word also : Text) → found ≡ Some (codes "check", rows) → first_of (codes "SHEET") rows ≡ Some word
     → first_of (codes "GRANTS") rows ≡ Some also → IsFound found command → IsOfSheets (IsCheck word also) command
 check_of_sheets found command rows word also named first second is =
-    sheet_named (IsCheck word also) found command rows (codes "check") named refl refl refl refl refl (λ words held. check_is found words rows word also named first second held) is
+    sheet_named (IsCheck word also) found command rows (codes "check") named refl refl refl refl refl refl (λ words held. check_is found words rows word also named first second held) is
 
 pub check_config_is : (found : Option (Text × List Row)) (command : Words) (rows : List Row) (word : Text) → found ≡ Some (codes "check-config", rows) → first_of (codes "CONFIG") rows ≡ Some word
     → IsFound found command → IsCheckConfig word (is_flagged (codes "json") rows) command
-check_config_is found (Sheet (Share sheet)) rows word named first (other, same, given) = absurd (different _ _ _ _ _ refl named same)
+check_config_is found (Sheet (Share sheet svg)) rows word named first (other, same, given, flag) = absurd (different _ _ _ _ _ refl named same)
 check_config_is found (Sheet (Check sheet grants)) rows word named first (other, same, given, also) = absurd (different _ _ _ _ _ refl named same)
 check_config_is found (CheckConfig config json) rows word named first (other, same, given, flag) =
     let are = same_rows _ _ _ _ _ named same in
     (cc, flag ∙ sym (ap (is_flagged (codes "json")) are))
 check_config_is found (Migrate config) rows word named first (other, same, given) = absurd (different _ _ _ _ _ refl named same)
 check_config_is found (Script config) rows word named first (other, same, given) = absurd (different _ _ _ _ _ refl named same)
-check_config_is found (Serve config files patience) rows word named first (other, same, given, path, ready, log, form, also) = absurd (different _ _ _ _ _ refl named same)
+check_config_is found (Serve config files patience) rows word named first (other, same, given, path, ready, log, form, status, port, also) = absurd (different _ _ _ _ _ refl named same)
 check_config_is found (Plan config transfers json) rows word named first (other, same, given, also, flag) = absurd (different _ _ _ _ _ refl named same)
+check_config_is found (Top status once lines) rows word named first (other, same, given, flag, count) = absurd (different _ _ _ _ _ refl named same)
 
 pub migrate_is : (found : Option (Text × List Row)) (command : Words) (rows : List Row) (word : Text) → found ≡ Some (codes "migrate", rows) → first_of (codes "CONFIG") rows ≡ Some word
     → IsFound found command → IsMigrate word command
-migrate_is found (Sheet (Share sheet)) rows word named first (other, same, given) = absurd (different _ _ _ _ _ refl named same)
+migrate_is found (Sheet (Share sheet svg)) rows word named first (other, same, given, flag) = absurd (different _ _ _ _ _ refl named same)
 migrate_is found (Sheet (Check sheet grants)) rows word named first (other, same, given, also) = absurd (different _ _ _ _ _ refl named same)
 migrate_is found (CheckConfig config json) rows word named first (other, same, given, flag) = absurd (different _ _ _ _ _ refl named same)
 migrate_is found (Migrate config) rows word named first (other, same, given) = let are = same_rows _ _ _ _ _ named same in cc
 migrate_is found (Script config) rows word named first (other, same, given) = absurd (different _ _ _ _ _ refl named same)
-migrate_is found (Serve config files patience) rows word named first (other, same, given, path, ready, log, form, also) = absurd (different _ _ _ _ _ refl named same)
+migrate_is found (Serve config files patience) rows word named first (other, same, given, path, ready, log, form, status, port, also) = absurd (different _ _ _ _ _ refl named same)
 migrate_is found (Plan config transfers json) rows word named first (other, same, given, also, flag) = absurd (different _ _ _ _ _ refl named same)
+migrate_is found (Top status once lines) rows word named first (other, same, given, flag, count) = absurd (different _ _ _ _ _ refl named same)
 
 pub script_is : (found : Option (Text × List Row)) (command : Words) (rows : List Row) (word : Text) → found ≡ Some (codes "script", rows) → first_of (codes "CONFIG") rows ≡ Some word
     → IsFound found command → IsScript word command
-script_is found (Sheet (Share sheet)) rows word named first (other, same, given) = absurd (different _ _ _ _ _ refl named same)
+script_is found (Sheet (Share sheet svg)) rows word named first (other, same, given, flag) = absurd (different _ _ _ _ _ refl named same)
 script_is found (Sheet (Check sheet grants)) rows word named first (other, same, given, also) = absurd (different _ _ _ _ _ refl named same)
 script_is found (CheckConfig config json) rows word named first (other, same, given, flag) = absurd (different _ _ _ _ _ refl named same)
 script_is found (Migrate config) rows word named first (other, same, given) = absurd (different _ _ _ _ _ refl named same)
 script_is found (Script config) rows word named first (other, same, given) = let are = same_rows _ _ _ _ _ named same in cc
-script_is found (Serve config files patience) rows word named first (other, same, given, path, ready, log, form, also) = absurd (different _ _ _ _ _ refl named same)
+script_is found (Serve config files patience) rows word named first (other, same, given, path, ready, log, form, status, port, also) = absurd (different _ _ _ _ _ refl named same)
 script_is found (Plan config transfers json) rows word named first (other, same, given, also, flag) = absurd (different _ _ _ _ _ refl named same)
+script_is found (Top status once lines) rows word named first (other, same, given, flag, count) = absurd (different _ _ _ _ _ refl named same)
 
 pub serve_is : (found : Option (Text × List Row)) (command : Words) (rows : List Row) (word : Text) (p : Patience) → found ≡ Some (codes "serve", rows) → first_of (codes "CONFIG") rows ≡ Some word
     → IsPatienceIn rows p → IsFound found command → IsServe word (first_of (codes "stop-file") rows) (first_of (codes "ready-file") rows) p command
-serve_is found (Sheet (Share sheet)) rows word p named first states (other, same, given) = absurd (different _ _ _ _ _ refl named same)
+serve_is found (Sheet (Share sheet svg)) rows word p named first states (other, same, given, flag) = absurd (different _ _ _ _ _ refl named same)
 serve_is found (Sheet (Check sheet grants)) rows word p named first states (other, same, given, also) = absurd (different _ _ _ _ _ refl named same)
 serve_is found (CheckConfig config json) rows word p named first states (other, same, given, flag) = absurd (different _ _ _ _ _ refl named same)
 serve_is found (Migrate config) rows word p named first states (other, same, given) = absurd (different _ _ _ _ _ refl named same)
 serve_is found (Script config) rows word p named first states (other, same, given) = absurd (different _ _ _ _ _ refl named same)
-serve_is found (Serve config files patience) rows word p named first states (other, same, given, path, ready, log, form, also) =
+serve_is found (Serve config files patience) rows word p named first states (other, same, given, path, ready, log, form, status, port, also) =
     let are = same_rows _ _ _ _ _ named same in
     (cc, cc, cc, one_patience rows patience p (subst (λ (r : List Row). IsPatienceIn r patience) (sym are) also) states)
 serve_is found (Plan config transfers json) rows word p named first states (other, same, given, also, flag) = absurd (different _ _ _ _ _ refl named same)
+serve_is found (Top status once lines) rows word p named first states (other, same, given, flag, count) = absurd (different _ _ _ _ _ refl named same)
 
 pub logged_is : (found : Option (Text × List Row)) (command : Words) (rows : List Row) (word : Text) → found ≡ Some (codes "serve", rows) → first_of (codes "CONFIG") rows ≡ Some word
     → IsFound found command → IsLoggedBy word (first_of (codes "transfer-log") rows) (first_of (codes "log-form") rows) command
-logged_is found (Sheet (Share sheet)) rows word named first (other, same, given) = absurd (different _ _ _ _ _ refl named same)
+logged_is found (Sheet (Share sheet svg)) rows word named first (other, same, given, flag) = absurd (different _ _ _ _ _ refl named same)
 logged_is found (Sheet (Check sheet grants)) rows word named first (other, same, given, also) = absurd (different _ _ _ _ _ refl named same)
 logged_is found (CheckConfig config json) rows word named first (other, same, given, flag) = absurd (different _ _ _ _ _ refl named same)
 logged_is found (Migrate config) rows word named first (other, same, given) = absurd (different _ _ _ _ _ refl named same)
 logged_is found (Script config) rows word named first (other, same, given) = absurd (different _ _ _ _ _ refl named same)
-logged_is found (Serve config files patience) rows word named first (other, same, given, path, ready, log, form, also) =
+logged_is found (Serve config files patience) rows word named first (other, same, given, path, ready, log, form, status, port, also) =
     let are = same_rows _ _ _ _ _ named same in
     (cc, cc, cc)
 logged_is found (Plan config transfers json) rows word named first (other, same, given, also, flag) = absurd (different _ _ _ _ _ refl named same)
+logged_is found (Top status once lines) rows word named first (other, same, given, flag, count) = absurd (different _ _ _ _ _ refl named same)
+
+pub status_is : (found : Option (Text × List Row)) (command : Words) (rows : List Row) (word : Text) (n : Option ℕ) → found ≡ Some (codes "serve", rows) → first_of (codes "CONFIG") rows ≡ Some word
+    → IsPortIn rows n → IsFound found command → IsStatusBy word (first_of (codes "status") rows) n command
+status_is found (Sheet (Share sheet svg)) rows word n named first states (other, same, given, flag) = absurd (different _ _ _ _ _ refl named same)
+status_is found (Sheet (Check sheet grants)) rows word n named first states (other, same, given, also) = absurd (different _ _ _ _ _ refl named same)
+status_is found (CheckConfig config json) rows word n named first states (other, same, given, flag) = absurd (different _ _ _ _ _ refl named same)
+status_is found (Migrate config) rows word n named first states (other, same, given) = absurd (different _ _ _ _ _ refl named same)
+status_is found (Script config) rows word n named first states (other, same, given) = absurd (different _ _ _ _ _ refl named same)
+status_is found (Serve config files patience) rows word n named first states (other, same, given, path, ready, log, form, status, port, also) =
+    let are = same_rows _ _ _ _ _ named same in
+    (cc, cc, one_port rows files.status_port n (subst (λ (r : List Row). IsPortIn r files.status_port) (sym are) port) states)
+status_is found (Plan config transfers json) rows word n named first states (other, same, given, also, flag) = absurd (different _ _ _ _ _ refl named same)
+status_is found (Top status once lines) rows word n named first states (other, same, given, flag, count) = absurd (different _ _ _ _ _ refl named same)
 
 pub plan_is : (found : Option (Text × List Row)) (command : Words) (rows : List Row) (word stated : Text) → found ≡ Some (codes "plan", rows) → first_of (codes "CONFIG") rows ≡ Some word
     → first_of (codes "TRANSFERS") rows ≡ Some stated → IsFound found command → IsPlanWords word stated (is_flagged (codes "json") rows) command
-plan_is found (Sheet (Share sheet)) rows word stated named first second (other, same, given) = absurd (different _ _ _ _ _ refl named same)
+plan_is found (Sheet (Share sheet svg)) rows word stated named first second (other, same, given, flag) = absurd (different _ _ _ _ _ refl named same)
 plan_is found (Sheet (Check sheet grants)) rows word stated named first second (other, same, given, also) = absurd (different _ _ _ _ _ refl named same)
 plan_is found (CheckConfig config json) rows word stated named first second (other, same, given, flag) = absurd (different _ _ _ _ _ refl named same)
 plan_is found (Migrate config) rows word stated named first second (other, same, given) = absurd (different _ _ _ _ _ refl named same)
 plan_is found (Script config) rows word stated named first second (other, same, given) = absurd (different _ _ _ _ _ refl named same)
-plan_is found (Serve config files patience) rows word stated named first second (other, same, given, path, ready, log, form, also) = absurd (different _ _ _ _ _ refl named same)
+plan_is found (Serve config files patience) rows word stated named first second (other, same, given, path, ready, log, form, status, port, also) = absurd (different _ _ _ _ _ refl named same)
 plan_is found (Plan config transfers json) rows word stated named first second (other, same, given, also, flag) =
     let are = same_rows _ _ _ _ _ named same in
     (cc, cc, flag ∙ sym (ap (is_flagged (codes "json")) are))
+plan_is found (Top status once lines) rows word stated named first second (other, same, given, flag, count) = absurd (different _ _ _ _ _ refl named same)
+
+pub top_is : (found : Option (Text × List Row)) (command : Words) (rows : List Row) (word : Text) (n : ℕ) → found ≡ Some (codes "top", rows) → first_of (codes "STATUS") rows ≡ Some word
+    → AreLinesIn rows n → IsFound found command → IsTop word (is_flagged (codes "once") rows) n command
+top_is found (Sheet (Share sheet svg)) rows word n named first states (other, same, given, flag) = absurd (different _ _ _ _ _ refl named same)
+top_is found (Sheet (Check sheet grants)) rows word n named first states (other, same, given, also) = absurd (different _ _ _ _ _ refl named same)
+top_is found (CheckConfig config json) rows word n named first states (other, same, given, flag) = absurd (different _ _ _ _ _ refl named same)
+top_is found (Migrate config) rows word n named first states (other, same, given) = absurd (different _ _ _ _ _ refl named same)
+top_is found (Script config) rows word n named first states (other, same, given) = absurd (different _ _ _ _ _ refl named same)
+top_is found (Serve config files patience) rows word n named first states (other, same, given, path, ready, log, form, status, port, also) = absurd (different _ _ _ _ _ refl named same)
+top_is found (Plan config transfers json) rows word n named first states (other, same, given, also, flag) = absurd (different _ _ _ _ _ refl named same)
+top_is found (Top status once lines) rows word n named first states (other, same, given, flag, count) =
+    let are = same_rows _ _ _ _ _ named same in
+    (cc, flag ∙ sym (ap (is_flagged (codes "once")) are), one_count rows lines n (subst (λ (r : List Row). AreLinesIn r lines) (sym are) count) states)

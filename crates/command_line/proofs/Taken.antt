@@ -11,7 +11,6 @@ use Rattle.clap.specs.declared.error.kind.ErrorKind.TheVariants.{OutOfMemory}
 use Rattle.command_line.specs.declared.words.WordsFault.{WordsFault}
 use Rattle.command_line.specs.declared.words.WordsFault.TheVariants.{Memory, Refused}
 use Rattle.command_line.specs.Given.{IsPlainWord, IsRefusal, IsRefusedAs, is_flagged}
-use Rattle.command_line.proofs.ServeWords.{AreUnstated}
 
 -- a plain command has no global argument
 pub no_globals : (a b g d : Bool) → (a && (not b && (not g && d))) ≡ true → g ≡ false
@@ -37,6 +36,19 @@ pub record Shares (app : App) (word : List ℕ) : Type 0 where
   pub taken : takes app (codes "share" ∷ word ∷ []) ≡ true
   pub entered : subcommand_of app (codes "share" ∷ word ∷ []) ≡ Some (codes "share", rows)
   pub sheet : first_of (codes "SHEET") rows ≡ Some word
+  pub unflagged : is_flagged (codes "svg") rows ≡ false
+
+-- the words of `share` that ask for a picture
+abbrev pub picture_words : Text → List Text
+picture_words word = codes "share" ∷ word ∷ codes "--svg" ∷ []
+
+-- what the parser makes of those words
+pub record Pictures (app : App) (word : List ℕ) : Type 0 where
+  pub rows : List Row
+  pub taken : takes app (picture_words word) ≡ true
+  pub entered : subcommand_of app (picture_words word) ≡ Some (codes "share", rows)
+  pub sheet : first_of (codes "SHEET") rows ≡ Some word
+  pub flagged : is_flagged (codes "svg") rows ≡ true
 
 -- what the parser makes of the words of `check`
 pub record Checks (app : App) (first second : List ℕ) : Type 0 where
@@ -63,11 +75,41 @@ ftpd_share_first : (b : ℕ) (bs : List ℕ) → (b == 45) ≡ false
 unfolding clap_on_literals
 ftpd_share_first b bs ne = simp ne refl
 
+ftpd_share_unflagged : (b : ℕ) (bs : List ℕ) → (b == 45) ≡ false
+    → is_flagged (codes "svg") (rows_in (subcommand_of ftpd (codes "share" ∷ (b ∷ bs) ∷ []))) ≡ false
+unfolding clap_on_literals
+ftpd_share_unflagged b bs ne = simp ne refl
+
 pub ftpd_shares : (word : List ℕ) → IsPlainWord word → Shares ftpd word
 ftpd_shares [] plain = absurd plain
 ftpd_shares (b ∷ bs) plain =
     let ne = ne_eqb _ _ plain in
-    record { rows = _; taken = ftpd_share_taken b bs ne; entered = ftpd_share_entered b bs ne; sheet = ftpd_share_first b bs ne }
+    record { rows = _; taken = ftpd_share_taken b bs ne; entered = ftpd_share_entered b bs ne; sheet = ftpd_share_first b bs ne; unflagged = ftpd_share_unflagged b bs ne }
+
+ftpd_picture_taken : (b : ℕ) (bs : List ℕ) → (b == 45) ≡ false → takes ftpd (picture_words (b ∷ bs)) ≡ true
+unfolding clap_on_literals
+ftpd_picture_taken b bs ne = simp ne refl
+
+ftpd_picture_entered : (b : ℕ) (bs : List ℕ) → (b == 45) ≡ false
+    → subcommand_of ftpd (picture_words (b ∷ bs)) ≡ Some (codes "share", rows_in (subcommand_of ftpd (picture_words (b ∷ bs))))
+unfolding clap_on_literals
+ftpd_picture_entered b bs ne = simp ne refl
+
+ftpd_picture_first : (b : ℕ) (bs : List ℕ) → (b == 45) ≡ false
+    → first_of (codes "SHEET") (rows_in (subcommand_of ftpd (picture_words (b ∷ bs)))) ≡ Some (b ∷ bs)
+unfolding clap_on_literals
+ftpd_picture_first b bs ne = simp ne refl
+
+ftpd_picture_flagged : (b : ℕ) (bs : List ℕ) → (b == 45) ≡ false
+    → is_flagged (codes "svg") (rows_in (subcommand_of ftpd (picture_words (b ∷ bs)))) ≡ true
+unfolding clap_on_literals
+ftpd_picture_flagged b bs ne = simp ne refl
+
+pub ftpd_pictures : (word : List ℕ) → IsPlainWord word → Pictures ftpd word
+ftpd_pictures [] plain = absurd plain
+ftpd_pictures (b ∷ bs) plain =
+    let ne = ne_eqb _ _ plain in
+    record { rows = _; taken = ftpd_picture_taken b bs ne; entered = ftpd_picture_entered b bs ne; sheet = ftpd_picture_first b bs ne; flagged = ftpd_picture_flagged b bs ne }
 
 ftpd_check_taken : (b d : ℕ) (bs ds : List ℕ) → (b == 45) ≡ false → (d == 45) ≡ false → takes ftpd (codes "check" ∷ (b ∷ bs) ∷ (d ∷ ds) ∷ []) ≡ true
 unfolding clap_on_literals
@@ -224,65 +266,6 @@ scripts (b ∷ bs) plain =
     let ne = ne_eqb _ _ plain in
     record { rows = _; taken = script_taken b bs ne; entered = script_entered b bs ne; config = script_first b bs ne }
 
-serve_taken : (b : ℕ) (bs : List ℕ) → (b == 45) ≡ false → takes ftpd (codes "serve" ∷ (b ∷ bs) ∷ []) ≡ true
-unfolding clap_on_literals
-serve_taken b bs ne = simp ne refl
-
-serve_entered : (b : ℕ) (bs : List ℕ) → (b == 45) ≡ false
-    → subcommand_of ftpd (codes "serve" ∷ (b ∷ bs) ∷ [])
-    ≡ Some (codes "serve", rows_in (subcommand_of ftpd (codes "serve" ∷ (b ∷ bs) ∷ [])))
-unfolding clap_on_literals
-serve_entered b bs ne = simp ne refl
-
-serve_first : (b : ℕ) (bs : List ℕ) → (b == 45) ≡ false
-    → first_of (codes "CONFIG") (rows_in (subcommand_of ftpd (codes "serve" ∷ (b ∷ bs) ∷ []))) ≡ Some (b ∷ bs)
-unfolding clap_on_literals
-serve_first b bs ne = simp ne refl
-
-serve_no_path : (b : ℕ) (bs : List ℕ) → (b == 45) ≡ false
-    → first_of (codes "stop-file") (rows_in (subcommand_of ftpd (codes "serve" ∷ (b ∷ bs) ∷ []))) ≡ None
-unfolding clap_on_literals
-serve_no_path b bs ne = simp ne refl
-
-serve_no_ready : (b : ℕ) (bs : List ℕ) → (b == 45) ≡ false
-    → first_of (codes "ready-file") (rows_in (subcommand_of ftpd (codes "serve" ∷ (b ∷ bs) ∷ []))) ≡ None
-unfolding clap_on_literals
-serve_no_ready b bs ne = simp ne refl
-
-serve_no_login : (b : ℕ) (bs : List ℕ) → (b == 45) ≡ false
-    → first_of (codes "login-timeout") (rows_in (subcommand_of ftpd (codes "serve" ∷ (b ∷ bs) ∷ []))) ≡ None
-unfolding clap_on_literals
-serve_no_login b bs ne = simp ne refl
-
-serve_no_idle : (b : ℕ) (bs : List ℕ) → (b == 45) ≡ false
-    → first_of (codes "idle-timeout") (rows_in (subcommand_of ftpd (codes "serve" ∷ (b ∷ bs) ∷ []))) ≡ None
-unfolding clap_on_literals
-serve_no_idle b bs ne = simp ne refl
-
-serve_no_delay : (b : ℕ) (bs : List ℕ) → (b == 45) ≡ false
-    → first_of (codes "login-delay") (rows_in (subcommand_of ftpd (codes "serve" ∷ (b ∷ bs) ∷ []))) ≡ None
-unfolding clap_on_literals
-serve_no_delay b bs ne = simp ne refl
-
-serve_usual : (b : ℕ) (bs : List ℕ) → (b == 45) ≡ false → AreUnstated (rows_in (subcommand_of ftpd (codes "serve" ∷ (b ∷ bs) ∷ [])))
-serve_usual b bs ne = (serve_no_login b bs ne, serve_no_idle b bs ne, serve_no_delay b bs ne)
-
--- what the parser makes of the words of `serve` with no option
-pub record Serves (word : List ℕ) : Type 0 where
-  pub rows : List Row
-  pub taken : takes ftpd (codes "serve" ∷ word ∷ []) ≡ true
-  pub entered : subcommand_of ftpd (codes "serve" ∷ word ∷ []) ≡ Some (codes "serve", rows)
-  pub config : first_of (codes "CONFIG") rows ≡ Some word
-  pub no_path : first_of (codes "stop-file") rows ≡ None
-  pub no_ready : first_of (codes "ready-file") rows ≡ None
-  pub usual : AreUnstated rows
-
-pub serves : (word : List ℕ) → IsPlainWord word → Serves word
-serves [] plain = absurd plain
-serves (b ∷ bs) plain =
-    let ne = ne_eqb _ _ plain in
-    record { rows = _; taken = serve_taken b bs ne; entered = serve_entered b bs ne; config = serve_first b bs ne; no_path = serve_no_path b bs ne; no_ready = serve_no_ready b bs ne; usual = serve_usual b bs ne }
-
 plan_taken : (b d : ℕ) (bs ds : List ℕ) → (b == 45) ≡ false → (d == 45) ≡ false → takes ftpd (codes "plan" ∷ (b ∷ bs) ∷ (d ∷ ds) ∷ []) ≡ true
 unfolding clap_on_literals
 plan_taken b d bs ds ne nf = simp (ne, nf) refl
@@ -402,11 +385,41 @@ sheets_share_first : (b : ℕ) (bs : List ℕ) → (b == 45) ≡ false
 unfolding clap_on_literals
 sheets_share_first b bs ne = simp ne refl
 
+sheets_share_unflagged : (b : ℕ) (bs : List ℕ) → (b == 45) ≡ false
+    → is_flagged (codes "svg") (rows_in (subcommand_of sheets (codes "share" ∷ (b ∷ bs) ∷ []))) ≡ false
+unfolding clap_on_literals
+sheets_share_unflagged b bs ne = simp ne refl
+
 pub sheets_shares : (word : List ℕ) → IsPlainWord word → Shares sheets word
 sheets_shares [] plain = absurd plain
 sheets_shares (b ∷ bs) plain =
     let ne = ne_eqb _ _ plain in
-    record { rows = _; taken = sheets_share_taken b bs ne; entered = sheets_share_entered b bs ne; sheet = sheets_share_first b bs ne }
+    record { rows = _; taken = sheets_share_taken b bs ne; entered = sheets_share_entered b bs ne; sheet = sheets_share_first b bs ne; unflagged = sheets_share_unflagged b bs ne }
+
+sheets_picture_taken : (b : ℕ) (bs : List ℕ) → (b == 45) ≡ false → takes sheets (picture_words (b ∷ bs)) ≡ true
+unfolding clap_on_literals
+sheets_picture_taken b bs ne = simp ne refl
+
+sheets_picture_entered : (b : ℕ) (bs : List ℕ) → (b == 45) ≡ false
+    → subcommand_of sheets (picture_words (b ∷ bs)) ≡ Some (codes "share", rows_in (subcommand_of sheets (picture_words (b ∷ bs))))
+unfolding clap_on_literals
+sheets_picture_entered b bs ne = simp ne refl
+
+sheets_picture_first : (b : ℕ) (bs : List ℕ) → (b == 45) ≡ false
+    → first_of (codes "SHEET") (rows_in (subcommand_of sheets (picture_words (b ∷ bs)))) ≡ Some (b ∷ bs)
+unfolding clap_on_literals
+sheets_picture_first b bs ne = simp ne refl
+
+sheets_picture_flagged : (b : ℕ) (bs : List ℕ) → (b == 45) ≡ false
+    → is_flagged (codes "svg") (rows_in (subcommand_of sheets (picture_words (b ∷ bs)))) ≡ true
+unfolding clap_on_literals
+sheets_picture_flagged b bs ne = simp ne refl
+
+pub sheets_pictures : (word : List ℕ) → IsPlainWord word → Pictures sheets word
+sheets_pictures [] plain = absurd plain
+sheets_pictures (b ∷ bs) plain =
+    let ne = ne_eqb _ _ plain in
+    record { rows = _; taken = sheets_picture_taken b bs ne; entered = sheets_picture_entered b bs ne; sheet = sheets_picture_first b bs ne; flagged = sheets_picture_flagged b bs ne }
 
 sheets_check_taken : (b d : ℕ) (bs ds : List ℕ) → (b == 45) ≡ false → (d == 45) ≡ false → takes sheets (codes "check" ∷ (b ∷ bs) ∷ (d ∷ ds) ∷ []) ≡ true
 unfolding clap_on_literals

@@ -19,9 +19,11 @@ flag_rule id = record (new_rule id) { long = Some id; action = Some SetTrue }
 abbrev pub bare : Text → App
 bare name = new_app name
 
--- `share SHEET`
+-- `share SHEET [--svg]`
 abbrev pub share : App
-share = with_rule (bare (codes "share")) (file_rule (codes "SHEET"))
+share =
+    with_rule (with_rule (bare (codes "share")) (file_rule (codes "SHEET")))
+    (flag_rule (codes "svg"))
 
 -- `check SHEET GRANTS`
 abbrev pub check : App
@@ -63,12 +65,19 @@ abbrev pub with_logs : App → App
 with_logs app =
     with_rule (with_rule app (value_rule (codes "transfer-log"))) (value_rule (codes "log-form"))
 
+-- the command with the options `--status` and `--status-port`
+abbrev pub with_status : App → App
+with_status app =
+    with_rule (with_rule app (value_rule (codes "status"))) (value_rule (codes "status-port"))
+
 -- `serve CONFIG [--stop-file PATH] [--ready-file PATH] [--transfer-log PATH] [--log-form FORM]
+-- [--status PATH] [--status-port PORT]
 -- [--login-timeout SECONDS] [--idle-timeout SECONDS] [--login-delay SECONDS]`
 abbrev pub serve : App
 serve =
     with_patience
-    (with_logs (with_files (with_rule (bare (codes "serve")) (file_rule (codes "CONFIG")))))
+    (with_status
+    (with_logs (with_files (with_rule (bare (codes "serve")) (file_rule (codes "CONFIG"))))))
 
 -- `plan CONFIG TRANSFERS [--json]`
 abbrev pub plan : App
@@ -79,6 +88,16 @@ plan =
     (bare
     (codes "plan")) (file_rule (codes "CONFIG"))) (file_rule (codes "TRANSFERS")))
     (flag_rule (codes "json"))
+
+-- `top STATUS [--once] [--rows N]`
+abbrev pub show : App
+show =
+    with_rule
+    (with_rule
+    (with_rule
+    (bare
+    (codes "top")) (file_rule (codes "STATUS"))) (flag_rule (codes "once")))
+    (value_rule (codes "rows"))
 
 -- the program of that name without commands; its words do not include a program's name
 abbrev pub top : Text → App
@@ -108,5 +127,6 @@ ftpd =
     (with_subcommand
     (with_subcommand
     (with_subcommand
+    (with_subcommand
     (with_sheets
-    (codes "ftpd")) check_config.top) migrate.top) script.top) serve.top) plan.top
+    (codes "ftpd")) check_config.top) migrate.top) script.top) serve.top) plan.top) show.top

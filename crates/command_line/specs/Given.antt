@@ -7,12 +7,14 @@ use Rattle.clap.specs.Words.{IsAmong, Kinds, Row, Text, fault_of, first_of, foun
 use Rattle.clap.specs.declared.error.kind.ErrorKind.{ErrorKind}
 use Rattle.clap.specs.declared.error.kind.ErrorKind.TheVariants.{DisplayHelp, DisplayVersion}
 use Rattle.command_line.specs.Commands.{ftpd}
-use Rattle.command_line.specs.Timed.{IsPatienceIn, IsTimed, IsUntimed}
+use Rattle.command_line.specs.Numbers.{AreLinesIn, IsPortIn}
+use Rattle.command_line.specs.Stated.{IsNumbered, IsUnnumbered}
+use Rattle.command_line.specs.Timed.{IsPatienceIn}
 use Rattle.client_patience.specs.declared.patience.Patience.{Patience}
 use Rattle.command_line.specs.declared.words.SheetWords.{SheetWords}
 use Rattle.command_line.specs.declared.words.SheetWords.TheVariants.{Share, Check}
 use Rattle.command_line.specs.declared.words.Words.{Words}
-use Rattle.command_line.specs.declared.words.Words.TheVariants.{Sheet, CheckConfig, Migrate, Script, Serve, Plan}
+use Rattle.command_line.specs.declared.words.Words.TheVariants.{Sheet, CheckConfig, Migrate, Script, Serve, Plan, Top}
 use Rattle.command_line.specs.declared.words.WordsFault.{WordsFault}
 use Rattle.command_line.specs.declared.words.WordsFault.TheVariants.{Refused, Memory}
 
@@ -21,14 +23,14 @@ abbrev pub IsPlainWord : List ℕ → Type 0
 IsPlainWord [] = ⊥
 IsPlainWord (octet ∷ rest) = octet ≢ 45
 
--- the command `share` of that sheet
-abbrev pub IsShare : List ℕ → SheetWords → Type 0
-IsShare word (Share sheet) = sheet.now ≡ word
-IsShare word (Check sheet grants) = ⊥
+-- the command `share` of that sheet, as a picture or in lines
+abbrev pub IsShare : List ℕ → Bool → SheetWords → Type 0
+IsShare word as_svg (Share sheet svg) = (sheet.now ≡ word) × (svg ≡ as_svg)
+IsShare word as_svg (Check sheet grants) = ⊥
 
 -- the command `check` of that sheet and those grants
 abbrev pub IsCheck : List ℕ → List ℕ → SheetWords → Type 0
-IsCheck first second (Share sheet) = ⊥
+IsCheck first second (Share sheet svg) = ⊥
 IsCheck first second (Check sheet grants) = (sheet.now ≡ first) × (grants.now ≡ second)
 
 -- a command on a sheet with that property
@@ -39,6 +41,7 @@ IsOfSheets P (Migrate config) = ⊥
 IsOfSheets P (Script config) = ⊥
 IsOfSheets P (Serve config files patience) = ⊥
 IsOfSheets P (Plan config transfers json) = ⊥
+IsOfSheets P (Top status once rows) = ⊥
 
 -- the command `check-config` of that configuration, as JSON or not
 abbrev pub IsCheckConfig : List ℕ → Bool → Words → Type 0
@@ -48,6 +51,7 @@ IsCheckConfig word as_json (Migrate config) = ⊥
 IsCheckConfig word as_json (Script config) = ⊥
 IsCheckConfig word as_json (Serve config files patience) = ⊥
 IsCheckConfig word as_json (Plan config transfers json) = ⊥
+IsCheckConfig word as_json (Top status once rows) = ⊥
 
 -- the command `migrate` of that configuration
 abbrev pub IsMigrate : List ℕ → Words → Type 0
@@ -57,6 +61,7 @@ IsMigrate word (Migrate config) = config.now ≡ word
 IsMigrate word (Script config) = ⊥
 IsMigrate word (Serve config files patience) = ⊥
 IsMigrate word (Plan config transfers json) = ⊥
+IsMigrate word (Top status once rows) = ⊥
 
 -- the command `script` of that configuration
 abbrev pub IsScript : List ℕ → Words → Type 0
@@ -66,6 +71,7 @@ IsScript word (Migrate config) = ⊥
 IsScript word (Script config) = config.now ≡ word
 IsScript word (Serve config files patience) = ⊥
 IsScript word (Plan config transfers json) = ⊥
+IsScript word (Top status once rows) = ⊥
 
 -- the command `serve` of that configuration, with that stop file and that ready file, if any, and
 -- that patience
@@ -78,6 +84,7 @@ IsServe word stop ready p (Serve config files patience) =
     (config.now ≡ word) × (option_map (λ w. w.now) files.stop_file ≡ stop)
     × (option_map (λ w. w.now) files.ready_file ≡ ready) × (patience ≡ p)
 IsServe word stop ready p (Plan config transfers json) = ⊥
+IsServe word stop ready p (Top status once rows) = ⊥
 
 -- the command `serve` of that configuration, with that transfer log and that form of notes, if any
 abbrev pub IsLoggedBy : List ℕ → Option (List ℕ) → Option (List ℕ) → Words → Type 0
@@ -89,9 +96,27 @@ IsLoggedBy word path form (Serve config files patience) =
     (config.now ≡ word) × (option_map (λ w. w.now) files.transfer_log ≡ path)
     × (option_map (λ w. w.now) files.log_form ≡ form)
 IsLoggedBy word path form (Plan config transfers json) = ⊥
+IsLoggedBy word path form (Top status once rows) = ⊥
 
 abbrev pub IsLogged : List ℕ → List ℕ → List ℕ → Words → Type 0
 IsLogged word path form words = IsLoggedBy word (Some path) (Some form) words
+
+-- the command `serve` of that configuration, with that status file and that port, if any
+abbrev pub IsStatusBy : List ℕ → Option (List ℕ) → Option ℕ → Words → Type 0
+IsStatusBy word path port (Sheet words) = ⊥
+IsStatusBy word path port (CheckConfig config json) = ⊥
+IsStatusBy word path port (Migrate config) = ⊥
+IsStatusBy word path port (Script config) = ⊥
+IsStatusBy word path port (Serve config files patience) =
+    (config.now ≡ word) × (option_map (λ w. w.now) files.status ≡ path)
+    × (files.status_port ≡ port)
+IsStatusBy word path port (Plan config transfers json) = ⊥
+IsStatusBy word path port (Top status once rows) = ⊥
+
+-- the words of `serve` with a status file and a port
+abbrev pub status_words : List ℕ → List ℕ → List ℕ → List Text
+status_words config path port =
+    codes "serve" ∷ config ∷ codes "--status" ∷ path ∷ codes "--status-port" ∷ port ∷ []
 
 -- the words of `serve` with a transfer log and a form of notes
 abbrev pub logged_words : List ℕ → List ℕ → List ℕ → List Text
@@ -112,6 +137,23 @@ IsPlanWords word stated as_json (Script config) = ⊥
 IsPlanWords word stated as_json (Serve config files patience) = ⊥
 IsPlanWords word stated as_json (Plan config transfers json) =
     (config.now ≡ word) × (transfers.now ≡ stated) × (json ≡ as_json)
+IsPlanWords word stated as_json (Top status once rows) = ⊥
+
+-- the command `top` of that status file, once or again and again, with that number of lines
+abbrev pub IsTop : List ℕ → Bool → ℕ → Words → Type 0
+IsTop word only_once lines (Sheet words) = ⊥
+IsTop word only_once lines (CheckConfig config json) = ⊥
+IsTop word only_once lines (Migrate config) = ⊥
+IsTop word only_once lines (Script config) = ⊥
+IsTop word only_once lines (Serve config files patience) = ⊥
+IsTop word only_once lines (Plan config transfers json) = ⊥
+IsTop word only_once lines (Top status once rows) =
+    (status.now ≡ word) × (once ≡ only_once) × (rows ≡ lines)
+
+-- the words of `top` with each of its options
+abbrev pub top_words : List ℕ → List ℕ → List Text
+top_words status lines =
+    codes "top" ∷ status ∷ codes "--once" ∷ codes "--rows" ∷ lines ∷ []
 
 -- the name of a command that the parser entered, and its arguments
 abbrev pub entered_rows : Bor Text × Bor ArgMatches → Text × List Row
@@ -127,9 +169,10 @@ is_flagged id rows = is_true (first_of id rows)
 
 -- the parser found the command on a sheet, and the words after it
 abbrev pub IsSheetFound : Option (Text × List Row) → SheetWords → Type 0
-IsSheetFound found (Share sheet) =
+IsSheetFound found (Share sheet svg) =
     (rows : List Row) × (found ≡ Some (codes "share", rows))
     × (first_of (codes "SHEET") rows ≡ Some sheet.now)
+    × (svg ≡ is_flagged (codes "svg") rows)
 IsSheetFound found (Check sheet grants) =
     (rows : List Row) × (found ≡ Some (codes "check", rows))
     × (first_of (codes "SHEET") rows ≡ Some sheet.now)
@@ -155,12 +198,17 @@ IsFound found (Serve config files patience) =
     × (first_of (codes "ready-file") rows ≡ option_map (λ w. w.now) files.ready_file)
     × (first_of (codes "transfer-log") rows ≡ option_map (λ w. w.now) files.transfer_log)
     × (first_of (codes "log-form") rows ≡ option_map (λ w. w.now) files.log_form)
-    × IsPatienceIn rows patience
+    × (first_of (codes "status") rows ≡ option_map (λ w. w.now) files.status)
+    × IsPortIn rows files.status_port × IsPatienceIn rows patience
 IsFound found (Plan config transfers json) =
     (rows : List Row) × (found ≡ Some (codes "plan", rows))
     × (first_of (codes "CONFIG") rows ≡ Some config.now)
     × (first_of (codes "TRANSFERS") rows ≡ Some transfers.now)
     × (json ≡ is_flagged (codes "json") rows)
+IsFound found (Top status once lines) =
+    (rows : List Row) × (found ≡ Some (codes "top", rows))
+    × (first_of (codes "STATUS") rows ≡ Some status.now)
+    × (once ≡ is_flagged (codes "once") rows) × AreLinesIn rows lines
 
 -- the words give that command, or memory ran out
 abbrev pub GivesOrMemory : {T : Type 0} → (T → Type 0) → Result T WordsFault → Type 0
@@ -185,11 +233,11 @@ IsRefusal kinds (Refused text is_help) =
     (kind : ErrorKind) × IsAmong kind kinds × (IsTrue is_help ↔ IsHelp kind)
 IsRefusal kinds Memory = Unit {0}
 
--- the parser of `ftpd` accepts the words, and each number of seconds among them is one
+-- the parser of `ftpd` accepts the words, and each of them that is to be a number is one
 abbrev pub IsTaken : List Text → Type 0
-IsTaken words = (fault_of ftpd words ≡ []) × IsTimed (subcommand_of ftpd words)
+IsTaken words = (fault_of ftpd words ≡ []) × IsNumbered (subcommand_of ftpd words)
 
--- memory ran out, or that is the refusal of the words: by the parser, or of a number of seconds
+-- memory ran out, or that is the refusal of the words: by the parser, or of a number
 abbrev pub IsRefusedFor : List Text → WordsFault → Type 0
 IsRefusedFor words fault =
-    IsRefusal (fault_of ftpd words) fault ⊎ IsUntimed (subcommand_of ftpd words) fault
+    IsRefusal (fault_of ftpd words) fault ⊎ IsUnnumbered (subcommand_of ftpd words) fault

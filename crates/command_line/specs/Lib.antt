@@ -1,3 +1,5 @@
 pub mod Commands
 pub mod Given
+pub mod Numbers
+pub mod Stated
 pub mod Timed

@@ -2,7 +2,7 @@
 
 ghost use Rattle.std.specs.Prelude.{◌≡◌, IfOk, codes, false};
 ghost use Rattle.clap.specs.Words.{app_of, rule_of, with_rule};
-ghost use Rattle.command_line.specs.Commands.{bare, check, check_config, file_rule, flag_rule, ftpd, migrate, plan, script, serve, share, sheets, top, value_rule, with_files, with_logs, with_patience, with_sheets};
+ghost use Rattle.command_line.specs.Commands.{bare, check, check_config, file_rule, flag_rule, ftpd, migrate, plan, script, serve, share, sheets, show, top, value_rule, with_files, with_logs, with_patience, with_sheets, with_status};
 
 use clap::{Arg, ArgAction, Command};
 use std::alloc::{AllocError, Global};
@@ -43,7 +43,7 @@ fn flag<'a>(alloc: Global, id: &'a str, help: &'a str) -> Arg<'a>
 const STATUSES: &str = "Status: 0 done, or yes; 1 a fault; 2 refused words; 3 no";
 
 const ABOUT_SHARE: &str =
-    "SHEET is read whole, and then shared. A line for each want goes to standard output, `PATH GRANT of WANT`, with\n`full NODE` after it if the limit at NODE holds it back, and last `total OCTETS`.\n\nExample: sheets share lunch.sheet\n\nStatus: 0 done, or yes; 1 a fault; 2 refused words; 3 no";
+    "SHEET is read whole, and then shared. A line for each want goes to standard output, `PATH GRANT of WANT`, with\n`full NODE` after it if the limit at NODE holds it back, and last `total OCTETS`.\n\nExamples: sheets share lunch.sheet\n          sheets share lunch.sheet --svg > lunch.svg\n\nStatus: 0 done, or yes; 1 a fault; 2 refused words; 3 no";
 
 const ABOUT_CHECK: &str =
     "SHEET is read whole, and then GRANTS. `yes` goes to standard output, or `no` with the number, the name and the\nfields of the first flaw.\n\nExample: sheets check lunch.sheet lunch.grants\n\nStatus: 0 done, or yes; 1 a fault; 2 refused words; 3 no";
@@ -62,6 +62,9 @@ const ABOUT_SERVE: &str =
 
 const ABOUT_PLAN: &str =
     "CONFIG is read whole. A line for each user, direction and share goes to standard output: how many transfers get how\nmuch of a second, what is guaranteed to each, and the limit that holds each back; last the totals. TRANSFERS has parts\nNAME=N, NAME:down=N or NAME:up=N, joined by commas: N transfers of that user that want all they can get.\n\nExample: ftpd plan office.toml ann=1,bob=1,carol:up=5\n\nStatus: 0 done, or yes; 1 a fault; 2 refused words; 3 no";
+
+const ABOUT_TOP: &str =
+    "STATUS is read once a second, and the screen is drawn anew; Ctrl-C ends it. Two lines for each transfer: its octets a\nsecond, what is guaranteed to it, and the limits that held it back, in parts of the last second.\n\nExamples: ftpd top /run/ftpd/status.json\n          ftpd top /run/ftpd/status.json --once\n\nStatus: 0 done, or yes; 1 a fault; 2 refused words; 3 no";
 
 /// A command without words; `below` is the text below its help.
 fn bare_command<'a>(alloc: Global, name: &'a str, about: &'a str, below: &'a str) -> Command<'a>
@@ -90,8 +93,10 @@ fn share_command<'a>(alloc: Global) -> Result<Command<'a>, AllocError>
     let about = "Share the limits of a sheet: who gets how much, and which limit holds whom back";
     let sheet =
         "File of lines `limit PATH N`, `want PATH N` or `want PATH N FLOOR`; - is standard input";
+    let svg = "Draw the shares as a picture in SVG";
     let command = bare_command(alloc, "share", about, ABOUT_SHARE);
-    with_file(alloc, command, "SHEET", sheet)
+    let command = with_file(alloc, command, "SHEET", sheet)?;
+    with_flag(alloc, command, "svg", svg)
 }
 
 fn check_command<'a>(alloc: Global) -> Result<Command<'a>, AllocError>
@@ -208,6 +213,18 @@ fn with_logs<'a>(alloc: Global, command: Command<'a>) -> Result<Command<'a>, All
     Ok(command)
 }
 
+/// The command with an optional status file, given by its path, and an optional port of its status page.
+fn with_status<'a>(alloc: Global, command: Command<'a>) -> Result<Command<'a>, AllocError>
+    ensures rules { IfOk result (λ c. app_of c ≡ with_status (app_of command.entry)) }
+{
+    let status = "File to which the server writes what it does, once a second, as JSON";
+    let port =
+        "Port of 127.0.0.1 on which the server shows a page of what it does, and its metrics";
+    let with_file = with_value(alloc, command, "status", "PATH", status)?;
+    let command = with_value(alloc, with_file, "status-port", "PORT", port)?;
+    Ok(command)
+}
+
 /// The command with its options in seconds.
 fn with_patience<'a>(alloc: Global, command: Command<'a>) -> Result<Command<'a>, AllocError>
     ensures rules { IfOk result (λ c. app_of c ≡ with_patience (app_of command.entry)) }
@@ -231,6 +248,7 @@ fn serve_command<'a>(alloc: Global) -> Result<Command<'a>, AllocError>
     let command = config_command(alloc, "serve", about, ABOUT_SERVE, CONFIG_FILE)?;
     let command = with_files(alloc, command)?;
     let command = with_logs(alloc, command)?;
+    let command = with_status(alloc, command)?;
     with_patience(alloc, command)
 }
 
@@ -244,6 +262,20 @@ fn plan_command<'a>(alloc: Global) -> Result<Command<'a>, AllocError>
     let command = config_command(alloc, "plan", about, ABOUT_PLAN, CONFIG_FILE)?;
     let command = with_file(alloc, command, "TRANSFERS", transfers)?;
     with_flag(alloc, command, "json", json)
+}
+
+fn show_command<'a>(alloc: Global) -> Result<Command<'a>, AllocError>
+    ensures show { IfOk result (λ c. app_of c ≡ show) }
+{
+    let about =
+        "Show the transfers of a running server: who gets how much, and which limit holds whom back";
+    let status = "File that the server writes, given to it as `--status`";
+    let once = "Show what the file says once, and end";
+    let rows = "Lines of the screen, from 8 to 500 [default: 24]";
+    let command = bare_command(alloc, "top", about, ABOUT_TOP);
+    let command = with_file(alloc, command, "STATUS", status)?;
+    let command = with_flag(alloc, command, "once", once)?;
+    with_value(alloc, command, "rows", "N", rows)
 }
 
 fn top_command<'a>(alloc: Global, name: &'a str, about: &'a str) -> Result<Command<'a>, AllocError>
@@ -289,6 +321,7 @@ pub(crate) fn ftpd_command<'a>(alloc: Global) -> Result<Command<'a>, AllocError>
     let with_migrate = with_check.subcommand(migrate_command(alloc)?)?;
     let with_script = with_migrate.subcommand(script_command(alloc)?)?;
     let with_serve = with_script.subcommand(serve_command(alloc)?)?;
-    let command = with_serve.subcommand(plan_command(alloc)?)?;
+    let with_plan = with_serve.subcommand(plan_command(alloc)?)?;
+    let command = with_plan.subcommand(show_command(alloc)?)?;
     Ok(command)
 }

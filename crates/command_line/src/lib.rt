@@ -1,24 +1,27 @@
 //! The command lines of `ftpd` and of `sheets`: their grammars, and the meaning of the words of a command.
 //!
 //! ```text
-//! ftpd share SHEET
+//! ftpd share SHEET [--svg]
 //! ftpd check SHEET GRANTS
 //! ftpd check-config CONFIG [--json]
 //! ftpd migrate CONFIG
 //! ftpd script CONFIG
 //! ftpd plan CONFIG TRANSFERS [--json]
-//! ftpd serve CONFIG [--stop-file PATH] [--ready-file PATH] [--login-timeout SECONDS] [--idle-timeout SECONDS]
-//!     [--login-delay SECONDS]
+//! ftpd serve CONFIG [--stop-file PATH] [--ready-file PATH] [--transfer-log PATH] [--log-form FORM] [--status PATH]
+//!     [--status-port PORT] [--login-timeout SECONDS] [--idle-timeout SECONDS] [--login-delay SECONDS]
+//! ftpd top STATUS [--once] [--rows N]
 //!
-//! sheets share SHEET
+//! sheets share SHEET [--svg]
 //! sheets check SHEET GRANTS
 //! ```
 #![tactic(auto)]
 
 mod grammar;
+mod numbers;
 mod patience;
 mod words;
 
 pub use client_patience::Patience;
-pub use patience::{IDLE_TIMEOUT, LOGIN_DELAY, LOGIN_TIMEOUT, MAX_SECONDS};
+pub use numbers::{LEAST_ROWS, MAX_PORT, MAX_SECONDS, MOST_ROWS, ROWS};
+pub use patience::{IDLE_TIMEOUT, LOGIN_DELAY, LOGIN_TIMEOUT};
 pub use words::{ServeFiles, SheetWords, Words, WordsFault, read_sheet_words, read_words};

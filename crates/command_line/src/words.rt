@@ -3,11 +3,14 @@
 ghost use Rattle.std.specs.Prelude.{◌≡◌, ◌↔◌, ◌∷◌, [], ℕ, List, None, Some, IfOk, IfErr, IfSome, IsTrue, map, codes, false, option_map, true};
 ghost use Rattle.clap.specs.Words.{app_of, fault_of, first_of, found_of, is_simple, is_simple_and_free, kind_of, rows_of, subcommand_of, subcommand_rows_of, takes};
 ghost use Rattle.command_line.specs.Commands.{ftpd, sheets};
-ghost use Rattle.command_line.specs.Given.{GivesOneOrMemory, GivesOrMemory, IsCheck, IsCheckConfig, IsFound, IsHelp, IsLogged, IsMigrate, IsOfSheets, IsPlainWord, IsPlanWords, IsRefusal, IsRefusedAs, IsScript, IsServe, IsSheetFound, IsShare, IsRefusedFor, IsTaken, entered_rows, is_flagged, logged_words, ready_words};
-ghost use Rattle.command_line.specs.Timed.{IsSeconds, IsTimedBy, timed_words, usual_patience};
+ghost use Rattle.command_line.specs.Given.{GivesOneOrMemory, GivesOrMemory, IsCheck, IsCheckConfig, IsFound, IsHelp, IsLogged, IsMigrate, IsOfSheets, IsPlainWord, IsPlanWords, IsRefusal, IsRefusedAs, IsScript, IsServe, IsSheetFound, IsShare, IsRefusedFor, IsStatusBy, IsTaken, IsTop, entered_rows, is_flagged, logged_words, ready_words, status_words, top_words};
+ghost use Rattle.command_line.specs.Numbers.{AreLines, IsPortText};
+ghost use Rattle.command_line.specs.Stated.{IsStatedBy};
+ghost use Rattle.command_line.specs.declared.numbers.TheConstants.{ROWS};
+ghost use Rattle.command_line.specs.Timed.{IsSeconds, timed_words, usual_patience};
 
 use crate::grammar::{ftpd_command, sheets_command};
-use crate::patience::stated_patience;
+use crate::numbers::{Numbers, stated_numbers};
 use clap::error::ErrorKind;
 use clap::{ArgMatches, Command, Error};
 use client_patience::Patience;
@@ -16,13 +19,13 @@ use std::alloc::Global;
 /// A command on a sheet, with the words after it.
 #[derive(Clone, Copy, Debug, PartialEq, Eq)]
 pub enum SheetWords<'a> {
-    /// Share the limits of the sheet at this path.
-    Share { sheet: &'a str },
+    /// Share the limits of the sheet at this path, and print the shares as a picture or in lines.
+    Share { sheet: &'a str, svg: bool },
     /// Check the grants of a file within the limits of a sheet; the paths of both.
     Check { sheet: &'a str, grants: &'a str },
 }
 
-/// The paths of a server's files, and the form of its notes.
+/// The paths of a server's files, the form of its notes, and the port of its status page.
 #[derive(Clone, Copy, Debug, PartialEq, Eq)]
 pub struct ServeFiles<'a> {
     /// The server ends once there is a file at this path.
@@ -33,6 +36,10 @@ pub struct ServeFiles<'a> {
     pub transfer_log: Option<&'a str>,
     /// The name of the form of its notes.
     pub log_form: Option<&'a str>,
+    /// The server writes what it does to the file at this path, once a second.
+    pub status: Option<&'a str>,
+    /// The server shows what it does at this port of 127.0.0.1.
+    pub status_port: Option<u16>,
 }
 
 /// A command of `ftpd`, with the words after it.
@@ -65,6 +72,12 @@ pub enum Words<'a> {
         config: &'a str,
         transfers: &'a str,
         json: bool,
+    },
+    /// Show what the status file at this path says, once or again and again, in that number of lines.
+    Top {
+        status: &'a str,
+        once: bool,
+        rows: u16,
     },
 }
 
@@ -135,6 +148,7 @@ fn sheet_given<'a>(name: &str, inner: &ArgMatches<'a>) -> Option<SheetWords<'a>>
     match name {
         "share" => Some(SheetWords::Share {
             sheet: word_of(inner, "SHEET")?,
+            svg: has_flag(inner, "svg"),
         }),
         "check" => Some(SheetWords::Check {
             sheet: word_of(inner, "SHEET")?,
@@ -154,9 +168,10 @@ fn sheet_words<'a>(matches: &ArgMatches<'a>) -> Option<SheetWords<'a>>
     sheet_given(name, inner)
 }
 
-/// The command of that name, with its words, which state that patience.
-fn given<'a>(name: &str, inner: &ArgMatches<'a>, patience: Patience) -> Option<Words<'a>>
-    requires patience { IsTimedBy (Some (name.now, rows_of (found_of inner.now))) patience }
+/// The command of that name, with its words, which state those numbers.
+fn given<'a>(name: &str, inner: &ArgMatches<'a>, numbers: Numbers) -> Option<Words<'a>>
+    requires numbers { IsStatedBy (Some (name.now, rows_of (found_of inner.now)))
+        numbers.patience numbers.status_port numbers.rows }
     ensures found { IfSome result (IsFound (Some (name.now, rows_of (found_of inner.now)))) }
     ensures none { result ≡ None → (words : Words)
         → IsFound (Some (name.now, rows_of (found_of inner.now))) words → ⊥ }
@@ -179,27 +194,35 @@ fn given<'a>(name: &str, inner: &ArgMatches<'a>, patience: Patience) -> Option<W
                 ready_file: word_of(inner, "ready-file"),
                 transfer_log: word_of(inner, "transfer-log"),
                 log_form: word_of(inner, "log-form"),
+                status: word_of(inner, "status"),
+                status_port: numbers.status_port,
             },
-            patience,
+            patience: numbers.patience,
         }),
         "plan" => Some(Words::Plan {
             config: word_of(inner, "CONFIG")?,
             transfers: word_of(inner, "TRANSFERS")?,
             json: has_flag(inner, "json"),
         }),
+        "top" => Some(Words::Top {
+            status: word_of(inner, "STATUS")?,
+            once: has_flag(inner, "once"),
+            rows: numbers.rows,
+        }),
         _ => Some(Words::Sheet(sheet_given(name, inner)?)),
     }
 }
 
-/// The command that the parser entered, whose words state that patience.
-fn words_of<'a>(matches: &ArgMatches<'a>, patience: Patience) -> Option<Words<'a>>
-    requires patience { IsTimedBy (subcommand_rows_of matches.now) patience }
+/// The command that the parser entered, whose words state those numbers.
+fn words_of<'a>(matches: &ArgMatches<'a>, numbers: Numbers) -> Option<Words<'a>>
+    requires numbers { IsStatedBy (subcommand_rows_of matches.now)
+        numbers.patience numbers.status_port numbers.rows }
     ensures found { IfSome result (IsFound (subcommand_rows_of matches.now)) }
     ensures none { result ≡ None → (words : Words)
         → IsFound (subcommand_rows_of matches.now) words → ⊥ }
 {
     let (name, inner) = entered(matches)?;
-    given(name, inner, patience)
+    given(name, inner, numbers)
 }
 
 /// Parses the words, which do not include the program's name.
@@ -234,7 +257,10 @@ pub fn read_sheet_words<'a>(
 ) -> Result<SheetWords<'a>, WordsFault>
     ensures share { (word : List ℕ) → IsPlainWord word
         → map (λ s. s.now) words.now ≡ codes "share" ∷ word ∷ []
-        → GivesOrMemory (IsShare word) result }
+        → GivesOrMemory (IsShare word false) result }
+    ensures share_svg { (word : List ℕ) → IsPlainWord word
+        → map (λ s. s.now) words.now ≡ codes "share" ∷ word ∷ codes "--svg" ∷ []
+        → GivesOrMemory (IsShare word true) result }
     ensures check { (first second : List ℕ) → IsPlainWord first → IsPlainWord second
         → map (λ s. s.now) words.now ≡ codes "check" ∷ first ∷ second ∷ []
         → GivesOrMemory (IsCheck first second) result }
@@ -259,13 +285,16 @@ pub fn read_sheet_words<'a>(
 
 /// Reads the command in the words of `ftpd`, which do not include the program's name.
 ///
-/// Returns the command of words that the parser accepts, if each number of seconds among them is one. `Refused`: the
-/// parser refuses the words, or they ask for help or the version, or a value is no number of seconds. `Memory`: memory
+/// Returns the command of words that the parser accepts, if each of them that is to be a number is one. `Refused`: the
+/// parser refuses the words, or they ask for help or the version, or a value is no number of its form. `Memory`: memory
 /// ran out.
 pub fn read_words<'a>(alloc: Global, words: &'a [&'a str]) -> Result<Words<'a>, WordsFault>
     ensures share { (word : List ℕ) → IsPlainWord word
         → map (λ s. s.now) words.now ≡ codes "share" ∷ word ∷ []
-        → GivesOrMemory (IsOfSheets (IsShare word)) result }
+        → GivesOrMemory (IsOfSheets (IsShare word false)) result }
+    ensures share_svg { (word : List ℕ) → IsPlainWord word
+        → map (λ s. s.now) words.now ≡ codes "share" ∷ word ∷ codes "--svg" ∷ []
+        → GivesOrMemory (IsOfSheets (IsShare word true)) result }
     ensures check { (first second : List ℕ) → IsPlainWord first → IsPlainWord second
         → map (λ s. s.now) words.now ≡ codes "check" ∷ first ∷ second ∷ []
         → GivesOrMemory (IsOfSheets (IsCheck first second)) result }
@@ -295,6 +324,10 @@ pub fn read_words<'a>(alloc: Global, words: &'a [&'a str]) -> Result<Words<'a>, 
         → IsPlainWord form
         → map (λ s. s.now) words.now ≡ logged_words word path form
         → GivesOrMemory (IsLogged word path form) result }
+    ensures serve_status { (word path port : List ℕ) (n : ℕ) → IsPlainWord word
+        → IsPlainWord path → IsPortText port n
+        → map (λ s. s.now) words.now ≡ status_words word path port
+        → GivesOrMemory (IsStatusBy word (Some path) (Some n)) result }
     ensures serve_timed { (word first second third : List ℕ) (p : Patience) → IsPlainWord word
         → IsSeconds first p.login_timeout → IsSeconds second p.idle_timeout
         → IsSeconds third p.login_delay
@@ -306,6 +339,13 @@ pub fn read_words<'a>(alloc: Global, words: &'a [&'a str]) -> Result<Words<'a>, 
     ensures plan_json { (word transfers : List ℕ) → IsPlainWord word → IsPlainWord transfers
         → map (λ s. s.now) words.now ≡ codes "plan" ∷ word ∷ transfers ∷ codes "--json" ∷ []
         → GivesOrMemory (IsPlanWords word transfers true) result }
+    ensures top { (word : List ℕ) → IsPlainWord word
+        → map (λ s. s.now) words.now ≡ codes "top" ∷ word ∷ []
+        → GivesOrMemory (IsTop word false ROWS) result }
+    ensures top_once { (word lines : List ℕ) (n : ℕ) → IsPlainWord word
+        → AreLines lines n
+        → map (λ s. s.now) words.now ≡ top_words word lines
+        → GivesOrMemory (IsTop word true n) result }
     ensures taken { IsTaken (map (λ s. s.now) words.now) → GivesOneOrMemory
         (IsFound (subcommand_of ftpd (map (λ s. s.now) words.now))) result }
     ensures refused { IfErr result (IsRefusedFor (map (λ s. s.now) words.now)) }
@@ -319,11 +359,11 @@ pub fn read_words<'a>(alloc: Global, words: &'a [&'a str]) -> Result<Words<'a>, 
         Ok(matches) => matches,
         Err(fault) => return Err(fault),
     };
-    let patience = match stated_patience(alloc, &matches) {
-        Ok(patience) => patience,
+    let numbers = match stated_numbers(alloc, &matches) {
+        Ok(numbers) => numbers,
         Err(fault) => return Err(fault),
     };
-    match words_of(&matches, patience) {
+    match words_of(&matches, numbers) {
         Some(words) => Ok(words),
         None => unreachable!("words that the parser takes give a command"),
     }

@@ -15,4 +15,6 @@ mod settled;
 #[cfg(test)]
 mod shortages;
 #[cfg(test)]
+mod tallies;
+#[cfg(test)]
 mod threads;

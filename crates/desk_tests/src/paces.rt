@@ -9,7 +9,7 @@ use grant_ledger::{Book, MAX_LANES, Settled};
 use lane_desk::{Desk, RoundRefusal, Rounds, open_desk};
 use line_rates::{Limits, UserRate, Way};
 use linked_list_allocator::LocalHeap;
-use paced_rounds::PacedRounds;
+use paced_rounds::{HeldNames, PacedRounds};
 use round_cadence::Cadence;
 use round_pace::{Due, Pace};
 use std::process::Abort;
@@ -98,7 +98,11 @@ impl PacedDesk {
         self.ask_both(rt);
         let mut given = [false; MAX_LANES];
         given[0] = true;
-        match self.rounds.hold(rt.alloc(), &self.desk, now, &given) {
+        let mut names = HeldNames::new(false);
+        match self
+            .rounds
+            .hold(rt.alloc(), &self.desk, now, &given, &mut names)
+        {
             Ok(record) => holds(rt, record.answered == 1),
             Err(_) => panic!(rt; "a round was refused"),
         }
@@ -107,16 +111,19 @@ impl PacedDesk {
 
     // A round is held at a moment, and both take their grants. Returns whether they are these.
     fn answers(&mut self, rt: &(impl Abort + AllocGlobal), now: u64, grants: (u64, u64)) -> bool {
-        match self
-            .rounds
-            .hold(rt.alloc(), &self.desk, now, &[true; MAX_LANES])
-        {
+        let mut names = HeldNames::new(true);
+        match self.rounds.hold(rt.alloc(), &self.desk, now, &[true; MAX_LANES], &mut names) {
             Ok(record) => holds(
                 rt,
                 record.asks.as_slice() == [down(7, 10), down(8, 10)].as_slice(),
             ),
             Err(_) => panic!(rt; "a round was refused"),
         }
+        // A limit holds back exactly those that get less than they asked for.
+        holds(
+            rt,
+            names.of(0).is_some() == (grants.0 < 10) && names.of(1).is_some() == (grants.1 < 10),
+        );
         self.take_both(grants)
     }
 
@@ -125,7 +132,11 @@ impl PacedDesk {
         let heap = LocalHeap::new(rt.alloc(), HEAP).expect(rt, "a heap");
         let _rest = leave_hole(rt, &heap, 0).expect(rt, "no hole");
         self.ask_both(rt);
-        match self.rounds.hold(&heap, &self.desk, now, &[true; MAX_LANES]) {
+        let mut names = HeldNames::new(true);
+        match self
+            .rounds
+            .hold(&heap, &self.desk, now, &[true; MAX_LANES], &mut names)
+        {
             Ok(_) => panic!(rt; "a round without memory"),
             Err(fault) => holds(
                 rt,

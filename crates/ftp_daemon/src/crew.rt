@@ -1,11 +1,10 @@
 //! The work of each thread of a server.
 
-use crate::watching::{StopSign, watch};
+use crate::watching::{OwnerSigns, watch};
 use crate::works::Works;
-use handler_hooks::Hooks;
 use lane_rounds::{RoundClock, keep_rounds, work_lane};
 use lent_parts::PartsName;
-use server_house::ShutdownStage;
+use server_house::{ServerHooks, ShutdownStage};
 use std::alloc::Global;
 use std::net::{Net, TcpListener, TcpStream};
 use std::sync::Wait;
@@ -24,7 +23,7 @@ pub(crate) trait Crew {
     /// The thread of a lane.
     fn work(&self, lane: usize);
 
-    /// The thread that checks for the stop sign; it ends at once if there is none.
+    /// The thread that sees to the signs of the owner; it ends at once if there are none.
     fn watch(&self);
 
     /// Ends lanes and rounds: no session is left.
@@ -35,9 +34,9 @@ impl<R, S, H, B, P> Crew for Works<R, S, H, B, P>
 where
     R: Wait + Clock + RoundClock + Net<Listener = TcpListener, Stream = TcpStream> + AllocGlobal,
     S: Store<Global>,
-    H: Hooks,
+    H: ServerHooks,
     B: PartsName,
-    P: StopSign,
+    P: OwnerSigns,
 {
     fn lanes(&self) -> usize {
         self.lent.workers.len()
@@ -64,8 +63,8 @@ where
     }
 
     fn watch(&self) {
-        match &self.stop {
-            Some(sign) => watch(&self.rt, &self.house, sign),
+        match &self.signs {
+            Some(signs) => watch(&self.rt, &self.house, &self.lent.turns, signs),
             None => {}
         }
     }

@@ -43,8 +43,8 @@ pub struct Service<S: Drop, H: Hooks, P: Drop> {
     pub own_stores: Vec<S>,
     /// The owner's callbacks.
     pub handler: H,
-    /// The stop sign, if there is one.
-    pub stop: Option<P>,
+    /// The signs of the owner, if there are any.
+    pub signs: Option<P>,
     /// The limits of time for clients.
     pub patience: Patience,
 }
@@ -59,7 +59,7 @@ pub(crate) struct Rooms<S: Store<Global>, H: Hooks, P: Drop> {
     pub(crate) own_stores: Vec<Mutex<S>>,
     pub(crate) arrivals: Vec<Mutex<Option<TcpStream>>>,
     pub(crate) handler: H,
-    pub(crate) stop: Option<P>,
+    pub(crate) signs: Option<P>,
     pub(crate) patience: Patience,
     pub(crate) floors: Floors,
     pub(crate) ports: RestingPorts,
@@ -155,7 +155,7 @@ where
         store,
         own_stores,
         handler,
-        stop,
+        signs,
         patience,
     } = service;
     let most = usize::from(numbers.max_cons);
@@ -177,7 +177,7 @@ where
         own_stores,
         arrivals,
         handler,
-        stop,
+        signs,
         patience,
         floors,
         ports,

@@ -15,7 +15,7 @@ use crate::lanes::{run_threads, serve_clients};
 use crate::listening::{listen_on, warn_of_descriptors};
 use crate::opening::{Line, Rooms, Service, open_line, open_rooms};
 use crate::settling::{Room, settle_served, settle_unlent};
-use crate::watching::{StopSign, is_up};
+use crate::watching::{OwnerSigns, is_up, wants_looks};
 use crate::works::{LentLine, Lists, Works, lend_line, lend_passes, new_lists};
 use event_word::{EventCount, SharedEventCount};
 use ftpd_program::ServeFault;
@@ -38,7 +38,7 @@ use text_io::TextWriter;
 use transfer_worker::{BoardPass, JobBoard, open_board};
 use virtual_tree::Store;
 
-// The parts that the threads share, with the board; also the pace, and the stop sign.
+// The parts that the threads share, with the board; also the pace, and what the owner sees to.
 fn furnish<S: Store<Global>, H: Hooks, B: PartsName, P: Drop>(
     rooms: Rooms<S, H, P>,
     board: LentBoard<B, u32>,
@@ -54,7 +54,7 @@ fn furnish<S: Store<Global>, H: Hooks, B: PartsName, P: Drop>(
         own_stores,
         arrivals,
         handler,
-        stop,
+        signs,
         patience,
         floors,
         ports,
@@ -85,7 +85,7 @@ fn furnish<S: Store<Global>, H: Hooks, B: PartsName, P: Drop>(
         bell: EventCount::new(),
         ending: ServerShutdown::new(),
     };
-    (house, pace, cadence, stop)
+    (house, pace, cadence, signs)
 }
 
 // Serves with the shared parts, and settles.
@@ -110,7 +110,7 @@ where
     S::Sink: Send,
     H: ServerHooks + Send,
     B: PartsName + Send + Sync + 'static,
-    P: StopSign + Send + Sync + Drop,
+    P: OwnerSigns + Send + Sync + Drop,
     W: TextWriter,
     requires gathered { length works.lent.workers.items ≤ vec_capacity room.gathered }
     requires worked { length works.lent.workers.items ≤ vec_capacity room.worked }
@@ -133,7 +133,7 @@ where
         house: _,
         passes: _,
         lent,
-        stop: _,
+        signs: _,
     } = works;
     (settle_served(&rt, lent, room), served)
 }
@@ -163,7 +163,7 @@ where
     S::Sink: Send,
     H: ServerHooks + Send,
     B: PartsName + Send + Sync + 'static,
-    P: StopSign + Send + Sync + Drop,
+    P: OwnerSigns + Send + Sync + Drop,
     W: TextWriter,
     requires new { (rates : Rates) × IsPacedFrom (tick_of rooms.begun) rates rooms.pace }
     requires rated { rates_of rooms.pace ≡ B.rates }
@@ -175,20 +175,21 @@ where
     let begun = rooms.begun;
     match passes.pop() {
         Some(pass) => {
-            let (house, pace, cadence, stop) = furnish(rooms, board, pass);
-            let (lent, room) = line.paced(pace, cadence, begun);
+            let (house, pace, cadence, signs) = furnish(rooms, board, pass);
+            let is_watched = wants_looks(&signs);
+            let (lent, room) = line.paced(pace, cadence, begun, is_watched);
             let works = Works {
                 rt: *rt,
                 house,
                 passes: Mutex::new(passes),
                 lent,
-                stop,
+                signs,
             };
             serve_works(works, room, listener, writer)
         }
         None => {
             let Rooms { pace, cadence, .. } = rooms;
-            let (lent, room) = line.paced(pace, cadence, begun);
+            let (lent, room) = line.paced(pace, cadence, begun, false);
             (settle_served(rt, lent, room), Err(ServeFault::NoThread))
         }
     }
@@ -219,7 +220,7 @@ where
     S::Sink: Send,
     H: ServerHooks + Send,
     B: PartsName + Send + Sync + 'static,
-    P: StopSign + Send + Sync + Drop,
+    P: OwnerSigns + Send + Sync + Drop,
     W: TextWriter,
     requires desk { IsNamed B.desk B.lanes line.desk }
     requires board { IsBoardOf B.board board }
@@ -294,7 +295,7 @@ where
     S::Source: Send,
     S::Sink: Send,
     H: ServerHooks + Send,
-    P: StopSign + Send + Sync + Drop,
+    P: OwnerSigns + Send + Sync + Drop,
     W: TextWriter,
     ensures sum { IfOk result (λ settled. settled.issued ≡ settled.moved + settled.back) }
     ensures kept { IfOk result (λ settled. HasKept service.limits R.when 0 settled.issued) }
@@ -304,7 +305,7 @@ where
 {
     histories_keep_rates();
     seconds_are_kept();
-    if is_up(&service.stop) {
+    if is_up(&service.signs) {
         return Err(ServeFault::Stopped);
     }
     let numbers = service.numbers;

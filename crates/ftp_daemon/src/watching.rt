@@ -1,12 +1,16 @@
-//! The stop sign of a server.
+//! The signs of a server's owner while it serves.
 
 use data_sockets::socket_address;
+use event_word::{has_passed, micros};
+use grant_ledger::MAX_LANES;
 use handler_hooks::Hooks;
+use lane_rounds::{Turns, look};
 use lent_parts::PartsName;
-use server_house::{House, ShutdownStage};
+use round_tally::Tallies;
+use server_house::{House, LaneLook, LaneSign, ServerHooks, ServerLook, ShutdownStage};
 use std::alloc::Global;
 use std::net::{Net, TcpListener, TcpStream};
-use std::sync::Wait;
+use std::sync::{Mutex, Wait};
 use std::thread;
 use std::time::{Clock, Duration};
 use virtual_tree::Store;
@@ -17,38 +21,110 @@ const LOOK: u64 = 100;
 /// The time-out for waking the thread that accepts, in milliseconds.
 const WAKING: u64 = 500;
 
-/// A sign that a server is to end, such as a file that appears.
-pub trait StopSign {
+/// The time between two looks at what goes on, in microseconds.
+const SECOND: u64 = 1_000_000;
+
+/// The signs of a server's owner: that the server is to end, such as a file that appears, and that looks at what goes on
+/// are wanted. A thread of the server sees to them.
+pub trait OwnerSigns {
     /// Returns whether the server is to end. It is checked before the server begins, and ten times a second while it
     /// serves.
     fn is_up(&self) -> bool;
+
+    /// Returns whether the handler is to be shown what goes on, once a second.
+    fn wants_looks(&self) -> bool;
+
+    /// The handler was shown what goes on. Nobody waits for this call.
+    fn looked(&self);
 }
 
-/// Returns whether there is a sign that is up.
-pub(crate) fn is_up<P: StopSign>(stop: &Option<P>) -> bool {
-    match stop {
-        Some(sign) => sign.is_up(),
+/// Returns whether the server is to end by its owner's signs, if there are any.
+pub(crate) fn is_up<P: OwnerSigns>(signs: &Option<P>) -> bool {
+    match signs {
+        Some(signs) => signs.is_up(),
         None => false,
     }
 }
 
-/// Checks the sign until the sessions are to end. If it is up, ends them, and wakes the thread that accepts.
-pub(crate) fn watch<R, S, H, B, P>(rt: &R, house: &House<S, H, B>, sign: &P)
+/// Returns whether the handler is to be shown what goes on.
+pub(crate) fn wants_looks<P: OwnerSigns>(signs: &Option<P>) -> bool {
+    match signs {
+        Some(signs) => signs.wants_looks(),
+        None => false,
+    }
+}
+
+// Looks at each lane.
+fn lanes_of(signs: &[LaneSign], tallies: &Tallies) -> [LaneLook; MAX_LANES] {
+    let mut lanes = [LaneLook {
+        session: None,
+        moved: 0,
+        tally: tallies.ended(),
+    }; MAX_LANES];
+    for lane in 0..signs.len().min(MAX_LANES) {
+        let sign = &signs[lane];
+        lanes[lane] = LaneLook {
+            session: sign.session(),
+            moved: sign.moved(),
+            tally: tallies.lane(lane),
+        };
+    }
+    lanes
+}
+
+// Shows the handler what goes on, if no round is in the way.
+fn show<R, S, H, B>(rt: &R, house: &House<S, H, B>, turns: &Mutex<Turns<B, ()>>)
+where
+    R: Wait + Clock,
+    S: Store<Global>,
+    H: ServerHooks,
+    B: PartsName,
+{
+    let Some(look) = look(rt, house, turns) else {
+        return;
+    };
+    let lanes = lanes_of(&house.lanes, &look.tallies);
+    let sessions = house.registry.lock(rt).count();
+    let count = house.lanes.len().min(MAX_LANES);
+    let shown = ServerLook {
+        micros: micros(rt),
+        sessions,
+        issued: look.issued,
+        ended: look.tallies.ended(),
+        lanes: &lanes[..count],
+    };
+    house.handler.lock(rt).on_look(&shown);
+}
+
+/// Checks the signs until the sessions are to end, and shows the handler what goes on, if that is wanted. If the server is
+/// to end, ends the sessions, and wakes the thread that accepts.
+pub(crate) fn watch<R, S, H, B, P>(
+    rt: &R,
+    house: &House<S, H, B>,
+    turns: &Mutex<Turns<B, ()>>,
+    signs: &P,
+)
 where
     R: Wait + Clock + Net<Listener = TcpListener, Stream = TcpStream>,
     S: Store<Global>,
-    H: Hooks,
+    H: ServerHooks,
     B: PartsName,
-    P: StopSign,
+    P: OwnerSigns,
 {
+    let mut shown = micros(rt);
     for _ in rt.forever() {
         if house.ending.has_begun(ShutdownStage::Sessions) {
             return;
         }
-        if sign.is_up() {
+        if signs.is_up() {
             house.ending.begin(ShutdownStage::Sessions);
             wake(rt, house);
             return;
+        }
+        if signs.wants_looks() && has_passed(shown, micros(rt), SECOND) {
+            shown = shown.saturating_add(SECOND);
+            show(rt, house, turns);
+            signs.looked();
         }
         thread::sleep(rt, Duration::from_millis(LOOK));
     }

@@ -33,8 +33,8 @@ pub(crate) struct Works<R: RoundClock, S: Store<Global>, H: Hooks, B: PartsName,
     /// The passes with which lanes take transfers: each takes one as it begins.
     pub(crate) passes: Mutex<Vec<LentPass<B, u32>>>,
     pub(crate) lent: Lent<B>,
-    /// The stop sign, if there is one.
-    pub(crate) stop: Option<P>,
+    /// The signs of the owner, if there are any.
+    pub(crate) signs: Option<P>,
     ghost clock: { IsTestOf R.when B.when },
 }
 
@@ -149,8 +149,14 @@ pub(crate) fn lend_line<B: PartsName>(
 
 impl<B: PartsName> LentLine<B> {
     /// The parts for the threads, with the pace of their rounds, which was made at this moment, and the beats of its rows;
-    /// and the room.
-    pub(crate) fn paced(self, pace: Pace, cadence: Cadence, begun: u64) -> (Lent<B>, Room<B>)
+    /// and the room. If the server is watched, what holds transfers back is counted.
+    pub(crate) fn paced(
+        self,
+        pace: Pace,
+        cadence: Cadence,
+        begun: u64,
+        is_watched: bool,
+    ) -> (Lent<B>, Room<B>)
         requires new { (rates : Rates) × IsPacedFrom (tick_of begun) rates pace }
         requires rated { rates_of pace ≡ B.rates }
         requires when { B.when begun ≡ true }
@@ -166,7 +172,7 @@ impl<B: PartsName> LentLine<B> {
         let rounds = PacedRounds::new(rounds, pace, cadence, begun);
         let lent = Lent {
             desk,
-            turns: Mutex::new(Turns::new(LentRounds::new(rounds))),
+            turns: Mutex::new(Turns::new(LentRounds::new(rounds), is_watched)),
             workers,
         };
         (lent, room)

@@ -2,16 +2,24 @@
 //! with its status.
 #![tactic(auto)]
 
+mod asked;
 mod log_file;
 mod log_thread;
 mod machine_files;
+mod page_thread;
+mod ready_file;
 mod serving;
+mod starting;
+mod status_file;
+mod stop_file;
+mod watched_file;
 
+use asked::Asked;
 use ftp_daemon::RoundClock;
 use ftpd_program::{FtpdErrorText, FtpdExit, StartFault, run_words};
 use line_queue::{LineOutlet, Readiness, StandardError};
 use machine_files::MachineFiles;
-use serving::{Asked, serve_asked};
+use serving::serve_asked;
 use sheets_program::{Machine, NOBODY_READS, Noted, as_words, line_words, null_device};
 use std::io;
 use std::io::Write;
@@ -21,6 +29,7 @@ use std::sync::Wait;
 use std::thread::Threads;
 use std::time::Clock;
 use text_io::FallibleIo;
+use watched_file::watched;
 
 /// Runs the command of these words, and serves what they ask for. Returns the ending, and the reason for which a server
 /// did not start, if it is known.
@@ -54,7 +63,7 @@ where
     );
     match asked.into_service() {
         Some(service) => serve_asked(rt, machine, service, output),
-        None => (ending, None),
+        None => (watched(machine, ending, output), None),
     }
 }
 

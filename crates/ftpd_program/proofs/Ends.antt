@@ -1,36 +1,43 @@
 -- The ends of commands, for the words that name them.
-use Rattle.std.proofs.Common.{◌≡◌, ℕ, Bool, List, Option, option_map, subst}
-use Rattle.command_line.specs.Given.{IsCheck, IsCheckConfig, IsMigrate, IsOfSheets, IsPlanWords, IsScript, IsServe, IsShare}
+use Rattle.std.proofs.Common.{◌≡◌, ℕ, Bool, false, true, List, Option, option_map, refl, subst, sym}
+use Rattle.command_line.specs.Given.{IsCheck, IsCheckConfig, IsMigrate, IsOfSheets, IsPlanWords, IsScript, IsServe, IsShare, IsTop}
 use Rattle.client_patience.specs.declared.patience.Patience.{Patience}
 use Rattle.command_line.specs.declared.words.SheetWords.TheVariants.{Share, Check}
 use Rattle.command_line.specs.declared.words.Words.{Words}
-use Rattle.command_line.specs.declared.words.Words.TheVariants.{Sheet, CheckConfig, Migrate, Script, Serve, Plan}
+use Rattle.command_line.specs.declared.words.Words.TheVariants.{Sheet, CheckConfig, Migrate, Script, Serve, Plan, Top}
 use Rattle.script_session.specs.declared.fault.SessionFault.{SessionFault}
 use Rattle.config_report.specs.Looks.{Shown}
 use Rattle.sheets_program.specs.Runs.{IsCheckEnd, IsShareEnd, Octets}
-use Rattle.ftpd_program.specs.Endings.{IsCommon}
-use Rattle.ftpd_program.specs.Runs.{IsCommandEnd, IsPlanEnd, IsPrintEnd, IsReportEnd, IsScriptEnd, plan_print, report_print}
+use Rattle.sheets_program.specs.declared.ending.Exit.TheVariants.{Done, Flawed, Refused, Text, Share as Unshared, Check as Unchecked}
+use Rattle.std.specs.Borrow.{Bor}
+use Rattle.ftpd_program.specs.Endings.{IsCommon, IsUnwritten}
+use Rattle.ftpd_program.specs.Runs.{IsCommandEnd, IsPlanEnd, IsPrintEnd, IsReportEnd, IsScriptEnd, IsTopEnd, after_table, plan_print, report_print}
 use Rattle.ftpd_program.specs.Scripting.{IsUnscripted}
 use Rattle.ftpd_program.specs.Serving.{IsServeEnd, Service}
 use Rattle.ftpd_program.specs.declared.ending.FtpdExit.{FtpdExit}
-use Rattle.ftpd_program.specs.declared.ending.FtpdExit.TheVariants.{Common, Config, Transfers, Session, Server}
-use Rattle.ftpd_program.specs.declared.printing.Print.TheVariants.{Latest}
+use Rattle.ftpd_program.specs.declared.ending.FtpdExit.TheVariants.{Common, Config, Transfers, Session, Server, Status, Watches}
+use Rattle.ftpd_program.specs.declared.printing.Print.TheVariants.{Latest, Table}
 use Rattle.ftpd_program.specs.declared.scripting.ScriptFault.{ScriptFault}
 use Rattle.ftpd_program.specs.declared.scripting.ScriptFault.TheVariants.{Session as Unserved}
 
-pub share_end : (gives : List ℕ → Octets) (shown : Shown) (serves : Service) (Refuses : List ℕ → Type 0) (words : Words) (sheet : List ℕ) (old new : Option (List ℕ)) (ending : FtpdExit)
-    → IsOfSheets (IsShare sheet) words → IsCommandEnd gives shown serves Refuses words old new ending → IsCommon (IsShareEnd gives sheet old new) ending
-share_end gives shown serves Refuses (Sheet (Share path)) sheet old new (Common ending) is end = subst (λ (p : List ℕ). IsShareEnd gives p old new ending) is end
-share_end gives shown serves Refuses (Sheet (Share path)) sheet old new (Config fault) is end = absurd end
-share_end gives shown serves Refuses (Sheet (Share path)) sheet old new (Transfers name told) is end = absurd end
-share_end gives shown serves Refuses (Sheet (Share path)) sheet old new (Session fault) is end = absurd end
-share_end gives shown serves Refuses (Sheet (Share path)) sheet old new (Server fault) is end = absurd end
-share_end gives shown serves Refuses (Sheet (Check path other)) sheet old new ending is end = absurd is
-share_end gives shown serves Refuses (CheckConfig path json) sheet old new ending is end = absurd is
-share_end gives shown serves Refuses (Migrate path) sheet old new ending is end = absurd is
-share_end gives shown serves Refuses (Script path) sheet old new ending is end = absurd is
-share_end gives shown serves Refuses (Serve path files patience) sheet old new ending is end = absurd is
-share_end gives shown serves Refuses (Plan path stated json) sheet old new ending is end = absurd is
+pub share_end : (gives : List ℕ → Octets) (shown : Shown) (serves : Service) (Refuses : List ℕ → Type 0) (words : Words) (sheet : List ℕ) (as_svg : Bool) (old new : Option (List ℕ)) (ending : FtpdExit)
+    → IsOfSheets (IsShare sheet as_svg) words → IsCommandEnd gives shown serves Refuses words old new ending → IsCommon (IsShareEnd gives as_svg sheet old new) ending
+share_end gives shown serves Refuses (Sheet (Share path svg)) sheet as_svg old new (Common ending) is end =
+    let first = subst (λ (p : List ℕ). IsShareEnd gives svg p old new ending) is.0 end in
+    subst (λ (b : Bool). IsShareEnd gives b sheet old new ending) is.1 first
+share_end gives shown serves Refuses (Sheet (Share path svg)) sheet as_svg old new (Config fault) is end = absurd end
+share_end gives shown serves Refuses (Sheet (Share path svg)) sheet as_svg old new (Transfers name told) is end = absurd end
+share_end gives shown serves Refuses (Sheet (Share path svg)) sheet as_svg old new (Session fault) is end = absurd end
+share_end gives shown serves Refuses (Sheet (Share path svg)) sheet as_svg old new (Server fault) is end = absurd end
+share_end gives shown serves Refuses (Sheet (Share path svg)) sheet as_svg old new (Status file fault) is end = absurd end
+share_end gives shown serves Refuses (Sheet (Share path svg)) sheet as_svg old new (Watches status rows) is end = absurd end
+share_end gives shown serves Refuses (Sheet (Check path other)) sheet as_svg old new ending is end = absurd is
+share_end gives shown serves Refuses (CheckConfig path json) sheet as_svg old new ending is end = absurd is
+share_end gives shown serves Refuses (Migrate path) sheet as_svg old new ending is end = absurd is
+share_end gives shown serves Refuses (Script path) sheet as_svg old new ending is end = absurd is
+share_end gives shown serves Refuses (Serve path files patience) sheet as_svg old new ending is end = absurd is
+share_end gives shown serves Refuses (Plan path stated json) sheet as_svg old new ending is end = absurd is
+share_end gives shown serves Refuses (Top status once rows) sheet as_svg old new ending is end = absurd is
 
 pub check_end : (gives : List ℕ → Octets) (shown : Shown) (serves : Service) (Refuses : List ℕ → Type 0) (words : Words) (sheet grants : List ℕ) (old new : Option (List ℕ)) (ending : FtpdExit)
     → IsOfSheets (IsCheck sheet grants) words → IsCommandEnd gives shown serves Refuses words old new ending → IsCommon (IsCheckEnd gives sheet grants old new) ending
@@ -41,12 +48,15 @@ check_end gives shown serves Refuses (Sheet (Check path other)) sheet grants old
 check_end gives shown serves Refuses (Sheet (Check path other)) sheet grants old new (Transfers name told) is end = absurd end
 check_end gives shown serves Refuses (Sheet (Check path other)) sheet grants old new (Session fault) is end = absurd end
 check_end gives shown serves Refuses (Sheet (Check path other)) sheet grants old new (Server fault) is end = absurd end
-check_end gives shown serves Refuses (Sheet (Share path)) sheet grants old new ending is end = absurd is
+check_end gives shown serves Refuses (Sheet (Check path other)) sheet grants old new (Status file fault) is end = absurd end
+check_end gives shown serves Refuses (Sheet (Check path other)) sheet grants old new (Watches status rows) is end = absurd end
+check_end gives shown serves Refuses (Sheet (Share path svg)) sheet grants old new ending is end = absurd is
 check_end gives shown serves Refuses (CheckConfig path json) sheet grants old new ending is end = absurd is
 check_end gives shown serves Refuses (Migrate path) sheet grants old new ending is end = absurd is
 check_end gives shown serves Refuses (Script path) sheet grants old new ending is end = absurd is
 check_end gives shown serves Refuses (Serve path files patience) sheet grants old new ending is end = absurd is
 check_end gives shown serves Refuses (Plan path stated json) sheet grants old new ending is end = absurd is
+check_end gives shown serves Refuses (Top status once rows) sheet grants old new ending is end = absurd is
 
 pub report_end : (gives : List ℕ → Octets) (shown : Shown) (serves : Service) (Refuses : List ℕ → Type 0) (words : Words) (config : List ℕ) (as_json : Bool) (old new : Option (List ℕ)) (ending : FtpdExit)
     → IsCheckConfig config as_json words → IsCommandEnd gives shown serves Refuses words old new ending → IsReportEnd as_json shown (gives config) config Refuses old new ending
@@ -58,6 +68,7 @@ report_end gives shown serves Refuses (Migrate path) config as_json old new endi
 report_end gives shown serves Refuses (Script path) config as_json old new ending is end = absurd is
 report_end gives shown serves Refuses (Serve path files patience) config as_json old new ending is end = absurd is
 report_end gives shown serves Refuses (Plan path stated json) config as_json old new ending is end = absurd is
+report_end gives shown serves Refuses (Top status once rows) config as_json old new ending is end = absurd is
 
 pub migrate_end : (gives : List ℕ → Octets) (shown : Shown) (serves : Service) (Refuses : List ℕ → Type 0) (words : Words) (config : List ℕ) (old new : Option (List ℕ)) (ending : FtpdExit)
     → IsMigrate config words → IsCommandEnd gives shown serves Refuses words old new ending → IsPrintEnd Latest shown (gives config) Refuses old new ending
@@ -67,6 +78,7 @@ migrate_end gives shown serves Refuses (CheckConfig path json) config old new en
 migrate_end gives shown serves Refuses (Script path) config old new ending is end = absurd is
 migrate_end gives shown serves Refuses (Serve path files patience) config old new ending is end = absurd is
 migrate_end gives shown serves Refuses (Plan path stated json) config old new ending is end = absurd is
+migrate_end gives shown serves Refuses (Top status once rows) config old new ending is end = absurd is
 
 pub script_end : (gives : List ℕ → Octets) (shown : Shown) (serves : Service) (Refuses : List ℕ → Type 0) (words : Words) (config : List ℕ) (old new : Option (List ℕ)) (ending : FtpdExit)
     → IsScript config words → IsCommandEnd gives shown serves Refuses words old new ending → IsScriptEnd gives config old new ending
@@ -76,6 +88,7 @@ script_end gives shown serves Refuses (CheckConfig path json) config old new end
 script_end gives shown serves Refuses (Migrate path) config old new ending is end = absurd is
 script_end gives shown serves Refuses (Serve path files patience) config old new ending is end = absurd is
 script_end gives shown serves Refuses (Plan path stated json) config old new ending is end = absurd is
+script_end gives shown serves Refuses (Top status once rows) config old new ending is end = absurd is
 
 pub serve_end : (gives : List ℕ → Octets) (shown : Shown) (serves : Service) (Refuses : List ℕ → Type 0) (words : Words) (config : List ℕ) (path ready : Option (List ℕ)) (p : Patience) (old new : Option (List ℕ)) (ending : FtpdExit)
     → IsServe config path ready p words → IsCommandEnd gives shown serves Refuses words old new ending → IsServeEnd (gives config) shown config serves path ready p old new ending
@@ -91,6 +104,7 @@ serve_end gives shown serves Refuses (CheckConfig word json) config path ready p
 serve_end gives shown serves Refuses (Migrate word) config path ready p old new ending is end = absurd is
 serve_end gives shown serves Refuses (Script word) config path ready p old new ending is end = absurd is
 serve_end gives shown serves Refuses (Plan word stated json) config path ready p old new ending is end = absurd is
+serve_end gives shown serves Refuses (Top status once rows) config path ready p old new ending is end = absurd is
 
 pub plan_end : (gives : List ℕ → Octets) (shown : Shown) (serves : Service) (Refuses : List ℕ → Type 0) (words : Words) (config transfers : List ℕ) (as_json : Bool) (old new : Option (List ℕ)) (ending : FtpdExit)
     → IsPlanWords config transfers as_json words → IsCommandEnd gives shown serves Refuses words old new ending → IsPlanEnd as_json shown (gives config) transfers Refuses old new ending
@@ -102,7 +116,60 @@ plan_end gives shown serves Refuses (CheckConfig path json) config transfers as_
 plan_end gives shown serves Refuses (Migrate path) config transfers as_json old new ending is end = absurd is
 plan_end gives shown serves Refuses (Script path) config transfers as_json old new ending is end = absurd is
 plan_end gives shown serves Refuses (Serve path files patience) config transfers as_json old new ending is end = absurd is
+plan_end gives shown serves Refuses (Top status once rows) config transfers as_json old new ending is end = absurd is
+
+pub top_end : (gives : List ℕ → Octets) (shown : Shown) (serves : Service) (Refuses : List ℕ → Type 0) (words : Words) (path : List ℕ) (only_once : Bool) (lines : ℕ) (old new : Option (List ℕ)) (ending : FtpdExit)
+    → IsTop path only_once lines words → IsCommandEnd gives shown serves Refuses words old new ending → IsTopEnd only_once path lines (IsPrintEnd (Table lines) shown (gives path) Refuses old new) ending
+top_end gives shown serves Refuses (Top status once rows) path only_once lines old new ending is end =
+    let first = subst (λ (p : List ℕ). IsTopEnd once p rows (IsPrintEnd (Table rows) shown (gives p) Refuses old new) ending) is.0 end in
+    let second = subst (λ (b : Bool). IsTopEnd b path rows (IsPrintEnd (Table rows) shown (gives path) Refuses old new) ending) is.1 first in
+    subst (λ (n : ℕ). IsTopEnd only_once path n (IsPrintEnd (Table n) shown (gives path) Refuses old new) ending) is.2 second
+top_end gives shown serves Refuses (Sheet words) path only_once lines old new ending is end = absurd is
+top_end gives shown serves Refuses (CheckConfig word json) path only_once lines old new ending is end = absurd is
+top_end gives shown serves Refuses (Migrate word) path only_once lines old new ending is end = absurd is
+top_end gives shown serves Refuses (Script word) path only_once lines old new ending is end = absurd is
+top_end gives shown serves Refuses (Serve word files patience) path only_once lines old new ending is end = absurd is
+top_end gives shown serves Refuses (Plan word stated json) path only_once lines old new ending is end = absurd is
 
 pub unserved : (text before after old new : Option (List ℕ)) (fault : ScriptFault) (why : SessionFault)
     → IsUnscripted text before after old new fault → fault ≡ Unserved why → IsUnscripted text before after old new (Unserved why)
 unserved text before after old new fault why so is = subst (λ (f : ScriptFault). IsUnscripted text before after old new f) is so
+
+-- the ending after the first table is one of `top`
+pub table_end : (once : Bool) (status : Bor (List ℕ)) (rows : ℕ) (P : FtpdExit → Type 0) (ending after : FtpdExit) → ((path : Bor (List ℕ)) (lines : ℕ) → P (Watches path lines) → ⊥) → after ≡ after_table once status rows ending → P ending
+    → IsTopEnd once status.now rows P after
+table_end once status rows P ending after never is end = subst (λ (e : FtpdExit). IsTopEnd once status.now rows P e) (sym is) (go once ending end)
+  where
+    go : (b : Bool) (e : FtpdExit) → P e → IsTopEnd b status.now rows P (after_table b status rows e)
+    go false (Common Done) end = (refl, refl, refl, end)
+    go true (Common Done) end = (refl, end)
+    go b (Common Flawed) end = end
+    go b (Common (Refused told)) end = end
+    go b (Common (Text why cause)) end = end
+    go b (Common (Unshared why cause)) end = end
+    go b (Common (Unchecked why cause)) end = end
+    go b (Config fault) end = end
+    go b (Transfers name told) end = end
+    go b (Session fault) end = end
+    go b (Server fault) end = end
+    go b (Status file fault) end = end
+    go b (Watches path lines) end = absurd (never path lines end)
+
+-- nothing was written after the first table, if nothing was written by it
+pub table_unwritten : (once : Bool) (status : Bor (List ℕ)) (rows : ℕ) (ending after : FtpdExit) → after ≡ after_table once status rows ending → IsUnwritten after → IsUnwritten ending
+table_unwritten once status rows ending after is unwritten = go once ending (subst IsUnwritten is unwritten)
+  where
+    go : (b : Bool) (e : FtpdExit) → IsUnwritten (after_table b status rows e) → IsUnwritten e
+    go false (Common Done) end = absurd end
+    go true (Common Done) end = end
+    go b (Common Flawed) end = end
+    go b (Common (Refused told)) end = end
+    go b (Common (Text why cause)) end = end
+    go b (Common (Unshared why cause)) end = end
+    go b (Common (Unchecked why cause)) end = end
+    go b (Config fault) end = end
+    go b (Transfers name told) end = end
+    go b (Session fault) end = end
+    go b (Server fault) end = end
+    go b (Status file fault) end = end
+    go b (Watches path lines) end = end

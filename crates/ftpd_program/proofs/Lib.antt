@@ -1,3 +1,4 @@
+mod Shown
 pub mod Breaks
 pub mod Ends
 pub mod NoWords

@@ -1,5 +1,5 @@
 -- The ends of words that memory ran out for.
-use Rattle.std.proofs.Common.{◌≡◌, ◌∷◌, [], ℕ, List, Option, map, subst, sym}
+use Rattle.std.proofs.Common.{◌≡◌, ◌∷◌, [], ℕ, Bool, List, Option, map, subst, sym}
 use Rattle.std.specs.Borrow.{Bor}
 use Rattle.client_patience.specs.declared.patience.Patience.{Patience}
 use Rattle.command_line.specs.declared.words.WordsFault.{WordsFault}
@@ -12,10 +12,11 @@ use Rattle.sheets_program.specs.declared.ending.Exit.TheVariants.{Done, Flawed, 
 use Rattle.text_io.specs.declared.fault.TextFault.{TextFault}
 use Rattle.ftpd_program.specs.Faults.{IsPrintingFaultOf, IsReadingFaultOf}
 use Rattle.ftpd_program.specs.Printing.{IsPrintOf}
-use Rattle.ftpd_program.specs.Runs.{IsPrintEnd}
+use Rattle.ftpd_program.specs.Runs.{IsPrintEnd, IsTopEnd}
 use Rattle.ftpd_program.specs.Serving.{IsServeEnd, Service}
 use Rattle.ftpd_program.specs.declared.ending.FtpdExit.TheVariants.{Common}
 use Rattle.ftpd_program.specs.declared.printing.Print.{Print}
+use Rattle.ftpd_program.specs.declared.printing.Print.TheVariants.{Table}
 
 pub no_serve : (gives : Octets) (shown : Shown) (config : List ℕ) (serves : Service) (path ready : Option (List ℕ)) (p : Patience) (old new : Option (List ℕ)) (fault : WordsFault) (exit : Exit) → fault ≡ NoMemory → IsToldEnd fault old new exit
     → IsServeEnd gives shown config serves path ready p old new (Common exit)
@@ -36,6 +37,16 @@ no_print print shown gives Refuses old new NoMemory (Refused text) is end = absu
 no_print print shown gives Refuses old new NoMemory (Share why cause) is end = absurd end
 no_print print shown gives Refuses old new NoMemory (Check why cause) is end = absurd end
 no_print print shown gives Refuses old new (NoCommand text is_help) exit is end = absurd (cc)
+
+pub no_top : (once : Bool) (path : List ℕ) (rows : ℕ) (shown : Shown) (gives : Octets) (Refuses : List ℕ → Type 0) (old new : Option (List ℕ)) (fault : WordsFault) (exit : Exit) → fault ≡ NoMemory → IsToldEnd fault old new exit
+    → IsTopEnd once path rows (IsPrintEnd (Table rows) shown gives Refuses old new) (Common exit)
+no_top once path rows shown gives Refuses old new NoMemory (Text why cause) is end = subst (λ (w : TextFault). IsPrintingFaultOf gives (IsPrintOf (Table rows) shown) Refuses w) (sym end) tt
+no_top once path rows shown gives Refuses old new NoMemory Done is end = absurd end
+no_top once path rows shown gives Refuses old new NoMemory Flawed is end = absurd end
+no_top once path rows shown gives Refuses old new NoMemory (Refused text) is end = absurd end
+no_top once path rows shown gives Refuses old new NoMemory (Share why cause) is end = absurd end
+no_top once path rows shown gives Refuses old new NoMemory (Check why cause) is end = absurd end
+no_top once path rows shown gives Refuses old new (NoCommand text is_help) exit is end = absurd (cc)
 
 -- the second word of two
 pub second_word : (words : List (Bor (List ℕ))) (first second : List ℕ) → map (λ w. w.now) words ≡ first ∷ second ∷ [] → (word : Bor (List ℕ)) × (word.now ≡ second)

@@ -6,7 +6,7 @@ use Rattle.text_io.specs.Texts.{IsTextOf}
 use Rattle.ftpd_program.specs.Printing.{AppendsPrint, IsPrintFault, IsPrintOf, IsPrintRefusal}
 use Rattle.ftpd_program.specs.declared.printing.Print.{Print}
 use Rattle.ftpd_program.specs.declared.printing.PrintFault.{PrintFault}
-use Rattle.ftpd_program.specs.declared.printing.PrintFault.TheVariants.{Config, Text, Transfers}
+use Rattle.ftpd_program.specs.declared.printing.PrintFault.TheVariants.{Config, Text, Transfers, Status}
 
 pub whole : (text rest items : List ℕ) → Consumes (Some text) (Some rest) items → IsAtEnd (Some rest) → items ≡ text
 whole text rest items taken end = sym (append-nil items) ∙ ap (λ (r : List ℕ). items ++ r) (sym end) ∙ sym taken
@@ -24,3 +24,4 @@ pub refused_at : (print : Print) (left : Option (List ℕ)) (text : List ℕ) (f
 refused_at print left text (Text why) of is = tt
 refused_at print left text (Config why) of is = (text, of, is)
 refused_at print left text (Transfers name told) of is = is
+refused_at print left text (Status why) of is = (is.0, (text, of, is.1))

@@ -3,7 +3,7 @@
 -- reading it may fail.
 use Rattle.std.specs.Prelude.{◌≡◌, ◌≤◌, ◌+◌, ◌⊎◌, ℕ, List, Option, Some, IfSome, length}
 use Rattle.command_line.specs.declared.words.Words.{Words}
-use Rattle.command_line.specs.declared.words.Words.TheVariants.{Sheet, CheckConfig, Migrate, Script, Serve, Plan}
+use Rattle.command_line.specs.declared.words.Words.TheVariants.{Sheet, CheckConfig, Migrate, Script, Serve, Plan, Top}
 use Rattle.script_session.specs.Served.{IsSessionBreak, most_reads}
 use Rattle.sheets_program.specs.Causes.{AreOpened, IsSheetWhy}
 use Rattle.sheets_program.specs.Runs.{IsInput, Octets, file_of}
@@ -12,14 +12,15 @@ use Rattle.sheets_program.specs.declared.files.TheConstants.{STANDARD_INPUT}
 use Rattle.text_io.specs.declared.fault.TextFault.TheVariants.{ReadFault, TooLong}
 use Rattle.ftpd_program.specs.Endings.{IsCommon}
 use Rattle.ftpd_program.specs.declared.ending.FtpdExit.{FtpdExit}
-use Rattle.ftpd_program.specs.declared.ending.FtpdExit.TheVariants.{Common, Session}
+use Rattle.ftpd_program.specs.declared.ending.FtpdExit.TheVariants.{Common, Session, Status}
 
 -- the cause of a fault of reading the file of that path: a read fault is possible, and a read fault
--- or a text that is too long names the file
+-- or a text that is too long names the file, and so does a text without a status
 abbrev pub IsReadWhy : List ℕ → Type 0 → FtpdExit → Type 0
 IsReadWhy path may (Common (Text fault cause)) =
     (fault ≡ ReadFault → may × (file_of cause ≡ Some path))
     × (fault ≡ TooLong → file_of cause ≡ Some path)
+IsReadWhy path may (Status file fault) = file.now ≡ path
 IsReadWhy path may _ = Unit {0}
 
 -- reading the input of a session may break it off: a read may fail, or the text is long enough for
@@ -71,6 +72,8 @@ IsCommandWhy gives refused fails refuses breaks (Serve config files patience) en
     IsReadWhy config.now (refused config.now ⊎ fails config.now) ending
 IsCommandWhy gives refused fails refuses breaks (Plan config transfers json) ending =
     IsReadWhy config.now (refused config.now ⊎ fails config.now) ending
+IsCommandWhy gives refused fails refuses breaks (Top status once rows) ending =
+    IsReadWhy status.now (refused status.now ⊎ fails status.now) ending
 
 -- the files that a command opens, in the order of its words
 abbrev pub AreCommandOpened : {O : Type 0} → (O → List ℕ → O → Type 0) → O → O → (List ℕ → Type 0)
@@ -85,3 +88,4 @@ AreCommandOpened opens old new refused (Serve config files patience) ending =
     opens old config.now new
 AreCommandOpened opens old new refused (Plan config transfers json) ending =
     opens old config.now new
+AreCommandOpened opens old new refused (Top status once rows) ending = opens old status.now new

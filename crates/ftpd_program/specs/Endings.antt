@@ -4,7 +4,7 @@ use Rattle.script_session.specs.declared.fault.SessionFault.TheVariants.{Control
 use Rattle.sheets_program.specs.Endings as common
 use Rattle.sheets_program.specs.declared.ending.Exit.{Exit as CommonExit}
 use Rattle.ftpd_program.specs.declared.ending.FtpdExit.{FtpdExit}
-use Rattle.ftpd_program.specs.declared.ending.FtpdExit.TheVariants.{Common, Config, Transfers, Session, Server}
+use Rattle.ftpd_program.specs.declared.ending.FtpdExit.TheVariants.{Common, Config, Transfers, Session, Server, Status, Watches}
 
 abbrev pub status_of : FtpdExit → ℕ
 status_of (Common ending) = common.status_of ending
@@ -12,10 +12,12 @@ status_of (Config fault) = 1
 status_of (Transfers name told) = 1
 status_of (Session fault) = 1
 status_of (Server fault) = 1
+status_of (Status file fault) = 1
+status_of (Watches status rows) = 0
 
--- nothing was written: the command line or the configuration is refused, or there is a fault other
--- than that of the output; but a session that broke off may have written some replies, and a server
--- its messages
+-- nothing was written: the command line, the configuration or the status is refused, or there is a
+-- fault other than that of the output; but a session that broke off may have written some replies,
+-- and a server its messages
 abbrev pub IsUnwritten : FtpdExit → Type 0
 IsUnwritten (Common ending) = common.IsUnwritten ending
 IsUnwritten (Config fault) = Unit {0}
@@ -23,6 +25,8 @@ IsUnwritten (Transfers name told) = Unit {0}
 IsUnwritten (Session Folder) = Unit {0}
 IsUnwritten (Session (Control why)) = ⊥
 IsUnwritten (Server fault) = ⊥
+IsUnwritten (Status file fault) = Unit {0}
+IsUnwritten (Watches status rows) = ⊥
 
 -- an ending that any command may have, with that property
 abbrev pub IsCommon : (CommonExit → Type 0) → FtpdExit → Type 0
@@ -31,3 +35,5 @@ IsCommon P (Config fault) = ⊥
 IsCommon P (Transfers name told) = ⊥
 IsCommon P (Session fault) = ⊥
 IsCommon P (Server fault) = ⊥
+IsCommon P (Status file fault) = ⊥
+IsCommon P (Watches status rows) = ⊥

@@ -1,8 +1,9 @@
 pub mod Causes
-pub mod Printing
-pub mod Ready
 pub mod Endings
 pub mod Faults
+pub mod Printing
+pub mod Ready
 pub mod Runs
 pub mod Scripting
 pub mod Serving
+pub mod Watching

@@ -1,5 +1,5 @@
 -- The ready file of a server.
-use Rattle.std.specs.Prelude.{◌≡◌, Option, Some, None}
+use Rattle.std.specs.Prelude.{Option, Some, None}
 use Rattle.std.specs.declared.io.Error.{Error}
 use Rattle.ftpd_program.specs.declared.server.ServeFault.{ServeFault}
 use Rattle.ftpd_program.specs.declared.server.ServeFault.TheVariants.{ReadyFile}

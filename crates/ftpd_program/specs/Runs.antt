@@ -2,25 +2,25 @@
 -- the commands on sheets. Old and new are the contents of the output before and after, and Refuses
 -- is the test of the octets that it may refuse.
 use Rattle.std.specs.Borrow.{Bor}
-use Rattle.std.specs.Prelude.{◌≡◌, ℕ, Bool, List, Option, false, option_map, true}
+use Rattle.std.specs.Prelude.{◌≡◌, ℕ, Bool, List, Option, false, if◌then◌else◌, option_map, true}
 use Rattle.command_line.specs.declared.words.Words.{Words}
-use Rattle.command_line.specs.declared.words.Words.TheVariants.{Sheet, CheckConfig, Migrate, Script, Serve, Plan}
+use Rattle.command_line.specs.declared.words.Words.TheVariants.{Sheet, CheckConfig, Migrate, Script, Serve, Plan, Top}
 use Rattle.config_report.specs.Looks.{Shown}
 use Rattle.sheets_program.specs.Runs.{IsInput, IsSheetEnd, Octets}
 use Rattle.sheets_program.specs.declared.ending.Exit.TheVariants.{Done, Refused, Text}
 use Rattle.sheets_program.specs.declared.files.TheConstants.{STANDARD_INPUT}
 use Rattle.ftpd_program.specs.Endings.{IsCommon}
 use Rattle.ftpd_program.specs.Faults.{IsPrintingFaultOf, IsReadingFaultOf}
-use Rattle.ftpd_program.specs.Printing.{AppendsPrint, IsOfPlan, IsPrintOf, IsUnprintedAt}
+use Rattle.ftpd_program.specs.Printing.{AppendsPrint, IsOfPlan, IsPrintOf, IsUnprintedAt, IsUntabledAt}
 use Rattle.ftpd_program.specs.Scripting.{IsRefusalOf, IsScripted, IsUnscripted}
 use Rattle.ftpd_program.specs.Serving.{IsServeEnd, Service}
 use Rattle.ftpd_program.specs.declared.ending.FtpdExit.{FtpdExit}
-use Rattle.ftpd_program.specs.declared.ending.FtpdExit.TheVariants.{Common, Config, Transfers, Session}
+use Rattle.ftpd_program.specs.declared.ending.FtpdExit.TheVariants.{Common, Config, Transfers, Session, Status, Watches}
 use Rattle.ftpd_program.specs.declared.printing.Print.{Print}
-use Rattle.ftpd_program.specs.declared.printing.Print.TheVariants.{Report, ReportJson, Latest, Plan as PlanOf, PlanJson}
+use Rattle.ftpd_program.specs.declared.printing.Print.TheVariants.{Report, ReportJson, Latest, Plan as PlanOf, PlanJson, Table}
 use Rattle.ftpd_program.specs.declared.scripting.ScriptFault.TheVariants.{Session as Unserved}
 
--- the ending of a command that prints a text about a configuration, by the possible results of
+-- the ending of a command that prints a text about a file, by the possible results of
 -- looks at the machine, and the contents that its file may have
 abbrev pub IsPrintEnd : Print → Shown → Octets → (List ℕ → Type 0) → Option (List ℕ)
     → Option (List ℕ) → FtpdExit → Type 0
@@ -31,6 +31,8 @@ IsPrintEnd print shown gives Refuses old new (Common (Text fault cause)) =
 IsPrintEnd print shown gives Refuses old new (Config fault) =
     (text : Option (List ℕ)) × gives text × IsUnprintedAt print text fault
 IsPrintEnd print shown gives Refuses old new (Transfers name told) = IsOfPlan print
+IsPrintEnd print shown gives Refuses old new (Status file fault) =
+    (text : Option (List ℕ)) × gives text × IsUntabledAt print text fault
 IsPrintEnd print shown gives Refuses old new _ = ⊥
 
 -- the report on the configuration of the file of a path, as JSON or in lines
@@ -56,6 +58,20 @@ abbrev pub IsPlanEnd : Bool → Shown → Octets → List ℕ → (List ℕ → 
 IsPlanEnd json shown gives transfers Refuses old new ending =
     (stated : Bor (List ℕ)) × (stated.now ≡ transfers)
     × IsPrintEnd (plan_print json stated) shown gives Refuses old new ending
+
+-- the ending of `top` after that of its first table: it goes on, unless once is enough
+abbrev pub after_table : Bool → Bor (List ℕ) → ℕ → FtpdExit → FtpdExit
+after_table once status rows (Common Done) =
+    if once then Common Done else Watches status rows
+after_table once status rows ending = ending
+
+-- the ending of `top` for the path of a status, after an ending of its first table with that
+-- property
+abbrev pub IsTopEnd : Bool → List ℕ → ℕ → (FtpdExit → Type 0) → FtpdExit → Type 0
+IsTopEnd once path rows P (Watches status lines) =
+    (once ≡ false) × (status.now ≡ path) × (lines ≡ rows) × P (Common Done)
+IsTopEnd once path rows P (Common Done) = (once ≡ true) × P (Common Done)
+IsTopEnd once path rows P ending = P ending
 
 -- the ending of `script` for the path of a configuration; the control text is that of standard
 -- input
@@ -92,3 +108,6 @@ IsCommandEnd gives shown serves Refuses (Serve config files patience) old new en
     old new ending
 IsCommandEnd gives shown serves Refuses (Plan config transfers json) old new ending =
     IsPrintEnd (plan_print json transfers) shown (gives config.now) Refuses old new ending
+IsCommandEnd gives shown serves Refuses (Top status once rows) old new ending =
+    IsTopEnd once status.now rows
+    (IsPrintEnd (Table rows) shown (gives status.now) Refuses old new) ending

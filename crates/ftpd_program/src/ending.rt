@@ -7,6 +7,7 @@ use crate::server::ServeFault;
 use crate::start::StartFault;
 use script_session::SessionFault;
 use server_config::ConfigFault;
+use server_status::StatusFault;
 use sheets_program::{ErrorText, Exit as Common};
 use std::{fmt, io};
 
@@ -27,6 +28,11 @@ pub enum FtpdExit<'w> {
     Session(SessionFault),
     /// The server did not start, or did not end as its configuration says.
     Server(ServeFault),
+    /// The file of this path has no status of a server.
+    Status { file: &'w str, fault: StatusFault },
+    /// The transfers of the status file of this path are shown, in that number of lines, and are to be shown again and
+    /// again.
+    Watches { status: &'w str, rows: u16 },
 }
 
 impl<'w> FtpdExit<'w> {
@@ -36,9 +42,11 @@ impl<'w> FtpdExit<'w> {
     {
         match self {
             FtpdExit::Common(ending) => ending.status(),
+            FtpdExit::Watches { .. } => 0,
             FtpdExit::Config(_)
             | FtpdExit::Transfers { .. }
             | FtpdExit::Session(_)
+            | FtpdExit::Status { .. }
             | FtpdExit::Server(_) => 1,
         }
     }
@@ -85,6 +93,11 @@ impl fmt::Display for FtpdErrorText<'_, '_> {
                 }
                 writeln!(f, "{NAME}: {fault}")
             }
+            FtpdExit::Status { file, fault } => {
+                writeln!(f, "{file}: this is no status of a server: {fault}")?;
+                writeln!(f, "{NAME}: NoStatus")
+            }
+            FtpdExit::Watches { .. } => Ok(()),
         }
     }
 }

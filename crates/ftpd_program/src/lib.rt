@@ -20,6 +20,7 @@ mod scripting;
 mod server;
 mod serving;
 mod start;
+mod watching;
 
 pub use command_line::{Patience, ServeFiles};
 pub use config_report::{Lookout, Sight};
@@ -31,3 +32,4 @@ pub use scripting::{ScriptFault, run_script};
 pub use server::{ServeFault, Server};
 pub use sheets_program::{Opener, STANDARD_INPUT};
 pub use start::StartFault;
+pub use watching::{StatusSource, watch};

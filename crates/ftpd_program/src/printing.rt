@@ -1,17 +1,20 @@
-//! The commands that print a text about a configuration.
+//! The commands that print a text about a file: a configuration, or the status of a server.
 
 ghost use Rattle.std.specs.Prelude.{◌≡◌, ◌≢◌, ◌<◌, ℕ, List, true, IfErr, IfOk, IfSome, IsErrOf, OnOk, length, string_bytes};
 ghost use Rattle.text_io.specs.Texts.{IsTextOf};
-ghost use Rattle.ftpd_program.specs.Printing.{AppendsPrint, IsPlanRefusal, IsPrintFault, IsPrintOf, IsPrintRefusal};
+ghost use Rattle.ftpd_program.specs.Printing.{AppendsPrint, IsPlanRefusal, IsPrintFault, IsPrintOf, IsPrintRefusal, IsTableRefusal};
+ghost use Rattle.ftpd_program.specs.Watching.{IsTableOf};
 ghost use Rattle.plan_report.specs.Reports.{IsNoPlan, IsPlanJson, IsPlanReport};
 
 use config_report::{Lookout, report, report_json};
 use plan_report::{NoPlan, plan_json, plan_lines};
 use server_config::{ConfigFault, migrate};
+use server_status::{StatusFault, read_status};
+use status_table::table_lines;
 use std::alloc::Global;
 use text_io::{MAX_TEXT, TextFault, TextReader, TextWriter, read_whole, write_whole};
 
-/// A text about a configuration.
+/// A text about a configuration, or about the status of a server.
 #[derive(Clone, Copy, Debug, PartialEq, Eq)]
 pub enum Print<'w> {
     /// The report on it, with its warnings; the path of its file.
@@ -24,9 +27,11 @@ pub enum Print<'w> {
     Plan(&'w str),
     /// The same plan as JSON.
     PlanJson(&'w str),
+    /// The table of the transfers of a status, in at most this number of lines.
+    Table(u16),
 }
 
-/// The reason for which no text about a configuration is printed.
+/// The reason for which no text about a file is printed.
 #[derive(Debug, Drop)]
 pub enum PrintFault {
     /// The file could not be read whole, the output could not be written, or memory ran out.
@@ -35,6 +40,8 @@ pub enum PrintFault {
     Config(ConfigFault),
     /// Transfers are refused: the name of the fault, and what is wrong with them.
     Transfers { name: &'static str, told: String },
+    /// The file has no status of a server.
+    Status(StatusFault),
 }
 
 fn unplanned(fault: NoPlan) -> PrintFault
@@ -69,7 +76,27 @@ fn plan_json_about(alloc: Global, transfers: &str, octets: &[u8]) -> Result<Stri
     }
 }
 
-/// Returns the text about the configuration of these octets.
+/// Fewest lines of a table.
+const LEAST_LINES: usize = 6;
+
+/// Returns the table of the transfers of the status of these octets, each with its rate since its begin.
+fn table_about(alloc: Global, rows: u16, octets: &[u8]) -> Result<String, PrintFault>
+    ensures prints { IfOk result (λ text. IsTableOf rows octets.now (string_bytes text)) }
+    ensures refused { IfErr result (IsTableRefusal octets.now) }
+{
+    let status = match read_status(alloc, octets) {
+        Ok(status) => status,
+        Err(StatusFault::Memory) => return Err(PrintFault::Text(TextFault::Memory)),
+        Err(fault) => return Err(PrintFault::Status(fault)),
+    };
+    let lines = usize::from(rows).max(LEAST_LINES);
+    match table_lines(alloc, None, None, &status, lines) {
+        Ok(text) => Ok(text),
+        Err(_) => Err(PrintFault::Text(TextFault::Memory)),
+    }
+}
+
+/// Returns the text about the file of these octets.
 fn text_about<L: Lookout>(
     alloc: Global,
     print: Print<'_>,
@@ -86,6 +113,7 @@ fn text_about<L: Lookout>(
         Print::Latest => migrate(alloc, octets),
         Print::Plan(transfers) => return plan_about(alloc, transfers, octets),
         Print::PlanJson(transfers) => return plan_json_about(alloc, transfers, octets),
+        Print::Table(rows) => return table_about(alloc, rows, octets),
     };
     match text {
         Ok(text) => Ok(text),
@@ -94,10 +122,10 @@ fn text_about<L: Lookout>(
     }
 }
 
-/// Reads a configuration, and writes a text about it; if the configuration is refused, nothing is written. A fault
-/// other than the output's own comes before the first octet is written. The lookout looks at the machine for a report.
+/// Reads a file, and writes a text about it; if the file is refused, nothing is written. A fault other than the output's
+/// own comes before the first octet is written. The lookout looks at the machine for a report.
 ///
-/// `TooLong`: the configuration has more than `MAX_TEXT` octets. `ReadFault`: a read of it failed. `WriteFault`: the
+/// `TooLong`: the file has more than `MAX_TEXT` octets. `ReadFault`: a read of it failed. `WriteFault`: the
 /// writer refuses this text.
 pub fn run_print<R: TextReader, W: TextWriter, L: Lookout>(
     alloc: Global,

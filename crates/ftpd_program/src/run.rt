@@ -3,7 +3,9 @@
 ghost use Rattle.std.specs.Prelude.{◌≡◌, ◌⊎◌, ◌∷◌, [], ℕ, List, None, Some, codes, false, map, true};
 ghost use Rattle.clap.specs.Words.{subcommand_of};
 ghost use Rattle.command_line.specs.Commands.{ftpd};
-ghost use Rattle.command_line.specs.Given.{IsFound, IsPlainWord, IsRefusedFor, IsTaken, ready_words};
+ghost use Rattle.command_line.specs.Given.{IsFound, IsPlainWord, IsRefusedFor, IsTaken, ready_words, top_words};
+ghost use Rattle.command_line.specs.Numbers.{AreLines};
+ghost use Rattle.command_line.specs.declared.numbers.TheConstants.{ROWS};
 ghost use Rattle.command_line.specs.Timed.{IsSeconds, timed_words, usual_patience};
 ghost use Rattle.client_patience.specs.declared.patience.Patience.{Patience};
 ghost use Rattle.command_line.specs.declared.words.Words.{Words};
@@ -13,7 +15,7 @@ ghost use Rattle.sheets_program.specs.Endings.{IsOutOfMemory, IsToldEnd};
 ghost use Rattle.sheets_program.specs.Runs.{IsCheckEnd, IsShareEnd};
 ghost use Rattle.ftpd_program.specs.Causes.{AreCommandOpened, AreScriptOpened, IsCommandWhy, IsReadWhy, IsScriptWhy};
 ghost use Rattle.ftpd_program.specs.Endings.{IsCommon, IsUnwritten};
-ghost use Rattle.ftpd_program.specs.Runs.{IsCommandEnd, IsPlanEnd, IsPrintEnd, IsReportEnd, IsScriptEnd, plan_print, report_print};
+ghost use Rattle.ftpd_program.specs.Runs.{IsCommandEnd, IsPlanEnd, IsPrintEnd, IsReportEnd, IsScriptEnd, IsTopEnd, after_table, plan_print, report_print};
 ghost use Rattle.ftpd_program.specs.Serving.{IsServeEnd};
 
 use super::ending::FtpdExit;
@@ -32,7 +34,7 @@ use text_io::{TextFault, TextWriter};
 const NO_TEXT_LEFT: &str =
     "error: standard input cannot be both the configuration and the control text\n";
 
-/// Prints a text about a configuration.
+/// Prints a text about a file.
 fn print_text<'w, O: Opener + Lookout, W: TextWriter>(
     alloc: Global,
     print: Print<'_>,
@@ -58,6 +60,10 @@ fn print_text<'w, O: Opener + Lookout, W: TextWriter>(
         Ok(()) => FtpdExit::Common(Common::Done),
         Err(PrintFault::Config(fault)) => FtpdExit::Config(fault),
         Err(PrintFault::Transfers { name, told }) => FtpdExit::Transfers { name, told },
+        Err(PrintFault::Status(fault)) => FtpdExit::Status {
+            file: config,
+            fault,
+        },
         Err(PrintFault::Text(fault)) => {
             let cause = text_cause(fault, config, O::reason(&file));
             FtpdExit::Common(Common::Text(fault, cause))
@@ -85,6 +91,37 @@ fn plan_print(transfers: &str, json: bool) -> Print<'_>
     } else {
         Print::Plan(transfers)
     }
+}
+
+/// The ending of `top` after the ending of its first table.
+fn watching<'w>(once: bool, status: &'w str, rows: u16, ending: FtpdExit<'w>) -> FtpdExit<'w>
+    ensures end { result ≡ after_table once status.entry rows ending.entry }
+{
+    match ending {
+        FtpdExit::Common(Common::Done) if !once => FtpdExit::Watches { status, rows },
+        ending => ending,
+    }
+}
+
+/// Shows the transfers of a status. Returns that they are to be shown again and again, unless once is enough.
+fn top<'w, O: Opener + Lookout, W: TextWriter>(
+    alloc: Global,
+    status: &'w str,
+    once: bool,
+    rows: u16,
+    files: &mut O,
+    output: &mut W,
+) -> FtpdExit<'w>
+    ensures end { IsTopEnd once status.now rows
+        (IsPrintEnd (Print.Table rows) (O.Shows files.new) (O.Gives files.old status.now)
+        (W.may_refuse output.old) (W.contents output.old) (W.contents output.new)) result }
+    ensures why { IsReadWhy status.now
+        (O.MayRefuse files.old status.now ⊎ O.MayFail files.old status.now) result }
+    ensures opened { O.Opens files.old status.now files.new }
+    ensures unwritten { IsUnwritten result → output.new ≡ output.old }
+{
+    let ending = print_text(alloc, Print::Table(rows), status, files, output);
+    watching(once, status, rows, ending)
 }
 
 /// Serves the control text of standard input. Both files are opened before anything is read.
@@ -163,6 +200,7 @@ fn run_command<'w, O: Opener + Lookout, W: TextWriter, V: Server<W>>(
             files: signs,
             patience,
         } => serve(alloc, config, signs, patience, files, server, output),
+        Words::Top { status, once, rows } => top(alloc, status, once, rows, files, output),
     }
 }
 
@@ -178,7 +216,11 @@ pub fn run_words<'w, O: Opener + Lookout, W: TextWriter, V: Server<W>>(
 ) -> FtpdExit<'w>
     ensures share { (sheet : List ℕ) → IsPlainWord sheet
         → map (λ s. s.now) words.now ≡ codes "share" ∷ sheet ∷ []
-        → IsCommon (IsShareEnd (O.Gives files.old) sheet
+        → IsCommon (IsShareEnd (O.Gives files.old) false sheet
+        (W.contents output.old) (W.contents output.new)) result }
+    ensures share_svg { (sheet : List ℕ) → IsPlainWord sheet
+        → map (λ s. s.now) words.now ≡ codes "share" ∷ sheet ∷ codes "--svg" ∷ []
+        → IsCommon (IsShareEnd (O.Gives files.old) true sheet
         (W.contents output.old) (W.contents output.new)) result }
     ensures check { (sheet grants : List ℕ) → IsPlainWord sheet → IsPlainWord grants
         → map (λ s. s.now) words.now ≡ codes "check" ∷ sheet ∷ grants ∷ []
@@ -227,6 +269,16 @@ pub fn run_words<'w, O: Opener + Lookout, W: TextWriter, V: Server<W>>(
         → map (λ s. s.now) words.now ≡ codes "plan" ∷ config ∷ transfers ∷ codes "--json" ∷ []
         → IsPlanEnd true (O.Shows files.new) (O.Gives files.old config) transfers
         (W.may_refuse output.old) (W.contents output.old) (W.contents output.new) result }
+    ensures top { (status : List ℕ) → IsPlainWord status
+        → map (λ s. s.now) words.now ≡ codes "top" ∷ status ∷ []
+        → IsTopEnd false status ROWS
+        (IsPrintEnd (Print.Table ROWS) (O.Shows files.new) (O.Gives files.old status)
+        (W.may_refuse output.old) (W.contents output.old) (W.contents output.new)) result }
+    ensures top_once { (status lines : List ℕ) (n : ℕ) → IsPlainWord status → AreLines lines n
+        → map (λ s. s.now) words.now ≡ top_words status lines
+        → IsTopEnd true status n
+        (IsPrintEnd (Print.Table n) (O.Shows files.new) (O.Gives files.old status)
+        (W.may_refuse output.old) (W.contents output.old) (W.contents output.new)) result }
     ensures command { IsTaken (map (λ s. s.now) words.now)
         → IsCommon IsOutOfMemory result ⊎ ((command : Words)
         × IsFound (subcommand_of ftpd (map (λ s. s.now) words.now)) command

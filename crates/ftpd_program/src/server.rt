@@ -39,6 +39,12 @@ pub enum ServeFault {
     /// No form of notes has the name that is stated.
     #[error("LogForm")]
     LogForm,
+    /// The status file cannot be written.
+    #[error("StatusFile")]
+    StatusFile,
+    /// The port of the status page cannot be listened on.
+    #[error("StatusPort")]
+    StatusPort,
 }
 
 impl From<AllocError> for ServeFault {

@@ -20,6 +20,10 @@ pub enum StartFault {
     ReadyFileUnmade { path: String, reason: io::Error },
     /// The transfer log of this path cannot be opened (`TransferLog`).
     TransferLogUnopened { path: String, reason: io::Error },
+    /// The status file of this path cannot be written (`StatusFile`).
+    StatusUnwritten { path: String, reason: io::Error },
+    /// This port of 127.0.0.1 cannot be listened on (`StatusPort`).
+    StatusPortTaken { port: u16, reason: io::Error },
     /// No form of notes has this name (`LogForm`).
     UnknownForm { word: String },
 }
@@ -45,6 +49,15 @@ impl fmt::Display for StartFault {
             }
             StartFault::TransferLogUnopened { path, reason } => {
                 write!(f, "the transfer log {path} could not be opened: {reason}")
+            }
+            StartFault::StatusUnwritten { path, reason } => {
+                write!(f, "the status file {path} could not be written: {reason}")
+            }
+            StartFault::StatusPortTaken { port, reason } => {
+                write!(
+                    f,
+                    "the status page cannot listen on 127.0.0.1:{port}: {reason}"
+                )
             }
             StartFault::UnknownForm { word } => {
                 write!(f, "{word:?} is no form of notes: plain and journal are")

@@ -155,6 +155,7 @@ where
     // Before an ask. If the last one was granted nothing, the rates have nothing left, and this waits a moment.
     fn begin(&mut self, sign: &LaneSign, moved: u64) {
         self.seen = sign.answered.seen();
+        sign.set_moved(moved);
         if self.asked_at == Some(moved) {
             thread::sleep(self.rt, Duration::from_micros(PAUSE));
         }

@@ -5,18 +5,22 @@
 //! open; nobody waits for that lock. If another thread has the lock, that thread checks the bell after it has released
 //! the lock, and the lane looks again a tick later, so no ask is missed.
 //! [`keep_rounds`] is the fallback: it holds a round when no lane does. The pace says when a round may be held and what
-//! it may grant. The moments of rounds are read from a [`RoundClock`].
+//! it may grant. The moments of rounds are read from a [`RoundClock`]. The turns tally what rounds grant to each transfer,
+//! and what holds it back in them, for a [`look`].
 #![tactic(auto)]
 
 mod clock;
+mod counting;
 mod ends;
 mod gate;
 mod keeper;
 mod lane;
+mod looking;
 mod rounds;
 mod turns;
 
 pub use clock::RoundClock;
 pub use keeper::keep_rounds;
 pub use lane::work_lane;
+pub use looking::{RoundLook, look};
 pub use turns::Turns;

@@ -65,6 +65,15 @@ fn open_lanes<S: Store<Global>, H: Hooks, B: PartsName, N>(
     given
 }
 
+// The number of the transfer of each lane. A lane that asks keeps its transfer until it is answered.
+fn transfers_of(lanes: &[LaneSign]) -> [u64; MAX_LANES] {
+    let mut transfers = [0; MAX_LANES];
+    for lane in 0..lanes.len().min(MAX_LANES) {
+        transfers[lane] = lanes[lane].transfer();
+    }
+    transfers
+}
+
 // Holds one round of the lanes whose transfers' rows are open. A refused one has answered each lane too, with 0 octets.
 fn hold_one<S: Store<Global>, H: Hooks, B: PartsName, N>(
     alloc: Global,
@@ -76,7 +85,8 @@ fn hold_one<S: Store<Global>, H: Hooks, B: PartsName, N>(
     requires when { B.when now ≡ true }
 {
     let given = open_lanes(house, &turns.rounds, now);
-    match turns.rounds.hold(alloc, desk, now, &given) {
+    let transfers = transfers_of(&house.lanes);
+    match turns.hold(alloc, desk, now, &given, &transfers) {
         Ok(record) => wake_lanes(&house.lanes, record.answered, false),
         Err(fault) => wake_lanes(&house.lanes, fault.answered, true),
     }

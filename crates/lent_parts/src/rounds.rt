@@ -12,6 +12,7 @@ ghost use Rattle.round_pace.specs.Earned.{tick_of};
 ghost use Rattle.round_pace.specs.Histories.{rates_of, after};
 ghost use Rattle.round_pace.specs.Offered.{offer_round};
 ghost use Rattle.paced_rounds.specs.History.{round_at, history};
+ghost use Rattle.paced_rounds.specs.HeldLeaves.{AreHeld};
 ghost use Rattle.paced_rounds.specs.Beating.{is_open, due_open};
 ghost use Rattle.paced_rounds.specs.Seconds.{AreAt, HasKept};
 ghost use base.Stored.{Coded-set};
@@ -21,7 +22,7 @@ use crate::name::PartsName;
 use grant_ledger::MAX_LANES;
 use lane_desk::{RoundFault, RoundRecord, Rounds};
 use line_rates::Way;
-use paced_rounds::PacedRounds;
+use paced_rounds::{HeldNames, PacedRounds};
 use round_pace::Due;
 use std::alloc::Allocator;
 use std::marker::PhantomData;
@@ -75,6 +76,7 @@ impl<B: PartsName, N> LentRounds<B, N> {
         desk: &LentDesk<B, N, D>,
         now: u64,
         given: &[bool; MAX_LANES],
+        names: &mut HeldNames,
     ) -> Result<RoundRecord<A>, RoundFault>
         requires when { B.when now ≡ true }
         ensures tally { self.new.rounds.rounds.tally ≡ self.old.rounds.rounds.tally }
@@ -102,8 +104,20 @@ impl<B: PartsName, N> LentRounds<B, N> {
             ++ round_at (max now self.old.rounds.latest) result ∷ [] }
         ensures left { self.new.rounds.pace
             ≡ after self.old.rounds.pace (round_at (max now self.old.rounds.latest) result) }
+        ensures wanted { names.new.is_wanted ≡ names.old.is_wanted }
+        ensures held { let p = offer_round (tick_of (max now self.old.rounds.latest))
+            self.old.rounds.pace in names.old.is_wanted ≡ true
+            → IfOk result (λ r. AreHeld p.offered r.tick r.asks.items (seen r.sealed.tree)
+            r.sealed.grants names.new.names) }
     {
-        self.rounds.hold(alloc, desk.desk(), now, given)
+        self.rounds.hold(alloc, desk.desk(), now, given, names)
+    }
+
+    /// The octets issued so far.
+    pub fn issued(&self) -> u64
+        ensures issued { result ≡ self.now.rounds.rounds.book.issued }
+    {
+        self.rounds.issued()
     }
 
     /// Returns the rounds, once no thread has them any more: there is a history of rounds, at moments that pass the test

@@ -1,3 +1,4 @@
 pub mod History
 pub mod Beating
 pub mod Seconds
+pub mod HeldLeaves

@@ -1,6 +1,6 @@
 //! The rounds of a desk at a pace.
 
-ghost use Rattle.std.specs.Prelude.{◌≡◌, ◌+◌, ◌/◌, ◌++◌, [], ◌∷◌, max, Some, sum, sum_by, IfOk, IfErr, OnOk, OnErr};
+ghost use Rattle.std.specs.Prelude.{◌≡◌, ◌+◌, ◌/◌, ◌++◌, [], ◌∷◌, max, true, Some, sum, sum_by, IfOk, IfErr, OnOk, OnErr};
 ghost use Rattle.limit_tree.specs.Outline.{limits as seen};
 ghost use Rattle.limit_tree.specs.Sharing.{IsBest};
 ghost use Rattle.line_rates.specs.Rates.{Rates};
@@ -12,10 +12,12 @@ ghost use Rattle.round_pace.specs.Offered.{offer_round};
 ghost use Rattle.round_pace.specs.Paced.{IsPacedFrom};
 ghost use Rattle.round_pace.specs.Histories.{rates_of, after, KeepsRates};
 ghost use Rattle.paced_rounds.specs.History.{round_at, history, octets_of, IsRun};
+ghost use Rattle.paced_rounds.specs.HeldLeaves.{AreHeld};
 ghost use Rattle.paced_rounds.specs.Beating.{beats_after, is_open, due_open};
 
 use crate::beats::beat;
 use crate::charge::charge;
+use crate::held::{HeldNames, see};
 use grant_ledger::{MAX_LANES, Tally};
 use lane_desk::{Desk, RoundFault, RoundRecord, Rounds};
 use line_rates::{Ask, Way, grants_keep_names};
@@ -93,13 +95,14 @@ impl<N, A: Allocator> PacedRounds<N, A> {
     /// Holds a round of the given lanes (those with `true` in their place) at a moment in microseconds; one before that
     /// of the last round counts as that moment. Tries each given lane once, divides what is left under the rates among
     /// the asks found, answers each, and subtracts each grant from the rows of its own ask. A refused round answers each
-    /// ask with 0 octets.
+    /// ask with 0 octets. Names what held back each leaf, if that is wanted.
     pub fn hold<B: Allocator + Clone, D: Allocator>(
         &mut self,
         alloc: B,
         desk: &Desk<N, D>,
         now: u64,
         given: &[bool; MAX_LANES],
+        names: &mut HeldNames,
     ) -> Result<RoundRecord<B>, RoundFault>
         requires desk { IsRoundOf desk.now self.old.rounds.desk }
         ensures same { IsSameRound self.old.rounds.desk self.new.rounds.desk }
@@ -129,6 +132,10 @@ impl<N, A: Allocator> PacedRounds<N, A> {
         ensures rates { rates_of self.new.pace ≡ rates_of self.old.pace }
         ensures beats { self.new.cadence ≡ beats_after self.new.pace
             (tick_of (max now self.old.latest)) result self.old.cadence }
+        ensures wanted { names.new.is_wanted ≡ names.old.is_wanted }
+        ensures held { let p = offer_round (tick_of (max now self.old.latest)) self.old.pace in
+            names.old.is_wanted ≡ true → IfOk result (λ r. AreHeld p.offered r.tick r.asks.items
+            (seen r.sealed.tree) r.sealed.grants names.new.names) }
     {
         grants_keep_names();
         histories_keep_rates();
@@ -137,6 +144,7 @@ impl<N, A: Allocator> PacedRounds<N, A> {
         let result = self
             .rounds
             .round_of(alloc, desk, self.pace.limits(), moment, given);
+        see(names, self.pace.limits(), &result);
         let taken = match &result {
             Ok(made) => charge(&mut self.pace, &made.asks, made.sealed.grants()),
             Err(_) => ProofLog::new(),

@@ -19,7 +19,7 @@ password = \"secret\"
 home = \"/\"
 ";
 
-fn holds(rt: &impl Abort, fact: bool) {
+pub(crate) fn holds(rt: &impl Abort, fact: bool) {
     assert!(rt; fact);
 }
 

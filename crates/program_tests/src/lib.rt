@@ -15,6 +15,8 @@ mod ready;
 #[cfg(test)]
 mod runs;
 #[cfg(test)]
+mod screens;
+#[cfg(test)]
 mod servers;
 #[cfg(test)]
 mod shortages;

@@ -34,6 +34,8 @@ const NO_FILES: ServeFiles<'static> = ServeFiles {
     ready_file: None,
     transfer_log: None,
     log_form: None,
+    status: None,
+    status_port: None,
 };
 
 /// Checks that these words are those of `serve` for `office.toml`, with those files and that patience.
@@ -105,6 +107,43 @@ fn words_on_a_server(rt: HostRuntime) {
     ] {
         serves(&rt, &words, logged, usual);
     }
+    let shown = ServeFiles {
+        status: Some("status.json"),
+        status_port: Some(8_080),
+        ..NO_FILES
+    };
+    let words = [
+        "serve",
+        config,
+        "--status",
+        "status.json",
+        "--status-port",
+        "08080",
+    ];
+    serves(&rt, &words, shown, usual);
+}
+
+// Words that ask for the transfers of a running server.
+fn shows(rt: &(impl Abort + AllocGlobal), words: &[&str], once: bool, rows: u16) {
+    let command = read_words(rt.alloc(), words).expect(rt, "a command");
+    let wanted = Words::Top {
+        status: "status.json",
+        once,
+        rows,
+    };
+    holds(rt, command == wanted);
+}
+
+#[test]
+fn words_on_a_status(rt: HostRuntime) {
+    shows(&rt, &["top", "status.json"], false, 24);
+    shows(
+        &rt,
+        &["top", "status.json", "--once", "--rows", "8"],
+        true,
+        8,
+    );
+    shows(&rt, &["top", "--rows=500", "status.json"], false, 500);
 }
 
 // Words that ask for a plan of one transfer, in lines or as JSON.
@@ -155,8 +194,13 @@ fn are_of_both(rt: &(impl Abort + AllocGlobal), words: &[&str], wanted: SheetWor
 #[test]
 fn words_on_a_sheet(rt: HostRuntime) {
     for sheet in ["a", "lunch.sheet", "/dev/stdin", "a b"] {
-        are_of_both(&rt, &["share", sheet], SheetWords::Share { sheet });
+        let lines = SheetWords::Share { sheet, svg: false };
+        are_of_both(&rt, &["share", sheet], lines);
     }
+    let sheet = "lunch.sheet";
+    let picture = SheetWords::Share { sheet, svg: true };
+    are_of_both(&rt, &["share", sheet, "--svg"], picture);
+    are_of_both(&rt, &["share", "--svg", sheet], picture);
     let (sheet, grants) = ("office.sheet", "office.grants");
     let words = ["check", sheet, grants];
     are_of_both(&rt, &words, SheetWords::Check { sheet, grants });

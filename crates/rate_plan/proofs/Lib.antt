@@ -1,5 +1,4 @@
 pub mod AdmitLemmas
-pub mod HeldLemmas
 pub mod OrderLemmas
 pub mod Pushed
 pub mod SecondTree

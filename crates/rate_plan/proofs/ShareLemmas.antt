@@ -11,11 +11,12 @@ use Rattle.line_rates.specs.Names.{floor_of}
 use Rattle.line_rates.specs.Rates.{Rates, rate_of}
 use Rattle.line_rates.specs.Ticks.{rate_limit}
 use Rattle.line_rates.specs.TickTree.{Asker, IsNamed, IsPlan, IsTickTree, ask_in, bears_at, lane_in}
+use Rattle.held_names.specs.Held.{IsHeldBy}
 use Rattle.rate_plan.specs.Asked.{AreAsked, IsAskOf}
 use Rattle.rate_plan.specs.Held.{IsHeld}
 use Rattle.rate_plan.specs.Plan.{AreLeafShares, AreShares, share_ask, share_asker, share_floor, share_grant, share_lane}
 use Rattle.rate_plan.specs.Second.{name_branch, second_limit}
-use Rattle.rate_plan.specs.Shared.{AreGrantedShares, AreTickShares, IsShareOf, IsTickHeld}
+use Rattle.rate_plan.specs.Shared.{AreGrantedShares, AreTickShares, IsShareOf}
 use Rattle.rate_plan.specs.Tens.{AreTens, ten_rate}
 use Rattle.rate_plan.specs.declared.asks.Transfer.{Transfer}
 use Rattle.rate_plan.specs.declared.shares.TransferShare.{TransferShare}
@@ -58,7 +59,7 @@ sum_same (suc n) f g h = omega (arith, sum_same n f g h, h n)
 over_same : (p q : ℕ → Bool) (g : List ℕ) → ((i : ℕ) → p i ≡ q i) → sum_over p g ≡ sum_over q g
 over_same p q g same = sum_same (length g) (λ i. cond (p i) (slice_index g i) 0) (λ i. cond (q i) (slice_index g i) 0) (λ i. ap (λ (b : Bool). cond b (slice_index g i) 0) (same i))
 
-held_same : (rates tens : Rates) → AreTens rates tens → (asks : List Ask) (t : LimitTree) (g : List ℕ) (i : ℕ) (o : Option Name) → IsTickHeld tens asks t g i o → IsHeld rates asks t g i o
+held_same : (rates tens : Rates) → AreTens rates tens → (asks : List Ask) (t : LimitTree) (g : List ℕ) (i : ℕ) (o : Option Name) → IsHeldBy tens 0 asks t g i o → IsHeld rates asks t g i o
 held_same rates tens h asks t g i None is = is
 held_same rates tens h asks t g i (Some n) is =
     let b = is.1.0 in

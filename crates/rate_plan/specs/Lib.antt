@@ -1,7 +1,6 @@
 pub mod Admission
 pub mod Asked
 pub mod Held
-pub mod Named
 pub mod Plan
 pub mod Refused
 pub mod Second

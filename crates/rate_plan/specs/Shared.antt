@@ -6,13 +6,8 @@ use Rattle.line_rates.specs.declared.ask.Name.{Name}
 use Rattle.line_rates.specs.Names.{floor_of}
 use Rattle.line_rates.specs.Rates.{Rates}
 use Rattle.line_rates.specs.TickTree.{Asker, IsNamed, ask_in}
+use Rattle.held_names.specs.Held.{IsHeldBy}
 use Rattle.rate_plan.specs.declared.shares.TransferShare.{TransferShare}
-
--- the name of a bottleneck of the leaf; none if it has all that it wants
-abbrev pub IsTickHeld : Rates → List Ask → LimitTree → List ℕ → ℕ → Option Name → Type 0
-IsTickHeld rates asks t g i None = slice_index t.wants i ≤ slice_index g i
-IsTickHeld rates asks t g i (Some n) =
-    IsUnmet t g i × ((b : Branch) × IsNamed rates 0 asks n b × IsBottleneck t b g i)
 
 -- the share of a leaf
 pub record IsShareOf (rates : Rates) (order : List Asker) (t : LimitTree) (g : List ℕ) (i : ℕ)
@@ -20,7 +15,7 @@ pub record IsShareOf (rates : Rates) (order : List Asker) (t : LimitTree) (g : L
   pub asker : slice_get order i ≡ Some (s.lane, s.ask)
   pub floor : s.floor ≡ floor_of rates s.ask
   pub grant : slice_get g i ≡ Some s.grant
-  pub held : IsTickHeld rates (map ask_in order) t g i s.held
+  pub held : IsHeldBy rates 0 (map ask_in order) t g i s.held
 
 -- one share for each leaf, in their order
 pub record AreTickShares (rates : Rates) (order : List Asker) (t : LimitTree) (g : List ℕ)

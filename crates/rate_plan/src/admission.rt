@@ -11,7 +11,7 @@ ghost use Rattle.rate_plan.specs.Admission.{AreAdmitted, IsExceeded, IsFirstRefu
 
 use crate::asks::Transfer;
 use crate::fault::Unplanned;
-use crate::held::bears;
+use held_names::bears;
 use line_rates::{Ask, Limits, Name, Way};
 use rate_floors::Floors;
 use std::alloc::Allocator;

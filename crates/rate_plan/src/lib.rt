@@ -1,8 +1,8 @@
 //! Plans: the shares of a second of transfers that want all they can get, and the limit that holds each back.
 //!
 //! `plan_of` makes the tree of a second by the rates of a line (`tens`: that of a tick by ten times the rates), after the
-//! sessions were admitted one after the other (`admission`), shares it (`shares`), and finds the name of each transfer's
-//! bottleneck (`held`).
+//! sessions were admitted one after the other (`admission`), shares it, and finds the name of each transfer's
+//! bottleneck (`shares`).
 //!
 //! ```text
 //! let alloc = rt.alloc();
@@ -17,7 +17,6 @@
 mod admission;
 mod asks;
 mod fault;
-mod held;
 mod plan;
 mod shares;
 mod small;

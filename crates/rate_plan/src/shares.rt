@@ -3,12 +3,11 @@
 ghost use Rattle.std.specs.Prelude.{◌≡◌, ◌≤◌, ◌<◌, IfOk, length, map, slice_get, slice_index, slice_index_or, Some};
 ghost use Rattle.limit_tree.specs.Outline.{limits as seen};
 ghost use Rattle.limit_tree.specs.Sharing.{IsBackedBy, IsWanted};
-ghost use Rattle.round_allocator.specs.Rounds.{IsNamed as AreEntries};
 ghost use Rattle.line_rates.specs.Names.{floor_of};
 ghost use Rattle.line_rates.specs.TickTree.{IsTickTree, ask_in};
-ghost use Rattle.rate_plan.specs.Shared.{AreGrantedShares, AreTickShares, IsShareOf, IsTickHeld};
+ghost use Rattle.rate_plan.specs.Shared.{AreGrantedShares, AreTickShares, IsShareOf};
 
-use crate::held::name_of;
+use held_names::held_by;
 use limit_tree::Tree;
 use line_rates::{Ask, Limits, Name};
 use round_allocator::allot;
@@ -29,41 +28,30 @@ pub struct TransferShare {
     pub held: Option<Name>,
 }
 
-// The name in the entry of a leaf.
-fn held_by<L: Allocator, A: Allocator>(
-    limits: &Limits<L>,
-    order: &[(u8, Ask)],
-    tree: &Tree<A>,
-    grants: &[u64],
-    entries: &[Option<u32>],
-    leaf: usize,
-) -> Option<Name>
-    requires tree { IsTickTree limits.now 0 (map ask_in order.now) (seen tree.now) }
-    requires grants { IsWanted (seen tree.now) grants.now }
-    requires named { AreEntries (seen tree.now) grants.now entries.now }
-    requires backed { IsBackedBy (seen tree.now) grants.now entries.now }
-    requires leaf { leaf < length grants.now }
-    ensures held { IsTickHeld limits.now (map ask_in order.now) (seen tree.now) grants.now leaf
-        result }
+// The asks of leaves, without their lanes.
+fn asks_alone<A: Allocator>(alloc: A, order: &[(u8, Ask)]) -> Result<Vec<Ask, A>, AllocError>
+    ensures asks { IfOk result (λ asks. asks.items ≡ map ask_in order.now) }
 {
-    match entries[leaf] {
-        Some(node) => Some(name_of(limits, order, tree, node as usize, order[leaf].1)),
-        None => None,
+    let mut asks = Vec::with_capacity(alloc, order.len())?;
+    for asker in order {
+        asks.push(asker.1)?;
     }
+    Ok(asks)
 }
 
 // The share of a leaf.
 fn leaf_share<L: Allocator, A: Allocator>(
     limits: &Limits<L>,
     order: &[(u8, Ask)],
+    asks: &[Ask],
     tree: &Tree<A>,
     grants: &[u64],
     entries: &[Option<u32>],
     leaf: usize,
 ) -> TransferShare
-    requires tree { IsTickTree limits.now 0 (map ask_in order.now) (seen tree.now) }
+    requires asks { asks.now ≡ map ask_in order.now }
+    requires tree { IsTickTree limits.now 0 asks.now (seen tree.now) }
     requires grants { IsWanted (seen tree.now) grants.now }
-    requires named { AreEntries (seen tree.now) grants.now entries.now }
     requires backed { IsBackedBy (seen tree.now) grants.now entries.now }
     requires leaf { leaf < length order.now }
     ensures share { IsShareOf limits.now order.now (seen tree.now) grants.now leaf result }
@@ -74,7 +62,7 @@ fn leaf_share<L: Allocator, A: Allocator>(
         ask,
         floor: limits.floor(ask),
         grant: grants[leaf],
-        held: held_by(limits, order, tree, grants, entries, leaf),
+        held: held_by(limits, 0, asks, tree, grants, entries, leaf),
     }
 }
 
@@ -83,20 +71,21 @@ fn leaf_shares<L: Allocator, A: Allocator, B: Allocator>(
     alloc: B,
     limits: &Limits<L>,
     order: &[(u8, Ask)],
+    asks: &[Ask],
     tree: &Tree<A>,
     grants: &[u64],
     entries: &[Option<u32>],
 ) -> Result<Vec<TransferShare, B>, AllocError>
-    requires tree { IsTickTree limits.now 0 (map ask_in order.now) (seen tree.now) }
+    requires asks { asks.now ≡ map ask_in order.now }
+    requires tree { IsTickTree limits.now 0 asks.now (seen tree.now) }
     requires grants { IsWanted (seen tree.now) grants.now }
-    requires named { AreEntries (seen tree.now) grants.now entries.now }
     requires backed { IsBackedBy (seen tree.now) grants.now entries.now }
     ensures shares { IfOk result (λ shares. AreTickShares limits.now order.now (seen tree.now)
         grants.now shares.items) }
 {
     let mut shares = Vec::with_capacity(alloc, order.len())?;
     for leaf in 0..order.len() {
-        shares.push(leaf_share(limits, order, tree, grants, entries, leaf))?;
+        shares.push(leaf_share(limits, order, asks, tree, grants, entries, leaf))?;
     }
     Ok(shares)
 }
@@ -113,5 +102,14 @@ pub(crate) fn granted_shares<L: Allocator, A: Allocator, B: Allocator + Clone>(
         (λ shares. AreGrantedShares limits.now order.now (seen tree.now) shares.items) }
 {
     let (grants, certificate) = allot(alloc.clone()?, tree)?;
-    leaf_shares(alloc, limits, order, tree, &grants, certificate.entries())
+    let asks = asks_alone(alloc.clone()?, order)?;
+    leaf_shares(
+        alloc,
+        limits,
+        order,
+        &asks,
+        tree,
+        &grants,
+        certificate.entries(),
+    )
 }

@@ -92,7 +92,9 @@ pub fn serve_config<R: TextReader, W: TextWriter>(
         users,
         store,
         limits,
+        groups,
     } = config;
+    drop(groups);
     let port = numbers.passive_first;
     match store {
         ServedStore::Folder(_folder) => Err(SessionFault::Folder),

@@ -200,6 +200,7 @@ made_kept tables config made = record {
   users = made.users;
   store = made.store;
   limits = made.limits;
+  group_names = made.group_names;
 }
 
 -- the configuration of a document is that of the text that prints the document with version 2

@@ -1,6 +1,6 @@
 -- A configuration: the tables that its text states, key by key, and the values that are made of
 -- them.
-use Rattle.std.specs.Prelude.{◌≡◌, ◌≤◌, ℕ, List, Some}
+use Rattle.std.specs.Prelude.{◌≡◌, ◌≤◌, ℕ, List, Some, map, string_bytes}
 use Rattle.std.specs.List.{AllByRecursion}
 use Rattle.toml.specs.Data.{Members}
 use Rattle.toml.specs.Parse.{parse_document}
@@ -9,10 +9,14 @@ use Rattle.server_config.specs.Groups.{AreApart, HasGroup}
 use Rattle.server_config.specs.RateRows.{rates_of}
 use Rattle.server_config.specs.Store.{IsStoreOf}
 use Rattle.config_file.specs.Tables.{IsTables}
+use Rattle.config_file.specs.declared.stated.GroupTable.{GroupTable}
 use Rattle.config_file.specs.declared.tables.Tables.{Tables}
 use Rattle.server_config.specs.Users.{AddsUsers}
 use Rattle.server_config.specs.Settings.{AreSettings, AreNumbers}
 use Rattle.server_config.specs.declared.config.Config.{Config}
+
+abbrev pub group_name : GroupTable → List ℕ
+group_name group = group.name.now
 
 -- the configuration that the tables of a file make
 pub record IsMadeOf (tables : Tables) (config : Config) : Type 0 where
@@ -26,6 +30,7 @@ pub record IsMadeOf (tables : Tables) (config : Config) : Type 0 where
       config.users
   pub store : IsStoreOf tables.server tables.dirs.items tables.files.items config.store
   pub limits : config.limits ≡ rates_of tables.server tables.groups.items tables.users.items
+  pub group_names : map string_bytes config.groups.items ≡ map group_name tables.groups.items
 
 -- the document states tables, and the configuration is made of them
 abbrev pub IsConfig : Members → Config → Type 0

@@ -7,6 +7,7 @@ ghost use Rattle.server_config.specs.Configs.{IsMadeOf, IsConfig, IsConfigText};
 ghost use Rattle.server_config.specs.Refused.{IsFaultOf, IsFaultOfTables, IsFaultOfText};
 
 use crate::fault::{ConfigFault, not_toml, of_groups, of_key, of_store, of_users};
+use crate::group_names::group_names;
 use crate::limits::limits_of;
 use crate::rate_rows::read_rows;
 use crate::settings::{ServerNumbers, numbers_of, settings_of};
@@ -32,6 +33,8 @@ pub struct Config {
     pub store: ServedStore,
     /// The limits of the line, of its groups and of its users, who have the same numbers as in `users`.
     pub limits: Limits,
+    /// The names of its groups, by their numbers in `limits`.
+    pub groups: Vec<String>,
 }
 
 /// Parses a text as a TOML document.
@@ -52,6 +55,7 @@ fn made_of(alloc: Global, tables: &Tables) -> Result<Config, ConfigFault>
     ensures refused { IfErr result (IsFaultOfTables tables.now) }
 {
     let (groups, users) = (tables.groups.as_slice(), tables.users.as_slice());
+    let names = group_names(alloc, groups)?;
     let rows = match read_rows(alloc, groups, users) {
         Ok(rows) => rows,
         Err(fault) => return Err(of_groups(alloc, fault)),
@@ -72,6 +76,7 @@ fn made_of(alloc: Global, tables: &Tables) -> Result<Config, ConfigFault>
         users: authorizer,
         store,
         limits: limits_of(&tables.server, rows),
+        groups: names,
     })
 }
 

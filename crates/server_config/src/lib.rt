@@ -27,6 +27,7 @@
 mod config;
 mod depth;
 mod fault;
+mod group_names;
 mod group_problem;
 mod groups;
 mod limits;

@@ -19,6 +19,10 @@ pub struct LaneSign {
     pub name: TransferName,
     // one more than the number of the session; 0 for none
     session: AtomicU64,
+    // number of transfers that the lane has begun
+    transfers: AtomicU64,
+    // the octets that the transfer had moved before its last ask
+    moved: AtomicU64,
     // the number of rounds refused since the last that was not, among those that answered the lane
     refused: AtomicU64,
 }
@@ -53,6 +57,8 @@ impl LaneSign {
             answered: EventCount::new(),
             name: TransferName::new(),
             session: AtomicU64::new(0),
+            transfers: AtomicU64::new(0),
+            moved: AtomicU64::new(0),
             refused: AtomicU64::new(0),
         }
     }
@@ -70,14 +76,34 @@ impl LaneSign {
         self.refused.load(Ordering::SeqCst) >= MOST_REFUSED
     }
 
-    /// Sets the session that the lane works for, if any. No round was refused to it yet.
+    /// Sets the session that the lane works for, if any: the transfer is the next one of the lane. No round was refused
+    /// to it yet, and it has moved nothing.
     pub fn set_session(&self, session: Option<u32>) {
         self.refused.store(0, Ordering::SeqCst);
+        self.moved.store(0, Ordering::SeqCst);
+        if session.is_some() {
+            self.transfers.fetch_add(1, Ordering::SeqCst);
+        }
         self.session.store(session_word(session), Ordering::SeqCst);
     }
 
     /// The session that the lane works for, if any.
     pub fn session(&self) -> Option<u64> {
         self.session.load(Ordering::SeqCst).checked_sub(1)
+    }
+
+    /// The number of the transfer that the lane has begun last, from 1; 0 for none.
+    pub fn transfer(&self) -> u64 {
+        self.transfers.load(Ordering::SeqCst)
+    }
+
+    /// Sets the octets that the transfer has moved before an ask.
+    pub fn set_moved(&self, moved: u64) {
+        self.moved.store(moved, Ordering::SeqCst);
+    }
+
+    /// The octets that the transfer had moved before its last ask.
+    pub fn moved(&self) -> u64 {
+        self.moved.load(Ordering::SeqCst)
     }
 }

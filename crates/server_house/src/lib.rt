@@ -20,7 +20,7 @@ pub use ending::{ServerShutdown, ShutdownStage, stages_stay_begun};
 pub use house::{House, copy_settings};
 pub use lane::LaneSign;
 pub use server_hooks::{
-    NotServed, ServerEvent, ServerHooks, SessionEvent, SessionRefusal, StoreNote, TransferKind,
-    TransferRecord,
+    BegunTransfer, LaneLook, NotServed, ServerEvent, ServerHooks, ServerLook, SessionEvent,
+    SessionRefusal, StoreNote, TransferKind, TransferRecord,
 };
 pub use ticket::{LaneEnds, SessionEnd, SessionJob, SessionTicket};

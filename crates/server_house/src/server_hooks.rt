@@ -5,6 +5,7 @@ use client_patience::TimeOut;
 use handler_hooks::Hooks;
 use passive_ports::AdmitFault;
 use recorded_store::StoreRecord;
+use round_tally::LaneTally;
 use std::io;
 
 /// The reason for which a client is not served.
@@ -84,6 +85,50 @@ pub struct TransferRecord<'a> {
     pub error: Option<io::Error>,
 }
 
+/// A transfer that has begun.
+#[derive(Clone, Copy)]
+pub struct BegunTransfer<'a> {
+    /// The address of the session's client.
+    pub peer: [u8; 4],
+    /// The number of the session.
+    pub session: usize,
+    /// The user who is logged in, and the number by which rounds identify them.
+    pub user: &'a str,
+    pub number: u32,
+    pub kind: TransferKind,
+    /// The path of the file below the root of the store; none for a listing, or if there was no memory for it.
+    pub path: Option<&'a str>,
+    /// The octets of the file that is sent, if that was asked for and is known.
+    pub size: Option<u64>,
+    /// The moment at which it began, in microseconds.
+    pub since: u64,
+}
+
+/// A look at a lane.
+#[derive(Clone, Copy)]
+pub struct LaneLook {
+    /// The session whose transfer the lane runs, if it runs one.
+    pub session: Option<u64>,
+    /// The octets that the transfer had moved before its last ask.
+    pub moved: u64,
+    /// The octets that rounds have granted to it.
+    pub tally: LaneTally,
+}
+
+/// A look at a server at a moment.
+#[derive(Clone, Copy)]
+pub struct ServerLook<'a> {
+    /// The moment, in microseconds.
+    pub micros: u64,
+    /// Number of connected clients.
+    pub sessions: usize,
+    /// The octets that rounds have issued so far.
+    pub issued: u64,
+    /// The octets that they have granted to transfers that have ended.
+    pub ended: LaneTally,
+    pub lanes: &'a [LaneLook],
+}
+
 /// A change that a session has made in its store, or a fault of the store.
 #[derive(Clone, Copy)]
 pub struct StoreNote<'a> {
@@ -113,6 +158,15 @@ pub trait ServerHooks: Hooks {
 
     /// An event of the server.
     fn on_server(&mut self, event: ServerEvent);
+
+    /// Returns whether the sizes of files that are sent are to be asked for.
+    fn wants_sizes(&self) -> bool;
+
+    /// A transfer has begun. It is called about no session that is attended.
+    fn on_begun(&mut self, transfer: &BegunTransfer<'_>);
+
+    /// A look at what goes on, once a second, if the owner's signs ask for it.
+    fn on_look(&mut self, look: &ServerLook<'_>);
 
     /// A transfer has ended. It is called also if its session is gone, and about no session that is attended.
     fn on_transfer(&mut self, record: &TransferRecord<'_>);

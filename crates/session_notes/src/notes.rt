@@ -10,7 +10,8 @@ use handler_hooks::Hooks;
 use line_queue::LogForm;
 use log::{Level, Log, log};
 use server_house::{
-    EndCause, NotServed, ServerEvent, ServerHooks, SessionEvent, StoreNote, TransferRecord,
+    BegunTransfer, EndCause, NotServed, ServerEvent, ServerHooks, ServerLook, SessionEvent,
+    StoreNote, TransferRecord,
 };
 use std::net::Ipv4Addr;
 use std::time::Clock;
@@ -130,6 +131,14 @@ impl<L: Log + Clock + Drop, T: TransferLog + Drop> ServerHooks for Notes<L, T> {
         let text = ServerText(event);
         log!(self.log; target: "", Level::Warn, "{stamp}{text}");
     }
+
+    fn wants_sizes(&self) -> bool {
+        false
+    }
+
+    fn on_begun(&mut self, _transfer: &BegunTransfer<'_>) {}
+
+    fn on_look(&mut self, _look: &ServerLook<'_>) {}
 
     fn on_transfer(&mut self, record: &TransferRecord<'_>) {
         let ended = seconds_of(self.log.since_1970());

@@ -4,6 +4,7 @@ use crate::expect::holds;
 use grant_certificate::Verdict;
 use limit_tree::NodeKind;
 use sheet_check::{GrantsFault, read_grants, run_check};
+use sheet_picture::picture_of;
 use sheet_share::run_share;
 use sheet_text::{Nodes, cut_line, read_grant, read_sheet};
 use std::test::Fail;
@@ -89,6 +90,20 @@ fn sheet_share(rt: HostRuntime) -> Result<(), Fail> {
     let mut shared = Vec::new(alloc);
     run_share(alloc, &mut sheet.as_bytes(), &mut shared)?;
     assert!(rt; shared.as_slice() == b"/a 5 of 8 full /\n/b 5 of 5\ntotal 10\n".as_slice());
+    Ok(())
+}
+
+#[test]
+fn sheet_picture(rt: HostRuntime) -> Result<(), Fail> {
+    let alloc = rt.alloc();
+    let picture = picture_of(alloc, b"limit / 10\nwant /a 8\nwant /b 5\n")?;
+    assert!(rt; picture.as_str().starts_with("<svg "));
+    assert!(rt;
+        picture
+            .as_str()
+            .contains("<title>/a: 5 of 8, held back by /</title>")
+    );
+    assert!(rt; picture.as_str().contains("<title>/b: 5 of 5</title>"));
     Ok(())
 }
 

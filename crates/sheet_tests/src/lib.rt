@@ -1,5 +1,5 @@
 //! Tests of the text of sheets and of grants files and of the commands on them, by the public calls of `sheet_text`,
-//! `text_io`, `sheet_share` and `sheet_check` alone.
+//! `text_io`, `sheet_share`, `sheet_picture` and `sheet_check` alone.
 #![tactic(auto)]
 
 #[cfg(test)]
@@ -12,6 +12,8 @@ mod grants;
 mod lines;
 #[cfg(test)]
 mod nodes;
+#[cfg(test)]
+mod pictures;
 #[cfg(test)]
 mod sheets;
 #[cfg(test)]

@@ -1,7 +1,7 @@
 -- The endings of the commands on sheets. A file is given by a test of the octets that it may
 -- contain; None is for unknown octets, about which nothing is said. Old and new are the contents of
 -- the output before and after.
-use Rattle.std.specs.Prelude.{◌≡◌, ◌<◌, ◌⊎◌, ℕ, List, Option, Some, None, IfSome, length, option_map}
+use Rattle.std.specs.Prelude.{◌≡◌, ◌<◌, ◌⊎◌, ℕ, Bool, true, false, List, Option, Some, None, IfSome, length, option_map}
 use Rattle.std.specs.Io.KnownBytes.{Appends}
 use Rattle.command_line.specs.declared.words.SheetWords.{SheetWords}
 use Rattle.command_line.specs.declared.words.SheetWords.TheVariants.{Share as ShareWords, Check as CheckWords}
@@ -12,6 +12,7 @@ use Rattle.sheet_check.specs.Checking.{IsCheckOf, IsGrantsFaultOf}
 use Rattle.sheet_check.specs.declared.fault.CheckFault.{CheckFault}
 use Rattle.sheet_check.specs.declared.fault.CheckFault.TheVariants as check
 use Rattle.sheet_check.specs.declared.grants_fault.GrantsFault.{GrantsFault}
+use Rattle.sheet_picture.specs.Pictures.{IsPictureOf}
 use Rattle.sheet_share.specs.Sharing.{IsSharingOf}
 use Rattle.sheet_share.specs.declared.fault.ShareFault.{ShareFault}
 use Rattle.sheet_share.specs.declared.fault.ShareFault.TheVariants as share
@@ -57,11 +58,16 @@ checked_file sheet grants (check.GrantsText why) = Some grants
 checked_file sheet grants (check.Grants fault) = Some grants
 checked_file sheet grants (check.Text why) = None
 
--- the lines of the sharing of the text's sheet are appended
-abbrev pub AppendsSharing : Option (List ℕ) → Option (List ℕ) → Option (List ℕ) → Type 0
-AppendsSharing None old new = Unit {0}
-AppendsSharing (Some text) old new =
-    (printed : List ℕ) × IsSharingOf text printed × Appends old new printed
+-- the picture of the sharing of the text's sheet, or its lines
+abbrev pub IsShown : Bool → List ℕ → List ℕ → Type 0
+IsShown true text printed = IsPictureOf text printed
+IsShown false text printed = IsSharingOf text printed
+
+-- the picture, or the lines, of the sharing of the text's sheet are appended
+abbrev pub AppendsSharing : Bool → Option (List ℕ) → Option (List ℕ) → Option (List ℕ) → Type 0
+AppendsSharing svg None old new = Unit {0}
+AppendsSharing svg (Some text) old new =
+    (printed : List ℕ) × IsShown svg text printed × Appends old new printed
 
 -- the line of that verdict on the grants of the second text within the sheet of the first is
 -- appended
@@ -93,17 +99,17 @@ IsShareFault gives (share.Sheet fault) = IsSheetFaultIn gives fault
 IsShareFault gives (share.Text TooLong) = IsTooLong gives
 IsShareFault gives (share.Text _) = Unit {0}
 
--- the ending of `share` for the path of a sheet
-abbrev pub IsShareEnd : (List ℕ → Octets) → List ℕ → Option (List ℕ) → Option (List ℕ) → Exit
-    → Type 0
-IsShareEnd gives sheet old new Done =
-    (text : Option (List ℕ)) × gives sheet text × AppendsSharing text old new
-IsShareEnd gives sheet old new Flawed = ⊥
-IsShareEnd gives sheet old new (Refused told) = ⊥
-IsShareEnd gives sheet old new (Text fault cause) = fault ≡ Memory
-IsShareEnd gives sheet old new (Share fault cause) =
+-- the ending of `share` for the path of a sheet, as a picture or in lines
+abbrev pub IsShareEnd : (List ℕ → Octets) → Bool → List ℕ → Option (List ℕ) → Option (List ℕ)
+    → Exit → Type 0
+IsShareEnd gives svg sheet old new Done =
+    (text : Option (List ℕ)) × gives sheet text × AppendsSharing svg text old new
+IsShareEnd gives svg sheet old new Flawed = ⊥
+IsShareEnd gives svg sheet old new (Refused told) = ⊥
+IsShareEnd gives svg sheet old new (Text fault cause) = fault ≡ Memory
+IsShareEnd gives svg sheet old new (Share fault cause) =
     IsShareFault (gives sheet) fault × (file_of cause ≡ shared_file sheet fault)
-IsShareEnd gives sheet old new (Check fault cause) = ⊥
+IsShareEnd gives svg sheet old new (Check fault cause) = ⊥
 
 -- standard input is named as both the sheet and the grants
 abbrev pub IsNamedTwice : List ℕ → List ℕ → Type 0
@@ -139,6 +145,7 @@ IsCheckEnd gives sheet grants old new (Check fault cause) = ¬ IsNamedTwice shee
 -- the ending of that command
 abbrev pub IsSheetEnd : (List ℕ → Octets) → SheetWords → Option (List ℕ) → Option (List ℕ) → Exit
     → Type 0
-IsSheetEnd gives (ShareWords sheet) old new ending = IsShareEnd gives sheet.now old new ending
+IsSheetEnd gives (ShareWords sheet svg) old new ending =
+    IsShareEnd gives svg sheet.now old new ending
 IsSheetEnd gives (CheckWords sheet grants) old new ending =
     IsCheckEnd gives sheet.now grants.now old new ending

@@ -1,6 +1,7 @@
 //! Running the command of a line's words.
 
-ghost use Rattle.std.specs.Prelude.{◌≡◌, ◌≢◌, ◌⊎◌, ◌↔◌, ◌∷◌, [], ℕ, List, IsTrue, codes, map};
+ghost use Rattle.std.specs.Io.KnownBytes.{Appends};
+ghost use Rattle.std.specs.Prelude.{◌≡◌, ◌≢◌, ◌<◌, ◌⊎◌, ◌↔◌, ◌∷◌, [], ℕ, List, Some, false, true, IfErr, IfSome, IsErrOf, IsTrue, OnOk, codes, length, map};
 ghost use Rattle.clap.specs.Words.{fault_of, subcommand_of};
 ghost use Rattle.command_line.specs.Commands.{sheets};
 ghost use Rattle.command_line.specs.Given.{IsPlainWord, IsRefusal, IsSheetFound};
@@ -8,7 +9,11 @@ ghost use Rattle.command_line.specs.declared.words.SheetWords.{SheetWords};
 ghost use Rattle.command_line.specs.declared.words.WordsFault.{WordsFault};
 ghost use Rattle.sheets_program.specs.Causes.{AreBothOpened, AreOpened, IsCheckReason, IsShareReason, IsSheetWhy};
 ghost use Rattle.sheets_program.specs.Endings.{IsOutOfMemory, IsToldEnd, IsUnwritten};
-ghost use Rattle.sheets_program.specs.Runs.{IsCheckEnd, IsNamedTwice, IsShareEnd, IsSheetEnd};
+ghost use Rattle.sheets_program.specs.Runs.{IsCheckEnd, IsNamedTwice, IsShareEnd, IsSheetEnd, IsShown};
+ghost use Rattle.sheet_text.specs.Sheet.{IsSheetFaultOf};
+ghost use Rattle.sheet_text.specs.declared.fault.SheetFault.{SheetFault};
+ghost use Rattle.text_io.specs.Texts.{IsTextOf};
+ghost use Rattle.text_io.specs.declared.read.TheConstants.{MAX_TEXT};
 
 use crate::cause::{Cause, check_cause, share_cause};
 use crate::ending::{Exit, tell};
@@ -16,22 +21,52 @@ use crate::files::{Opener, is_input};
 use command_line::{SheetWords, read_sheet_words};
 use grant_certificate::Verdict;
 use sheet_check::{CheckFault, run_check};
+use sheet_picture::run_picture;
 use sheet_share::{ShareFault, run_share};
 use std::alloc::Global;
-use text_io::{TextFault, TextWriter};
+use text_io::{TextFault, TextReader, TextWriter};
 
 const READ_TWICE: &str = "error: standard input cannot be both the sheet and the grants\n";
+
+/// Shares the sheet of a reader, as a picture or in lines.
+fn show<R: TextReader, W: TextWriter>(
+    alloc: Global,
+    svg: bool,
+    reader: &mut R,
+    output: &mut W,
+) -> Result<(), ShareFault>
+    ensures written { OnOk result ((text : List ℕ) → R.remaining reader.old ≡ Some text
+        → (printed : List ℕ) × IsShown svg text printed
+        × Appends (W.contents output.old) (W.contents output.new) printed) }
+    ensures sheet { (fault : SheetFault) → IsErrOf result (ShareFault.Sheet fault)
+        → (text : List ℕ) → R.remaining reader.old ≡ Some text → IsSheetFaultOf text fault }
+    ensures too_long { IsErrOf result (ShareFault.Text TextFault.TooLong)
+        → IfSome (R.remaining reader.old) (λ text. MAX_TEXT < length text) }
+    ensures read_fault { IsErrOf result (ShareFault.Text TextFault.ReadFault)
+        → R.may_fail reader.old ≡ true }
+    ensures write_fault { IsErrOf result (ShareFault.Text TextFault.WriteFault)
+        → (text printed : List ℕ) × IsTextOf text (R.remaining reader.old)
+        × IsShown svg text printed × W.may_refuse output.old printed }
+    ensures unwritten { IfErr result (λ fault. fault ≢ ShareFault.Text TextFault.WriteFault
+        → output.new ≡ output.old) }
+{
+    match svg {
+        true => run_picture(alloc, reader, output),
+        false => run_share(alloc, reader, output),
+    }
+}
 
 fn share<'w, O: Opener, W: TextWriter>(
     alloc: Global,
     sheet: &'w str,
+    svg: bool,
     files: &mut O,
     output: &mut W,
 ) -> Exit<'w>
-    ensures end { IsShareEnd (O.Gives files.old) sheet.now
+    ensures end { IsShareEnd (O.Gives files.old) svg sheet.now
         (W.contents output.old) (W.contents output.new) result }
     ensures why { IsShareReason (O.Gives files.old sheet.now) (O.MayRefuse files.old sheet.now)
-        (O.MayFail files.old sheet.now) (W.may_refuse output.old) result }
+        (O.MayFail files.old sheet.now) (W.may_refuse output.old) svg result }
     ensures opened { O.Opens files.old sheet.now files.new }
     ensures unwritten { IsUnwritten result → output.new ≡ output.old }
 {
@@ -45,7 +80,7 @@ fn share<'w, O: Opener, W: TextWriter>(
             return Exit::Share(ShareFault::Text(TextFault::ReadFault), cause);
         }
     };
-    match run_share(alloc, &mut file, output) {
+    match show(alloc, svg, &mut file, output) {
         Ok(()) => Exit::Done,
         Err(fault) => Exit::Share(fault, share_cause(fault, sheet, O::reason(&file))),
     }
@@ -125,7 +160,7 @@ pub fn run_sheet_words<'w, O: Opener, W: TextWriter>(
     ensures unwritten { IsUnwritten result → output.new ≡ output.old }
 {
     match words {
-        SheetWords::Share { sheet } => share(alloc, sheet, files, output),
+        SheetWords::Share { sheet, svg } => share(alloc, sheet, svg, files, output),
         SheetWords::Check { sheet, grants } => check(alloc, sheet, grants, files, output),
     }
 }
@@ -140,7 +175,11 @@ pub fn run_sheets<'w, O: Opener, W: TextWriter>(
 ) -> Exit<'w>
     ensures share { (sheet : List ℕ) → IsPlainWord sheet
         → map (λ s. s.now) words.now ≡ codes "share" ∷ sheet ∷ []
-        → IsShareEnd (O.Gives files.old) sheet
+        → IsShareEnd (O.Gives files.old) false sheet
+        (W.contents output.old) (W.contents output.new) result }
+    ensures share_svg { (sheet : List ℕ) → IsPlainWord sheet
+        → map (λ s. s.now) words.now ≡ codes "share" ∷ sheet ∷ codes "--svg" ∷ []
+        → IsShareEnd (O.Gives files.old) true sheet
         (W.contents output.old) (W.contents output.new) result }
     ensures check { (sheet grants : List ℕ) → IsPlainWord sheet → IsPlainWord grants
         → map (λ s. s.now) words.now ≡ codes "check" ∷ sheet ∷ grants ∷ []

@@ -31,8 +31,8 @@ use line_rates::Limits;
 use rate_floors::Floors;
 use recorded_store::{Recorder, StoreRecord};
 use server_house::{
-    EndCause, House, ServerHooks, SessionEvent, SessionRefusal, ShutdownStage, StoreNote,
-    TransferKind, TransferRecord, copy_settings,
+    BegunTransfer, EndCause, House, ServerHooks, SessionEvent, SessionRefusal, ShutdownStage,
+    StoreNote, TransferKind, TransferRecord, copy_settings,
 };
 use session_table::{Action, Answer, End, HookCall, Input, Job, Refusal, Settings, Text};
 use socket_side::SocketSide;
@@ -343,6 +343,40 @@ where
         self.house.store_of(self.key).lock(self.rt).take_error()
     }
 
+    // The octets of the file that is sent, if the owner asks for that. The call is none of the session's.
+    fn size(&self) -> Option<u64> {
+        let path = match (self.begun.kind, &self.path) {
+            (TransferKind::Sent, Some(path)) => path,
+            _ => return None,
+        };
+        if !self.house.handler.lock(self.rt).wants_sizes() {
+            return None;
+        }
+        let mut store = self.house.store_of(self.key).lock(self.rt);
+        let found = store.stat(path);
+        let _ = store.take_last();
+        let _ = store.take_error();
+        match found {
+            Ok(meta) => Some(meta.size),
+            Err(_) => None,
+        }
+    }
+
+    // Reports that the last transfer was begun.
+    fn report_begin(&self) {
+        let transfer = BegunTransfer {
+            peer: self.peer,
+            session: self.key,
+            user: self.name.as_str(),
+            number: self.user,
+            kind: self.begun.kind,
+            path: self.last_path(),
+            size: self.size(),
+            since: self.begun.since,
+        };
+        self.house.handler.lock(self.rt).on_begun(&transfer);
+    }
+
     // Reports the end of the last transfer that was begun.
     fn report_end(&self, cause: Option<EndCause>) {
         let record = self.record(cause);
@@ -591,6 +625,7 @@ where
                 kind: kind_of(&job),
                 is_text: is_text(&job),
             };
+            self.report_begin();
             self.side.start(job, self.user);
         }
     }

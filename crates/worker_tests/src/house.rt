@@ -6,6 +6,7 @@ use super::counted::End;
 use super::expect::OfTest;
 use grant_ledger::MAX_LANES;
 use lent_parts::{LentDesk, LentRounds, PartsName};
+use paced_rounds::HeldNames;
 use round_pace::TICK_MICROS;
 use std::alloc::{Allocator, Global};
 use std::sync::Mutex;
@@ -38,7 +39,10 @@ impl<B: PartsName> Turns<B> {
         let skipped = ticks.saturating_sub(1).saturating_mul(TICK_MICROS);
         let now = self.next.saturating_add(skipped);
         self.next = now.saturating_add(TICK_MICROS);
-        let _ = self.rounds.hold(alloc, desk, now, &[true; MAX_LANES]);
+        let mut names = HeldNames::new(false);
+        let _ = self
+            .rounds
+            .hold(alloc, desk, now, &[true; MAX_LANES], &mut names);
     }
 }
 

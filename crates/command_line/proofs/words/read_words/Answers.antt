@@ -1,18 +1,26 @@
 use Rattle.std.proofs.Common.{None, Some, Bool, codes, inl, inr, refl, sym, [], ◌≡◌, ◌∙◌, ap, ap₂, subst, map, ℕ, List, Option, true}
 use Rattle.std.specs.Borrow.{Bor}
 use Rattle.command_line.specs.Commands.{ftpd}
-use Rattle.command_line.specs.Given.{IsCheckConfig, IsFound, IsLoggedBy, IsPlanWords, IsRefusal, IsServe}
-use Rattle.command_line.specs.Timed.{IsTimedBy, IsUntimed, usual_patience}
+use Rattle.command_line.specs.Given.{IsCheckConfig, IsFound, IsLoggedBy, IsOfSheets, IsPlanWords, IsRefusal, IsServe, IsShare, IsStatusBy, IsTop}
+use Rattle.command_line.specs.Stated.{IsStatedBy, IsUnnumbered}
+use Rattle.command_line.specs.Timed.{usual_patience}
+use Rattle.command_line.specs.declared.numbers.NumberForm.TheVariants.{Lines, Port, Seconds}
+use Rattle.command_line.specs.declared.numbers.TheConstants.{ROWS}
 use Rattle.clap.specs.Words.{App, Row, Text, app_of, fault_of, is_simple, is_simple_and_free, first_of, subcommand_of, takes}
-use Rattle.command_line.proofs.Taken.{refused_by_none, ftpd_is_free, ftpd_is_simple, ftpd_checks, ftpd_shares, checks_config, migrates, plans, plans_json, reports_json, scripts, serves}
-use Rattle.command_line.proofs.Seconds.{patient, refused_other, refused_timed, seconds_plain, timed_by, usual}
-use Rattle.command_line.proofs.ServeWords.{serves_logged, serves_ready, serves_timed, serves_until}
-use Rattle.command_line.proofs.GivenCommand.{check_config_is, check_of_sheets, ftpd_found, logged_is, migrate_is, plan_is, script_is, serve_is, share_of_sheets}
+use Rattle.command_line.proofs.Taken.{refused_by_none, ftpd_is_free, ftpd_is_simple, ftpd_checks, ftpd_pictures, ftpd_shares, checks_config, migrates, plans, plans_json, reports_json, scripts}
+use Rattle.command_line.proofs.StatedNumbers.{no_port, number_plain, patient, refused_other, refused_stated, serve_stated, some_lines, some_port, top_stated, usual, usual_lines}
+use Rattle.command_line.proofs.ServeWords.{serves, serves_logged, serves_ready, serves_status, serves_timed, serves_until}
+use Rattle.command_line.proofs.TopWords.{tops, tops_once}
+use Rattle.command_line.proofs.GivenCommand.{check_config_is, check_of_sheets, ftpd_found, logged_is, migrate_is, plan_is, script_is, serve_is, share_of_sheets, status_is, top_is}
 use Rattle.command_line.proofs.words.read_words.Goals as goal
 
 pub returns-in-Err-clause-share : goal.returns-in-Err-clause-share
 returns-in-Err-clause-share c = λ word plain are.
     c.in-Err.ensures.takes (ap₂ takes c.in-Ok.ensures.ftpd are ∙ (ftpd_shares word plain).taken)
+
+pub returns-in-Err-clause-share_svg : goal.returns-in-Err-clause-share_svg
+returns-in-Err-clause-share_svg c = λ word plain are.
+    c.in-Err.ensures.takes (ap₂ takes c.in-Ok.ensures.ftpd are ∙ (ftpd_pictures word plain).taken)
 
 pub returns-in-Err-clause-check : goal.returns-in-Err-clause-check
 returns-in-Err-clause-check c = λ first second plain also are.
@@ -50,9 +58,13 @@ pub returns-in-Err-clause-serve_logged : goal.returns-in-Err-clause-serve_logged
 returns-in-Err-clause-serve_logged c = λ word path form plain also third are.
     c.in-Err.ensures.takes (ap₂ takes c.in-Ok.ensures.ftpd are ∙ (serves_logged word path form plain also third).taken)
 
+pub returns-in-Err-clause-serve_status : goal.returns-in-Err-clause-serve_status
+returns-in-Err-clause-serve_status c = λ word path port n plain also number are.
+    c.in-Err.ensures.takes (ap₂ takes c.in-Ok.ensures.ftpd are ∙ (serves_status word path port plain also (number_plain Port port n number)).taken)
+
 pub returns-in-Err-clause-serve_timed : goal.returns-in-Err-clause-serve_timed
 returns-in-Err-clause-serve_timed c = λ word first second third p plain one two three are.
-    let held = serves_timed word first second third plain (seconds_plain first _ one) (seconds_plain second _ two) (seconds_plain third _ three) in
+    let held = serves_timed word first second third plain (number_plain Seconds first _ one) (number_plain Seconds second _ two) (number_plain Seconds third _ three) in
     c.in-Err.ensures.takes (ap₂ takes c.in-Ok.ensures.ftpd are ∙ held.taken)
 
 pub returns-in-Err-clause-plan : goal.returns-in-Err-clause-plan
@@ -63,6 +75,14 @@ pub returns-in-Err-clause-plan_json : goal.returns-in-Err-clause-plan_json
 returns-in-Err-clause-plan_json c = λ word stated plain also are.
     c.in-Err.ensures.takes (ap₂ takes c.in-Ok.ensures.ftpd are ∙ (plans_json word stated plain also).taken)
 
+pub returns-in-Err-clause-top : goal.returns-in-Err-clause-top
+returns-in-Err-clause-top c = λ word plain are.
+    c.in-Err.ensures.takes (ap₂ takes c.in-Ok.ensures.ftpd are ∙ (tops word plain).taken)
+
+pub returns-in-Err-clause-top_once : goal.returns-in-Err-clause-top_once
+returns-in-Err-clause-top_once c = λ word lines n plain number are.
+    c.in-Err.ensures.takes (ap₂ takes c.in-Ok.ensures.ftpd are ∙ (tops_once word lines plain (number_plain Lines lines n number)).taken)
+
 pub returns-in-Err-clause-refused : goal.returns-in-Err-clause-refused
 returns-in-Err-clause-refused c =
     let texts = map (λ (s : Bor (List ℕ)). s.now) c.args.words.now in
@@ -72,126 +92,155 @@ returns-in-Err-clause-refused c =
 pub returns-in_default-clause-taken : goal.returns-in_default-clause-taken
 returns-in_default-clause-taken c = λ is.
     let texts = map (λ (s : Bor (List ℕ)). s.now) c.args.words.now in
-    let found = ftpd_found c.args.words texts is.1.0 is.0 is.1.1 in
+    let found = ftpd_found c.args.words texts is.1.0 is.1.1 is.1.2 is.0 is.1.3 in
     (found.0, found.1, refl)
 
 pub returns-in-Err-clause-taken : goal.returns-in-Err-clause-taken
 returns-in-Err-clause-taken c = λ is.
     let texts = map (λ (s : Bor (List ℕ)). s.now) c.args.words.now in
-    let found = ftpd_found c.args.words texts is.1.0 is.0 is.1.1 in
+    let found = ftpd_found c.args.words texts is.1.0 is.1.1 is.1.2 is.0 is.1.3 in
     let refused = c.in-Err.ensures.refused (ap is_simple_and_free c.in-Ok.ensures.ftpd ∙ ftpd_is_free) in
     let by_parser = subst (λ (a : App). IsRefusal (fault_of a texts) c.in-Err.fault) c.in-Ok.ensures.ftpd refused in
     (found.0, found.1, refused_by_none (fault_of ftpd texts) c.in-Err.fault is.0 by_parser)
 
--- ---- where a number of seconds is refused
+-- ---- where a number is refused
 
-pub returns-in-Err-stated_patience-clause-share : goal.returns-in-Err-stated_patience-clause-share
-returns-in-Err-stated_patience-clause-share c = λ word plain are.
+pub returns-in-Err-stated_numbers-clause-share : goal.returns-in-Err-stated_numbers-clause-share
+returns-in-Err-stated_numbers-clause-share c = λ word plain are.
     let held = ftpd_shares word plain in
     let simple : is_simple (app_of c.in-Ok.command) ≡ true = ap is_simple c.in-Ok.ensures.ftpd ∙ ftpd_is_simple in
     let entered = c.in-Ok-parsed.ensures.found simple ∙ ap₂ subcommand_of c.in-Ok.ensures.ftpd are ∙ held.entered in
-    refused_other _ (codes "share") held.rows _ refl entered c.in-Err-stated_patience.ensures.refused
+    refused_other _ (codes "share") held.rows _ refl refl entered c.in-Err-stated_numbers.ensures.refused
 
-pub returns-in-Err-stated_patience-clause-check : goal.returns-in-Err-stated_patience-clause-check
-returns-in-Err-stated_patience-clause-check c = λ first second plain also are.
+pub returns-in-Err-stated_numbers-clause-share_svg : goal.returns-in-Err-stated_numbers-clause-share_svg
+returns-in-Err-stated_numbers-clause-share_svg c = λ word plain are.
+    let held = ftpd_pictures word plain in
+    let simple : is_simple (app_of c.in-Ok.command) ≡ true = ap is_simple c.in-Ok.ensures.ftpd ∙ ftpd_is_simple in
+    let entered = c.in-Ok-parsed.ensures.found simple ∙ ap₂ subcommand_of c.in-Ok.ensures.ftpd are ∙ held.entered in
+    refused_other _ (codes "share") held.rows _ refl refl entered c.in-Err-stated_numbers.ensures.refused
+
+pub returns-in-Err-stated_numbers-clause-check : goal.returns-in-Err-stated_numbers-clause-check
+returns-in-Err-stated_numbers-clause-check c = λ first second plain also are.
     let held = ftpd_checks first second plain also in
     let simple : is_simple (app_of c.in-Ok.command) ≡ true = ap is_simple c.in-Ok.ensures.ftpd ∙ ftpd_is_simple in
     let entered = c.in-Ok-parsed.ensures.found simple ∙ ap₂ subcommand_of c.in-Ok.ensures.ftpd are ∙ held.entered in
-    refused_other _ (codes "check") held.rows _ refl entered c.in-Err-stated_patience.ensures.refused
+    refused_other _ (codes "check") held.rows _ refl refl entered c.in-Err-stated_numbers.ensures.refused
 
-pub returns-in-Err-stated_patience-clause-check_config : goal.returns-in-Err-stated_patience-clause-check_config
-returns-in-Err-stated_patience-clause-check_config c = λ word plain are.
+pub returns-in-Err-stated_numbers-clause-check_config : goal.returns-in-Err-stated_numbers-clause-check_config
+returns-in-Err-stated_numbers-clause-check_config c = λ word plain are.
     let held = checks_config word plain in
     let simple : is_simple (app_of c.in-Ok.command) ≡ true = ap is_simple c.in-Ok.ensures.ftpd ∙ ftpd_is_simple in
     let entered = c.in-Ok-parsed.ensures.found simple ∙ ap₂ subcommand_of c.in-Ok.ensures.ftpd are ∙ held.entered in
-    refused_other _ (codes "check-config") held.rows _ refl entered c.in-Err-stated_patience.ensures.refused
+    refused_other _ (codes "check-config") held.rows _ refl refl entered c.in-Err-stated_numbers.ensures.refused
 
-pub returns-in-Err-stated_patience-clause-check_config_json : goal.returns-in-Err-stated_patience-clause-check_config_json
-returns-in-Err-stated_patience-clause-check_config_json c = λ word plain are.
+pub returns-in-Err-stated_numbers-clause-check_config_json : goal.returns-in-Err-stated_numbers-clause-check_config_json
+returns-in-Err-stated_numbers-clause-check_config_json c = λ word plain are.
     let held = reports_json word plain in
     let simple : is_simple (app_of c.in-Ok.command) ≡ true = ap is_simple c.in-Ok.ensures.ftpd ∙ ftpd_is_simple in
     let entered = c.in-Ok-parsed.ensures.found simple ∙ ap₂ subcommand_of c.in-Ok.ensures.ftpd are ∙ held.entered in
-    refused_other _ (codes "check-config") held.rows _ refl entered c.in-Err-stated_patience.ensures.refused
+    refused_other _ (codes "check-config") held.rows _ refl refl entered c.in-Err-stated_numbers.ensures.refused
 
-pub returns-in-Err-stated_patience-clause-migrate : goal.returns-in-Err-stated_patience-clause-migrate
-returns-in-Err-stated_patience-clause-migrate c = λ word plain are.
+pub returns-in-Err-stated_numbers-clause-migrate : goal.returns-in-Err-stated_numbers-clause-migrate
+returns-in-Err-stated_numbers-clause-migrate c = λ word plain are.
     let held = migrates word plain in
     let simple : is_simple (app_of c.in-Ok.command) ≡ true = ap is_simple c.in-Ok.ensures.ftpd ∙ ftpd_is_simple in
     let entered = c.in-Ok-parsed.ensures.found simple ∙ ap₂ subcommand_of c.in-Ok.ensures.ftpd are ∙ held.entered in
-    refused_other _ (codes "migrate") held.rows _ refl entered c.in-Err-stated_patience.ensures.refused
+    refused_other _ (codes "migrate") held.rows _ refl refl entered c.in-Err-stated_numbers.ensures.refused
 
-pub returns-in-Err-stated_patience-clause-script : goal.returns-in-Err-stated_patience-clause-script
-returns-in-Err-stated_patience-clause-script c = λ word plain are.
+pub returns-in-Err-stated_numbers-clause-script : goal.returns-in-Err-stated_numbers-clause-script
+returns-in-Err-stated_numbers-clause-script c = λ word plain are.
     let held = scripts word plain in
     let simple : is_simple (app_of c.in-Ok.command) ≡ true = ap is_simple c.in-Ok.ensures.ftpd ∙ ftpd_is_simple in
     let entered = c.in-Ok-parsed.ensures.found simple ∙ ap₂ subcommand_of c.in-Ok.ensures.ftpd are ∙ held.entered in
-    refused_other _ (codes "script") held.rows _ refl entered c.in-Err-stated_patience.ensures.refused
+    refused_other _ (codes "script") held.rows _ refl refl entered c.in-Err-stated_numbers.ensures.refused
 
-pub returns-in-Err-stated_patience-clause-serve : goal.returns-in-Err-stated_patience-clause-serve
-returns-in-Err-stated_patience-clause-serve c = λ word plain are.
+pub returns-in-Err-stated_numbers-clause-serve : goal.returns-in-Err-stated_numbers-clause-serve
+returns-in-Err-stated_numbers-clause-serve c = λ word plain are.
     let held = serves word plain in
     let simple : is_simple (app_of c.in-Ok.command) ≡ true = ap is_simple c.in-Ok.ensures.ftpd ∙ ftpd_is_simple in
     let entered = c.in-Ok-parsed.ensures.found simple ∙ ap₂ subcommand_of c.in-Ok.ensures.ftpd are ∙ held.entered in
-    refused_timed _ _ _ (timed_by _ _ held.rows entered (usual held.rows held.usual)) c.in-Err-stated_patience.ensures.refused
+    refused_stated _ _ _ _ _ (serve_stated _ _ None held.rows entered (usual held.rows held.usual) (no_port held.rows held.portless)) c.in-Err-stated_numbers.ensures.refused
 
-pub returns-in-Err-stated_patience-clause-serve_until : goal.returns-in-Err-stated_patience-clause-serve_until
-returns-in-Err-stated_patience-clause-serve_until c = λ word path plain also are.
+pub returns-in-Err-stated_numbers-clause-serve_until : goal.returns-in-Err-stated_numbers-clause-serve_until
+returns-in-Err-stated_numbers-clause-serve_until c = λ word path plain also are.
     let held = serves_until word path plain also in
     let simple : is_simple (app_of c.in-Ok.command) ≡ true = ap is_simple c.in-Ok.ensures.ftpd ∙ ftpd_is_simple in
     let entered = c.in-Ok-parsed.ensures.found simple ∙ ap₂ subcommand_of c.in-Ok.ensures.ftpd are ∙ held.entered in
-    refused_timed _ _ _ (timed_by _ _ held.rows entered (usual held.rows held.usual)) c.in-Err-stated_patience.ensures.refused
+    refused_stated _ _ _ _ _ (serve_stated _ _ None held.rows entered (usual held.rows held.usual) (no_port held.rows held.portless)) c.in-Err-stated_numbers.ensures.refused
 
-pub returns-in-Err-stated_patience-clause-serve_ready : goal.returns-in-Err-stated_patience-clause-serve_ready
-returns-in-Err-stated_patience-clause-serve_ready c = λ word path ready plain also third are.
+pub returns-in-Err-stated_numbers-clause-serve_ready : goal.returns-in-Err-stated_numbers-clause-serve_ready
+returns-in-Err-stated_numbers-clause-serve_ready c = λ word path ready plain also third are.
     let held = serves_ready word path ready plain also third in
     let simple : is_simple (app_of c.in-Ok.command) ≡ true = ap is_simple c.in-Ok.ensures.ftpd ∙ ftpd_is_simple in
     let entered = c.in-Ok-parsed.ensures.found simple ∙ ap₂ subcommand_of c.in-Ok.ensures.ftpd are ∙ held.entered in
-    refused_timed _ _ _ (timed_by _ _ held.rows entered (usual held.rows held.usual)) c.in-Err-stated_patience.ensures.refused
+    refused_stated _ _ _ _ _ (serve_stated _ _ None held.rows entered (usual held.rows held.usual) (no_port held.rows held.portless)) c.in-Err-stated_numbers.ensures.refused
 
-pub returns-in-Err-stated_patience-clause-serve_logged : goal.returns-in-Err-stated_patience-clause-serve_logged
-returns-in-Err-stated_patience-clause-serve_logged c = λ word path form plain also third are.
+pub returns-in-Err-stated_numbers-clause-serve_logged : goal.returns-in-Err-stated_numbers-clause-serve_logged
+returns-in-Err-stated_numbers-clause-serve_logged c = λ word path form plain also third are.
     let held = serves_logged word path form plain also third in
     let simple : is_simple (app_of c.in-Ok.command) ≡ true = ap is_simple c.in-Ok.ensures.ftpd ∙ ftpd_is_simple in
     let entered = c.in-Ok-parsed.ensures.found simple ∙ ap₂ subcommand_of c.in-Ok.ensures.ftpd are ∙ held.entered in
-    refused_timed _ _ _ (timed_by _ _ held.rows entered (usual held.rows held.usual)) c.in-Err-stated_patience.ensures.refused
+    refused_stated _ _ _ _ _ (serve_stated _ _ None held.rows entered (usual held.rows held.usual) (no_port held.rows held.portless)) c.in-Err-stated_numbers.ensures.refused
 
-pub returns-in-Err-stated_patience-clause-serve_timed : goal.returns-in-Err-stated_patience-clause-serve_timed
-returns-in-Err-stated_patience-clause-serve_timed c = λ word first second third p plain one two three are.
-    let held = serves_timed word first second third plain (seconds_plain first _ one) (seconds_plain second _ two) (seconds_plain third _ three) in
+pub returns-in-Err-stated_numbers-clause-serve_status : goal.returns-in-Err-stated_numbers-clause-serve_status
+returns-in-Err-stated_numbers-clause-serve_status c = λ word path port n plain also number are.
+    let held = serves_status word path port plain also (number_plain Port port n number) in
+    let simple : is_simple (app_of c.in-Ok.command) ≡ true = ap is_simple c.in-Ok.ensures.ftpd ∙ ftpd_is_simple in
+    let entered = c.in-Ok-parsed.ensures.found simple ∙ ap₂ subcommand_of c.in-Ok.ensures.ftpd are ∙ held.entered in
+    let stated = some_port held.rows port n held.status_port number in
+    refused_stated _ _ _ _ _ (serve_stated _ _ (Some n) held.rows entered (usual held.rows held.usual) stated) c.in-Err-stated_numbers.ensures.refused
+
+pub returns-in-Err-stated_numbers-clause-serve_timed : goal.returns-in-Err-stated_numbers-clause-serve_timed
+returns-in-Err-stated_numbers-clause-serve_timed c = λ word first second third p plain one two three are.
+    let held = serves_timed word first second third plain (number_plain Seconds first _ one) (number_plain Seconds second _ two) (number_plain Seconds third _ three) in
     let simple : is_simple (app_of c.in-Ok.command) ≡ true = ap is_simple c.in-Ok.ensures.ftpd ∙ ftpd_is_simple in
     let entered = c.in-Ok-parsed.ensures.found simple ∙ ap₂ subcommand_of c.in-Ok.ensures.ftpd are ∙ held.entered in
     let states = patient held.rows p first second third held.first held.second held.third one two three in
-    refused_timed _ p _ (timed_by _ p held.rows entered states) c.in-Err-stated_patience.ensures.refused
+    refused_stated _ p _ _ _ (serve_stated _ p None held.rows entered states (no_port held.rows held.portless)) c.in-Err-stated_numbers.ensures.refused
 
-pub returns-in-Err-stated_patience-clause-plan : goal.returns-in-Err-stated_patience-clause-plan
-returns-in-Err-stated_patience-clause-plan c = λ word stated plain also are.
+pub returns-in-Err-stated_numbers-clause-plan : goal.returns-in-Err-stated_numbers-clause-plan
+returns-in-Err-stated_numbers-clause-plan c = λ word stated plain also are.
     let held = plans word stated plain also in
     let simple : is_simple (app_of c.in-Ok.command) ≡ true = ap is_simple c.in-Ok.ensures.ftpd ∙ ftpd_is_simple in
     let entered = c.in-Ok-parsed.ensures.found simple ∙ ap₂ subcommand_of c.in-Ok.ensures.ftpd are ∙ held.entered in
-    refused_other _ (codes "plan") held.rows _ refl entered c.in-Err-stated_patience.ensures.refused
+    refused_other _ (codes "plan") held.rows _ refl refl entered c.in-Err-stated_numbers.ensures.refused
 
-pub returns-in-Err-stated_patience-clause-plan_json : goal.returns-in-Err-stated_patience-clause-plan_json
-returns-in-Err-stated_patience-clause-plan_json c = λ word stated plain also are.
+pub returns-in-Err-stated_numbers-clause-plan_json : goal.returns-in-Err-stated_numbers-clause-plan_json
+returns-in-Err-stated_numbers-clause-plan_json c = λ word stated plain also are.
     let held = plans_json word stated plain also in
     let simple : is_simple (app_of c.in-Ok.command) ≡ true = ap is_simple c.in-Ok.ensures.ftpd ∙ ftpd_is_simple in
     let entered = c.in-Ok-parsed.ensures.found simple ∙ ap₂ subcommand_of c.in-Ok.ensures.ftpd are ∙ held.entered in
-    refused_other _ (codes "plan") held.rows _ refl entered c.in-Err-stated_patience.ensures.refused
+    refused_other _ (codes "plan") held.rows _ refl refl entered c.in-Err-stated_numbers.ensures.refused
 
-pub returns-in-Err-stated_patience-clause-refused : goal.returns-in-Err-stated_patience-clause-refused
-returns-in-Err-stated_patience-clause-refused c =
+pub returns-in-Err-stated_numbers-clause-top : goal.returns-in-Err-stated_numbers-clause-top
+returns-in-Err-stated_numbers-clause-top c = λ word plain are.
+    let held = tops word plain in
+    let simple : is_simple (app_of c.in-Ok.command) ≡ true = ap is_simple c.in-Ok.ensures.ftpd ∙ ftpd_is_simple in
+    let entered = c.in-Ok-parsed.ensures.found simple ∙ ap₂ subcommand_of c.in-Ok.ensures.ftpd are ∙ held.entered in
+    refused_stated _ _ _ _ _ (top_stated _ ROWS held.rows entered (usual_lines held.rows held.lineless)) c.in-Err-stated_numbers.ensures.refused
+
+pub returns-in-Err-stated_numbers-clause-top_once : goal.returns-in-Err-stated_numbers-clause-top_once
+returns-in-Err-stated_numbers-clause-top_once c = λ word lines n plain number are.
+    let held = tops_once word lines plain (number_plain Lines lines n number) in
+    let simple : is_simple (app_of c.in-Ok.command) ≡ true = ap is_simple c.in-Ok.ensures.ftpd ∙ ftpd_is_simple in
+    let entered = c.in-Ok-parsed.ensures.found simple ∙ ap₂ subcommand_of c.in-Ok.ensures.ftpd are ∙ held.entered in
+    refused_stated _ _ _ _ _ (top_stated _ n held.rows entered (some_lines held.rows lines n held.lines_stated number)) c.in-Err-stated_numbers.ensures.refused
+
+pub returns-in-Err-stated_numbers-clause-refused : goal.returns-in-Err-stated_numbers-clause-refused
+returns-in-Err-stated_numbers-clause-refused c =
     let texts = map (λ (s : Bor (List ℕ)). s.now) c.args.words.now in
     let simple : is_simple (app_of c.in-Ok.command) ≡ true = ap is_simple c.in-Ok.ensures.ftpd ∙ ftpd_is_simple in
     let entered = c.in-Ok-parsed.ensures.found simple ∙ ap (λ (a : App). subcommand_of a texts) c.in-Ok.ensures.ftpd in
-    inr (subst (λ (found : Option (Text × List Row)). IsUntimed found c.in-Err-stated_patience.fault) entered c.in-Err-stated_patience.ensures.refused)
+    inr (subst (λ (found : Option (Text × List Row)). IsUnnumbered found c.in-Err-stated_numbers.fault) entered c.in-Err-stated_numbers.ensures.refused)
 
-pub returns-in-Err-stated_patience-clause-taken : goal.returns-in-Err-stated_patience-clause-taken
-returns-in-Err-stated_patience-clause-taken c = λ is.
+pub returns-in-Err-stated_numbers-clause-taken : goal.returns-in-Err-stated_numbers-clause-taken
+returns-in-Err-stated_numbers-clause-taken c = λ is.
     let texts = map (λ (s : Bor (List ℕ)). s.now) c.args.words.now in
     let simple : is_simple (app_of c.in-Ok.command) ≡ true = ap is_simple c.in-Ok.ensures.ftpd ∙ ftpd_is_simple in
     let entered = c.in-Ok-parsed.ensures.found simple ∙ ap (λ (a : App). subcommand_of a texts) c.in-Ok.ensures.ftpd in
-    let found = ftpd_found c.args.words texts is.1.0 is.0 is.1.1 in
-    let untimed = subst (λ (found : Option (Text × List Row)). IsUntimed found c.in-Err-stated_patience.fault) entered c.in-Err-stated_patience.ensures.refused in
-    (found.0, found.1, refused_timed _ is.1.0 _ is.1.1 untimed)
+    let found = ftpd_found c.args.words texts is.1.0 is.1.1 is.1.2 is.0 is.1.3 in
+    let refused = subst (λ (found : Option (Text × List Row)). IsUnnumbered found c.in-Err-stated_numbers.fault) entered c.in-Err-stated_numbers.ensures.refused in
+    (found.0, found.1, refused_stated _ is.1.0 is.1.1 is.1.2 _ is.1.3 refused)
 
 -- ---- where there is a command
 
@@ -202,8 +251,9 @@ unreachable-requires c =
     let simple : is_simple (app_of c.in-Ok.command) ≡ true = ap is_simple c.in-Ok.ensures.ftpd ∙ ftpd_is_simple in
     let none : fault_of ftpd texts ≡ [] = subst (λ (a : App). fault_of a texts ≡ []) c.in-Ok.ensures.ftpd (c.in-Ok-parsed.ensures.given free) in
     let entered = c.in-Ok-parsed.ensures.found simple ∙ ap (λ (a : App). subcommand_of a texts) c.in-Ok.ensures.ftpd in
-    let timed = subst (λ (o : Option (Text × List Row)). IsTimedBy o c.in-Ok-stated_patience.patience) entered c.in-Ok-stated_patience.ensures.timed in
-    let found = ftpd_found c.args.words texts c.in-Ok-stated_patience.patience none timed in
+    let numbers = c.in-Ok-stated_numbers.numbers in
+    let stated = subst (λ (o : Option (Text × List Row)). IsStatedBy o numbers.patience numbers.status_port numbers.rows) entered c.in-Ok-stated_numbers.ensures.stated in
+    let found = ftpd_found c.args.words texts numbers.patience numbers.status_port numbers.rows none stated in
     let held = subst (λ (o : Option (Text × List Row)). IsFound o found.0) (sym entered) found.1 in
     c.in-None.ensures.none refl found.0 held
 
@@ -212,7 +262,16 @@ returns-clause-share c = λ word plain are.
     let held = ftpd_shares word plain in
     let simple : is_simple (app_of c.in-Ok.command) ≡ true = ap is_simple c.in-Ok.ensures.ftpd ∙ ftpd_is_simple in
     let entered = c.in-Ok-parsed.ensures.found simple ∙ ap₂ subcommand_of c.in-Ok.ensures.ftpd are ∙ held.entered in
-    share_of_sheets _ _ held.rows word entered held.sheet c.in-Some.ensures.found
+    subst (λ (flag : Bool). IsOfSheets (IsShare word flag) c.in-Some.words) held.unflagged
+    (share_of_sheets _ _ held.rows word entered held.sheet c.in-Some.ensures.found)
+
+pub returns-clause-share_svg : goal.returns-clause-share_svg
+returns-clause-share_svg c = λ word plain are.
+    let held = ftpd_pictures word plain in
+    let simple : is_simple (app_of c.in-Ok.command) ≡ true = ap is_simple c.in-Ok.ensures.ftpd ∙ ftpd_is_simple in
+    let entered = c.in-Ok-parsed.ensures.found simple ∙ ap₂ subcommand_of c.in-Ok.ensures.ftpd are ∙ held.entered in
+    subst (λ (flag : Bool). IsOfSheets (IsShare word flag) c.in-Some.words) held.flagged
+    (share_of_sheets _ _ held.rows word entered held.sheet c.in-Some.ensures.found)
 
 pub returns-clause-check : goal.returns-clause-check
 returns-clause-check c = λ first second plain also are.
@@ -258,7 +317,7 @@ returns-clause-serve c = λ word plain are.
     let entered = c.in-Ok-parsed.ensures.found simple ∙ ap₂ subcommand_of c.in-Ok.ensures.ftpd are ∙ held.entered in
     subst (λ (ready : Option Text). IsServe word None ready usual_patience c.in-Some.words) held.no_ready
     (subst (λ (path : Option Text). IsServe word path (first_of (codes "ready-file") held.rows) usual_patience c.in-Some.words) held.no_path
-    (serve_is _ _ held.rows word usual_patience entered held.config (usual held.rows held.usual) c.in-Some.ensures.found))
+    (serve_is _ _ held.rows word usual_patience entered held.of (usual held.rows held.usual) c.in-Some.ensures.found))
 
 pub returns-clause-serve_until : goal.returns-clause-serve_until
 returns-clause-serve_until c = λ word path plain also are.
@@ -287,9 +346,17 @@ returns-clause-serve_logged c = λ word path form plain also third are.
     (subst (λ (log : Option Text). IsLoggedBy word log (first_of (codes "log-form") held.rows) c.in-Some.words) held.transfer_log
     (logged_is _ _ held.rows word entered held.of c.in-Some.ensures.found))
 
+pub returns-clause-serve_status : goal.returns-clause-serve_status
+returns-clause-serve_status c = λ word path port n plain also number are.
+    let held = serves_status word path port plain also (number_plain Port port n number) in
+    let simple : is_simple (app_of c.in-Ok.command) ≡ true = ap is_simple c.in-Ok.ensures.ftpd ∙ ftpd_is_simple in
+    let entered = c.in-Ok-parsed.ensures.found simple ∙ ap₂ subcommand_of c.in-Ok.ensures.ftpd are ∙ held.entered in
+    subst (λ (file : Option Text). IsStatusBy word file (Some n) c.in-Some.words) held.status
+    (status_is _ _ held.rows word (Some n) entered held.of (some_port held.rows port n held.status_port number) c.in-Some.ensures.found)
+
 pub returns-clause-serve_timed : goal.returns-clause-serve_timed
 returns-clause-serve_timed c = λ word first second third p plain one two three are.
-    let held = serves_timed word first second third plain (seconds_plain first _ one) (seconds_plain second _ two) (seconds_plain third _ three) in
+    let held = serves_timed word first second third plain (number_plain Seconds first _ one) (number_plain Seconds second _ two) (number_plain Seconds third _ three) in
     let simple : is_simple (app_of c.in-Ok.command) ≡ true = ap is_simple c.in-Ok.ensures.ftpd ∙ ftpd_is_simple in
     let entered = c.in-Ok-parsed.ensures.found simple ∙ ap₂ subcommand_of c.in-Ok.ensures.ftpd are ∙ held.entered in
     let states = patient held.rows p first second third held.first held.second held.third one two three in
@@ -313,6 +380,22 @@ returns-clause-plan_json c = λ word stated plain also are.
     subst (λ (flag : Bool). IsPlanWords word stated flag c.in-Some.words) held.flagged
     (plan_is _ _ held.rows word stated entered held.config held.transfers c.in-Some.ensures.found)
 
+pub returns-clause-top : goal.returns-clause-top
+returns-clause-top c = λ word plain are.
+    let held = tops word plain in
+    let simple : is_simple (app_of c.in-Ok.command) ≡ true = ap is_simple c.in-Ok.ensures.ftpd ∙ ftpd_is_simple in
+    let entered = c.in-Ok-parsed.ensures.found simple ∙ ap₂ subcommand_of c.in-Ok.ensures.ftpd are ∙ held.entered in
+    subst (λ (flag : Bool). IsTop word flag ROWS c.in-Some.words) held.unflagged
+    (top_is _ _ held.rows word ROWS entered held.status (usual_lines held.rows held.lineless) c.in-Some.ensures.found)
+
+pub returns-clause-top_once : goal.returns-clause-top_once
+returns-clause-top_once c = λ word lines n plain number are.
+    let held = tops_once word lines plain (number_plain Lines lines n number) in
+    let simple : is_simple (app_of c.in-Ok.command) ≡ true = ap is_simple c.in-Ok.ensures.ftpd ∙ ftpd_is_simple in
+    let entered = c.in-Ok-parsed.ensures.found simple ∙ ap₂ subcommand_of c.in-Ok.ensures.ftpd are ∙ held.entered in
+    subst (λ (flag : Bool). IsTop word flag n c.in-Some.words) held.flagged
+    (top_is _ _ held.rows word n entered held.status (some_lines held.rows lines n held.lines_stated number) c.in-Some.ensures.found)
+
 pub returns-clause-given : goal.returns-clause-given
 returns-clause-given c =
     let texts = map (λ (s : Bor (List ℕ)). s.now) c.args.words.now in
@@ -320,7 +403,9 @@ returns-clause-given c =
     let simple : is_simple (app_of c.in-Ok.command) ≡ true = ap is_simple c.in-Ok.ensures.ftpd ∙ ftpd_is_simple in
     let none : fault_of ftpd texts ≡ [] = subst (λ (a : App). fault_of a texts ≡ []) c.in-Ok.ensures.ftpd (c.in-Ok-parsed.ensures.given free) in
     let entered = c.in-Ok-parsed.ensures.found simple ∙ ap (λ (a : App). subcommand_of a texts) c.in-Ok.ensures.ftpd in
-    (none, (c.in-Ok-stated_patience.patience, subst (λ (o : Option (Text × List Row)). IsTimedBy o c.in-Ok-stated_patience.patience) entered c.in-Ok-stated_patience.ensures.timed))
+    let numbers = c.in-Ok-stated_numbers.numbers in
+    let stated = subst (λ (o : Option (Text × List Row)). IsStatedBy o numbers.patience numbers.status_port numbers.rows) entered c.in-Ok-stated_numbers.ensures.stated in
+    (none, (numbers.patience, numbers.status_port, numbers.rows, stated))
 
 pub returns-clause-found : goal.returns-clause-found
 returns-clause-found c =

@@ -1,5 +1,7 @@
-use Rattle.ftpd_program.proofs.Ends.{check_end, migrate_end, plan_end, report_end, script_end, serve_end, share_end}
-use Rattle.ftpd_program.proofs.NoWords.{no_print, no_serve, second_of_three, second_word, third_of_four, third_word}
+use Rattle.std.proofs.Common.{false, true}
+use Rattle.command_line.specs.declared.numbers.TheConstants.{ROWS}
+use Rattle.ftpd_program.proofs.Ends.{check_end, migrate_end, plan_end, report_end, script_end, serve_end, share_end, top_end}
+use Rattle.ftpd_program.proofs.NoWords.{no_print, no_serve, no_top, second_of_three, second_word, third_of_four, third_word}
 use Rattle.ftpd_program.specs.declared.printing.Print.TheVariants.{Plan, PlanJson, Report, ReportJson}
 use Rattle.ftpd_program.proofs.run.run_words.Goals as goal
 
@@ -7,7 +9,13 @@ pub returns-in-Ok-clause-share : goal.returns-in-Ok-clause-share
 returns-in-Ok-clause-share g c = λ sheet plain are.
     let old = g.W.TextWriter.contents c.args.output.now in
     let new = g.W.TextWriter.contents c.run_command.new.output in
-    share_end _ (g.O.Lookout.Shows c.run_command.new.files) g.V.Server.Serves _ _ _ old new _ (c.in-Ok.ensures.share sheet plain are) c.run_command.ensures.end
+    share_end _ (g.O.Lookout.Shows c.run_command.new.files) g.V.Server.Serves _ _ _ _ old new _ (c.in-Ok.ensures.share sheet plain are) c.run_command.ensures.end
+
+pub returns-in-Ok-clause-share_svg : goal.returns-in-Ok-clause-share_svg
+returns-in-Ok-clause-share_svg g c = λ sheet plain are.
+    let old = g.W.TextWriter.contents c.args.output.now in
+    let new = g.W.TextWriter.contents c.run_command.new.output in
+    share_end _ (g.O.Lookout.Shows c.run_command.new.files) g.V.Server.Serves _ _ _ _ old new _ (c.in-Ok.ensures.share_svg sheet plain are) c.run_command.ensures.end
 
 pub returns-in-Ok-clause-check : goal.returns-in-Ok-clause-check
 returns-in-Ok-clause-check g c = λ sheet grants plain also are.
@@ -75,6 +83,18 @@ returns-in-Ok-clause-plan_json g c = λ config transfers plain also are.
     let new = g.W.TextWriter.contents c.run_command.new.output in
     plan_end _ (g.O.Lookout.Shows c.run_command.new.files) g.V.Server.Serves _ _ _ _ _ old new _ (c.in-Ok.ensures.plan_json config transfers plain also are) c.run_command.ensures.end
 
+pub returns-in-Ok-clause-top : goal.returns-in-Ok-clause-top
+returns-in-Ok-clause-top g c = λ status plain are.
+    let old = g.W.TextWriter.contents c.args.output.now in
+    let new = g.W.TextWriter.contents c.run_command.new.output in
+    top_end _ (g.O.Lookout.Shows c.run_command.new.files) g.V.Server.Serves _ _ _ _ _ old new _ (c.in-Ok.ensures.top status plain are) c.run_command.ensures.end
+
+pub returns-in-Ok-clause-top_once : goal.returns-in-Ok-clause-top_once
+returns-in-Ok-clause-top_once g c = λ status lines n plain number are.
+    let old = g.W.TextWriter.contents c.args.output.now in
+    let new = g.W.TextWriter.contents c.run_command.new.output in
+    top_end _ (g.O.Lookout.Shows c.run_command.new.files) g.V.Server.Serves _ _ _ _ _ old new _ (c.in-Ok.ensures.top_once status lines n plain number are) c.run_command.ensures.end
+
 pub returns-in-Err-clause-check_config : goal.returns-in-Err-clause-check_config
 returns-in-Err-clause-check_config g c = λ config plain are.
     let word = second_word c.args.words.now _ _ are in
@@ -102,3 +122,11 @@ pub returns-in-Err-clause-plan_json : goal.returns-in-Err-clause-plan_json
 returns-in-Err-clause-plan_json g c = λ config transfers plain also are.
     let word = third_of_four c.args.words.now _ _ _ _ are in
     (word.0, word.1, no_print (PlanJson word.0) (g.O.Lookout.Shows c.args.files.now) _ _ _ _ _ _ (c.in-Err.ensures.plan_json config transfers plain also are) c.tell.ensures.told)
+
+pub returns-in-Err-clause-top : goal.returns-in-Err-clause-top
+returns-in-Err-clause-top g c = λ status plain are.
+    no_top false status ROWS (g.O.Lookout.Shows c.args.files.now) _ _ _ _ _ _ (c.in-Err.ensures.top status plain are) c.tell.ensures.told
+
+pub returns-in-Err-clause-top_once : goal.returns-in-Err-clause-top_once
+returns-in-Err-clause-top_once g c = λ status lines n plain number are.
+    no_top true status n (g.O.Lookout.Shows c.args.files.now) _ _ _ _ _ _ (c.in-Err.ensures.top_once status lines n plain number are) c.tell.ensures.told

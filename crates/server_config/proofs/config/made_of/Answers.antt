@@ -1,6 +1,7 @@
-use Rattle.std.proofs.Common.{◌≡◌, ◌∙◌, List, Vec, Global, ap, sym, subst, length}
+use Rattle.std.proofs.Common.{◌≡◌, ◌∙◌, List, Vec, Global, ap, sym, subst, length, map}
 use Rattle.std.specs.List.{AllByRecursion}
 use Rattle.authorizer.specs.Numbers.{no_users}
+use Rattle.server_config.specs.Configs.{group_name}
 use Rattle.server_config.specs.Groups.{AreApart, AreGrouped, HasGroup}
 use Rattle.server_config.specs.Store.{IsStoreOf}
 use Rattle.config_file.specs.declared.stated.DirTable.{DirTable}
@@ -41,6 +42,7 @@ returns-clause-made c =
           c.as_slice-dirs.result.now tables.dirs.items c.as_slice-files.result.now tables.files.items c.as_slice-dirs.ensures.value c.as_slice-files.ensures.value c.in-Ok-make_store.ensures.store;
       limits = limits_made tables.server gs tables.groups.items us tables.users.items c.in-Ok.rows.groups.items c.in-Ok.rows.users.items c.limits_of.result
           same_groups same_users c.in-Ok.ensures.groups c.in-Ok.ensures.users c.limits_of.ensures.limits;
+      group_names = c.in_ok-names.ensures.names ∙ ap (λ (g : List GroupTable). map group_name g) same_groups;
     }
 
 pub returns-in-Err-make_store-clause-refused : goal.returns-in-Err-make_store-clause-refused

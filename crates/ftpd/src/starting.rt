@@ -1,0 +1,272 @@
+//! The files and sockets that a server needs from the machine at its start.
+
+use crate::asked::AskedService;
+use crate::log_file::LogFile;
+use crate::page_thread::PageSocket;
+use crate::ready_file::MachineReadyFile;
+use crate::status_file::StatusFile;
+use crate::stop_file::StopFile;
+use ftp_daemon::{Patience, ServeFault};
+use ftpd_program::StartFault;
+use line_queue::LogForm;
+use server_config::{Config, ServedStore};
+use std::net::{Net, TcpListener, TcpStream};
+use std::{fs, io};
+
+/// The means of a server: its configuration, its files and sockets.
+#[derive(Drop)]
+pub(crate) struct Means {
+    pub config: Config,
+    pub warnings: String,
+    pub form: LogForm,
+    pub stop: Option<StopFile>,
+    pub is_logged: bool,
+    pub log: LogFile,
+    pub status: Option<StatusFile>,
+    pub page: Option<PageSocket>,
+    pub patience: Patience,
+}
+
+/// A server that may start, and its ready file, if it is to have one.
+#[derive(Drop)]
+pub(crate) struct Prepared {
+    pub means: Means,
+    pub ready: Option<MachineReadyFile>,
+}
+
+/// The fault of a start, and the reason in the machine's words, if it is known.
+#[derive(Drop)]
+pub(crate) struct Unprepared {
+    pub fault: ServeFault,
+    pub start: Option<StartFault>,
+}
+
+fn not_prepared(fault: ServeFault, start: StartFault) -> Unprepared {
+    Unprepared {
+        fault,
+        start: Some(start),
+    }
+}
+
+/// Number of the machine's error "Not a directory".
+const NOT_A_DIRECTORY: i32 = 20;
+
+/// Returns the machine's reason for which there is no folder at a path, if there is one.
+fn no_folder(machine: &HostRuntime, path: &str) -> Option<io::Error> {
+    match fs::metadata(machine, path) {
+        Ok(found) if found.is_dir() => None,
+        Ok(_) => Some(io::Error::from_raw_os_error(NOT_A_DIRECTORY)),
+        Err(reason) => Some(reason),
+    }
+}
+
+/// Returns the path of the folder of a file.
+fn folder_of(path: &str) -> &str {
+    match path.rsplit_once('/') {
+        None => ".",
+        Some(("", _)) => "/",
+        Some((folder, _)) => folder,
+    }
+}
+
+/// The reason for which no file can appear at a path.
+#[derive(Clone, Copy)]
+enum Hindrance {
+    /// There is something at the path.
+    There,
+    /// The machine's reason.
+    Told(io::Error),
+}
+
+/// Returns the reason for which no file can appear at a path, if there is one.
+fn hindrance_at(machine: &HostRuntime, path: &str) -> Option<Hindrance> {
+    let reason = match fs::metadata(machine, path) {
+        Ok(_) => return Some(Hindrance::There),
+        Err(reason) if reason.kind() != io::ErrorKind::NotFound => Some(reason),
+        Err(_) => no_folder(machine, folder_of(path)),
+    };
+    match reason {
+        Some(reason) => Some(Hindrance::Told(reason)),
+        None => None,
+    }
+}
+
+/// Returns the stop file at a path. `Err` if there is something at the path, or if a file there could not be noticed.
+fn stop_at(machine: &HostRuntime, path: String) -> Result<StopFile, StartFault> {
+    match hindrance_at(machine, path.as_str()) {
+        Some(Hindrance::There) => Err(StartFault::StopFileThere { path }),
+        Some(Hindrance::Told(reason)) => Err(StartFault::StopFileUnseen { path, reason }),
+        None => Ok(StopFile {
+            machine: *machine,
+            path,
+        }),
+    }
+}
+
+fn stop_if_any(
+    machine: &HostRuntime,
+    path: Option<String>,
+) -> Result<Option<StopFile>, StartFault> {
+    match path {
+        Some(path) => match stop_at(machine, path) {
+            Ok(stop) => Ok(Some(stop)),
+            Err(start) => Err(start),
+        },
+        None => Ok(None),
+    }
+}
+
+fn ready_if_any(
+    machine: &HostRuntime,
+    path: Option<String>,
+) -> Result<Option<MachineReadyFile>, StartFault> {
+    match path {
+        Some(path) => match ready_at(machine, path) {
+            Ok(ready) => Ok(Some(ready)),
+            Err(start) => Err(start),
+        },
+        None => Ok(None),
+    }
+}
+
+/// Returns the ready file at a path. `Err` if there is something at the path, or if no file could be made there.
+fn ready_at(machine: &HostRuntime, path: String) -> Result<MachineReadyFile, StartFault> {
+    match hindrance_at(machine, path.as_str()) {
+        Some(Hindrance::There) => Err(StartFault::ReadyFileThere { path }),
+        Some(Hindrance::Told(reason)) => Err(StartFault::ReadyFileUnmade { path, reason }),
+        None => Ok(MachineReadyFile {
+            machine: *machine,
+            path,
+            is_there: false,
+        }),
+    }
+}
+
+/// Returns the form of a name; plain if none is stated. `Err` if no form has this name.
+fn form_named(name: Option<String>) -> Result<LogForm, StartFault> {
+    let Some(word) = name else {
+        return Ok(LogForm::Plain);
+    };
+    match word.as_str() {
+        "plain" => Ok(LogForm::Plain),
+        "journal" => Ok(LogForm::Journal),
+        _ => Err(StartFault::UnknownForm { word }),
+    }
+}
+
+/// Returns the transfer log at a path, if there is one. `Err` if its file cannot be opened.
+fn log_at(machine: &HostRuntime, path: Option<String>) -> Result<LogFile, StartFault> {
+    match path {
+        None => Ok(LogFile::none(*machine)),
+        Some(path) => match LogFile::at(*machine, path) {
+            Ok(file) => Ok(file),
+            Err((path, reason)) => Err(StartFault::TransferLogUnopened { path, reason }),
+        },
+    }
+}
+
+/// Returns the fault of a start whose folder is not there, if it is not.
+fn folder_fault(machine: &HostRuntime, store: &ServedStore) -> Option<StartFault> {
+    let ServedStore::Folder(folder) = store else {
+        return None;
+    };
+    let reason = no_folder(machine, folder.as_str())?;
+    match String::from_str(machine.alloc(), folder.as_str()) {
+        Ok(path) => Some(StartFault::Folder { path, reason }),
+        Err(_) => None,
+    }
+}
+
+/// Returns the status file at these paths, if there is to be one. `Err` if none can be written there.
+fn status_at(
+    machine: &HostRuntime,
+    paths: Option<(String, String)>,
+) -> Result<Option<StatusFile>, StartFault> {
+    let Some((path, beside)) = paths else {
+        return Ok(None);
+    };
+    let file = StatusFile::new(*machine, path, beside);
+    match file.try_out() {
+        Ok(()) => Ok(Some(file)),
+        Err(reason) => Err(StartFault::StatusUnwritten {
+            path: file.into_path(),
+            reason,
+        }),
+    }
+}
+
+/// Returns the socket of the status page at a port, if there is to be one. `Err` if it cannot be had.
+fn page_at<R>(rt: &R, port: Option<u16>) -> Result<Option<PageSocket>, StartFault>
+where
+    R: Net<Listener = TcpListener, Stream = TcpStream>,
+{
+    let Some(port) = port else {
+        return Ok(None);
+    };
+    match PageSocket::new(rt, port) {
+        Ok(socket) => Ok(Some(socket)),
+        Err(reason) => Err(StartFault::StatusPortTaken { port, reason }),
+    }
+}
+
+/// Prepares a service. `Err` says what could not be had.
+pub(crate) fn prepare<R>(
+    rt: &R,
+    machine: &HostRuntime,
+    service: AskedService,
+) -> Result<Prepared, Unprepared>
+where
+    R: Net<Listener = TcpListener, Stream = TcpStream>,
+{
+    let AskedService {
+        config,
+        warnings,
+        stop_file,
+        ready_file,
+        transfer_log,
+        log_form,
+        status,
+        status_port,
+        patience,
+    } = service;
+    let form = match form_named(log_form) {
+        Ok(form) => form,
+        Err(start) => return Err(not_prepared(ServeFault::LogForm, start)),
+    };
+    let stop = match stop_if_any(machine, stop_file) {
+        Ok(stop) => stop,
+        Err(start) => return Err(not_prepared(ServeFault::Stopped, start)),
+    };
+    let ready = match ready_if_any(machine, ready_file) {
+        Ok(ready) => ready,
+        Err(start) => return Err(not_prepared(ServeFault::ReadyFile, start)),
+    };
+    if let Some(start) = folder_fault(machine, &config.store) {
+        return Err(not_prepared(ServeFault::Store, start));
+    }
+    let status = match status_at(machine, status) {
+        Ok(status) => status,
+        Err(start) => return Err(not_prepared(ServeFault::StatusFile, start)),
+    };
+    let page = match page_at(rt, status_port) {
+        Ok(page) => page,
+        Err(start) => return Err(not_prepared(ServeFault::StatusPort, start)),
+    };
+    let is_logged = transfer_log.is_some();
+    let log = match log_at(machine, transfer_log) {
+        Ok(log) => log,
+        Err(start) => return Err(not_prepared(ServeFault::TransferLog, start)),
+    };
+    let means = Means {
+        config,
+        warnings,
+        form,
+        stop,
+        is_logged,
+        log,
+        status,
+        page,
+        patience,
+    };
+    Ok(Prepared { means, ready })
+}

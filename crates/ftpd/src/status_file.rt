@@ -1,0 +1,101 @@
+//! The file of a server's status, and the signs of the machine.
+
+use crate::stop_file::StopFile;
+use ftp_daemon::OwnerSigns;
+use server_status::status_text;
+use status_keeper::StatusCell;
+use std::fs::OpenOptions;
+use std::io::Write;
+use std::os::unix::fs::OpenOptionsExt;
+use std::sync::{Arc, Wait};
+use std::{fs, io};
+
+/// The permissions of the file: its group may read it.
+const MODE: u32 = 0o640;
+
+/// The file to which the status is written. Each text is written to a new file beside it, which then takes its name: a
+/// reader sees whole texts only.
+#[derive(Drop)]
+pub(crate) struct StatusFile {
+    machine: HostRuntime,
+    path: String,
+    beside: String,
+}
+
+// Writes a text to a new file.
+fn write_new(machine: &HostRuntime, path: &str, text: &[u8]) -> io::Result<()> {
+    let _ = fs::remove_file(machine, path);
+    let mut file = OpenOptions::new()
+        .write(true)
+        .create_new(true)
+        .mode(MODE)
+        .open(machine, path)?;
+    file.write_all(text)
+}
+
+impl StatusFile {
+    /// The file at a path, with the path of the new file beside it.
+    pub fn new(machine: HostRuntime, path: String, beside: String) -> StatusFile {
+        StatusFile {
+            machine,
+            path,
+            beside,
+        }
+    }
+
+    /// Writes a text. `Err` is the machine's reason: then what was at the path is still there.
+    pub fn write(&self, text: &[u8]) -> io::Result<()> {
+        write_new(&self.machine, self.beside.as_str(), text)?;
+        fs::rename(&self.machine, self.beside.as_str(), self.path.as_str())
+    }
+
+    /// Tries whether a new file can be written, and removes it again. `Err` is the machine's reason.
+    pub fn try_out(&self) -> io::Result<()> {
+        write_new(&self.machine, self.beside.as_str(), b"")?;
+        fs::remove_file(&self.machine, self.beside.as_str())
+    }
+
+    /// Removes the file.
+    pub fn remove(&self) {
+        let _ = fs::remove_file(&self.machine, self.path.as_str());
+    }
+
+    /// Returns the path.
+    pub fn into_path(self) -> String {
+        self.path
+    }
+}
+
+/// The signs of the machine: that a server is to end, by a file that appears, and that it is to show what goes on.
+#[derive(Drop)]
+pub(crate) struct MachineSigns<R> {
+    pub rt: R,
+    pub stop: Option<StopFile>,
+    pub file: Option<Arc<StatusFile>>,
+    /// The status, if it is shown at all.
+    pub cell: Option<Arc<StatusCell>>,
+}
+
+impl<R: Wait + AllocGlobal> OwnerSigns for MachineSigns<R> {
+    fn is_up(&self) -> bool {
+        match &self.stop {
+            Some(stop) => stop.is_there(),
+            None => false,
+        }
+    }
+
+    fn wants_looks(&self) -> bool {
+        self.cell.is_some()
+    }
+
+    // If the file cannot be written, or memory runs out, the next look is written.
+    fn looked(&self) {
+        if let (Some(file), Some(cell)) = (&self.file, &self.cell) {
+            if let Ok(Some(status)) = cell.last(&self.rt) {
+                if let Ok(text) = status_text(self.rt.alloc(), &status) {
+                    let _ = file.write(text.as_bytes());
+                }
+            }
+        }
+    }
+}

@@ -1,0 +1,39 @@
+//! The name of the limit that holds back a leaf.
+
+ghost use Rattle.std.specs.Prelude.{length, ◌<◌};
+ghost use Rattle.limit_tree.specs.Outline.{limits as seen};
+ghost use Rattle.limit_tree.specs.Sharing.{IsBackedBy, IsWanted};
+ghost use Rattle.line_rates.specs.TickTree.{IsTickTree};
+ghost use Rattle.held_names.specs.Held.{IsHeldBy};
+
+use crate::names::name_of;
+use limit_tree::Tree;
+use line_rates::{Ask, Limits, Name};
+use std::alloc::Allocator;
+
+/// The name of the limit that holds back a leaf of the tree of a tick, by grants with the entries of their certificate:
+/// that of its bottleneck. None if the leaf is granted all that it wants.
+pub fn held_by<L: Allocator, A: Allocator>(
+    limits: &Limits<L>,
+    tick: u64,
+    asks: &[Ask],
+    tree: &Tree<A>,
+    grants: &[u64],
+    entries: &[Option<u32>],
+    leaf: usize,
+) -> Option<Name>
+    requires tree { IsTickTree limits.now tick asks.now (seen tree.now) }
+    requires grants { IsWanted (seen tree.now) grants.now }
+    requires backed { IsBackedBy (seen tree.now) grants.now entries.now }
+    requires leaf { leaf < length asks.now }
+    ensures held { IsHeldBy limits.now tick asks.now (seen tree.now) grants.now leaf result }
+{
+    let ask = asks[leaf];
+    if grants[leaf] >= ask.want {
+        return None;
+    }
+    match entries[leaf] {
+        Some(node) => Some(name_of(limits, tick, asks, tree, node as usize, ask)),
+        None => unreachable!(),
+    }
+}

@@ -1,0 +1,72 @@
+//! A look at what rounds have granted.
+
+ghost use Rattle.std.specs.Prelude.{◌≡◌, ◌+◌};
+ghost use Rattle.round_tally.specs.Counts.{tallied};
+
+use crate::turns::Turns;
+use grant_ledger::MAX_LANES;
+use handler_hooks::Hooks;
+use lent_parts::PartsName;
+use round_tally::Tallies;
+use server_house::{House, LaneSign};
+use std::alloc::Global;
+use std::sync::{Mutex, Wait};
+use std::thread;
+use std::time::{Clock, Duration};
+use virtual_tree::Store;
+
+/// Most tries of one look.
+const TRIES: usize = 50;
+
+/// The time between two tries, in microseconds.
+const PAUSE: u64 = 500;
+
+/// The octets that rounds have granted to the transfers that run, and to those that have ended: together all that were
+/// issued, but for those issued before the server began.
+#[derive(Drop)]
+pub struct RoundLook {
+    pub tallies: Tallies,
+    /// The octets issued so far.
+    pub issued: u64,
+    /// The octets issued before.
+    pub before: u64,
+    ghost counted: { issued ≡ tallied tallies + before },
+}
+
+// The number of the transfer that each lane runs; 0 for none.
+fn running_on(lanes: &[LaneSign]) -> [u64; MAX_LANES] {
+    let mut running = [0; MAX_LANES];
+    for lane in 0..lanes.len().min(MAX_LANES) {
+        let sign = &lanes[lane];
+        if sign.session().is_some() {
+            running[lane] = sign.transfer();
+        }
+    }
+    running
+}
+
+/// Looks at the rounds, if nobody holds one at one of several tries. The lock of the rounds is only tried, here too: who
+/// could not get it meanwhile relies on the bell, which is rung.
+pub fn look<R, S, H, B, N>(
+    rt: &R,
+    house: &House<S, H, B>,
+    turns: &Mutex<Turns<B, N>>,
+) -> Option<RoundLook>
+where
+    R: Wait + Clock,
+    S: Store<Global>,
+    H: Hooks,
+    B: PartsName,
+{
+    for _ in 0..TRIES {
+        let running = running_on(&house.lanes);
+        if let Some(guard) = turns.try_lock() {
+            let look = guard.look(&running);
+            drop(guard);
+            house.bell.signal();
+            return Some(look);
+        }
+        thread::sleep(rt, Duration::from_micros(PAUSE));
+    }
+    None
+}

@@ -1,0 +1,30 @@
+use Rattle.std.proofs.Common.{◌≡◌, ◌≢◌, ◌<◌, ◌∙◌, ap, ℕ, inl, inr, get_or, length, List, None, Option, sym, subst, arith}
+use Rattle.std.specs.Prelude.{slice_index_or}
+use Rattle.std.proofs.lemmas.Bool.{cases_lt}
+use Rattle.std.proofs.lemmas.List.{get_or-set_other, length-set}
+use Rattle.std.proofs.lemmas.Grind.{get_or-set_at}
+use Rattle.limit_tree.specs.Outline.{limits}
+use Rattle.line_rates.specs.declared.ask.Name.{Name}
+use Rattle.held_names.specs.Held.{IsHeldBy}
+use Rattle.paced_rounds.proofs.held.name_leaves.Goals as goal
+
+other : (i k : ℕ) → i < k → i ≢ k
+other i k less same = omega (arith, less, same)
+
+pub loop-leaf-preserved : goal.loop-leaf-preserved
+loop-leaf-preserved g c =
+    let r = c.args.limits.now in
+    let t = limits c.args.sealed.now.tree in
+    let gs = c.args.sealed.now.grants in
+    record {
+      size = length-set c.loop-leaf.names c.loop-leaf.leaf c.held_by.result ∙ c.loop-leaf.invariant.size;
+      held = λ i less. elim (cases_lt i c.loop-leaf.leaf) [
+        | inl before ↦ subst (IsHeldBy r c.args.tick c.args.asks.now t gs i) (sym (get_or-set_other c.loop-leaf.names c.loop-leaf.leaf i c.held_by.result None (other i c.loop-leaf.leaf before))) (c.loop-leaf.invariant.held i before)
+        | inr here ↦
+            let same : i ≡ c.loop-leaf.leaf = omega arith in
+            subst (IsHeldBy r c.args.tick c.args.asks.now t gs i) (sym (get_or-set_at c.loop-leaf.names c.loop-leaf.leaf i c.held_by.result None same (omega (arith, c.loop-leaf.invariant.size, c.loop-leaf-test.true, c.min-leaf-end.ensures))))
+            (subst (λ (k : ℕ). IsHeldBy r c.args.tick c.args.asks.now t gs k c.held_by.result) (sym same)
+            (subst (λ (x : List ℕ). IsHeldBy r c.args.tick c.args.asks.now t x c.loop-leaf.leaf c.held_by.result) c.grants-grants.ensures.grants
+            (subst (λ x. IsHeldBy r c.args.tick c.args.asks.now (limits x) c.grants-grants.result.now c.loop-leaf.leaf c.held_by.result) c.tree-tree.ensures.tree c.held_by.ensures.held)))
+      ];
+    }

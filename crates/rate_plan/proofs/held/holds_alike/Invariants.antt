@@ -1,7 +1,0 @@
-use Rattle.std.proofs.Common.{◌≡◌, ◌<◌, ℕ, map}
-use Rattle.limit_tree.specs.Outline.{leaf_range}
-use Rattle.line_rates.specs.TickTree.{ask_in, bears_at}
-use Rattle.rate_plan.proofs.held.holds_alike.Given as goal
-
-abbrev pub invariant-loop-leaf : goal.invariant-loop-leaf
-invariant-loop-leaf g l = (i : ℕ) → i < l.leaf → leaf_range l.place.first l.place.leaves i ≡ bears_at l.limits l.name (map ask_in l.order) i

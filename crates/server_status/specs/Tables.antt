@@ -1,0 +1,81 @@
+-- The members of a status and of its records, in the order in which they are judged.
+use Rattle.std.specs.Prelude.{ℕ, List, [], ◌∷◌, None, Some, codes}
+use Rattle.server_status.specs.declared.member.Kind.{Kind}
+use Rattle.server_status.specs.declared.member.Kind.TheVariants.{Address, Direction, Flag, List as Many, Number, NumberOrNull, Text, TextOrNull, Unit as Octets}
+use Rattle.server_status.specs.Fits.{MemberRow}
+
+-- a member of the record itself
+abbrev pub own : List ℕ → List ℕ → Kind → MemberRow
+own told name kind = record { told = told; within = None; name = name; kind = kind }
+
+-- a member of an object within it
+abbrev pub inner : List ℕ → List ℕ → List ℕ → Kind → MemberRow
+inner told within name kind = record { told = told; within = Some within; name = name; kind = kind }
+
+-- the version, which is judged before all others
+abbrev pub version_rows : List MemberRow
+version_rows =
+    own (codes "version") (codes "version") Number
+    ∷ []
+
+-- of a status
+abbrev pub status_rows : List MemberRow
+status_rows =
+    own (codes "unit") (codes "unit") Octets
+    ∷ own (codes "started") (codes "started") Number
+    ∷ own (codes "micros") (codes "micros") Number
+    ∷ own (codes "users") (codes "users") Number
+    ∷ own (codes "sessions") (codes "sessions") Number
+    ∷ own (codes "max_sessions") (codes "max_sessions") Number
+    ∷ own (codes "lanes") (codes "lanes") Number
+    ∷ own (codes "failed_logins") (codes "failed_logins") Number
+    ∷ own (codes "refused") (codes "refused") Number
+    ∷ own (codes "issued") (codes "issued") Number
+    ∷ own (codes "ended_granted") (codes "ended_granted") Number
+    ∷ own (codes "ended_moved") (codes "ended_moved") Number
+    ∷ own (codes "ended") (codes "ended") Number
+    ∷ inner (codes "line.both") (codes "line") (codes "both") NumberOrNull
+    ∷ inner (codes "line.down") (codes "line") (codes "down") NumberOrNull
+    ∷ inner (codes "line.up") (codes "line") (codes "up") NumberOrNull
+    ∷ inner (codes "held.server") (codes "held") (codes "server") Number
+    ∷ inner (codes "held.direction") (codes "held") (codes "direction") Number
+    ∷ inner (codes "held.group") (codes "held") (codes "group") Number
+    ∷ inner (codes "held.user") (codes "held") (codes "user") Number
+    ∷ inner (codes "held.session") (codes "held") (codes "session") Number
+    ∷ inner (codes "held.nothing") (codes "held") (codes "nothing") Number
+    ∷ own (codes "groups") (codes "groups") Many
+    ∷ own (codes "transfers") (codes "transfers") Many
+    ∷ []
+
+-- of a group
+abbrev pub group_rows : List MemberRow
+group_rows =
+    own (codes "groups[].name") (codes "name") Text
+    ∷ own (codes "groups[].down") (codes "down") NumberOrNull
+    ∷ own (codes "groups[].up") (codes "up") NumberOrNull
+    ∷ []
+
+-- of a transfer
+abbrev pub transfer_rows : List MemberRow
+transfer_rows =
+    own (codes "transfers[].session") (codes "session") Number
+    ∷ own (codes "transfers[].user") (codes "user") Text
+    ∷ own (codes "transfers[].group") (codes "group") TextOrNull
+    ∷ own (codes "transfers[].peer") (codes "peer") Address
+    ∷ own (codes "transfers[].direction") (codes "direction") Direction
+    ∷ own (codes "transfers[].path") (codes "path") TextOrNull
+    ∷ own (codes "transfers[].size") (codes "size") NumberOrNull
+    ∷ own (codes "transfers[].begun") (codes "begun") Number
+    ∷ own (codes "transfers[].waiting") (codes "waiting") Flag
+    ∷ own (codes "transfers[].granted") (codes "granted") Number
+    ∷ own (codes "transfers[].moved") (codes "moved") Number
+    ∷ inner (codes "transfers[].held.server") (codes "held") (codes "server") Number
+    ∷ inner (codes "transfers[].held.direction") (codes "held") (codes "direction") Number
+    ∷ inner (codes "transfers[].held.group") (codes "held") (codes "group") Number
+    ∷ inner (codes "transfers[].held.user") (codes "held") (codes "user") Number
+    ∷ inner (codes "transfers[].held.session") (codes "held") (codes "session") Number
+    ∷ inner (codes "transfers[].held.nothing") (codes "held") (codes "nothing") Number
+    ∷ own (codes "transfers[].guaranteed") (codes "guaranteed") NumberOrNull
+    ∷ own (codes "transfers[].session_rate") (codes "session_rate") NumberOrNull
+    ∷ own (codes "transfers[].user_rate") (codes "user_rate") NumberOrNull
+    ∷ []

@@ -1,0 +1,133 @@
+//! The members of a status, with the kinds of their values.
+
+/// The values that a member may have.
+#[derive(Clone, Copy, Debug, PartialEq, Eq)]
+pub(crate) enum Kind {
+    /// A whole number from 0 to 2^64 - 1.
+    Number,
+    /// A number, or null.
+    NumberOrNull,
+    Text,
+    /// A text, or null.
+    TextOrNull,
+    Flag,
+    /// `down` or `up`.
+    Direction,
+    /// Four numbers from 0 to 255, joined by dots.
+    Address,
+    /// `octets`.
+    Unit,
+    List,
+}
+
+/// A member: its name in a fault, the name of the object within the record that has it, if it is not the record itself,
+/// its name there, and the kind of its value.
+#[derive(Clone, Copy, Debug)]
+pub(crate) struct Member(
+    pub &'static str,
+    pub Option<&'static str>,
+    pub &'static str,
+    pub Kind,
+);
+
+/// The version, which is judged before all others.
+pub(crate) static VERSION: [Member; 1] = [Member("version", None, "version", Kind::Number)];
+
+/// The members of a status.
+pub(crate) static STATUS: [Member; 24] = [
+    Member("unit", None, "unit", Kind::Unit),
+    Member("started", None, "started", Kind::Number),
+    Member("micros", None, "micros", Kind::Number),
+    Member("users", None, "users", Kind::Number),
+    Member("sessions", None, "sessions", Kind::Number),
+    Member("max_sessions", None, "max_sessions", Kind::Number),
+    Member("lanes", None, "lanes", Kind::Number),
+    Member("failed_logins", None, "failed_logins", Kind::Number),
+    Member("refused", None, "refused", Kind::Number),
+    Member("issued", None, "issued", Kind::Number),
+    Member("ended_granted", None, "ended_granted", Kind::Number),
+    Member("ended_moved", None, "ended_moved", Kind::Number),
+    Member("ended", None, "ended", Kind::Number),
+    Member("line.both", Some("line"), "both", Kind::NumberOrNull),
+    Member("line.down", Some("line"), "down", Kind::NumberOrNull),
+    Member("line.up", Some("line"), "up", Kind::NumberOrNull),
+    Member("held.server", Some("held"), "server", Kind::Number),
+    Member("held.direction", Some("held"), "direction", Kind::Number),
+    Member("held.group", Some("held"), "group", Kind::Number),
+    Member("held.user", Some("held"), "user", Kind::Number),
+    Member("held.session", Some("held"), "session", Kind::Number),
+    Member("held.nothing", Some("held"), "nothing", Kind::Number),
+    Member("groups", None, "groups", Kind::List),
+    Member("transfers", None, "transfers", Kind::List),
+];
+
+/// The members of a group.
+pub(crate) static GROUP: [Member; 3] = [
+    Member("groups[].name", None, "name", Kind::Text),
+    Member("groups[].down", None, "down", Kind::NumberOrNull),
+    Member("groups[].up", None, "up", Kind::NumberOrNull),
+];
+
+/// The members of a transfer.
+pub(crate) static TRANSFER: [Member; 20] = [
+    Member("transfers[].session", None, "session", Kind::Number),
+    Member("transfers[].user", None, "user", Kind::Text),
+    Member("transfers[].group", None, "group", Kind::TextOrNull),
+    Member("transfers[].peer", None, "peer", Kind::Address),
+    Member("transfers[].direction", None, "direction", Kind::Direction),
+    Member("transfers[].path", None, "path", Kind::TextOrNull),
+    Member("transfers[].size", None, "size", Kind::NumberOrNull),
+    Member("transfers[].begun", None, "begun", Kind::Number),
+    Member("transfers[].waiting", None, "waiting", Kind::Flag),
+    Member("transfers[].granted", None, "granted", Kind::Number),
+    Member("transfers[].moved", None, "moved", Kind::Number),
+    Member(
+        "transfers[].held.server",
+        Some("held"),
+        "server",
+        Kind::Number,
+    ),
+    Member(
+        "transfers[].held.direction",
+        Some("held"),
+        "direction",
+        Kind::Number,
+    ),
+    Member(
+        "transfers[].held.group",
+        Some("held"),
+        "group",
+        Kind::Number,
+    ),
+    Member("transfers[].held.user", Some("held"), "user", Kind::Number),
+    Member(
+        "transfers[].held.session",
+        Some("held"),
+        "session",
+        Kind::Number,
+    ),
+    Member(
+        "transfers[].held.nothing",
+        Some("held"),
+        "nothing",
+        Kind::Number,
+    ),
+    Member(
+        "transfers[].guaranteed",
+        None,
+        "guaranteed",
+        Kind::NumberOrNull,
+    ),
+    Member(
+        "transfers[].session_rate",
+        None,
+        "session_rate",
+        Kind::NumberOrNull,
+    ),
+    Member(
+        "transfers[].user_rate",
+        None,
+        "user_rate",
+        Kind::NumberOrNull,
+    ),
+];

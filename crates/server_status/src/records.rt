@@ -1,0 +1,246 @@
+//! The records of a status that a value has. A member that is not there is read as none.
+
+ghost use Rattle.std.specs.Prelude.{◌≡◌, IfOk, Some, codes, map, option_map, string_bytes};
+ghost use Rattle.serde_json.specs.View.{view};
+ghost use Rattle.server_status.specs.StatusRead.{AreOf, HasMembers, IsGroupOf, IsPeerIn, IsTransferOf, count_if_in, count_in, direction_in, flag_in, held_in, line_in, list_in, member_in, text_if_in, text_in};
+
+use crate::judging::{address_of, direction_of, list};
+use crate::status::{Direction, GroupStatus, HeldRounds, LineRates, Status, TransferStatus};
+use serde_json::Value;
+use std::alloc::{AllocError, Global};
+
+fn member<'v>(row: Option<&'v Value>, name: &str) -> Option<&'v Value>
+    ensures member { option_map (λ v. view v.now) result
+        ≡ member_in name.now (option_map (λ v. view v.now) row.entry) }
+{
+    match row {
+        Some(value) => value.get(name),
+        None => None,
+    }
+}
+
+fn count_if(row: Option<&Value>, name: &str) -> Option<u64>
+    ensures count { result ≡ count_if_in name.now (option_map (λ v. view v.now) row.entry) }
+{
+    match member(row, name) {
+        Some(value) => value.as_u64(),
+        None => None,
+    }
+}
+
+fn count(row: Option<&Value>, name: &str) -> u64
+    ensures count { result ≡ count_in name.now (option_map (λ v. view v.now) row.entry) }
+{
+    match count_if(row, name) {
+        Some(count) => count,
+        None => 0,
+    }
+}
+
+fn flag(row: Option<&Value>, name: &str) -> bool
+    ensures flag { result ≡ flag_in name.now (option_map (λ v. view v.now) row.entry) }
+{
+    match member(row, name) {
+        Some(value) => match value.as_bool() {
+            Some(flag) => flag,
+            None => false,
+        },
+        None => false,
+    }
+}
+
+fn direction(row: Option<&Value>, name: &str) -> Direction
+    ensures direction { result
+        ≡ direction_in name.now (option_map (λ v. view v.now) row.entry) }
+{
+    match member(row, name) {
+        Some(value) => match direction_of(value) {
+            Some(direction) => direction,
+            None => Direction::Down,
+        },
+        None => Direction::Down,
+    }
+}
+
+fn peer(row: Option<&Value>, name: &str) -> [u8; 4]
+    ensures peer { IsPeerIn name.now (option_map (λ v. view v.now) row.entry) result }
+{
+    match member(row, name) {
+        Some(value) => match address_of(value) {
+            Some(address) => address.octets(),
+            None => [0, 0, 0, 0],
+        },
+        None => [0, 0, 0, 0],
+    }
+}
+
+fn text_if<'v>(row: Option<&'v Value>, name: &str) -> Option<&'v str>
+    ensures text { option_map (λ s. s.now) result
+        ≡ text_if_in name.now (option_map (λ v. view v.now) row.entry) }
+{
+    match member(row, name) {
+        Some(value) => value.as_str(),
+        None => None,
+    }
+}
+
+/// A text of its own.
+fn text_of(alloc: Global, row: Option<&Value>, name: &str) -> Result<String, AllocError>
+    ensures text { IfOk result (λ text. string_bytes text
+        ≡ text_in name.now (option_map (λ v. view v.now) row.entry)) }
+{
+    match text_if(row, name) {
+        Some(text) => String::from_str(alloc, text),
+        None => Ok(String::new(alloc)),
+    }
+}
+
+/// A text of its own, if there is one.
+fn text_if_of(alloc: Global, row: Option<&Value>, name: &str) -> Result<Option<String>, AllocError>
+    ensures text { IfOk result (λ text. option_map string_bytes text
+        ≡ text_if_in name.now (option_map (λ v. view v.now) row.entry)) }
+{
+    match text_if(row, name) {
+        Some(text) => Ok(Some(String::from_str(alloc, text)?)),
+        None => Ok(None),
+    }
+}
+
+fn held(row: Option<&Value>) -> HeldRounds
+    ensures rounds { result ≡ held_in (option_map (λ v. view v.now) row.entry) }
+{
+    HeldRounds {
+        server: count(row, "server"),
+        direction: count(row, "direction"),
+        group: count(row, "group"),
+        user: count(row, "user"),
+        session: count(row, "session"),
+        nothing: count(row, "nothing"),
+    }
+}
+
+fn line(row: Option<&Value>) -> LineRates
+    ensures line { result ≡ line_in (option_map (λ v. view v.now) row.entry) }
+{
+    LineRates {
+        both: count(row, "both"),
+        down: count(row, "down"),
+        up: count(row, "up"),
+    }
+}
+
+fn group_of(alloc: Global, value: &Value) -> Result<GroupStatus, AllocError>
+    ensures group { IfOk result (IsGroupOf (view value.now)) }
+{
+    let row = Some(value);
+    let name = text_of(alloc, row, "name")?;
+    Ok(GroupStatus {
+        name,
+        down: count(row, "down"),
+        up: count(row, "up"),
+    })
+}
+
+fn groups_of(alloc: Global, values: &[Value]) -> Result<Vec<GroupStatus>, AllocError>
+    ensures groups { IfOk result
+        (λ groups. AreOf IsGroupOf (map view values.now) groups.items) }
+{
+    let mut groups = Vec::with_capacity(alloc, values.len())?;
+    for value in values {
+        groups.push(group_of(alloc, value)?)?;
+    }
+    Ok(groups)
+}
+
+/// A transfer, given its texts.
+fn with_texts(
+    value: &Value,
+    user: String,
+    group: Option<String>,
+    path: Option<String>,
+) -> TransferStatus
+    requires user { string_bytes user ≡ text_in (codes "user") (Some (view value.now)) }
+    requires group { option_map string_bytes group
+        ≡ text_if_in (codes "group") (Some (view value.now)) }
+    requires path { option_map string_bytes path
+        ≡ text_if_in (codes "path") (Some (view value.now)) }
+    ensures transfer { IsTransferOf (view value.now) result }
+{
+    let row = Some(value);
+    TransferStatus {
+        session: count(row, "session"),
+        user,
+        group,
+        peer: peer(row, "peer"),
+        direction: direction(row, "direction"),
+        path,
+        size: count_if(row, "size"),
+        begun: count(row, "begun"),
+        is_waiting: flag(row, "waiting"),
+        granted: count(row, "granted"),
+        moved: count(row, "moved"),
+        rounds: held(member(row, "held")),
+        guaranteed: count(row, "guaranteed"),
+        session_rate: count(row, "session_rate"),
+        user_rate: count(row, "user_rate"),
+    }
+}
+
+fn transfer_of(alloc: Global, value: &Value) -> Result<TransferStatus, AllocError>
+    ensures transfer { IfOk result (IsTransferOf (view value.now)) }
+{
+    let row = Some(value);
+    let user = text_of(alloc, row, "user")?;
+    let group = text_if_of(alloc, row, "group")?;
+    let path = text_if_of(alloc, row, "path")?;
+    Ok(with_texts(value, user, group, path))
+}
+
+fn transfers_of(alloc: Global, values: &[Value]) -> Result<Vec<TransferStatus>, AllocError>
+    ensures transfers { IfOk result
+        (λ transfers. AreOf IsTransferOf (map view values.now) transfers.items) }
+{
+    let mut transfers = Vec::with_capacity(alloc, values.len())?;
+    for value in values {
+        transfers.push(transfer_of(alloc, value)?)?;
+    }
+    Ok(transfers)
+}
+
+/// A status, given its lists.
+fn with_lists(value: &Value, groups: Vec<GroupStatus>, transfers: Vec<TransferStatus>) -> Status
+    requires groups { AreOf IsGroupOf
+        (list_in (codes "groups") (Some (view value.now))) groups.items }
+    requires transfers { AreOf IsTransferOf
+        (list_in (codes "transfers") (Some (view value.now))) transfers.items }
+    ensures status { HasMembers (view value.now) result }
+{
+    let row = Some(value);
+    Status {
+        started: count(row, "started"),
+        micros: count(row, "micros"),
+        line: line(member(row, "line")),
+        groups,
+        users: count(row, "users"),
+        sessions: count(row, "sessions"),
+        max_sessions: count(row, "max_sessions"),
+        lanes: count(row, "lanes"),
+        issued: count(row, "issued"),
+        ended_granted: count(row, "ended_granted"),
+        ended_moved: count(row, "ended_moved"),
+        ended: count(row, "ended"),
+        rounds: held(member(row, "held")),
+        failed_logins: count(row, "failed_logins"),
+        refused: count(row, "refused"),
+        transfers,
+    }
+}
+
+/// The status whose members the value has.
+pub(crate) fn status_of(alloc: Global, value: &Value) -> Result<Status, AllocError>
+    ensures status { IfOk result (HasMembers (view value.now)) }
+{
+    let groups = groups_of(alloc, list(value, "groups"))?;
+    let transfers = transfers_of(alloc, list(value, "transfers"))?;
+    Ok(with_lists(value, groups, transfers))
+}

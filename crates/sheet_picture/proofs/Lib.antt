@@ -1,0 +1,4 @@
+mod Entries
+mod Faults
+mod Levels
+mod LidSteps

@@ -1,0 +1,47 @@
+use Rattle.std.proofs.Common.{◌≡◌, ◌∙◌, List, ℕ, Some, length, sym, ap, subst, arith}
+use Rattle.text_io.specs.declared.read.TheConstants.{MAX_TEXT}
+use Rattle.text_io.proofs.Told.{told_as}
+use Rattle.text_io.proofs.Reading.{read_whole_text, read_text_of, read_whole_few}
+use Rattle.sheet_text.specs.Sheet.{sheet_fault}
+use Rattle.sheet_text.specs.declared.fault.SheetFault.TheVariants.{Memory as NoSheetMemory}
+use Rattle.sheet_share.specs.Faults.{of_sheet}
+use Rattle.sheet_picture.specs.Pictures.{IsPictureOf}
+use Rattle.sheet_share.specs.declared.fault.ShareFault.TheVariants.{Sheet}
+use Rattle.sheet_picture.proofs.Faults.{sheet_told}
+use Rattle.sheet_picture.proofs.picture.run_picture.Goals as goal
+
+pub returns-in_err-picture-clause-long : goal.returns-in_err-picture-clause-long
+returns-in_err-picture-clause-long g c text known more = absurd (read_whole_few _ _ c.in_ok-text.text.items text MAX_TEXT c.in_ok-text.ensures.whole c.in_ok-text.ensures.end known (omega (arith, c.in_ok-text.ensures.short, c.deref.ensures.len, ap length c.deref.ensures.value)) more)
+
+pub returns-in_err-write_whole-clause-long : goal.returns-in_err-write_whole-clause-long
+returns-in_err-write_whole-clause-long g c text known more = absurd (read_whole_few _ _ c.in_ok-text.text.items text MAX_TEXT c.in_ok-text.ensures.whole c.in_ok-text.ensures.end known (omega (arith, c.in_ok-text.ensures.short, c.deref.ensures.len, ap length c.deref.ensures.value)) more)
+
+pub returns-clause-long : goal.returns-clause-long
+returns-clause-long g c text known more = absurd (read_whole_few _ _ c.in_ok-text.text.items text MAX_TEXT c.in_ok-text.ensures.whole c.in_ok-text.ensures.end known (omega (arith, c.in_ok-text.ensures.short, c.deref.ensures.len, ap length c.deref.ensures.value)) more)
+
+pub returns-clause-written : goal.returns-clause-written
+returns-clause-written g c text known =
+    let whole = read_whole_text _ _ c.in_ok-text.text.items text c.in_ok-text.ensures.whole c.in_ok-text.ensures.end known in
+    let printed = c.deref-2.result.now in
+    let drawn = subst (λ (p : List ℕ). IsPictureOf c.deref.result.now p) (sym c.deref-2.ensures) c.in_ok-picture.ensures.drawn in
+    (printed, subst (λ (t : List ℕ). IsPictureOf t printed) (c.deref.ensures.value ∙ whole) drawn, c.in_ok-write_whole.ensures.written)
+
+pub returns-in_err-write_whole-clause-write_fault : goal.returns-in_err-write_whole-clause-write_fault
+returns-in_err-write_whole-clause-write_fault g c is =
+    let refused = c.in_err-write_whole.ensures.write_fault in
+    let printed = c.deref-2.result.now in
+    let drawn = subst (λ (p : List ℕ). IsPictureOf c.deref.result.now p) (sym c.deref-2.ensures) c.in_ok-picture.ensures.drawn in (
+      c.in_ok-text.text.items,
+      printed,
+      read_text_of _ _ c.in_ok-text.text.items c.in_ok-text.ensures.whole c.in_ok-text.ensures.end,
+      subst (λ (t : List ℕ). IsPictureOf t printed) c.deref.ensures.value drawn,
+      refused.1,
+    )
+
+pub returns-in_err-picture-clause-sheet : goal.returns-in_err-picture-clause-sheet
+returns-in_err-picture-clause-sheet g c fault is text known =
+    let whole = read_whole_text _ _ c.in_ok-text.text.items text c.in_ok-text.ensures.whole c.in_ok-text.ensures.end known in
+    let told = sheet_told c.in_err-picture.field-0.0 fault (told_as c.from_residual-in_err-picture.result (of_sheet c.in_err-picture.field-0.0) (Sheet fault) c.from_residual-in_err-picture.ensures.1 is) in (
+      (λ (no : fault ≡ NoSheetMemory). told.1 (told.0 ∙ no)),
+      sym (ap (λ (t : List ℕ). sheet_fault t) (c.deref.ensures.value ∙ whole)) ∙ c.in_err-picture.ensures.sheet told.1 ∙ ap Some told.0,
+    )

@@ -1,0 +1,8 @@
+//! The height of columns of one colour.
+
+ghost use Rattle.sheet_picture.specs.Levels.{OneLimitIsLevel};
+
+/// Of wants that one limit holds back, none gets two octets more than another, unless it gets just its floor.
+pub fn one_limit_is_level()
+    ensures level { OneLimitIsLevel }
+{}

@@ -1,0 +1,135 @@
+-- A status, made of the configuration's facts, of what sessions have begun, and of a look at the
+-- rounds.
+use Rattle.std.specs.Prelude.{◌≡◌, ◌-◌, ◌<◌, ◌^◌, ◌+◌, ℕ, List, [], ◌∷◌, Option, Some, None, length, min, slice_get, string_bytes, sum_by}
+use Rattle.std.specs.List.{All}
+use Rattle.std.specs.Option.{option_map, option_map_or, option_and_then}
+use Rattle.std.specs.FinMap as finite
+use Rattle.line_rates.specs.Rates.{Rates, floor_rate, group_of, rate_of}
+use Rattle.line_rates.specs.declared.ask.Name.TheVariants.{Server, Direction, Group, User, Session}
+use Rattle.line_rates.specs.declared.ask.Way.{Way}
+use Rattle.line_rates.specs.declared.ask.Way.TheVariants.{Down, Up}
+use Rattle.round_tally.specs.Counts.{all_rounds, held_sum, no_rounds}
+use Rattle.round_tally.specs.declared.held.HeldTally.{HeldTally}
+use Rattle.server_house.specs.declared.server_hooks.LaneLook.{LaneLook}
+use Rattle.server_house.specs.declared.server_hooks.ServerLook.{ServerLook}
+use Rattle.server_house.specs.declared.server_hooks.TransferKind.{TransferKind}
+use Rattle.server_house.specs.declared.server_hooks.TransferKind.TheVariants.{Sent, Received, Listed}
+use Rattle.server_status.specs.declared.status.Direction.{Direction as Towards}
+use Rattle.server_status.specs.declared.status.Direction.TheVariants.{Down as ToClient, Up as FromClient}
+use Rattle.server_status.specs.declared.status.GroupStatus.{GroupStatus}
+use Rattle.server_status.specs.declared.status.HeldRounds.{HeldRounds}
+use Rattle.server_status.specs.declared.status.LineRates.{LineRates}
+use Rattle.server_status.specs.declared.status.Status.{Status}
+use Rattle.server_status.specs.declared.status.TransferStatus.{TransferStatus}
+use Rattle.status_keeper.specs.declared.facts.Counts.{Counts}
+use Rattle.status_keeper.specs.declared.facts.KeptTransfer.{KeptTransfer}
+use Rattle.status_keeper.specs.declared.facts.StatusFacts.{StatusFacts}
+
+abbrev pub way_of : TransferKind → Way
+way_of Sent = Down
+way_of Received = Up
+way_of Listed = Down
+
+abbrev pub direction_of : Way → Towards
+direction_of Down = ToClient
+direction_of Up = FromClient
+
+abbrev pub rounds_of : HeldTally → HeldRounds
+rounds_of h = record {
+  server = h.server;
+  direction = h.direction;
+  group = h.group;
+  user = h.user;
+  session = h.session;
+  nothing = h.nothing;
+}
+
+-- the lane that runs the transfer of a session, if one of these does
+abbrev pub IsLaneOf : List LaneLook → ℕ → Option LaneLook → Type 0
+IsLaneOf lanes session None = All (λ l. ¬ l.session ≡ Some session) lanes
+IsLaneOf lanes session (Some lane) =
+    (lane.session ≡ Some session) × ((i : ℕ) × (slice_get lanes i ≡ Some lane))
+
+-- the name of the group of a user, if there is one
+abbrev pub group_in : StatusFacts → ℕ → Option (List ℕ)
+group_in facts user = option_map string_bytes
+    (option_and_then (λ group. slice_get facts.groups.items group) (group_of facts.limits user))
+
+-- the row of a transfer: what its session has begun, what its lane was granted and has moved, what
+-- held it back, and its limits
+pub record IsRow (facts : StatusFacts) (lanes : List LaneLook) (t : KeptTransfer)
+    (row : TransferStatus) : Type 0 where
+  pub lane : Option LaneLook
+  pub is_lane : IsLaneOf lanes t.session lane
+  pub session : row.session ≡ t.session
+  pub user : string_bytes row.user ≡ string_bytes t.user
+  pub group : option_map string_bytes row.group ≡ group_in facts t.number
+  pub peer : row.peer ≡ t.peer
+  pub direction : row.direction ≡ direction_of (way_of t.kind)
+  pub path : option_map string_bytes row.path ≡ option_map string_bytes t.path
+  pub size : row.size ≡ t.size
+  pub begun : row.begun ≡ t.since - facts.zero
+  pub granted : row.granted ≡ option_map_or (λ l. l.tally.granted) lane 0
+  pub moved : row.moved ≡ option_map_or (λ l. l.moved) lane 0
+  pub rounds : row.rounds
+      ≡ rounds_of (option_map_or (λ l. all_rounds l.tally) lane no_rounds)
+  pub guaranteed : row.guaranteed
+      ≡ floor_rate (finite.get facts.limits.users t.number) (way_of t.kind)
+  pub session_rate : row.session_rate ≡ rate_of facts.limits (Session (way_of t.kind) t.number 0)
+  pub user_rate : row.user_rate ≡ rate_of facts.limits (User (way_of t.kind) t.number)
+
+-- a row for each transfer, in their order
+pub record AreRows (facts : StatusFacts) (lanes : List LaneLook) (ts : List KeptTransfer)
+    (rows : List TransferStatus) : Type 0 where
+  pub count : length rows ≡ length ts
+  pub each : (i : ℕ) (row : TransferStatus) → slice_get rows i ≡ Some row
+      → (t : KeptTransfer) × (slice_get ts i ≡ Some t) × IsRow facts lanes t row
+
+-- the octets granted to the transfers of rows
+abbrev pub granted_in : List TransferStatus → ℕ
+granted_in rows = min (sum_by (λ row. row.granted) rows) (2 ^ 64 - 1)
+
+-- the rounds of lanes, with those before
+abbrev pub rounds_with : HeldTally → List LaneLook → HeldTally
+rounds_with held [] = held
+rounds_with held (l ∷ ls) = rounds_with (held_sum held (all_rounds l.tally)) ls
+
+-- the groups, with their names and rates
+abbrev pub IsGroup : StatusFacts → ℕ → GroupStatus → Type 0
+IsGroup facts number group =
+    (option_map string_bytes (slice_get facts.groups.items number)
+    ≡ Some (string_bytes group.name))
+    × (group.down ≡ rate_of facts.limits (Group Down number))
+    × (group.up ≡ rate_of facts.limits (Group Up number))
+
+pub record AreGroups (facts : StatusFacts) (groups : List GroupStatus) : Type 0 where
+  pub count : length groups ≡ length facts.groups.items
+  pub each : (i : ℕ) (g : GroupStatus) → slice_get groups i ≡ Some g → IsGroup facts i g
+
+abbrev pub line_of : Rates → LineRates
+line_of rates = record {
+  both = rate_of rates Server;
+  down = rate_of rates (Direction Down);
+  up = rate_of rates (Direction Up);
+}
+
+-- The status at a look. The octets granted to its transfers, and those granted to transfers that
+-- have ended, are those that were issued.
+pub record IsStatus (facts : StatusFacts) (ts : List KeptTransfer) (counts : Counts)
+    (look : ServerLook) (s : Status) : Type 0 where
+  pub started : s.started ≡ facts.started
+  pub micros : s.micros ≡ look.micros - facts.zero
+  pub line : s.line ≡ line_of facts.limits
+  pub groups : AreGroups facts s.groups.items
+  pub users : s.users ≡ facts.users
+  pub sessions : s.sessions ≡ look.sessions
+  pub max_sessions : s.max_sessions ≡ facts.max_sessions
+  pub lanes : s.lanes ≡ facts.lanes
+  pub issued : s.issued ≡ look.issued
+  pub ended_granted : s.ended_granted ≡ look.issued - granted_in s.transfers.items
+  pub ended_moved : s.ended_moved ≡ counts.ended_moved
+  pub ended : s.ended ≡ counts.ended
+  pub rounds : s.rounds ≡ rounds_of (rounds_with (all_rounds look.ended) look.lanes.now)
+  pub failed_logins : s.failed_logins ≡ counts.failed_logins
+  pub refused : s.refused ≡ counts.refused
+  pub transfers : AreRows facts look.lanes.now ts s.transfers.items

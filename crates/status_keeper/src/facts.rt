@@ -1,0 +1,54 @@
+//! The parts of a status, beside a look.
+
+use line_rates::Limits;
+use server_house::TransferKind;
+
+/// The facts of a configuration, and of the start of a server, that a status has.
+#[derive(Drop)]
+pub struct StatusFacts {
+    /// The limits of the line, of its groups and of its users.
+    pub limits: Limits,
+    /// The names of the groups, by their numbers.
+    pub groups: Vec<String>,
+    /// Number of users.
+    pub users: u64,
+    /// Number of lanes.
+    pub lanes: u64,
+    /// Most clients at once.
+    pub max_sessions: u64,
+    /// The start of the server, in seconds since 1970.
+    pub started: u64,
+    /// The moment of the start, in microseconds.
+    pub zero: u64,
+}
+
+/// A transfer that a session has begun and that has not ended.
+#[derive(Drop)]
+pub struct KeptTransfer {
+    /// The number of the session.
+    pub session: u64,
+    /// The user, and the number by which rounds identify them.
+    pub user: String,
+    pub number: u32,
+    /// The address of the client.
+    pub peer: [u8; 4],
+    pub kind: TransferKind,
+    /// The path of the file; none for a listing, or if there was no memory for it.
+    pub path: Option<String>,
+    /// The octets of the file that is sent, if they are known.
+    pub size: Option<u64>,
+    /// The moment at which it began, in microseconds.
+    pub since: u64,
+}
+
+/// Counts of events since the start.
+#[derive(Clone, Copy, Debug, PartialEq, Eq)]
+pub struct Counts {
+    /// Transfers that have ended, and the octets that they have moved.
+    pub ended: u64,
+    pub ended_moved: u64,
+    /// Wrong passwords.
+    pub failed_logins: u64,
+    /// Clients that were not served.
+    pub refused: u64,
+}

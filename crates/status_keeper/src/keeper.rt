@@ -1,0 +1,203 @@
+//! The handler.
+
+ghost use Rattle.std.specs.Prelude.{◌≤◌, length};
+
+use crate::cell::StatusCell;
+use crate::facts::{Counts, KeptTransfer, StatusFacts};
+use crate::making::status_of;
+use handler_hooks::Hooks;
+use server_house::{
+    BegunTransfer, EndCause, NotServed, ServerEvent, ServerHooks, ServerLook, SessionEvent,
+    StoreNote, TransferRecord,
+};
+use std::alloc::{AllocError, Global};
+use std::sync::{Arc, Wait};
+
+/// A handler that passes each call on to another, and keeps a status if it has a cell for it.
+#[derive(Drop)]
+pub struct StatusKeeper<R, N> {
+    rt: R,
+    within: N,
+    facts: StatusFacts,
+    cell: Option<Arc<StatusCell>>,
+    transfers: Vec<KeptTransfer>,
+    counts: Counts,
+}
+
+fn copied(alloc: Global, text: Option<&str>) -> Option<String> {
+    String::from_str(alloc, text?).ok()
+}
+
+// A transfer that has begun, to be kept.
+fn kept(alloc: Global, transfer: &BegunTransfer<'_>) -> Result<KeptTransfer, AllocError> {
+    Ok(KeptTransfer {
+        session: transfer.session as u64,
+        user: String::from_str(alloc, transfer.user)?,
+        number: transfer.number,
+        peer: transfer.peer,
+        kind: transfer.kind,
+        path: copied(alloc, transfer.path),
+        size: transfer.size,
+        since: transfer.since,
+    })
+}
+
+// The place of the transfer of a session.
+fn place_of(transfers: &[KeptTransfer], session: u64) -> Option<usize> {
+    for place in 0..transfers.len() {
+        if transfers[place].session == session {
+            return Some(place);
+        }
+    }
+    None
+}
+
+// The number of transfers before that of a session, in the order of sessions.
+fn count_before(transfers: &[KeptTransfer], session: u64) -> usize
+    ensures within { result ≤ length transfers.now }
+{
+    for place in 0..transfers.len() {
+        if transfers[place].session > session {
+            return place;
+        }
+    }
+    transfers.len()
+}
+
+impl<R: Wait + AllocGlobal, N> StatusKeeper<R, N> {
+    /// A handler over another, with the facts of a configuration and the cell for its status, if there is to be one.
+    pub fn new(
+        rt: R,
+        within: N,
+        facts: StatusFacts,
+        cell: Option<Arc<StatusCell>>,
+    ) -> StatusKeeper<R, N> {
+        let transfers = Vec::new(rt.alloc());
+        StatusKeeper {
+            rt,
+            within,
+            facts,
+            cell,
+            transfers,
+            counts: Counts {
+                ended: 0,
+                ended_moved: 0,
+                failed_logins: 0,
+                refused: 0,
+            },
+        }
+    }
+
+    // Drops the transfer of a session.
+    fn forget(&mut self, session: u64) {
+        if let Some(place) = place_of(&self.transfers, session) {
+            if place < self.transfers.len() {
+                drop(self.transfers.remove(place));
+            }
+        }
+    }
+
+    // Keeps a transfer. Without memory for it, it has no row.
+    fn keep(&mut self, transfer: &BegunTransfer<'_>) {
+        self.forget(transfer.session as u64);
+        if let Ok(kept) = kept(self.rt.alloc(), transfer) {
+            let place = count_before(&self.transfers, kept.session);
+            let _ = self.transfers.insert(place, kept);
+        }
+    }
+}
+
+impl<R: Wait + AllocGlobal + Drop, N: Hooks> Hooks for StatusKeeper<R, N> {
+    ghost use Rattle.std.specs.Prelude.{⊤};
+
+    ghost Told = { λ _ _ _. ⊤ };
+
+    fn on_connect(&mut self) {
+        self.within.on_connect();
+    }
+
+    fn on_disconnect(&mut self) {
+        self.within.on_disconnect();
+    }
+
+    fn on_login(&mut self, user: &str) {
+        self.within.on_login(user);
+    }
+
+    fn on_login_failed(&mut self, user: &str) {
+        self.counts.failed_logins = self.counts.failed_logins.saturating_add(1);
+        self.within.on_login_failed(user);
+    }
+
+    fn on_logout(&mut self, user: &str) {
+        self.within.on_logout(user);
+    }
+
+    fn on_file_sent(&mut self, path: &str) {
+        self.within.on_file_sent(path);
+    }
+
+    fn on_file_received(&mut self, path: &str) {
+        self.within.on_file_received(path);
+    }
+
+    fn on_incomplete_file_sent(&mut self, path: &str) {
+        self.within.on_incomplete_file_sent(path);
+    }
+
+    fn on_incomplete_file_received(&mut self, path: &str) {
+        self.within.on_incomplete_file_received(path);
+    }
+}
+
+impl<R: Wait + AllocGlobal + Drop, N: ServerHooks> ServerHooks for StatusKeeper<R, N> {
+    fn attend(&mut self, peer: [u8; 4], session: usize, cause: Option<EndCause>) {
+        self.within.attend(peer, session, cause);
+    }
+
+    fn on_session(&mut self, event: SessionEvent) {
+        self.within.on_session(event);
+    }
+
+    fn on_refused(&mut self, peer: [u8; 4], why: NotServed) {
+        self.counts.refused = self.counts.refused.saturating_add(1);
+        self.within.on_refused(peer, why);
+    }
+
+    fn on_server(&mut self, event: ServerEvent) {
+        self.within.on_server(event);
+    }
+
+    fn wants_sizes(&self) -> bool {
+        self.cell.is_some()
+    }
+
+    fn on_begun(&mut self, transfer: &BegunTransfer<'_>) {
+        if self.cell.is_some() {
+            self.keep(transfer);
+        }
+        self.within.on_begun(transfer);
+    }
+
+    fn on_look(&mut self, look: &ServerLook<'_>) {
+        if let Some(cell) = &self.cell {
+            let alloc = self.rt.alloc();
+            let made = status_of(alloc, &self.facts, &self.transfers, self.counts, look);
+            if let Ok(status) = made {
+                cell.put(&self.rt, alloc, status);
+            }
+        }
+        self.within.on_look(look);
+    }
+
+    fn on_transfer(&mut self, record: &TransferRecord<'_>) {
+        self.counts.ended = self.counts.ended.saturating_add(1);
+        self.counts.ended_moved = self.counts.ended_moved.saturating_add(record.octets);
+        self.forget(record.session as u64);
+        self.within.on_transfer(record);
+    }
+
+    fn on_store(&mut self, note: &StoreNote<'_>) {
+        self.within.on_store(note);
+    }
+}

@@ -1,0 +1,6 @@
+pub mod Answers
+pub mod Escapes
+pub mod Exchanges
+pub mod Metrics
+pub mod Samples
+pub mod Timing

@@ -1,0 +1,26 @@
+//! The status of a server for browsers and for Prometheus: a page that draws it, its JSON, and its metrics.
+//!
+//! ```text
+//! let text = metrics_text(rt.alloc(), status)?; // for Prometheus
+//! holds(rt, text.as_str().contains("ftpd_lanes 16\n"));
+//! let mut reader = b"GET /status.json HTTP/1.1\r\nHost: localhost\r\n\r\n".as_slice();
+//! let mut writer = Vec::new(rt.alloc());
+//! let keys = RandomState::new(rt)?;
+//! serve_request(rt.alloc(), keys, status, &mut reader, &mut writer)?; // one request of a browser
+//! holds(rt, writer.as_slice().starts_with(b"HTTP/1.1 200 OK\r\n"));
+//! ```
+#![tactic(auto)]
+
+mod escapes;
+mod limits;
+mod metrics;
+mod page;
+mod routes;
+mod samples;
+mod serving;
+mod timing;
+
+pub use metrics::metrics_text;
+pub use page::{PAGE, POLICY};
+pub use serving::serve_request;
+pub use timing::{MachineClock, MicrosClock, Timed};

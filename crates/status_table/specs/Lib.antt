@@ -1,0 +1,6 @@
+pub mod Cells
+pub mod Heads
+pub mod Held
+pub mod Lines
+pub mod Rates
+pub mod Tables

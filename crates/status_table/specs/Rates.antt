@@ -1,0 +1,103 @@
+-- Rates: differences of two statuses of a server.
+use Rattle.std.specs.Prelude.{◌+◌, ◌-◌, ◌*◌, ◌/◌, ℕ, Bool, List, Option, Some, None, false, true, ◌&&◌, if◌then◌else◌, min, nat_eq, string_bytes}
+use Rattle.std.specs.Borrow.{Bor}
+use Rattle.std.specs.List.{find, sum_by}
+use Rattle.std.specs.Option.{option_map_or}
+use Rattle.std.specs.Str.{bytes_eq}
+use Rattle.server_status.specs.declared.status.Direction.{Direction}
+use Rattle.server_status.specs.declared.status.Direction.TheVariants.{Down, Up}
+use Rattle.server_status.specs.declared.status.HeldRounds.{HeldRounds}
+use Rattle.server_status.specs.declared.status.Status.{Status}
+use Rattle.server_status.specs.declared.status.TransferStatus.{TransferStatus}
+
+-- the largest rate that is told
+abbrev pub most : ℕ
+most = 18446744073709551615
+
+-- octets a second, of octets in a time in microseconds; none in no time
+abbrev pub per_second : ℕ → ℕ → ℕ
+per_second octets micros = if nat_eq micros 0 then 0 else min (octets * 1000000 / micros) most
+
+-- both are the same transfer: of one session, and begun at one moment
+abbrev pub is_same : TransferStatus → TransferStatus → Bool
+is_same t other = nat_eq other.session t.session && nat_eq other.begun t.begun
+
+-- the rate of a transfer since its begin
+abbrev pub since_begin : Status → TransferStatus → ℕ
+since_begin now t = per_second t.granted (now.micros - t.begun)
+
+abbrev pub since_found : Status → Status → TransferStatus → Option TransferStatus → ℕ
+since_found past now t None = since_begin now t
+since_found past now t (Some then_it) =
+    per_second (t.granted - then_it.granted) (now.micros - past.micros)
+
+-- the rate of a transfer since an earlier status, or since its begin if it is not there
+abbrev pub since_status : Status → Status → TransferStatus → ℕ
+since_status past now t = since_found past now t (find (is_same t) past.transfers.items)
+
+abbrev pub rate_since : Option (Bor Status) → Status → TransferStatus → ℕ
+rate_since None now t = since_begin now t
+rate_since (Some past) now t = since_status past.now now t
+
+-- rounds of each kind less others
+abbrev pub rounds_less : HeldRounds → HeldRounds → HeldRounds
+rounds_less now then_it = record {
+  server = now.server - then_it.server;
+  direction = now.direction - then_it.direction;
+  group = now.group - then_it.group;
+  user = now.user - then_it.user;
+  session = now.session - then_it.session;
+  nothing = now.nothing - then_it.nothing;
+}
+
+abbrev pub rounds_found : TransferStatus → Option TransferStatus → HeldRounds
+rounds_found t None = t.rounds
+rounds_found t (Some then_it) = rounds_less t.rounds then_it.rounds
+
+-- the rounds of a transfer since an earlier status, or all of them if it is not there
+abbrev pub rounds_since : Option (Bor Status) → TransferStatus → HeldRounds
+rounds_since None t = t.rounds
+rounds_since (Some past) t = rounds_found t (find (is_same t) past.now.transfers.items)
+
+-- The rank of a transfer among others. It grows as the rate falls, and for one rate with the number
+-- of the session.
+abbrev pub rank_of : ℕ → ℕ → ℕ
+rank_of rate session = (most - rate) * 18446744073709551616 + session
+
+abbrev pub rank : Option (Bor Status) → Status → TransferStatus → ℕ
+rank past now t = rank_of (rate_since past now t) t.session
+
+-- ---- sums
+
+abbrev pub same_way : Direction → Direction → Bool
+same_way Down Down = true
+same_way Down Up = false
+same_way Up Down = false
+same_way Up Up = true
+
+abbrev pub is_way : Direction → TransferStatus → Bool
+is_way way t = same_way way t.direction
+
+abbrev pub is_of_group : List ℕ → TransferStatus → Bool
+is_of_group name t = option_map_or (λ group. bytes_eq (string_bytes group) name) t.group false
+
+-- the rates of transfers that pass a test, together
+abbrev pub total_of : (TransferStatus → Bool) → Option (Bor Status) → Status
+    → List TransferStatus → ℕ
+total_of test past now transfers =
+    min (sum_by (λ t. if test t then rate_since past now t else 0) transfers) most
+
+-- the rates of one direction together
+abbrev pub line_total : Option (Bor Status) → Status → Direction → ℕ
+line_total past now way = total_of (is_way way) past now now.transfers.items
+
+-- the same of the users of a group
+abbrev pub is_of : Direction → List ℕ → TransferStatus → Bool
+is_of way name t = is_way way t && is_of_group name t
+
+abbrev pub group_total : Option (Bor Status) → Status → Direction → List ℕ → ℕ
+group_total past now way name = total_of (is_of way name) past now now.transfers.items
+
+-- number of the transfers that wait for a lane
+abbrev pub waiting : List TransferStatus → ℕ
+waiting transfers = sum_by (λ t. if t.is_waiting then 1 else 0) transfers

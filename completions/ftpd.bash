@@ -14,7 +14,7 @@ _ftpd_words() {
     [[ ${COMP_WORDS[1]} == plan || ${COMP_WORDS[1]} == check-config ]] && options="$3 $options"
     if [[ ${COMP_WORDS[1]} == help ]]; then
         [[ $COMP_CWORD -gt 2 ]] || mapfile -t COMPREPLY < <(compgen -W "$1" -- "$word")
-    elif [[ $before == --*-timeout || $before == --*-delay || $before == --status-port || $before == --rows ]]; then
+    elif [[ $before == --*-timeout || $before == --*-delay || $before == --*-seconds || $before == --status-port || $before == --rows ]]; then
         return # a number
     elif [[ $before == --log-form ]]; then
         mapfile -t COMPREPLY < <(compgen -W 'plain journal' -- "$word")
@@ -26,7 +26,7 @@ _ftpd_words() {
 }
 
 _ftpd() {
-    _ftpd_words 'share check check-config migrate script serve plan top help' '--stop-file --ready-file --transfer-log --log-form --status --status-port --login-timeout --idle-timeout --login-delay' '--json' '--once --rows'
+    _ftpd_words 'share check check-config migrate script serve plan top help' '--stop-file --ready-file --drain-file --transfer-log --log-form --status --status-port --login-timeout --idle-timeout --login-delay --drain-seconds' '--json' '--once --rows'
 }
 
 _sheets() {

@@ -122,18 +122,19 @@ class Server:
     """A server in a folder of its own. Whoever leaves it has to have ended it, or else it is killed.
 
     `root` is "memory", or "folder" for a fresh one of these `files`: each a path with its octets, a length of zeros, or None for a
-    directory. `server` are more lines of its table, `rates` more lines of ann's. With `stop` it has a stop file, `stop`. In place of
-    all this there may be the whole `text` of its configuration, with its port. `words` are more words of its command line, `before`
+    directory. `server` are more lines of its table, `rates` more lines of ann's. With `stop` it has a stop file, `stop`, and
+    with `drain` a drain file, `drain`. In place of all this there may be the whole `text` of its configuration, with its port. `words` are more words of its command line, `before`
     is what the shell does that starts it, and `mode` are the permission bits of its configuration.
     """
 
-    def __init__(self, sessions=1, root="memory", files=None, server="", rates="", users=USERS, stop=False, passive=8, text=None, port=None, words=None, before=None, mode=0o600):
+    def __init__(self, sessions=1, root="memory", files=None, server="", rates="", users=USERS, stop=False, drain=False, passive=8, text=None, port=None, words=None, before=None, mode=0o600):
         self.room = tempfile.TemporaryDirectory(prefix="ftpd-serving-")
         self.place = self.room.name
         self.folder = f"{self.place}/files" if root == "folder" else None
         self.sessions, self.server, self.passive, self.text = sessions, server, passive, text
         self.tables = users.format(rates=rates) + ("" if self.folder else FILES)
-        self.words = [*(["--stop-file", "stop"] if stop else []), *(["--login-delay", "0"] if words is None else words)]
+        signs = [*(["--stop-file", "stop"] if stop else []), *(["--drain-file", "drain"] if drain else [])]
+        self.words = [*signs, *(["--login-delay", "0"] if words is None else words)]
         self.before, self.mode = before, mode
         self.process, self.port = None, port
         if self.folder:
@@ -218,6 +219,10 @@ class Server:
 
     def stop(self):
         with open(f"{self.place}/stop", "w"):
+            pass
+
+    def drain(self):
+        with open(f"{self.place}/drain", "w"):
             pass
 
     def ended(self):

@@ -1,7 +1,7 @@
 """A second reading of sheets and grants files: docs/sheets.md and the remainder rule of docs/sharing.md, octet by octet.
 
 `share` and `check` answer what the program is wanted to end with: its status, and what it prints to either output. Nothing
-here knows how the program goes about it, and all of it is slow: wants are to be small.
+here knows how the program goes about it. It gives octet by octet: wants are to be small, of however many leaves.
 """
 import re
 
@@ -90,9 +90,10 @@ class Sheet:
 
     def judge_floors(self):
         """The branch whose line stands first of those whose floors exceed their limits."""
+        floors = self.totals({leaf: floor for leaf, (_want, floor) in self.wants.items()})
         for branch in sorted(self.limits, key=self.lines.get):
             limit = self.limits[branch]
-            if limit is not None and sum(self.wants[it][1] for it in self.leaves(branch)) > limit:
+            if limit is not None and floors[branch] > limit:
                 raise Fault(self.lines[branch], "FloorsOverLimit")
 
     def walk(self, path=()):
@@ -104,23 +105,36 @@ class Sheet:
     def leaves(self, branch=()):
         return [it for it in self.walk(branch) if it in self.wants]
 
-    def is_full(self, branch, grants):
-        limit = self.limits.get(branch)
-        return limit is not None and sum(grants[it] for it in self.leaves(branch)) == limit
+    def totals(self, grants):
+        """What the leaves beneath each path have together."""
+        found = dict.fromkeys(self.kids, 0)
+        for leaf, octets in grants.items():
+            for length in range(len(leaf)):
+                found[leaf[:length]] += octets
+        return found
 
-    def holder(self, leaf, grants):
+    def is_full(self, branch, totals):
+        limit = self.limits.get(branch)
+        return limit is not None and totals[branch] == limit
+
+    def holder(self, leaf, totals):
         """The deepest full branch above a leaf, or nothing."""
         above = [leaf[:length] for length in range(len(leaf) - 1, -1, -1)]
-        return next((it for it in above if self.is_full(it, grants)), None)
+        return next((it for it in above if self.is_full(it, totals)), None)
 
     def grants(self):
-        """From the floors on one octet at a time, to the leaf with the least of those with room; of several the first."""
+        """From the floors on one octet at a time, to the leaf with the least of those with room; of several the first. The next
+        ones go to the others with as little, one after another, since they have the least now."""
         grants = {leaf: self.wants[leaf][1] for leaf in self.leaves()}
-        while True:
-            open_leaves = [it for it in grants if grants[it] < self.wants[it][0] and self.holder(it, grants) is None]
-            if not open_leaves:
-                return grants
-            grants[min(open_leaves, key=grants.get)] += 1
+        totals = self.totals(grants)
+        while open_leaves := [it for it in grants if grants[it] < self.wants[it][0] and self.holder(it, totals) is None]:
+            least = min(grants[it] for it in open_leaves)
+            for leaf in [it for it in open_leaves if grants[it] == least]:
+                if self.holder(leaf, totals) is None:
+                    grants[leaf] += 1
+                    for length in range(len(leaf)):
+                        totals[leaf[:length]] += 1
+        return grants
 
 
 def share(text):
@@ -130,9 +144,9 @@ def share(text):
     except Fault as fault:
         return FAULTY, "", str(fault)
     grants = sheet.grants()
-    lines = []
+    totals, lines = sheet.totals(grants), []
     for leaf, (want, _floor) in sheet.wants.items():
-        held = f" full {text_of(sheet.holder(leaf, grants))}" if grants[leaf] < want else ""
+        held = f" full {text_of(sheet.holder(leaf, totals))}" if grants[leaf] < want else ""
         lines.append(f"{text_of(leaf)} {grants[leaf]} of {want}{held}\n")
     return DONE, "".join(lines) + f"total {sum(grants.values())}\n", ""
 
@@ -165,23 +179,25 @@ def first_flaw(sheet, stated):
     for leaf in leaves:
         if grants[leaf] < sheet.wants[leaf][1]:
             return f"8 UnderFloor {text_of(leaf)} {grants[leaf]} {sheet.wants[leaf][1]}"
+    totals = sheet.totals(grants)
     for branch in sheet.walk():
-        total, limit = sum(grants[it] for it in sheet.leaves(branch)), sheet.limits.get(branch)
+        total, limit = totals[branch], sheet.limits.get(branch)
         if limit is not None and total > limit:
             return f"3 OverLimit {text_of(branch)} {total} {limit}"
     unmet = [it for it in leaves if grants[it] < sheet.wants[it][0]]
-    return next(filter(None, (flaw_of(sheet, grants, leaf, stated[leaf][1]) for leaf in unmet)), None)
+    beneath = {node: sheet.leaves(node) for node in {stated[it][1] for it in unmet} if node in sheet.kids}
+    return next(filter(None, (flaw_of(sheet, grants, totals, beneath, leaf, stated[leaf][1]) for leaf in unmet)), None)
 
 
-def flaw_of(sheet, grants, leaf, node):
+def flaw_of(sheet, grants, totals, beneath, leaf, node):
     """What is wrong with the branch that an unmet want names, or nothing."""
     if node is None or node in sheet.wants:
         return f"4 NoNode {text_of(leaf)}"
     if leaf[:len(node)] != node:
         return f"5 NotAbove {text_of(leaf)} {text_of(node)}"
-    if not sheet.is_full(node, grants):
+    if not sheet.is_full(node, totals):
         return f"6 NotFull {text_of(leaf)} {text_of(node)}"
-    for other in sheet.leaves(node):
+    for other in beneath[node]:
         if grants[other] >= grants[leaf] + 2 and grants[other] > sheet.wants[other][1]:
             return f"7 TooGreat {text_of(leaf)} {grants[leaf]} {text_of(other)} {grants[other]}"
     return None

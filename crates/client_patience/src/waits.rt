@@ -1,12 +1,9 @@
 //! The time that a client has kept its session waiting.
 
 ghost use Rattle.std.specs.Prelude.{◌≡◌, false, true};
-ghost use Rattle.client_patience.specs.Waits.{IsTimeOut, is_over};
+ghost use Rattle.client_patience.specs.Waits.{IsTimeOut};
 
-use crate::patience::Patience;
-
-/// Microseconds of a second.
-const SECOND: u64 = 1_000_000;
+use crate::patience::{Patience, is_over};
 
 /// A limit of time that a client has passed.
 #[derive(Clone, Copy, Debug, PartialEq, Eq)]
@@ -25,13 +22,6 @@ pub struct Waits {
     is_inside: bool,
     // the last sign of life: octets came, or a transfer ran
     heard: u64,
-}
-
-// Returns whether more than this number of seconds has passed; 0 is no limit.
-fn is_over(since: u64, now: u64, seconds: u32) -> bool
-    ensures over { result ≡ is_over since now seconds }
-{
-    seconds != 0 && now.saturating_sub(since) > u64::from(seconds) * SECOND
 }
 
 impl Waits {

@@ -214,6 +214,26 @@ delay_turns : (rows : List Row) (word : Text) → IsPlainWord word → Turns ser
 delay_turns rows [] plain = absurd plain
 delay_turns rows (b ∷ bs) plain = record { passes = delay_value_passes rows b bs (ne_eqb _ _ plain); leads = delay_value_leads rows b bs (ne_eqb _ _ plain) }
 
+drain_flag_passes : (config login idle_time delay : Text) → turn_passes serving [] (valued (row (codes "CONFIG") config ∷ row (codes "login-timeout") login ∷ row (codes "idle-timeout") idle_time ∷ []) (codes "login-delay") delay) (codes "--drain-seconds") ≡ true
+unfolding clap_on_literals
+drain_flag_passes config login idle_time delay = refl
+
+drain_flag_leads : (config login idle_time delay : Text) → walked rules [] (valued (row (codes "CONFIG") config ∷ row (codes "login-timeout") login ∷ row (codes "idle-timeout") idle_time ∷ []) (codes "login-delay") delay) (codes "--drain-seconds") ≡ waiting_for (row (codes "CONFIG") config ∷ row (codes "login-timeout") login ∷ row (codes "idle-timeout") idle_time ∷ row (codes "login-delay") delay ∷ []) (codes "drain-seconds")
+unfolding clap_on_literals
+drain_flag_leads config login idle_time delay = refl
+
+drain_value_passes : (rows : List Row) (b : ℕ) (bs : List ℕ) → (b == 45) ≡ false → turn_passes serving [] (waiting_for rows (codes "drain-seconds")) (b ∷ bs) ≡ true
+unfolding clap_on_literals
+drain_value_passes rows b bs ne = simp ne refl
+
+drain_value_leads : (rows : List Row) (b : ℕ) (bs : List ℕ) → (b == 45) ≡ false → walked rules [] (waiting_for rows (codes "drain-seconds")) (b ∷ bs) ≡ valued rows (codes "drain-seconds") (b ∷ bs)
+unfolding clap_on_literals
+drain_value_leads rows b bs ne = simp ne refl
+
+drain_turns : (rows : List Row) (word : Text) → IsPlainWord word → Turns serving (waiting_for rows (codes "drain-seconds")) (valued rows (codes "drain-seconds") word) word
+drain_turns rows [] plain = absurd plain
+drain_turns rows (b ∷ bs) plain = record { passes = drain_value_passes rows b bs (ne_eqb _ _ plain); leads = drain_value_leads rows b bs (ne_eqb _ _ plain) }
+
 -- ---- a walk over words, one after another
 
 plain_walks : (config : Text) → IsPlainWord config → Walks serving (walk_from nothing_held) (valued [] (codes "CONFIG") config) (config ∷ [])
@@ -269,21 +289,24 @@ status_walks config path port plain also third =
     (turn serving _ _ _ _ _ (port_flag_passes config path) (port_flag_leads config path)
     (turn serving _ _ _ _ _ two.passes two.leads (ends serving _)))))
 
-timed_walks : (config login idle_time delay : Text) → IsPlainWord config → IsPlainWord login → IsPlainWord idle_time → IsPlainWord delay
-    → Walks serving (walk_from nothing_held) (valued (row (codes "CONFIG") config ∷ row (codes "login-timeout") login ∷ row (codes "idle-timeout") idle_time ∷ []) (codes "login-delay") delay)
-    (config ∷ codes "--login-timeout" ∷ login ∷ codes "--idle-timeout" ∷ idle_time ∷ codes "--login-delay" ∷ delay ∷ [])
-timed_walks config login idle_time delay plain second third fourth =
+timed_walks : (config login idle_time delay drain : Text) → IsPlainWord config → IsPlainWord login → IsPlainWord idle_time → IsPlainWord delay → IsPlainWord drain
+    → Walks serving (walk_from nothing_held) (valued (row (codes "CONFIG") config ∷ row (codes "login-timeout") login ∷ row (codes "idle-timeout") idle_time ∷ row (codes "login-delay") delay ∷ []) (codes "drain-seconds") drain)
+    (config ∷ codes "--login-timeout" ∷ login ∷ codes "--idle-timeout" ∷ idle_time ∷ codes "--login-delay" ∷ delay ∷ codes "--drain-seconds" ∷ drain ∷ [])
+timed_walks config login idle_time delay drain plain second third fourth fifth =
     let first = config_turns config plain in
     let one = login_turns (row (codes "CONFIG") config ∷ []) login second in
     let two = idle_turns (row (codes "CONFIG") config ∷ row (codes "login-timeout") login ∷ []) idle_time third in
     let three = delay_turns (row (codes "CONFIG") config ∷ row (codes "login-timeout") login ∷ row (codes "idle-timeout") idle_time ∷ []) delay fourth in
+    let four = drain_turns (row (codes "CONFIG") config ∷ row (codes "login-timeout") login ∷ row (codes "idle-timeout") idle_time ∷ row (codes "login-delay") delay ∷ []) drain fifth in
     turn serving _ _ _ _ _ first.passes first.leads
     (turn serving _ _ _ _ _ (login_flag_passes config) (login_flag_leads config)
     (turn serving _ _ _ _ _ one.passes one.leads
     (turn serving _ _ _ _ _ (idle_flag_passes config login) (idle_flag_leads config login)
     (turn serving _ _ _ _ _ two.passes two.leads
     (turn serving _ _ _ _ _ (delay_flag_passes config login idle_time) (delay_flag_leads config login idle_time)
-    (turn serving _ _ _ _ _ three.passes three.leads (ends serving _)))))))
+    (turn serving _ _ _ _ _ three.passes three.leads
+    (turn serving _ _ _ _ _ (drain_flag_passes config login idle_time delay) (drain_flag_leads config login idle_time delay)
+    (turn serving _ _ _ _ _ four.passes four.leads (ends serving _)))))))))
 
 -- ---- the words are taken
 
@@ -407,28 +430,28 @@ status_taken config path port plain also third =
     let below = level serving _ _ (status_walks config path port plain also third) (status_settles config path port) defaults_pass (status_valid config path port) in
     and_then _ _ simple (by_level (built ftpd) _ _ _ serving (status_stops config path port) found_is below (status_above config path port))
 
-timed_settles : (config login idle_time delay : Text) → settle_passes rules serving.args_override_self (valued (row (codes "CONFIG") config ∷ row (codes "login-timeout") login ∷ row (codes "idle-timeout") idle_time ∷ []) (codes "login-delay") delay).held ≡ true
+timed_settles : (config login idle_time delay drain : Text) → settle_passes rules serving.args_override_self (valued (row (codes "CONFIG") config ∷ row (codes "login-timeout") login ∷ row (codes "idle-timeout") idle_time ∷ row (codes "login-delay") delay ∷ []) (codes "drain-seconds") drain).held ≡ true
 unfolding clap_on_literals
-timed_settles config login idle_time delay = refl
+timed_settles config login idle_time delay drain = refl
 
-timed_valid : (config login idle_time delay : Text) → is_valid serving (finished rules (valued (row (codes "CONFIG") config ∷ row (codes "login-timeout") login ∷ row (codes "idle-timeout") idle_time ∷ []) (codes "login-delay") delay).held) false ≡ true
+timed_valid : (config login idle_time delay drain : Text) → is_valid serving (finished rules (valued (row (codes "CONFIG") config ∷ row (codes "login-timeout") login ∷ row (codes "idle-timeout") idle_time ∷ row (codes "login-delay") delay ∷ []) (codes "drain-seconds") drain).held) false ≡ true
 unfolding clap_on_literals
-timed_valid config login idle_time delay = refl
+timed_valid config login idle_time delay drain = refl
 
-timed_stops : (config login idle_time delay : Text)
-    → (walk (built ftpd).top.rules (names_of (built ftpd)) nothing_held (timed_words config login idle_time delay)).stopped ≡ Some (codes "serve", config ∷ codes "--login-timeout" ∷ login ∷ codes "--idle-timeout" ∷ idle_time ∷ codes "--login-delay" ∷ delay ∷ [])
+timed_stops : (config login idle_time delay drain : Text)
+    → (walk (built ftpd).top.rules (names_of (built ftpd)) nothing_held (timed_words config login idle_time delay drain)).stopped ≡ Some (codes "serve", config ∷ codes "--login-timeout" ∷ login ∷ codes "--idle-timeout" ∷ idle_time ∷ codes "--login-delay" ∷ delay ∷ codes "--drain-seconds" ∷ drain ∷ [])
 unfolding clap_on_literals
-timed_stops config login idle_time delay = refl
+timed_stops config login idle_time delay drain = refl
 
-timed_above : (config login idle_time delay : Text) → level_passes (built ftpd).top (names_of (built ftpd)) nothing_held (timed_words config login idle_time delay) true ≡ true
+timed_above : (config login idle_time delay drain : Text) → level_passes (built ftpd).top (names_of (built ftpd)) nothing_held (timed_words config login idle_time delay drain) true ≡ true
 unfolding clap_on_literals
-timed_above config login idle_time delay = refl
+timed_above config login idle_time delay drain = refl
 
-timed_taken : (config login idle_time delay : Text) → IsPlainWord config → IsPlainWord login → IsPlainWord idle_time → IsPlainWord delay
-    → takes ftpd (timed_words config login idle_time delay) ≡ true
-timed_taken config login idle_time delay plain second third fourth =
-    let below = level serving _ _ (timed_walks config login idle_time delay plain second third fourth) (timed_settles config login idle_time delay) defaults_pass (timed_valid config login idle_time delay) in
-    and_then _ _ simple (by_level (built ftpd) _ _ _ serving (timed_stops config login idle_time delay) found_is below (timed_above config login idle_time delay))
+timed_taken : (config login idle_time delay drain : Text) → IsPlainWord config → IsPlainWord login → IsPlainWord idle_time → IsPlainWord delay → IsPlainWord drain
+    → takes ftpd (timed_words config login idle_time delay drain) ≡ true
+timed_taken config login idle_time delay drain plain second third fourth fifth =
+    let below = level serving _ _ (timed_walks config login idle_time delay drain plain second third fourth fifth) (timed_settles config login idle_time delay drain) defaults_pass (timed_valid config login idle_time delay drain) in
+    and_then _ _ simple (by_level (built ftpd) _ _ _ serving (timed_stops config login idle_time delay drain) found_is below (timed_above config login idle_time delay drain))
 
 -- ---- what the parser then holds of them
 
@@ -437,6 +460,7 @@ abbrev pub AreUnstated : List Row → Type 0
 AreUnstated rows =
     (first_of (codes "login-timeout") rows ≡ None)
     × (first_of (codes "idle-timeout") rows ≡ None) × (first_of (codes "login-delay") rows ≡ None)
+    × (first_of (codes "drain-seconds") rows ≡ None)
 
 -- what the parser makes of the words of `serve` with no option
 pub record Serves (config : Text) : Type 0 where
@@ -469,14 +493,14 @@ serves config plain =
       no_path = refl;
       no_ready = refl;
       portless = refl;
-      usual = (refl, refl, refl);
+      usual = (refl, refl, refl, refl);
     }
 
 -- what the parser makes of the words of `serve` with each option in seconds
-pub record ServesTimed (config login idle_time delay : Text) : Type 0 where
+pub record ServesTimed (config login idle_time delay drain : Text) : Type 0 where
   pub rows : List Row
-  pub taken : takes ftpd (timed_words config login idle_time delay) ≡ true
-  pub entered : subcommand_of ftpd (timed_words config login idle_time delay) ≡ Some (codes "serve", rows)
+  pub taken : takes ftpd (timed_words config login idle_time delay drain) ≡ true
+  pub entered : subcommand_of ftpd (timed_words config login idle_time delay drain) ≡ Some (codes "serve", rows)
   pub of : first_of (codes "CONFIG") rows ≡ Some config
   pub portless : first_of (codes "status-port") rows ≡ None
   pub no_path : first_of (codes "stop-file") rows ≡ None
@@ -484,26 +508,27 @@ pub record ServesTimed (config login idle_time delay : Text) : Type 0 where
   pub first : first_of (codes "login-timeout") rows ≡ Some login
   pub second : first_of (codes "idle-timeout") rows ≡ Some idle_time
   pub third : first_of (codes "login-delay") rows ≡ Some delay
+  pub fourth : first_of (codes "drain-seconds") rows ≡ Some drain
 
-timed_entered : (config login idle_time delay : Text) → subcommand_of ftpd (timed_words config login idle_time delay)
-    ≡ Some (codes "serve", rows_after rules [] (config ∷ codes "--login-timeout" ∷ login ∷ codes "--idle-timeout" ∷ idle_time ∷ codes "--login-delay" ∷ delay ∷ []))
+timed_entered : (config login idle_time delay drain : Text) → subcommand_of ftpd (timed_words config login idle_time delay drain)
+    ≡ Some (codes "serve", rows_after rules [] (config ∷ codes "--login-timeout" ∷ login ∷ codes "--idle-timeout" ∷ idle_time ∷ codes "--login-delay" ∷ delay ∷ codes "--drain-seconds" ∷ drain ∷ []))
 unfolding clap_on_literals
-timed_entered config login idle_time delay = refl
+timed_entered config login idle_time delay drain = refl
 
-timed_rows : (config login idle_time delay : Text) → finished rules (valued (row (codes "CONFIG") config ∷ row (codes "login-timeout") login ∷ row (codes "idle-timeout") idle_time ∷ []) (codes "login-delay") delay).held
-    ≡ row (codes "CONFIG") config ∷ row (codes "login-timeout") login ∷ row (codes "idle-timeout") idle_time ∷ row (codes "login-delay") delay ∷ []
+timed_rows : (config login idle_time delay drain : Text) → finished rules (valued (row (codes "CONFIG") config ∷ row (codes "login-timeout") login ∷ row (codes "idle-timeout") idle_time ∷ row (codes "login-delay") delay ∷ []) (codes "drain-seconds") drain).held
+    ≡ row (codes "CONFIG") config ∷ row (codes "login-timeout") login ∷ row (codes "idle-timeout") idle_time ∷ row (codes "login-delay") delay ∷ row (codes "drain-seconds") drain ∷ []
 unfolding clap_on_literals
-timed_rows config login idle_time delay = refl
+timed_rows config login idle_time delay drain = refl
 
-pub serves_timed : (config login idle_time delay : Text) → IsPlainWord config → IsPlainWord login → IsPlainWord idle_time → IsPlainWord delay → ServesTimed config login idle_time delay
-serves_timed config login idle_time delay plain second third fourth =
-    let walks = timed_walks config login idle_time delay plain second third fourth in
-    let end : rows_after rules [] (config ∷ codes "--login-timeout" ∷ login ∷ codes "--idle-timeout" ∷ idle_time ∷ codes "--login-delay" ∷ delay ∷ []) ≡ row (codes "CONFIG") config ∷ row (codes "login-timeout") login ∷ row (codes "idle-timeout") idle_time ∷ row (codes "login-delay") delay ∷ []
-    = ap (λ (w : Walk). finished rules w.held) walks.leads ∙ timed_rows config login idle_time delay in
+pub serves_timed : (config login idle_time delay drain : Text) → IsPlainWord config → IsPlainWord login → IsPlainWord idle_time → IsPlainWord delay → IsPlainWord drain → ServesTimed config login idle_time delay drain
+serves_timed config login idle_time delay drain plain second third fourth fifth =
+    let walks = timed_walks config login idle_time delay drain plain second third fourth fifth in
+    let end : rows_after rules [] (config ∷ codes "--login-timeout" ∷ login ∷ codes "--idle-timeout" ∷ idle_time ∷ codes "--login-delay" ∷ delay ∷ codes "--drain-seconds" ∷ drain ∷ []) ≡ row (codes "CONFIG") config ∷ row (codes "login-timeout") login ∷ row (codes "idle-timeout") idle_time ∷ row (codes "login-delay") delay ∷ row (codes "drain-seconds") drain ∷ []
+    = ap (λ (w : Walk). finished rules w.held) walks.leads ∙ timed_rows config login idle_time delay drain in
     record {
-      rows = row (codes "CONFIG") config ∷ row (codes "login-timeout") login ∷ row (codes "idle-timeout") idle_time ∷ row (codes "login-delay") delay ∷ [];
-      taken = timed_taken config login idle_time delay plain second third fourth;
-      entered = timed_entered config login idle_time delay ∙ ap (λ (rows : List Row). Some (codes "serve", rows)) end;
+      rows = row (codes "CONFIG") config ∷ row (codes "login-timeout") login ∷ row (codes "idle-timeout") idle_time ∷ row (codes "login-delay") delay ∷ row (codes "drain-seconds") drain ∷ [];
+      taken = timed_taken config login idle_time delay drain plain second third fourth fifth;
+      entered = timed_entered config login idle_time delay drain ∙ ap (λ (rows : List Row). Some (codes "serve", rows)) end;
       of = refl;
       portless = refl;
       no_path = refl;
@@ -511,6 +536,7 @@ serves_timed config login idle_time delay plain second third fourth =
       first = refl;
       second = refl;
       third = refl;
+      fourth = refl;
     }
 
 -- the words of `serve` with a stop file
@@ -549,7 +575,7 @@ serves_until config path plain also =
       portless = refl;
       stop_file = refl;
       no_ready = refl;
-      usual = (refl, refl, refl);
+      usual = (refl, refl, refl, refl);
     }
 
 -- what the parser makes of the words of `serve` with a stop file and a ready file
@@ -585,7 +611,7 @@ serves_ready config path ready plain also third =
       portless = refl;
       stop_file = refl;
       ready_file = refl;
-      usual = (refl, refl, refl);
+      usual = (refl, refl, refl, refl);
     }
 
 -- what the parser makes of the words of `serve` with a transfer log and a form of notes
@@ -621,7 +647,7 @@ serves_logged config path form plain also third =
       portless = refl;
       transfer_log = refl;
       log_form = refl;
-      usual = (refl, refl, refl);
+      usual = (refl, refl, refl, refl);
     }
 
 -- what the parser makes of the words of `serve` with a status file and a port
@@ -655,5 +681,5 @@ serves_status config path port plain also third =
       of = refl;
       status = refl;
       status_port = refl;
-      usual = (refl, refl, refl);
+      usual = (refl, refl, refl, refl);
     }

@@ -34,16 +34,18 @@ one_stated form (Some text) None m is also = absurd is
 one_stated form (Some text) (Some n) None is also = absurd also
 one_stated form (Some text) (Some n) (Some m) is also = ap Some (sym is.1 ∙ also.1)
 
-abbrev timed : ℕ → ℕ → ℕ → Patience
-timed login idle delay = record { login_timeout = login; idle_timeout = idle; login_delay = delay }
+abbrev timed : ℕ → ℕ → ℕ → ℕ → Patience
+timed login idle delay drain = record { login_timeout = login; idle_timeout = idle; login_delay = delay; drain_timeout = drain }
 
 pub one_patience : (rows : List Row) (p q : Patience) → IsPatienceIn rows p → IsPatienceIn rows q → p ≡ q
 one_patience rows p q is also =
     let login = one_number Seconds _ (first_of (codes "login-timeout") rows) _ _ is.0 also.0 in
     let idle = one_number Seconds _ (first_of (codes "idle-timeout") rows) _ _ is.1 also.1 in
     let delay = one_number Seconds _ (first_of (codes "login-delay") rows) _ _ is.2 also.2 in
-    ap (λ (n : ℕ). timed n p.idle_timeout p.login_delay) login
-    ∙ (ap (λ (n : ℕ). timed q.login_timeout n p.login_delay) idle ∙ ap (λ (n : ℕ). timed q.login_timeout q.idle_timeout n) delay)
+    let drain = one_number Seconds _ (first_of (codes "drain-seconds") rows) _ _ is.3 also.3 in
+    ap (λ (n : ℕ). timed n p.idle_timeout p.login_delay p.drain_timeout) login
+    ∙ (ap (λ (n : ℕ). timed q.login_timeout n p.login_delay p.drain_timeout) idle
+    ∙ (ap (λ (n : ℕ). timed q.login_timeout q.idle_timeout n p.drain_timeout) delay ∙ ap (λ (n : ℕ). timed q.login_timeout q.idle_timeout q.login_delay n) drain))
 
 pub one_port : (rows : List Row) (n m : Option ℕ) → IsPortIn rows n → IsPortIn rows m → n ≡ m
 one_port rows n m is also = one_stated Port (first_of (codes "status-port") rows) n m is also
@@ -58,7 +60,7 @@ stated_as form default option rows stated n is of = subst (λ (o : Option (List 
 -- no number is stated
 pub usual : (rows : List Row) → AreUnstated rows → IsPatienceIn rows usual_patience
 usual rows none =
-    (stated_as Seconds _ _ rows None _ none.0 refl, stated_as Seconds _ _ rows None _ none.1 refl, stated_as Seconds _ _ rows None _ none.2 refl)
+    (stated_as Seconds _ _ rows None _ none.0 refl, stated_as Seconds _ _ rows None _ none.1 refl, stated_as Seconds _ _ rows None _ none.2 refl, stated_as Seconds _ _ rows None _ none.3 refl)
 
 pub no_port : (rows : List Row) → first_of (codes "status-port") rows ≡ None → IsPortIn rows None
 no_port rows none = subst (λ (o : Option (List ℕ)). IsStated Port o None) (sym none) tt
@@ -67,10 +69,11 @@ pub usual_lines : (rows : List Row) → first_of (codes "rows") rows ≡ None �
 usual_lines rows none = stated_as Lines ROWS (codes "rows") rows None ROWS none refl
 
 -- these numbers are stated
-pub patient : (rows : List Row) (p : Patience) (first second third : List ℕ) → first_of (codes "login-timeout") rows ≡ Some first → first_of (codes "idle-timeout") rows ≡ Some second
-    → first_of (codes "login-delay") rows ≡ Some third → IsSeconds first p.login_timeout → IsSeconds second p.idle_timeout → IsSeconds third p.login_delay → IsPatienceIn rows p
-patient rows p first second third login idle delay one two three =
-    (stated_as Seconds _ _ rows (Some first) _ login one, stated_as Seconds _ _ rows (Some second) _ idle two, stated_as Seconds _ _ rows (Some third) _ delay three)
+pub patient : (rows : List Row) (p : Patience) (first second third fourth : List ℕ) → first_of (codes "login-timeout") rows ≡ Some first → first_of (codes "idle-timeout") rows ≡ Some second
+    → first_of (codes "login-delay") rows ≡ Some third → first_of (codes "drain-seconds") rows ≡ Some fourth → IsSeconds first p.login_timeout → IsSeconds second p.idle_timeout
+    → IsSeconds third p.login_delay → IsSeconds fourth p.drain_timeout → IsPatienceIn rows p
+patient rows p first second third fourth login idle delay drain one two three four =
+    (stated_as Seconds _ _ rows (Some first) _ login one, stated_as Seconds _ _ rows (Some second) _ idle two, stated_as Seconds _ _ rows (Some third) _ delay three, stated_as Seconds _ _ rows (Some fourth) _ drain four)
 
 pub some_port : (rows : List Row) (text : List ℕ) (n : ℕ) → first_of (codes "status-port") rows ≡ Some text → IsNumber Port text n → IsPortIn rows (Some n)
 some_port rows text n is number = subst (λ (o : Option (List ℕ)). IsStated Port o (Some n)) (sym is) number
@@ -95,7 +98,8 @@ refused_port rows (Some n) (Refused text is_help) is without =
 untimed : (rows : List Row) (p : Patience) (fault : WordsFault) → IsPatienceIn rows p → IsUntimedIn rows fault → fault ≡ Memory
 untimed rows p fault is (inl one) = refused_by Seconds _ _ rows _ fault is.0 one
 untimed rows p fault is (inr (inl one)) = refused_by Seconds _ _ rows _ fault is.1 one
-untimed rows p fault is (inr (inr one)) = refused_by Seconds _ _ rows _ fault is.2 one
+untimed rows p fault is (inr (inr (inl one))) = refused_by Seconds _ _ rows _ fault is.2 one
+untimed rows p fault is (inr (inr (inr one))) = refused_by Seconds _ _ rows _ fault is.3 one
 
 unnumbered : (rows : List Row) (p : Patience) (port : Option ℕ) (fault : WordsFault) → IsPatienceIn rows p → IsPortIn rows port → IsServeUnnumberedIn rows fault → fault ≡ Memory
 unnumbered rows p port fault is also (inl one) = untimed rows p fault is one

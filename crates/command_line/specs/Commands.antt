@@ -45,20 +45,28 @@ migrate = with_rule (bare (codes "migrate")) (file_rule (codes "CONFIG"))
 abbrev pub script : App
 script = with_rule (bare (codes "script")) (file_rule (codes "CONFIG"))
 
--- the command with the options `--login-timeout`, `--idle-timeout` and `--login-delay`
+-- the command with the options `--login-timeout`, `--idle-timeout`, `--login-delay` and
+-- `--drain-seconds`
 abbrev pub with_patience : App → App
 with_patience app =
     with_rule
     (with_rule
+    (with_rule
     (with_rule app
     (value_rule (codes "login-timeout")))
     (value_rule (codes "idle-timeout")))
-    (value_rule (codes "login-delay"))
+    (value_rule (codes "login-delay")))
+    (value_rule (codes "drain-seconds"))
 
--- the command with the options `--stop-file` and `--ready-file`
+-- the command with the options `--stop-file`, `--ready-file` and `--drain-file`
 abbrev pub with_files : App → App
 with_files app =
-    with_rule (with_rule app (value_rule (codes "stop-file"))) (value_rule (codes "ready-file"))
+    with_rule
+    (with_rule
+    (with_rule app
+    (value_rule (codes "stop-file")))
+    (value_rule (codes "ready-file")))
+    (value_rule (codes "drain-file"))
 
 -- the command with the options `--transfer-log` and `--log-form`
 abbrev pub with_logs : App → App
@@ -70,9 +78,9 @@ abbrev pub with_status : App → App
 with_status app =
     with_rule (with_rule app (value_rule (codes "status"))) (value_rule (codes "status-port"))
 
--- `serve CONFIG [--stop-file PATH] [--ready-file PATH] [--transfer-log PATH] [--log-form FORM]
--- [--status PATH] [--status-port PORT]
--- [--login-timeout SECONDS] [--idle-timeout SECONDS] [--login-delay SECONDS]`
+-- `serve CONFIG [--stop-file PATH] [--ready-file PATH] [--drain-file PATH] [--transfer-log PATH]
+-- [--log-form FORM] [--status PATH] [--status-port PORT] [--login-timeout SECONDS]
+-- [--idle-timeout SECONDS] [--login-delay SECONDS] [--drain-seconds SECONDS]`
 abbrev pub serve : App
 serve =
     with_patience

@@ -188,7 +188,7 @@ fn with_flag<'a>(
     Ok(command)
 }
 
-/// The command with an optional stop file and an optional ready file, given by their paths.
+/// The command with an optional stop file, ready file and drain file, given by their paths.
 fn with_files<'a>(alloc: Global, command: Command<'a>) -> Result<Command<'a>, AllocError>
     ensures rules { IfOk result (λ c. app_of c ≡ with_files (app_of command.entry)) }
 {
@@ -196,8 +196,11 @@ fn with_files<'a>(alloc: Global, command: Command<'a>) -> Result<Command<'a>, Al
         "File that is not there yet: once it appears, sessions are told 421 and the server ends";
     let ready =
         "File that is not there yet: the server makes it once clients may connect, and removes it at its end";
+    let drain =
+        "File that is not there yet: once it appears, nobody is admitted, and the server ends after the transfers that run";
     let with_stop = with_value(alloc, command, "stop-file", "PATH", stop)?;
-    let command = with_value(alloc, with_stop, "ready-file", "PATH", ready)?;
+    let with_ready = with_value(alloc, with_stop, "ready-file", "PATH", ready)?;
+    let command = with_value(alloc, with_ready, "drain-file", "PATH", drain)?;
     Ok(command)
 }
 
@@ -236,7 +239,10 @@ fn with_patience<'a>(alloc: Global, command: Command<'a>) -> Result<Command<'a>,
     let delay = "Seconds before a wrong password is answered [default: 1]";
     let with_login = with_value(alloc, command, "login-timeout", "SECONDS", login)?;
     let with_idle = with_value(alloc, with_login, "idle-timeout", "SECONDS", idle)?;
-    let command = with_value(alloc, with_idle, "login-delay", "SECONDS", delay)?;
+    let drain =
+        "Seconds that the transfers which run have once the drain file is there; 0 is no limit [default: 0]";
+    let with_delay = with_value(alloc, with_idle, "login-delay", "SECONDS", delay)?;
+    let command = with_value(alloc, with_delay, "drain-seconds", "SECONDS", drain)?;
     Ok(command)
 }
 

@@ -20,6 +20,9 @@ pub const IDLE_TIMEOUT: u32 = 0;
 /// Seconds before the reply to a wrong password, unless the words state others.
 pub const LOGIN_DELAY: u32 = 1;
 
+/// Seconds that a server which drains has for the transfers that run, unless the words state others: it has no limit.
+pub const DRAIN_TIMEOUT: u32 = 0;
+
 /// The patience of words that state none.
 pub(crate) fn usual_patience() -> Patience
     ensures usual { result ≡ the_usual }
@@ -28,6 +31,7 @@ pub(crate) fn usual_patience() -> Patience
         login_timeout: LOGIN_TIMEOUT,
         idle_timeout: IDLE_TIMEOUT,
         login_delay: LOGIN_DELAY,
+        drain_timeout: DRAIN_TIMEOUT,
     }
 }
 
@@ -54,9 +58,11 @@ pub(crate) fn patience_of(alloc: Global, inner: &ArgMatches<'_>) -> Result<Patie
     let login_timeout = seconds_of(alloc, inner, "login-timeout", LOGIN_TIMEOUT)?;
     let idle_timeout = seconds_of(alloc, inner, "idle-timeout", IDLE_TIMEOUT)?;
     let login_delay = seconds_of(alloc, inner, "login-delay", LOGIN_DELAY)?;
+    let drain_timeout = seconds_of(alloc, inner, "drain-seconds", DRAIN_TIMEOUT)?;
     Ok(Patience {
         login_timeout,
         idle_timeout,
         login_delay,
+        drain_timeout,
     })
 }

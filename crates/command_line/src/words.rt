@@ -32,6 +32,8 @@ pub struct ServeFiles<'a> {
     pub stop_file: Option<&'a str>,
     /// The server makes a file at this path once clients may connect, and removes it at its end.
     pub ready_file: Option<&'a str>,
+    /// The server drains once there is a file at this path.
+    pub drain_file: Option<&'a str>,
     /// The server appends a line for each transfer of a file to the file at this path.
     pub transfer_log: Option<&'a str>,
     /// The name of the form of its notes.
@@ -192,6 +194,7 @@ fn given<'a>(name: &str, inner: &ArgMatches<'a>, numbers: Numbers) -> Option<Wor
             files: ServeFiles {
                 stop_file: word_of(inner, "stop-file"),
                 ready_file: word_of(inner, "ready-file"),
+                drain_file: word_of(inner, "drain-file"),
                 transfer_log: word_of(inner, "transfer-log"),
                 log_form: word_of(inner, "log-form"),
                 status: word_of(inner, "status"),
@@ -328,10 +331,10 @@ pub fn read_words<'a>(alloc: Global, words: &'a [&'a str]) -> Result<Words<'a>, 
         → IsPlainWord path → IsPortText port n
         → map (λ s. s.now) words.now ≡ status_words word path port
         → GivesOrMemory (IsStatusBy word (Some path) (Some n)) result }
-    ensures serve_timed { (word first second third : List ℕ) (p : Patience) → IsPlainWord word
-        → IsSeconds first p.login_timeout → IsSeconds second p.idle_timeout
-        → IsSeconds third p.login_delay
-        → map (λ s. s.now) words.now ≡ timed_words word first second third
+    ensures serve_timed { (word first second third fourth : List ℕ) (p : Patience)
+        → IsPlainWord word → IsSeconds first p.login_timeout → IsSeconds second p.idle_timeout
+        → IsSeconds third p.login_delay → IsSeconds fourth p.drain_timeout
+        → map (λ s. s.now) words.now ≡ timed_words word first second third fourth
         → GivesOrMemory (IsServe word None None p) result }
     ensures plan { (word transfers : List ℕ) → IsPlainWord word → IsPlainWord transfers
         → map (λ s. s.now) words.now ≡ codes "plan" ∷ word ∷ transfers ∷ []

@@ -40,35 +40,56 @@ fn check_changed<S: Store<Global>>(
     holds(rt, reads(&mut grows) == Ok(0));
 }
 
-/// A read after the first 2^32 octets of a file.
-const FAR: &str = "append /s abc
-read:4294967296 /s = abc
-read:4294967298 /s = c";
+/// A file of this length, and calls on it: after its first 2^32 octets, and calls after which it is shorter, without a
+/// tail of what it had.
+static LONG: [(u64, &str); 5] = [
+    (
+        4_294_967_296,
+        "append /s abc\nread:4294967296 /s = abc\nread:4294967298 /s = c\nsize /s = 4294967299",
+    ),
+    (
+        4_294_967_296,
+        "new /s abc\nsize /s = 3\nread /s = abc\nread:4 /s = past the end",
+    ),
+    (
+        4_294_967_296,
+        "at:70000 /s abc\nsize /s = 70003\nread:70000 /s = abc",
+    ),
+    (70_000, "new /s abc\nsize /s = 3\nread /s = abc"),
+    (
+        70_000,
+        "at:66000 /s abc\nsize /s = 66003\nread:66001 /s = bc",
+    ),
+];
 
-fn check_far<R>(rt: &R, folder: &str)
+fn check_long<R>(rt: &R, folder: &str)
 where
     R: Abort + Files + AllocGlobal + Copy + Drop,
     R::File: AsRawFd,
 {
     let place = place_in(rt, folder, "s");
-    let file = fs::create(rt, place.as_str()).expect(rt, "a file");
-    file.set_len(4_294_967_296).expect(rt, "a long file");
-    comes_out_in(rt, *rt, folder, FAR);
+    for (length, script) in &LONG {
+        let file = fs::create(rt, place.as_str()).expect(rt, "a file");
+        file.set_len(*length).expect(rt, "a long file");
+        comes_out_in(rt, *rt, folder, script);
+    }
 }
 
-/// A thousand files are listed.
+/// Files of one directory, of which each is listed.
+const MANY: u32 = 5000;
+
 fn check_many<R>(rt: &R, folder: &str)
 where
     R: Abort + Files + AllocGlobal + Copy + Drop,
     R::File: AsRawFd,
 {
-    for number in 0..1000u32 {
+    for number in 0..MANY {
         let name = format!(in rt.alloc(); "{number}").expect(rt, "memory");
         fs::write(rt, place_in(rt, folder, name.as_str()).as_str(), "").expect(rt, "a file");
     }
     let mut store = DirStore::new(*rt, folder, no_error(rt)).expect(rt, folder);
     let listed = store.list(&VPath::root(rt.alloc())).expect(rt, folder);
-    holds(rt, listed.len() == 1000);
+    holds(rt, listed.len() == MANY as usize);
 }
 
 fn check_files<R>(rt: &R, folder: &str)
@@ -82,7 +103,7 @@ where
     let place = place_in(rt, folder, "c");
     let mut store = DirStore::new(*rt, folder, no_error(rt)).expect(rt, folder);
     check_changed(rt, &mut store, &file, place.as_str());
-    check_far(rt, folder);
+    check_long(rt, folder);
 }
 
 fn check<R>(rt: &R)

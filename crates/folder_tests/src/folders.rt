@@ -43,6 +43,27 @@ size /n = 0
 read /f = abc
 faults = 0";
 
+/// A directory is not moved onto a file that appears at its new name.
+const LATE_FILE: &str = "make /d
+new /d/f abc
+rename /d /n = already exists
+size /d/f = 3
+remove-file /n
+faults = 0";
+
+/// A directory is not moved onto an empty directory that appears at its new name, which a rename of the machine would
+/// replace; nor is a file.
+const LATE_EMPTY: &str = "make /d
+new /d/f abc
+rename /d /n = already exists
+size /d/f = 3
+size /n/f = not found
+remove-directory /n
+rename /d/f /n = already exists
+read /d/f = abc
+remove-directory /n
+faults = 0";
+
 /// Carries out a script in a fresh folder of a machine.
 fn comes_out_afresh<M>(rt: &(impl Abort + Env + Files + AllocGlobal), machine: M, script: &str)
 where
@@ -56,11 +77,13 @@ where
 
 static SCRIPTS: [&str; 3] = [FILES, DIRECTORIES, RENAMES];
 
-static ACTS: [(Act, &str); 4] = [
+static ACTS: [(Act, &str); 6] = [
     (Act::KeepDirectories, BY_NAMES),
     (Act::HideProc, BY_NAMES),
     (Act::KeepNames, KEPT_NAMES),
     (Act::ComeLate, LATE_COMERS),
+    (Act::ComeLate, LATE_FILE),
+    (Act::ComeLateEmpty, LATE_EMPTY),
 ];
 
 fn check_fresh_folders<R>(rt: &R)
@@ -76,8 +99,14 @@ where
     }
 }
 
-/// Two of these names cannot be named by a path.
-static NAMES: [&str; 4] = ["b", "a", "t\tb", "x\u{7f}"];
+/// Two of these names cannot be named by a path. Those that begin with a dot are listed as any other.
+static NAMES: [&str; 9] = [
+    "b", "a", "t\tb", "x\u{7f}", ".b", "...", "-c", "a~", "\u{e9}",
+];
+
+/// The others, by their octets: `-` is 45, a dot 46, `~` 126, and the first octet of the last one 195.
+const LISTED: &str = "names / = -c ... .b a a~ b \u{e9}
+faults = 0";
 
 /// Their metadata; a fault of one is a fault of the listing.
 static TOLD: [(Act, &str); 2] = [
@@ -99,7 +128,7 @@ where
     for name in &NAMES {
         make_file(rt, folder.as_str(), name);
     }
-    comes_out_in(rt, *rt, folder.as_str(), "names / = a b\nfaults = 0");
+    comes_out_in(rt, *rt, folder.as_str(), LISTED);
     for (act, script) in &TOLD {
         comes_out_in(rt, acting(*rt, *act), folder.as_str(), script);
     }

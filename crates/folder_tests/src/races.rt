@@ -9,7 +9,8 @@ use std::os::fd::AsRawFd;
 use std::process::Abort;
 use std::rt::Files;
 
-/// Calls on a folder with a link to the folder above, `out`, and one to the file `kept` there, `k`.
+/// Calls on a folder with a link to the folder above, `out`, one to the file `kept` there, `k`, and one to the name `made`
+/// there, `m`, which no entry has.
 const LINKS: &str = "read /out = not found
 remove-file /out = not found
 remove-directory /out = not found
@@ -20,10 +21,20 @@ rename /k /n = not found
 read /out/kept = not found
 remove-file /out/kept = not found
 new /k x = already exists
+append /k x = already exists
+at:0 /k x = not found
 make /k = already exists
+new /m x = already exists
+append /m x = already exists
+make /m = already exists
 new /out/x x = not found
+append /out/x x = not found
 make /out/x = not found
-names / =
+make /e
+rename /e /k = already exists
+rename /e /m = already exists
+rename /e /out/x = not found
+names / = e
 faults = 0";
 
 fn ask_of_links<R>(rt: &R, folder: &str)
@@ -31,10 +42,10 @@ where
     R: Abort + Files + AllocGlobal + Copy + Drop,
     R::File: AsRawFd,
 {
-    let out = place_in(rt, folder, "out");
-    rt.symlink("..", out.as_str()).expect(rt, "a link");
-    let kept = place_in(rt, folder, "k");
-    rt.symlink("../kept", kept.as_str()).expect(rt, "a link");
+    for (name, target) in [("out", ".."), ("k", "../kept"), ("m", "../made")] {
+        let place = place_in(rt, folder, name);
+        rt.symlink(target, place.as_str()).expect(rt, "a link");
+    }
     comes_out_in(rt, *rt, folder, LINKS);
 }
 
@@ -83,6 +94,7 @@ where
     open_late(rt, folder.as_str(), Act::Remove);
     open_late(rt, folder.as_str(), Act::Link);
     holds(rt, holds_text(rt, above.as_str(), "kept", "kept"));
+    holds(rt, !stands_in(rt, above.as_str(), "made"));
     take_away(rt, above.as_str());
 }
 

@@ -30,6 +30,8 @@ pub(crate) enum Act {
     HideFirst,
     /// It makes a file called `n` just after that name was checked.
     ComeLate,
+    /// It makes an empty directory called `n` at that time.
+    ComeLateEmpty,
     /// The machine opens no directory.
     KeepDirectories,
     /// The machine has no `/proc`.
@@ -77,6 +79,20 @@ impl<R: Files> Racing<'_, R> {
             return self.swap();
         }
         Ok(())
+    }
+
+    /// Makes an entry at a path just after it was checked.
+    fn come_late(&self, path: &str) -> io::Result<()> {
+        match self.act {
+            Act::ComeLate => {
+                let mut how = OpenOptions::new();
+                how.write(true).create_new(true);
+                let _made = self.rt.open_file(&how, path)?;
+                Ok(())
+            }
+            Act::ComeLateEmpty => self.rt.create_dir(path),
+            _ => Ok(()),
+        }
     }
 }
 
@@ -155,10 +171,8 @@ impl<R: Files> Files for Racing<'_, R> {
         }
         self.before(path)?;
         let told = self.rt.symlink_metadata(path);
-        if matches!(&self.act, Act::ComeLate) && path.ends_with("/n") && told.is_err() {
-            let mut how = OpenOptions::new();
-            how.write(true).create_new(true);
-            let _made = self.rt.open_file(&how, path)?;
+        if path.ends_with("/n") && told.is_err() {
+            self.come_late(path)?;
         }
         told
     }

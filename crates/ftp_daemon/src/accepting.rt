@@ -39,6 +39,7 @@ fn refusal(why: NotServed) -> &'static [u8] {
         }
         NotServed::NotAdmitted(AdmitFault::Memory) => b"421 Out of memory\r\n",
         NotServed::NoThread => b"421 No thread for a session\r\n",
+        NotServed::Ending => b"421 Server is ending\r\n",
     }
 }
 
@@ -161,7 +162,7 @@ where
     if is_due { Some(now) } else { reported }
 }
 
-// Admits a connection, or refuses it with the reason.
+// Admits a connection, unless the server drains, or refuses it with the reason.
 fn admit<R, S, H, B>(
     rt: &R,
     house: &House<S, H, B>,
@@ -175,6 +176,10 @@ where
     B: PartsName,
 {
     let peer = octets_of(from);
+    if house.ending.has_begun(ShutdownStage::Drain) {
+        refuse(rt, house, stream, peer, NotServed::Ending);
+        return None;
+    }
     let admitted = house.registry.lock(rt).admit(peer);
     match admitted {
         Ok(key) => arrive(rt, house, stream, peer, key),

@@ -13,6 +13,7 @@
 
 mod accepting;
 mod crew;
+mod draining;
 mod lanes;
 mod listening;
 mod opening;

@@ -1,5 +1,6 @@
 //! The signs of a server's owner while it serves.
 
+use crate::draining::{Due, next_due};
 use data_sockets::socket_address;
 use event_word::{has_passed, micros};
 use grant_ledger::MAX_LANES;
@@ -7,7 +8,9 @@ use handler_hooks::Hooks;
 use lane_rounds::{Turns, look};
 use lent_parts::PartsName;
 use round_tally::Tallies;
-use server_house::{House, LaneLook, LaneSign, ServerHooks, ServerLook, ShutdownStage};
+use server_house::{
+    House, LaneLook, LaneSign, ServerEvent, ServerHooks, ServerLook, ShutdownStage,
+};
 use std::alloc::Global;
 use std::net::{Net, TcpListener, TcpStream};
 use std::sync::{Mutex, Wait};
@@ -15,7 +18,7 @@ use std::thread;
 use std::time::{Clock, Duration};
 use virtual_tree::Store;
 
-/// The interval between two checks of the sign, in milliseconds.
+/// The interval between two checks of the signs, in milliseconds.
 const LOOK: u64 = 100;
 
 /// The time-out for waking the thread that accepts, in milliseconds.
@@ -24,12 +27,16 @@ const WAKING: u64 = 500;
 /// The time between two looks at what goes on, in microseconds.
 const SECOND: u64 = 1_000_000;
 
-/// The signs of a server's owner: that the server is to end, such as a file that appears, and that looks at what goes on
-/// are wanted. A thread of the server sees to them.
+/// The signs of a server's owner: that the server is to end, such as a file that appears, or to drain, and that looks at
+/// what goes on are wanted. A thread of the server sees to them.
 pub trait OwnerSigns {
     /// Returns whether the server is to end. It is checked before the server begins, and ten times a second while it
     /// serves.
     fn is_up(&self) -> bool;
+
+    /// Returns whether the server is to drain: it admits no more clients, each session ends once no transfer of it runs,
+    /// and then the server ends. It is checked as often.
+    fn is_to_drain(&self) -> bool;
 
     /// Returns whether the handler is to be shown what goes on, once a second.
     fn wants_looks(&self) -> bool;
@@ -41,7 +48,7 @@ pub trait OwnerSigns {
 /// Returns whether the server is to end by its owner's signs, if there are any.
 pub(crate) fn is_up<P: OwnerSigns>(signs: &Option<P>) -> bool {
     match signs {
-        Some(signs) => signs.is_up(),
+        Some(signs) => signs.is_up() || signs.is_to_drain(),
         None => false,
     }
 }
@@ -96,8 +103,49 @@ where
     house.handler.lock(rt).on_look(&shown);
 }
 
-/// Checks the signs until the sessions are to end, and shows the handler what goes on, if that is wanted. If the server is
-/// to end, ends the sessions, and wakes the thread that accepts.
+// Ends the sessions, and wakes the thread that accepts.
+fn end<R, S, H, B>(rt: &R, house: &House<S, H, B>)
+where
+    R: Wait + Clock + Net<Listener = TcpListener, Stream = TcpStream>,
+    S: Store<Global>,
+    H: Hooks,
+    B: PartsName,
+{
+    house.ending.begin(ShutdownStage::Sessions);
+    wake(rt, house);
+}
+
+// Begins what is due, with this number of clients. Returns whether the sessions are to end.
+fn begin<R, S, H, B>(rt: &R, house: &House<S, H, B>, due: Due, clients: usize) -> bool
+where
+    R: Wait + Clock + Net<Listener = TcpListener, Stream = TcpStream>,
+    S: Store<Global>,
+    H: ServerHooks,
+    B: PartsName,
+{
+    let clients = clients as u64;
+    match due {
+        Due::Nothing => return false,
+        Due::Drain => {
+            house.ending.begin(ShutdownStage::Drain);
+            house
+                .handler
+                .lock(rt)
+                .on_server(ServerEvent::Drains(clients));
+            return false;
+        }
+        Due::End => {}
+        Due::Cut => house
+            .handler
+            .lock(rt)
+            .on_server(ServerEvent::DrainTimedOut(clients)),
+    }
+    end(rt, house);
+    true
+}
+
+/// Checks the signs until the sessions are to end, and shows the handler what goes on, if that is wanted. Drains the
+/// server, or ends its sessions, as is due.
 pub(crate) fn watch<R, S, H, B, P>(
     rt: &R,
     house: &House<S, H, B>,
@@ -112,16 +160,29 @@ where
     P: OwnerSigns,
 {
     let mut shown = micros(rt);
+    let mut drained = None;
     for _ in rt.forever() {
         if house.ending.has_begun(ShutdownStage::Sessions) {
             return;
         }
-        if signs.is_up() {
-            house.ending.begin(ShutdownStage::Sessions);
-            wake(rt, house);
+        let now = micros(rt);
+        let is_to_drain = drained.is_none() && signs.is_to_drain();
+        let clients = house.registry.lock(rt).count();
+        let next = next_due(
+            signs.is_up(),
+            is_to_drain,
+            drained,
+            clients,
+            now,
+            house.patience,
+        );
+        if next == Due::Drain {
+            drained = Some(now);
+        }
+        if begin(rt, house, next, clients) {
             return;
         }
-        if signs.wants_looks() && has_passed(shown, micros(rt), SECOND) {
+        if signs.wants_looks() && has_passed(shown, now, SECOND) {
             shown = shown.saturating_add(SECOND);
             show(rt, house, turns);
             signs.looked();

@@ -19,6 +19,8 @@ pub(crate) struct AskedService {
     pub warnings: String,
     /// The path of the stop file, if any.
     pub stop_file: Option<String>,
+    /// The path of the drain file, if any.
+    pub drain_file: Option<String>,
     /// The path of the ready file, if any.
     pub ready_file: Option<String>,
     /// The path of the transfer log, if any.
@@ -83,6 +85,7 @@ impl<W: TextWriter> Server<W> for Asked {
         _output: &mut W,
     ) -> Result<(), ServeFault> {
         let stop_file = copied(alloc, files.stop_file)?;
+        let drain_file = copied(alloc, files.drain_file)?;
         let ready_file = copied(alloc, files.ready_file)?;
         let transfer_log = copied(alloc, files.transfer_log)?;
         let log_form = copied(alloc, files.log_form)?;
@@ -92,6 +95,7 @@ impl<W: TextWriter> Server<W> for Asked {
             config,
             warnings,
             stop_file,
+            drain_file,
             ready_file,
             transfer_log,
             log_form,

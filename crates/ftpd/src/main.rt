@@ -9,9 +9,9 @@ mod machine_files;
 mod page_thread;
 mod ready_file;
 mod serving;
+mod sign_file;
 mod starting;
 mod status_file;
-mod stop_file;
 mod watched_file;
 
 use asked::Asked;

@@ -266,6 +266,7 @@ where
         warnings,
         form,
         stop,
+        drain,
         is_logged,
         log,
         status,
@@ -291,6 +292,7 @@ where
     let signs = MachineSigns {
         rt: *rt,
         stop,
+        drain,
         file: written,
         cell: watched,
     };

@@ -4,8 +4,8 @@ use crate::asked::AskedService;
 use crate::log_file::LogFile;
 use crate::page_thread::PageSocket;
 use crate::ready_file::MachineReadyFile;
+use crate::sign_file::SignFile;
 use crate::status_file::StatusFile;
-use crate::stop_file::StopFile;
 use ftp_daemon::{Patience, ServeFault};
 use ftpd_program::StartFault;
 use line_queue::LogForm;
@@ -19,7 +19,8 @@ pub(crate) struct Means {
     pub config: Config,
     pub warnings: String,
     pub form: LogForm,
-    pub stop: Option<StopFile>,
+    pub stop: Option<SignFile>,
+    pub drain: Option<SignFile>,
     pub is_logged: bool,
     pub log: LogFile,
     pub status: Option<StatusFile>,
@@ -91,12 +92,11 @@ fn hindrance_at(machine: &HostRuntime, path: &str) -> Option<Hindrance> {
     }
 }
 
-/// Returns the stop file at a path. `Err` if there is something at the path, or if a file there could not be noticed.
-fn stop_at(machine: &HostRuntime, path: String) -> Result<StopFile, StartFault> {
+/// Returns the sign at a path. `Err` is the reason for which no file there could be noticed, with the path.
+fn sign_at(machine: &HostRuntime, path: String) -> Result<SignFile, (String, Hindrance)> {
     match hindrance_at(machine, path.as_str()) {
-        Some(Hindrance::There) => Err(StartFault::StopFileThere { path }),
-        Some(Hindrance::Told(reason)) => Err(StartFault::StopFileUnseen { path, reason }),
-        None => Ok(StopFile {
+        Some(hindrance) => Err((path, hindrance)),
+        None => Ok(SignFile {
             machine: *machine,
             path,
         }),
@@ -106,13 +106,38 @@ fn stop_at(machine: &HostRuntime, path: String) -> Result<StopFile, StartFault> 
 fn stop_if_any(
     machine: &HostRuntime,
     path: Option<String>,
-) -> Result<Option<StopFile>, StartFault> {
-    match path {
-        Some(path) => match stop_at(machine, path) {
-            Ok(stop) => Ok(Some(stop)),
-            Err(start) => Err(start),
-        },
-        None => Ok(None),
+) -> Result<Option<SignFile>, StartFault> {
+    let Some(path) = path else {
+        return Ok(None);
+    };
+    match sign_at(machine, path) {
+        Ok(stop) => Ok(Some(stop)),
+        Err(found) => {
+            let (path, hindrance) = found;
+            match hindrance {
+                Hindrance::There => Err(StartFault::StopFileThere { path }),
+                Hindrance::Told(reason) => Err(StartFault::StopFileUnseen { path, reason }),
+            }
+        }
+    }
+}
+
+fn drain_if_any(
+    machine: &HostRuntime,
+    path: Option<String>,
+) -> Result<Option<SignFile>, StartFault> {
+    let Some(path) = path else {
+        return Ok(None);
+    };
+    match sign_at(machine, path) {
+        Ok(drain) => Ok(Some(drain)),
+        Err(found) => {
+            let (path, hindrance) = found;
+            match hindrance {
+                Hindrance::There => Err(StartFault::DrainFileThere { path }),
+                Hindrance::Told(reason) => Err(StartFault::DrainFileUnseen { path, reason }),
+            }
+        }
     }
 }
 
@@ -209,6 +234,14 @@ where
     }
 }
 
+/// A part of a service, or the fault of its start.
+fn part<T>(made: Result<T, StartFault>, fault: ServeFault) -> Result<T, Unprepared> {
+    match made {
+        Ok(part) => Ok(part),
+        Err(start) => Err(not_prepared(fault, start)),
+    }
+}
+
 /// Prepares a service. `Err` says what could not be had.
 pub(crate) fn prepare<R>(
     rt: &R,
@@ -222,6 +255,7 @@ where
         config,
         warnings,
         stop_file,
+        drain_file,
         ready_file,
         transfer_log,
         log_form,
@@ -229,43 +263,24 @@ where
         status_port,
         patience,
     } = service;
-    let form = match form_named(log_form) {
-        Ok(form) => form,
-        Err(start) => return Err(not_prepared(ServeFault::LogForm, start)),
-    };
-    let stop = match stop_if_any(machine, stop_file) {
-        Ok(stop) => stop,
-        Err(start) => return Err(not_prepared(ServeFault::Stopped, start)),
-    };
-    let ready = match ready_if_any(machine, ready_file) {
-        Ok(ready) => ready,
-        Err(start) => return Err(not_prepared(ServeFault::ReadyFile, start)),
-    };
+    let form = part(form_named(log_form), ServeFault::LogForm)?;
+    let stop = part(stop_if_any(machine, stop_file), ServeFault::Stopped)?;
+    let drain = part(drain_if_any(machine, drain_file), ServeFault::Stopped)?;
+    let ready = part(ready_if_any(machine, ready_file), ServeFault::ReadyFile)?;
     if let Some(start) = folder_fault(machine, &config.store) {
         return Err(not_prepared(ServeFault::Store, start));
     }
-    let status = match status_at(machine, status) {
-        Ok(status) => status,
-        Err(start) => return Err(not_prepared(ServeFault::StatusFile, start)),
-    };
-    let page = match page_at(rt, status_port) {
-        Ok(page) => page,
-        Err(start) => return Err(not_prepared(ServeFault::StatusPort, start)),
-    };
     let is_logged = transfer_log.is_some();
-    let log = match log_at(machine, transfer_log) {
-        Ok(log) => log,
-        Err(start) => return Err(not_prepared(ServeFault::TransferLog, start)),
-    };
     let means = Means {
         config,
         warnings,
         form,
         stop,
+        drain,
         is_logged,
-        log,
-        status,
-        page,
+        status: part(status_at(machine, status), ServeFault::StatusFile)?,
+        page: part(page_at(rt, status_port), ServeFault::StatusPort)?,
+        log: part(log_at(machine, transfer_log), ServeFault::TransferLog)?,
         patience,
     };
     Ok(Prepared { means, ready })

@@ -1,6 +1,6 @@
 //! The file of a server's status, and the signs of the machine.
 
-use crate::stop_file::StopFile;
+use crate::sign_file::{SignFile, is_given};
 use ftp_daemon::OwnerSigns;
 use server_status::status_text;
 use status_keeper::StatusCell;
@@ -66,11 +66,13 @@ impl StatusFile {
     }
 }
 
-/// The signs of the machine: that a server is to end, by a file that appears, and that it is to show what goes on.
+/// The signs of the machine: that a server is to end or to drain, by files that appear, and that it is to show what goes
+/// on.
 #[derive(Drop)]
 pub(crate) struct MachineSigns<R> {
     pub rt: R,
-    pub stop: Option<StopFile>,
+    pub stop: Option<SignFile>,
+    pub drain: Option<SignFile>,
     pub file: Option<Arc<StatusFile>>,
     /// The status, if it is shown at all.
     pub cell: Option<Arc<StatusCell>>,
@@ -78,10 +80,11 @@ pub(crate) struct MachineSigns<R> {
 
 impl<R: Wait + AllocGlobal> OwnerSigns for MachineSigns<R> {
     fn is_up(&self) -> bool {
-        match &self.stop {
-            Some(stop) => stop.is_there(),
-            None => false,
-        }
+        is_given(&self.stop)
+    }
+
+    fn is_to_drain(&self) -> bool {
+        is_given(&self.drain)
     }
 
     fn wants_looks(&self) -> bool {

@@ -255,10 +255,10 @@ pub fn run_words<'w, O: Opener + Lookout, W: TextWriter, V: Server<W>>(
         → map (λ s. s.now) words.now ≡ ready_words config path ready
         → IsServeEnd (O.Gives files.old config) (O.Shows files.new) config V.Serves
         (Some path) (Some ready) usual_patience (W.contents output.old) (W.contents output.new) result }
-    ensures serve_timed { (config first second third : List ℕ) (p : Patience) → IsPlainWord config
-        → IsSeconds first p.login_timeout → IsSeconds second p.idle_timeout
-        → IsSeconds third p.login_delay
-        → map (λ s. s.now) words.now ≡ timed_words config first second third
+    ensures serve_timed { (config first second third fourth : List ℕ) (p : Patience)
+        → IsPlainWord config → IsSeconds first p.login_timeout → IsSeconds second p.idle_timeout
+        → IsSeconds third p.login_delay → IsSeconds fourth p.drain_timeout
+        → map (λ s. s.now) words.now ≡ timed_words config first second third fourth
         → IsServeEnd (O.Gives files.old config) (O.Shows files.new) config V.Serves
         None None p (W.contents output.old) (W.contents output.new) result }
     ensures plan { (config transfers : List ℕ) → IsPlainWord config → IsPlainWord transfers

@@ -27,7 +27,7 @@ pub enum ServeFault {
     /// Memory ran out.
     #[error("Memory")]
     Memory,
-    /// The stop file was there at the start, or could never be noticed: its folder is not there.
+    /// The stop file, or the drain file, was there at the start, or could never be noticed: its folder is not there.
     #[error("Stopped")]
     Stopped,
     /// The ready file could not be made: it is there already, or the machine reports an error.
@@ -65,7 +65,7 @@ pub trait Server<W: TextWriter> {
     ghost Serves: { Service } = { λ _ _ _ _ _ _ _ _. Unit {0} };
 
     /// Serves clients by a configuration, until it has had its number of sessions, or until a file exists at the path
-    /// of the stop file. The ready file is made once clients may connect, and removed at the end. It waits for a client
+    /// of the stop file; or drains once there is one at that of the drain file. The ready file is made once clients may connect, and removed at the end. It waits for a client
     /// as the patience says. The warnings of the configuration, a line each, are to be noted.
     fn serve(
         &mut self,

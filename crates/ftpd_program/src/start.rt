@@ -14,6 +14,10 @@ pub enum StartFault {
     StopFileThere { path: String },
     /// The stop file of this path could not be noticed, because its folder is not there, or is closed (`Stopped`).
     StopFileUnseen { path: String, reason: io::Error },
+    /// There is something at the path of the drain file (`Stopped`).
+    DrainFileThere { path: String },
+    /// The drain file of this path could not be noticed, because its folder is not there, or is closed (`Stopped`).
+    DrainFileUnseen { path: String, reason: io::Error },
     /// There is something at the path of the ready file (`ReadyFile`).
     ReadyFileThere { path: String },
     /// The ready file of this path could not be made (`ReadyFile`).
@@ -38,11 +42,16 @@ impl fmt::Display for StartFault {
                 }
                 Ok(())
             }
-            StartFault::StopFileThere { path } | StartFault::ReadyFileThere { path } => {
+            StartFault::StopFileThere { path }
+            | StartFault::DrainFileThere { path }
+            | StartFault::ReadyFileThere { path } => {
                 write!(f, "{path} is there already: remove it")
             }
             StartFault::StopFileUnseen { path, reason } => {
                 write!(f, "the stop file {path} could not be noticed: {reason}")
+            }
+            StartFault::DrainFileUnseen { path, reason } => {
+                write!(f, "the drain file {path} could not be noticed: {reason}")
             }
             StartFault::ReadyFileUnmade { path, reason } => {
                 write!(f, "the ready file {path} could not be made: {reason}")

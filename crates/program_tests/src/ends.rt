@@ -13,8 +13,8 @@ pub(crate) enum Given<'t> {
     Whole(&'t str),
     /// At most this number of octets at a time, and then a fault.
     Broken(&'t str, usize),
-    /// Octet by octet, each after an interruption.
-    Interrupted(&'t str),
+    /// Octet by octet, each after this number of interruptions.
+    Interrupted(&'t str, usize),
 }
 
 /// A reader that returns at most `step` and at least one octet at a time, and then ends or fails.
@@ -23,23 +23,44 @@ pub(crate) struct GivenReader<'t> {
     pub rest: &'t [u8],
     step: usize,
     fails: bool,
-    interrupts: bool,
-    is_ready: bool,
+    shy: Shy,
+}
+
+/// The interruptions before each octet, and the number of those that are left before the next one.
+#[derive(Clone, Copy)]
+pub(crate) struct Shy {
+    times: usize,
+    left: usize,
+}
+
+impl Shy {
+    pub fn by(times: usize) -> Shy {
+        Shy { times, left: times }
+    }
+
+    /// Returns whether the next call is interrupted.
+    fn interrupts(&mut self) -> bool {
+        if self.left > 0 {
+            self.left -= 1;
+            return true;
+        }
+        self.left = self.times;
+        false
+    }
 }
 
 impl<'t> Given<'t> {
     pub fn reader(self) -> GivenReader<'t> {
-        let (text, step) = match self {
-            Given::Whole(text) => (text, 65_536),
-            Given::Broken(text, step) => (text, step),
-            Given::Interrupted(text) => (text, 1),
+        let (text, step, times) = match self {
+            Given::Whole(text) => (text, 65_536, 0),
+            Given::Broken(text, step) => (text, step, 0),
+            Given::Interrupted(text, times) => (text, 1, times),
         };
         GivenReader {
             rest: text.as_bytes(),
             step,
             fails: matches!(self, Given::Broken(_, _)),
-            interrupts: matches!(self, Given::Interrupted(_)),
-            is_ready: false,
+            shy: Shy::by(times),
         }
     }
 }
@@ -50,8 +71,7 @@ impl Read for GivenReader<'_> {
     ghost remaining = { λ r. Some r.rest.now };
 
     fn read(&mut self, buffer: &mut [u8]) -> io::Result<usize> {
-        self.is_ready = self.interrupts && !self.is_ready;
-        if self.is_ready {
+        if self.shy.interrupts() {
             return Err(io::Error::from(ErrorKind::Interrupted));
         }
         let most = if self.step == 0 { 1 } else { self.step };
@@ -128,5 +148,44 @@ impl Write for FailingWriter<'_> {
 
     fn flush(&mut self) -> io::Result<()> {
         Ok(())
+    }
+}
+
+/// A writer that takes one octet at a time, each after some interruptions.
+#[derive(Drop)]
+pub(crate) struct ShyWriter<'a> {
+    pub taken: &'a mut Vec<u8>,
+    pub shy: Shy,
+}
+
+impl Write for ShyWriter<'_> {
+    fn write(&mut self, octets: &[u8]) -> io::Result<usize> {
+        if self.shy.interrupts() {
+            return Err(io::Error::from(ErrorKind::Interrupted));
+        }
+        let count = octets.len().min(1);
+        self.taken.extend_from_slice(&octets[..count])?;
+        Ok(count)
+    }
+
+    fn flush(&mut self) -> io::Result<()> {
+        Ok(())
+    }
+}
+
+/// A writer that takes all octets, and whose flush fails.
+#[derive(Drop)]
+pub(crate) struct UnflushedWriter<'a> {
+    pub taken: &'a mut Vec<u8>,
+}
+
+impl Write for UnflushedWriter<'_> {
+    fn write(&mut self, octets: &[u8]) -> io::Result<usize> {
+        self.taken.extend_from_slice(octets)?;
+        Ok(octets.len())
+    }
+
+    fn flush(&mut self) -> io::Result<()> {
+        Err(io::Error::from(ErrorKind::StorageFull))
     }
 }

@@ -21,6 +21,8 @@ pub(crate) struct Noting {
     port: u16,
     /// The last stop file.
     stop_file: Option<String>,
+    /// The last drain file.
+    drain_file: Option<String>,
     /// The last ready file.
     ready_file: Option<String>,
     /// The last transfer log.
@@ -40,6 +42,7 @@ impl Noting {
             calls: 0,
             port: 0,
             stop_file: None,
+            drain_file: None,
             ready_file: None,
             transfer_log: None,
             log_form: None,
@@ -72,6 +75,7 @@ impl<W: TextWriter> Server<W> for Noting {
         self.calls = self.calls.saturating_add(1);
         self.port = config.numbers.port;
         self.stop_file = copied(alloc, files.stop_file);
+        self.drain_file = copied(alloc, files.drain_file);
         self.ready_file = copied(alloc, files.ready_file);
         self.transfer_log = copied(alloc, files.transfer_log);
         self.log_form = copied(alloc, files.log_form);
@@ -128,6 +132,7 @@ fn a_server_is_called(rt: HostRuntime) {
         login_timeout: 60,
         idle_timeout: 0,
         login_delay: 1,
+        drain_timeout: 0,
     };
     holds(&rt, server.patience == Some(usual));
 }
@@ -151,12 +156,15 @@ fn a_server_is_given_its_files(rt: HostRuntime) {
         "stop",
         "--ready-file",
         "ready",
+        "--drain-file",
+        "drain",
     ];
     let ending = served(&rt, &words, SMALL, &mut server, &mut output);
     holds(&rt, ending.status() == 0);
     holds(&rt, server.calls == 1);
     is_path(&rt, &server.stop_file, "stop");
     is_path(&rt, &server.ready_file, "ready");
+    is_path(&rt, &server.drain_file, "drain");
 }
 
 #[test]
@@ -178,7 +186,7 @@ fn a_server_is_given_its_log(rt: HostRuntime) {
 }
 
 /// Faults of a server, and their names.
-static FAULTS: [(ServeFault, &str); 9] = [
+static FAULTS: [(ServeFault, &str); 11] = [
     (ServeFault::Bind, "ftpd: Bind\n"),
     (ServeFault::NoThread, "ftpd: NoThread\n"),
     (ServeFault::WriteFault, "ftpd: WriteFault\n"),
@@ -188,6 +196,8 @@ static FAULTS: [(ServeFault, &str); 9] = [
     (ServeFault::ReadyFile, "ftpd: ReadyFile\n"),
     (ServeFault::TransferLog, "ftpd: TransferLog\n"),
     (ServeFault::LogForm, "ftpd: LogForm\n"),
+    (ServeFault::StatusFile, "ftpd: StatusFile\n"),
+    (ServeFault::StatusPort, "ftpd: StatusPort\n"),
 ];
 
 #[test]
@@ -266,6 +276,29 @@ fn stop_files_are_explained(rt: HostRuntime) {
         ServeFault::Stopped,
         &unseen,
         "the stop file /gone/stop could not be noticed: No such file or directory (os error 2)\nftpd: Stopped\n",
+    );
+}
+
+#[test]
+fn drain_files_are_explained(rt: HostRuntime) {
+    let there = StartFault::DrainFileThere {
+        path: text(&rt, "/run/ftpd/drain"),
+    };
+    starts_not(
+        &rt,
+        ServeFault::Stopped,
+        &there,
+        "/run/ftpd/drain is there already: remove it\nftpd: Stopped\n",
+    );
+    let unseen = StartFault::DrainFileUnseen {
+        path: text(&rt, "/gone/drain"),
+        reason: io::Error::from_raw_os_error(2),
+    };
+    starts_not(
+        &rt,
+        ServeFault::Stopped,
+        &unseen,
+        "the drain file /gone/drain could not be noticed: No such file or directory (os error 2)\nftpd: Stopped\n",
     );
 }
 

@@ -1,18 +1,20 @@
 //! Texts that are read whole and written whole.
 
-use crate::ends::{FailingWriter, Given};
+use crate::ends::{FailingWriter, Given, Shy, ShyWriter, UnflushedWriter};
 use crate::expect::{holds, same};
 use crate::texts::LUNCH_LINES;
 use std::process::Abort;
 use text_io::{FallibleIo, TextFault, read_whole, write_whole};
 
 /// A text as its reader returns it, and what is read; None if it breaks off.
-static READ: [(Given<'static>, Option<&str>); 8] = [
+static READ: [(Given<'static>, Option<&str>); 10] = [
     (Given::Whole(""), Some("")),
     (Given::Whole("limit / 10\n"), Some("limit / 10\n")),
     (Given::Whole("no end"), Some("no end")),
     (Given::Whole("a\0b\r\n"), Some("a\0b\r\n")),
-    (Given::Interrupted("limit / 10\n"), Some("limit / 10\n")),
+    (Given::Interrupted("limit / 10\n", 1), Some("limit / 10\n")),
+    (Given::Interrupted("limit / 10\n", 2), Some("limit / 10\n")),
+    (Given::Interrupted("ab", 70_000), Some("ab")),
     (Given::Broken("limit / 10\n", 1), None),
     (Given::Broken("limit / 10\n", 3), None),
     (Given::Broken("limit / 10\n", 100), None),
@@ -69,4 +71,57 @@ fn texts_are_written(rt: HostRuntime) {
     for (text, left) in &WRITTEN {
         is_written(&rt, text, *left);
     }
+}
+
+/// Numbers of interruptions before each octet of a write.
+static INTERRUPTIONS: [usize; 4] = [0, 1, 2, 1_000];
+
+/// An interrupted write is made again, as often as it is interrupted.
+#[test]
+fn interrupted_texts_are_written(rt: HostRuntime) {
+    for times in &INTERRUPTIONS {
+        let mut taken = Vec::new(rt.alloc());
+        let mut writer = FallibleIo(ShyWriter {
+            taken: &mut taken,
+            shy: Shy::by(*times),
+        });
+        holds(&rt, write_whole(LUNCH_LINES, &mut writer) == Ok(()));
+        same(&rt, &taken, LUNCH_LINES);
+    }
+}
+
+/// A flush that fails is a fault, although all octets were taken.
+#[test]
+fn refused_flushes_are_told(rt: HostRuntime) {
+    let mut taken = Vec::new(rt.alloc());
+    let mut writer = FallibleIo(UnflushedWriter { taken: &mut taken });
+    let written = write_whole(LUNCH_LINES, &mut writer);
+    holds(&rt, written == Err(TextFault::WriteFault));
+    same(&rt, &taken, LUNCH_LINES);
+}
+
+/// A text of this number of octets.
+fn long_text(rt: &(impl Abort + AllocGlobal), length: usize) -> String {
+    let octets = vec![in rt.alloc(); b'x'; length].expect(rt, "memory");
+    String::from_utf8(octets).expect(rt, "a text")
+}
+
+/// Checks that a text is written whole, and read whole.
+fn goes_through(rt: &(impl Abort + AllocGlobal), text: &str) {
+    let mut taken = Vec::new(rt.alloc());
+    let mut writer = FallibleIo(FailingWriter {
+        taken: &mut taken,
+        left: text.len(),
+    });
+    holds(rt, write_whole(text, &mut writer) == Ok(()));
+    holds(rt, taken.as_slice() == text.as_bytes());
+    let mut reader = FallibleIo(Given::Whole(text).reader());
+    let read = read_whole(rt.alloc(), &mut reader).expect(rt, "a text");
+    holds(rt, read.as_slice() == text.as_bytes());
+}
+
+/// More than a million octets.
+#[test]
+fn a_long_text(rt: HostRuntime) {
+    goes_through(&rt, long_text(&rt, 1_000_001).as_str());
 }

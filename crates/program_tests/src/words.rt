@@ -32,6 +32,7 @@ fn words_on_a_configuration(rt: HostRuntime) {
 const NO_FILES: ServeFiles<'static> = ServeFiles {
     stop_file: None,
     ready_file: None,
+    drain_file: None,
     transfer_log: None,
     log_form: None,
     status: None,
@@ -62,6 +63,7 @@ fn words_on_a_server(rt: HostRuntime) {
         login_timeout: 60,
         idle_timeout: 0,
         login_delay: 1,
+        drain_timeout: 0,
     };
     serves(&rt, &["serve", config], NO_FILES, usual);
     let stopped = ServeFiles {
@@ -82,6 +84,12 @@ fn words_on_a_server(rt: HostRuntime) {
     };
     let words = ["serve", config, "--ready-file", "/run/ftpd.ready"];
     serves(&rt, &words, ready, usual);
+    let drained = ServeFiles {
+        drain_file: Some("/run/ftpd.drain"),
+        ..NO_FILES
+    };
+    let words = ["serve", config, "--drain-file", "/run/ftpd.drain"];
+    serves(&rt, &words, drained, usual);
     let logged = ServeFiles {
         transfer_log: Some("xferlog"),
         log_form: Some("journal"),
@@ -170,10 +178,12 @@ fn words_on_patience(rt: HostRuntime) {
         login_timeout: 0,
         idle_timeout: 86_400,
         login_delay: 7,
+        drain_timeout: 5,
     };
     let words = [
         "serve",
         "--idle-timeout=86400",
+        "--drain-seconds=5",
         "--login-delay",
         "007",
         config,

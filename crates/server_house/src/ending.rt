@@ -2,7 +2,7 @@
 
 ghost use Rattle.std.specs.Prelude.{◌≡◌, ◌↔◌, ℕ, IsTrue, max};
 ghost use Rattle.server_house.specs.declared.ending.ShutdownStage.{ShutdownStage};
-ghost use Rattle.server_house.specs.declared.ending.ShutdownStage.TheVariants.{Lanes, Sessions};
+ghost use Rattle.server_house.specs.declared.ending.ShutdownStage.TheVariants.{Drain, Lanes, Sessions};
 ghost use Rattle.server_house.specs.Stages.{HasBegun, stage_number};
 
 use std::sync::atomic::{AtomicU64, Ordering};
@@ -10,7 +10,9 @@ use std::sync::atomic::{AtomicU64, Ordering};
 /// A stage of the end.
 #[derive(Clone, Copy, Debug, PartialEq, Eq)]
 pub enum ShutdownStage {
-    /// No more sessions are admitted, and the present ones end.
+    /// No more sessions are admitted, and each present one ends once no transfer of it runs.
+    Drain,
+    /// The present sessions end at once.
     Sessions,
     /// The lanes and rounds end too: no session is left.
     Lanes,
@@ -27,8 +29,9 @@ fn number(stage: ShutdownStage) -> u64
     ensures number { result ≡ stage_number stage }
 {
     match stage {
-        ShutdownStage::Sessions => 1,
-        ShutdownStage::Lanes => 2,
+        ShutdownStage::Drain => 1,
+        ShutdownStage::Sessions => 2,
+        ShutdownStage::Lanes => 3,
     }
 }
 
@@ -40,7 +43,7 @@ fn reaches(progress: u64, stage: ShutdownStage) -> bool
 }
 
 /// No stage has begun at first. A stage has begun once the progress is at least its number, and none is taken back by
-/// the beginning of another. Once the lanes are to end, the sessions are too.
+/// the beginning of another. Once the lanes are to end, the sessions are too, and once these are, no more are admitted.
 pub fn stages_stay_begun()
     ensures none { (stage : ShutdownStage) → ¬ HasBegun 0 stage }
     ensures begun { (progress : ℕ) (stage : ShutdownStage) →
@@ -48,6 +51,7 @@ pub fn stages_stay_begun()
     ensures stays { (progress : ℕ) (stage next : ShutdownStage) → HasBegun progress stage →
         HasBegun (max progress (stage_number next)) stage }
     ensures order { (progress : ℕ) → HasBegun progress Lanes → HasBegun progress Sessions }
+    ensures drained { (progress : ℕ) → HasBegun progress Sessions → HasBegun progress Drain }
 {}
 
 impl ServerShutdown {

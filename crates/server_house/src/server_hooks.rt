@@ -15,6 +15,8 @@ pub enum NotServed {
     NotAdmitted(AdmitFault),
     /// No thread could be started for the session.
     NoThread,
+    /// The server ends, once the transfers that run have ended.
+    Ending,
 }
 
 /// The reason for which a session refuses its user, or more lines.
@@ -48,6 +50,10 @@ pub enum ServerEvent {
     NotAccepted(io::Error),
     /// Fewer files may be open (the first number) than all clients together may need (the second).
     FewDescriptors(u64, u64),
+    /// The server drains, with that number of clients: it ends once their transfers have ended.
+    Drains(u64),
+    /// The time of a server that drains is over: that number of clients is told so, and their transfers are cut.
+    DrainTimedOut(u64),
 }
 
 /// The kind of a transfer.

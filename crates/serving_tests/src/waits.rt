@@ -9,6 +9,7 @@ fn client_patience(rt: HostRuntime) {
         login_timeout: 60,
         idle_timeout: 900,
         login_delay: 1,
+        drain_timeout: 0,
     };
     let mut waits = Waits::new(0); // a client has connected; moments are microseconds
     holds(&rt, waits.time_out(patience, 60_000_000).is_none());
@@ -28,11 +29,13 @@ fn a_user_who_left_may_come_back(rt: HostRuntime) {
         login_timeout: 0,
         idle_timeout: 0,
         login_delay: 0,
+        drain_timeout: 0,
     };
     let limited = Patience {
         login_timeout: 1,
         idle_timeout: 0,
         login_delay: 0,
+        drain_timeout: 2,
     };
     let mut waits = Waits::new(5);
     holds(&rt, waits.time_out(endless, u64::MAX).is_none());
@@ -41,4 +44,22 @@ fn a_user_who_left_may_come_back(rt: HostRuntime) {
     waits.log_out(7_000_000);
     holds(&rt, waits.time_out(limited, 8_000_000).is_none());
     holds(&rt, waits.time_out(limited, 8_000_001).is_some());
+}
+
+/// A server that drains waits for as many seconds as it may, and without a limit for ever.
+#[test]
+fn a_drain_ends_in_time(rt: HostRuntime) {
+    let limited = Patience {
+        login_timeout: 0,
+        idle_timeout: 0,
+        login_delay: 0,
+        drain_timeout: 2,
+    };
+    let endless = Patience {
+        drain_timeout: 0,
+        ..limited
+    };
+    holds(&rt, !limited.has_drained(5, 2_000_005));
+    holds(&rt, limited.has_drained(5, 2_000_006));
+    holds(&rt, !endless.has_drained(5, u64::MAX));
 }

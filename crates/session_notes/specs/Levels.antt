@@ -3,6 +3,10 @@ use Rattle.log.specs.declared.level.Level.{Level}
 use Rattle.log.specs.declared.level.Level.TheVariants.{Warn, Info}
 use Rattle.server_house.specs.declared.cause.EndCause.{EndCause}
 use Rattle.server_house.specs.declared.cause.EndCause.TheVariants.{Aborted, NothingPrepared, NoClient, NotConnected, NoMemory, File, Connection, ControlLost, ServerEnds}
+use Rattle.server_house.specs.declared.server_hooks.NotServed.{NotServed}
+use Rattle.server_house.specs.declared.server_hooks.NotServed.TheVariants.{NotAdmitted, NoThread, Ending}
+use Rattle.server_house.specs.declared.server_hooks.ServerEvent.{ServerEvent}
+use Rattle.server_house.specs.declared.server_hooks.ServerEvent.TheVariants.{NotBound, NotAccepted, FewDescriptors, Drains, DrainTimedOut}
 use Rattle.server_house.specs.declared.server_hooks.SessionEvent.{SessionEvent}
 use Rattle.server_house.specs.declared.server_hooks.SessionEvent.TheVariants.{Refused, NoPort, TimedOut}
 use Rattle.session_notes.specs.declared.words.Noted.{Noted}
@@ -31,3 +35,15 @@ abbrev pub level_of_session : SessionEvent → Level
 level_of_session (Refused why) = Warn
 level_of_session (NoPort error) = Warn
 level_of_session (TimedOut why) = Info
+
+abbrev pub level_of_refusal : NotServed → Level
+level_of_refusal (NotAdmitted why) = Warn
+level_of_refusal NoThread = Warn
+level_of_refusal Ending = Info
+
+abbrev pub level_of_server : ServerEvent → Level
+level_of_server (NotBound address port error) = Warn
+level_of_server (NotAccepted error) = Warn
+level_of_server (FewDescriptors limit needed) = Warn
+level_of_server (Drains sessions) = Info
+level_of_server (DrainTimedOut sessions) = Warn

@@ -6,9 +6,9 @@ use Rattle.passive_ports.specs.declared.fault.AdmitFault.TheVariants.{TooMany, T
 use Rattle.server_house.specs.declared.cause.EndCause.{EndCause}
 use Rattle.server_house.specs.declared.cause.EndCause.TheVariants.{Aborted, NothingPrepared, NoClient, NotConnected, NoMemory, File, Connection, ControlLost, ServerEnds}
 use Rattle.server_house.specs.declared.server_hooks.NotServed.{NotServed}
-use Rattle.server_house.specs.declared.server_hooks.NotServed.TheVariants.{NotAdmitted, NoThread}
+use Rattle.server_house.specs.declared.server_hooks.NotServed.TheVariants.{NotAdmitted, NoThread, Ending}
 use Rattle.server_house.specs.declared.server_hooks.ServerEvent.{ServerEvent}
-use Rattle.server_house.specs.declared.server_hooks.ServerEvent.TheVariants.{NotBound, NotAccepted, FewDescriptors}
+use Rattle.server_house.specs.declared.server_hooks.ServerEvent.TheVariants.{NotBound, NotAccepted, FewDescriptors, Drains, DrainTimedOut}
 use Rattle.server_house.specs.declared.server_hooks.SessionEvent.{SessionEvent}
 use Rattle.server_house.specs.declared.server_hooks.SessionEvent.TheVariants.{Refused, NoPort, TimedOut}
 use Rattle.server_house.specs.declared.server_hooks.SessionRefusal.TheVariants.{TooManyLogins, NoGuarantee, TooManyHeldLines}
@@ -37,6 +37,7 @@ refusal_words (NotAdmitted TooMany) = codes "too many connections"
 refusal_words (NotAdmitted TooManyOfAddress) = codes "too many connections from this address"
 refusal_words (NotAdmitted Memory) = codes "out of memory"
 refusal_words NoThread = codes "no thread could be started"
+refusal_words Ending = codes "the server ends"
 
 abbrev pub cause_words : EndCause → List ℕ
 cause_words Aborted = codes "aborted by the client"
@@ -61,3 +62,5 @@ abbrev pub server_words : ServerEvent → List ℕ
 server_words (NotBound address port error) = codes "cannot listen on"
 server_words (NotAccepted error) = codes "connections cannot be accepted"
 server_words (FewDescriptors limit needed) = codes "too few open files are allowed"
+server_words (Drains sessions) = codes "ends once all transfers have ended"
+server_words (DrainTimedOut sessions) = codes "ends, and cuts transfers: the time for them is over"

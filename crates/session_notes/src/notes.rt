@@ -1,6 +1,8 @@
 //! A handler that writes a note of each event.
 
-use crate::levels::{level_of_cause, level_of_event, level_of_session};
+use crate::levels::{
+    level_of_cause, level_of_event, level_of_refusal, level_of_server, level_of_session,
+};
 use crate::moment::{second_of, seconds_of};
 use crate::stamp::Stamp;
 use crate::stores::{ChangeText, level_of_record, path_in, path_to, record_words};
@@ -122,14 +124,16 @@ impl<L: Log + Clock + Drop, T: TransferLog + Drop> ServerHooks for Notes<L, T> {
     fn on_refused(&mut self, peer: [u8; 4], why: NotServed) {
         let stamp = self.stamp();
         let peer = Ipv4Addr::from(peer);
+        let level = level_of_refusal(why);
         let why = refusal_words(why);
-        log!(self.log; target: "", Level::Warn, "{stamp}{peer} refused: {why}");
+        log!(self.log; target: "", level, "{stamp}{peer} refused: {why}");
     }
 
     fn on_server(&mut self, event: ServerEvent) {
         let stamp = self.stamp();
+        let level = level_of_server(event);
         let text = ServerText(event);
-        log!(self.log; target: "", Level::Warn, "{stamp}{text}");
+        log!(self.log; target: "", level, "{stamp}{text}");
     }
 
     fn wants_sizes(&self) -> bool {

@@ -65,6 +65,7 @@ pub(crate) fn refusal_words(why: NotServed) -> &'static str
         }
         NotServed::NotAdmitted(AdmitFault::Memory) => "out of memory",
         NotServed::NoThread => "no thread could be started",
+        NotServed::Ending => "the server ends",
     }
 }
 
@@ -154,6 +155,8 @@ fn server_words(event: ServerEvent) -> &'static str
         ServerEvent::NotBound(_, _, _) => "cannot listen on",
         ServerEvent::NotAccepted(_) => "connections cannot be accepted",
         ServerEvent::FewDescriptors(_, _) => "too few open files are allowed",
+        ServerEvent::Drains(_) => "ends once all transfers have ended",
+        ServerEvent::DrainTimedOut(_) => "ends, and cuts transfers: the time for them is over",
     }
 }
 
@@ -174,6 +177,9 @@ impl fmt::Display for ServerText {
                 f,
                 "{words}: {limit} of the {needed} that all clients together may need; see `ulimit -n`, LimitNOFILE"
             ),
+            ServerEvent::Drains(sessions) | ServerEvent::DrainTimedOut(sessions) => {
+                write!(f, "{words}; clients that are connected: {sessions}")
+            }
         }
     }
 }

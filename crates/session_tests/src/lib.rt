@@ -1,10 +1,12 @@
-//! Tests of sessions: the examples in the head of each crate's `lib.rt`, the octets of each fixed reply, and the laws
-//! of the table at a concrete type. `tools/examples` compares the examples with those heads; whole sessions, line by
-//! line, are in `runs/`.
+//! Tests of sessions: the examples in the head of each crate's `lib.rt`, the octets of each fixed reply, the callbacks
+//! of a handler, the data side of a script, and the laws of the table at a concrete type. `tools/examples` compares
+//! the examples with those heads; whole sessions, line by line, are in `runs/`.
 #![tactic(auto)]
 
 #[cfg(test)]
 mod expect;
+#[cfg(test)]
+mod hooks;
 #[cfg(test)]
 mod laws;
 #[cfg(test)]
@@ -15,3 +17,5 @@ mod room;
 mod rows;
 #[cfg(test)]
 mod sessions;
+#[cfg(test)]
+mod sides;

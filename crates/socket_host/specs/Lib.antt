@@ -1,5 +1,6 @@
 pub mod Cuts
 pub mod Records
 pub mod Refusals
+pub mod Replied
 pub mod Texts
 pub mod Unsaid

@@ -5,11 +5,12 @@ ghost use Rattle.control_session.specs.Calls.{reads_within};
 ghost use Rattle.line_mender.specs.Mended.{after_all, after_silence, ending_of, kept};
 ghost use Rattle.socket_host.specs.Texts.{IsOctetsOf, is_pause, octets_in};
 
+use crate::replying::write_reply;
 use control_session::Piece;
 use line_mender::Mender;
-use server_house::{ServerShutdown, ShutdownStage};
+use server_house::ServerShutdown;
 use std::io;
-use std::io::{ErrorKind, Read, Write};
+use std::io::{ErrorKind, Read};
 use std::net::{Shutdown, SocketAddr, TcpStream};
 use std::time::Duration;
 
@@ -21,12 +22,6 @@ const QUICK: u64 = 1;
 
 /// The time-out of one write to a peer that does not read, in milliseconds.
 const STANDSTILL: u64 = 1_000;
-
-/// Most writes in a row that may time out.
-const MOST_WAITS: u32 = 20;
-
-/// Most of them once the server ends.
-const LAST_WAITS: u32 = 2;
 
 /// Most reads from a connection that is to be closed.
 const LAST_READS: usize = 4;
@@ -44,8 +39,8 @@ pub struct ControlSocket {
     is_quick: bool,
 }
 
-// Returns whether a read only found nothing.
-fn is_pause(kind: ErrorKind) -> bool
+/// Returns whether a read only found nothing, or a write no room.
+pub(crate) fn is_pause(kind: ErrorKind) -> bool
     ensures pause { result ≡ is_pause kind }
 {
     matches!(
@@ -139,34 +134,10 @@ impl ControlSocket {
         }
     }
 
-    // Writes some octets from the start.
-    fn write_some(&mut self, octets: &[u8], ending: &ServerShutdown) -> io::Result<usize>
-        requires some { 0 < length octets.now }
-        ensures part { IfOk result (λ count. (0 < count) × (count ≤ length octets.now)) }
-    {
-        for waits in 1..=MOST_WAITS {
-            match self.stream.write(octets) {
-                Ok(0) => return Err(io::Error::from(ErrorKind::WriteZero)),
-                Ok(count) => return Ok(count),
-                Err(error) => {
-                    let ends = waits >= LAST_WAITS && ending.has_begun(ShutdownStage::Sessions);
-                    if ends || !is_pause(error.kind()) {
-                        return Err(error);
-                    }
-                }
-            }
-        }
-        Err(io::Error::from(ErrorKind::TimedOut))
-    }
-
     /// Writes all of a reply. Waits for a peer that reads nothing: at most 20 s for each part of the reply, or 2 s once
     /// the server ends.
     pub fn write(&mut self, octets: &[u8], ending: &ServerShutdown) -> io::Result<()> {
-        let mut at = 0;
-        while at < octets.len() {
-            at += self.write_some(&octets[at..], ending)?;
-        }
-        Ok(())
+        write_reply(&mut self.stream, octets, ending)
     }
 
     /// Ends the connection in such a way that what was written arrives: reads what the peer had still sent, since a

@@ -11,7 +11,7 @@ ghost use Rattle.rate_floors.specs.Promises.{HasNoSessions};
 ghost use Rattle.session_table.specs.Steps.{asks_floors};
 ghost use Rattle.session_table.specs.Views.{is_closed};
 ghost use Rattle.std.specs.FinMap as map;
-ghost use Rattle.socket_host.specs.Cuts.{cause_of_cut};
+ghost use Rattle.socket_host.specs.Cuts.{cause_of_cut, is_to_end};
 ghost use Rattle.socket_host.specs.Records.{ends_file, ends_listing, is_end, is_text, job_kind};
 ghost use Rattle.socket_host.specs.Refusals.{refusal_of};
 ghost use Rattle.socket_host.specs.Texts.{is_without_port, time_out_reply};
@@ -46,6 +46,13 @@ use virtual_tree::Store;
 
 /// The reply to a client whose session the server ends.
 const ENDING: &[u8] = b"421 Server is ending\r\n";
+
+// Returns whether a session is to be told that the server ends.
+fn is_to_end(ends: bool, drains: bool, is_busy: bool) -> bool
+    ensures end { result ≡ is_to_end ends drains is_busy }
+{
+    ends || drains && !is_busy
+}
 
 /// Interval between two looks, of a session that delays a reply, whether the server ends, in milliseconds.
 const LOOK: u64 = 50;
@@ -282,6 +289,12 @@ where
 
     fn is_ending(&self) -> bool {
         self.house.ending.has_begun(ShutdownStage::Sessions)
+    }
+
+    // Returns whether the client is to be told now that the server ends.
+    fn is_over(&self) -> bool {
+        let drains = self.house.ending.has_begun(ShutdownStage::Drain);
+        is_to_end(self.is_ending(), drains, self.side.is_busy())
     }
 
     // Lets this many seconds pass, without a lock; ends early if the server ends.
@@ -589,7 +602,7 @@ where
     }
 
     fn read(&mut self, buffer: &mut [u8]) -> io::Result<Piece> {
-        if self.is_ending() {
+        if self.is_over() {
             let _ = self.socket.write(ENDING, &self.house.ending);
             return Ok(Piece::AtEnd);
         }

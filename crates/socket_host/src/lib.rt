@@ -9,8 +9,9 @@
 mod control;
 mod host;
 mod moments;
+mod replying;
 mod serving;
 
 pub use control::ControlSocket;
 pub use host::SocketHost;
-pub use serving::serve_session;
+pub use serving::{serve_session, sessions_are_long};

@@ -23,6 +23,11 @@ use virtual_tree::Store;
 /// Most reads of one session: at 200 ms each, more than twenty-five years.
 const MOST_READS: u32 = u32::MAX;
 
+/// A session may read 4,294,967,295 times before it is broken off.
+pub fn sessions_are_long()
+    ensures reads { MOST_READS ≡ 4294967295 }
+{}
+
 /// Size of one read of what comes after the end.
 const LAST_PIECE: usize = 512;
 

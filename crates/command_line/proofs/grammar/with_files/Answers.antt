@@ -4,6 +4,8 @@ use Rattle.command_line.specs.Commands.{value_rule}
 use Rattle.command_line.proofs.grammar.with_files.Goals as goal
 
 pub returns : goal.returns
-returns c = record {
-  rules = c.in_ok-command.ensures.rule ∙ ap (λ (a : App). with_rule a (value_rule (codes "ready-file"))) c.in_ok-with_stop.ensures.rule;
-}
+returns c =
+    let ready = c.in_ok-with_ready.ensures.rule ∙ ap (λ (a : App). with_rule a (value_rule (codes "ready-file"))) c.in_ok-with_stop.ensures.rule in
+    record {
+      rules = c.in_ok-command.ensures.rule ∙ ap (λ (a : App). with_rule a (value_rule (codes "drain-file"))) ready;
+    }

@@ -63,8 +63,8 @@ returns-in-Err-clause-serve_status c = λ word path port n plain also number are
     c.in-Err.ensures.takes (ap₂ takes c.in-Ok.ensures.ftpd are ∙ (serves_status word path port plain also (number_plain Port port n number)).taken)
 
 pub returns-in-Err-clause-serve_timed : goal.returns-in-Err-clause-serve_timed
-returns-in-Err-clause-serve_timed c = λ word first second third p plain one two three are.
-    let held = serves_timed word first second third plain (number_plain Seconds first _ one) (number_plain Seconds second _ two) (number_plain Seconds third _ three) in
+returns-in-Err-clause-serve_timed c = λ word first second third fourth p plain one two three four are.
+    let held = serves_timed word first second third fourth plain (number_plain Seconds first _ one) (number_plain Seconds second _ two) (number_plain Seconds third _ three) (number_plain Seconds fourth _ four) in
     c.in-Err.ensures.takes (ap₂ takes c.in-Ok.ensures.ftpd are ∙ held.taken)
 
 pub returns-in-Err-clause-plan : goal.returns-in-Err-clause-plan
@@ -191,11 +191,11 @@ returns-in-Err-stated_numbers-clause-serve_status c = λ word path port n plain 
     refused_stated _ _ _ _ _ (serve_stated _ _ (Some n) held.rows entered (usual held.rows held.usual) stated) c.in-Err-stated_numbers.ensures.refused
 
 pub returns-in-Err-stated_numbers-clause-serve_timed : goal.returns-in-Err-stated_numbers-clause-serve_timed
-returns-in-Err-stated_numbers-clause-serve_timed c = λ word first second third p plain one two three are.
-    let held = serves_timed word first second third plain (number_plain Seconds first _ one) (number_plain Seconds second _ two) (number_plain Seconds third _ three) in
+returns-in-Err-stated_numbers-clause-serve_timed c = λ word first second third fourth p plain one two three four are.
+    let held = serves_timed word first second third fourth plain (number_plain Seconds first _ one) (number_plain Seconds second _ two) (number_plain Seconds third _ three) (number_plain Seconds fourth _ four) in
     let simple : is_simple (app_of c.in-Ok.command) ≡ true = ap is_simple c.in-Ok.ensures.ftpd ∙ ftpd_is_simple in
     let entered = c.in-Ok-parsed.ensures.found simple ∙ ap₂ subcommand_of c.in-Ok.ensures.ftpd are ∙ held.entered in
-    let states = patient held.rows p first second third held.first held.second held.third one two three in
+    let states = patient held.rows p first second third fourth held.first held.second held.third held.fourth one two three four in
     refused_stated _ p _ _ _ (serve_stated _ p None held.rows entered states (no_port held.rows held.portless)) c.in-Err-stated_numbers.ensures.refused
 
 pub returns-in-Err-stated_numbers-clause-plan : goal.returns-in-Err-stated_numbers-clause-plan
@@ -355,11 +355,11 @@ returns-clause-serve_status c = λ word path port n plain also number are.
     (status_is _ _ held.rows word (Some n) entered held.of (some_port held.rows port n held.status_port number) c.in-Some.ensures.found)
 
 pub returns-clause-serve_timed : goal.returns-clause-serve_timed
-returns-clause-serve_timed c = λ word first second third p plain one two three are.
-    let held = serves_timed word first second third plain (number_plain Seconds first _ one) (number_plain Seconds second _ two) (number_plain Seconds third _ three) in
+returns-clause-serve_timed c = λ word first second third fourth p plain one two three four are.
+    let held = serves_timed word first second third fourth plain (number_plain Seconds first _ one) (number_plain Seconds second _ two) (number_plain Seconds third _ three) (number_plain Seconds fourth _ four) in
     let simple : is_simple (app_of c.in-Ok.command) ≡ true = ap is_simple c.in-Ok.ensures.ftpd ∙ ftpd_is_simple in
     let entered = c.in-Ok-parsed.ensures.found simple ∙ ap₂ subcommand_of c.in-Ok.ensures.ftpd are ∙ held.entered in
-    let states = patient held.rows p first second third held.first held.second held.third one two three in
+    let states = patient held.rows p first second third fourth held.first held.second held.third held.fourth one two three four in
     subst (λ (ready : Option Text). IsServe word None ready p c.in-Some.words) held.no_ready
     (subst (λ (path : Option Text). IsServe word path (first_of (codes "ready-file") held.rows) p c.in-Some.words) held.no_path
     (serve_is _ _ held.rows word p entered held.of states c.in-Some.ensures.found))

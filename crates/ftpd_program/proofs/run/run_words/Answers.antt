@@ -66,10 +66,10 @@ returns-in-Ok-clause-serve_ready g c = λ config path ready plain also third are
     serve_end _ (g.O.Lookout.Shows c.run_command.new.files) g.V.Server.Serves _ _ _ _ _ _ old new _ (c.in-Ok.ensures.serve_ready config path ready plain also third are) c.run_command.ensures.end
 
 pub returns-in-Ok-clause-serve_timed : goal.returns-in-Ok-clause-serve_timed
-returns-in-Ok-clause-serve_timed g c = λ config first second third p plain one two three are.
+returns-in-Ok-clause-serve_timed g c = λ config first second third fourth p plain one two three four are.
     let old = g.W.TextWriter.contents c.args.output.now in
     let new = g.W.TextWriter.contents c.run_command.new.output in
-    serve_end _ (g.O.Lookout.Shows c.run_command.new.files) g.V.Server.Serves _ _ _ _ _ _ old new _ (c.in-Ok.ensures.serve_timed config first second third p plain one two three are) c.run_command.ensures.end
+    serve_end _ (g.O.Lookout.Shows c.run_command.new.files) g.V.Server.Serves _ _ _ _ _ _ old new _ (c.in-Ok.ensures.serve_timed config first second third fourth p plain one two three four are) c.run_command.ensures.end
 
 pub returns-in-Ok-clause-plan : goal.returns-in-Ok-clause-plan
 returns-in-Ok-clause-plan g c = λ config transfers plain also are.
@@ -110,8 +110,8 @@ returns-in-Err-clause-serve_ready g c = λ config path ready plain also third ar
     no_serve _ (g.O.Lookout.Shows c.args.files.now) _ g.V.Server.Serves _ _ _ _ _ _ _ (c.in-Err.ensures.serve_ready config path ready plain also third are) c.tell.ensures.told
 
 pub returns-in-Err-clause-serve_timed : goal.returns-in-Err-clause-serve_timed
-returns-in-Err-clause-serve_timed g c = λ config first second third p plain one two three are.
-    no_serve _ (g.O.Lookout.Shows c.args.files.now) _ g.V.Server.Serves _ _ _ _ _ _ _ (c.in-Err.ensures.serve_timed config first second third p plain one two three are) c.tell.ensures.told
+returns-in-Err-clause-serve_timed g c = λ config first second third fourth p plain one two three four are.
+    no_serve _ (g.O.Lookout.Shows c.args.files.now) _ g.V.Server.Serves _ _ _ _ _ _ _ (c.in-Err.ensures.serve_timed config first second third fourth p plain one two three four are) c.tell.ensures.told
 
 pub returns-in-Err-clause-plan : goal.returns-in-Err-clause-plan
 returns-in-Err-clause-plan g c = λ config transfers plain also are.

@@ -1,0 +1,167 @@
+"""What the calls on sockets, clocks and locks are made with: the address that is listened on, the time of a file, what is given back and charged.
+
+No contract says what a call does to the machine. Each row here is refused by a server in which such a call is made otherwise.
+"""
+import socket
+import threading
+import time
+
+from serving_kit import Client, Server, same, until, want
+
+# The second address of this machine's loop.
+OTHER = "127.0.0.2"
+# How far two clocks of one machine may be apart in seconds: that of the store counts whole ones.
+APART = 2
+
+
+def is_closed(address, port):
+    """Whether nobody listens at a port of an address."""
+    try:
+        socket.create_connection((address, port), 5).close()
+        return False
+    except ConnectionRefusedError:
+        return True
+
+
+def it_listens_at_its_address_alone():
+    """Its port and its passive ports are those of the stated address, and of no other of the machine."""
+    with Server(root="folder", files={"f": b"a\nb"}) as server:
+        want(is_closed(OTHER, server.port), "the port at another address")
+        client = Client(server)
+        port = client.passive_port()
+        want(is_closed(OTHER, port), "a passive port at another address")
+        same(client.retrieve("f"), b"a\nb", "the file")
+        client.quit()
+        server.ended()
+
+
+def is_let_in(server):
+    """A client whose login is accepted, or none."""
+    client = Client(server, name=None)
+    client.says(None, "220 Ready")
+    client.says("USER ann", "331 Password required")
+    client.send("PASS secret")
+    if client.line() == "230 Welcome":
+        return client
+    client.close()
+    return None
+
+
+def one_guarantee_comes_back_once():
+    """Of two guarantees that fit, one that is given back makes room for one, and for no second."""
+    with Server(sessions=0, server="rate = 200", rates="session_down_floor = 80", stop=True) as server:
+        first, second = Client(server), Client(server)
+        want(not is_let_in(server), "a third guarantee")
+        first.quit()
+        found = []
+        until(lambda: found.append(is_let_in(server)) or found[-1], "the guarantee of one who left")
+        for _ in range(3):
+            want(not is_let_in(server), "a guarantee that was not given back")
+        for client in (second, found[-1]):
+            client.close()
+        server.stop()
+        server.ended()
+
+
+def a_stop_waits_for_no_reader():
+    """A client that reads no reply holds its session for some seconds at most once the server is to end."""
+    names = {f"{number}-{'n' * 200}": b"" for number in range(2000)}
+    with Server(sessions=0, root="folder", files=names, stop=True) as server:
+        deaf = Client(server)
+        deaf.socket.sendall(b"STAT /\r\n" * 40)
+        until(lambda: is_stuck(server), "a session that waits for its reader", tries=400)
+        begun = time.monotonic()
+        server.stop()
+        server.ended()
+        want(time.monotonic() - begun < 30, f"the end took {time.monotonic() - begun:.0f} seconds")
+        deaf.close()
+
+
+def waiting_octets(server):
+    """The octets that the server's side of its control connections holds, since their clients do not take them."""
+    found = 0
+    with open("/proc/net/tcp", encoding="ascii") as table:
+        for line in table.readlines()[1:]:
+            fields = line.split()
+            if int(fields[1].split(":")[1], 16) == server.port:
+                found += int(fields[4].split(":")[0], 16)
+    return found
+
+
+def is_stuck(server):
+    """Whether such octets are held, and for half a second no more of them."""
+    before = waiting_octets(server)
+    time.sleep(0.5)
+    return before > 100_000 and before == waiting_octets(server)
+
+
+def a_listing_of_thirty_thousand():
+    """Each entry, of a listing of more than two megabytes."""
+    count = 30_000
+    with Server(root="folder", files={f"an-entry-of-many-{number:05}": b"" for number in range(count)}) as server:
+        client = Client(server)
+        lines = client.listed("LIST")
+        same(len(lines), count, "the entries")
+        want(sum(len(it) + 2 for it in lines) > 2_000_000, "the octets of the listing")
+        same([it.split()[-1] for it in lines], [f"an-entry-of-many-{number:05}" for number in range(count)], "the names")
+        client.quit()
+        server.ended()
+
+
+def an_upload_is_of_now():
+    """The time of a file is that of its upload, in memory and in a folder."""
+    for root in ("memory", "folder"):
+        with Server(root=root, files={} if root == "folder" else None) as server:
+            client = Client(server)
+            before = time.time()
+            client.store("up", b"u")
+            text = client.says("MDTM up", "213 ...")
+            found = time.mktime(time.strptime(text[4:18], "%Y%m%d%H%M%S")) - time.timezone
+            want(before - APART <= found <= time.time() + APART, f"{text} of an upload at {before:.0f}")
+            client.quit()
+            server.ended()
+
+
+def timed(*calls):
+    """The seconds that calls take, each in a thread of its own."""
+    threads = [threading.Thread(target=it) for it in calls]
+    begun = time.monotonic()
+    for it in threads:
+        it.start()
+    for it in threads:
+        it.join()
+    return time.monotonic() - begun
+
+
+def a_small_rate_of_many():
+    """Many sessions with small files keep a small rate together, each octet of it."""
+    with Server(sessions=20, root="folder", files={"small": 2_000}, rates="down_rate = 20000", passive=40) as server:
+        clients = [Client(server) for _ in range(20)]
+        took = timed(*[lambda it=it: same(len(it.retrieve("small")), 2_000, "the octets") for it in clients])
+        want(took > 1.7, f"two seconds' octets came in {took:.2f} seconds")
+        for client in clients:
+            client.quit()
+        same(server.ended()[1], 40_000, "octets moved")
+
+
+def an_upload_keeps_its_rate():
+    """What is received is charged to the rate of uploads, and what is sent to that of downloads."""
+    rates = "down_rate = 100000000\nup_rate = 1000000"
+    with Server(sessions=1, root="folder", files={"big": 4_000_000}, rates=rates) as server:
+        client = Client(server)
+        took = timed(lambda: client.store("up", bytes(2_000_000)))
+        want(took > 1.7, f"two seconds' octets went in {took:.2f} seconds")
+        same(len(client.retrieve("big")), 4_000_000, "the octets of the download")
+        client.quit()
+        same(server.ended()[1], 6_000_000, "octets moved")
+
+
+ROWS = [
+    it_listens_at_its_address_alone,
+    one_guarantee_comes_back_once,
+    a_stop_waits_for_no_reader,
+    a_listing_of_thirty_thousand,
+    an_upload_is_of_now,
+    a_small_rate_of_many,
+    an_upload_keeps_its_rate,
+]

@@ -531,12 +531,11 @@ def active_connections():
     """PORT and EPRT: the server connects to its client, and tells where nobody listens."""
     with Server() as server:
         client = Client(server)
-        for line in ("PORT 127,0,0,1,{high},{low}", "EPRT |1|127.0.0.1|{port}|"):
+        for form in ("PORT 127,0,0,1,{high},{low}", "EPRT |1|127.0.0.1|{port}|"):
             with socket.create_server(("127.0.0.1", 0)) as listener:
                 listener.settimeout(SECONDS)
                 port = listener.getsockname()[1]
-                line = line.format(port=port, high=port // 256, low=port % 256)
-                client.says(line, "200 OK")
+                client.says(form.format(port=port, high=port // 256, low=port % 256), "200 OK")
                 client.says("RETR f", "150 Opening data connection")
                 data, _ = listener.accept()
                 with data, data.makefile("rb") as text:
@@ -544,9 +543,9 @@ def active_connections():
                 client.says(None, "226 Transfer complete")
             with socket.socket() as nobody:
                 # (held, so that no other row listens there meanwhile)
-                nobody.setsockopt(socket.SOL_SOCKET, socket.SO_REUSEADDR, 1)
-                nobody.bind(("127.0.0.1", port))
-                client.says(line, "200 OK")
+                nobody.bind(("127.0.0.1", 0))
+                port = nobody.getsockname()[1]
+                client.says(form.format(port=port, high=port // 256, low=port % 256), "200 OK")
                 client.says("RETR f", "150 Opening data connection", "425 No data connection")
         client.says("PORT 127,0,0,2,200,0", "501 Foreign address")
         client.says("PORT 127,0,0,1,0,22", "501 Privileged port")

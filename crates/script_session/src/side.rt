@@ -1,5 +1,7 @@
 //! The clock and the data side of a session without sockets.
 
+ghost use Rattle.std.specs.Prelude.{◌≡◌, ◌≢◌, ◌<◌, length};
+ghost use Rattle.std.specs.Io.KnownBytes.{IsAtEnd};
 ghost use Rattle.script_session.specs.Scripts.{AnswersScript, EndsScript, IsSent, ReadsZero};
 
 use ftp_wire::HostPort;
@@ -32,6 +34,7 @@ pub struct ScriptSide<K> {
 /// The end of a transfer whose file the store cannot read on.
 fn end_of(fault: StoreFault) -> End
     ensures sent { IsSent result }
+    ensures fault { result ≢ End.Done }
 {
     match fault {
         StoreFault::Memory => End::NoMemory,
@@ -41,9 +44,11 @@ fn end_of(fault: StoreFault) -> End
 
 /// Reads a file to its end, through a buffer.
 fn drain<R: Source>(source: &mut R, buffer: &mut [u8]) -> End
+    requires room { 0 < length buffer.old }
     ensures sent { IsSent result }
+    ensures done { result ≡ End.Done → IsAtEnd (R.remaining source.new) }
 {
-    for _ in 0..u64::MAX {
+    for _read in 0..u64::MAX {
         match source.read(buffer) {
             Ok(0) => return End::Done,
             Ok(_) => {}

@@ -187,7 +187,7 @@ fn stop_after_an_ask<B: PartsName>(
 fn run_named<B: PartsName>(rt: &(impl Abort + AllocGlobal + Wait), opened: Opened) -> (u64, Settled)
     requires desk { desk_id opened.desk ≡ B.desk }
     requires lanes { opened.desk.lanes ≡ B.lanes }
-    requires rates { rates_of opened.rounds.pace ≡ B.rates }
+    requires rates { B.rates (rates_of opened.rounds.pace) ≡ true }
     requires carried { opened.rounds.carried ≡ B.carried }
     requires any { (moment : ℕ) → B.when moment ≡ true }
 {

@@ -1,10 +1,12 @@
 //! A desk of two lanes, with its parts lent, and settled once they are returned.
 
-ghost use Rattle.std.specs.Prelude.{◌≡◌, ◌+◌, ℕ, true, []};
+ghost use Rattle.std.specs.Prelude.{◌≡◌, ◌+◌, ℕ, Bool, true, []};
 ghost use Rattle.desk_rule.specs.Lanes.{fresh};
 ghost use Rattle.lane_desk.specs.Seats.{desk_id, seat_view, IsSeatOf};
 ghost use Rattle.lane_desk.specs.Turns.{back, IsRoundOf};
-ghost use Rattle.paced_rounds.specs.History.{history};
+ghost use Rattle.line_rates.specs.Rates.{Rates};
+ghost use Rattle.paced_rounds.specs.History.{ended_in, history};
+ghost use Rattle.paced_rounds.specs.Seconds.{AreAllowed};
 ghost use Rattle.round_pace.specs.Histories.{rates_of};
 
 use super::expect::{OfTest, limits};
@@ -30,6 +32,8 @@ pub(crate) struct Opened {
     ghost two: { desk.lanes ≡ 2 },
     ghost led: { IsRoundOf desk rounds.rounds.desk × (back rounds.rounds.desk ≡ []) },
     ghost none: { history rounds.log.items ≡ [] },
+    ghost unchanged: { (allowed : Rates → Bool) (when : ℕ → Bool)
+        → AreAllowed allowed when (ended_in rounds.ended.items) },
     ghost first_is: { IsSeatOf desk first × (first.lane ≡ 0) × (seat_view first ≡ fresh) },
     ghost second_is: { IsSeatOf desk second × (second.lane ≡ 1) × (seat_view second ≡ fresh) },
     ghost tallies: { (first_tally.moved + first_tally.back ≡ 0)
@@ -74,7 +78,7 @@ impl<B: PartsName> Lent<B> {
     pub(crate) fn new(opened: Opened) -> Lent<B>
         requires desk { desk_id opened.desk ≡ B.desk }
         requires lanes { opened.desk.lanes ≡ B.lanes }
-        requires rates { rates_of opened.rounds.pace ≡ B.rates }
+        requires rates { B.rates (rates_of opened.rounds.pace) ≡ true }
         requires carried { opened.rounds.carried ≡ B.carried }
         requires any { (moment : ℕ) → B.when moment ≡ true }
     {

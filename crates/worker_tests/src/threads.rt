@@ -187,7 +187,7 @@ where
     R: Abort + AllocGlobal + Threads + Wait + Sync,
     requires desk { desk_id opened.desk ≡ B.desk }
     requires lanes { opened.desk.lanes ≡ B.lanes }
-    requires rates { rates_of opened.rounds.pace ≡ B.rates }
+    requires rates { B.rates (rates_of opened.rounds.pace) ≡ true }
     requires carried { opened.rounds.carried ≡ B.carried }
     requires any { (moment : ℕ) → B.when moment ≡ true }
     requires board { board_id board.board ≡ B.board }

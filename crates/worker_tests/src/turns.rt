@@ -184,7 +184,7 @@ fn receives_a_text<B: PartsName>(
 fn move_texts<B: PartsName>(rt: &(impl Abort + AllocGlobal + Wait), opened: Opened) -> Settled
     requires desk { desk_id opened.desk ≡ B.desk }
     requires lanes { opened.desk.lanes ≡ B.lanes }
-    requires rates { rates_of opened.rounds.pace ≡ B.rates }
+    requires rates { B.rates (rates_of opened.rounds.pace) ≡ true }
     requires carried { opened.rounds.carried ≡ B.carried }
     requires any { (moment : ℕ) → B.when moment ≡ true }
 {

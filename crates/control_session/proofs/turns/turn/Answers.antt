@@ -7,24 +7,26 @@ use Rattle.control_session.proofs.Turning.{acts_went, refused_went}
 use Rattle.control_session.proofs.turns.turn.Goals as goal
 
 pub returns-in-Err-clause-went : goal.returns-in-Err-clause-went
-returns-in-Err-clause-went g c came taken heard taken' next = (
-  taken,
-  heard,
-  refused_went _ _ _ _ _ _ came c.args.talk.now.came _ taken taken' heard _ _ c.args.input next c.requires.live c.in-Err.ensures.unchanged c.in-Err.ensures.back c.in-Err.ensures.tried,
-  inl refl,
-  tt,
-  inl refl,
-)
+returns-in-Err-clause-went g c came taken heard taken' next =
+    let tried = c.in-Err.ensures.tried in (
+      taken,
+      heard,
+      refused_went _ _ _ _ _ _ came c.args.talk.now.came _ taken taken' heard _ _ c.args.input next c.requires.live c.in-Err.ensures.unchanged c.in-Err.ensures.back (tried.0, tried.1, tried.2, tried.3, tried.4, tried.5, (c.requires.live, tried.6)),
+      inl refl,
+      tt,
+      inl refl,
+    )
 
 pub returns-clause-went : goal.returns-clause-went
-returns-clause-went g c came taken heard taken' next = (
-  taken',
-  behind (given_of c.args.input) heard,
-  acts_went _ _ _ _ _ _ _ came _ taken taken' heard _ _ _ _ _ _ c.in-Ok.actions.items _ next c.in-Ok.ensures.row c.carry_out-talk.ensures.carries c.either-talk.ensures c.closes.ensures.closes c.deref.ensures.value,
-  inr refl,
-  any_ok c.ended.result _ refl,
-  inr refl,
-)
+returns-clause-went g c came taken heard taken' next =
+    let row = c.in-Ok.ensures.row in (
+      taken',
+      behind (given_of c.args.input) heard,
+      acts_went _ _ _ _ _ _ _ came _ taken taken' heard _ _ _ _ _ _ c.in-Ok.actions.items _ next (row.0, row.1, row.2, row.3, row.4, row.5, row.6, (c.requires.live, row.7)) c.carry_out-talk.ensures.carries c.either-talk.ensures c.closes.ensures.closes c.deref.ensures.value,
+      inr refl,
+      any_ok c.ended.result _ refl,
+      inr refl,
+    )
 
 pub returns-clause-held : goal.returns-clause-held
-returns-clause-held g c = any_ok c.ended.result _ (row_holds _ _ _ _ _ _ _ _ _ _ _ c.in-Ok.ensures.row.6)
+returns-clause-held g c = any_ok c.ended.result _ (row_holds _ _ _ _ _ _ _ _ _ _ _ c.in-Ok.ensures.row.7)

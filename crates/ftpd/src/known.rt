@@ -1,0 +1,93 @@
+//! The names of users and groups that a server knows by numbers.
+
+use authorizer::{Authorizer, AuthorizerFault};
+use std::alloc::{AllocError, Global};
+
+/// A name that no user has: a configuration states names of one line.
+const NOBODY: &str = "\n";
+
+/// A user's number and name.
+#[derive(Drop)]
+struct NumberedName {
+    number: u32,
+    name: String,
+}
+
+/// The names of users and groups, by their numbers.
+///
+/// It has no passwords and no homes: a type with an [`Authorizer`] in it cannot be among the signs of a server, since the
+/// borrow checker does not cover a call of `serve` with them.
+#[derive(Drop)]
+pub(crate) struct Known {
+    // in the order of their numbers
+    users: Vec<NumberedName>,
+    // the least number that no user has had, nor any below it
+    next: u64,
+    /// The names of groups, by their numbers.
+    pub groups: Vec<String>,
+}
+
+/// Has an authorizer use the numbers from one up to another for nobody.
+fn skip(users: &mut Authorizer, from: u64, to: u64) -> Result<(), AuthorizerFault> {
+    for _ in from..to {
+        users.add_user(NOBODY, "", "/", "")?;
+        users.remove_user(NOBODY)?;
+    }
+    Ok(())
+}
+
+impl Known {
+    /// The names of these users. Numbers below `next` have been used before.
+    pub fn of(
+        alloc: Global,
+        users: &Authorizer,
+        next: u64,
+        groups: Vec<String>,
+    ) -> Result<Known, AllocError> {
+        let mut numbered = Vec::new(alloc);
+        let mut next = next;
+        for name in users.names(alloc)? {
+            if let Some(number) = users.number(name.as_str()) {
+                next = next.max(u64::from(number) + 1);
+                if numbered.push(NumberedName { number, name }).is_err() {
+                    return Err(AllocError);
+                }
+            }
+        }
+        numbered.sort_unstable_by_key(|user| user.number);
+        Ok(Known {
+            users: numbered,
+            next,
+            groups,
+        })
+    }
+
+    /// The least number that no user has had, nor any below it.
+    pub fn next(&self) -> u64 {
+        self.next
+    }
+
+    /// The name of the user with a number.
+    pub fn user(&self, number: u32) -> Option<&str> {
+        for user in &self.users {
+            if user.number == number {
+                return Some(user.name.as_str());
+            }
+        }
+        None
+    }
+
+    /// An authorizer in which users of these names have these numbers, and new ones get others than anybody has had.
+    pub fn authorizer(&self, alloc: Global) -> Result<Authorizer, AuthorizerFault> {
+        let mut users = Authorizer::new(alloc)?;
+        let mut next = 0;
+        for user in &self.users {
+            let number = u64::from(user.number);
+            skip(&mut users, next, number)?;
+            users.add_user(user.name.as_str(), "", "/", "")?;
+            next = number + 1;
+        }
+        skip(&mut users, next, self.next)?;
+        Ok(users)
+    }
+}

@@ -1,7 +1,12 @@
 pub mod MachinePaths
 pub mod Refusals
 pub mod Times
-pub mod Told
+pub mod Looks
+pub mod Ends
+pub mod Options
+pub mod MachineCalls
+pub mod Opening
+pub mod Moving
 pub mod Honest
 pub mod Listings
 pub mod Places

@@ -1,82 +1,129 @@
 //! Paths of entries in a folder of the machine, and their metadata.
 
 ghost use Rattle.std.specs.Prelude.{◌≡◌, ◌⊎◌, ◌++◌, ◌∷◌, [], map, IfOk, OnOk, string_bytes};
-ghost use Rattle.folder_store.specs.MachinePaths.{IsOpenText};
+ghost use Rattle.folder_store.specs.MachinePaths.{IsEntered, IsOpenText};
 ghost use Rattle.folder_store.specs.Places.{LeadsTo};
 
 use crate::fault::MachineFault;
-use crate::look::{fault_of, meta_of};
-use crate::machine_path::{MachinePath, enter};
+use crate::look::{fault_of, found, is_same, meta_of};
+use crate::looked::Looked;
+use crate::machine::FolderMachine;
+use crate::machine_path::{MachinePath, open_text};
 use ftp_terms::{EntryKind, Meta};
-use std::fs::Metadata;
-use std::os::fd::AsRawFd;
-use std::rt::Files;
-use std::{fs, io};
+use std::io;
+use std::io::ErrorKind;
 use virtual_path::VPath;
 
 /// A folder of the machine, given by the machine's path.
 #[derive(Drop)]
-pub(crate) struct Folder<R: Files + Alloc + Clone + Drop> {
-    pub rt: R,
-    pub path: String<R::A>,
-}
-
-/// The metadata of an entry, or the fault for the machine's refusal.
-fn told(answer: io::Result<Metadata>) -> Result<Metadata, MachineFault> {
-    answer.map_err(|error| fault_of(&error))
+pub(crate) struct Folder<M: FolderMachine + Drop> {
+    pub machine: M,
+    pub path: String<M::A>,
+    /// The machine has `/proc`: an open directory was found there by its number.
+    pub has_proc: bool,
 }
 
 /// The metadata of a directory or a file; anything else is not found.
-fn known(metadata: &Metadata) -> Result<Meta, MachineFault> {
-    meta_of(metadata).ok_or(MachineFault::NotFound)
+fn known(looked: &Looked) -> Result<Meta, MachineFault> {
+    meta_of(looked).ok_or(MachineFault::NotFound)
 }
 
-impl<R: Files + Alloc + Clone + Drop> Folder<R>
-where
-    R::File: AsRawFd,
-{
-    /// The metadata of the folder itself, which may be reached through a link.
-    fn itself(&self) -> Result<Metadata, MachineFault> {
-        told(fs::metadata(&self.rt, self.path.as_str()))
-    }
-
-    /// The metadata of an entry; a link is not followed.
-    fn tells(&self, place: &str) -> Result<Metadata, MachineFault> {
-        told(fs::symlink_metadata(&self.rt, place))
-    }
-
-    /// The folder, entered.
-    fn top(&self) -> Result<MachinePath<R::File, R::A>, MachineFault>
+impl<M: FolderMachine + Drop> Folder<M> {
+    /// The folder, by its path. It may be reached through a link.
+    fn top(&self) -> Result<MachinePath<M::Directory, M::A>, MachineFault>
         ensures place { IfOk result (LeadsTo (string_bytes self.now.path) []) }
     {
-        let looked = self.itself()?;
-        let mut place = MachinePath::named(self.rt.alloc(), self.path.as_str())?;
-        enter(&self.rt, &mut place, &looked)?;
+        let place = MachinePath::named(self.machine.alloc(), self.path.as_str())?;
         Ok(place)
     }
 
-    /// Goes one name further, and enters the directory there. Returns whether a file is there.
-    fn step(&self, place: &mut MachinePath<R::File, R::A>, name: &str) -> Result<bool, MachineFault>
-        ensures place { OnOk result (IsOpenText place.new
-            ⊎ (place.new ≡ place.old ++ 47 ∷ name.now)) }
+    /// Returns whether the open directory at a place is found by the path of its number too. This is asked until it was
+    /// found once. `NotFound` if another entry is at the place by now.
+    fn is_numbered(&mut self, place: &str, text: &str) -> Result<bool, MachineFault>
+        ensures path { self.new.path ≡ self.old.path }
     {
-        place.push(name)?;
-        let looked = self.tells(place.text())?;
-        let meta = known(&looked)?;
-        if meta.kind == EntryKind::File {
+        if self.has_proc {
             return Ok(true);
         }
-        enter(&self.rt, place, &looked)?;
-        Ok(false)
+        let Ok(numbered) = self.machine.follow(text) else {
+            return Ok(false);
+        };
+        let named = found(self.machine.look(place))?;
+        if !is_same(&named, &numbered) {
+            return Err(MachineFault::NotFound);
+        }
+        self.has_proc = true;
+        Ok(true)
+    }
+
+    /// Continues through the open directory that a path leads to. If the machine has no `/proc`, the path continues by its
+    /// name.
+    pub fn go_on(
+        &mut self,
+        place: &mut MachinePath<M::Directory, M::A>,
+        directory: M::Directory,
+    ) -> Result<(), MachineFault>
+        ensures entered { OnOk result (IsEntered place.old place.new) }
+        ensures path { self.new.path ≡ self.old.path }
+    {
+        let text = open_text(self.machine.alloc(), &directory)?;
+        if self.is_numbered(place.text(), text.as_str())? {
+            place.hold(directory, text);
+        }
+        Ok(())
+    }
+
+    /// Returns whether a file is at a place that could not be opened as a directory. A directory that this process may not
+    /// read is followed by its name.
+    pub fn is_file_at(&mut self, place: &str, error: &io::Error) -> Result<bool, MachineFault>
+        ensures path { self.new.path ≡ self.old.path }
+    {
+        let is_denied = error.kind() == ErrorKind::PermissionDenied;
+        let is_none = error.kind() == ErrorKind::NotADirectory
+            || error.kind() == ErrorKind::FilesystemLoop;
+        if !is_denied && !is_none {
+            return Err(fault_of(error));
+        }
+        let looked = self.look(place)?;
+        match looked.kind {
+            EntryKind::File => Ok(true),
+            EntryKind::Directory if is_denied => Ok(false),
+            // It came after the call.
+            EntryKind::Directory => Err(MachineFault::NotFound),
+        }
+    }
+
+    /// Goes one name further, and enters the directory there. Returns whether a file is there.
+    fn step(
+        &mut self,
+        place: &mut MachinePath<M::Directory, M::A>,
+        name: &str,
+    ) -> Result<bool, MachineFault>
+        ensures place { OnOk result (IsOpenText place.new
+            ⊎ (place.new ≡ place.old ++ 47 ∷ name.now)) }
+        ensures path { self.new.path ≡ self.old.path }
+    {
+        place.push(name)?;
+        match self.machine.enter(place.text()) {
+            Ok(directory) => {
+                self.go_on(place, directory)?;
+                Ok(false)
+            }
+            Err(error) => self.is_file_at(place.text(), &error),
+        }
     }
 
     /// The directory that these names lead to; each must be the name of a directory, not of a link.
     ///
     /// Returns `NotDir` if the last name is that of a file, and `NotFound` if no entry can be
     /// there.
-    pub fn directory(&self, names: &[&str]) -> Result<MachinePath<R::File, R::A>, MachineFault>
+    pub fn directory(
+        &mut self,
+        names: &[&str],
+    ) -> Result<MachinePath<M::Directory, M::A>, MachineFault>
         ensures place { IfOk result
-            (LeadsTo (string_bytes self.now.path) (map (λ name. name.now) names.now)) }
+            (LeadsTo (string_bytes self.old.path) (map (λ name. name.now) names.now)) }
+        ensures path { self.new.path ≡ self.old.path }
     {
         let mut place = self.top()?;
         let mut is_file = false;
@@ -93,10 +140,15 @@ where
     }
 
     /// The path of an entry with this name, existing or not, in the directory that names lead to.
-    fn below(&self, above: &[&str], last: &str) -> Result<MachinePath<R::File, R::A>, MachineFault>
+    fn below(
+        &mut self,
+        above: &[&str],
+        last: &str,
+    ) -> Result<MachinePath<M::Directory, M::A>, MachineFault>
         ensures place { IfOk result
-            (LeadsTo (string_bytes self.now.path)
+            (LeadsTo (string_bytes self.old.path)
             (map (λ name. name.now) above.now ++ last.now ∷ [])) }
+        ensures path { self.new.path ≡ self.old.path }
     {
         let mut place = self.directory(above)?;
         place.push(last)?;
@@ -104,10 +156,14 @@ where
     }
 
     /// The path of an entry, existing or not, below existing directories.
-    pub fn place(&self, path: &VPath<R::A>) -> Result<MachinePath<R::File, R::A>, MachineFault>
-        ensures place { IfOk result (LeadsTo (string_bytes self.now.path) path.now) }
+    pub fn place(
+        &mut self,
+        path: &VPath<M::A>,
+    ) -> Result<MachinePath<M::Directory, M::A>, MachineFault>
+        ensures place { IfOk result (LeadsTo (string_bytes self.old.path) path.now) }
+        ensures path { self.new.path ≡ self.old.path }
     {
-        let mut names = path.names(self.rt.alloc())?;
+        let mut names = path.names(self.machine.alloc())?;
         match names.pop() {
             None => self.top(),
             Some(last) => self.below(&names, last),
@@ -115,8 +171,12 @@ where
     }
 
     /// The path of an entry that must exist; there is nothing beneath a file.
-    pub fn found(&self, path: &VPath<R::A>) -> Result<MachinePath<R::File, R::A>, MachineFault>
-        ensures place { IfOk result (LeadsTo (string_bytes self.now.path) path.now) }
+    pub fn found(
+        &mut self,
+        path: &VPath<M::A>,
+    ) -> Result<MachinePath<M::Directory, M::A>, MachineFault>
+        ensures place { IfOk result (LeadsTo (string_bytes self.old.path) path.now) }
+        ensures path { self.new.path ≡ self.old.path }
     {
         match self.place(path) {
             Err(MachineFault::NotDir) => Err(MachineFault::NotFound),
@@ -125,24 +185,35 @@ where
     }
 
     /// The metadata of the entry at a path of the machine.
-    pub fn look(&self, place: &str) -> Result<Meta, MachineFault> {
-        let metadata = self.tells(place)?;
-        known(&metadata)
+    pub fn look(&mut self, place: &str) -> Result<Meta, MachineFault>
+        ensures path { self.new.path ≡ self.old.path }
+    {
+        let looked = found(self.machine.look(place))?;
+        known(&looked)
     }
 
     /// The metadata of the entry at a path.
-    pub fn look_at(&self, path: &VPath<R::A>) -> Result<Meta, MachineFault> {
+    pub fn look_at(&mut self, path: &VPath<M::A>) -> Result<Meta, MachineFault> {
         if path.is_root() {
-            let metadata = self.itself()?;
-            return known(&metadata);
+            return self.itself();
         }
         let place = self.found(path)?;
         self.look(place.text())
     }
 
+    /// The metadata of the folder itself, which may be reached through a link.
+    fn itself(&mut self) -> Result<Meta, MachineFault> {
+        let looked = found(self.machine.follow(self.path.as_str()))?;
+        known(&looked)
+    }
+
     /// The path of a file that must exist. The root is not a file.
-    pub fn found_file(&self, path: &VPath<R::A>) -> Result<MachinePath<R::File, R::A>, MachineFault>
-        ensures place { IfOk result (LeadsTo (string_bytes self.now.path) path.now) }
+    pub fn found_file(
+        &mut self,
+        path: &VPath<M::A>,
+    ) -> Result<MachinePath<M::Directory, M::A>, MachineFault>
+        ensures place { IfOk result (LeadsTo (string_bytes self.old.path) path.now) }
+        ensures path { self.new.path ≡ self.old.path }
     {
         if path.is_root() {
             return Err(MachineFault::IsDir);
@@ -150,18 +221,9 @@ where
         self.found(path)
     }
 
-    /// The machine's metadata of the file at a path of the machine.
-    pub fn look_file(&self, place: &str) -> Result<Metadata, MachineFault> {
-        let looked = self.tells(place)?;
-        match known(&looked)?.kind {
-            EntryKind::Directory => Err(MachineFault::IsDir),
-            EntryKind::File => Ok(looked),
-        }
-    }
-
     /// Refuses if there is any entry, even a link.
-    pub fn nothing_at(&self, place: &str) -> Result<(), MachineFault> {
-        match self.tells(place) {
+    pub fn nothing_at(&mut self, place: &str) -> Result<(), MachineFault> {
+        match found(self.machine.look(place)) {
             Ok(_) => Err(MachineFault::Exists),
             Err(MachineFault::NotFound) => Ok(()),
             Err(fault) => Err(fault),

@@ -1,10 +1,12 @@
 //! A store over a folder of the machine.
 //!
 //! [`DirStore`] serves a folder and everything beneath it, and never leaves it: a call goes down name by
-//! name; each directory on the way is examined, opened, and kept open while its entries are accessed by
-//! name. Symbolic links below the folder are neither followed nor listed; sockets, pipes and devices are
+//! name; each directory on the way is opened by a call that refuses a link, and kept open while its entries are accessed
+//! by name. Symbolic links below the folder are neither followed nor listed; sockets, pipes and devices are
 //! not listed. An entry that is not listed still exists: nothing is created in its place, and its directory
 //! is not empty.
+//!
+//! All calls on files go to one [`FolderMachine`], so contracts name the calls that a store makes, and their order.
 //!
 //! ```text
 //! let path = VPath::root(rt.alloc()).resolve(rt.alloc(), "/report")?;
@@ -33,13 +35,22 @@ mod changes;
 mod count;
 mod fault;
 mod files;
+mod files_machine;
 mod folder;
 mod listing;
 mod look;
+mod looked;
+mod machine;
 mod machine_path;
+mod moving;
 mod open;
+mod opening;
+mod options;
 mod store;
 
 pub use fault::MachineFault;
-pub use open::{DirSink, DirSource, flushed, write_new};
+pub use files_machine::OpenDirectory;
+pub use looked::{Looked, LookedKind};
+pub use machine::FolderMachine;
+pub use open::{DirSink, DirSource, write_new};
 pub use store::DirStore;

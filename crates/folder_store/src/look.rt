@@ -1,18 +1,17 @@
 //! Metadata of entries of the machine.
 
-ghost use Rattle.std.specs.Prelude.{◌≡◌, ◌≢◌, ◌⊎◌, ◌↔◌, IsTrue, MatchOption};
+ghost use Rattle.std.specs.Prelude.{◌≡◌, ◌≢◌, ◌⊎◌, ◌↔◌, IsTrue, IsErr, MatchResult, Ok};
 ghost use Rattle.std.specs.IoError.{error_kind};
 ghost use Rattle.std.specs.declared.io.Error.{Error};
 ghost use Rattle.folder_store.specs.Times.{shown};
-ghost use Rattle.folder_store.specs.Told.{IsTold, IsNeither};
+ghost use Rattle.folder_store.specs.Looks.{meta_of, IsSameEntry};
 
 use crate::fault::MachineFault;
+use crate::looked::{Looked, LookedKind};
 use ftp_terms::{EntryKind, LATEST, Meta};
 use last_fault::LastFault;
-use std::fs::Metadata;
 use std::io;
 use std::io::ErrorKind;
-use std::os::unix::fs::MetadataExt;
 use virtual_tree::StoreFault;
 
 /// The reason for which a call was refused, from the machine's error kind. A full disk is a fault of the device. A fault
@@ -40,6 +39,24 @@ pub(crate) fn fault_of(error: &io::Error) -> MachineFault
         ErrorKind::DirectoryNotEmpty => MachineFault::NotEmpty,
         ErrorKind::OutOfMemory => MachineFault::Memory,
         _ => MachineFault::Device(*error),
+    }
+}
+
+/// The fault of a look at an entry: beneath what is no directory there is none.
+pub(crate) fn beneath(fault: MachineFault) -> MachineFault {
+    match fault {
+        MachineFault::NotDir => MachineFault::NotFound,
+        other => other,
+    }
+}
+
+/// The machine's answer about an entry by its path.
+pub(crate) fn found(answer: io::Result<Looked>) -> Result<Looked, MachineFault>
+    ensures found { MatchResult answer (λ looked. result ≡ Ok looked) (λ _. IsErr result) }
+{
+    match answer {
+        Ok(looked) => Ok(looked),
+        Err(error) => Err(beneath(fault_of(&error))),
     }
 }
 
@@ -97,36 +114,20 @@ pub(crate) fn seconds(time: i64) -> u64
 }
 
 /// The metadata of a directory or a file; `None` for anything else, such as a link.
-pub(crate) fn meta_of(metadata: &Metadata) -> Option<Meta>
-    ensures told { MatchOption result (IsNeither metadata.now) (IsTold metadata.now) }
+pub(crate) fn meta_of(looked: &Looked) -> Option<Meta>
+    ensures meta { result ≡ meta_of looked.now }
 {
-    if metadata.is_dir() {
-        return Some(Meta::new(EntryKind::Directory, 0, seconds(metadata.mtime())));
-    }
-    if metadata.is_file() {
-        return Some(Meta::new(EntryKind::File, metadata.len(), seconds(metadata.mtime())));
-    }
-    None
-}
-
-/// The machine's identity of an entry: its device, and its number there.
-#[derive(Clone, Copy)]
-pub(crate) struct Identity {
-    device: u64,
-    number: u64,
-}
-
-/// The machine's identity of an entry. No contract can say which numbers it returns.
-pub(crate) fn identity_of(metadata: &Metadata) -> Identity {
-    Identity {
-        device: metadata.dev(),
-        number: metadata.ino(),
+    let second = seconds(looked.modified);
+    match looked.kind {
+        LookedKind::Directory => Some(Meta::new(EntryKind::Directory, 0, second)),
+        LookedKind::File => Some(Meta::new(EntryKind::File, looked.length, second)),
+        LookedKind::Other => None,
     }
 }
 
-/// Returns whether both are the same entry.
-pub(crate) fn is_same(looked: Identity, opened: Identity) -> bool
-    ensures same { IsTrue result ↔ (looked ≡ opened) }
+/// Returns whether both are the same entry, by the machine's identity.
+pub(crate) fn is_same(looked: &Looked, opened: &Looked) -> bool
+    ensures same { IsTrue result ↔ IsSameEntry looked.now opened.now }
 {
     looked.device == opened.device && looked.number == opened.number
 }

@@ -1,33 +1,42 @@
 //! Open files of the machine.
 
-ghost use Rattle.std.specs.Prelude.{◌≡◌, ◌-◌, ◌<◌, ◌≤◌, length, None, IfOk, IfErr, OnErr};
-ghost use Rattle.std.specs.Io.KnownBytes.{ReadConsumes};
+ghost use Rattle.std.specs.Prelude.{◌≡◌, ◌-◌, ◌<◌, ◌≤◌, length, take, None, IfOk, IfErr, OnErr, OnOk};
+ghost use Rattle.std.specs.Io.KnownBytes.{Appends, Consumes, ReadConsumes};
+ghost use Rattle.folder_store.specs.Ends.{least};
 ghost use Rattle.virtual_tree.specs.Calls.{IsEndFault};
 
-use crate::fault::MachineFault;
-use crate::look::{fault_of, identity_of, is_same, kept_end_fault};
+use crate::look::kept_end_fault;
 use last_fault::LastFault;
-use std::fs::{Metadata, OpenFile};
-use std::io::{Read, Seek, SeekFrom, Write};
+use std::io;
+use std::io::{ErrorKind, Read, Write};
 use std::marker::Model;
 use virtual_tree::{Sink, Source, StoreFault};
 
+/// The octets that are left to be read of a file.
+#[derive(Clone, Copy)]
+pub(crate) enum Rest {
+    /// At least this number of octets: what is left of its length when it was opened.
+    AtLeast(u64),
+    /// Nothing: the last read had room for more than there was.
+    Ended,
+}
+
 /// A file open for reading. Its contents are left to the machine; the least that it must deliver follows from its
-/// length when it was opened.
+/// length when it was opened. Once it is at its end, it is not read again.
 #[derive(Drop)]
 pub struct DirSource<F: Read + Drop> {
     file: F,
-    left: u64,
+    rest: Rest,
     // has the error of the last fault of the device
     fault: LastFault,
 }
 
 impl<F: Read + Drop> Model for DirSource<F> {
-    ghost use Rattle.std.specs.Prelude.{ℕ};
+    ghost use Rattle.folder_store.specs.Ends.{SourceState, least};
 
-    ghost Value = { ℕ };
+    ghost Value = { SourceState F };
 
-    ghost view = { λ source. source.left };
+    ghost view = { λ source. record { file = source.file; left = least source.rest } };
 }
 
 /// A file open for writing: octets are in it as soon as they are written.
@@ -38,27 +47,54 @@ pub struct DirSink<F: Write + Drop> {
     fault: LastFault,
 }
 
+impl<F: Write + Drop> Model for DirSink<F> {
+    ghost Value = { F };
+
+    ghost view = { λ sink. sink.file };
+}
+
 impl<F: Read + Drop> Source for DirSource<F> {
     ghost remaining = { λ _. None };
 
-    // A file that ends before it has delivered this was cut meanwhile, which is a fault of the device.
     fn read(&mut self, buffer: &mut [u8]) -> Result<usize, StoreFault>
         ensures bound { IfOk result (λ count. count ≤ length buffer.new) }
         ensures octets { ReadConsumes None None result buffer.new }
         ensures refusal { IfErr result (IsEndFault None) }
-        ensures left { IfOk result (λ count. self.new ≡ self.old - count) }
+        ensures left { IfOk result (λ count. self.new.left ≡ self.old.left - count) }
         ensures whole { IfOk result
-            (λ count. count ≡ 0 → 0 < length buffer.old → self.old ≡ 0) }
-        ensures kept { OnErr result (self.new ≡ self.old) }
+            (λ count. count ≡ 0 → 0 < length buffer.old → self.old.left ≡ 0) }
+        ensures kept { OnErr result (self.new.left ≡ self.old.left) }
+        ensures file { IfOk result (λ count. Consumes (F.remaining self.old.file)
+            (F.remaining self.new.file) (take count buffer.new)) }
     {
-        match self.file.read(buffer) {
+        match self.rest {
+            Rest::AtLeast(left) => self.read_more(left, buffer),
+            Rest::Ended => Ok(0),
+        }
+    }
+}
+
+impl<F: Read + Drop> DirSource<F> {
+    /// Reads the file, of which at least `left` octets are left. A file that ends before it has delivered these was cut
+    /// meanwhile, which is a fault of the device.
+    fn read_more(&mut self, left: u64, buffer: &mut [u8]) -> Result<usize, StoreFault>
+        requires left { self.old.left ≡ left }
+        ensures bound { IfOk result (λ count. count ≤ length buffer.new) }
+        ensures refusal { IfErr result (IsEndFault None) }
+        ensures left { IfOk result (λ count. self.new.left ≡ left - count) }
+        ensures whole { IfOk result (λ count. count ≡ 0 → 0 < length buffer.old → left ≡ 0) }
+        ensures kept { OnErr result (self.new.left ≡ left) }
+        ensures file { IfOk result (λ count. Consumes (F.remaining self.old.file)
+            (F.remaining self.new.file) (take count buffer.new)) }
+    {
+        match read_through(&mut self.file, buffer) {
             Ok(count) => {
-                if count == 0 && self.left > 0 && !buffer.is_empty() {
+                if count == 0 && left > 0 && !buffer.is_empty() {
                     // The machine has no error of this fault, and an earlier one is not its reason.
                     let _earlier = self.fault.take();
                     return Err(StoreFault::Device);
                 }
-                self.left = self.left.saturating_sub(count as u64);
+                self.rest = rest_after(left, count as u64, buffer.len() as u64);
                 Ok(count)
             }
             Err(error) => Err(kept_end_fault(&self.fault, error)),
@@ -66,12 +102,43 @@ impl<F: Read + Drop> Source for DirSource<F> {
     }
 }
 
+/// The rest after a read of a number of octets into this room.
+fn rest_after(left: u64, count: u64, room: u64) -> Rest
+    ensures rest { least result ≡ left - count }
+{
+    let after = left.saturating_sub(count);
+    if after == 0 && count < room {
+        Rest::Ended
+    } else {
+        Rest::AtLeast(after)
+    }
+}
+
+/// Reads once, and again if the read is interrupted.
+fn read_through<F: Read>(file: &mut F, buffer: &mut [u8]) -> io::Result<usize>
+    ensures bound { IfOk result (λ count. count ≤ length buffer.new) }
+    ensures octets { ReadConsumes (F.remaining file.old) (F.remaining file.new) result buffer.new }
+{
+    'reads: for _ in 0..u64::MAX {
+        match file.read(buffer) {
+            Err(error) if error.kind() == ErrorKind::Interrupted => {}
+            answer => return answer,
+        }
+    }
+    Err(io::Error::from(ErrorKind::Interrupted))
+}
+
 impl<F: Write + Drop> Sink for DirSink<F> {
     ghost collected = { λ _. None };
 
     ghost target = { λ _. None };
 
-    fn write(&mut self, octets: &[u8]) -> Result<(), StoreFault> {
+    fn write(&mut self, octets: &[u8]) -> Result<(), StoreFault>
+        ensures octets { OnOk result (Appends None None octets.now) }
+        ensures refusal { IfErr result (IsEndFault None) }
+        ensures file { OnOk result
+            (Appends (F.contents self.old) (F.contents self.new) octets.now) }
+    {
         match self.file.write_all(octets) {
             Ok(()) => Ok(()),
             Err(error) => Err(kept_end_fault(&self.fault, error)),
@@ -79,91 +146,40 @@ impl<F: Write + Drop> Sink for DirSink<F> {
     }
 }
 
-/// The length of a file that was just opened. It must be the one that was examined before; otherwise another entry took
-/// its place, and the result is `NotFound`.
-fn length_of<F: OpenFile>(file: &F, looked: &Metadata) -> Result<u64, MachineFault> {
-    match file.metadata() {
-        Ok(metadata) => {
-            let is_same = is_same(identity_of(looked), identity_of(&metadata));
-            let is_that_file = metadata.is_file() && is_same;
-            if is_that_file {
-                Ok(metadata.len())
-            } else {
-                Err(MachineFault::NotFound)
-            }
-        }
-        Err(error) => Err(fault_of(&error)),
-    }
-}
-
-fn seek_to<F: Seek + Drop>(mut file: F, to: SeekFrom) -> Result<F, MachineFault> {
-    match file.seek(to) {
-        Ok(_) => Ok(file),
-        Err(error) => Err(fault_of(&error)),
-    }
-}
-
 /// An open file to read, and the number of octets that it has from its offset on.
 #[derive(Drop)]
 pub(crate) struct FileRest<F: Drop> {
-    file: F,
-    left: u64,
-}
-
-/// A file to read from an offset on.
-pub(crate) fn read_behind<F: Read + Seek + OpenFile + Drop>(
-    file: F,
-    looked: &Metadata,
-    offset: u64,
-) -> Result<FileRest<F>, MachineFault> {
-    let length = length_of(&file, looked)?;
-    if length < offset {
-        return Err(MachineFault::PastEnd);
-    }
-    let file = seek_to(file, SeekFrom::Start(offset))?;
-    let left = length - offset;
-    Ok(FileRest { file, left })
+    pub file: F,
+    pub left: u64,
 }
 
 /// The source of an open file, which leaves the errors of its faults in `fault`.
 pub(crate) fn read_rest<F: Read + Drop>(rest: FileRest<F>, fault: LastFault) -> DirSource<F>
-    ensures left { result ≡ rest.left }
+    ensures file { result.file ≡ rest.file }
+    ensures left { result.left ≡ rest.left }
 {
     let FileRest { file, left } = rest;
-    DirSource { file, left, fault }
+    DirSource {
+        file,
+        rest: Rest::AtLeast(left),
+        fault,
+    }
 }
 
 /// The sink of a file that is open for writing, which leaves the errors of its faults in `fault`.
-pub fn write_new<F: Write + Drop>(file: F, fault: LastFault) -> DirSink<F> {
+pub fn write_new<F: Write + Drop>(file: F, fault: LastFault) -> DirSink<F>
+    ensures file { result ≡ file }
+{
     DirSink { file, fault }
 }
 
-/// A file to write after its first `offset` octets; the others are cut off.
-pub(crate) fn write_behind<F: Write + Seek + OpenFile + Drop>(
-    file: F,
-    looked: &Metadata,
-    offset: u64,
-) -> Result<F, MachineFault> {
-    let length = length_of(&file, looked)?;
-    if length < offset {
-        return Err(MachineFault::PastEnd);
+impl<F: Write + Drop> DirSink<F> {
+    /// The file.
+    pub(crate) fn into_file(self) -> F
+        ensures file { result ≡ self }
+    {
+        let DirSink { file, fault } = self;
+        drop(fault);
+        file
     }
-    file.set_len(offset).map_err(|error| fault_of(&error))?;
-    seek_to(file, SeekFrom::Start(offset))
-}
-
-/// A file that was opened to be appended to.
-pub(crate) fn write_at_end<F: Write + OpenFile + Drop>(
-    file: F,
-    looked: &Metadata,
-) -> Result<F, MachineFault> {
-    let _length = length_of(&file, looked)?;
-    Ok(file)
-}
-
-/// Flushes the octets received to the machine. A fault of the device has the machine's error.
-pub fn flushed<F: Write + Drop>(sink: DirSink<F>) -> Result<(), MachineFault> {
-    let DirSink { mut file, fault } = sink;
-    drop(fault);
-    file.flush().map_err(|error| fault_of(&error))
 }

@@ -8,14 +8,13 @@ ghost use Rattle.folder_store.specs.Refusals.{store_fault};
 use crate::count::FaultCount;
 use crate::fault::MachineFault;
 use crate::folder::Folder;
-use crate::open::{DirSink, DirSource, flushed, read_rest, write_new};
+use crate::looked::LookedKind;
+use crate::machine::FolderMachine;
+use crate::open::{DirSink, DirSource, read_rest, write_new};
 use ftp_terms::Meta;
 use last_fault::LastFault;
-use std::fs;
 use std::io::ErrorKind;
 use std::marker::Model;
-use std::os::fd::AsRawFd;
-use std::rt::Files;
 use virtual_path::VPath;
 use virtual_tree::{ListedEntry, Store, StoreFault, WriteMode};
 
@@ -25,13 +24,13 @@ use virtual_tree::{ListedEntry, Store, StoreFault, WriteMode};
 /// The machine's error of the last fault of the device is left in a [`LastFault`], also that of a read or write of a file
 /// that it has opened.
 #[derive(Drop)]
-pub struct DirStore<R: Files + Alloc + Clone + Drop> {
-    folder: Folder<R>,
+pub struct DirStore<M: FolderMachine + Drop> {
+    folder: Folder<M>,
     faults: FaultCount,
     fault: LastFault,
 }
 
-impl<R: Files + Alloc + Clone + Drop> Model for DirStore<R> {
+impl<M: FolderMachine + Drop> Model for DirStore<M> {
     ghost use Rattle.folder_store.specs.declared.count.FaultCount.{FaultCount};
 
     ghost Value = { FaultCount };
@@ -39,21 +38,19 @@ impl<R: Files + Alloc + Clone + Drop> Model for DirStore<R> {
     ghost view = { λ store. store.faults };
 }
 
-impl<R: Files + Alloc + Clone + Drop> DirStore<R>
-where
-    R::File: AsRawFd,
-{
+impl<M: FolderMachine + Drop> DirStore<M> {
     /// The folder at a path of the machine, which must exist. A link at its end is followed. The errors of its faults
     /// are left in `fault`.
-    pub fn new(rt: R, folder: &str, fault: LastFault) -> Result<DirStore<R>, StoreFault>
+    pub fn new(machine: M, folder: &str, fault: LastFault) -> Result<DirStore<M>, StoreFault>
         ensures new { IfOk result (λ store. store.count ≡ 0) }
         ensures faults { IfErr result (λ fault. (fault ≡ StoreFault.NotFound)
             ⊎ (fault ≡ StoreFault.NotDir) ⊎ (fault ≡ StoreFault.Device)
             ⊎ (fault ≡ StoreFault.Memory)) }
     {
-        match fs::metadata(&rt, folder) {
-            Ok(metadata) => {
-                if !metadata.is_dir() {
+        let mut machine = machine;
+        match machine.follow(folder) {
+            Ok(looked) => {
+                if looked.kind != LookedKind::Directory {
                     return Err(StoreFault::NotDir);
                 }
             }
@@ -69,9 +66,13 @@ where
                 };
             }
         }
-        let path = String::from_str(rt.alloc(), folder)?;
+        let path = String::from_str(machine.alloc(), folder)?;
         Ok(DirStore {
-            folder: Folder { rt, path },
+            folder: Folder {
+                machine,
+                path,
+                has_proc: false,
+            },
             faults: FaultCount { count: 0 },
             fault,
         })
@@ -101,16 +102,13 @@ where
     }
 }
 
-impl<R: Files + Alloc + Clone + Drop> Store<R::A> for DirStore<R>
-where
-    R::File: AsRawFd,
-{
+impl<M: FolderMachine + Drop> Store<M::A> for DirStore<M> {
     ghost use Rattle.std.specs.Prelude.{None};
     ghost use Rattle.folder_store.specs.Honest.{FolderStep};
 
-    type Source = DirSource<R::File>;
+    type Source = DirSource<M::File>;
 
-    type Sink = DirSink<R::File>;
+    type Sink = DirSink<M::File>;
 
     ghost Step = { FolderStep };
 
@@ -124,21 +122,21 @@ where
         self.faults.count
     }
 
-    fn stat(&mut self, path: &VPath<R::A>) -> Result<Meta, StoreFault> {
+    fn stat(&mut self, path: &VPath<M::A>) -> Result<Meta, StoreFault> {
         let answer = self.folder.look_at(path);
         self.answer(answer)
     }
 
-    fn list(&mut self, path: &VPath<R::A>) -> Result<Vec<ListedEntry<R::A>, R::A>, StoreFault> {
+    fn list(&mut self, path: &VPath<M::A>) -> Result<Vec<ListedEntry<M::A>, M::A>, StoreFault> {
         let answer = self.folder.list(path);
         self.answer(answer)
     }
 
     fn open_read(
         &mut self,
-        path: &VPath<R::A>,
+        path: &VPath<M::A>,
         offset: u64,
-    ) -> Result<DirSource<R::File>, StoreFault> {
+    ) -> Result<DirSource<M::File>, StoreFault> {
         let Ok(fault) = self.fault.another() else {
             return Err(StoreFault::Memory);
         };
@@ -151,10 +149,10 @@ where
 
     fn open_write(
         &mut self,
-        path: &VPath<R::A>,
+        path: &VPath<M::A>,
         mode: WriteMode,
         _moment: u64,
-    ) -> Result<DirSink<R::File>, StoreFault> {
+    ) -> Result<DirSink<M::File>, StoreFault> {
         let Ok(fault) = self.fault.another() else {
             return Err(StoreFault::Memory);
         };
@@ -165,27 +163,27 @@ where
         }
     }
 
-    fn finish(&mut self, sink: DirSink<R::File>, _moment: u64) -> Result<(), StoreFault> {
-        let answer = flushed(sink);
+    fn finish(&mut self, sink: DirSink<M::File>, _moment: u64) -> Result<(), StoreFault> {
+        let answer = self.folder.finish(sink.into_file());
         self.answer(answer)
     }
 
-    fn make_dir(&mut self, path: &VPath<R::A>) -> Result<(), StoreFault> {
+    fn make_dir(&mut self, path: &VPath<M::A>) -> Result<(), StoreFault> {
         let answer = self.folder.make_directory(path);
         self.answer(answer)
     }
 
-    fn remove_dir(&mut self, path: &VPath<R::A>) -> Result<(), StoreFault> {
+    fn remove_dir(&mut self, path: &VPath<M::A>) -> Result<(), StoreFault> {
         let answer = self.folder.remove_directory(path);
         self.answer(answer)
     }
 
-    fn remove_file(&mut self, path: &VPath<R::A>) -> Result<(), StoreFault> {
+    fn remove_file(&mut self, path: &VPath<M::A>) -> Result<(), StoreFault> {
         let answer = self.folder.remove_file(path);
         self.answer(answer)
     }
 
-    fn rename(&mut self, from: &VPath<R::A>, to: &VPath<R::A>) -> Result<(), StoreFault> {
+    fn rename(&mut self, from: &VPath<M::A>, to: &VPath<M::A>) -> Result<(), StoreFault> {
         let answer = self.folder.rename(from, to);
         self.answer(answer)
     }

@@ -4,7 +4,7 @@ use crate::expect::{
     comes_out, comes_out_in, fresh_folder, holds, last_number, no_error, place_in, take_away,
 };
 use crate::racing_machine::{Act, DENIED, STALE, acting};
-use folder_store::{DirStore, MachineFault, flushed, write_new};
+use folder_store::{DirStore, FolderMachine, write_new};
 use last_fault::LastFault;
 use std::alloc::Global;
 use std::env::Env;
@@ -28,7 +28,7 @@ const LOOP: i32 = 40;
 
 /// A refusal of the machine, a call on a folder with the file `/f`, its result, and the number of the last error. A fault
 /// that is none of the device leaves none.
-static REFUSED: [(Act, &str, Option<i32>); 10] = [
+static REFUSED: [(Act, &str, Option<i32>); 11] = [
     (
         Act::LockFiles,
         "read /f = device fault\nfaults = 1",
@@ -60,6 +60,11 @@ static REFUSED: [(Act, &str, Option<i32>); 10] = [
         Some(DENIED),
     ),
     (
+        Act::KeepOctets,
+        "append /n x = device fault\nfaults = 1",
+        Some(STALE),
+    ),
+    (
         Act::HideFirst,
         "names / = device fault\nfaults = 1",
         Some(STALE),
@@ -81,8 +86,7 @@ fn number_after<M>(
     script: &str,
 ) -> Option<i32>
 where
-    M: Files + AllocGlobal + Clone + Drop,
-    M::File: AsRawFd,
+    M: FolderMachine + AllocGlobal + Drop,
 {
     let fault = no_error(rt);
     let other = fault.another().expect(rt, "memory");
@@ -180,14 +184,6 @@ impl Write for Full {
     }
 }
 
-/// The number of the machine's error of a fault; `None` if it has none.
-fn number_of(outcome: Result<(), MachineFault>) -> Option<i32> {
-    match outcome {
-        Err(MachineFault::Device(error)) => error.raw_os_error(),
-        _ => None,
-    }
-}
-
 #[test]
 fn of_faults_of_the_device(rt: HostRuntime) {
     check(&rt);
@@ -195,7 +191,6 @@ fn of_faults_of_the_device(rt: HostRuntime) {
     let mut sink = write_new(Full, fault.another().expect(&rt, "memory"));
     holds(&rt, sink.write(b"abc") == Err(StoreFault::Device));
     holds(&rt, last_number(&fault) == Some(NO_SPACE));
-    holds(&rt, number_of(flushed(sink)) == Some(IO));
 }
 
 /// An error without a number of the machine is kept as one without a number, in place of the one before.

@@ -1,7 +1,7 @@
 //! Expectations of the tests. A call costs the prover less than an `assert!` in its place, and an expected value costs
 //! less than a `?`, which drops everything alive there.
 
-use folder_store::DirStore;
+use folder_store::{DirStore, FolderMachine};
 use last_fault::LastFault;
 use std::alloc::Global;
 use std::env::Env;
@@ -80,8 +80,7 @@ pub(crate) fn comes_out_in<M>(
     script: &str,
 )
 where
-    M: Files + AllocGlobal + Clone + Drop,
-    M::File: AsRawFd,
+    M: FolderMachine + AllocGlobal + Drop,
 {
     let mut store = DirStore::new(machine, folder, no_error(rt)).expect(rt, folder);
     comes_out(rt, &mut store, script);

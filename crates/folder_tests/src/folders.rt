@@ -2,7 +2,7 @@
 
 use crate::expect::{comes_out_in, fresh_folder, holds, no_error, place_in, take_away};
 use crate::racing_machine::{Act, acting};
-use folder_store::DirStore;
+use folder_store::{DirStore, FolderMachine};
 use std::env::Env;
 use std::fs;
 use std::os::fd::AsRawFd;
@@ -11,7 +11,7 @@ use std::rt::Files;
 use test_store_script::{DIRECTORIES, FILES, RENAMES};
 use virtual_tree::StoreFault;
 
-/// If the machine opens no directory, or has no `/proc`, names are followed one by one.
+/// If the machine has no `/proc`, names are followed one by one.
 const BY_NAMES: &str = "make /d
 make /d/e
 new /d/e/f abc
@@ -20,11 +20,30 @@ read:1 /d/e/f = bcd
 rename /d/e/f /d/b
 size /d/b = 4
 names /d = b
+names /d/b = not a directory
+names /d/b/x = not found
 remove-file /d/b
 remove-directory /d/e
 size /d/e = not found
 new /d/x/y z = not found
 faults = 0";
+
+/// Likewise if the machine opens no directory; it then lists none.
+const UNOPENED: &str = "make /d
+make /d/e
+new /d/e/f abc
+append /d/e/f d
+read:1 /d/e/f = bcd
+rename /d/e/f /d/b
+size /d/b = 4
+names /d = device fault
+names /d/b = not a directory
+names /d/b/x = not found
+remove-file /d/b
+remove-directory /d/e
+size /d/e = not found
+new /d/x/y z = not found
+faults = 1";
 
 /// If the machine refuses each rename, no second name is left.
 const KEPT_NAMES: &str = "new /f abc
@@ -67,8 +86,7 @@ faults = 0";
 /// Carries out a script in a fresh folder of a machine.
 fn comes_out_afresh<M>(rt: &(impl Abort + Env + Files + AllocGlobal), machine: M, script: &str)
 where
-    M: Files + AllocGlobal + Clone + Drop,
-    M::File: AsRawFd,
+    M: FolderMachine + AllocGlobal + Drop,
 {
     let folder = fresh_folder(rt, "scripts");
     comes_out_in(rt, machine, folder.as_str(), script);
@@ -78,7 +96,7 @@ where
 static SCRIPTS: [&str; 3] = [FILES, DIRECTORIES, RENAMES];
 
 static ACTS: [(Act, &str); 6] = [
-    (Act::KeepDirectories, BY_NAMES),
+    (Act::KeepDirectories, UNOPENED),
     (Act::HideProc, BY_NAMES),
     (Act::KeepNames, KEPT_NAMES),
     (Act::ComeLate, LATE_COMERS),

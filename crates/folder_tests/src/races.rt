@@ -157,6 +157,7 @@ where
         rt: *rt,
         act,
         swapped: (directory.as_str(), aside.as_str()),
+        is_read: false,
     };
     let folder = place_in(rt, above, "served");
     comes_out_in(rt, machine, folder.as_str(), call);

@@ -1,9 +1,8 @@
 //! A machine on which another process acts between two calls, or which refuses calls.
 
-use std::alloc::Allocator;
-use std::fs::{Metadata, OpenOptions};
+use folder_store::{FolderMachine, Looked, LookedKind, OpenDirectory};
+use std::fs::OpenOptions;
 use std::io;
-use std::io::Read;
 use std::rt::Files;
 
 /// The machine's numbers (errno(3)) of the errors that it makes up: EACCES, and ESTALE.
@@ -26,6 +25,8 @@ pub(crate) enum Act {
     SwapLate,
     /// The machine refuses each rename.
     KeepNames,
+    /// The machine fails to flush a file.
+    KeepOctets,
     /// The machine fails when asked for the metadata of `a`.
     HideFirst,
     /// It makes a file called `n` just after that name was checked.
@@ -51,6 +52,8 @@ pub(crate) struct Racing<'a, R> {
     pub act: Act,
     /// The directory `d`, and its new path.
     pub swapped: (&'a str, &'a str),
+    /// The names of a directory were read.
+    pub is_read: bool,
 }
 
 /// A machine on which no directory is swapped.
@@ -59,22 +62,23 @@ pub(crate) fn acting<R>(rt: R, act: Act) -> Racing<'static, R> {
         rt,
         act,
         swapped: ("", ""),
+        is_read: false,
     }
 }
 
-impl<R: Files> Racing<'_, R> {
+impl<R: Files + Alloc> Racing<'_, R> {
     /// Swaps the directory for the link, once.
-    fn swap(&self) -> io::Result<()> {
+    fn swap(&mut self) -> io::Result<()> {
         let (directory, aside) = self.swapped;
-        if self.rt.symlink_metadata(directory)?.is_dir() {
-            self.rt.rename(directory, aside)?;
+        if self.rt.look(directory)?.kind == LookedKind::Directory {
+            Files::rename(&self.rt, directory, aside)?;
             self.rt.symlink("../elsewhere", directory)?;
         }
         Ok(())
     }
 
     /// The action before a call by the path of an entry in the directory `d`, or of its names.
-    fn before(&self, path: &str) -> io::Result<()> {
+    fn before(&mut self, path: &str) -> io::Result<()> {
         if matches!(&self.act, Act::SwapLate) && !path.ends_with("/d") {
             return self.swap();
         }
@@ -82,39 +86,35 @@ impl<R: Files> Racing<'_, R> {
     }
 
     /// Makes an entry at a path just after it was checked.
-    fn come_late(&self, path: &str) -> io::Result<()> {
+    fn come_late(&mut self, path: &str) -> io::Result<()> {
         match self.act {
             Act::ComeLate => {
                 let mut how = OpenOptions::new();
                 how.write(true).create_new(true);
-                let _made = self.rt.open_file(&how, path)?;
+                let _made = self.rt.open(&how, path)?;
                 Ok(())
             }
-            Act::ComeLateEmpty => self.rt.create_dir(path),
+            Act::ComeLateEmpty => self.rt.make_directory(path),
+            _ => Ok(()),
+        }
+    }
+
+    /// The action just before a file is opened, or the refusal.
+    fn before_opening(&mut self, path: &str) -> io::Result<()> {
+        match self.act {
+            Act::Remove => FolderMachine::remove_file(&mut self.rt, path),
+            Act::Link => {
+                FolderMachine::remove_file(&mut self.rt, path)?;
+                self.rt.symlink("../kept", path)
+            }
+            Act::LockFiles => Err(io::Error::from_raw_os_error(DENIED)),
             _ => Ok(()),
         }
     }
 }
 
-/// The names in each directory, each followed by a NUL.
-#[derive(Drop)]
-pub(crate) struct Told {
-    is_read: bool,
-}
-
-/// One of the names is not UTF-8, there is no entry called `gone`, and one name occurs twice.
+/// The names in each directory, each followed by a NUL. One of the names is not UTF-8, there is no entry called `gone`, and one name occurs twice.
 const NAMES: [u8; 18] = *b"b\0\xff\xfe\0t\tb\0gone\0a\0b\0";
-
-impl Read for Told {
-    fn read(&mut self, buffer: &mut [u8]) -> io::Result<usize> {
-        if self.is_read || buffer.len() < NAMES.len() {
-            return Ok(0);
-        }
-        self.is_read = true;
-        buffer[..NAMES.len()].copy_from_slice(&NAMES);
-        Ok(NAMES.len())
-    }
-}
 
 impl<R: Alloc> Alloc for Racing<'_, R> {
     type A = R::A;
@@ -124,84 +124,97 @@ impl<R: Alloc> Alloc for Racing<'_, R> {
     }
 }
 
-impl<R: Files> Files for Racing<'_, R> {
+impl<R: Files + Alloc> FolderMachine for Racing<'_, R> {
     type File = R::File;
 
-    type Dir = Told;
+    type Directory = OpenDirectory;
 
-    fn open_file(&self, how: &OpenOptions, path: &str) -> io::Result<R::File> {
-        let is_directory = path.ends_with('/');
+    ghost Does = { λ _ _ _. Unit {0} };
+
+    fn open(&mut self, how: &OpenOptions, path: &str) -> io::Result<R::File> {
+        self.before_opening(path)?;
+        let mut less = OpenOptions::new();
         match self.act {
-            Act::Remove if !is_directory => self.rt.remove_file(path)?,
-            Act::Link if !is_directory => {
-                self.rt.remove_file(path)?;
-                self.rt.symlink("../kept", path)?;
-            }
-            Act::KeepDirectories if is_directory => {
-                return Err(io::Error::from(io::ErrorKind::PermissionDenied));
-            }
-            Act::SwapAtOnce if path.ends_with("/d/") => self.swap()?,
-            Act::LockFiles if !is_directory => return Err(io::Error::from_raw_os_error(DENIED)),
-            Act::OnlyWrite if !is_directory => {
-                return self.rt.open_file(OpenOptions::new().write(true), path);
-            }
-            Act::OnlyRead if !is_directory => {
-                return self.rt.open_file(OpenOptions::new().read(true), path);
-            }
+            Act::OnlyWrite => self.rt.open(less.write(true), path),
+            Act::OnlyRead => self.rt.open(less.read(true), path),
+            _ => self.rt.open(how, path),
+        }
+    }
+
+    fn enter(&mut self, path: &str) -> io::Result<OpenDirectory> {
+        match self.act {
+            Act::KeepDirectories => return Err(io::Error::from(io::ErrorKind::PermissionDenied)),
+            Act::SwapAtOnce if path.ends_with("/d") => self.swap()?,
             _ => (),
         }
-        self.rt.open_file(how, path)
+        self.rt.enter(path)
     }
 
-    fn open_dir(&self, path: &str) -> io::Result<Told> {
-        self.before(path)?;
-        Ok(Told { is_read: false })
-    }
-
-    fn metadata(&self, path: &str) -> io::Result<Metadata> {
-        if matches!(&self.act, Act::HideProc) && path.starts_with("/proc/") {
-            return Err(io::Error::from(io::ErrorKind::NotFound));
-        }
-        self.rt.metadata(path)
-    }
-
-    fn symlink_metadata(&self, path: &str) -> io::Result<Metadata> {
+    fn look(&mut self, path: &str) -> io::Result<Looked> {
         if matches!(&self.act, Act::HideFirst) && path.ends_with("/a") {
             return Err(io::Error::from_raw_os_error(STALE));
         }
         self.before(path)?;
-        let told = self.rt.symlink_metadata(path);
+        let told = self.rt.look(path);
         if path.ends_with("/n") && told.is_err() {
             self.come_late(path)?;
         }
         told
     }
 
-    fn copy(&self, from: &str, to: &str) -> io::Result<u64> {
-        self.rt.copy(from, to)
+    fn follow(&mut self, path: &str) -> io::Result<Looked> {
+        if matches!(&self.act, Act::HideProc) && path.starts_with("/proc/") {
+            return Err(io::Error::from(io::ErrorKind::NotFound));
+        }
+        self.rt.follow(path)
     }
 
-    fn rename(&self, from: &str, to: &str) -> io::Result<()> {
+    fn examine(&mut self, file: &R::File) -> io::Result<Looked> {
+        self.rt.examine(file)
+    }
+
+    fn read_names(&mut self, _directory: &OpenDirectory, buffer: &mut [u8]) -> io::Result<usize> {
+        if self.is_read || buffer.len() < NAMES.len() {
+            self.is_read = false;
+            return Ok(0);
+        }
+        self.is_read = true;
+        buffer[..NAMES.len()].copy_from_slice(&NAMES);
+        Ok(NAMES.len())
+    }
+
+    fn cut(&mut self, file: &R::File, length: u64) -> io::Result<()> {
+        self.rt.cut(file, length)
+    }
+
+    fn go_to(&mut self, file: R::File, offset: u64) -> io::Result<R::File> {
+        self.rt.go_to(file, offset)
+    }
+
+    fn flush(&mut self, file: R::File) -> io::Result<()> {
+        if matches!(&self.act, Act::KeepOctets) {
+            return Err(io::Error::from_raw_os_error(STALE));
+        }
+        self.rt.flush(file)
+    }
+
+    fn make_directory(&mut self, path: &str) -> io::Result<()> {
+        self.before(path)?;
+        self.rt.make_directory(path)
+    }
+
+    fn remove_directory(&mut self, path: &str) -> io::Result<()> {
+        self.rt.remove_directory(path)
+    }
+
+    fn remove_file(&mut self, path: &str) -> io::Result<()> {
+        FolderMachine::remove_file(&mut self.rt, path)
+    }
+
+    fn rename(&mut self, from: &str, to: &str) -> io::Result<()> {
         if matches!(&self.act, Act::KeepNames) {
             return Err(io::Error::from_raw_os_error(DENIED));
         }
-        self.rt.rename(from, to)
-    }
-
-    fn remove_file(&self, path: &str) -> io::Result<()> {
-        self.rt.remove_file(path)
-    }
-
-    fn create_dir(&self, path: &str) -> io::Result<()> {
-        self.before(path)?;
-        self.rt.create_dir(path)
-    }
-
-    fn remove_dir(&self, path: &str) -> io::Result<()> {
-        self.rt.remove_dir(path)
-    }
-
-    fn remove_dir_all<B: Allocator>(&self, alloc: B, path: &str) -> io::Result<()> {
-        self.rt.remove_dir_all(alloc, path)
+        FolderMachine::rename(&mut self.rt, from, to)
     }
 }

@@ -6,4 +6,5 @@ pub returns : goal.returns
 returns g c = record {
   place =
       leads_further (string_bytes c.args.self.now.path) _ _ c.args.last.now (map (λ name. name.now) c.args.above.now) c.in_ok-place.ensures.place c.in_ok-push.ensures.further;
+  path = c.in_ok-place.ensures.path;
 }

@@ -1,0 +1,110 @@
+//! The machine that a program runs on.
+
+use crate::looked::Looked;
+use crate::machine::FolderMachine;
+use std::fs::{OpenFile, OpenOptions};
+use std::io::{Seek, SeekFrom, Write};
+use std::os::fd::{AsRawFd, RawFd};
+use std::rt::Files;
+use std::{fs, io};
+
+/// A directory that this process has open. It is closed if it is dropped.
+pub struct OpenDirectory {
+    number: i32,
+}
+
+impl Drop for OpenDirectory {
+    fn drop(self) {
+        let OpenDirectory { number } = self;
+        libc::close(number);
+    }
+}
+
+impl AsRawFd for OpenDirectory {
+    ghost use Rattle.std.specs.Prelude.{Some};
+
+    ghost raw_fd = { λ directory. Some directory.number };
+
+    fn as_raw_fd(&self) -> RawFd {
+        self.number
+    }
+}
+
+/// The machine's last error.
+fn last_error() -> io::Error {
+    io::Error::from_raw_os_error(os::errno())
+}
+
+impl<R: Files + Alloc> FolderMachine for R {
+    ghost use Rattle.folder_store.specs.MachineCalls.{AnyMachineCall};
+
+    type File = R::File;
+
+    type Directory = OpenDirectory;
+
+    ghost Does = { AnyMachineCall };
+
+    fn open(&mut self, how: &OpenOptions, place: &str) -> io::Result<R::File> {
+        how.open(self, place)
+    }
+
+    fn enter(&mut self, place: &str) -> io::Result<OpenDirectory> {
+        let number = os::open_dir_at(libc::AT_FDCWD, place.as_bytes());
+        if number < 0 {
+            return Err(last_error());
+        }
+        Ok(OpenDirectory { number })
+    }
+
+    fn look(&mut self, place: &str) -> io::Result<Looked> {
+        Ok(Looked::of_metadata(&fs::symlink_metadata(self, place)?))
+    }
+
+    fn follow(&mut self, place: &str) -> io::Result<Looked> {
+        Ok(Looked::of_metadata(&fs::metadata(self, place)?))
+    }
+
+    fn examine(&mut self, file: &R::File) -> io::Result<Looked> {
+        Ok(Looked::of_metadata(&file.metadata()?))
+    }
+
+    fn read_names(&mut self, directory: &OpenDirectory, buffer: &mut [u8]) -> io::Result<usize> {
+        let count = os::read_dir(directory.number, buffer);
+        let error = os::errno();
+        // A directory that was removed has no more names.
+        if error == 0 || error == libc::ENOENT {
+            Ok(count)
+        } else {
+            Err(io::Error::from_raw_os_error(error))
+        }
+    }
+
+    fn cut(&mut self, file: &R::File, length: u64) -> io::Result<()> {
+        file.set_len(length)
+    }
+
+    fn go_to(&mut self, mut file: R::File, offset: u64) -> io::Result<R::File> {
+        let _at = file.seek(SeekFrom::Start(offset))?;
+        Ok(file)
+    }
+
+    fn flush(&mut self, mut file: R::File) -> io::Result<()> {
+        file.flush()
+    }
+
+    fn make_directory(&mut self, place: &str) -> io::Result<()> {
+        fs::create_dir(self, place)
+    }
+
+    fn remove_directory(&mut self, place: &str) -> io::Result<()> {
+        fs::remove_dir(self, place)
+    }
+
+    fn remove_file(&mut self, place: &str) -> io::Result<()> {
+        fs::remove_file(self, place)
+    }
+
+    fn rename(&mut self, from: &str, to: &str) -> io::Result<()> {
+        fs::rename(self, from, to)
+    }
+}

@@ -15,6 +15,7 @@ complete -c ftpd -n '__fish_seen_subcommand_from share' -l svg -d 'Draw the shar
 complete -c ftpd -n '__fish_seen_subcommand_from serve' -l stop-file -r -F -d 'Once it appears, the server ends'
 complete -c ftpd -n '__fish_seen_subcommand_from serve' -l ready-file -r -F -d 'It is there while clients may connect'
 complete -c ftpd -n '__fish_seen_subcommand_from serve' -l drain-file -r -F -d 'Once it appears, the server ends after its transfers'
+complete -c ftpd -n '__fish_seen_subcommand_from serve' -l reload-file -r -F -d 'Each time it appears, the configuration is read again'
 complete -c ftpd -n '__fish_seen_subcommand_from serve' -l transfer-log -r -F -d 'A line is appended for each file sent or received'
 complete -c ftpd -n '__fish_seen_subcommand_from serve' -l log-form -x -a 'plain journal' -d 'Form of the notes'
 complete -c ftpd -n '__fish_seen_subcommand_from serve' -l status -r -F -d 'File to which the server writes what it does'

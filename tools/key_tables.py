@@ -36,7 +36,7 @@ serves by.
 .B "ftpd check\-config"
 judges it: it reports the first fault, or what the file says and warnings.
 It has passwords in clear text, so only the server's user should be able to read it.
-A changed file is read at the next start, and not before: there is no reload.
+A changed file is read at the next start, or by a reload, which ends no transfer.
 .PP
 A rate is octets a second, in digits, which may be grouped:
 .BR 4_000_000 .

@@ -123,17 +123,17 @@ class Server:
 
     `root` is "memory", or "folder" for a fresh one of these `files`: each a path with its octets, a length of zeros, or None for a
     directory. `server` are more lines of its table, `rates` more lines of ann's. With `stop` it has a stop file, `stop`, and
-    with `drain` a drain file, `drain`. In place of all this there may be the whole `text` of its configuration, with its port. `words` are more words of its command line, `before`
+    with `drain` and `reload` a drain file and a reload file of these names. In place of all this there may be the whole `text` of its configuration, with its port. `words` are more words of its command line, `before`
     is what the shell does that starts it, and `mode` are the permission bits of its configuration.
     """
 
-    def __init__(self, sessions=1, root="memory", files=None, server="", rates="", users=USERS, stop=False, drain=False, passive=8, text=None, port=None, words=None, before=None, mode=0o600):
+    def __init__(self, sessions=1, root="memory", files=None, server="", rates="", users=USERS, stop=False, drain=False, reload=False, passive=8, text=None, port=None, words=None, before=None, mode=0o600):
         self.room = tempfile.TemporaryDirectory(prefix="ftpd-serving-")
         self.place = self.room.name
         self.folder = f"{self.place}/files" if root == "folder" else None
         self.sessions, self.server, self.passive, self.text = sessions, server, passive, text
         self.tables = users.format(rates=rates) + ("" if self.folder else FILES)
-        signs = [*(["--stop-file", "stop"] if stop else []), *(["--drain-file", "drain"] if drain else [])]
+        signs = [*(["--stop-file", "stop"] if stop else []), *(["--drain-file", "drain"] if drain else []), *(["--reload-file", "reload"] if reload else [])]
         self.words = [*signs, *(["--login-delay", "0"] if words is None else words)]
         self.before, self.mode = before, mode
         self.process, self.port = None, port
@@ -224,6 +224,20 @@ class Server:
     def drain(self):
         with open(f"{self.place}/drain", "w"):
             pass
+
+    def reloaded(self, text=None, taken=True):
+        """Has the server read its configuration again, as it stands or with another text, and wants that it is taken or refused. Returns the note."""
+        if text is not None:
+            with open(f"{self.place}/ftpd.toml", "w") as it:
+                it.write(text)
+        before = self.all_noted().count("reloaded")
+        with open(f"{self.place}/reload", "w"):
+            pass
+        until(lambda: self.all_noted().count("reloaded") > before, "the note of a reload")
+        want(not os.path.exists(f"{self.place}/reload"), "the reload file is removed")
+        note = [it for it in self.all_noted().splitlines() if "reloaded" in it][-1]
+        same(note.endswith("configuration reloaded"), taken, note)
+        return note
 
     def ended(self):
         """The octets issued, moved and given back, once it has ended by itself."""

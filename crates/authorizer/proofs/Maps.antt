@@ -28,7 +28,7 @@ get-map_of v m q = get-from_entries nat_list_cmp_total _ q ∙ find-map v q m.en
 symmetric : (a b : List ℕ) → bytes_eq a b ≡ eq_by_cmp (slice_cmp nat_cmp) b a
 symmetric a b = sym (is_eq-slice_cmp a b) ∙ (eq_by_cmp_equiv nat_list_cmp_total).symm a b
 
-same : {V : Type 0} (m n : FinMap (slice_cmp nat_cmp) V) → ((q : List ℕ) → finite.get m q ≡ finite.get n q) → m ≡ n
+pub same : {V : Type 0} (m n : FinMap (slice_cmp nat_cmp) V) → ((q : List ℕ) → finite.get m q ≡ finite.get n q) → m ≡ n
 same m n is = same_map nat_list_cmp_total (slice_cmp-IsAntisymmetric nat_cmp-IsAntisymmetric) m n is
 
 option_map-cond : {X V : Type 0} (v : X → V) (b : Bool) (w : X) (o : Option X) → option_map v (cond b (Some w) o) ≡ cond b (Some (v w)) (option_map v o)

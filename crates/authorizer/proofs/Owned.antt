@@ -7,8 +7,9 @@ use Rattle.std.specs.FinMap as finite
 use Rattle.std.specs.FinMap.{get-empty, get-insert, get-remove}
 use Rattle.authorizer.specs.declared.fault.AuthorizerFault.{AuthorizerFault}
 use Rattle.authorizer.specs.Users.{User, Users, Accounts}
-use Rattle.authorizer.specs.Numbers.{Call, Exchange, Leaves, Follow, no_users, left_by, HaveOwnNumbers, EachHasOwnNumber}
+use Rattle.authorizer.specs.Numbers.{Call, Exchange, Leaves, Follow, no_users, left_by, EachHasOwnNumber}
 use Rattle.authorizer.specs.Numbers.Call.{AddUser, RemoveUser, OverridePerm, SetMessages, SetGroup}
+use Rattle.authorizer.specs.Renumbered.{IsNumbered}
 use Rattle.authorizer.proofs.Maps.{equal_keys}
 use Rattle.authorizer.proofs.Outcomes.{IsAdded, is-added, IsChanged, is-changed, is-overridden, is-removed}
 
@@ -17,10 +18,6 @@ some_same a b e = cc
 
 none_some : (b : User) → None ≡ Some b → ⊥
 none_some b e = cc
-
-record IsNumbered (accounts : Accounts) : Type 0 where
-  below : (name : List ℕ) (user : User) → finite.get accounts.users name ≡ Some user → user.number < accounts.next
-  own : HaveOwnNumbers accounts.users
 
 -- ---- who stands after an insertion, or a removal
 
@@ -101,7 +98,7 @@ numbered-step old new (SetGroup name group) (Ok u) e numbered =
     numbered-changed old new name (is-changed old new name (λ user. record user { group = group }) (λ user. refl) e) numbered
 numbered-step old new call (Err fault) e numbered = subst IsNumbered (sym e) numbered
 
-numbered-all : (first : Accounts) (exchanges : List Exchange) → Follow first exchanges → IsNumbered first → IsNumbered (left_by first exchanges)
+pub numbered-all : (first : Accounts) (exchanges : List Exchange) → Follow first exchanges → IsNumbered first → IsNumbered (left_by first exchanges)
 numbered-all first [] follow numbered = numbered
 numbered-all first (exchange ∷ exchanges) follow numbered =
     numbered-all exchange.left exchanges follow.1 (numbered-step first exchange.left exchange.call exchange.answer follow.0 numbered)
@@ -109,7 +106,7 @@ numbered-all first (exchange ∷ exchanges) follow numbered =
 nobody : (name : List ℕ) (user : User) → finite.get no_users.users name ≡ Some user → ⊥
 nobody name user is = none_some user (sym (get-empty {X = User} (slice_cmp nat_cmp) name) ∙ is)
 
-numbered-none : IsNumbered no_users
+pub numbered-none : IsNumbered no_users
 numbered-none = record {
   below = λ name user is. absurd (nobody name user is);
   own = λ name other user second is also same. absurd (nobody name user is);

@@ -1,4 +1,5 @@
 pub mod Changes
 pub mod Numbers
+pub mod Renumbered
 pub mod Stored
 pub mod Users

@@ -11,17 +11,23 @@ ghost use Rattle.ftp_terms.specs.Lines.{IsLine};
 ghost use Rattle.authorizer.specs.Users.{allowed, letters_at};
 ghost use Rattle.authorizer.specs.Stored.{user_of};
 ghost use Rattle.authorizer.specs.Changes.{added, placed, new_user, removed, overridden, with_messages, with_group, is_password};
+ghost use Rattle.authorizer.specs.Renumbered.{regrouped, renumbered};
+ghost use Rattle.std.specs.Prelude.{map as map_list};
 
 use crate::account::{Account, Rule, login_of, quit_of};
 use crate::allowed::letters_at;
 use crate::fault::AuthorizerFault;
 use crate::password::is_same_password;
+use crate::renumber::{names, new_numbers, planned, regroup, renumber};
 use crate::table;
 use ftp_terms::{Letter, Letters, LineText};
 use std::alloc::{AllocError, Allocator, Global};
 use std::collections::BTreeMap;
 use std::marker::Model;
 use virtual_path::{PathFault, VPath};
+
+/// Number of numbers that users can have.
+const MOST_NUMBERS: u64 = 4_294_967_296;
 
 /// The users of a server.
 #[derive(Drop)]
@@ -164,6 +170,53 @@ impl<A: Allocator + Clone> Authorizer<A> {
             (λ fault. (self.new ≡ self.old) × (with_group self.old name.now group ≡ Err fault)) }
     {
         table::set_group(&mut self.accounts, name, group)
+    }
+
+    /// Gives each user whose name an earlier authorizer has the number that it has there, and each other user a number
+    /// that nobody had there: those from its next number on, in the order of the numbers before. Everything else of each
+    /// user stays. The next user gets the number after all of these.
+    pub fn keep_numbers<B: Allocator>(
+        &mut self,
+        earlier: &Authorizer<B>,
+    ) -> Result<(), AuthorizerFault>
+        ensures users { LeavesDefined AuthorizerFault.Memory self.old result self.new
+            (renumbered self.old earlier.now) }
+    {
+        let numbers = new_numbers(self.alloc.clone()?, &self.accounts, &earlier.accounts)?;
+        let next = earlier.next + numbers.len() as u64;
+        if next > MOST_NUMBERS {
+            return Err(AuthorizerFault::NoNumber);
+        }
+        let alloc = self.alloc.clone()?;
+        let plan = planned(
+            alloc,
+            &self.accounts,
+            &earlier.accounts,
+            earlier.next,
+            &numbers,
+        )?;
+        renumber(&mut self.accounts, &plan);
+        self.next = next;
+        Ok(())
+    }
+
+    /// Gives each user in a group the number that `numbers` has at the place of their group's number; a number beyond
+    /// the list stays. Everything else stays.
+    pub fn renumber_groups(&mut self, numbers: &[u32]) -> Result<(), AuthorizerFault>
+        ensures users { LeavesDefined AuthorizerFault.Memory self.old result self.new
+            (Ok (regrouped numbers.now self.old)) }
+    {
+        let names = names(self.alloc.clone()?, &self.accounts)?;
+        regroup(&mut self.accounts, &names, numbers);
+        Ok(())
+    }
+
+    /// The names of all users, in their order, octet by octet.
+    pub fn names<B: Allocator + Clone>(&self, alloc: B) -> Result<Vec<String<B>, B>, AllocError>
+        ensures names { IfOk result
+            (λ names. map_list string_bytes names.items ≡ map.keys self.now.users) }
+    {
+        names(alloc, &self.accounts)
     }
 
     pub fn has_user(&self, name: &str) -> bool

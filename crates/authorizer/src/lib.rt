@@ -15,8 +15,9 @@ mod authorizer;
 mod fault;
 mod laws;
 mod password;
+mod renumber;
 mod table;
 
 pub use authorizer::Authorizer;
 pub use fault::AuthorizerFault;
-pub use laws::{allowed_by_the_deepest, each_has_own_number, no_number_again};
+pub use laws::{allowed_by_the_deepest, each_has_own_number, no_number_again, numbers_are_kept};

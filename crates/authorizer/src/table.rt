@@ -137,3 +137,16 @@ pub(crate) fn set_group<A: Allocator>(
         None => Err(AuthorizerFault::NoSuchUser),
     }
 }
+
+/// Gives a user another number, if there is one of that name.
+pub(crate) fn set_number<A: Allocator>(accounts: &mut Table<A>, name: &str, number: u32)
+    ensures number { MatchOption (map.get (map_of user_of accounts.old) name.now)
+        (map_of user_of accounts.new ≡ map_of user_of accounts.old)
+        (λ user. map_of user_of accounts.new
+        ≡ map.insert (map_of user_of accounts.old) name.now (record user { number = number })) }
+{
+    match accounts.get_mut(name) {
+        Some(account) => account.number = number,
+        None => {}
+    }
+}

@@ -58,15 +58,17 @@ with_patience app =
     (value_rule (codes "login-delay")))
     (value_rule (codes "drain-seconds"))
 
--- the command with the options `--stop-file`, `--ready-file` and `--drain-file`
+-- the command with the options `--stop-file`, `--ready-file`, `--drain-file` and `--reload-file`
 abbrev pub with_files : App → App
 with_files app =
     with_rule
     (with_rule
+    (with_rule
     (with_rule app
     (value_rule (codes "stop-file")))
     (value_rule (codes "ready-file")))
-    (value_rule (codes "drain-file"))
+    (value_rule (codes "drain-file")))
+    (value_rule (codes "reload-file"))
 
 -- the command with the options `--transfer-log` and `--log-form`
 abbrev pub with_logs : App → App
@@ -78,9 +80,10 @@ abbrev pub with_status : App → App
 with_status app =
     with_rule (with_rule app (value_rule (codes "status"))) (value_rule (codes "status-port"))
 
--- `serve CONFIG [--stop-file PATH] [--ready-file PATH] [--drain-file PATH] [--transfer-log PATH]
--- [--log-form FORM] [--status PATH] [--status-port PORT] [--login-timeout SECONDS]
--- [--idle-timeout SECONDS] [--login-delay SECONDS] [--drain-seconds SECONDS]`
+-- `serve CONFIG [--stop-file PATH] [--ready-file PATH] [--drain-file PATH] [--reload-file PATH]
+-- [--transfer-log PATH] [--log-form FORM] [--status PATH] [--status-port PORT]
+-- [--login-timeout SECONDS] [--idle-timeout SECONDS] [--login-delay SECONDS]
+-- [--drain-seconds SECONDS]`
 abbrev pub serve : App
 serve =
     with_patience

@@ -197,6 +197,7 @@ IsFound found (Serve config files patience) =
     × (first_of (codes "stop-file") rows ≡ option_map (λ w. w.now) files.stop_file)
     × (first_of (codes "ready-file") rows ≡ option_map (λ w. w.now) files.ready_file)
     × (first_of (codes "drain-file") rows ≡ option_map (λ w. w.now) files.drain_file)
+    × (first_of (codes "reload-file") rows ≡ option_map (λ w. w.now) files.reload_file)
     × (first_of (codes "transfer-log") rows ≡ option_map (λ w. w.now) files.transfer_log)
     × (first_of (codes "log-form") rows ≡ option_map (λ w. w.now) files.log_form)
     × (first_of (codes "status") rows ≡ option_map (λ w. w.now) files.status)

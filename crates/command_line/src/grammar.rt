@@ -188,7 +188,7 @@ fn with_flag<'a>(
     Ok(command)
 }
 
-/// The command with an optional stop file, ready file and drain file, given by their paths.
+/// The command with an optional stop file, ready file, drain file and reload file, given by their paths.
 fn with_files<'a>(alloc: Global, command: Command<'a>) -> Result<Command<'a>, AllocError>
     ensures rules { IfOk result (λ c. app_of c ≡ with_files (app_of command.entry)) }
 {
@@ -200,7 +200,10 @@ fn with_files<'a>(alloc: Global, command: Command<'a>) -> Result<Command<'a>, Al
         "File that is not there yet: once it appears, nobody is admitted, and the server ends after the transfers that run";
     let with_stop = with_value(alloc, command, "stop-file", "PATH", stop)?;
     let with_ready = with_value(alloc, with_stop, "ready-file", "PATH", ready)?;
-    let command = with_value(alloc, with_ready, "drain-file", "PATH", drain)?;
+    let reload =
+        "File that is not there yet: each time it appears, CONFIG is read again, and the server removes it";
+    let with_drain = with_value(alloc, with_ready, "drain-file", "PATH", drain)?;
+    let command = with_value(alloc, with_drain, "reload-file", "PATH", reload)?;
     Ok(command)
 }
 

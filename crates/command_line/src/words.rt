@@ -34,6 +34,8 @@ pub struct ServeFiles<'a> {
     pub ready_file: Option<&'a str>,
     /// The server drains once there is a file at this path.
     pub drain_file: Option<&'a str>,
+    /// The server reads its configuration again once there is a file at this path.
+    pub reload_file: Option<&'a str>,
     /// The server appends a line for each transfer of a file to the file at this path.
     pub transfer_log: Option<&'a str>,
     /// The name of the form of its notes.
@@ -195,6 +197,7 @@ fn given<'a>(name: &str, inner: &ArgMatches<'a>, numbers: Numbers) -> Option<Wor
                 stop_file: word_of(inner, "stop-file"),
                 ready_file: word_of(inner, "ready-file"),
                 drain_file: word_of(inner, "drain-file"),
+                reload_file: word_of(inner, "reload-file"),
                 transfer_log: word_of(inner, "transfer-log"),
                 log_form: word_of(inner, "log-form"),
                 status: word_of(inner, "status"),

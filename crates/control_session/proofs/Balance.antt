@@ -1,5 +1,6 @@
 -- A session that has the floors for itself leaves them as they were, however it ends.
 use Rattle.std.proofs.Common.{ℕ, ◌≡◌, inl, inr, List, [], ◌∷◌, ◌++◌, Option, Some, None, Result, refl, sym, ap, subst, append_assoc, ◌∙◌}
+use Rattle.authorizer.specs.Users.{Users}
 use Rattle.control_session.specs.Sides.{Given}
 use Rattle.control_session.specs.Sides.SideCall.{Settles}
 use Rattle.rate_floors.specs.Promises.{Promises, after_release, counted}
@@ -83,9 +84,9 @@ module _ {H A S R K : Type 0} (Does : H → HostCall A S R K → H → Type 0) (
   paid_keeps base (user ∷ paid) rest old new is (mid, did, more) = paid_keeps base paid rest mid new
       (own old mid (Released user) did ∙ (ap (λ (p : Promises). after_release p user) is ∙ released_back user (counts (paid ++ rest) base))) more
 
-  module _ (Row : Standing → Given K → ℕ → S → S → Promises → Outcome A R K → Type 0)
-      (balance : (before after : Standing) (given : Given K) (moment : ℕ) (store store' : S) (p p' : Promises) (actions : List (Action A R K))
-      → Row before given moment store store' p (Made p' after actions) → Balanced (logged_in before.view) p p' (releases actions) (logged_in after.view)) where
+  module _ (Row : Users → Standing → Given K → ℕ → S → S → Promises → Outcome A R K → Type 0)
+      (balance : (users : Users) (before after : Standing) (given : Given K) (moment : ℕ) (store store' : S) (p p' : Promises) (actions : List (Action A R K))
+      → Row users before given moment store store' p (Made p' after actions) → Balanced (logged_in before.view) p p' (releases actions) (logged_in after.view)) where
     -- the floors are those of the start, and those of the users who are logged in or owed
     abbrev pub Has : Promises → H → Situation K → Type 0
     Has base host now = floors host ≡ counts (logged_in now.session.view ++ now.owed) base
@@ -93,8 +94,8 @@ module _ {H A S R K : Type 0} (Does : H → HostCall A S R K → H → Type 0) (
     turn_has : (base : Promises) (old new : H) (before after : Situation K) (calls : List (HostCall A S R K)) → IsTurn Row before calls after → Chain Does old calls new → Has base old before → Has base new after
     turn_has base old new before after calls turn chain has =
         let (mid, did, rest) = subst (λ (x : List (HostCall A S R K)). Chain Does old x new) turn.trace chain in
-        let (lent, gave) = own old mid (Lent turn.moment turn.store turn.store' turn.promises turn.promises') did in
-        let (more, is, law) = balance before.session after.session turn.given turn.moment turn.store turn.store' turn.promises turn.promises' turn.actions turn.row in
+        let (lent, gave) = own old mid (Lent before.session turn.moment turn.users turn.store turn.store' turn.promises turn.promises') did in
+        let (more, is, law) = balance turn.users before.session after.session turn.given turn.moment turn.store turn.store' turn.promises turn.promises' turn.actions turn.row in
         let (next, front, back) = chain_split Does mid new (release_calls turn.paid) turn.carried rest in
         carries_keeps turn.actions before.lost after.lost next new turn.carried turn.carries back
         ∙ paid_keeps base turn.paid (logged_in after.session.view ++ after.owed) mid next
@@ -107,7 +108,7 @@ module _ {H A S R K : Type 0} (Does : H → HostCall A S R K → H → Type 0) (
 
     move_has : (base : Promises) (old new : H) (before after : Situation K) (calls : List (HostCall A S R K)) → Move Row before calls after → Chain Does old calls new → Has base old before → Has base new after
     move_has base old new before after calls (Takes turn) chain has = turn_has base old new before after calls turn chain has
-    move_has base old new before after calls (Tries given moment store store' promises came taken next stopped same is) chain has =
+    move_has base old new before after calls (Tries given moment users store store' promises came taken next stopped same is) chain has =
         same_has base old new before after (ap (λ (x : Situation K). x.session) same) (ap (λ (x : Situation K). x.owed) same) (one old new calls _ is chain) has
     move_has base old new before after calls (Asks event empty same (inl is)) chain has =
         same_has base old new before after (ap (λ (x : Situation K). x.session) same) (ap (λ (x : Situation K). x.owed) same) (one old new calls _ is chain) has

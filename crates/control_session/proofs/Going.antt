@@ -4,6 +4,7 @@ use Rattle.std.proofs.lemmas.Bool.{false≢true}
 use Rattle.std.proofs.Common.{Result, Ok, Err, true, false, ◌||◌, ◌⊎◌, inl, inr, ℕ, ◌≡◌, ◌+◌, ◌<◌, length, drop, List, [], ◌∷◌, ◌++◌, Bool, Option, refl, sym, ap, subst, append_assoc, ◌∙◌}
 use Rattle.std.proofs.lemmas.List.{append-nil, drop_more}
 use lib.ListN.{get_or}
+use Rattle.authorizer.specs.Users.{Users}
 use Rattle.control_session.specs.Sides.{Given}
 use Rattle.rate_floors.specs.Promises.{Promises}
 use Rattle.session_table.specs.Laws.{release_by, releases}
@@ -32,7 +33,7 @@ pub releases_more : {A S R K : Type 0} (xs ys : List ℕ) → release_calls {A =
 releases_more [] ys = refl
 releases_more {A = A} {S = S} {R = R} {K = K} (x ∷ xs) ys = ap (λ (es : List (HostCall A S R K)). Released x ∷ es) (releases_more xs ys)
 
-module _ {A S R K : Type 0} (Row : Standing → Given K → ℕ → S → S → Promises → Outcome A R K → Type 0) where
+module _ {A S R K : Type 0} (Row : Users → Standing → Given K → ℕ → S → S → Promises → Outcome A R K → Type 0) where
   pub runs_more : (before mid after : Situation K) (xs ys : List (List (HostCall A S R K))) → Runs Row xs before mid → Runs Row ys mid after → Runs Row (xs ++ ys) before after
   runs_more before mid after [] ys same rest = subst (λ (x : Situation K). Runs Row ys x after) same rest
   runs_more before mid after (x ∷ xs) ys (next, move, more) rest = (next, move, runs_more next mid after xs ys more rest)

@@ -6,3 +6,4 @@ pub mod Turning
 pub mod Balance
 pub mod Counting
 pub mod Listening
+pub mod Logins

@@ -1,7 +1,8 @@
 -- What one thing that a session does is, as moves.
 use Rattle.std.proofs.Common.{ℕ, ◌≡◌, ◌≢◌, ◌⊎◌, ◌+◌, inl, inr, List, [], ◌∷◌, ◌++◌, Bool, true, false, ◌||◌, Option, Some, None, refl, sym, ap, subst, append_assoc, ◌∙◌}
+use Rattle.authorizer.specs.Users.{Users}
 use Rattle.control_session.specs.Sides.{Given, event_in, given_of}
-use Rattle.control_session.specs.Sides.Given.{Line, Held, Came, Closed}
+use Rattle.control_session.specs.Sides.Given.{Came, Closed}
 use Rattle.control_session.specs.Sides.SideCall.{Looks, Settles}
 use Rattle.control_session.specs.Told.{closes}
 use Rattle.ftp_wire.specs.Items.{Item}
@@ -36,17 +37,18 @@ carries_both {A = A} {S = S} {R = R} {K = K} [] ys before mid after first rest (
 carries_both {A = A} {S = S} {R = R} {K = K} (x ∷ xs) ys before mid after first rest (one, more, next, is, carried, carries) others =
     (one, more ++ rest, next, ap (λ (e : List (HostCall A S R K)). e ++ rest) is ∙ append_assoc one more rest, carried, carries_both xs ys next mid after more rest carries others)
 
-module _ {H A S R K : Type 0} (Row : Standing → Given K → ℕ → S → S → Promises → Outcome A R K → Type 0) (Does : H → HostCall A S R K → H → Type 0) where
+module _ {H A S R K : Type 0} (Row : Users → Standing → Given K → ℕ → S → S → Promises → Outcome A R K → Type 0) (Does : H → HostCall A S R K → H → Type 0) where
   pub turn_went : (host mid host' : H) (v v' : Standing) (came came' : Option (DataEvent K)) (taken taken' : List Item) (heard : Heard) (owes owes' paid : List ℕ) (closed : Bool) (lost lost' : Option TurnFault)
       (input : Given K) (actions : List (Action A R K)) (carried : List (HostCall A S R K))
       → Next (at v came taken heard owes closed lost) input came' taken' → Stepped Row Does host v input v' actions mid
       → releases actions ++ owes ≡ paid ++ owes'
       → Chain Does mid (release_calls paid ++ carried) host' → Carries actions lost carried lost'
       → Went Row Does host (at v came taken heard owes closed lost) host' (at v' came' taken' (behind input heard) owes' (closed || closes actions) lost')
-  turn_went host mid host' v v' came came' taken taken' heard owes owes' paid closed lost lost' input actions carried next (moment, store, store', promises, promises', did, row) balance chain carries =
+  turn_went host mid host' v v' came came' taken taken' heard owes owes' paid closed lost lost' input actions carried next (moment, users, store, store', promises, promises', did, row) balance chain carries =
       went_one Row Does host host' _ _ _ (mid, did, chain) (Takes (record {
         given = input;
         moment = moment;
+        users = users;
         store = store;
         store' = store';
         promises = promises;
@@ -65,9 +67,9 @@ module _ {H A S R K : Type 0} (Row : Standing → Given K → ℕ → S → S �
 
   pub tries_went : (host host' : H) (now : Situation K) (given : Given K) (came : Option (DataEvent K)) (taken : List Item) → Next now given came taken → StepTried Row Does host now.session given host'
       → Went Row Does host now host' (record now { lost = Some Memory })
-  tries_went host host' now given came taken next (moment, store, store', promises, did, stopped) =
-      went_one Row Does host host' (Tried moment store store' promises ∷ []) now (record now { lost = Some Memory }) (chain_one Does host host' (Tried moment store store' promises) did)
-      (Tries given moment store store' promises came taken next stopped refl refl)
+  tries_went host host' now given came taken next (moment, users, store, store', promises, did, stopped) =
+      went_one Row Does host host' (Tried now.session moment users store store' promises ∷ []) now (record now { lost = Some Memory }) (chain_one Does host host' (Tried now.session moment users store store' promises) did)
+      (Tries given moment users store store' promises came taken next stopped refl refl)
 
   pub looks_went : (host host' : H) (v : Standing) (taken : List Item) (heard : Heard) (owes : List ℕ) (closed : Bool) (lost : Option TurnFault) (event : Option (DataEvent K)) → Does host (Asked (Looks event)) host'
       → Went Row Does host (at v None taken heard owes closed lost) host' (at v event taken (asked_as true heard) owes closed lost)

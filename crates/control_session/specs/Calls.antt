@@ -1,18 +1,21 @@
 -- The calls of a host that a control session makes, in their order.
 use Rattle.std.specs.Prelude.{ℕ, ◌≡◌, ◌≤◌, List, [], ◌∷◌, Result, Ok, Err, length, take}
+use Rattle.authorizer.specs.Users.{Users}
 use Rattle.handler_hooks.specs.Events.{Event}
 use Rattle.rate_floors.specs.Promises.{Promises}
+use Rattle.session_table.specs.Steps.{Standing}
 use Rattle.control_session.specs.Sides.{SideCall}
 use Rattle.control_session.specs.declared.host.Piece.{Piece}
 use Rattle.control_session.specs.declared.host.Piece.TheVariants.{Octets, Nothing, AtEnd}
 
 -- S is the type of stores, R of their sources, K of their sinks, A of allocators
 pub data HostCall (A S R K : Type 0) : Type 0 where
-  -- at a moment, the store and the floors were lent for a step: both before and after it
-  Lent : ℕ → S → S → Promises → Promises → HostCall A S R K
+  -- at a moment, the users, the store and the floors were lent for a step of this session: the
+  -- store before and after it, and the floors before and after it
+  Lent : Standing → ℕ → Users → S → S → Promises → Promises → HostCall A S R K
   -- at a moment, they were lent for a step for which memory ran out: the store before and after it,
   -- and the floors, which are unchanged
-  Tried : ℕ → S → S → Promises → HostCall A S R K
+  Tried : Standing → ℕ → Users → S → S → Promises → HostCall A S R K
   Released : ℕ → HostCall A S R K
   Noted : Event → HostCall A S R K
   Wrote : List ℕ → HostCall A S R K

@@ -6,7 +6,7 @@ use Rattle.control_session.specs.Calls.HostCall.{Lent, Released}
 
 -- floors change only in a step and by a release
 abbrev pub FloorsBy : {H A S R K : Type 0} → (H → Promises) → H → HostCall A S R K → H → Type 0
-FloorsBy floors old (Lent moment store store' promises promises') new =
+FloorsBy floors old (Lent session moment users store store' promises promises') new =
     (promises ≡ floors old) × (floors new ≡ promises')
 FloorsBy floors old (Released user) new = floors new ≡ after_release (floors old) user
 FloorsBy floors old _ new = floors new ≡ floors old

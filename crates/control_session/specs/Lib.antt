@@ -7,3 +7,4 @@ pub mod Sides
 pub mod Told
 pub mod Floors
 pub mod Sessions
+pub mod Logins

@@ -1,5 +1,6 @@
 -- A whole control session, from its greeting to its close, however it ends.
 use Rattle.std.specs.Prelude.{ℕ, ◌≡◌, ◌⊎◌, ◌≤◌, List, [], ◌++◌, false, true, Option, Some, None, Result, IfErr, OnOk, OnErr, IsErrOf}
+use Rattle.authorizer.specs.Users.{Users}
 use Rattle.control_session.specs.Sides.{Given}
 use Rattle.ftp_wire.specs.Reading.{OnlyReadsAs}
 use Rattle.rate_floors.specs.Promises.{Promises}
@@ -41,7 +42,7 @@ IsLostTo lost Memory = Unit {0}
 -- Row is the relation of rows, Does the effect of each call on the host; the session may make
 -- `turns` reads.
 module _ {H A S R K T : Type 0}
-    (Row : Standing → Given K → ℕ → S → S → Promises → Outcome A R K → Type 0)
+    (Row : Users → Standing → Given K → ℕ → S → S → Promises → Outcome A R K → Type 0)
     (Does : H → HostCall A S R K → H → Type 0)
     (turns : ℕ) (result : Result T ControlFault) (session : Standing) (host host' : H) where
   -- The greeting is written; then there are moves, each with its calls of the host, in this order,

@@ -1,5 +1,6 @@
 -- The situation of a control session, from the values that it owns.
 use Rattle.std.specs.Prelude.{ℕ, ◌≡◌, List, [], ◌∷◌, true, Option, Some, None}
+use Rattle.authorizer.specs.Users.{Users}
 use Rattle.control_session.specs.Sides.{Given}
 use Rattle.control_session.specs.Sides.SideCall.{Settles}
 use Rattle.ftp_wire.specs.Items.{Item}
@@ -44,7 +45,7 @@ owed_in (Some leaving) = owed_by leaving.left
 -- The end of a control session: the session is closed, then the data side is asked for the end of a
 -- transfer that still runs, and that end is taken.
 pub record Closing {H A S R K : Type 0}
-    (Row : Standing → Given K → ℕ → S → S → Promises → Outcome A R K → Type 0)
+    (Row : Users → Standing → Given K → ℕ → S → S → Promises → Outcome A R K → Type 0)
     (Does : H → HostCall A S R K → H → Type 0)
     (host : H) (before : Situation K) (host' : H) (after : Situation K) : Type 0 where
   pub mid : H

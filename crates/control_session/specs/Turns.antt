@@ -1,5 +1,6 @@
 -- The moves of a control session, one after another, with the calls of the host for each.
 use Rattle.std.specs.Prelude.{ℕ, ◌≡◌, ◌⊎◌, ◌+◌, ◌<◌, ◌≤◌, ◌||◌, List, [], ◌∷◌, ◌++◌, Bool, false, true, length, map, Option, Some, None}
+use Rattle.authorizer.specs.Users.{Users}
 use Rattle.control_session.specs.Sides.{Given}
 use Rattle.control_session.specs.Sides.Given.{Line, Held, Came, Closed}
 use Rattle.control_session.specs.Sides.SideCall.{Opens, Connects, Drops, Starts, Aborts, Looks, Settles}
@@ -123,31 +124,33 @@ module _ {A S R K : Type 0} where
   abbrev pub release_calls : List ℕ → List (HostCall A S R K)
   release_calls = map Released
 
--- Row is the relation of rows: session, input, moment, the store before and after, the floors, and
--- the outcome of the step.
+-- Row is the relation of rows: the users, the session, the input, the moment, the store before and
+-- after, the floors, and the outcome of the step.
 module _ {A S R K : Type 0}
-    (Row : Standing → Given K → ℕ → S → S → Promises → Outcome A R K → Type 0) where
-  -- a host lent store and floors for one step
+    (Row : Users → Standing → Given K → ℕ → S → S → Promises → Outcome A R K → Type 0) where
+  -- a host lent users, store and floors for one step
   abbrev pub Stepped : {H : Type 0} → (H → HostCall A S R K → H → Type 0) → H → Standing → Given K
       → Standing → List (Action A R K) → H → Type 0
   Stepped Does old session given session' actions new =
-      (moment : ℕ) × (store store' : S) × (promises promises' : Promises)
-      × Does old (Lent moment store store' promises promises') new
-      × Row session given moment store store' promises (Made promises' session' actions)
+      (moment : ℕ) × (users : Users) × (store store' : S) × (promises promises' : Promises)
+      × Does old (Lent session moment users store store' promises promises') new
+      × Row users session given moment store store' promises (Made promises' session' actions)
 
-  -- a host lent store and floors for a step for which memory ran out
+  -- a host lent them for a step for which memory ran out
   abbrev pub StepTried : {H : Type 0} → (H → HostCall A S R K → H → Type 0) → H → Standing → Given K
       → H → Type 0
-  StepTried Does old session given new = (moment : ℕ) × (store store' : S) × (promises : Promises)
-      × Does old (Tried moment store store' promises) new
-      × Row session given moment store store' promises Stopped
+  StepTried Does old session given new =
+      (moment : ℕ) × (users : Users) × (store store' : S) × (promises : Promises)
+      × Does old (Tried session moment users store store' promises) new
+      × Row users session given moment store store' promises Stopped
 
-  -- An input is taken by its row. Then floors are released, and then the other actions are carried
-  -- out, in order.
+  -- An input is taken by its row, for the users that were lent. Then floors are released, and then
+  -- the other actions are carried out, in order.
   pub record IsTurn (before : Situation K) (calls : List (HostCall A S R K)) (after : Situation K) :
       Type 0 where
     pub given : Given K
     pub moment : ℕ
+    pub users : Users
     pub store : S
     pub store' : S
     pub promises : Promises
@@ -156,13 +159,13 @@ module _ {A S R K : Type 0}
     pub paid : List ℕ
     pub carried : List (HostCall A S R K)
     pub next : Next before given after.came after.taken
-    pub row : Row before.session given moment store store' promises
+    pub row : Row users before.session given moment store store' promises
         (Made promises' after.session actions)
     pub owes : releases actions ++ before.owed ≡ paid ++ after.owed
     pub carries : Carries actions before.lost carried after.lost
     pub closed : after.closed ≡ (before.closed || closes actions)
     pub heard : after.heard ≡ behind given before.heard
-    pub trace : calls ≡ Lent moment store store' promises promises'
+    pub trace : calls ≡ Lent before.session moment users store store' promises promises'
         ∷ (release_calls paid ++ carried)
 
   -- one move of a session
@@ -170,11 +173,12 @@ module _ {A S R K : Type 0}
       Type 0 where
     Takes : IsTurn before calls after → Move before calls after
     -- there was no memory for the step of the next input: a session that ends well has no such move
-    Tries : (given : Given K) (moment : ℕ) (store store' : S) (promises : Promises)
+    Tries : (given : Given K) (moment : ℕ) (users : Users) (store store' : S) (promises : Promises)
         (came : Option (DataEvent K)) (taken : List Item) → Next before given came taken
-        → Row before.session given moment store store' promises Stopped
+        → Row users before.session given moment store store' promises Stopped
         → after ≡ record before { lost = Some Memory }
-        → calls ≡ Tried moment store store' promises ∷ [] → Move before calls after
+        → calls ≡ Tried before.session moment users store store' promises ∷ []
+        → Move before calls after
     -- the data side was asked for an event; for the end of a transfer that still runs only once the
     -- session is closed
     Asks : (event : Option (DataEvent K)) → before.came ≡ None
@@ -232,7 +236,7 @@ concat (xs ∷ xss) = xs ++ concat xss
 
 -- from a host and a situation to others, by moves with these calls of the host, in this order
 pub record Went {H A S R K : Type 0}
-    (Row : Standing → Given K → ℕ → S → S → Promises → Outcome A R K → Type 0)
+    (Row : Users → Standing → Given K → ℕ → S → S → Promises → Outcome A R K → Type 0)
     (Does : H → HostCall A S R K → H → Type 0)
     (host : H) (before : Situation K) (host' : H) (after : Situation K) : Type 0 where
   pub moves : List (List (HostCall A S R K))

@@ -12,7 +12,6 @@ ghost use Rattle.session_table.specs.Views.{is_closed};
 
 use crate::host::Host;
 use crate::talk::Talk;
-use authorizer::Authorizer;
 use session_core::{DataEvent, Leaving, LoggedOut, Session};
 use session_table::{HookCall, Text};
 use std::alloc::Allocator;
@@ -67,7 +66,6 @@ fn leave<A: Allocator + Clone, H: Host<A>>(host: &mut H, leaving: Option<Leaving
 /// Takes an event of the data side after Closed.
 fn end<A: Allocator + Clone, H: Host<A>>(
     host: &mut H,
-    users: &Authorizer<A>,
     session: &mut Session<A>,
     came: Option<DataEvent<H::Sink>>,
 )
@@ -75,12 +73,12 @@ fn end<A: Allocator + Clone, H: Host<A>>(
     ensures closed { is_closed session.new.view.stage ≡ true }
     ensures went { (taken : List Item) (heard : Heard) (owed : List ℕ) (closed : Bool)
         (lost : Option TurnFault)
-        → Went (IsRow {A = A} {R = H.Source} H.Step users.now.users) H.Does
+        → Went (IsRow {A = A} {R = H.Source} H.Step) H.Does
         host.old (at session.old came taken heard owed closed lost)
         host.new (at session.new None taken heard owed closed lost) }
 {
     if let Some(event) = came {
-        host.end(users, session, &mut Some(event));
+        host.end(session, &mut Some(event));
     }
 }
 
@@ -98,18 +96,17 @@ fn pay<A: Allocator + Clone, H: Host<A>>(host: &mut H, left: Option<u32>)
 /// floor of the user who was logged in is released: no transfer of the session is left.
 pub(crate) fn close<A: Allocator + Clone, H: Host<A>>(
     host: &mut H,
-    users: &Authorizer<A>,
     talk: &mut Talk<A, H::Sink>,
     nobody: Text<A>,
 )
     requires nobody { nobody ≡ [] }
     ensures went { (taken : List Item) (heard : Heard)
-        → Went (IsRow {A = A} {R = H.Source} H.Step users.now.users) H.Does
+        → Went (IsRow {A = A} {R = H.Source} H.Step) H.Does
         host.old (stand talk.old taken heard)
         host.new (at talk.new.session None taken (asked_as true heard) []
         talk.old.closed talk.old.lost) }
     ensures closing { (taken : List Item) (heard : Heard)
-        → Closing (IsRow {A = A} {R = H.Source} H.Step users.now.users) H.Does
+        → Closing (IsRow {A = A} {R = H.Source} H.Step) H.Does
         host.old (stand talk.old taken heard)
         host.new (at talk.new.session None taken (asked_as true heard) []
         talk.old.closed talk.old.lost) }
@@ -117,11 +114,11 @@ pub(crate) fn close<A: Allocator + Clone, H: Host<A>>(
     ensures kept { talk.new.closed ≡ talk.old.closed }
     ensures lost { talk.new.lost ≡ talk.old.lost }
 {
-    let leaving = host.close(users, &mut talk.session, &mut Some(nobody));
+    let leaving = host.close(&mut talk.session, &mut Some(nobody));
     let left = leave(host, leaving);
     let came = mem::replace(&mut talk.came, None);
-    end(host, users, &mut talk.session, came);
+    end(host, &mut talk.session, came);
     let last = host.settle();
-    end(host, users, &mut talk.session, last);
+    end(host, &mut talk.session, last);
     pay(host, left);
 }

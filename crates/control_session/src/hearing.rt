@@ -12,7 +12,6 @@ use crate::fault::{ControlFault, unless_lost};
 use crate::host::{Host, Piece};
 use crate::talk::Talk;
 use crate::turns::{catch_up, take_lines};
-use authorizer::Authorizer;
 use ftp_wire::LineReader;
 use std::alloc::Allocator;
 
@@ -21,7 +20,6 @@ use std::alloc::Allocator;
 fn hear<A: Allocator + Clone, H: Host<A>>(
     alloc: &A,
     host: &mut H,
-    users: &Authorizer<A>,
     talk: &mut Talk<A, H::Sink>,
     lines: &mut LineReader<A>,
     buffer: &mut [u8],
@@ -34,7 +32,7 @@ fn hear<A: Allocator + Clone, H: Host<A>>(
     ensures went { (taken : List Item) (heard : Heard) → AllTaken taken heard
         → HasRead heard.octets heard.items lines.old
         → heard.ended ≡ false → heard.asked ≡ true → (last : List Item) × (heard' : Heard)
-        × Went (IsRow {A = A} {R = H.Source} H.Step users.now.users) H.Does
+        × Went (IsRow {A = A} {R = H.Source} H.Step) H.Does
         host.old (stand talk.old taken heard) host.new (stand talk.new last heard')
         × (heard'.reads ≡ heard.reads + 1)
         × (IsErrOf result ControlFault.ReadFault → heard'.failed ≡ true)
@@ -57,11 +55,11 @@ fn hear<A: Allocator + Clone, H: Host<A>>(
     match piece {
         Piece::Octets(count) => {
             let items = lines.feed(&buffer[..count])?;
-            take_lines(alloc, host, users, talk, items)?;
+            take_lines(alloc, host, talk, items)?;
             Ok(false)
         }
         Piece::Nothing => {
-            catch_up(alloc, host, users, talk)?;
+            catch_up(alloc, host, talk)?;
             Ok(false)
         }
         Piece::AtEnd => Ok(true),
@@ -73,7 +71,6 @@ fn hear<A: Allocator + Clone, H: Host<A>>(
 pub(crate) fn converse<A: Allocator + Clone, H: Host<A>>(
     alloc: &A,
     host: &mut H,
-    users: &Authorizer<A>,
     talk: &mut Talk<A, H::Sink>,
     lines: &mut LineReader<A>,
     buffer: &mut [u8],
@@ -83,7 +80,7 @@ pub(crate) fn converse<A: Allocator + Clone, H: Host<A>>(
     requires none { talk.old.came ≡ None }
     requires start { HasRead [] [] lines.old }
     ensures went { (last : List Item) × (heard : Heard)
-        × Went (IsRow {A = A} {R = H.Source} H.Step users.now.users) H.Does
+        × Went (IsRow {A = A} {R = H.Source} H.Step) H.Does
         host.old (stand talk.old [] nothing) host.new (stand talk.new last heard)
         × (heard.reads ≤ turns)
         × (IsErrOf result ControlFault.ReadFault
@@ -96,12 +93,12 @@ pub(crate) fn converse<A: Allocator + Clone, H: Host<A>>(
     ensures lost { IfErr result (IsLostTo talk.new.lost) }
 {
     unless_lost(talk.lost)?;
-    catch_up(alloc, host, users, talk)?;
+    catch_up(alloc, host, talk)?;
     for _turn in 0..turns {
         if talk.closed {
             return Ok(());
         }
-        let ended = hear(alloc, host, users, talk, lines, buffer)?;
+        let ended = hear(alloc, host, talk, lines, buffer)?;
         if ended {
             return Ok(());
         }

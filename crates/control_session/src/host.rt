@@ -12,7 +12,6 @@ ghost use Rattle.handler_hooks.specs.Events.{event_of};
 ghost use Rattle.session_events.specs.Leaving.{leaving_by};
 ghost use Rattle.session_table.specs.Views.{is_closed};
 
-use authorizer::Authorizer;
 use ftp_wire::HostPort;
 use session_core::{DataEvent, Leaving, Session};
 use session_table::{Action, HookCall, Input, Job, Text};
@@ -30,11 +29,14 @@ pub enum Piece {
     AtEnd,
 }
 
-/// The host of a control session: the store, the floors, the clock, the data side, the client's text and the handler.
+/// The host of a control session: the users, the store, the floors, the clock, the data side, the client's text and the
+/// handler.
 ///
 /// `Does` is the effect of each call. Each host defines its own. All calls go to one host, one after another, so the
-/// proofs about a session include their order. A session is lent the store and the floors for one step, so other
-/// sessions may change them in between. No call has to wait: a host that waits, in a read or for the end of a transfer,
+/// proofs about a session include their order. A session is lent the users, the store and the floors for one step, so
+/// other sessions may change the store and the floors in between, and the host may take newer users. A host by whose
+/// `Does` it takes them only for a step before which nobody is logged in (`Session::is_logged_in`) serves whoever is
+/// logged in by the users of that login (`run_control`, clause `logins`). No call has to wait: a host that waits, in a read or for the end of a transfer,
 /// has all that it needs for that. Values that own memory of the session are passed in an `Option`, to be taken out.
 pub trait Host<A: Allocator + Clone> {
     /// The store.
@@ -54,44 +56,37 @@ pub trait Host<A: Allocator + Clone> {
     /// The effect of one call with its answer on the host.
     ghost Does: { Self → HostCall A Self.Store Self.Source Self.Sink → Self → Type 0 };
 
-    /// Lends the store and the floors for one step of a session, at a moment of the clock, which is read once. If
-    /// memory runs out, an event of the data side is returned.
+    /// Lends the users, the store and the floors for one step of a session, at a moment of the clock, which is read
+    /// once. If memory runs out, an event of the data side is returned.
     fn step(
         &mut self,
-        users: &Authorizer<A>,
         session: &mut Session<A>,
         input: &mut Option<Input<A, Self::Sink>>,
     ) -> Result<Vec<Action<A, Self::Source, Self::Sink>, A>, Option<DataEvent<Self::Sink>>>
         ensures row { IfSome input.old (λ input. IfOk result (λ actions.
-            Stepped (IsRow Step users.now.users) Does
+            Stepped (IsRow Step) Does
             self.old session.old (given_of input) session.new actions.items self.new)) }
         ensures unchanged { OnErr result (session.new ≡ session.old) }
         ensures tried { IfSome input.old (λ input.
-            OnErr result (StepTried (IsRow Step users.now.users) Does
+            OnErr result (StepTried (IsRow Step) Does
             self.old session.old (given_of input) self.new)) }
         ensures back { IfSome input.old (λ input. IfErr result (λ back. back ≡ event_in input)) };
 
     /// Lends them for the end of the control connection.
     fn close(
         &mut self,
-        users: &Authorizer<A>,
         session: &mut Session<A>,
         nobody: &mut Option<Text<A>>,
     ) -> Option<Leaving<A>>
         requires nobody { nobody.old ≡ Some [] }
-        ensures row { Stepped (IsRow Step users.now.users) Does
+        ensures row { Stepped (IsRow Step) Does
             self.old session.old Closed session.new (leaving_by result) self.new }
         ensures closed { is_closed session.new.view.stage ≡ true };
 
     /// Lends them for an event of the data side after that.
-    fn end(
-        &mut self,
-        users: &Authorizer<A>,
-        session: &mut Session<A>,
-        event: &mut Option<DataEvent<Self::Sink>>,
-    )
+    fn end(&mut self, session: &mut Session<A>, event: &mut Option<DataEvent<Self::Sink>>)
         requires closed { is_closed session.old.view.stage ≡ true }
-        ensures row { IfSome event.old (λ event. Stepped (IsRow Step users.now.users) Does
+        ensures row { IfSome event.old (λ event. Stepped (IsRow Step) Does
             self.old session.old (Came event) session.new [] self.new) }
         ensures closed { is_closed session.new.view.stage ≡ true };
 

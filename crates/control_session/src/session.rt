@@ -1,7 +1,9 @@
 //! A whole control session.
 
 ghost use Rattle.std.specs.Prelude.{◌≡◌, ◌<◌, [], IfOk, vec_len};
+ghost use Rattle.authorizer.specs.Users.{Users};
 ghost use Rattle.control_session.specs.Floors.{HasFloors};
+ghost use Rattle.control_session.specs.Logins.{IsServedByLogins, KeepsUsers};
 ghost use Rattle.control_session.specs.Sessions.{IsServed, IsSession, new_session};
 ghost use Rattle.control_session.specs.Rows.{IsRow};
 ghost use Rattle.ftp_wire.specs.Reading.{HasRead};
@@ -15,7 +17,6 @@ use crate::fault::ControlFault;
 use crate::hearing::converse;
 use crate::host::Host;
 use crate::talk::Talk;
-use authorizer::Authorizer;
 use ftp_wire::LineReader;
 use session_core::Session;
 use session_table::{Action, Settings, Text};
@@ -54,7 +55,6 @@ impl<A: Allocator + Clone> Room<A> {
 fn run_session<A: Allocator + Clone, H: Host<A>>(
     alloc: &A,
     host: &mut H,
-    users: &Authorizer<A>,
     session: Session<A>,
     actions: Vec<Action<A, H::Source, H::Sink>, A>,
     room: Room<A>,
@@ -64,7 +64,7 @@ fn run_session<A: Allocator + Clone, H: Host<A>>(
     requires start { HasRead [] [] room.lines }
     requires size { 0 < vec_len room.buffer }
     requires nobody { room.nobody ≡ [] }
-    ensures whole { IsSession (IsRow {A = A} {R = H.Source} H.Step users.now.users) H.Does
+    ensures whole { IsSession (IsRow {A = A} {R = H.Source} H.Step) H.Does
         turns result session host.old host.new }
 {
     let Room {
@@ -80,33 +80,35 @@ fn run_session<A: Allocator + Clone, H: Host<A>>(
         lost,
     };
     let piece = buffer.as_mut_slice();
-    let outcome = converse(alloc, host, users, &mut talk, &mut lines, piece, turns);
+    let outcome = converse(alloc, host, &mut talk, &mut lines, piece, turns);
     lines.reads_as();
-    close(host, users, &mut talk, nobody);
+    close(host, &mut talk, nobody);
     outcome
 }
 
 /// Serves a whole control session of a client at this address: greets, takes lines up to one that closes the control
 /// connection or to the end of the client's text, and closes the session however it ends. The banner of the settings
-/// contains no end of a line.
+/// contains no end of a line. Each step is for the users that the host lends with it.
 ///
 /// `ReadFault`: a read failed, or `turns` reads were made, each of at most 4,096 octets. `WriteFault`: a reply could
 /// not be written. `Memory`: memory ran out. No call of the host is made before the memory to begin is allocated.
 pub fn run_control<A: Allocator + Clone, H: Host<A>>(
     alloc: &A,
     host: &mut H,
-    users: &Authorizer<A>,
     settings: Settings<A>,
     peer: [u8; 4],
     turns: u32,
 ) -> Result<(), ControlFault>
-    ensures whole { IsServed (IsRow {A = A} {R = H.Source} H.Step users.now.users) H.Does
+    ensures whole { IsServed (IsRow {A = A} {R = H.Source} H.Step) H.Does
         turns result (new_session settings peer) host.old host.new }
     ensures floors { (floors : H → Promises) → HasFloors H.Does floors
         → floors host.new ≡ floors host.old }
+    ensures logins { (kept : H → Users) → KeepsUsers H.Does kept
+        → IsServedByLogins (IsRow {A = A} {R = H.Source} H.Step) H.Does
+        turns result (new_session settings peer) host.old host.new (kept host.old) }
 {
     let session = Session::new(alloc.clone()?, settings, peer)?;
     let greeting = session.greet()?;
     let room = Room::new(alloc, PIECE)?;
-    run_session(alloc, host, users, session, greeting, room, turns)
+    run_session(alloc, host, session, greeting, room, turns)
 }

@@ -18,7 +18,6 @@ use crate::carrying::carry_out;
 use crate::host::Host;
 use crate::talk::Talk;
 use crate::turn_fault::TurnFault;
-use authorizer::Authorizer;
 use ftp_wire::LineItem;
 use session_core::DataEvent;
 use session_table::Input;
@@ -57,7 +56,6 @@ fn ended(lost: Option<TurnFault>) -> Result<(), TurnFault>
 pub(crate) fn turn<A: Allocator + Clone, H: Host<A>>(
     alloc: &A,
     host: &mut H,
-    users: &Authorizer<A>,
     talk: &mut Talk<A, H::Sink>,
     input: Input<A, H::Sink>,
 ) -> Result<(), TurnFault>
@@ -67,7 +65,7 @@ pub(crate) fn turn<A: Allocator + Clone, H: Host<A>>(
         → Next (at talk.old.session came taken heard [] talk.old.closed talk.old.lost)
         (given_of input) talk.old.came taken'
         → (last : List Item) × (heard' : Heard)
-        × Went (IsRow {A = A} {R = H.Source} H.Step users.now.users) H.Does
+        × Went (IsRow {A = A} {R = H.Source} H.Step) H.Does
         host.old (at talk.old.session came taken heard [] talk.old.closed talk.old.lost)
         host.new (stand talk.new last heard')
         × ((last ≡ taken) ⊎ (last ≡ taken')) × OnOk result (last ≡ taken')
@@ -77,7 +75,7 @@ pub(crate) fn turn<A: Allocator + Clone, H: Host<A>>(
     ensures held { OnOk result (HoldsFewer (given_of input) talk.old.session talk.new.session) }
     ensures lost { IfErr result (IsLost talk.new.lost) }
 {
-    let actions = match host.step(users, &mut talk.session, &mut Some(input)) {
+    let actions = match host.step(&mut talk.session, &mut Some(input)) {
         Ok(actions) => actions,
         Err(back) => {
             talk.came = back;
@@ -94,13 +92,12 @@ pub(crate) fn turn<A: Allocator + Clone, H: Host<A>>(
 pub(crate) fn look<A: Allocator + Clone, H: Host<A>>(
     alloc: &A,
     host: &mut H,
-    users: &Authorizer<A>,
     talk: &mut Talk<A, H::Sink>,
 ) -> Result<(), TurnFault>
     requires none { talk.old.came ≡ None }
     requires whole { talk.old.lost ≡ None }
     ensures went { (taken : List Item) (heard : Heard)
-        → Went (IsRow {A = A} {R = H.Source} H.Step users.now.users) H.Does
+        → Went (IsRow {A = A} {R = H.Source} H.Step) H.Does
         host.old (stand talk.old taken heard)
         host.new (stand talk.new taken (asked_as true heard)) }
     ensures none { OnOk result (talk.new.came ≡ None) }
@@ -111,7 +108,7 @@ pub(crate) fn look<A: Allocator + Clone, H: Host<A>>(
 {
     match host.look() {
         None => Ok(()),
-        Some(event) => turn(alloc, host, users, talk, as_input(event)),
+        Some(event) => turn(alloc, host, talk, as_input(event)),
     }
 }
 
@@ -119,13 +116,12 @@ pub(crate) fn look<A: Allocator + Clone, H: Host<A>>(
 pub(crate) fn catch_up<A: Allocator + Clone, H: Host<A>>(
     alloc: &A,
     host: &mut H,
-    users: &Authorizer<A>,
     talk: &mut Talk<A, H::Sink>,
 ) -> Result<(), TurnFault>
     requires none { talk.old.came ≡ None }
     requires whole { talk.old.lost ≡ None }
     ensures went { (taken : List Item) (heard : Heard)
-        → (asked : Bool) × Went (IsRow {A = A} {R = H.Source} H.Step users.now.users) H.Does
+        → (asked : Bool) × Went (IsRow {A = A} {R = H.Source} H.Step) H.Does
         host.old (stand talk.old taken heard) host.new (stand talk.new taken (asked_as asked heard))
         × OnOk result (asked ≡ true) }
     ensures none { OnOk result (talk.new.came ≡ None) }
@@ -133,10 +129,10 @@ pub(crate) fn catch_up<A: Allocator + Clone, H: Host<A>>(
     ensures due { OnOk result (due talk.new.session ≡ false) }
     ensures lost { IfErr result (IsLost talk.new.lost) }
 {
-    look(alloc, host, users, talk)?;
+    look(alloc, host, talk)?;
     while talk.session.held_due() {
-        turn(alloc, host, users, talk, Input::Held)?;
-        look(alloc, host, users, talk)?;
+        turn(alloc, host, talk, Input::Held)?;
+        look(alloc, host, talk)?;
     }
     Ok(())
 }
@@ -145,7 +141,6 @@ pub(crate) fn catch_up<A: Allocator + Clone, H: Host<A>>(
 fn take_line<A: Allocator + Clone, H: Host<A>>(
     alloc: &A,
     host: &mut H,
-    users: &Authorizer<A>,
     talk: &mut Talk<A, H::Sink>,
     item: LineItem<A>,
 ) -> Result<(), TurnFault>
@@ -156,7 +151,7 @@ fn take_line<A: Allocator + Clone, H: Host<A>>(
     ensures went { (taken rest : List Item) (heard : Heard)
         → heard.items ≡ taken ++ item_of item ∷ rest → heard.asked ≡ true
         → (last : List Item) × (asked : Bool)
-        × Went (IsRow {A = A} {R = H.Source} H.Step users.now.users) H.Does
+        × Went (IsRow {A = A} {R = H.Source} H.Step) H.Does
         host.old (stand talk.old taken heard) host.new (stand talk.new last (asked_as asked heard))
         × OnOk result ((last ≡ taken ++ item_of item ∷ []) × (asked ≡ true)) }
     ensures none { OnOk result (talk.new.came ≡ None) }
@@ -164,8 +159,8 @@ fn take_line<A: Allocator + Clone, H: Host<A>>(
     ensures due { OnOk result (due talk.new.session ≡ false) }
     ensures lost { IfErr result (IsLost talk.new.lost) }
 {
-    turn(alloc, host, users, talk, Input::Line(item))?;
-    catch_up(alloc, host, users, talk)
+    turn(alloc, host, talk, Input::Line(item))?;
+    catch_up(alloc, host, talk)
 }
 
 fn next_of<T, A: Allocator>(left: &mut IntoIter<T, A>) -> Option<T>
@@ -180,7 +175,6 @@ fn next_of<T, A: Allocator>(left: &mut IntoIter<T, A>) -> Option<T>
 pub(crate) fn take_lines<A: Allocator + Clone, H: Host<A>>(
     alloc: &A,
     host: &mut H,
-    users: &Authorizer<A>,
     talk: &mut Talk<A, H::Sink>,
     items: Vec<LineItem<A>, A>,
 ) -> Result<(), TurnFault>
@@ -188,7 +182,7 @@ pub(crate) fn take_lines<A: Allocator + Clone, H: Host<A>>(
     requires whole { talk.old.lost ≡ None }
     ensures went { (taken : List Item) (heard : Heard) → heard.items ≡ taken ++ items_of items.items
         → (last : List Item) × (asked : Bool)
-        × Went (IsRow {A = A} {R = H.Source} H.Step users.now.users) H.Does
+        × Went (IsRow {A = A} {R = H.Source} H.Step) H.Does
         host.old (stand talk.old taken heard) host.new (stand talk.new last (asked_as asked heard))
         × OnOk result ((asked ≡ true) × ((talk.new.closed ≡ true) ⊎ AllTaken last heard)) }
     ensures none { OnOk result (talk.new.came ≡ None) }
@@ -196,13 +190,13 @@ pub(crate) fn take_lines<A: Allocator + Clone, H: Host<A>>(
     ensures due { OnOk result (due talk.new.session ≡ false) }
     ensures lost { IfErr result (IsLost talk.new.lost) }
 {
-    catch_up(alloc, host, users, talk)?;
+    catch_up(alloc, host, talk)?;
     if talk.closed {
         return Ok(());
     }
     let mut left = items.into_iter();
     while let Some(item) = next_of(&mut left) {
-        take_line(alloc, host, users, talk, item)?;
+        take_line(alloc, host, talk, item)?;
         if talk.closed {
             return Ok(());
         }

@@ -28,14 +28,14 @@ struct PacedDesk {
     ghost second_is: { IsSeatOf desk second.seat × (second.seat.lane ≡ 1) },
 }
 
-// Two octets per tick of the pace, of which user 7 gets at most one.
-fn limits(rt: &(impl Abort + AllocGlobal)) -> Limits {
+// A rate of the server, and one of user 7.
+fn limits_of(rt: &(impl Abort + AllocGlobal), server: u64, user: u64) -> Limits {
     let mut users = Vec::new(rt.alloc());
     users
         .push(UserRate {
             user: 7,
             group: None,
-            down: 500,
+            down: user,
             up: 0,
             session_down: 0,
             session_up: 0,
@@ -43,7 +43,12 @@ fn limits(rt: &(impl Abort + AllocGlobal)) -> Limits {
             session_up_floor: 0,
         })
         .expect(rt, "memory");
-    Limits::of(1_000, 0, 0, Vec::new(rt.alloc()), users).expect(rt, "limits")
+    Limits::of(server, 0, 0, Vec::new(rt.alloc()), users).expect(rt, "limits")
+}
+
+// Two octets per tick of the pace, of which user 7 gets at most one.
+fn limits(rt: &(impl Abort + AllocGlobal)) -> Limits {
+    limits_of(rt, 1_000, 500)
 }
 
 impl PacedDesk {
@@ -146,6 +151,14 @@ impl PacedDesk {
         self.take_both((0, 0))
     }
 
+    // Puts these rates in force.
+    fn change(&mut self, rt: &(impl Abort + AllocGlobal), server: u64, user: u64) {
+        let cadence = Cadence::new(rt.alloc(), 8, 0).expect(rt, "memory");
+        self.rounds
+            .change(rt.alloc(), limits_of(rt, server, user), cadence)
+            .expect(rt, "memory");
+    }
+
     fn close(self, rt: &(impl Abort + AllocGlobal)) -> Settled {
         let PacedDesk {
             desk,
@@ -192,4 +205,27 @@ fn rounds_keep_the_rates_of_their_pace(rt: HostRuntime) {
     holds(&rt, paced.rounds.issued() == 8);
     let settled = paced.close(&rt);
     holds(&rt, settled.issued == 8 && settled.moved == 8);
+}
+
+#[test]
+fn rates_are_changed_between_rounds(rt: HostRuntime) {
+    let mut paced = PacedDesk::open(&rt);
+    // the octet of user 7, of the server's two: one is left of the server, and none of the user
+    holds(&rt, paced.shares_first(&rt, 0, 1));
+    // the octet that is left stays, and the tick earns nothing again
+    paced.change(&rt, 2_000, 1_000);
+    paced.ask_first(&rt);
+    holds(&rt, paced.answers(&rt, 1_999, (0, 1)));
+    // four octets a tick, and two of user 7
+    holds(&rt, paced.shares(&rt, 2_000, (2, 2)));
+    // user 7 had a rate and has none: 0 is no limit
+    paced.change(&rt, 2_000, 0);
+    holds(&rt, paced.shares(&rt, 4_000, (2, 2)));
+    // a rate of 1 keeps one of the eight octets that two ticks have earned
+    holds(&rt, paced.is_refused(&rt, 8_000));
+    paced.change(&rt, 1, 0);
+    holds(&rt, paced.shares(&rt, 8_000, (1, 0)));
+    holds(&rt, paced.rounds.issued() == 11);
+    let settled = paced.close(&rt);
+    holds(&rt, settled.issued == 11 && settled.moved == 11);
 }

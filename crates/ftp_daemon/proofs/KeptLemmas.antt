@@ -1,12 +1,36 @@
 -- Histories at the ends of a server.
-use Rattle.std.proofs.Common.{◌≡◌, ℕ, ◌+◌, Bool, [], refl, ◌∙◌, subst, arith}
+use Rattle.std.proofs.Common.{◌≡◌, ℕ, ◌+◌, Bool, true, false, ◌&&◌, ◌||◌, nat_eq, [], refl, ◌∙◌, subst, arith}
 use Rattle.line_rates.specs.Rates.{Rates}
 use Rattle.paced_rounds.specs.Seconds.{HasKept}
+use Rattle.ftp_daemon.specs.SameRates.{may_hold, same_rates}
+use Rattle.ftp_daemon.proofs.Sameness.{rates_same, same_server}
 
 -- nothing was granted
-pub none_kept : (rates : Rates) (test : ℕ → Bool) (carried issued : ℕ) → issued ≡ carried → HasKept rates test carried issued
-none_kept rates test carried issued e = ([], record { seconds = λ n some s. omega arith; windows = λ n some s. omega arith }, refl, omega (arith, e))
+pub none_kept : (allowed : Rates → Bool) (test : ℕ → Bool) (carried issued : ℕ) → issued ≡ carried → HasKept allowed test carried issued
+none_kept allowed test carried issued e = ([], record { seconds = λ n second bound within. omega arith; windows = tt }, refl, omega (arith, e))
 
--- by what the rates and the octets carried are
-pub kept_of : (rates limits : Rates) (test : ℕ → Bool) (carried issued : ℕ) → rates ≡ limits → carried ≡ 0 → HasKept rates test carried issued → HasKept limits test 0 issued
-kept_of rates limits test carried issued e f kept = subst (λ (z : Rates × ℕ). HasKept z.0 test z.1 issued) (λ i. (e i, f i)) kept
+-- by what the rates at the start and the octets carried are
+pub kept_of : (rates limits : Rates) (allows : Rates → Bool) (test : ℕ → Bool) (carried issued : ℕ) → rates ≡ limits → carried ≡ 0 → HasKept (may_hold rates allows) test carried issued
+    → HasKept (may_hold limits allows) test 0 issued
+kept_of rates limits allows test carried issued e f kept = subst (λ (z : Rates × ℕ). HasKept (may_hold z.0 allows) test z.1 issued) (λ i. (e i, f i)) kept
+
+-- the rates of the start are among those
+pub may_begin : (rates : Rates) (allows : Rates → Bool) → may_hold rates allows rates ≡ true
+may_begin rates allows = rw (rates_same rates) at refl
+
+-- the owner's are too
+pub owner_may : (limits rates : Rates) (allows : Rates → Bool) → allows rates ≡ true → may_hold limits allows rates ≡ true
+owner_may limits rates allows may = go (same_rates limits rates)
+  where
+    go : (b : Bool) → (b || allows rates) ≡ true
+    go true = refl
+    go false = may
+
+-- all of them have one rate of the server if all that the owner may put in force have it
+pub one_server : (limits : Rates) (allows : Rates → Bool) → ((rates : Rates) → allows rates ≡ true → rates.server ≡ limits.server)
+    → (rates : Rates) → may_hold limits allows rates ≡ true → rates.server ≡ limits.server
+one_server limits allows all rates may = go (same_rates limits rates) refl may
+  where
+    go : (b : Bool) → same_rates limits rates ≡ b → (b || allows rates) ≡ true → rates.server ≡ limits.server
+    go true is m = same_server limits rates is
+    go false is m = all rates m

@@ -1,3 +1,5 @@
 pub mod Accepting
 pub mod Descriptors
 pub mod Draining
+pub mod Reloading
+pub mod SameRates

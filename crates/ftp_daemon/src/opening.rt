@@ -9,7 +9,6 @@ ghost use Rattle.lane_desk.specs.Turns.{back, turns, IsRoundOf};
 ghost use Rattle.round_pace.specs.Earned.{tick_of};
 ghost use Rattle.round_pace.specs.Paced.{IsPacedFrom};
 
-use authorizer::Authorizer;
 use client_patience::Patience;
 use ftpd_program::ServeFault;
 use grant_ledger::{Book, Settled, Tally, settle};
@@ -22,20 +21,19 @@ use rate_floors::Floors;
 use round_cadence::Cadence;
 use round_pace::Pace;
 use server_config::ServerNumbers;
-use server_house::{LaneSign, SessionTicket};
-use session_table::Settings;
+use server_house::{LaneSign, SessionTicket, SharedTerms, Terms};
 use std::alloc::{AllocError, Global};
 use std::net::TcpStream;
-use std::sync::Mutex;
+use std::sync::{Arc, Mutex};
 use transfer_ticket::Ticket;
 use virtual_tree::Store;
 
 /// The parts that a caller hands to a server.
 #[derive(Drop)]
 pub struct Service<S: Drop, H: Hooks, P: Drop> {
-    pub settings: Settings,
+    /// The users, and the settings of sessions.
+    pub terms: Arc<Terms>,
     pub numbers: ServerNumbers,
-    pub users: Authorizer,
     pub limits: Limits,
     pub store: S,
     /// More stores over the same files, one for each connection, if they can be had: then no session waits for a call
@@ -52,9 +50,8 @@ pub struct Service<S: Drop, H: Hooks, P: Drop> {
 /// The parts that the threads will share, except desk and board.
 #[derive(Drop)]
 pub(crate) struct Rooms<S: Store<Global>, H: Hooks, P: Drop> {
-    pub(crate) settings: Settings,
+    pub(crate) terms: SharedTerms,
     pub(crate) numbers: ServerNumbers,
-    pub(crate) users: Authorizer,
     pub(crate) store: S,
     pub(crate) own_stores: Vec<Mutex<S>>,
     pub(crate) arrivals: Vec<Mutex<Option<TcpStream>>>,
@@ -120,8 +117,8 @@ fn new_ports(alloc: Global, numbers: &ServerNumbers) -> Result<RestingPorts, Ser
 /// The greatest number of users, and of groups, that have beats of their own.
 const MOST_BEATS: usize = 65_536;
 
-// Beats for each user and each group with rates: their numbers rise, so the last has the greatest.
-fn new_cadence(alloc: Global, limits: &Limits) -> Result<Cadence, AllocError> {
+/// Beats for each user and each group with rates: their numbers rise, so the last has the greatest.
+pub(crate) fn new_cadence(alloc: Global, limits: &Limits) -> Result<Cadence, AllocError> {
     let users = match limits.users().last() {
         Some(row) => row.user as usize + 1,
         None => 0,
@@ -148,9 +145,8 @@ where
 {
     let alloc = rt.alloc();
     let Service {
-        settings,
+        terms,
         numbers,
-        users,
         limits,
         store,
         own_stores,
@@ -170,9 +166,8 @@ where
     let begun = rt.moment();
     let pace = Pace::of(alloc, limits, begun)?;
     Ok(Rooms {
-        settings,
+        terms: SharedTerms::new(terms),
         numbers,
-        users,
         store,
         own_stores,
         arrivals,

@@ -10,6 +10,7 @@ ghost use Rattle.round_pace.specs.Earned.{tick_of};
 ghost use Rattle.round_pace.specs.Histories.{rates_of};
 ghost use Rattle.round_pace.specs.Paced.{IsPacedFrom};
 ghost use Rattle.transfer_worker.specs.Boards.{AreNewPasses};
+ghost use Rattle.ftp_daemon.specs.SameRates.{Permits, may_hold};
 
 use crate::lanes::{run_threads, serve_clients};
 use crate::listening::{listen_on, warn_of_descriptors};
@@ -47,9 +48,8 @@ fn furnish<S: Store<Global>, H: Hooks, B: PartsName, P: Drop>(
     ensures pace { result.1 ≡ rooms.pace }
 {
     let Rooms {
-        settings,
+        terms,
         numbers,
-        users,
         store,
         own_stores,
         arrivals,
@@ -66,8 +66,7 @@ fn furnish<S: Store<Global>, H: Hooks, B: PartsName, P: Drop>(
         begun: _,
     } = rooms;
     let house = House {
-        users,
-        settings,
+        terms,
         numbers,
         patience,
         store: Mutex::new(store),
@@ -166,7 +165,8 @@ where
     P: OwnerSigns + Send + Sync + Drop,
     W: TextWriter,
     requires new { (rates : Rates) × IsPacedFrom (tick_of rooms.begun) rates rooms.pace }
-    requires rated { rates_of rooms.pace ≡ B.rates }
+    requires rated { B.rates (rates_of rooms.pace) ≡ true }
+    requires owner { Permits P.allows B.rates }
     requires when { B.when rooms.begun ≡ true }
     requires clock { IsTestOf R.when B.when }
     ensures sum { result.0.issued ≡ result.0.moved + result.0.back }
@@ -226,7 +226,8 @@ where
     requires board { IsBoardOf B.board board }
     requires passes { AreNewPasses B.board (length passes.items) passes.items }
     requires new { (rates : Rates) × IsPacedFrom (tick_of rooms.begun) rates rooms.pace }
-    requires rated { rates_of rooms.pace ≡ B.rates }
+    requires rated { B.rates (rates_of rooms.pace) ≡ true }
+    requires owner { Permits P.allows B.rates }
     requires when { B.when rooms.begun ≡ true }
     requires clock { IsTestOf R.when B.when }
     requires carried { line.book.issued ≡ B.carried }
@@ -270,9 +271,10 @@ fn tell_settled<W: TextWriter>(
 /// Serves until as many sessions were admitted as the numbers say, or until the stop sign is up, and then waits for the
 /// sessions in progress. Writes `ready` once clients may connect, and at the end the outcome of all octets issued.
 ///
-/// Each round is held at a moment of the clock, and under the rates of the limits: there is a history of rounds at such
-/// moments in which the rate of each name is kept, and which granted all octets issued. So if the moments of the clock are
-/// in some seconds, at most the rate of the server is issued for each of these seconds.
+/// Each round is held at a moment of the clock, and under the rates of the limits, or those that the owner has put in
+/// force since: there is a history of rounds at such moments in which the rate of each name is kept, and which granted
+/// all octets issued. So if the moments of the clock are in some seconds, and the owner never changes the rate of the
+/// server, at most that rate is issued for each of these seconds.
 ///
 /// Returns `Bind` if the address and port cannot be bound (the handler is told why), `NoThread` if a thread of the server
 /// cannot be started, `Stopped` if the stop sign is up at the start.
@@ -298,9 +300,11 @@ where
     P: OwnerSigns + Send + Sync + Drop,
     W: TextWriter,
     ensures sum { IfOk result (λ settled. settled.issued ≡ settled.moved + settled.back) }
-    ensures kept { IfOk result (λ settled. HasKept service.limits R.when 0 settled.issued) }
+    ensures kept { IfOk result (λ settled.
+        HasKept (may_hold service.limits P.allows) R.when 0 settled.issued) }
     ensures seconds { IfOk result (λ settled. (first count : ℕ)
         → AreInSeconds R.when first count → service.limits.server ≢ 0
+        → ((rates : Rates) → P.allows rates ≡ true → rates.server ≡ service.limits.server)
         → settled.issued ≤ count * service.limits.server) }
 {
     histories_keep_rates();

@@ -1,6 +1,12 @@
 //! The signs of a server's owner while it serves.
 
+ghost use Rattle.std.specs.Prelude.{◌≡◌, Bool, true};
+ghost use Rattle.ftp_daemon.specs.Reloading.{IsAllowed};
+ghost use Rattle.ftp_daemon.specs.SameRates.{Permits};
+ghost use Rattle.line_rates.specs.Rates.{Rates};
+
 use crate::draining::{Due, next_due};
+use crate::reloading::{ReloadFault, ReloadSign, take};
 use data_sockets::socket_address;
 use event_word::{has_passed, micros};
 use grant_ledger::MAX_LANES;
@@ -24,6 +30,9 @@ const LOOK: u64 = 100;
 /// The time-out for waking the thread that accepts, in milliseconds.
 const WAKING: u64 = 500;
 
+/// The reason that a configuration was not taken, without memory for another.
+const NO_MEMORY: &str = "out of memory";
+
 /// The time between two looks at what goes on, in microseconds.
 const SECOND: u64 = 1_000_000;
 
@@ -37,6 +46,20 @@ pub trait OwnerSigns {
     /// Returns whether the server is to drain: it admits no more clients, each session ends once no transfer of it runs,
     /// and then the server ends. It is checked as often.
     fn is_to_drain(&self) -> bool;
+
+    /// A test that the rates pass which the owner may put in force.
+    ghost allows: { Rates → Bool };
+
+    /// The configuration that the server is to take now, or the reason for which it takes none, if one was asked for. It
+    /// is asked for as often.
+    fn reload(&self) -> ReloadSign
+        ensures allowed { IsAllowed allows result };
+
+    /// The server has taken the configuration.
+    fn taken(&self);
+
+    /// The server has refused the configuration. Returns the reason in words; none if memory runs out.
+    fn refused(&self, fault: ReloadFault) -> Option<String>;
 
     /// Returns whether the handler is to be shown what goes on, once a second.
     fn wants_looks(&self) -> bool;
@@ -144,6 +167,35 @@ where
     true
 }
 
+// Takes the configuration of a sign, if there is one, and tells the handler what came of it.
+fn reload<R, S, H, B, P>(rt: &R, house: &House<S, H, B>, turns: &Mutex<Turns<B, ()>>, signs: &P)
+where
+    R: Wait + AllocGlobal,
+    S: Store<Global>,
+    H: ServerHooks,
+    B: PartsName,
+    P: OwnerSigns,
+    requires owner { Permits P.allows B.rates }
+{
+    let outcome = match signs.reload() {
+        ReloadSign::Nothing => return,
+        ReloadSign::Refused(reason) => Err(reason),
+        ReloadSign::Asked(reload) => match take(rt, rt.alloc(), house, turns, reload) {
+            Ok(()) => Ok(()),
+            Err(fault) => Err(signs.refused(fault)),
+        },
+    };
+    let mut handler = house.handler.lock(rt);
+    match &outcome {
+        Ok(()) => {
+            signs.taken();
+            handler.on_reload(None);
+        }
+        Err(Some(reason)) => handler.on_reload(Some(reason.as_str())),
+        Err(None) => handler.on_reload(Some(NO_MEMORY)),
+    }
+}
+
 /// Checks the signs until the sessions are to end, and shows the handler what goes on, if that is wanted. Drains the
 /// server, or ends its sessions, as is due.
 pub(crate) fn watch<R, S, H, B, P>(
@@ -153,11 +205,12 @@ pub(crate) fn watch<R, S, H, B, P>(
     signs: &P,
 )
 where
-    R: Wait + Clock + Net<Listener = TcpListener, Stream = TcpStream>,
+    R: Wait + Clock + Net<Listener = TcpListener, Stream = TcpStream> + AllocGlobal,
     S: Store<Global>,
     H: ServerHooks,
     B: PartsName,
     P: OwnerSigns,
+    requires owner { Permits P.allows B.rates }
 {
     let mut shown = micros(rt);
     let mut drained = None;
@@ -182,6 +235,7 @@ where
         if begin(rt, house, next, clients) {
             return;
         }
+        reload(rt, house, turns, signs);
         if signs.wants_looks() && has_passed(shown, now, SECOND) {
             shown = shown.saturating_add(SECOND);
             show(rt, house, turns);

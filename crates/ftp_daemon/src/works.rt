@@ -9,9 +9,11 @@ ghost use Rattle.round_pace.specs.Earned.{tick_of};
 ghost use Rattle.round_pace.specs.Histories.{rates_of};
 ghost use Rattle.round_pace.specs.Paced.{IsPacedFrom};
 ghost use Rattle.transfer_worker.specs.Boards.{AreNewPasses};
+ghost use Rattle.ftp_daemon.specs.SameRates.{Permits};
 
 use crate::opening::Line;
 use crate::settling::{Lent, Room};
+use crate::watching::OwnerSigns;
 use grant_ledger::Tally;
 use handler_hooks::Hooks;
 use lane_desk::{LaneSeat, Rounds};
@@ -27,7 +29,7 @@ use transfer_worker::BoardPass;
 use virtual_tree::Store;
 
 /// Everything that the threads of a server share. It cannot be dropped.
-pub(crate) struct Works<R: RoundClock, S: Store<Global>, H: Hooks, B: PartsName, P> {
+pub(crate) struct Works<R: RoundClock, S: Store<Global>, H: Hooks, B: PartsName, P: OwnerSigns> {
     pub(crate) rt: R,
     pub(crate) house: House<S, H, B>,
     /// The passes with which lanes take transfers: each takes one as it begins.
@@ -36,6 +38,7 @@ pub(crate) struct Works<R: RoundClock, S: Store<Global>, H: Hooks, B: PartsName,
     /// The signs of the owner, if there are any.
     pub(crate) signs: Option<P>,
     ghost clock: { IsTestOf R.when B.when },
+    ghost owner: { Permits P.allows B.rates },
 }
 
 /// Room for seats and passes that are lent.
@@ -158,7 +161,7 @@ impl<B: PartsName> LentLine<B> {
         is_watched: bool,
     ) -> (Lent<B>, Room<B>)
         requires new { (rates : Rates) × IsPacedFrom (tick_of begun) rates pace }
-        requires rated { rates_of pace ≡ B.rates }
+        requires rated { B.rates (rates_of pace) ≡ true }
         requires when { B.when begun ≡ true }
         ensures gathered { length result.0.workers.items ≤ vec_capacity result.1.gathered }
         ensures worked { length result.0.workers.items ≤ vec_capacity result.1.worked }

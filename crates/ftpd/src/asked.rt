@@ -6,7 +6,7 @@
 //! type parameter for their permission.
 
 use ftp_daemon::{Patience, ServeFault};
-use ftpd_program::{ServeFiles, Server};
+use ftpd_program::{ReadConfig, ServeFiles, Server};
 use server_config::Config;
 use std::alloc::{AllocError, Global};
 use text_io::TextWriter;
@@ -14,6 +14,8 @@ use text_io::TextWriter;
 /// A service that the words of a command line ask for.
 #[derive(Drop)]
 pub(crate) struct AskedService {
+    /// The path of the configuration.
+    pub path: String,
     pub config: Config,
     /// The texts of the configuration's warnings, a line each.
     pub warnings: String,
@@ -21,6 +23,8 @@ pub(crate) struct AskedService {
     pub stop_file: Option<String>,
     /// The path of the drain file, if any.
     pub drain_file: Option<String>,
+    /// The path of the reload file, if any.
+    pub reload_file: Option<String>,
     /// The path of the ready file, if any.
     pub ready_file: Option<String>,
     /// The path of the transfer log, if any.
@@ -78,24 +82,32 @@ impl<W: TextWriter> Server<W> for Asked {
     fn serve(
         &mut self,
         alloc: Global,
-        config: Config,
-        warnings: &str,
+        read: ReadConfig<'_>,
         files: ServeFiles<'_>,
         patience: Patience,
         _output: &mut W,
     ) -> Result<(), ServeFault> {
         let stop_file = copied(alloc, files.stop_file)?;
         let drain_file = copied(alloc, files.drain_file)?;
+        let reload_file = copied(alloc, files.reload_file)?;
         let ready_file = copied(alloc, files.ready_file)?;
         let transfer_log = copied(alloc, files.transfer_log)?;
         let log_form = copied(alloc, files.log_form)?;
         let status = with_beside(alloc, files.status)?;
+        let ReadConfig {
+            path,
+            config,
+            warnings,
+        } = read;
+        let path = String::from_str(alloc, path)?;
         let warnings = String::from_str(alloc, warnings)?;
         self.service = Some(AskedService {
+            path,
             config,
             warnings,
             stop_file,
             drain_file,
+            reload_file,
             ready_file,
             transfer_log,
             log_form,

@@ -3,11 +3,13 @@
 #![tactic(auto)]
 
 mod asked;
+mod facts;
 mod log_file;
 mod log_thread;
 mod machine_files;
 mod page_thread;
 mod ready_file;
+mod reload_file;
 mod serving;
 mod sign_file;
 mod starting;

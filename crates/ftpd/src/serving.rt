@@ -1,28 +1,30 @@
 //! The server of the machine that the program runs on.
 
 use crate::asked::AskedService;
+use crate::facts::{Start, facts_of, start_of};
 use crate::log_thread::{QueuedTransfers, serve_with_log};
 use crate::page_thread::serve_with_page;
 use crate::ready_file::MachineReadyFile;
+use crate::reload_file::{Known, ReloadFile, root_of};
+use crate::sign_file::SignFile;
 use crate::starting::{Means, Prepared, Unprepared, prepare};
 use crate::status_file::{MachineSigns, StatusFile};
-use event_word::micros;
 use folder_store::DirStore;
-use ftp_daemon::{Patience, RoundClock, ServeFault, Service, serve};
+use ftp_daemon::{Patience, RoundClock, ServeFault, Service, Terms, serve};
 use ftpd_program::{FtpdExit, ReadyOutput, StartFault};
 use last_fault::LastFault;
 use line_queue::{QueuedLog, SharedLines};
-use line_rates::{Limits, Name, Way};
+use line_rates::Limits;
 use log::{Level, Logged};
 use recorded_store::RecordedStore;
-use server_config::{Config, ServedStore};
+use server_config::{Config, ServedStore, ServerNumbers};
 use session_notes::Notes;
 use sheets_program::Exit as Common;
-use status_keeper::{StatusCell, StatusFacts, StatusKeeper};
+use status_keeper::{StatusCell, StatusKeeper};
 use std::alloc::{AllocError, Global};
 use std::io::Write;
 use std::net::{Net, TcpListener, TcpStream};
-use std::sync::{Arc, Wait};
+use std::sync::{Arc, Mutex, Wait};
 use std::thread::Threads;
 use std::time::Clock;
 use text_io::{FallibleIo, TextWriter};
@@ -62,10 +64,19 @@ type MachineNotes<R> = StatusKeeper<
     Notes<Logged<HostRuntime, QueuedLog<R>>, QueuedTransfers<R>>,
 >;
 
+/// The parts of a configuration that a server takes at its start.
+#[derive(Drop)]
+struct ServedConfig {
+    terms: Arc<Terms>,
+    numbers: ServerNumbers,
+    store: ServedStore,
+    limits: Limits,
+}
+
 /// Serves a configuration: its store is in memory, or a folder of the machine.
 fn serve_config<R, W>(
     rt: &R,
-    config: Config,
+    config: ServedConfig,
     handler: MachineNotes<R>,
     machine: &HostRuntime,
     signs: MachineSigns<R>,
@@ -84,20 +95,17 @@ where
         + Sync,
     W: TextWriter,
 {
-    let Config {
-        settings,
+    let ServedConfig {
+        terms,
         numbers,
-        users,
         store,
         limits,
-        groups: _,
     } = config;
     match store {
         ServedStore::Memory(store) => {
             let service = Service {
-                settings,
+                terms,
                 numbers,
-                users,
                 limits,
                 store: RecordedStore::new(rt.alloc(), store),
                 own_stores: Vec::new(rt.alloc()),
@@ -111,9 +119,8 @@ where
             let store = open_folder(machine, folder.as_str())?;
             let own_stores = open_folders(machine, folder.as_str(), numbers.max_cons)?;
             let service = Service {
-                settings,
+                terms,
                 numbers,
-                users,
                 limits,
                 store,
                 own_stores,
@@ -166,46 +173,6 @@ where
     (ending, start)
 }
 
-/// A copy of limits. `None` if memory runs out.
-fn copied_limits(alloc: Global, limits: &Limits) -> Option<Limits> {
-    let mut groups = Vec::with_capacity(alloc, limits.groups().len()).ok()?;
-    for group in limits.groups() {
-        groups.push(*group).ok()?;
-    }
-    let mut users = Vec::with_capacity(alloc, limits.users().len()).ok()?;
-    for user in limits.users() {
-        users.push(*user).ok()?;
-    }
-    let both = limits.rate(Name::Server);
-    let down = limits.rate(Name::Direction(Way::Down));
-    let up = limits.rate(Name::Direction(Way::Up));
-    Limits::of(both, down, up, groups, users).ok()
-}
-
-/// The facts for a status of a configuration, and of its start. `None` if memory runs out.
-fn facts_of(machine: &HostRuntime, config: &Config) -> Option<StatusFacts> {
-    let alloc = machine.alloc();
-    let mut groups = Vec::with_capacity(alloc, config.groups.len()).ok()?;
-    for name in &config.groups {
-        groups
-            .push(String::from_str(alloc, name.as_str()).ok()?)
-            .ok()?;
-    }
-    let started = match machine.since_1970() {
-        Ok(time) => time.as_secs(),
-        Err(_) => 0,
-    };
-    Some(StatusFacts {
-        limits: copied_limits(alloc, &config.limits)?,
-        groups,
-        users: config.limits.users().len() as u64,
-        lanes: u64::from(config.numbers.lanes),
-        max_sessions: u64::from(config.numbers.max_cons),
-        started,
-        zero: micros(machine),
-    })
-}
-
 /// The cell of a status, with another handle if the status is shown.
 fn cells(
     alloc: Global,
@@ -242,6 +209,55 @@ fn file_handles(
     }
 }
 
+/// The parts of a configuration that a server takes, and the names that it knows by numbers.
+fn known_of(alloc: Global, config: Config) -> Result<(ServedConfig, Known), AllocError> {
+    let Config {
+        settings,
+        numbers,
+        users,
+        store,
+        limits,
+        groups,
+    } = config;
+    let terms = Arc::new(alloc, Terms { users, settings })?;
+    let known = Known {
+        terms: Arc::try_clone(&terms)?,
+        groups,
+    };
+    let served = ServedConfig {
+        terms,
+        numbers,
+        store,
+        limits,
+    };
+    Ok((served, known))
+}
+
+/// The reload file of a configuration at a path, if there is to be one.
+fn reload_file(
+    machine: &HostRuntime,
+    sign: Option<SignFile>,
+    config: String,
+    known: Known,
+    served: &ServedConfig,
+    start: Start,
+) -> Result<Option<ReloadFile>, AllocError> {
+    let Some(sign) = sign else {
+        return Ok(None);
+    };
+    Ok(Some(ReloadFile {
+        machine: *machine,
+        sign,
+        config,
+        numbers: served.numbers,
+        root: String::from_str(machine.alloc(), root_of(&served.store))?,
+        known: Mutex::new(known),
+        next: Mutex::new(None),
+        is_stuck: Mutex::new(false),
+        start,
+    }))
+}
+
 /// Serves with what was prepared.
 fn serve_with<R, W>(
     rt: &R,
@@ -262,11 +278,13 @@ where
     W: TextWriter,
 {
     let Means {
+        path,
         config,
         warnings,
         form,
         stop,
         drain,
+        reload,
         is_logged,
         log,
         status,
@@ -278,7 +296,8 @@ where
         notes,
         transfers,
     } = shared_lines(rt.alloc())?;
-    let Some(facts) = facts_of(machine, &config) else {
+    let start = start_of(machine);
+    let Some(facts) = facts_of(rt.alloc(), start, &config) else {
         return Err(ServeFault::Memory);
     };
     let (cell, kept, watched) = cells(rt.alloc(), status.is_some() || page.is_some())?;
@@ -289,10 +308,13 @@ where
     let notes = Notes::new(Logged::new(*machine, Level::Info, queued), form, transfers);
     notes.note_warnings(warnings.as_str());
     let handler = StatusKeeper::new(*rt, notes, facts, kept);
+    let (config, known) = known_of(rt.alloc(), config)?;
+    let reload = reload_file(machine, reload, path, known, &config, start)?;
     let signs = MachineSigns {
         rt: *rt,
         stop,
         drain,
+        reload,
         file: written,
         cell: watched,
     };

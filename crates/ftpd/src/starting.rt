@@ -16,11 +16,15 @@ use std::{fs, io};
 /// The means of a server: its configuration, its files and sockets.
 #[derive(Drop)]
 pub(crate) struct Means {
+    /// The path of the configuration.
+    pub path: String,
     pub config: Config,
     pub warnings: String,
     pub form: LogForm,
     pub stop: Option<SignFile>,
     pub drain: Option<SignFile>,
+    /// The sign that the configuration is to be read again, if there is to be one.
+    pub reload: Option<SignFile>,
     pub is_logged: bool,
     pub log: LogFile,
     pub status: Option<StatusFile>,
@@ -141,6 +145,25 @@ fn drain_if_any(
     }
 }
 
+fn reload_if_any(
+    machine: &HostRuntime,
+    path: Option<String>,
+) -> Result<Option<SignFile>, StartFault> {
+    let Some(path) = path else {
+        return Ok(None);
+    };
+    match sign_at(machine, path) {
+        Ok(reload) => Ok(Some(reload)),
+        Err(found) => {
+            let (path, hindrance) = found;
+            match hindrance {
+                Hindrance::There => Err(StartFault::ReloadFileThere { path }),
+                Hindrance::Told(reason) => Err(StartFault::ReloadFileUnseen { path, reason }),
+            }
+        }
+    }
+}
+
 fn ready_if_any(
     machine: &HostRuntime,
     path: Option<String>,
@@ -252,10 +275,12 @@ where
     R: Net<Listener = TcpListener, Stream = TcpStream>,
 {
     let AskedService {
+        path,
         config,
         warnings,
         stop_file,
         drain_file,
+        reload_file,
         ready_file,
         transfer_log,
         log_form,
@@ -266,17 +291,20 @@ where
     let form = part(form_named(log_form), ServeFault::LogForm)?;
     let stop = part(stop_if_any(machine, stop_file), ServeFault::Stopped)?;
     let drain = part(drain_if_any(machine, drain_file), ServeFault::Stopped)?;
+    let reload = part(reload_if_any(machine, reload_file), ServeFault::ReloadFile)?;
     let ready = part(ready_if_any(machine, ready_file), ServeFault::ReadyFile)?;
     if let Some(start) = folder_fault(machine, &config.store) {
         return Err(not_prepared(ServeFault::Store, start));
     }
     let is_logged = transfer_log.is_some();
     let means = Means {
+        path,
         config,
         warnings,
         form,
         stop,
         drain,
+        reload,
         is_logged,
         status: part(status_at(machine, status), ServeFault::StatusFile)?,
         page: part(page_at(rt, status_port), ServeFault::StatusPort)?,

@@ -1,7 +1,8 @@
 //! The file of a server's status, and the signs of the machine.
 
+use crate::reload_file::ReloadFile;
 use crate::sign_file::{SignFile, is_given};
-use ftp_daemon::OwnerSigns;
+use ftp_daemon::{OwnerSigns, ReloadFault, ReloadSign};
 use server_status::status_text;
 use status_keeper::StatusCell;
 use std::fs::OpenOptions;
@@ -73,6 +74,7 @@ pub(crate) struct MachineSigns<R> {
     pub rt: R,
     pub stop: Option<SignFile>,
     pub drain: Option<SignFile>,
+    pub reload: Option<ReloadFile>,
     pub file: Option<Arc<StatusFile>>,
     /// The status, if it is shown at all.
     pub cell: Option<Arc<StatusCell>>,
@@ -85,6 +87,30 @@ impl<R: Wait + AllocGlobal> OwnerSigns for MachineSigns<R> {
 
     fn is_to_drain(&self) -> bool {
         is_given(&self.drain)
+    }
+
+    ghost allows = { λ _. true };
+
+    fn reload(&self) -> ReloadSign {
+        match &self.reload {
+            Some(file) => file.asked(&self.rt),
+            None => ReloadSign::Nothing,
+        }
+    }
+
+    fn taken(&self) {
+        if let Some(file) = &self.reload {
+            if let (Some(facts), Some(cell)) = (file.taken(&self.rt), &self.cell) {
+                cell.put_facts(&self.rt, facts);
+            }
+        }
+    }
+
+    fn refused(&self, fault: ReloadFault) -> Option<String> {
+        match &self.reload {
+            Some(file) => file.refused(&self.rt, fault),
+            None => None,
+        }
     }
 
     fn wants_looks(&self) -> bool {

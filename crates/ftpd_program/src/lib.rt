@@ -29,7 +29,7 @@ pub use printing::{Print, PrintFault, run_print};
 pub use ready::{ReadyFile, ReadyOutput};
 pub use run::run_words;
 pub use scripting::{ScriptFault, run_script};
-pub use server::{ServeFault, Server};
+pub use server::{ReadConfig, ServeFault, Server};
 pub use sheets_program::{Opener, STANDARD_INPUT};
 pub use start::StartFault;
 pub use watching::{StatusSource, watch};

@@ -33,6 +33,10 @@ pub enum ServeFault {
     /// The ready file could not be made: it is there already, or the machine reports an error.
     #[error("ReadyFile")]
     ReadyFile,
+    /// The reload file was there at the start, or could never be noticed; or the configuration is standard input, which
+    /// cannot be read again.
+    #[error("ReloadFile")]
+    ReloadFile,
     /// The file of the transfer log cannot be opened.
     #[error("TransferLog")]
     TransferLog,
@@ -58,6 +62,16 @@ impl From<AllocError> for ServeFault {
     }
 }
 
+/// A configuration that was read from a file.
+#[derive(Drop)]
+pub struct ReadConfig<'a> {
+    /// The path of the file.
+    pub path: &'a str,
+    pub config: Config,
+    /// The texts of its warnings, a line each.
+    pub warnings: &'a str,
+}
+
 /// A server of clients. It writes a message to an output when it is ready, and the settled counts at its end.
 pub trait Server<W: TextWriter> {
     /// The possible calls: the configuration, the texts of its warnings, the stop file, the ready file, the patience,
@@ -70,13 +84,13 @@ pub trait Server<W: TextWriter> {
     fn serve(
         &mut self,
         alloc: Global,
-        config: Config,
-        warnings: &str,
+        read: ReadConfig<'_>,
         files: ServeFiles<'_>,
         patience: Patience,
         output: &mut W,
     ) -> Result<(), ServeFault>
-        ensures served { Serves config warnings.now (option_map (λ w. w.now) files.entry.stop_file)
+        ensures served { Serves read.entry.config read.entry.warnings.now
+            (option_map (λ w. w.now) files.entry.stop_file)
             (option_map (λ w. w.now) files.entry.ready_file) patience
             (W.contents output.old) (W.contents output.new) result };
 }

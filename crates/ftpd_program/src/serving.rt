@@ -7,7 +7,7 @@ ghost use Rattle.ftpd_program.specs.Serving.{IsServeEnd, IsUnconfiguredEnd, IsWa
 
 use crate::ending::FtpdExit;
 use crate::scripting::{ScriptFault, read_warned};
-use crate::server::{ServeFault, Server};
+use crate::server::{ReadConfig, ServeFault, Server};
 use command_line::{Patience, ServeFiles};
 use config_report::Lookout;
 use server_config::Config;
@@ -77,9 +77,13 @@ pub(crate) fn serve<'w, O: Opener + Lookout, W: TextWriter, V: Server<W>>(
     ensures unwritten { IsUnwritten result → output.new ≡ output.old }
 {
     match config_at(alloc, config, files) {
-        Ok((config, warnings)) => {
-            let told = warnings.as_str();
-            ended(server.serve(alloc, config, told, signs, patience, output))
+        Ok((read, warnings)) => {
+            let read = ReadConfig {
+                path: config,
+                config: read,
+                warnings: warnings.as_str(),
+            };
+            ended(server.serve(alloc, read, signs, patience, output))
         }
         Err(ending) => ending,
     }

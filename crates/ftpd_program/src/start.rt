@@ -18,6 +18,10 @@ pub enum StartFault {
     DrainFileThere { path: String },
     /// The drain file of this path could not be noticed, because its folder is not there, or is closed (`Stopped`).
     DrainFileUnseen { path: String, reason: io::Error },
+    /// There is something at the path of the reload file (`ReloadFile`).
+    ReloadFileThere { path: String },
+    /// The reload file of this path could not be noticed, because its folder is not there, or is closed (`ReloadFile`).
+    ReloadFileUnseen { path: String, reason: io::Error },
     /// There is something at the path of the ready file (`ReadyFile`).
     ReadyFileThere { path: String },
     /// The ready file of this path could not be made (`ReadyFile`).
@@ -44,6 +48,7 @@ impl fmt::Display for StartFault {
             }
             StartFault::StopFileThere { path }
             | StartFault::DrainFileThere { path }
+            | StartFault::ReloadFileThere { path }
             | StartFault::ReadyFileThere { path } => {
                 write!(f, "{path} is there already: remove it")
             }
@@ -52,6 +57,9 @@ impl fmt::Display for StartFault {
             }
             StartFault::DrainFileUnseen { path, reason } => {
                 write!(f, "the drain file {path} could not be noticed: {reason}")
+            }
+            StartFault::ReloadFileUnseen { path, reason } => {
+                write!(f, "the reload file {path} could not be noticed: {reason}")
             }
             StartFault::ReadyFileUnmade { path, reason } => {
                 write!(f, "the ready file {path} could not be made: {reason}")

@@ -46,13 +46,13 @@ fn sign<R: Source, K: Sink, C: Read + Write + Drop>(sign: &LaneSign, job: &LaneJ
 }
 
 // Runs the transfer that waits on a ticket to its end, and reports that; nothing if it was taken back.
-fn run_transfer<R, S, H, B, N>(
+fn run_transfer<'h, R, S, H, B, N>(
     rt: &R,
-    house: &House<S, H, B>,
+    house: &'h House<S, H, B>,
     desk: &LentDesk<B, N>,
     turns: &Mutex<Turns<B, N>>,
     worker: &mut LentWorker<B, N>,
-    ticket: &SessionTicket<S>,
+    ticket: &'h SessionTicket<S>,
 )
 where
     R: Wait + Clock + RoundClock + AllocGlobal,
@@ -104,8 +104,8 @@ where
         }
         let seen = house.jobs.seen();
         match house.board.pop(rt, &mut pass) {
-            Some(number) => match house.tickets.get(number as usize) {
-                Some(ticket) => run_transfer(rt, house, desk, turns, worker, ticket),
+            Some(number) => match (&*house).tickets.get(number as usize) {
+                Some(ticket) => run_transfer(rt, &*house, desk, turns, worker, ticket),
                 None => {}
             },
             None => {

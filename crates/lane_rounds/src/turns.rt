@@ -1,6 +1,8 @@
 //! The parts needed to hold a round.
 
-ghost use Rattle.std.specs.Prelude.{◌≡◌, ◌+◌, true};
+ghost use Rattle.std.specs.Prelude.{◌≡◌, ◌+◌, true, OnOk, OnErr};
+ghost use Rattle.round_pace.specs.Changed.{IsChangedTo};
+ghost use Rattle.round_pace.specs.Histories.{rates_of};
 ghost use Rattle.round_tally.specs.Counts.{tallied};
 
 use crate::counting::count_all;
@@ -8,10 +10,12 @@ use crate::looking::RoundLook;
 use grant_ledger::MAX_LANES;
 use lane_desk::{RoundFault, RoundRecord};
 use lent_parts::{LentDesk, LentRounds, PartsName};
+use line_rates::Limits;
 use paced_rounds::HeldNames;
+use round_cadence::Cadence;
 use round_pace::TICK_MICROS;
 use round_tally::Tallies;
-use std::alloc::Allocator;
+use std::alloc::{AllocError, Allocator, Global};
 
 /// The length of a window of the tallies, in microseconds: the longest interval between two fillings of a row.
 const WINDOW: u64 = 32 * TICK_MICROS;
@@ -67,6 +71,30 @@ impl<B: PartsName, N> Turns<B, N> {
             );
         }
         result
+    }
+
+    /// Puts the rates of other limits, which pass the test of the name, in force from the next round on, as
+    /// `LentRounds::change`. The tallies stay as they are. Without memory nothing is changed.
+    pub fn change(
+        &mut self,
+        alloc: Global,
+        limits: Limits,
+        cadence: Cadence,
+    ) -> Result<(), AllocError>
+        requires allowed { B.rates limits ≡ true }
+        ensures tallies { self.new.tallies ≡ self.old.tallies }
+        ensures before { self.new.before ≡ self.old.before }
+        ensures rounds { self.new.rounds.rounds.rounds ≡ self.old.rounds.rounds.rounds }
+        ensures latest { self.new.rounds.rounds.latest ≡ self.old.rounds.rounds.latest }
+        ensures pace { OnOk result (IsChangedTo limits self.old.rounds.rounds.pace
+            self.new.rounds.rounds.pace) }
+        ensures rates { OnOk result (rates_of self.new.rounds.rounds.pace ≡ limits) }
+        ensures cadence { OnOk result (self.new.rounds.rounds.cadence ≡ cadence) }
+        ensures unchanged { OnErr result
+            ((self.new.rounds.rounds.pace ≡ self.old.rounds.rounds.pace)
+            × (self.new.rounds.rounds.cadence ≡ self.old.rounds.rounds.cadence)) }
+    {
+        self.rounds.change(alloc, limits, cadence)
     }
 
     /// The octets granted to the transfers with these numbers, by lane, and to all others before them.

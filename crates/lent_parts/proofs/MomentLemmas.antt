@@ -1,5 +1,5 @@
 -- Moments of a history.
-use Rattle.std.proofs.Common.{◌≡◌, ℕ, ◌<◌, ◌≤◌, Bool, true, List, [], ◌∷◌, ◌++◌, inl, inr, ap, ◌∙◌, subst, sym, arith}
+use Rattle.std.proofs.Common.{◌≡◌, ℕ, Bool, true, List, [], ◌∷◌, ◌++◌, inl, inr, ap, ◌∙◌, subst, sym, arith}
 use Rattle.std.specs.Prelude.{max, ◌&&◌}
 use Rattle.std.specs.List.{list_all}
 use Rattle.std.proofs.lemmas.Bool.{and_parts, cases_lt}

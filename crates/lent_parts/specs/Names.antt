@@ -1,8 +1,6 @@
 -- Parts of the server with a name.
 use Rattle.std.specs.Prelude.{◌≡◌, ℕ, ◌<◌, []}
 use Rattle.atomic_table.specs.Seated.{TableId}
-use Rattle.line_rates.specs.Rates.{Rates}
-use Rattle.line_rates.specs.Stated.{stated}
 use Rattle.lane_desk.specs.declared.desk.Desk.{Desk}
 use Rattle.lane_desk.specs.declared.seat.LaneSeat.{LaneSeat}
 use Rattle.lane_desk.specs.Seats.{desk_id}
@@ -24,10 +22,6 @@ no_table =
       offset = 0;
       slot_names = [];
     }
-
--- a placeholder for rates
-abbrev pub no_rates : Rates
-no_rates = stated 0 0 0 [] []
 
 module _ {N : Type 0} where
   abbrev pub IsNamed : {A : Type 0} → TableId → ℕ → Desk N A → Type 0

@@ -3,19 +3,19 @@
 ghost use Rattle.std.specs.Prelude.{ℕ, Bool, true};
 ghost use Rattle.atomic_table.specs.Seated.{TableId};
 ghost use Rattle.line_rates.specs.Rates.{Rates};
-ghost use Rattle.lent_parts.specs.Names.{no_table, no_rates};
+ghost use Rattle.lent_parts.specs.Names.{no_table};
 
 use std::marker::Brand;
 
 /// Names the parts of one server in the types of what its threads are lent: the table of its desk with the number of
-/// its lanes; the rates of its rounds, the octets issued before the first of them, and a test that their moments pass;
-/// and the table of its board.
+/// its lanes; a test that the rates of its rounds pass, the octets issued before the first of them, and a test that their
+/// moments pass; and the table of its board.
 pub trait PartsName {
     ghost desk: { TableId };
 
     ghost lanes: { ℕ };
 
-    ghost rates: { Rates };
+    ghost rates: { Rates → Bool };
 
     ghost carried: { ℕ };
 
@@ -30,7 +30,7 @@ impl PartsName for Brand {
 
     ghost lanes = { 0 };
 
-    ghost rates = { no_rates };
+    ghost rates = { λ _. true };
 
     ghost carried = { 0 };
 

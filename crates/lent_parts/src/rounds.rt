@@ -3,39 +3,40 @@
 ghost use Rattle.std.specs.Prelude.{◌≡◌, ◌+◌, ◌/◌, ◌++◌, [], ◌∷◌, true, max, Some, sum, IfOk, IfErr, OnOk, OnErr};
 ghost use Rattle.limit_tree.specs.Outline.{limits as seen};
 ghost use Rattle.limit_tree.specs.Sharing.{IsBest};
-ghost use Rattle.line_rates.specs.Rates.{rates_code};
 ghost use Rattle.lent_parts.specs.Names.{RoundsAt};
 ghost use Rattle.lane_desk.specs.Turns.{turns};
 ghost use Rattle.lane_desk.specs.Tried.{is_given};
 ghost use Rattle.lane_desk.specs.Rounded.{IsRoundOver, IsRefusedRoundOver};
+ghost use Rattle.round_pace.specs.Changed.{IsChangedTo};
 ghost use Rattle.round_pace.specs.Earned.{tick_of};
 ghost use Rattle.round_pace.specs.Histories.{rates_of, after};
 ghost use Rattle.round_pace.specs.Offered.{offer_round};
-ghost use Rattle.paced_rounds.specs.History.{round_at, history};
+ghost use Rattle.paced_rounds.specs.History.{round_at, history, ended_in, stretch_under};
 ghost use Rattle.paced_rounds.specs.HeldLeaves.{AreHeld};
 ghost use Rattle.paced_rounds.specs.Beating.{is_open, due_open};
-ghost use Rattle.paced_rounds.specs.Seconds.{AreAt, HasKept};
-ghost use base.Stored.{Coded-set};
+ghost use Rattle.paced_rounds.specs.Seconds.{AreAt, AreAllowed, HasKept};
 
 use crate::desk::LentDesk;
 use crate::name::PartsName;
 use grant_ledger::MAX_LANES;
 use lane_desk::{RoundFault, RoundRecord, Rounds};
-use line_rates::Way;
+use line_rates::{Limits, Way};
 use paced_rounds::{HeldNames, PacedRounds};
+use round_cadence::Cadence;
 use round_pace::Due;
-use std::alloc::Allocator;
+use std::alloc::{AllocError, Allocator, Global};
 use std::marker::PhantomData;
 
-/// The rounds of the desk with a name, with its book, at a pace of the name's rates. Each was held at a moment that
-/// passes the test of the name. They cannot be dropped.
+/// The rounds of the desk with a name, with its book, at a pace whose rates pass the test of the name. Each was held
+/// under such rates, and at a moment that passes the name's test of moments. They cannot be dropped.
 pub struct LentRounds<B: PartsName, N> {
     rounds: PacedRounds<N>,
     name: PhantomData<B>,
     ghost named: { RoundsAt B.desk B.lanes rounds.rounds.desk },
-    ghost rated: { rates_of rounds.pace ≡ B.rates } by { Coded-set rates_code _ _ },
+    ghost rated: { B.rates (rates_of rounds.pace) ≡ true },
     ghost carried: { rounds.carried ≡ B.carried },
     ghost moments: { AreAt B.when (history rounds.log.items) },
+    ghost ended: { AreAllowed B.rates B.when (ended_in rounds.ended.items) },
     ghost last: { B.when rounds.latest ≡ true },
 }
 
@@ -43,9 +44,10 @@ impl<B: PartsName, N> LentRounds<B, N> {
     /// The rounds of the desk, before any seat was returned.
     pub fn new(rounds: PacedRounds<N>) -> LentRounds<B, N>
         requires named { RoundsAt B.desk B.lanes rounds.rounds.desk }
-        requires rated { rates_of rounds.pace ≡ B.rates }
+        requires rated { B.rates (rates_of rounds.pace) ≡ true }
         requires carried { rounds.carried ≡ B.carried }
         requires moments { AreAt B.when (history rounds.log.items) }
+        requires ended { AreAllowed B.rates B.when (ended_in rounds.ended.items) }
         requires last { B.when rounds.latest ≡ true }
         ensures rounds { result.rounds ≡ rounds }
     {
@@ -120,8 +122,34 @@ impl<B: PartsName, N> LentRounds<B, N> {
         self.rounds.issued()
     }
 
-    /// Returns the rounds, once no thread has them any more: there is a history of rounds, at moments that pass the test
-    /// of the name, in which each rate of the name was kept, and which granted the octets issued beyond those carried.
+    /// Puts the rates of other limits, which pass the test of the name, in force from the next round on, as
+    /// `PacedRounds::change`. Without memory nothing is changed.
+    pub fn change(
+        &mut self,
+        alloc: Global,
+        limits: Limits,
+        cadence: Cadence,
+    ) -> Result<(), AllocError>
+        requires allowed { B.rates limits ≡ true }
+        ensures rounds { self.new.rounds.rounds ≡ self.old.rounds.rounds }
+        ensures latest { self.new.rounds.latest ≡ self.old.rounds.latest }
+        ensures pace { OnOk result (IsChangedTo limits self.old.rounds.pace self.new.rounds.pace) }
+        ensures rates { OnOk result (rates_of self.new.rounds.pace ≡ limits) }
+        ensures cadence { OnOk result (self.new.rounds.cadence ≡ cadence) }
+        ensures none { OnOk result (history self.new.rounds.log.items ≡ []) }
+        ensures ended { OnOk result (ended_in self.new.rounds.ended.items
+            ≡ ended_in self.old.rounds.ended.items
+            ++ stretch_under self.old.rounds.pace (history self.old.rounds.log.items) ∷ []) }
+        ensures unchanged { OnErr result ((self.new.rounds.pace ≡ self.old.rounds.pace)
+            × (self.new.rounds.cadence ≡ self.old.rounds.cadence)
+            × (history self.new.rounds.log.items ≡ history self.old.rounds.log.items)
+            × (ended_in self.new.rounds.ended.items ≡ ended_in self.old.rounds.ended.items)) }
+    {
+        self.rounds.change(alloc, limits, cadence)
+    }
+
+    /// Returns the rounds, once no thread has them any more: there is a history of rounds, under rates and at moments that
+    /// pass the tests of the name, in which each rate was kept, and which granted the octets issued beyond those carried.
     pub fn into_rounds(self) -> Rounds<N>
         ensures rounds { (result ≡ self.rounds.rounds) × RoundsAt B.desk B.lanes result.desk }
         ensures kept { HasKept B.rates B.when B.carried result.book.issued }

@@ -41,8 +41,8 @@ fn gather<R: Wait, B: PartsName, N, A: Allocator>(
 /// Gathers everything lent of a desk, closes it, and settles the book: the octets issued are those moved and those
 /// given back in the tallies. The workers are in the order of their lanes, and there is room for as many.
 ///
-/// There is a history of rounds, at moments that pass the test of the name, in which each rate of the name was kept, and
-/// which granted the octets issued beyond those carried.
+/// There is a history of rounds, under rates and at moments that pass the tests of the name, in which each rate was kept,
+/// and which granted the octets issued beyond those carried.
 ///
 /// The types of the workers say that they are of this desk. That each lane's worker is there, and in its place, is checked:
 /// otherwise this would wait for ever.

@@ -1,5 +1,5 @@
 -- Steps of a history.
-use Rattle.std.proofs.Common.{◌≡◌, ◌≢◌, ℕ, zero, suc, ◌+◌, ◌/◌, ◌<◌, ◌≤◌, List, [], ◌∷◌, ◌++◌, map, drop, length, get_or, sum, sym, refl, ap, ◌∙◌, subst, arith, Bool, Some, Option, Result, Ok, Err}
+use Rattle.std.proofs.Common.{◌≡◌, ℕ, suc, ◌+◌, ◌/◌, ◌<◌, ◌≤◌, List, [], ◌∷◌, ◌++◌, map, drop, length, get_or, sum, sym, refl, ap, ◌∙◌, subst, arith, Bool, Result, Ok, Err}
 use Rattle.std.specs.Prelude.{sum_by, IfOk, OnErr}
 use Rattle.std.proofs.Math.Logic.{∥∥₁_map, ∥∥₁_elim}
 use Rattle.std.proofs.Props.{props}
@@ -9,10 +9,10 @@ use Rattle.limit_tree.specs.Outline.{limits as seen}
 use Rattle.limit_tree.specs.Sharing.{LimitTree, IsBest}
 use Rattle.line_rates.specs.declared.ask.Ask.{Ask}
 use Rattle.line_rates.specs.declared.ask.Name.{Name}
-use Rattle.line_rates.specs.Granted.{Granted, granted_ask, granted_octets, granted_under, GrantsKeepNames}
+use Rattle.line_rates.specs.Granted.{Granted, granted_ask, granted_octets, GrantsKeepNames}
 use Rattle.line_rates.specs.Names.{want_of}
 use Rattle.line_rates.specs.Rates.{Rates}
-use Rattle.line_rates.specs.TickTree.{ask_in, IsTickTree}
+use Rattle.line_rates.specs.TickTree.{IsTickTree}
 use Rattle.desk_rule.specs.declared.view.TurnView.{TurnView}
 use Rattle.lane_desk.specs.declared.record.RoundRecord.{RoundRecord}
 use Rattle.lane_desk.specs.declared.record.RoundFault.{RoundFault}
@@ -21,8 +21,11 @@ use Rattle.lane_desk.proofs.PostedLemmas.{drops}
 use Rattle.round_pace.specs.Earned.{tick_of}
 use Rattle.round_pace.specs.Offered.{offer_round}
 use Rattle.round_pace.specs.Paced.{Paced, IsPacedFrom}
-use Rattle.round_pace.specs.Histories.{Held, take_one, take_all, after, after_all, KeepsLimits, IsHeld, AreHeld, rates_of, KeepsRates, HistoriesKeepRates, RatesStay, NewRates, TicksBegin}
-use Rattle.paced_rounds.specs.History.{leaves, granted_by, round_at, octets_of, Entry, granted_in, held_in, history, IsRun}
+use Rattle.round_pace.specs.Changed.{IsChangedTo, idle}
+use Rattle.round_pace.specs.Histories.{Held, take_one, take_all, after, after_all, KeepsLimits, IsHeld, AreHeld, rates_of, RatesStay, NewRates, TicksBegin}
+use Rattle.round_pace.specs.Rounds.{granted_where, is_in}
+use Rattle.round_pace.specs.Stretches.{Stretch, Lead, round_of, rated_under, rates_where, changes, AreWithin, IsWindowed, AreWindowed, StretchesKeep, StretchesKeepRates, NewIsChanged}
+use Rattle.paced_rounds.specs.History.{leaves, granted_by, round_at, octets_of, octets_in, Entry, granted_in, held_in, history, Ended, stretch_under, stretch_in, ended_in, stretches, IsRun}
 
 abbrev pub Outcome : Type 0 → Type 0
 Outcome A = Result (RoundRecord A) RoundFault
@@ -54,24 +57,45 @@ held_more : (p : Paced) (hs : List Held) (h : Held) → AreHeld p hs → IsHeld 
 held_more p [] h are is = (is, tt)
 held_more p (x ∷ hs) h are is = (are.0, held_more (after p x) hs h are.1 is)
 
-run_next : TicksBegin → (p q : Paced) (latest : ℕ) (hs : List Held) (h : Held) → latest ≤ h.now → KeepsLimits (offer_round (tick_of h.now) p).offered ((offer_round (tick_of h.now) p).moment / 100) h.leaves → q ≡ after p h → IsRun p latest hs → IsRun q h.now (hs ++ h ∷ [])
-run_next ticks p q latest hs h later kept is r =
+-- one round more in the last stretch, and one stretch more
+lead_more : (p q : Paced) (ss : List Stretch) (r : Rates) (hs : List Held) (h : Held) → Lead p (ss ++ record { rates = r; rounds = hs } ∷ []) q → IsHeld q h → Lead p (ss ++ record { rates = r; rounds = hs ++ h ∷ [] } ∷ []) (after q h)
+lead_more p q [] r hs h lead is =
+    (lead.0, lead.1, held_more lead.0 hs h lead.2 (subst (λ (x : Paced). IsHeld x h) (sym lead.3) is), after_more lead.0 hs h ∙ ap (λ (x : Paced). after x h) lead.3)
+lead_more p q (s ∷ ss) r hs h lead is = (lead.0, lead.1, lead.2, lead_more (after_all lead.0 s.rounds) q ss r hs h lead.3 is)
+
+lead_change : (p q x : Paced) (ss : List Stretch) (r : Rates) → Lead p ss q → IsChangedTo r q x → Lead p (ss ++ record { rates = r; rounds = [] } ∷ []) x
+lead_change p q x [] r lead to = (x, subst (λ (y : Paced). IsChangedTo r y x) (sym lead) to, tt, refl)
+lead_change p q x (s ∷ ss) r lead to = (lead.0, lead.1, lead.2, lead_change (after_all lead.0 s.rounds) q x ss r lead.3 to)
+
+run_next : TicksBegin → RatesStay → (p q : Paced) (latest : ℕ) (ss : List Stretch) (hs : List Held) (h : Held) → latest ≤ h.now → KeepsLimits (offer_round (tick_of h.now) p).offered ((offer_round (tick_of h.now) p).moment / 100) h.leaves → q ≡ after p h
+    → IsRun p latest (ss ++ stretch_under p hs ∷ []) → IsRun q h.now (ss ++ stretch_under q (hs ++ h ∷ []) ∷ [])
+run_next ticks stay p q latest ss hs h later kept is r =
     let soon : p.begun ≤ tick_of h.now + 1 = omega (arith, later, r.near) in
     let held : IsHeld p h = record { later = soon; kept = kept } in
+    let same : rates_of q ≡ rates_of p = ap rates_of is ∙ stay p h in
+    let lead : Lead (idle r.begun) (ss ++ record { rates = rates_of p; rounds = hs ++ h ∷ [] } ∷ []) (after p h) = lead_more (idle r.begun) p ss (rates_of p) hs h r.lead held in
     record {
       begun = r.begun;
-      rates = r.rates;
-      first = r.first;
-      from = r.from;
-      held = held_more r.first hs h r.held (subst (λ (x : Paced). IsHeld x h) r.is held);
-      is = is ∙ ap (λ (x : Paced). after x h) r.is ∙ sym (after_more r.first hs h);
+      lead = subst (λ (z : Rates × Paced). Lead (idle r.begun) (ss ++ record { rates = z.0; rounds = hs ++ h ∷ [] } ∷ []) z.1) (λ i. (sym same i, sym is i)) lead;
       near = (let e : q.begun ≡ tick_of h.now + 1 = ap (λ (x : Paced). x.begun) is ∙ ticks p h soon in omega (arith, e));
     }
 
-pub run_more : TicksBegin → (p q : Paced) (latest : ℕ) (hs new : List Held) (h : Held) → latest ≤ h.now
-    → KeepsLimits (offer_round (tick_of h.now) p).offered ((offer_round (tick_of h.now) p).moment / 100) h.leaves → q ≡ after p h → new ≡ hs ++ h ∷ [] → ∥ IsRun p latest hs ∥₁ → ∥ IsRun q h.now new ∥₁
-run_more ticks p q latest hs new h later kept is e old =
-    ∥∥₁_map old (λ r. subst (IsRun q h.now) (sym e) (run_next ticks p q latest hs h later kept is r))
+pub run_more : TicksBegin → RatesStay → (p q : Paced) (latest : ℕ) (ss new : List Stretch) (hs : List Held) (h : Held) → latest ≤ h.now
+    → KeepsLimits (offer_round (tick_of h.now) p).offered ((offer_round (tick_of h.now) p).moment / 100) h.leaves → q ≡ after p h → new ≡ ss ++ stretch_under q (hs ++ h ∷ []) ∷ []
+    → ∥ IsRun p latest (ss ++ stretch_under p hs ∷ []) ∥₁ → ∥ IsRun q h.now new ∥₁
+run_more ticks stay p q latest ss new hs h later kept is e old =
+    ∥∥₁_map old (λ r. subst (IsRun q h.now) (sym e) (run_next ticks stay p q latest ss hs h later kept is r))
+
+-- other rates
+run_changed : (p q : Paced) (latest : ℕ) (ss : List Stretch) (limits : Rates) → IsChangedTo limits p q → rates_of q ≡ limits → IsRun p latest ss → IsRun q latest (ss ++ stretch_under q [] ∷ [])
+run_changed p q latest ss limits to are r = record {
+  begun = r.begun;
+  lead = subst (λ (x : Rates). Lead (idle r.begun) (ss ++ record { rates = x; rounds = [] } ∷ []) q) (sym are) (lead_change (idle r.begun) p q ss limits r.lead to);
+  near = (let e : q.begun ≡ p.begun = ap (λ (x : Paced). x.begun) to.is in omega (arith, e, r.near));
+}
+
+pub run_change : (p q : Paced) (latest : ℕ) (ss new : List Stretch) (limits : Rates) → IsChangedTo limits p q → rates_of q ≡ limits → new ≡ ss ++ stretch_under q [] ∷ [] → ∥ IsRun p latest ss ∥₁ → ∥ IsRun q latest new ∥₁
+run_change p q latest ss new limits to are e old = ∥∥₁_map old (λ r. subst (IsRun q latest) (sym e) (run_changed p q latest ss limits to are r))
 
 -- the log with one round more
 pub grown : (items new : List Entry) (x : Entry) (h : Held) → new ≡ items ++ x ∷ [] → held_in x ≡ h → history new ≡ history items ++ h ∷ []
@@ -108,37 +132,56 @@ keeps_none rates tick n most e = omega arith
 pub octets_granted : (asks : List Ask) (grants : List ℕ) → length asks ≡ length grants → sum_by granted_octets (leaves asks grants) ≡ sum grants
 octets_granted asks grants e = sym (sum-map granted_octets (leaves asks grants)) ∙ ap sum (leaves-octets asks grants e)
 
-pub sum_more : (hs new : List Held) (h : Held) → new ≡ hs ++ h ∷ [] → sum_by octets_of new ≡ sum_by octets_of hs + octets_of h
-sum_more hs new h e = ap (sum_by octets_of) e ∙ sum_by_push octets_of hs h
+pub sum_more : (ss new : List Stretch) (p q : Paced) (hs : List Held) (h : Held) → new ≡ ss ++ stretch_under q (hs ++ h ∷ []) ∷ [] → sum_by octets_in new ≡ sum_by octets_in (ss ++ stretch_under p hs ∷ []) + octets_of h
+sum_more ss new p q hs h e =
+    plain (sum_by octets_in new) (sum_by octets_in (ss ++ stretch_under p hs ∷ [])) (sum_by octets_in ss) (sum_by octets_of (hs ++ h ∷ [])) (sum_by octets_of hs) (octets_of h)
+    (ap (sum_by octets_in) e ∙ sum_by_push octets_in ss (stretch_under q (hs ++ h ∷ []))) (sum_by_push octets_in ss (stretch_under p hs)) (sum_by_push octets_of hs h)
+  where
+    plain : (n o x y z k : ℕ) → n ≡ x + y → o ≡ x + z → y ≡ z + k → n ≡ o + k
+    plain n o x y z k a b c = omega arith
 
--- a run keeps the rates of its pace
-rates_all : RatesStay → (p : Paced) (hs : List Held) → rates_of (after_all p hs) ≡ rates_of p
-rates_all stay p [] = refl
-rates_all stay p (h ∷ hs) = rates_all stay (after p h) hs ∙ stay p h
+pub sum_changed : (ss new : List Stretch) (q : Paced) → new ≡ ss ++ stretch_under q [] ∷ [] → sum_by octets_in new ≡ sum_by octets_in ss
+sum_changed ss new q e = ap (sum_by octets_in) e ∙ (sum_by_push octets_in ss (stretch_under q []) ∙ none (sum_by octets_in ss))
+  where
+    none : (x : ℕ) → x + 0 ≡ x
+    none x = omega arith
 
-run_keeps : HistoriesKeepRates → RatesStay → NewRates → (p : Paced) (latest : ℕ) (hs : List Held) → IsRun p latest hs → KeepsRates (rates_of p) hs
-run_keeps law stay new p latest hs r =
-    subst (λ (x : Rates). KeepsRates x hs) (sym (ap rates_of r.is ∙ rates_all stay r.first hs ∙ new r.begun r.rates r.first r.from)) (law r.begun r.rates r.first hs r.from r.held)
+-- a run keeps the rates that are in force in it
+windowed-prop : (ss : List Stretch) → IsProp (AreWindowed ss)
+windowed-prop [] = λ x y. refl
+windowed-prop (s ∷ ss) = λ x y i. (one s x.0 y.0 i, windowed-prop ss x.1 y.1 i)
+  where
+    one : (s : Stretch) → IsProp (IsWindowed s)
+    one s = hlevel props
 
-keeps-prop : (rates : Rates) (hs : List Held) → IsProp (KeepsRates rates hs)
-keeps-prop rates hs = hlevel props
+run-seconds : (ss : List Stretch) → IsProp ((n : Name) (second bound : ℕ) → AreWithin bound (rates_where (is_in second) (rated_under n ss)) → granted_where (is_in second) (map round_of (rated_under n ss)) ≤ bound + changes (rates_where (is_in second) (rated_under n ss)))
+run-seconds ss = hlevel props
 
-pub keeps_rates : HistoriesKeepRates → RatesStay → NewRates → (p : Paced) (latest : ℕ) (hs : List Held) → ∥ IsRun p latest hs ∥₁ → KeepsRates (rates_of p) hs
-keeps_rates law stay new p latest hs run = ∥∥₁_elim run (keeps-prop (rates_of p) hs) (run_keeps law stay new p latest hs)
+pub keeps_rates : StretchesKeepRates → (p : Paced) (latest : ℕ) (ss : List Stretch) → ∥ IsRun p latest ss ∥₁ → StretchesKeep ss
+keeps_rates law p latest ss run = record {
+  seconds = ∥∥₁_elim run (run-seconds ss) (λ r. (law r.begun ss p r.lead).seconds);
+  windows = ∥∥₁_elim run (windowed-prop ss) (λ r. (law r.begun ss p r.lead).windows);
+}
 
 -- no round yet
-pub run_new : (now : ℕ) (rates : Rates) (p : Paced) (items : List Entry) → IsPacedFrom (tick_of now) rates p → items ≡ [] → ∥ IsRun p now (history items) ∥₁
-run_new now rates p items from e =
-    subst (λ (l : List Entry). ∥ IsRun p now (history l) ∥₁) (sym e)
+pub run_new : NewIsChanged → NewRates → (now : ℕ) (rates : Rates) (p : Paced) (ended : List Ended) (items : List Entry) → IsPacedFrom (tick_of now) rates p → ended ≡ [] → items ≡ [] → ∥ IsRun p now (stretches ended p items) ∥₁
+run_new law new now rates p ended items from none e =
+    subst (λ (z : List Ended × List Entry). ∥ IsRun p now (stretches z.0 p z.1) ∥₁) (λ i. (sym none i, sym e i))
     ∣ record {
       begun = tick_of now;
-      rates = rates;
-      first = p;
-      from = from;
-      held = tt;
-      is = refl;
+      lead = (p, subst (λ (r : Rates). IsChangedTo r (idle (tick_of now)) p) (sym (new (tick_of now) rates p from)) (law (tick_of now) rates p from), tt, refl);
       near = (let f : p.begun ≡ tick_of now = ap (λ (q : Paced). q.begun) from.is in omega (arith, f));
     } ∣₁
+
+-- the stretches after a round, and after a change
+pub stretches_more : (ended more : List Ended) (q : Paced) (items new : List Entry) (h : Held) → more ≡ ended → history new ≡ history items ++ h ∷ [] → stretches more q new ≡ ended_in ended ++ stretch_under q (history items ++ h ∷ []) ∷ []
+stretches_more ended more q items new h e f = λ i. ended_in (e i) ++ stretch_under q (f i) ∷ []
+
+pub ended_more : (ended more : List Ended) (x : Ended) → more ≡ ended ++ x ∷ [] → ended_in more ≡ ended_in ended ++ stretch_in x ∷ []
+ended_more ended more x e = ap ended_in e ∙ map-append stretch_in ended (x ∷ [])
+
+pub stretches_changed : (ended more : List Ended) (p q : Paced) (items new : List Entry) → ended_in more ≡ ended_in ended ++ stretch_under p (history items) ∷ [] → new ≡ [] → stretches more q new ≡ stretches ended p items ++ stretch_under q [] ∷ []
+stretches_changed ended more p q items new e f = λ i. e i ++ stretch_under q (history (f i)) ∷ []
 
 -- What a round leads to: it keeps the limits, each grant is subtracted from the rows of its ask and
 -- is in the log, and the book issues what is granted.
@@ -175,5 +218,5 @@ leads_err {A} p o q now before issued taken out f is offered same none tells =
       issued = told ∙ (let e : before ≡ before + 0 = omega arith in e);
     })
 
-pub told_more : (before issued carried : ℕ) (hs new : List Held) (h : Held) → before ≡ carried + sum_by octets_of hs → new ≡ hs ++ h ∷ [] → issued ≡ before + octets_of h → issued ≡ carried + sum_by octets_of new
-told_more before issued carried hs new h told e grants = omega (arith, told, grants, sum_more hs new h e)
+pub told_more : (before issued carried granted all octets : ℕ) → before ≡ carried + granted → all ≡ granted + octets → issued ≡ before + octets → issued ≡ carried + all
+told_more before issued carried granted all octets a b c = omega arith

@@ -1,14 +1,15 @@
 -- The history of paced rounds.
-use Rattle.std.specs.Prelude.{◌≡◌, ℕ, ◌+◌, ◌≤◌, List, [], ◌∷◌, map, sum_by, Result, Ok, Err}
+use Rattle.std.specs.Prelude.{ℕ, ◌+◌, ◌≤◌, List, [], ◌∷◌, ◌++◌, map, sum_by, Result, Ok, Err}
 use Rattle.line_rates.specs.declared.ask.Ask.{Ask}
 use Rattle.line_rates.specs.Granted.{Granted, granted_octets}
-use Rattle.line_rates.specs.Rates.{Rates}
 use Rattle.lane_desk.specs.declared.record.RoundRecord.{RoundRecord}
 use Rattle.lane_desk.specs.declared.record.RoundFault.{RoundFault}
 use Rattle.proof_log.specs.declared.log.ProofLog.{ProofLog}
 use Rattle.round_pace.specs.Earned.{tick_of}
-use Rattle.round_pace.specs.Histories.{Held, after_all, AreHeld}
-use Rattle.round_pace.specs.Paced.{Paced, IsPacedFrom}
+use Rattle.round_pace.specs.Changed.{idle}
+use Rattle.round_pace.specs.Histories.{Held, rates_of}
+use Rattle.round_pace.specs.Paced.{Paced}
+use Rattle.round_pace.specs.Stretches.{Stretch, Lead}
 
 -- each ask with its grant
 abbrev pub leaves : List Ask → List ℕ → List Granted
@@ -43,12 +44,31 @@ held_in x = record { now = x.0; leaves = map granted_in x.1.items }
 abbrev pub history : List Entry → List Held
 history items = map held_in items
 
--- The pace is what the rounds left of a new one, and each kept the limits that it was offered.
-pub record IsRun (p : Paced) (latest : ℕ) (hs : List Held) : Type 0 where
+-- a stretch that has ended, in the log: the pace that its rounds left, and its rounds
+abbrev pub Ended : Type 0
+Ended = Paced × ProofLog ℕ (ProofLog Ask ℕ)
+
+-- the stretch of some rounds under the rates of a pace
+abbrev pub stretch_under : Paced → List Held → Stretch
+stretch_under p hs = record { rates = rates_of p; rounds = hs }
+
+abbrev pub stretch_in : Ended → Stretch
+stretch_in x = stretch_under x.0 (history x.1.items)
+
+-- the stretches that have ended
+abbrev pub ended_in : List Ended → List Stretch
+ended_in ended = map stretch_in ended
+
+-- all stretches: those that have ended, and the one of the rounds since
+abbrev pub stretches : List Ended → Paced → List Entry → List Stretch
+stretches ended p items = ended_in ended ++ stretch_under p (history items) ∷ []
+
+-- the octets that the rounds of a stretch granted
+abbrev pub octets_in : Stretch → ℕ
+octets_in s = sum_by octets_of s.rounds
+
+-- The pace is what the stretches left of one without rates.
+pub record IsRun (p : Paced) (latest : ℕ) (ss : List Stretch) : Type 0 where
   pub begun : ℕ
-  pub rates : Rates
-  pub first : Paced
-  pub from : IsPacedFrom begun rates first
-  pub held : AreHeld first hs
-  pub is : p ≡ after_all first hs
+  pub lead : Lead (idle begun) ss p
   pub near : p.begun ≤ tick_of latest + 1

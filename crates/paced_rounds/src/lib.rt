@@ -5,7 +5,8 @@
 //! rows of the ask that it answers. Which lanes are given is a choice: those whose rows are open
 //! ([`PacedRounds::is_open`]) send whole segments, and no promise depends on it. So for whoever has them, whatever was
 //! done with them before: in each second of the clock the rounds granted under each name with a rate at most that rate
-//! ([`PacedRounds::rates_are_kept`]), and the octets granted are those that the book issued. [`HeldNames`] has the name of
+//! ([`PacedRounds::rates_are_kept`]), and the octets granted are those that the book issued. [`PacedRounds::change`] puts
+//! other rates in force between two rounds; in a second with such a change it is the greatest of the rates, and an octet. [`HeldNames`] has the name of
 //! the limit that held back each leaf of the last round.
 #![tactic(auto)]
 

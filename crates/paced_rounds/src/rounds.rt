@@ -9,9 +9,11 @@ ghost use Rattle.lane_desk.specs.Tried.{is_given};
 ghost use Rattle.lane_desk.specs.Rounded.{IsRoundOver, IsRefusedRoundOver};
 ghost use Rattle.round_pace.specs.Earned.{tick_of};
 ghost use Rattle.round_pace.specs.Offered.{offer_round};
+ghost use Rattle.round_pace.specs.Changed.{IsChangedTo};
 ghost use Rattle.round_pace.specs.Paced.{IsPacedFrom};
-ghost use Rattle.round_pace.specs.Histories.{rates_of, after, KeepsRates};
-ghost use Rattle.paced_rounds.specs.History.{round_at, history, octets_of, IsRun};
+ghost use Rattle.round_pace.specs.Histories.{rates_of, after};
+ghost use Rattle.round_pace.specs.Stretches.{StretchesKeep};
+ghost use Rattle.paced_rounds.specs.History.{round_at, history, ended_in, stretch_under, stretches, octets_in, IsRun};
 ghost use Rattle.paced_rounds.specs.HeldLeaves.{AreHeld};
 ghost use Rattle.paced_rounds.specs.Beating.{beats_after, is_open, due_open};
 
@@ -20,14 +22,15 @@ use crate::charge::charge;
 use crate::held::{HeldNames, see};
 use grant_ledger::{MAX_LANES, Tally};
 use lane_desk::{Desk, RoundFault, RoundRecord, Rounds};
-use line_rates::{Ask, Way, grants_keep_names};
+use line_rates::{Ask, Limits, Way, grants_keep_names};
 use proof_log::ProofLog;
 use round_cadence::Cadence;
-use round_pace::{Due, Pace, TICK_MICROS, histories_keep_rates};
-use std::alloc::{Allocator, Global};
+use round_pace::{Due, Pace, TICK_MICROS, histories_keep_rates, stretches_keep_rates};
+use std::alloc::{AllocError, Allocator, Global};
 
-/// The rounds of a desk with their pace. The log has the moment of each round, and the asks
-/// that it answered with their grants. They cannot be dropped.
+/// The rounds of a desk with their pace. The log has the moment of each round since the last change of rates, and the
+/// asks that it answered with their grants; the other log has each stretch before, between two changes. They cannot be
+/// dropped.
 pub struct PacedRounds<N, A: Allocator = Global> {
     rounds: Rounds<N>,
     pace: Pace<A>,
@@ -38,8 +41,11 @@ pub struct PacedRounds<N, A: Allocator = Global> {
     /// The ticks in which the rows are open.
     cadence: Cadence<A>,
     log: ProofLog<u64, ProofLog<Ask, u64>>,
-    ghost run: { ∥ IsRun pace latest (history log.items) ∥₁ },
-    ghost told: { rounds.book.issued ≡ carried + sum_by octets_of (history log.items) },
+    /// The stretches that have ended, each with the pace that its rounds left.
+    ended: ProofLog<Pace<A>, ProofLog<u64, ProofLog<Ask, u64>>>,
+    ghost run: { ∥ IsRun pace latest (stretches ended.items pace log.items) ∥₁ },
+    ghost told: { rounds.book.issued
+        ≡ carried + sum_by octets_in (stretches ended.items pace log.items) },
 }
 
 impl<N, A: Allocator> PacedRounds<N, A> {
@@ -52,7 +58,10 @@ impl<N, A: Allocator> PacedRounds<N, A> {
         ensures carried { result.carried ≡ rounds.book.issued }
         ensures cadence { result.cadence ≡ cadence }
         ensures none { history result.log.items ≡ [] }
+        ensures ended { ended_in result.ended.items ≡ [] }
     {
+        histories_keep_rates();
+        stretches_keep_rates();
         let carried = rounds.issued();
         PacedRounds {
             rounds,
@@ -61,6 +70,7 @@ impl<N, A: Allocator> PacedRounds<N, A> {
             carried,
             cadence,
             log: ProofLog::new(),
+            ended: ProofLog::new(),
         }
     }
 
@@ -127,6 +137,7 @@ impl<N, A: Allocator> PacedRounds<N, A> {
         ensures carried { self.new.carried ≡ self.old.carried }
         ensures grows { history self.new.log.items ≡ history self.old.log.items
             ++ round_at (max now self.old.latest) result ∷ [] }
+        ensures ended { ended_in self.new.ended.items ≡ ended_in self.old.ended.items }
         ensures left { self.new.pace
             ≡ after self.old.pace (round_at (max now self.old.latest) result) }
         ensures rates { rates_of self.new.pace ≡ rates_of self.old.pace }
@@ -155,22 +166,24 @@ impl<N, A: Allocator> PacedRounds<N, A> {
         result
     }
 
-    /// A law of the type: in each second of the clock, the rounds so far granted under each name at most its rate, and in
-    /// a second from any moment at most the rate and what is kept. The octets that they granted are those issued.
+    /// A law of the type: in each second of the clock, the rounds so far granted under each name at most the greatest of
+    /// its rates in force, and one octet for each change of it between two rounds of that second. The octets that they
+    /// granted are those issued.
     pub fn rates_are_kept(&self)
-        ensures kept { KeepsRates (rates_of self.now.pace) (history self.now.log.items) }
-        ensures issued { self.now.rounds.book.issued
-            ≡ self.now.carried + sum_by octets_of (history self.now.log.items) }
+        ensures kept { StretchesKeep
+            (stretches self.now.ended.items self.now.pace self.now.log.items) }
+        ensures issued { self.now.rounds.book.issued ≡ self.now.carried
+            + sum_by octets_in (stretches self.now.ended.items self.now.pace self.now.log.items) }
     {
-        histories_keep_rates();
+        stretches_keep_rates();
     }
 
     /// Returns the rounds, once no thread holds one any more.
     pub fn into_rounds(self) -> Rounds<N>
         ensures rounds { result ≡ self.rounds }
-        ensures kept { KeepsRates (rates_of self.pace) (history self.log.items) }
-        ensures issued { result.book.issued
-            ≡ self.carried + sum_by octets_of (history self.log.items) }
+        ensures kept { StretchesKeep (stretches self.ended.items self.pace self.log.items) }
+        ensures issued { result.book.issued ≡ self.carried
+            + sum_by octets_in (stretches self.ended.items self.pace self.log.items) }
     {
         self.rates_are_kept();
         let PacedRounds {
@@ -180,7 +193,41 @@ impl<N, A: Allocator> PacedRounds<N, A> {
             carried: _,
             cadence: _,
             log: _,
+            ended: _,
         } = self;
         rounds
+    }
+}
+
+impl<N, A: Allocator + Clone> PacedRounds<N, A> {
+    /// Puts the rates of other limits in force, from the next round on, with new beats of their rows. What is left under
+    /// each name is kept, as `Pace::with_rates`. Without memory nothing is changed.
+    pub fn change(
+        &mut self,
+        alloc: A,
+        limits: Limits<A>,
+        cadence: Cadence<A>,
+    ) -> Result<(), AllocError>
+        ensures rounds { self.new.rounds ≡ self.old.rounds }
+        ensures latest { self.new.latest ≡ self.old.latest }
+        ensures carried { self.new.carried ≡ self.old.carried }
+        ensures pace { OnOk result (IsChangedTo limits self.old.pace self.new.pace) }
+        ensures rates { OnOk result (rates_of self.new.pace ≡ limits) }
+        ensures cadence { OnOk result (self.new.cadence ≡ cadence) }
+        ensures none { OnOk result (history self.new.log.items ≡ []) }
+        ensures ended { OnOk result (ended_in self.new.ended.items ≡ ended_in self.old.ended.items
+            ++ stretch_under self.old.pace (history self.old.log.items) ∷ []) }
+        ensures unchanged { OnErr result ((self.new.pace ≡ self.old.pace)
+            × (self.new.cadence ≡ self.old.cadence)
+            × (history self.new.log.items ≡ history self.old.log.items)
+            × (ended_in self.new.ended.items ≡ ended_in self.old.ended.items)) }
+    {
+        stretches_keep_rates();
+        let pace = self.pace.with_rates(alloc, limits)?;
+        self.ended = self.ended.and(&self.pace, &self.log);
+        self.log = ProofLog::new();
+        self.pace = pace;
+        self.cadence = cadence;
+        Ok(())
     }
 }

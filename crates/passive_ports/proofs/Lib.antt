@@ -1,4 +1,5 @@
 mod Unleased
+mod Crowds
 mod Leasing
 mod Givings
 pub mod BitLemmas

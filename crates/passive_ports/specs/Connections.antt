@@ -1,5 +1,5 @@
 -- Connections: a finite map from keys to the addresses of their peers.
-use Rattle.std.specs.Prelude.{◌≡◌, ◌≢◌, ℕ, ◌≤◌, Bool, ◌&&◌, not, cond, List, Option, Some, None, bytes_eq, count_by, nat_eq, nat_le, unwrap_or, refl}
+use Rattle.std.specs.Prelude.{◌≡◌, ◌≢◌, ℕ, ◌≤◌, ◌<◌, Bool, ◌&&◌, not, cond, List, Option, Some, None, bytes_eq, count_by, nat_eq, nat_le, unwrap_or, refl}
 use Rattle.std.specs.BTreeMap as tree
 use Rattle.std.specs.BTreeMap.{BTreeMap}
 use Rattle.std.specs.Cmp.Lexicographic.{slice_cmp}
@@ -9,6 +9,8 @@ use Rattle.std.specs.Ordering.{nat_cmp}
 use Rattle.slab.specs.Slab.{Slab, slab_len, entries}
 use Rattle.passive_ports.specs.declared.fault.AdmitFault.{AdmitFault}
 use Rattle.passive_ports.specs.declared.fault.AdmitFault.TheVariants.{TooMany, TooManyOfAddress}
+use Rattle.passive_ports.specs.declared.fault.LimitFault.{LimitFault}
+use Rattle.passive_ports.specs.declared.fault.LimitFault.TheVariants as unset
 
 abbrev pub Connections : Type 0
 Connections = map.FinMap nat_cmp (List ℕ)
@@ -44,6 +46,19 @@ limit_fault admitted address =
     cond (nat_le admitted.limit (map.len admitted.connections)) (Some TooMany)
     (cond (reaches (count_of admitted.connections address) admitted.limit_of_address)
     (Some TooManyOfAddress) None)
+
+-- the same connections under other limits
+abbrev pub with_limits : Admitted → ℕ → ℕ → Admitted
+with_limits admitted limit limit_of_address =
+    record admitted { limit = limit; limit_of_address = limit_of_address }
+
+-- more connections are there than one of these limits permits: in all, or of that address
+abbrev pub IsExceeded : Admitted → ℕ → ℕ → LimitFault → Type 0
+IsExceeded admitted limit limit_of_address (unset.TooMany count) =
+    (count ≡ map.len admitted.connections) × (limit < count)
+IsExceeded admitted limit limit_of_address (unset.TooManyOfAddress address count) =
+    (count ≡ count_of admitted.connections address) × (limit_of_address ≢ 0)
+    × (limit_of_address < count)
 
 -- one more connection, with a key that no other has
 pub record Admits (old new : Admitted) (address : List ℕ) (key : ℕ) : Type 0 where

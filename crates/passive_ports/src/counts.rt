@@ -1,6 +1,6 @@
 //! The number of connections of each address.
 
-ghost use Rattle.std.specs.Prelude.{◌≡◌, ◌-◌, ◌<◌, OnOk, OnErr};
+ghost use Rattle.std.specs.Prelude.{◌≡◌, ◌-◌, ◌≢◌, ◌<◌, ◌≤◌, ℕ, List, None, IfSome, OnOk, OnErr};
 ghost use Rattle.std.specs.BTreeMap.{IsUnchanged};
 ghost use Rattle.passive_ports.specs.Connections.{count_in, SetsCount};
 
@@ -40,4 +40,23 @@ pub(crate) fn count_down<A: Allocator>(counts: &mut Counts<A>, address: [u8; 4])
     } else if let Some(count) = counts.get_mut(&address) {
         *count = rest;
     }
+}
+
+/// An address with more connections than a limit, if there is one; 0 is no limit.
+#[tactic(auto, using(crate::proofs::Crowds::none_has_more))]
+pub(crate) fn crowded<A: Allocator>(counts: &Counts<A>, limit: usize) -> Option<[u8; 4]>
+    ensures some { IfSome result (λ address. limit < count_in counts.now address) }
+    ensures limited { IfSome result (λ _. limit ≢ 0) }
+    ensures none { result ≡ None → limit ≢ 0
+        → (address : List ℕ) → count_in counts.now address ≤ limit }
+{
+    if limit == 0 {
+        return None;
+    }
+    for (address, _) in counts {
+        if count_in(counts, *address) > limit {
+            return Some(*address);
+        }
+    }
+    None
 }

@@ -45,3 +45,14 @@ impl From<AllocError> for AdmitFault {
         AdmitFault::Memory
     }
 }
+
+/// The reason for which limits to connections are not set. The reasons are checked in this order.
+#[derive(Clone, Copy, Debug, PartialEq, Eq, Error)]
+pub enum LimitFault {
+    /// So many connections are there, which are more than would be permitted.
+    #[error("{0} clients are connected")]
+    TooMany(usize),
+    /// So many connections of this address are there, which are more than would be permitted.
+    #[error("{1} clients of one address are connected")]
+    TooManyOfAddress([u8; 4], usize),
+}

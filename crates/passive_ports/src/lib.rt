@@ -27,7 +27,7 @@ mod pool;
 mod ports;
 mod registry;
 
-pub use fault::{AdmitFault, PoolFault};
+pub use fault::{AdmitFault, LimitFault, PoolFault};
 pub use open::{MOST_TRIES, PortHost, open_passive};
 pub use pool::PortPool;
 pub use ports::RestingPorts;

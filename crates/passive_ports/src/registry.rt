@@ -1,12 +1,12 @@
 //! The connections that a server has admitted, within its limits.
 
-ghost use Rattle.std.specs.Prelude.{◌≡◌, false, IfOk, OnErr};
+ghost use Rattle.std.specs.Prelude.{◌≡◌, false, IfOk, IfSome, None, OnErr};
 ghost use Rattle.std.specs.FinMap as map;
-ghost use Rattle.passive_ports.specs.Connections.{none_admitted, count_of, IsWithinLimits, reaches, limit_fault, Admits, without};
+ghost use Rattle.passive_ports.specs.Connections.{none_admitted, count_of, IsWithinLimits, reaches, limit_fault, Admits, IsExceeded, with_limits, without};
 ghost use Rattle.passive_ports.specs.Refusals.{RefusedFor};
 
-use crate::counts::{Counts, count_down, count_in, set_count};
-use crate::fault::AdmitFault;
+use crate::counts::{Counts, count_down, count_in, crowded, set_count};
+use crate::fault::{AdmitFault, LimitFault};
 use slab::Slab;
 use std::alloc::{AllocError, Allocator, Global};
 use std::collections::BTreeMap;
@@ -84,6 +84,31 @@ impl<A: Allocator> Registry<A> {
             }
             None => false,
         }
+    }
+
+    /// The first of other limits that the connections which are there exceed; none if they are within both.
+    pub fn exceeded(&self, max: usize, max_of_address: usize) -> Option<LimitFault>
+        ensures exceeded { IfSome result (IsExceeded self.now max max_of_address) }
+        ensures within { result ≡ None → IsWithinLimits (with_limits self.now max max_of_address) }
+    {
+        let connected = self.addresses.len();
+        if connected > max {
+            return Some(LimitFault::TooMany(connected));
+        }
+        if let Some(address) = crowded(&self.counts, max_of_address) {
+            let connected = count_in(&self.counts, address);
+            return Some(LimitFault::TooManyOfAddress(address, connected));
+        }
+        None
+    }
+
+    /// Sets other limits, which the connections that are there are within.
+    pub fn set_limits(&mut self, max: usize, max_of_address: usize)
+        requires within { IsWithinLimits (with_limits self.old max max_of_address) }
+        ensures set { self.new ≡ with_limits self.old max max_of_address }
+    {
+        self.max = max;
+        self.max_of_address = max_of_address;
     }
 
     /// Number of connections.

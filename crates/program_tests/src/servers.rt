@@ -4,9 +4,9 @@ use crate::ends::{Files, Given};
 use crate::expect::{holds, same, tells};
 use crate::texts::SMALL;
 use ftpd_program::{
-    FtpdErrorText, FtpdExit, Patience, ServeFault, ServeFiles, Server, StartFault, run_words,
+    FtpdErrorText, FtpdExit, Patience, ReadConfig, ServeFault, ServeFiles, Server, StartFault,
+    run_words,
 };
-use server_config::Config;
 use std::alloc::Global;
 use std::io;
 use std::process::Abort;
@@ -23,6 +23,10 @@ pub(crate) struct Noting {
     stop_file: Option<String>,
     /// The last drain file.
     drain_file: Option<String>,
+    /// The last reload file.
+    reload_file: Option<String>,
+    /// The path of the last configuration.
+    path: Option<String>,
     /// The last ready file.
     ready_file: Option<String>,
     /// The last transfer log.
@@ -43,6 +47,8 @@ impl Noting {
             port: 0,
             stop_file: None,
             drain_file: None,
+            reload_file: None,
+            path: None,
             ready_file: None,
             transfer_log: None,
             log_form: None,
@@ -65,17 +71,18 @@ impl<W: TextWriter> Server<W> for Noting {
     fn serve(
         &mut self,
         alloc: Global,
-        config: Config,
-        warnings: &str,
+        read: ReadConfig<'_>,
         files: ServeFiles<'_>,
         patience: Patience,
         output: &mut W,
     ) -> Result<(), ServeFault> {
-        self.is_warned = !warnings.is_empty();
+        self.is_warned = !read.warnings.is_empty();
         self.calls = self.calls.saturating_add(1);
-        self.port = config.numbers.port;
+        self.port = read.config.numbers.port;
         self.stop_file = copied(alloc, files.stop_file);
         self.drain_file = copied(alloc, files.drain_file);
+        self.reload_file = copied(alloc, files.reload_file);
+        self.path = copied(alloc, Some(read.path));
         self.ready_file = copied(alloc, files.ready_file);
         self.transfer_log = copied(alloc, files.transfer_log);
         self.log_form = copied(alloc, files.log_form);
@@ -158,6 +165,8 @@ fn a_server_is_given_its_files(rt: HostRuntime) {
         "ready",
         "--drain-file",
         "drain",
+        "--reload-file",
+        "reload",
     ];
     let ending = served(&rt, &words, SMALL, &mut server, &mut output);
     holds(&rt, ending.status() == 0);
@@ -165,6 +174,8 @@ fn a_server_is_given_its_files(rt: HostRuntime) {
     is_path(&rt, &server.stop_file, "stop");
     is_path(&rt, &server.ready_file, "ready");
     is_path(&rt, &server.drain_file, "drain");
+    is_path(&rt, &server.reload_file, "reload");
+    is_path(&rt, &server.path, "file");
 }
 
 #[test]
@@ -299,6 +310,29 @@ fn drain_files_are_explained(rt: HostRuntime) {
         ServeFault::Stopped,
         &unseen,
         "the drain file /gone/drain could not be noticed: No such file or directory (os error 2)\nftpd: Stopped\n",
+    );
+}
+
+#[test]
+fn reload_files_are_explained(rt: HostRuntime) {
+    let there = StartFault::ReloadFileThere {
+        path: text(&rt, "/run/ftpd/reload"),
+    };
+    starts_not(
+        &rt,
+        ServeFault::ReloadFile,
+        &there,
+        "/run/ftpd/reload is there already: remove it\nftpd: ReloadFile\n",
+    );
+    let unseen = StartFault::ReloadFileUnseen {
+        path: text(&rt, "/gone/reload"),
+        reason: io::Error::from_raw_os_error(2),
+    };
+    starts_not(
+        &rt,
+        ServeFault::ReloadFile,
+        &unseen,
+        "the reload file /gone/reload could not be noticed: No such file or directory (os error 2)\nftpd: ReloadFile\n",
     );
 }
 

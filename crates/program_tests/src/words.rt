@@ -33,6 +33,7 @@ const NO_FILES: ServeFiles<'static> = ServeFiles {
     stop_file: None,
     ready_file: None,
     drain_file: None,
+    reload_file: None,
     transfer_log: None,
     log_form: None,
     status: None,
@@ -90,6 +91,12 @@ fn words_on_a_server(rt: HostRuntime) {
     };
     let words = ["serve", config, "--drain-file", "/run/ftpd.drain"];
     serves(&rt, &words, drained, usual);
+    let reloaded = ServeFiles {
+        reload_file: Some("/run/ftpd.reload"),
+        ..NO_FILES
+    };
+    let words = ["serve", config, "--reload-file", "/run/ftpd.reload"];
+    serves(&rt, &words, reloaded, usual);
     let logged = ServeFiles {
         transfer_log: Some("xferlog"),
         log_form: Some("journal"),

@@ -1,4 +1,5 @@
 mod AskSums
+mod CarryLemmas
 mod FitLemmas
 mod FloorLemmas
 mod KeptLemmas

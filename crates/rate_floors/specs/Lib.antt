@@ -1,3 +1,4 @@
+pub mod Carried
 pub mod Kept
 pub mod Plain
 pub mod Promises

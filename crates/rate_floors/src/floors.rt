@@ -2,11 +2,20 @@
 
 ghost use Rattle.std.specs.Prelude.{◌≡◌, ◌+◌, ◌*◌, ◌<◌, ◌≤◌, ◌^◌, IsTrue, IfOk, Some, map};
 ghost use Rattle.line_rates.specs.declared.ask.Way.TheVariants.{Down, Up};
-ghost use Rattle.rate_floors.specs.Promises.{PromisesFit, HasNoSessions, no_session, no_promise, admits, after_admit, after_release, counted, has_counted, user_of, user_key, promised, promised_with_more, is_small, group_fits, line_fits};
+ghost use Rattle.rate_floors.specs.Promises.{PromisesFit, HasNoSessions, no_session, admits, after_admit, after_release, counted, has_counted, user_of, user_key, promised, promised_with_more, is_small, group_fits, line_fits};
+ghost use Rattle.rate_floors.specs.Promises.{user_row};
+ghost use Rattle.line_rates.specs.Stated.{by_number, user_number, IsRising, FitsUser};
+ghost use Rattle.memory_terms.specs.Lack.{AsDefined};
+ghost use Rattle.rate_floors.specs.Carried.{sessions_of, carried_entry, carry_fault, unless_broken, carried};
+ghost use Rattle.std.specs.List.{All};
 
+use crate::carry::{
+    CarryFault, broken_line, first_broken_group, first_broken_user, no_promises, promised_groups,
+    sums,
+};
 use crate::find::{GroupPromise, UserSessions, add, find_group, find_user, take};
 use crate::fits::{MAX_PROMISED, group_keeps, keeps, session_fits, user_fits};
-use line_rates::{GroupRate, Limits, Name, UserRate, Way};
+use line_rates::{Limits, Name, UserRate, Way};
 use std::alloc::{AllocError, Allocator, Global};
 use std::marker::Model;
 
@@ -52,21 +61,42 @@ fn no_sessions<A: Allocator>(
     Ok(users)
 }
 
-fn no_promises<A: Allocator>(
+/// The guarantees of counted sessions of users under limits, if they fit.
+fn fitted<A: Allocator + Clone, L: Allocator>(
     alloc: A,
-    rows: &[GroupRate],
-) -> Result<Vec<GroupPromise, A>, AllocError>
-    ensures none { IfOk result (λ groups. groups.items ≡ map no_promise rows.now) }
+    limits: &Limits<L>,
+    users: Vec<UserSessions, A>,
+) -> Result<Floors<A>, CarryFault>
+    requires rows { by_number user_number (map user_row users.items) ≡ limits.now.users }
+    requires rising { IsRising user_key users.items }
+    requires fit { All (λ entry. FitsUser entry.row) users.items }
+    requires few { All (λ entry. entry.sessions ≤ MAX_PROMISED) users.items }
+    ensures floors { AsDefined CarryFault.Memory result
+        (unless_broken (carry_fault (record { rates = limits.now; users = users.items }))
+        (record { rates = limits.now; users = users.items })) }
 {
-    let mut groups = Vec::new(alloc);
-    for row in rows {
-        groups.push(GroupPromise {
-            row: *row,
-            down: 0,
-            up: 0,
-        })?;
+    let Some((promised_down, promised_up)) = sums(&users) else {
+        return Err(CarryFault::TooLarge);
+    };
+    let groups = promised_groups(alloc, limits.groups(), &users)?;
+    let server = limits.rate(Name::Server);
+    let down = limits.rate(Name::Direction(Way::Down));
+    let up = limits.rate(Name::Direction(Way::Up));
+    let fault = first_broken_user(&users)
+        .or(first_broken_group(&groups))
+        .or(broken_line(promised_down, promised_up, server, down, up));
+    match fault {
+        Some(fault) => Err(fault),
+        None => Ok(Floors {
+            server,
+            down,
+            up,
+            promised_down,
+            promised_up,
+            groups,
+            users,
+        }),
     }
-    Ok(groups)
 }
 
 impl<A: Allocator + Clone> Floors<A> {
@@ -96,6 +126,52 @@ impl<A: Allocator> Floors<A> {
     {
         // makes the prover recall the type's invariant, as any access to a part of a value does
         let _ = &self.users;
+    }
+
+    // The number of counted sessions of a user; 0 without a row.
+    fn sessions_of(&self, user: u32) -> u64
+        ensures sessions { result ≡ sessions_of self.now user }
+        ensures few { result ≤ MAX_PROMISED }
+    {
+        match find_user(&self.users, user) {
+            Some(place) => self.users[place].sessions,
+            None => 0,
+        }
+    }
+
+    // Users with these rows, each with as many sessions as are counted of the number.
+    fn carried_users<B: Allocator>(
+        &self,
+        alloc: B,
+        rows: &[UserRate],
+    ) -> Result<Vec<UserSessions, B>, AllocError>
+        ensures users { IfOk result
+            (λ users. users.items ≡ map (carried_entry self.now) rows.now) }
+        ensures few { IfOk result
+            (λ users. All (λ entry. entry.sessions ≤ MAX_PROMISED) users.items) }
+    {
+        let mut users = Vec::new(alloc);
+        for row in rows {
+            users.push(UserSessions {
+                row: *row,
+                sessions: self.sessions_of(row.user),
+            })?;
+        }
+        Ok(users)
+    }
+
+    /// The counted sessions under other rates and guarantees: each user with a row there has as many sessions as are
+    /// counted here of the same number, and none if that has no row here. `Err` if their guarantees do not fit, or
+    /// memory runs out.
+    pub fn carried<B: Allocator + Clone, L: Allocator>(
+        &self,
+        alloc: B,
+        limits: &Limits<L>,
+    ) -> Result<Floors<B>, CarryFault>
+        ensures carried { AsDefined CarryFault.Memory result (carried self.now limits.now) }
+    {
+        let users = self.carried_users(alloc.clone()?, limits.users())?;
+        fitted(alloc, limits, users)
     }
 
     // Sums of the guarantees of all counted sessions and one more of a user, down and up.

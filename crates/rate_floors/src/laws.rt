@@ -1,5 +1,6 @@
 //! Laws over the definitions.
 
+ghost use Rattle.rate_floors.specs.Carried.{CarriesWhatFits, NamesABrokenLimit};
 ghost use Rattle.rate_floors.specs.Kept.{PromisesAreKept, FloorsStayWithin};
 ghost use Rattle.rate_floors.specs.Plain.{NoGroupsIsPlain, NoFloorsAdmitsAll};
 
@@ -15,4 +16,10 @@ pub fn promises_are_kept()
 pub fn no_groups_and_floors_is_plain()
     ensures groups { NoGroupsIsPlain }
     ensures floors { NoFloorsAdmitsAll }
+{}
+
+/// Counted sessions go over to other rates exactly if their guarantees fit them, and a fault names a broken limit.
+pub fn carries_what_fits()
+    ensures fits { CarriesWhatFits }
+    ensures broken { NamesABrokenLimit }
 {}

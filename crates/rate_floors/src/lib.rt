@@ -2,7 +2,8 @@
 //!
 //! `Floors::of` starts from the limits that an administrator states, with no session counted. `admit` counts one more
 //! session of a user if all guarantees then fit the rates above it, and otherwise refuses it; `release` takes one back.
-//! Neither allocates; each does at most three binary searches and a few sums.
+//! Neither allocates; each does at most three binary searches and a few sums. `carried` counts the same sessions under
+//! other rates, if their guarantees fit.
 //!
 //! ```text
 //! let alloc = rt.alloc();
@@ -15,12 +16,14 @@
 //! ```
 #![tactic(auto)]
 
+mod carry;
 mod find;
 mod fits;
 mod floors;
 mod laws;
 
+pub use carry::CarryFault;
 pub use find::{GroupPromise, UserSessions};
 pub use fits::MAX_PROMISED;
 pub use floors::Floors;
-pub use laws::{no_groups_and_floors_is_plain, promises_are_kept};
+pub use laws::{carries_what_fits, no_groups_and_floors_is_plain, promises_are_kept};

@@ -15,4 +15,8 @@ mod Keeping
 mod Credited
 mod Limits
 mod StatedRates
+mod Starting
 mod Holding
+mod Rated
+mod Stretching
+mod Changing

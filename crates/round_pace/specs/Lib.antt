@@ -9,3 +9,5 @@ pub mod Taken
 pub mod Spent
 pub mod Histories
 pub mod Rows
+pub mod Changed
+pub mod Stretches

@@ -3,6 +3,7 @@
 ghost use Rattle.std.specs.Prelude.{◌≡◌, ◌≤◌};
 ghost use Rattle.round_pace.specs.Credits.{IsCredit, refill_row, take_row, is_dry};
 ghost use Rattle.round_pace.specs.Earned.{share, begun_in, refilled, most_kept, as_rate, session_left};
+ghost use Rattle.round_pace.specs.Changed.{changed_credit};
 ghost use Rattle.round_pace.specs.FloorsFit.{floor_in};
 
 use line_rates::MAX_RATE;
@@ -116,6 +117,18 @@ pub(crate) fn take_row(credit: Credit, octets: u64) -> Credit
     Credit {
         rate: credit.rate,
         left: credit.left.saturating_sub(octets),
+    }
+}
+
+/// The credit of a new rate: what is left of another, cut to the most that the new rate keeps.
+pub(crate) fn changed_credit(rate: u64, credit: Credit) -> Credit
+    requires rate { rate ≤ MAX_RATE }
+    ensures credit { result ≡ changed_credit rate credit }
+    ensures fits { IsCredit result }
+{
+    Credit {
+        rate,
+        left: credit.left.min(most_kept(rate)),
     }
 }
 

@@ -3,6 +3,7 @@
 ghost use Rattle.round_pace.specs.Rounds.{KeepsSeconds, KeepsWindows, LosesNothing, ReachesRates, SessionsAreRounds};
 ghost use Rattle.round_pace.specs.Earned.{OffersCredits};
 ghost use Rattle.round_pace.specs.Histories.{HistoriesAreRounds, HistoriesKeepRates, RatesStay, NewRates, TicksBegin};
+ghost use Rattle.round_pace.specs.Stretches.{StretchesKeepRates, OneStretchKeeps, ChangedRates, NewIsChanged};
 ghost use Rattle.round_pace.specs.Offered.{HandsRowsIn};
 ghost use Rattle.round_pace.specs.FloorsFit.{FloorsFitOffers, FloorFitsSession};
 ghost use Rattle.round_pace.specs.PromisesOffered.{PromisesStayFit, EarnsItsTicks};
@@ -50,4 +51,12 @@ pub fn histories_keep_rates()
     ensures stay { RatesStay }
     ensures new { NewRates }
     ensures begin { TicksBegin }
+{}
+
+/// The rates are kept although they are changed between rounds.
+pub fn stretches_keep_rates()
+    ensures kept { StretchesKeepRates }
+    ensures one { OneStretchKeeps }
+    ensures changed { ChangedRates }
+    ensures new { NewIsChanged }
 {}

@@ -1,6 +1,7 @@
 //! The pace of rounds under the rates of a line.
 
 ghost use Rattle.std.specs.Prelude.{◌≡◌, ◌<◌, ◌^◌, IfOk, map};
+ghost use Rattle.round_pace.specs.Changed.{IsChangedTo};
 ghost use Rattle.round_pace.specs.Earned.{tick_of};
 ghost use Rattle.round_pace.specs.Offered.{refill_all, offer_all, with_offered, offer_round, left_rates, due_in};
 ghost use Rattle.round_pace.specs.Paced.{Paced, new_group, new_user, IsPacedFrom};
@@ -8,7 +9,8 @@ ghost use Rattle.round_pace.specs.Rows.{rows_of};
 ghost use Rattle.round_pace.specs.Spent.{due_for_in};
 ghost use Rattle.round_pace.specs.Taken.{take_octets};
 
-use crate::credit::{Credit, TICK_MICROS, is_dry, refill_row, take_row};
+use crate::changed::{changed_groups, changed_users};
+use crate::credit::{Credit, TICK_MICROS, changed_credit, is_dry, refill_row, take_row};
 use crate::due::Due;
 use crate::paced::{
     GroupPace, UserPace, credit_of, credit_rate, group_of, is_group_spent, is_user_spent,
@@ -116,6 +118,28 @@ impl<A: Allocator + Clone> Pace<A> {
                 left: 0,
             },
             up: Credit { rate: up, left: 0 },
+            groups,
+            users,
+            offered: limits,
+        })
+    }
+
+    /// This pace with the rates of other limits. Under each name that had a rate, what is left is kept, up to the most
+    /// that the new rate keeps.
+    pub fn with_rates(&self, alloc: A, limits: Limits<A>) -> Result<Pace<A>, AllocError>
+        ensures changed { IfOk result (λ p. IsChangedTo limits self.now p) }
+    {
+        let groups = changed_groups(alloc.clone()?, &self.groups, limits.groups())?;
+        let users = changed_users(alloc, &self.users, limits.users())?;
+        let server = changed_credit(limits.rate(Name::Server), self.server);
+        let down = changed_credit(limits.rate(Name::Direction(Way::Down)), self.down);
+        let up = changed_credit(limits.rate(Name::Direction(Way::Up)), self.up);
+        Ok(Pace {
+            begun: self.begun,
+            moment: self.moment,
+            server,
+            down,
+            up,
             groups,
             users,
             offered: limits,

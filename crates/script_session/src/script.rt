@@ -41,9 +41,9 @@ pub fn serve_text<F: Allocator + Clone, R: TextReader, W: TextWriter>(
     port: u16,
 ) -> Result<(), ControlFault>
     ensures whole { (side : ScriptSide Upload) × IsServed
-        (IsRow {A = Global} {R = List ℕ} InMemory users.now.users)
-        (AloneDoes ReadsZero AnswersScript StaysSilent R.remaining R.may_fail W.contents
-        W.may_refuse)
+        (IsRow {A = Global} {R = List ℕ} InMemory)
+        (AloneDoes users.now.users ReadsZero AnswersScript StaysSilent R.remaining R.may_fail
+        W.contents W.may_refuse)
         u32.MAX result (new_session settings home_address)
         (script_parts store.old floors.old (unasked port) reader.old writer.old)
         (script_parts store.new floors.new side reader.new writer.new) }
@@ -59,6 +59,7 @@ pub fn serve_text<F: Allocator + Clone, R: TextReader, W: TextWriter>(
     let mut side = ScriptSide { port, came: None };
     let mut hooks = Silent;
     let mut host = SoleHost {
+        users,
         store,
         floors,
         clock: &mut clock,
@@ -67,5 +68,5 @@ pub fn serve_text<F: Allocator + Clone, R: TextReader, W: TextWriter>(
         writer,
         hooks: &mut hooks,
     };
-    run_alone(&alloc, &mut host, users, settings, HOME, u32::MAX)
+    run_alone(&alloc, &mut host, settings, HOME, u32::MAX)
 }

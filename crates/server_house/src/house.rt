@@ -5,8 +5,8 @@ ghost use Rattle.server_house.specs.Settings.{AreSettingsAt, announced};
 
 use crate::ending::ServerShutdown;
 use crate::lane::LaneSign;
+use crate::terms::SharedTerms;
 use crate::ticket::SessionTicket;
-use authorizer::Authorizer;
 use client_patience::Patience;
 use event_word::{EventCount, SharedEventCount};
 use ftp_terms::LineText;
@@ -25,8 +25,8 @@ use virtual_tree::Store;
 /// its board.
 #[derive(Drop)]
 pub struct House<S: Store<Global>, H: Hooks, B: PartsName> {
-    pub users: Authorizer,
-    pub settings: Settings,
+    /// The users, and the settings of sessions, which a reload exchanges.
+    pub terms: SharedTerms,
     pub numbers: ServerNumbers,
     pub patience: Patience,
     /// The store of all sessions without one of their own.

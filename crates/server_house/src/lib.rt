@@ -12,6 +12,7 @@ mod ending;
 mod house;
 mod lane;
 mod server_hooks;
+mod terms;
 mod ticket;
 
 pub use cause::EndCause;
@@ -23,4 +24,5 @@ pub use server_hooks::{
     BegunTransfer, LaneLook, NotServed, ServerEvent, ServerHooks, ServerLook, SessionEvent,
     SessionRefusal, StoreNote, TransferKind, TransferRecord,
 };
+pub use terms::{HeldTerms, SharedTerms, Terms};
 pub use ticket::{LaneEnds, SessionEnd, SessionJob, SessionTicket};

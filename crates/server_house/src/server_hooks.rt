@@ -165,6 +165,9 @@ pub trait ServerHooks: Hooks {
     /// An event of the server.
     fn on_server(&mut self, event: ServerEvent);
 
+    /// The server has taken a changed configuration, or has refused it for this reason.
+    fn on_reload(&mut self, refused: Option<&str>);
+
     /// Returns whether the sizes of files that are sent are to be asked for.
     fn wants_sizes(&self) -> bool;
 

@@ -9,6 +9,7 @@
 //! let line = Input::Line(LineItem::Command(Command::Pwd));
 //! let told = session.step(users, floors, store, line, 0); // at the moment 0
 //! says(rt, told, "530 Log in first\r\n");
+//! holds(rt, !session.is_logged_in());
 //! holds(rt, !session.held_due()); // otherwise the next input is Input::Held
 //! ```
 #![tactic(auto)]

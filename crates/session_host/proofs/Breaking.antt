@@ -4,6 +4,7 @@ use Rattle.std.proofs.lemmas.List.{append-nil, length-append}
 use Rattle.std.specs.Io.KnownBytes.{Appends, Consumes}
 use Rattle.ftp_reply.specs.Replies.{reply_text}
 use Rattle.ftp_wire.specs.Items.{Item}
+use Rattle.authorizer.specs.Users.{Users}
 use Rattle.handler_hooks.specs.Events.{Event, event_of}
 use Rattle.rate_floors.specs.Promises.{Promises}
 use Rattle.session_table.specs.Answers.{answer_form}
@@ -46,10 +47,10 @@ module _ {W : Type 0} (contents : W → Option (List ℕ)) (may_refuse : W → L
   refused_later a b taken first (later, more, text, appended, refuses) =
       (later, taken ++ more, text, appends_more (contents a) (contents b) (contents later) taken more first appended, refuses)
 
-module _ {A S C D R W H Q K : Type 0} (Gives : C → ℕ → C → Type 0) (Asks' : D → SideCall A Q K → D → Type 0) (Told : H → Event → H → Type 0)
+module _ {A S C D R W H Q K : Type 0} (users : Users) (Gives : C → ℕ → C → Type 0) (Asks' : D → SideCall A Q K → D → Type 0) (Told : H → Event → H → Type 0)
     (remaining : R → Option (List ℕ)) (may_fail : R → Bool) (contents : W → Option (List ℕ)) (may_refuse : W → List ℕ → Type 0) where
   abbrev Does : Parts S C D R W H → HostCall A S Q K → Parts S C D R W H → Type 0
-  Does = AloneDoes Gives Asks' Told remaining may_fail contents may_refuse
+  Does = AloneDoes users Gives Asks' Told remaining may_fail contents may_refuse
 
   only : (old new : Parts S C D R W H) (calls : List (HostCall A S Q K)) (call : HostCall A S Q K) → calls ≡ call ∷ [] → Chain Does old calls new → Does old call new
   only old new calls call is chain =
@@ -206,7 +207,7 @@ module _ {A S C D R W H Q K : Type 0} (Gives : C → ℕ → C → Type 0) (Asks
       go (inl may) = inl may
       go (inr so) = inr (more so)
 
-  module _ (Row : Standing → Given K → ℕ → S → S → Promises → Outcome A Q K → Type 0) (first : Parts S C D R W H) where
+  module _ (Row : Users → Standing → Given K → ℕ → S → S → Promises → Outcome A Q K → Type 0) (first : Parts S C D R W H) where
     move_stands : (before after : Situation K) (calls : List (HostCall A S Q K)) (old new : Parts S C D R W H) → Move Row before calls after → Chain Does old calls new → Stands first old before → Stands first new after
     move_stands before after calls old new (Takes turn) chain stands =
         let (mid, did, more) = subst (λ (x : List (HostCall A S Q K)). Chain Does old x new) turn.trace chain in
@@ -217,8 +218,8 @@ module _ {A S C D R W H Q K : Type 0} (Gives : C → ℕ → C → Type 0) (Asks
         let (asked, heard) = behind_as turn.given before.heard in
         beside_stands first old new before after asked (beside_then old host new freed told) (turn.heard ∙ heard)
         (lost_then old host before.lost before.lost after.lost freed (kept old before.lost before.lost refl) lost) stands
-    move_stands before after calls old new (Tries given moment store store' promises came taken next row same trace) chain stands =
-        let did = only old new calls (Tried moment store store' promises) trace chain in
+    move_stands before after calls old new (Tries given moment lent store store' promises came taken next row same trace) chain stands =
+        let did = only old new calls (Tried before.session moment lent store store' promises) trace chain in
         beside_stands first old new before after before.heard.asked (beside_as old new _ did.rest refl refl) (ap (λ (x : Situation K). x.heard) same)
         (λ lost. let no = sym (ap (λ (x : Situation K). x.lost) same) ∙ lost in absurd (cc)) stands
     move_stands before after calls old new (Asks event none same (inl trace)) chain stands =

@@ -7,6 +7,7 @@ use Rattle.std.specs.Io.KnownBytes.{Appends, Consumes, IsAtEnd}
 use Rattle.ftp_reply.specs.Replies.{reply_text}
 use Rattle.ftp_wire.specs.Items.{Item}
 use Rattle.ftp_wire.specs.Reading.{OnlyReadsAs}
+use Rattle.authorizer.specs.Users.{Users}
 use Rattle.handler_hooks.specs.Events.{Event, event_of}
 use Rattle.rate_floors.specs.Promises.{Promises}
 use Rattle.session_core.specs.declared.events.DataEvent.{DataEvent}
@@ -150,10 +151,10 @@ module _ {A D H Q K : Type 0} (Asks' : D → SideCall A Q K → D → Type 0) (T
 
 -- ---- what calls make of a host of its own
 
-module _ {A S C D R W H Q K : Type 0} (Gives : C → ℕ → C → Type 0) (Asks' : D → SideCall A Q K → D → Type 0) (Told : H → Event → H → Type 0)
+module _ {A S C D R W H Q K : Type 0} (users : Users) (Gives : C → ℕ → C → Type 0) (Asks' : D → SideCall A Q K → D → Type 0) (Told : H → Event → H → Type 0)
     (remaining : R → Option (List ℕ)) (may_fail : R → Bool) (contents : W → Option (List ℕ)) (may_refuse : W → List ℕ → Type 0) where
   abbrev Does : Parts S C D R W H → HostCall A S Q K → Parts S C D R W H → Type 0
-  Does = AloneDoes Gives Asks' Told remaining may_fail contents may_refuse
+  Does = AloneDoes users Gives Asks' Told remaining may_fail contents may_refuse
 
   one : (old new : Parts S C D R W H) (calls : List (HostCall A S Q K)) (call : HostCall A S Q K) → calls ≡ call ∷ [] → Chain Does old calls new → Does old call new
   one old new calls call is chain =
@@ -298,7 +299,7 @@ module _ {A S C D R W H Q K : Type 0} (Gives : C → ℕ → C → Type 0) (Asks
 
   -- ---- moves
 
-  module _ (Row : Standing → Given K → ℕ → S → S → Promises → Outcome A Q K → Type 0) where
+  module _ (Row : Users → Standing → Given K → ℕ → S → S → Promises → Outcome A Q K → Type 0) where
     abbrev scene_of : Situation K → Parts S C D R W H → Scene S C D H K
     scene_of now host = record {
       session = now.session;
@@ -316,7 +317,7 @@ module _ {A S C D R W H Q K : Type 0} (Gives : C → ℕ → C → Type 0) (Asks
     }
 
     abbrev Doing : List Item → Scene S C D H K → List ℕ → Scene S C D H K → Type 0
-    Doing = Act Row Gives Asks' Told
+    Doing = Act (Row users) Gives Asks' Told
 
     follows_next : (items later : List Item) (now : Situation K) (host : Parts S C D R W H) (given : Given K) (came : Option (DataEvent K)) (taken : List Item)
         → items ≡ now.heard.items ++ later → Next now given came taken → Next (situated items (scene_of now host)) given came taken
@@ -329,7 +330,7 @@ module _ {A S C D R W H Q K : Type 0} (Gives : C → ℕ → C → Type 0) (Asks
     -- what a move makes of a session, of what was read and of what was written
     record Moved (items : List Item) (before : Situation K) (old : Parts S C D R W H) (after : Situation K) (new : Parts S C D R W H) : Type 0 where
       pub says : List (List ℕ)
-      pub acts : Acts Row Gives Asks' Told says items (scene_of before old) (scene_of after new)
+      pub acts : Acts (Row users) Gives Asks' Told says items (scene_of before old) (scene_of after new)
       pub written : List ℕ
       pub appended : Appends (contents old.writer) (contents new.writer) written
       pub cut : CutBy before.lost after.lost written (concat says)
@@ -360,7 +361,7 @@ module _ {A S C D R W H Q K : Type 0} (Gives : C → ℕ → C → Type 0) (Asks
         let writers : host.writer ≡ old.writer = ap (λ (x : Parts S C D R W H). x.writer) freed ∙ ap (λ (x : Parts S C D R W H). x.writer) did.rest in
         let sides : host.side ≡ old.side = ap (λ (x : Parts S C D R W H). x.side) freed ∙ ap (λ (x : Parts S C D R W H). x.side) did.rest in
         let handlers : host.hooks ≡ old.hooks = ap (λ (x : Parts S C D R W H). x.hooks) freed ∙ ap (λ (x : Parts S C D R W H). x.hooks) did.rest in
-        let turned : IsTurned Row Gives Asks' Told items (scene_of before old) (texts turn.actions) (scene_of after new) = record {
+        let turned : IsTurned (Row users) Gives Asks' Told items (scene_of before old) (texts turn.actions) (scene_of after new) = record {
           given = turn.given;
           moment = turn.moment;
           promises = turn.promises';
@@ -369,9 +370,10 @@ module _ {A S C D R W H Q K : Type 0} (Gives : C → ℕ → C → Type 0) (Asks
           next = follows_next items later before old turn.given after.came after.taken is turn.next;
           gives = subst (λ (c : C). Gives old.clock turn.moment c) (sym clocks) did.gives;
           asked = ap (λ (x : Heard). x.asked) turn.heard ∙ behind_asked turn.given before.heard (situated items (scene_of before old)).heard refl;
-          row = subst (λ (s : S). Row before.session turn.given turn.moment old.store s old.promises (Made turn.promises' after.session turn.actions)) (sym stores)
-              (subst (λ (s : S). Row before.session turn.given turn.moment s turn.store' old.promises (Made turn.promises' after.session turn.actions)) did.store_lent
-              (subst (λ (p : Promises). Row before.session turn.given turn.moment turn.store turn.store' p (Made turn.promises' after.session turn.actions)) did.promises_lent turn.row));
+          row = subst (λ (s : S). Row users before.session turn.given turn.moment old.store s old.promises (Made turn.promises' after.session turn.actions)) (sym stores)
+              (subst (λ (s : S). Row users before.session turn.given turn.moment s turn.store' old.promises (Made turn.promises' after.session turn.actions)) did.store_lent
+              (subst (λ (p : Promises). Row users before.session turn.given turn.moment turn.store turn.store' p (Made turn.promises' after.session turn.actions)) did.promises_lent
+              (subst (λ (u : Users). Row u before.session turn.given turn.moment turn.store turn.store' turn.promises (Made turn.promises' after.session turn.actions)) did.users_lent turn.row)));
           owes = turn.owes;
           promises_are = carrying.beside.promises
               ∙ (ap (λ (x : Parts S C D R W H). x.promises) freed ∙ ap (λ (x : Parts S C D R W H). released turn.paid x.promises) did.rest);
@@ -447,16 +449,17 @@ module _ {A S C D R W H Q K : Type 0} (Gives : C → ℕ → C → Type 0) (Asks
     move_told : (items later : List Item) (before after : Situation K) (calls : List (HostCall A S Q K)) (old new : Parts S C D R W H)
         → items ≡ before.heard.items ++ later → Move Row before calls after → Chain Does old calls new → Moved items before old after new
     move_told items later before after calls old new is (Takes turn) chain = turn_told items later before after calls old new is turn chain
-    move_told items later before after calls old new is (Tries given moment store store' promises came taken next stopped same trace) chain =
-        let did = one old new calls (Tried moment store store' promises) trace chain in
+    move_told items later before after calls old new is (Tries given moment lent store store' promises came taken next stopped same trace) chain =
+        let did = one old new calls (Tried before.session moment lent store store' promises) trace chain in
         let stores : new.store ≡ store' = ap (λ (x : Parts S C D R W H). x.store) did.rest in
         let rest : new ≡ record old { clock = new.clock; store = new.store } =
         did.rest ∙ (ap (λ (s : S). record old { clock = new.clock; store = s; promises = promises }) (sym stores) ∙ ap (λ (p : Promises). record old { clock = new.clock; store = new.store; promises = p }) did.promises_lent) in
         plain items before after old new
         (Lacks given moment came taken (follows_next items later before old given came taken is next) did.gives
-        (subst (λ (s : S). Row before.session given moment old.store s old.promises Stopped) (sym stores)
-        (subst (λ (s : S). Row before.session given moment s store' old.promises Stopped) did.store_lent
-        (subst (λ (p : Promises). Row before.session given moment store store' p Stopped) did.promises_lent stopped)))
+        (subst (λ (s : S). Row users before.session given moment old.store s old.promises Stopped) (sym stores)
+        (subst (λ (s : S). Row users before.session given moment s store' old.promises Stopped) did.store_lent
+        (subst (λ (p : Promises). Row users before.session given moment store store' p Stopped) did.promises_lent
+        (subst (λ (u : Users). Row u before.session given moment store store' promises Stopped) did.users_lent stopped))))
         (ap (λ (x : Situation K). scene_of x new) same ∙ ap (λ (x : Parts S C D R W H). scene_of (record before { lost = Some Memory }) x) rest) refl)
         (ap (λ (x : Parts S C D R W H). x.reader) rest) (ap (λ (x : Parts S C D R W H). x.writer) rest)
         (ap (λ (x : Situation K). x.heard.octets) same) (ap (λ (x : Situation K). x.heard.ended) same)
@@ -485,8 +488,8 @@ module _ {A S C D R W H Q K : Type 0} (Gives : C → ℕ → C → Type 0) (Asks
         (ap (λ (x : Situation K). x.heard.octets) same) (ap (λ (x : Situation K). x.heard.ended) same) (uncut before after (ap (λ (x : Situation K). x.lost) same))
 
     acts_more : (items : List Item) (first second : List (List ℕ)) (a b c : Scene S C D H K)
-        → Acts Row Gives Asks' Told first items a b → Acts Row Gives Asks' Told second items b c → Acts Row Gives Asks' Told (first ++ second) items a c
-    acts_more items [] second a b c same rest = subst (λ (x : Scene S C D H K). Acts Row Gives Asks' Told second items x c) same rest
+        → Acts (Row users) Gives Asks' Told first items a b → Acts (Row users) Gives Asks' Told second items b c → Acts (Row users) Gives Asks' Told (first ++ second) items a c
+    acts_more items [] second a b c same rest = subst (λ (x : Scene S C D H K). Acts (Row users) Gives Asks' Told second items x c) same rest
     acts_more items (says ∷ first) second a b c (mid, does, more) rest = (mid, does, acts_more items first second mid b c more rest)
 
     moved_more : (items : List Item) (x y z : Situation K) (a b c : Parts S C D R W H) → Moved items x a y b → Moved items y b z c → Moved items x a z c
@@ -525,7 +528,7 @@ module _ {A S C D R W H Q K : Type 0} (Gives : C → ℕ → C → Type 0) (Asks
 
     move_grows : (before after : Situation K) (calls : List (HostCall A S Q K)) → Move Row before calls after → Grown before.heard after.heard
     move_grows before after calls (Takes turn) = grown_as before after (ap (λ (x : Heard). x.items) (turn.heard ∙ behind_as turn.given before.heard))
-    move_grows before after calls (Tries given moment store store' promises came taken next stopped same trace) = grown_as before after (ap (λ (x : Situation K). x.heard.items) same)
+    move_grows before after calls (Tries given moment lent store store' promises came taken next stopped same trace) = grown_as before after (ap (λ (x : Situation K). x.heard.items) same)
     move_grows before after calls (Asks event none same trace) = grown_as before after (ap (λ (x : Situation K). x.heard.items) same)
     move_grows before after calls (Reads octets found idle live unended same trace) = (found, ap (λ (x : Situation K). x.heard.items) same)
     move_grows before after calls (Ends idle live unended same trace) = grown_as before after (ap (λ (x : Situation K). x.heard.items) same)
@@ -580,7 +583,7 @@ module _ {A S C D R W H Q K : Type 0} (Gives : C → ℕ → C → Type 0) (Asks
     settled_told items now old new event none gone (did, rest) = asks_told items now (record now { came = event; heard = asked_as true now.heard }) old new event none refl (inr (gone, did)) rest
 
     pub session_told : {T : Type 0} (turns : ℕ) (result : Result T ControlFault) (session : Standing) (old new : Parts S C D R W H)
-        → IsSession Row Does turns result session old new → IsEndToEnd Row Gives Asks' Told remaining contents result session old new
+        → IsSession Row Does turns result session old new → IsEndToEnd (Row users) Gives Asks' Told remaining contents result session old new
     session_told turns result session old new is =
         let closing = is.closing in
         let begun = at {K = K} session None [] nothing [] false is.lost in
@@ -608,9 +611,9 @@ module _ {A S C D R W H Q K : Type 0} (Gives : C → ℕ → C → Type 0) (Asks
           said = moved.says;
           row = is.row;
           serves = serves;
-          acts = subst (λ (c : C). Acts Row Gives Asks' Told moved.says items (record begins { store = old.store; promises = old.promises; clock = c }) (scene_of is.last new)) greets.beside.clock
-              (subst (λ (p : Promises). Acts Row Gives Asks' Told moved.says items (record begins { store = old.store; promises = p }) (scene_of is.last new)) greets.beside.promises
-              (subst (λ (s : S). Acts Row Gives Asks' Told moved.says items (record begins { store = s }) (scene_of is.last new)) greets.beside.store moved.acts));
+          acts = subst (λ (c : C). Acts (Row users) Gives Asks' Told moved.says items (record begins { store = old.store; promises = old.promises; clock = c }) (scene_of is.last new)) greets.beside.clock
+              (subst (λ (p : Promises). Acts (Row users) Gives Asks' Told moved.says items (record begins { store = old.store; promises = p }) (scene_of is.last new)) greets.beside.promises
+              (subst (λ (s : S). Acts (Row users) Gives Asks' Told moved.says items (record begins { store = s }) (scene_of is.last new)) greets.beside.store moved.acts));
           closed = is.closed_then;
           answered = is.answered;
           paid = is.paid;
@@ -629,6 +632,6 @@ module _ {A S C D R W H Q K : Type 0} (Gives : C → ℕ → C → Type 0) (Asks
         }
 
     pub served_told : {T : Type 0} (turns : ℕ) (result : Result T ControlFault) (session : Standing) (old new : Parts S C D R W H)
-        → IsServed Row Does turns result session old new → IsTold Row Gives Asks' Told remaining contents result session old new
+        → IsServed Row Does turns result session old new → IsTold (Row users) Gives Asks' Told remaining contents result session old new
     served_told turns result session old new (inl unserved) = inl unserved
     served_told turns result session old new (inr is) = inr (session_told turns result session old new is)

@@ -2,6 +2,7 @@
 -- part.
 use Rattle.std.specs.Prelude.{ℕ, ◌≡◌, ◌<◌, Bool, true, List, [], Option, length}
 use Rattle.std.specs.Io.KnownBytes.{Appends, Consumes, IsAtEnd}
+use Rattle.authorizer.specs.Users.{Users}
 use Rattle.handler_hooks.specs.Events.{Event}
 use Rattle.rate_floors.specs.Promises.{Promises, after_release}
 use Rattle.text_io.specs.Parts.{AppendsPart}
@@ -10,8 +11,8 @@ use Rattle.control_session.specs.Calls.HostCall.{Lent, Tried, Released, Noted, W
 use Rattle.control_session.specs.Sides.{SideCall}
 use Rattle.session_host.specs.declared.host.SoleHost.{SoleHost}
 
--- The parts of such a host: the store, the floors, the clock, the data side, the client's text, the
--- replies written to it, and the handler.
+-- The parts of such a host, apart from its users: the store, the floors, the clock, the data side,
+-- the client's text, the replies written to it, and the handler.
 pub record Parts (S C D R W H : Type 0) : Type 0 where
   pub store : S
   pub promises : Promises
@@ -37,6 +38,7 @@ module _ {S F C D R W H : Type 0} where
 
   -- the references are those that were lent
   pub record SameLent (old new : SoleHost S F C D R W H) : Type 0 where
+    pub users : new.users ≡ old.users
     pub store : new.store.ghost_name ≡ old.store.ghost_name
     pub floors : new.floors.ghost_name ≡ old.floors.ghost_name
     pub clock : new.clock.ghost_name ≡ old.clock.ghost_name
@@ -45,17 +47,20 @@ module _ {S F C D R W H : Type 0} where
     pub writer : new.writer.ghost_name ≡ old.writer.ghost_name
     pub hooks : new.hooks.ghost_name ≡ old.hooks.ghost_name
 
--- A is an allocator, S are stores, Q their sources and K their sinks. Gives relates the moments of
--- the clock, Asks is the effect of a call on the data side, Told the effect of a call on the
--- handler; the octets left to read, and those written, are known or not.
-module _ {A S C D R W H Q K : Type 0} (Gives : C → ℕ → C → Type 0)
+-- A is an allocator, S are stores, Q their sources and K their sinks. `users` are those of the
+-- host. Gives relates the moments of the clock, Asks is the effect of a call on the data side, Told
+-- the effect of a call on the handler; the octets left to read, and those written, are known or
+-- not.
+module _ {A S C D R W H Q K : Type 0} (users : Users) (Gives : C → ℕ → C → Type 0)
     (Asks : D → SideCall A Q K → D → Type 0) (Told : H → Event → H → Type 0)
     (remaining : R → Option (List ℕ)) (may_fail : R → Bool) (contents : W → Option (List ℕ))
     (may_refuse : W → List ℕ → Type 0) where
-  -- store and floors are lent at a moment of the clock; all other parts are unchanged
-  pub record Lends (old : Parts S C D R W H) (moment : ℕ) (store store' : S)
+  -- the users of the host, store and floors are lent at a moment of the clock; all other parts are
+  -- unchanged
+  pub record Lends (old : Parts S C D R W H) (moment : ℕ) (lent : Users) (store store' : S)
       (promises promises' : Promises) (new : Parts S C D R W H) : Type 0 where
     pub gives : Gives old.clock moment new.clock
+    pub users_lent : lent ≡ users
     pub store_lent : store ≡ old.store
     pub promises_lent : promises ≡ old.promises
     pub rest : new ≡ record old { clock = new.clock; store = store'; promises = promises' }
@@ -68,10 +73,10 @@ module _ {A S C D R W H Q K : Type 0} (Gives : C → ℕ → C → Type 0)
     pub rest : new ≡ record old { reader = new.reader }
 
   abbrev pub AloneDoes : Parts S C D R W H → HostCall A S Q K → Parts S C D R W H → Type 0
-  AloneDoes old (Lent moment store store' promises promises') new =
-      Lends old moment store store' promises promises' new
-  AloneDoes old (Tried moment store store' promises) new =
-      Lends old moment store store' promises promises new
+  AloneDoes old (Lent session moment lent store store' promises promises') new =
+      Lends old moment lent store store' promises promises' new
+  AloneDoes old (Tried session moment lent store store' promises) new =
+      Lends old moment lent store store' promises promises new
   AloneDoes old (Released user) new =
       new ≡ record old { promises = after_release old.promises user }
   AloneDoes old (Noted event) new =
@@ -88,7 +93,14 @@ module _ {A S C D R W H Q K : Type 0} (Gives : C → ℕ → C → Type 0)
   AloneDoes old (Asked call) new =
       Asks old.side call new.side × (new ≡ record old { side = new.side })
 
+module _ {A S C D R W H Q K : Type 0} (Gives : C → ℕ → C → Type 0)
+    (Asks : D → SideCall A Q K → D → Type 0) (Told : H → Event → H → Type 0)
+    (remaining : R → Option (List ℕ)) (may_fail : R → Bool) (contents : W → Option (List ℕ))
+    (may_refuse : W → List ℕ → Type 0) where
   -- the host that borrows them
   abbrev pub SoleDoes : {F : Type 0} → SoleHost S F C D R W H → HostCall A S Q K
       → SoleHost S F C D R W H → Type 0
-  SoleDoes old call new = SameLent old new × AloneDoes (parts old) call (parts new)
+  SoleDoes old call new =
+      SameLent old new
+      × AloneDoes old.users.now.users Gives Asks Told remaining may_fail contents may_refuse
+      (parts old) call (parts new)

@@ -3,6 +3,7 @@ pub mod Silent
 pub mod Told
 pub use Rattle.control_session.specs.Calls
 pub use Rattle.control_session.specs.Floors
+pub use Rattle.control_session.specs.Logins
 pub use Rattle.control_session.specs.Rows
 pub use Rattle.control_session.specs.Sessions
 pub use Rattle.control_session.specs.Standing

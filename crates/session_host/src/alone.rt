@@ -10,7 +10,7 @@ ghost use Rattle.session_host.specs.Breaks.{IsBreak, MayBreakReading, MayBreakWr
 ghost use Rattle.session_host.specs.Alone.{AloneDoes, SameLent, parts};
 ghost use Rattle.session_host.specs.Told.{IsTold};
 
-use crate::given::{GivesSettings, HasUsers};
+use crate::given::GivesSettings;
 use crate::host::SoleHost;
 use control_session::{ControlFault, DataSide, Host, Moments, run_control};
 use handler_hooks::Hooks;
@@ -19,27 +19,26 @@ use text_io::{TextReader, TextWriter};
 use virtual_tree::Store;
 
 /// Runs the session on any host.
-fn run_on<H: Host<Global>, U: HasUsers, T: GivesSettings>(
+fn run_on<H: Host<Global>, T: GivesSettings>(
     alloc: &Global,
     host: &mut H,
-    users: &U,
     settings: T,
     peer: [u8; 4],
     turns: u32,
 ) -> Result<(), ControlFault>
-    ensures whole { IsServed
-        (IsRow {A = Global} {R = H.Source} H.Step (U.known users.now).users) H.Does
+    ensures whole { IsServed (IsRow {A = Global} {R = H.Source} H.Step) H.Does
         turns result (new_session (T.given settings) peer) host.old host.new }
     ensures floors { (floors : H → Promises) → HasFloors H.Does floors
         → floors host.new ≡ floors host.old }
 {
-    run_control(alloc, host, users.users(), settings.settings(), peer, turns)
+    run_control(alloc, host, settings.settings(), peer, turns)
 }
 
 /// Serves a whole control session of a client at this address, on a host of its own, as in `run_control`.
 ///
 /// However it ends, the floors are unchanged.
 pub fn run_alone<
+    'u,
     's,
     'f,
     'c,
@@ -54,20 +53,19 @@ pub fn run_alone<
     R: TextReader,
     W: TextWriter,
     H: Hooks,
-    U: HasUsers,
     T: GivesSettings,
 >(
     alloc: &Global,
-    host: &mut SoleHost<'s, 'f, 'c, 'd, 'r, 'w, 'h, S, F, C, D, R, W, H>,
-    users: &U,
+    host: &mut SoleHost<'u, 's, 'f, 'c, 'd, 'r, 'w, 'h, S, F, C, D, R, W, H>,
     settings: T,
     peer: [u8; 4],
     turns: u32,
 ) -> Result<(), ControlFault>
-    ensures whole { IsServed (IsRow S.Step (U.known users.now).users)
-        (AloneDoes C.Gives D.Asks H.Told R.remaining R.may_fail W.contents W.may_refuse)
+    ensures whole { IsServed (IsRow S.Step)
+        (AloneDoes host.old.users.now.users C.Gives D.Asks H.Told R.remaining R.may_fail W.contents
+        W.may_refuse)
         turns result (new_session (T.given settings) peer) (parts host.old) (parts host.new) }
-    ensures told { IsTold (IsRow S.Step (U.known users.now).users)
+    ensures told { IsTold (IsRow S.Step host.old.users.now.users)
         C.Gives D.Asks H.Told R.remaining W.contents
         result (new_session (T.given settings) peer) (parts host.old) (parts host.new) }
     ensures breaks { IfErr result (IsBreak
@@ -76,5 +74,5 @@ pub fn run_alone<
     ensures floors { host.new.floors.now ≡ host.old.floors.now }
     ensures same { SameLent host.old host.new }
 {
-    run_on(alloc, host, users, settings, peer, turns)
+    run_on(alloc, host, settings, peer, turns)
 }

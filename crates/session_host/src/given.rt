@@ -1,30 +1,10 @@
-//! Users and settings of a session, by type parameters.
+//! Settings of a session, by a type parameter.
 //!
-//! Users and settings contain fixed texts. A call that names their types cannot take a host that borrows several
-//! values.
+//! Settings contain fixed texts. A call that names their type cannot take a host that borrows several values.
 
 ghost use Rattle.std.specs.Prelude.{◌≡◌};
 
-use authorizer::Authorizer;
 use session_table::Settings;
-
-/// A value that has the users.
-pub trait HasUsers {
-    ghost use Rattle.authorizer.specs.Users.{Accounts};
-
-    ghost known: { Self → Accounts };
-
-    fn users(&self) -> &Authorizer
-        ensures users { result.now ≡ known self.now };
-}
-
-impl HasUsers for Authorizer {
-    ghost known = { λ users. users };
-
-    fn users(&self) -> &Authorizer {
-        self
-    }
-}
 
 /// A value that has the settings of a session.
 pub trait GivesSettings {

@@ -15,9 +15,11 @@ use std::io;
 use text_io::{TextReader, TextWriter};
 use virtual_tree::Store;
 
-/// The parts outside of a control session, lent to this session alone: no other session changes them while it runs.
+/// The parts outside of a control session, lent to this session alone: no other session changes them while it runs. All
+/// its steps are for the same users.
 #[derive(Drop)]
-pub struct SoleHost<'s, 'f, 'c, 'd, 'r, 'w, 'h, S, F: Allocator, C, D, R, W, H> {
+pub struct SoleHost<'u, 's, 'f, 'c, 'd, 'r, 'w, 'h, S, F: Allocator, C, D, R, W, H> {
+    pub users: &'u Authorizer,
     pub store: &'s mut S,
     pub floors: &'f mut Floors<F>,
     /// The clock, read once for each step.
@@ -42,6 +44,7 @@ pub fn piece_of(count: usize) -> Piece
 }
 
 impl<
+    'u,
     's,
     'f,
     'c,
@@ -56,7 +59,7 @@ impl<
     R: TextReader,
     W: TextWriter,
     H: Hooks,
-> Host<Global> for SoleHost<'s, 'f, 'c, 'd, 'r, 'w, 'h, S, F, C, D, R, W, H> {
+> Host<Global> for SoleHost<'u, 's, 'f, 'c, 'd, 'r, 'w, 'h, S, F, C, D, R, W, H> {
     type Store = S;
 
     type Source = S::Source;
@@ -71,36 +74,29 @@ impl<
 
     fn step(
         &mut self,
-        users: &Authorizer,
         session: &mut Session,
         input: &mut Option<Input<Global, S::Sink>>,
     ) -> Result<Vec<Action<Global, S::Source, S::Sink>>, Option<DataEvent<S::Sink>>> {
         let moment = self.clock.moment();
-        step_by(session, users, self.floors, self.store, input, moment)
+        step_by(session, self.users, self.floors, self.store, input, moment)
     }
 
     fn close(
         &mut self,
-        users: &Authorizer,
         session: &mut Session,
         nobody: &mut Option<Text>,
     ) -> Option<Leaving<Global>> {
         let moment = self.clock.moment();
         match nobody.take() {
-            Some(nobody) => close_by(session, users, self.floors, self.store, nobody, moment),
+            Some(nobody) => close_by(session, self.users, self.floors, self.store, nobody, moment),
             None => unreachable!(),
         }
     }
 
-    fn end(
-        &mut self,
-        users: &Authorizer,
-        session: &mut Session,
-        event: &mut Option<DataEvent<S::Sink>>,
-    ) {
+    fn end(&mut self, session: &mut Session, event: &mut Option<DataEvent<S::Sink>>) {
         let moment = self.clock.moment();
         if let Some(event) = event.take() {
-            end_by(session, users, self.floors, self.store, event, moment);
+            end_by(session, self.users, self.floors, self.store, event, moment);
         }
     }
 

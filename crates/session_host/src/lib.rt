@@ -12,7 +12,7 @@ pub use alone::run_alone;
 pub use control_session::{
     ControlFault, DataEvent, DataSide, Host, Leaving, Moments, Piece, Session,
 };
-pub use given::{GivesSettings, HasUsers};
+pub use given::GivesSettings;
 pub use handler_hooks::Hooks;
 pub use host::{SoleHost, piece_of};
 pub use silent::Silent;

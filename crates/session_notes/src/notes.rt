@@ -136,6 +136,16 @@ impl<L: Log + Clock + Drop, T: TransferLog + Drop> ServerHooks for Notes<L, T> {
         log!(self.log; target: "", level, "{stamp}{text}");
     }
 
+    fn on_reload(&mut self, refused: Option<&str>) {
+        let stamp = self.stamp();
+        match refused {
+            None => log!(self.log; target: "", Level::Info, "{stamp}configuration reloaded"),
+            Some(why) => {
+                log!(self.log; target: "", Level::Warn, "{stamp}configuration not reloaded: {why}");
+            }
+        }
+    }
+
     fn wants_sizes(&self) -> bool {
         false
     }

@@ -24,6 +24,7 @@ type Memory<'h> = &'h LocalHeap;
 /// The host owns all that is outside of the session. Its clock always shows the same moment.
 #[derive(Drop)]
 pub(crate) struct HeapHost<'h, R> {
+    pub users: Authorizer<Memory<'h>>,
     pub store: MemStore<Memory<'h>>,
     pub floors: Floors,
     pub side: ScriptSide<Sink<'h>>,
@@ -44,36 +45,40 @@ impl<'h, R: TextReader> Host<Memory<'h>> for HeapHost<'h, R> {
 
     fn step(
         &mut self,
-        users: &Authorizer<Memory<'h>>,
         session: &mut Session<Memory<'h>>,
         input: &mut Option<Input<Memory<'h>, Sink<'h>>>,
     ) -> Result<
         Vec<Action<Memory<'h>, Source<'h>, Sink<'h>>, Memory<'h>>,
         Option<DataEvent<Sink<'h>>>,
     > {
-        step_by(session, users, &mut self.floors, &mut self.store, input, 0)
+        step_by(
+            session,
+            &self.users,
+            &mut self.floors,
+            &mut self.store,
+            input,
+            0,
+        )
     }
 
     fn close(
         &mut self,
-        users: &Authorizer<Memory<'h>>,
         session: &mut Session<Memory<'h>>,
         nobody: &mut Option<Text<Memory<'h>>>,
     ) -> Option<Leaving<Memory<'h>>> {
         match nobody.take() {
-            Some(nobody) => close_by(session, users, &mut self.floors, &mut self.store, nobody, 0),
+            Some(nobody) => {
+                let (floors, store) = (&mut self.floors, &mut self.store);
+                close_by(session, &self.users, floors, store, nobody, 0)
+            }
             None => unreachable!(),
         }
     }
 
-    fn end(
-        &mut self,
-        users: &Authorizer<Memory<'h>>,
-        session: &mut Session<Memory<'h>>,
-        event: &mut Option<DataEvent<Sink<'h>>>,
-    ) {
+    fn end(&mut self, session: &mut Session<Memory<'h>>, event: &mut Option<DataEvent<Sink<'h>>>) {
         if let Some(event) = event.take() {
-            end_by(session, users, &mut self.floors, &mut self.store, event, 0);
+            let (floors, store) = (&mut self.floors, &mut self.store);
+            end_by(session, &self.users, floors, store, event, 0);
         }
     }
 

@@ -6,7 +6,6 @@ use crate::host::HeapHost;
 use crate::reader::ScarceReader;
 use crate::rows::Reply;
 use crate::server::{PEER, Server, make_server, settings};
-use authorizer::Authorizer;
 use control_session::{ControlFault, Host, run_control};
 use linked_list_allocator::LocalHeap;
 use script_session::ScriptSide;
@@ -33,18 +32,16 @@ struct Told<'h> {
     server: Server<'h>,
 }
 
-/// The users and settings of a session. A call that names their types cannot take a `HeapHost`.
+/// The settings of a session. A call that names their type cannot take a `HeapHost`.
 trait Given<A: Allocator> {
-    fn users(&self) -> &Authorizer<A>;
-
     fn settings(&self) -> Settings<A>;
 }
 
-impl<A: Allocator> Given<A> for Authorizer<A> {
-    fn users(&self) -> &Authorizer<A> {
-        self
-    }
+/// The settings of these tests.
+#[derive(Clone, Copy)]
+struct TestSettings;
 
+impl<A: Allocator> Given<A> for TestSettings {
     fn settings(&self) -> Settings<A> {
         settings()
     }
@@ -55,7 +52,7 @@ fn run_on<A: Allocator + Clone, H: Host<A>, G: Given<A>>(
     host: &mut H,
     given: &G,
 ) -> Result<(), ControlFault> {
-    run_control(alloc, host, given.users(), given.settings(), PEER, 100)
+    run_control(alloc, host, given.settings(), PEER, 100)
 }
 
 /// Serves a session that takes all memory but that of its replies from the heap.
@@ -75,14 +72,16 @@ fn serve<'h, R: TextReader + Drop>(
         came: None,
     };
     let mut host = HeapHost {
+        users,
         store,
         floors,
         side,
         reader,
         output,
     };
-    let ended = run_on(&heap, &mut host, &users);
+    let ended = run_on(&heap, &mut host, &TestSettings);
     let HeapHost {
+        users,
         store,
         floors,
         side: _,

@@ -2,8 +2,8 @@
 
 use super::rates::{FREE, Rates, USER, limits_of};
 use crate::expect::holds;
-use line_rates::{GroupRate, UserRate};
-use rate_floors::Floors;
+use line_rates::{GroupRate, Name, UserRate, Way};
+use rate_floors::{CarryFault, Floors};
 use std::process::Abort;
 
 /// A call on the guarantees: a session of a user is to be admitted, or has ended.
@@ -148,5 +148,156 @@ fn sessions_are_admitted(rt: HostRuntime) {
         let limits = limits_of(&rt, rates);
         let mut floors = Floors::of(rt.alloc(), &limits).expect(&rt, "memory");
         expect_answers(&rt, &mut floors, turns);
+    }
+}
+
+/// Sessions that are admitted, and the result under other rates: the users with the numbers of counted sessions that
+/// can then be released, or the name, the guarantees and the rate of the fault.
+struct Carry {
+    old: Rates,
+    admitted: &'static [u32],
+    new: Rates,
+    wanted: Result<&'static [(u32, u64)], (Name, u64, u64)>,
+}
+
+/// A session of user 1 is guaranteed 40 down and 5 up, of user 2 10 down.
+const BEFORE: Rates = Rates {
+    server: 1_000,
+    users: &[
+        UserRate {
+            user: 1,
+            session_down_floor: 40,
+            session_up_floor: 5,
+            ..USER
+        },
+        UserRate {
+            user: 2,
+            session_down_floor: 10,
+            ..USER
+        },
+    ],
+    ..FREE
+};
+
+/// The users 1 and 9 with the guarantees of `BEFORE`, under no rate.
+const WITHOUT_2: Rates = Rates {
+    server: 0,
+    users: &[
+        UserRate {
+            user: 1,
+            session_down_floor: 40,
+            session_up_floor: 5,
+            ..USER
+        },
+        UserRate {
+            user: 9,
+            session_down_floor: 1_000,
+            ..USER
+        },
+    ],
+    ..FREE
+};
+
+/// Users 1 and 2 in a group whose rate is one octet less than two sessions of user 1 and one of user 2 are guaranteed.
+const TIGHT_GROUP: Rates = Rates {
+    server: 10,
+    groups: &[GroupRate {
+        group: 3,
+        down: 89,
+        up: 0,
+    }],
+    users: &[
+        UserRate {
+            user: 1,
+            group: Some(3),
+            session_down_floor: 40,
+            session_up_floor: 5,
+            ..USER
+        },
+        UserRate {
+            user: 2,
+            group: Some(3),
+            session_down_floor: 10,
+            ..USER
+        },
+    ],
+    ..FREE
+};
+
+static CARRIES: [Carry; 4] = [
+    Carry {
+        old: BEFORE,
+        admitted: &[1, 2, 1],
+        new: WITHOUT_2,
+        wanted: Ok(&[(1, 2), (2, 0), (9, 0)]),
+    },
+    // The group is before the server, whose rate of 10 is broken too.
+    Carry {
+        old: BEFORE,
+        admitted: &[1, 2, 1],
+        new: TIGHT_GROUP,
+        wanted: Err((Name::Group(Way::Down, 3), 90, 89)),
+    },
+    // The rate of each session of user 2 is below the guarantee.
+    Carry {
+        old: BEFORE,
+        admitted: &[2],
+        new: Rates {
+            users: &[UserRate {
+                user: 2,
+                session_down: 9,
+                session_down_floor: 10,
+                ..USER
+            }],
+            ..FREE
+        },
+        wanted: Err((Name::Session(Way::Down, 2, 0), 10, 9)),
+    },
+    // Both ways of two sessions are above the rate of the server.
+    Carry {
+        old: BEFORE,
+        admitted: &[1, 1],
+        new: Rates {
+            server: 89,
+            ..BEFORE
+        },
+        wanted: Err((Name::Server, 90, 89)),
+    },
+];
+
+fn expect_carried(rt: &impl Abort, floors: &mut Floors, counts: &[(u32, u64)]) {
+    for (user, sessions) in counts {
+        for _ in 0..*sessions {
+            holds(rt, floors.release(*user));
+        }
+        holds(rt, !floors.release(*user));
+    }
+}
+
+#[test]
+fn sessions_go_over_to_other_rates(rt: HostRuntime) {
+    for row in &CARRIES {
+        let mut floors = Floors::of(rt.alloc(), &limits_of(&rt, &row.old)).expect(&rt, "memory");
+        for user in row.admitted {
+            holds(&rt, floors.admit(*user));
+        }
+        match (
+            floors.carried(rt.alloc(), &limits_of(&rt, &row.new)),
+            row.wanted,
+        ) {
+            (Ok(mut carried), Ok(counts)) => expect_carried(&rt, &mut carried, counts),
+            (Err(fault), Err((name, promised, rate))) => holds(
+                &rt,
+                fault
+                    == CarryFault::Broken {
+                        name,
+                        promised,
+                        rate,
+                    },
+            ),
+            _ => holds(&rt, false),
+        }
+        // the counted sessions are still there
+        holds(&rt, floors.release(row.admitted[0]));
     }
 }

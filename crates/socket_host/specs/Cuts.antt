@@ -1,5 +1,5 @@
--- The end of a session by its server, and transfers that are cut by it.
-use Rattle.std.specs.Prelude.{Bool, true, false, ◌&&◌, ◌||◌, not, Option, Some, None}
+-- Transfers that are cut by the end of their session.
+use Rattle.std.specs.Prelude.{Bool, true, false, Option, Some, None}
 use Rattle.server_house.specs.declared.cause.EndCause.{EndCause}
 use Rattle.server_house.specs.declared.cause.EndCause.TheVariants.{ControlLost, ServerEnds}
 use Rattle.session_core.specs.declared.events.DataEvent.{DataEvent}
@@ -17,8 +17,3 @@ cause_of_cut None is_ending = None
 cause_of_cut (Some (Ready port)) is_ending = None
 cause_of_cut (Some (Ended Done sink)) is_ending = None
 cause_of_cut (Some (Ended end sink)) is_ending = Some (cut_by is_ending)
-
--- a session is to be ended: at once if the sessions end, and if the server drains once nothing that
--- it began is left to report
-abbrev pub is_to_end : Bool → Bool → Bool → Bool
-is_to_end ends drains is_busy = ends || (drains && not is_busy)

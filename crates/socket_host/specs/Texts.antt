@@ -1,6 +1,6 @@
 -- The octets of a read and of a last reply, the errors of a read that only found nothing, and the
 -- octets of an address.
-use Rattle.std.specs.Prelude.{◌≡◌, ◌++◌, ⊤, ℕ, Bool, true, false, List, [], ◌∷◌, Option, Some, None, codes, take}
+use Rattle.std.specs.Prelude.{◌≡◌, ◌++◌, ◌&&◌, ◌||◌, not, if◌then◌else◌, ⊤, ℕ, Bool, true, false, List, [], ◌∷◌, Option, Some, None, codes, take}
 use Rattle.std.specs.Net.Addr.{ipv4_octets}
 use Rattle.std.specs.Net.Socket.{v4_ip}
 use Rattle.std.specs.declared.net.socket_addr.SocketAddr.{SocketAddr}
@@ -34,6 +34,15 @@ IsOctetsOf (V6 socket) octets = ⊤
 abbrev pub time_out_reply : TimeOut → List ℕ
 time_out_reply Login = codes "421 Login timed out" ++ 13 ∷ 10 ∷ []
 time_out_reply Idle = codes "421 Idle too long" ++ 13 ∷ 10 ∷ []
+
+-- the last reply to a client whose session is to end otherwise: at once if the sessions end; if the
+-- server drains, or the user is none any more, once nothing that it began is left to report
+abbrev pub last_reply : Bool → Bool → Bool → Bool → Option (List ℕ)
+last_reply ends drains is_removed is_busy =
+    if ends || (drains && not is_busy) then Some (codes "421 Server is ending" ++ 13 ∷ 10 ∷ [])
+    else if is_removed && not is_busy
+    then Some (codes "421 User is not served any more" ++ 13 ∷ 10 ∷ [])
+    else None
 
 -- a passive port was asked for, and none could be had
 abbrev pub is_without_port : {K : Type 0} → Option (DataEvent K) → Bool

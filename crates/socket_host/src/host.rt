@@ -10,16 +10,15 @@ ghost use Rattle.control_session.specs.Sides.Given.{Came};
 ghost use Rattle.rate_floors.specs.Promises.{HasNoSessions};
 ghost use Rattle.session_table.specs.Steps.{asks_floors};
 ghost use Rattle.session_table.specs.Views.{is_closed};
-ghost use Rattle.std.specs.FinMap as map;
-ghost use Rattle.socket_host.specs.Cuts.{cause_of_cut, is_to_end};
+ghost use Rattle.socket_host.specs.Cuts.{cause_of_cut};
 ghost use Rattle.socket_host.specs.Records.{ends_file, ends_listing, is_end, is_text, job_kind};
 ghost use Rattle.socket_host.specs.Refusals.{refusal_of};
-ghost use Rattle.socket_host.specs.Texts.{is_without_port, time_out_reply};
+ghost use Rattle.socket_host.specs.Texts.{is_without_port, last_reply, time_out_reply};
 ghost use Rattle.socket_host.specs.Unsaid.{AnyCall};
 
 use crate::control::ControlSocket;
 use crate::moments::millis_since_1970;
-use authorizer::Authorizer;
+use crate::standing::Standing;
 use client_patience::{TimeOut, Waits};
 use control_session::{DataEvent, Host, Leaving, Piece, Session, close_by, end_by, step_by};
 use event_word::{has_passed, micros};
@@ -31,8 +30,8 @@ use line_rates::Limits;
 use rate_floors::Floors;
 use recorded_store::{Recorder, StoreRecord};
 use server_house::{
-    BegunTransfer, EndCause, House, ServerHooks, SessionEvent, SessionRefusal, ShutdownStage,
-    StoreNote, TransferKind, TransferRecord, copy_settings,
+    BegunTransfer, EndCause, HeldTerms, House, ServerHooks, SessionEvent, SessionRefusal,
+    ShutdownStage, StoreNote, TransferKind, TransferRecord, copy_settings,
 };
 use session_table::{Action, Answer, End, HookCall, Input, Job, Refusal, Settings, Text};
 use socket_side::SocketSide;
@@ -47,11 +46,21 @@ use virtual_tree::Store;
 /// The reply to a client whose session the server ends.
 const ENDING: &[u8] = b"421 Server is ending\r\n";
 
-// Returns whether a session is to be told that the server ends.
-fn is_to_end(ends: bool, drains: bool, is_busy: bool) -> bool
-    ensures end { result ≡ is_to_end ends drains is_busy }
+/// The reply to a client whose user is none any more.
+const REMOVED: &[u8] = b"421 User is not served any more\r\n";
+
+// The last reply to a client, if its session is to end now: at once if the sessions end, and if the server drains or the
+// user is none any more, once nothing that it began is left to report.
+fn last_reply(ends: bool, drains: bool, is_removed: bool, is_busy: bool) -> Option<&'static [u8]>
+    ensures reply { option_map (λ r. r.now) result ≡ last_reply ends drains is_removed is_busy }
 {
-    ends || drains && !is_busy
+    if ends || drains && !is_busy {
+        return Some(ENDING);
+    }
+    if is_removed && !is_busy {
+        return Some(REMOVED);
+    }
+    None
 }
 
 /// Interval between two looks, of a session that delays a reply, whether the server ends, in milliseconds.
@@ -104,17 +113,6 @@ fn asks_floors<K>(session: &Session<Global>, input: &Option<Input<Global, K>>) -
     match input {
         Some(input) => session.asks_floors(input),
         None => false,
-    }
-}
-
-// The number of a user, by which rounds identify them; 0 for no user.
-fn number_of(users: &Authorizer, name: &str) -> u32
-    ensures number { result
-        ≡ unwrap_or (option_map (λ user. user.number) (map.get users.now.users name.now)) 0 }
-{
-    match users.number(name) {
-        Some(number) => number,
-        None => 0,
     }
 }
 
@@ -190,28 +188,27 @@ struct Begun {
     is_text: bool,
 }
 
-// A copy of a name; empty if memory runs out.
-fn copy_name(alloc: Global, name: &str) -> String {
-    match String::from_str(alloc, name) {
-        Ok(name) => name,
-        Err(_) => String::new(alloc),
-    }
+/// The parts of a host that need memory.
+#[derive(Drop)]
+pub struct SessionNeeds {
+    /// The terms in force.
+    pub held: HeldTerms,
+    /// Floors of nobody, lent to steps that need none.
+    pub no_floors: Floors,
 }
 
 /// The host of the session of one control connection. It cannot be dropped: its data side leaves its ticket.
 pub struct SocketHost<'h, R, S: Store<Global>, H: Hooks, B: PartsName> {
     rt: &'h R,
     house: &'h House<S, H, B>,
+    // the user, and the terms whose users are lent to each step
+    standing: Standing,
     socket: ControlSocket,
     side: SocketSide<'h, R, S, H, B>,
     peer: [u8; 4],
     // the number of the connection
     key: usize,
-    // the number of the user who is logged in, by which rounds identify them
-    user: u32,
     waits: Waits,
-    // the name of the user who was logged in last
-    name: String,
     // the last transfer that was begun
     begun: Begun,
     // the path of the last file that was opened, if it is known
@@ -229,8 +226,8 @@ where
     H: ServerHooks,
     B: PartsName,
 {
-    /// The host of a connection with this data side, from this peer and with this key in the registry. The floors are
-    /// those of nobody.
+    /// The host of a connection with this data side, from this peer and with this key in the registry, which holds these
+    /// terms. The floors are those of nobody.
     pub fn new(
         rt: &'h R,
         house: &'h House<S, H, B>,
@@ -238,18 +235,18 @@ where
         side: SocketSide<'h, R, S, H, B>,
         peer: [u8; 4],
         key: usize,
-        no_floors: Floors,
+        needs: SessionNeeds,
     ) -> Self {
+        let SessionNeeds { held, no_floors } = needs;
         SocketHost {
             rt,
             house,
+            standing: Standing::new(rt.alloc(), held),
             socket,
             side,
             peer,
             key,
-            user: 0,
             waits: Waits::new(micros(rt)),
-            name: String::new(rt.alloc()),
             begun: Begun {
                 since: 0,
                 kind: TransferKind::Listed,
@@ -266,13 +263,12 @@ where
         let SocketHost {
             rt: _,
             house: _,
+            standing: _,
             socket: _,
             side,
             peer: _,
             key: _,
-            user: _,
             waits: _,
-            name: _,
             begun: _,
             path: _,
             is_wrong: _,
@@ -284,17 +280,33 @@ where
     /// The settings of the session.
     pub(crate) fn copy_settings(&self) -> Result<Settings, AllocError> {
         let arrived = self.socket.arrived_at();
-        copy_settings(self.rt.alloc(), &self.house.settings, arrived)
+        copy_settings(self.rt.alloc(), &self.standing.terms().settings, arrived)
     }
 
     fn is_ending(&self) -> bool {
         self.house.ending.has_begun(ShutdownStage::Sessions)
     }
 
-    // Returns whether the client is to be told now that the server ends.
-    fn is_over(&self) -> bool {
+    // Compares the terms in force, if they were exchanged. Without memory they are compared at the next call.
+    fn compare_terms(&mut self) {
+        let terms = &self.house.terms;
+        if self.standing.is_behind(terms.exchanges()) {
+            if let Ok(newest) = terms.hold(self.rt) {
+                self.standing.compare(newest);
+            }
+        }
+    }
+
+    // The last reply to the client, if the session is to end now, other than for a limit of time.
+    fn last_reply(&self) -> Option<&'static [u8]> {
         let drains = self.house.ending.has_begun(ShutdownStage::Drain);
-        is_to_end(self.is_ending(), drains, self.side.is_busy())
+        let is_busy = self.side.is_busy();
+        last_reply(
+            self.is_ending(),
+            drains,
+            self.standing.is_removed(),
+            is_busy,
+        )
     }
 
     // Lets this many seconds pass, without a lock; ends early if the server ends.
@@ -314,11 +326,13 @@ where
     fn follow(&mut self, call: &HookCall<Global>) {
         match call {
             HookCall::Login(name) => {
-                self.user = number_of(&self.house.users, name.as_str());
-                self.name = copy_name(self.rt.alloc(), name.as_str());
+                self.standing.log_in(self.rt.alloc(), name.as_str());
                 self.waits.log_in();
             }
-            HookCall::Logout(_) => self.waits.log_out(micros(self.rt)),
+            HookCall::Logout(_) => {
+                self.standing.log_out();
+                self.waits.log_out(micros(self.rt));
+            }
             HookCall::LoginFailed(_) => self.is_wrong = true,
             _ => {}
         }
@@ -337,7 +351,7 @@ where
         TransferRecord {
             peer: self.peer,
             session: self.key,
-            user: self.name.as_str(),
+            user: self.standing.name(),
             kind: self.begun.kind,
             path: self.last_path(),
             is_text: self.begun.is_text,
@@ -380,8 +394,8 @@ where
         let transfer = BegunTransfer {
             peer: self.peer,
             session: self.key,
-            user: self.name.as_str(),
-            number: self.user,
+            user: self.standing.name(),
+            number: self.standing.user(),
             kind: self.begun.kind,
             path: self.last_path(),
             size: self.size(),
@@ -405,7 +419,7 @@ where
         let note = StoreNote {
             peer: self.peer,
             session: self.key,
-            user: self.name.as_str(),
+            user: self.standing.name(),
             record,
             error,
         };
@@ -434,7 +448,6 @@ where
     // Makes a step of the session. Returns the record of its store too.
     fn step_over(
         &mut self,
-        users: &Authorizer,
         session: &mut Session<Global>,
         input: &mut Option<Input<Global, S::Sink>>,
     ) -> (
@@ -442,16 +455,16 @@ where
         Option<StoreRecord>,
     )
         ensures row { IfSome input.old (λ input. IfOk result.0 (λ actions.
-            Stepped (IsRow S.Step users.now.users) AnyCall
+            Stepped (IsRow S.Step) AnyCall
             self.old session.old (given_of input) session.new actions.items self.new)) }
         ensures unchanged { OnErr result.0 (session.new ≡ session.old) }
         ensures tried { IfSome input.old (λ input.
-            OnErr result.0 (StepTried {A = Global} (IsRow S.Step
-            users.now.users) AnyCall self.old session.old (given_of input) self.new)) }
+            OnErr result.0 (StepTried {A = Global} (IsRow S.Step) AnyCall self.old session.old (given_of input) self.new)) }
         ensures back { IfSome input.old (λ input. IfErr result.0 (λ back.
             back ≡ event_in input)) }
     {
         let moment = millis_since_1970(self.rt);
+        let users = &self.standing.terms().users;
         if asks_floors(session, input) {
             let mut floors = self.house.floors.lock(self.rt);
             let mut store = self.house.store_of(self.key).lock(self.rt);
@@ -492,15 +505,9 @@ where
     }
 
     // Passes on the events of the data side after the end of the control connection.
-    fn end_with(
-        &mut self,
-        users: &Authorizer,
-        session: &mut Session<Global>,
-        event: DataEvent<S::Sink>,
-    )
+    fn end_with(&mut self, session: &mut Session<Global>, event: DataEvent<S::Sink>)
         requires closed { is_closed session.old.view.stage ≡ true }
-        ensures row { Stepped (IsRow {A = Global} {R = S.Source}
-            S.Step users.now.users) AnyCall
+        ensures row { Stepped (IsRow {A = Global} {R = S.Source} S.Step) AnyCall
             self.old session.old (Came event) session.new [] self.new }
         ensures closed { is_closed session.new.view.stage ≡ true }
     {
@@ -508,6 +515,7 @@ where
             let moment = millis_since_1970(self.rt);
             let mut store = self.house.store_of(self.key).lock(self.rt);
             let floors = &mut self.no_floors;
+            let users = &self.standing.terms().users;
             end_by(session, users, floors, &mut *store, event, moment);
             store.take_last()
         };
@@ -539,11 +547,11 @@ where
 
     fn step(
         &mut self,
-        users: &Authorizer,
         session: &mut Session<Global>,
         input: &mut Option<Input<Global, S::Sink>>,
     ) -> Result<Vec<Action<Global, S::Source, S::Sink>>, Option<DataEvent<S::Sink>>> {
-        let (made, record) = self.step_over(users, session, input);
+        self.compare_terms();
+        let (made, record) = self.step_over(session, input);
         self.follow_store(record);
         if let Ok(actions) = &made {
             self.report_refusals(actions);
@@ -553,12 +561,12 @@ where
 
     fn close(
         &mut self,
-        users: &Authorizer,
         session: &mut Session<Global>,
         nobody: &mut Option<Text<Global>>,
     ) -> Option<Leaving<Global>> {
         let moment = millis_since_1970(self.rt);
         let mut store = self.house.store_of(self.key).lock(self.rt);
+        let users = &self.standing.terms().users;
         let floors = &mut self.no_floors;
         match nobody.take() {
             Some(nobody) => close_by(session, users, floors, &mut *store, nobody, moment),
@@ -566,14 +574,9 @@ where
         }
     }
 
-    fn end(
-        &mut self,
-        users: &Authorizer,
-        session: &mut Session<Global>,
-        event: &mut Option<DataEvent<S::Sink>>,
-    ) {
+    fn end(&mut self, session: &mut Session<Global>, event: &mut Option<DataEvent<S::Sink>>) {
         match event.take() {
-            Some(event) => self.end_with(users, session, event),
+            Some(event) => self.end_with(session, event),
             None => {}
         }
     }
@@ -602,8 +605,9 @@ where
     }
 
     fn read(&mut self, buffer: &mut [u8]) -> io::Result<Piece> {
-        if self.is_over() {
-            let _ = self.socket.write(ENDING, &self.house.ending);
+        self.compare_terms();
+        if let Some(reply) = self.last_reply() {
+            let _ = self.socket.write(reply, &self.house.ending);
             return Ok(Piece::AtEnd);
         }
         if self.side.rest() {
@@ -639,7 +643,7 @@ where
                 is_text: is_text(&job),
             };
             self.report_begin();
-            self.side.start(job, self.user);
+            self.side.start(job, self.standing.user());
         }
     }
 
@@ -648,7 +652,7 @@ where
     }
 
     fn look(&mut self) -> Option<DataEvent<S::Sink>> {
-        let event = self.side.look(self.user);
+        let event = self.side.look(self.standing.user());
         if is_without_port(&event) {
             if let Some(error) = self.side.port_fault() {
                 self.report(SessionEvent::NoPort(error));

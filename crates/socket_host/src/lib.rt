@@ -11,7 +11,8 @@ mod host;
 mod moments;
 mod replying;
 mod serving;
+mod standing;
 
 pub use control::ControlSocket;
-pub use host::SocketHost;
+pub use host::{SessionNeeds, SocketHost};
 pub use serving::{serve_session, sessions_are_long};

@@ -1,16 +1,15 @@
 //! A whole control session over sockets.
 
-ghost use Rattle.std.specs.Prelude.{◌≡◌, ◌<◌, ◌≤◌, ◌^◌};
+ghost use Rattle.std.specs.Prelude.{◌≡◌, ◌<◌, ◌≤◌, ◌^◌, IsTrue, None, Some, false};
 ghost use Rattle.transfer_ticket.specs.Views.{owner_view};
 ghost use Rattle.transfer_ticket.specs.declared.view.TicketView.TheVariants.{Idle};
 
 use crate::control::ControlSocket;
-use crate::host::{SocketHost, floors_of_nobody};
-use authorizer::Authorizer;
+use crate::host::{SessionNeeds, SocketHost, floors_of_nobody};
 use control_session::{Host, run_control};
 use lent_parts::PartsName;
 use recorded_store::Recorder;
-use server_house::{House, LaneEnds, ServerHooks, SessionEnd, SessionJob};
+use server_house::{House, LaneEnds, ServerHooks, SessionEnd, SessionJob, SharedTerms};
 use session_table::Settings;
 use socket_side::SocketSide;
 use std::alloc::{AllocError, Global};
@@ -31,8 +30,8 @@ pub fn sessions_are_long()
 /// Size of one read of what comes after the end.
 const LAST_PIECE: usize = 512;
 
-/// A host with the settings of its session. A call whose type argument has several lifetimes may take neither settings
-/// nor users, so the functions below have one type parameter for the host, and one for the owner of the users.
+/// A host with the settings of its session. A call whose type argument has several lifetimes may take no settings, so the
+/// functions below have one type parameter for the host.
 pub(crate) trait SessionHost: Host<Global> {
     /// The settings of the session.
     fn settings(&self) -> Result<Settings, AllocError>;
@@ -59,35 +58,17 @@ where
     }
 }
 
-/// The owner of the users.
-pub(crate) trait HasUsers {
-    /// The users.
-    fn users(&self) -> &Authorizer;
-}
-
-/// The users of a server.
-#[derive(Drop)]
-pub(crate) struct ServerUsers<'h> {
-    users: &'h Authorizer,
-}
-
-impl HasUsers for ServerUsers<'_> {
-    fn users(&self) -> &Authorizer {
-        self.users
-    }
-}
-
 // Runs the whole session of a host. If there is no memory to begin, the client gets no reply.
-fn run_hosted<T: SessionHost, U: HasUsers>(alloc: &Global, host: &mut T, owner: &U, peer: [u8; 4]) {
+fn run_hosted<T: SessionHost>(alloc: &Global, host: &mut T, peer: [u8; 4]) {
     if let Ok(settings) = host.settings() {
-        let _ = run_control(alloc, host, owner.users(), settings, peer, MOST_READS);
+        let _ = run_control(alloc, host, settings, peer, MOST_READS);
     }
 }
 
 // Runs the session of a host, closes its connection, and leaves its ticket.
-fn run_whole<T: SessionHost, U: HasUsers>(alloc: &Global, host: T, owner: &U, peer: [u8; 4]) {
+fn run_whole<T: SessionHost>(alloc: &Global, host: T, peer: [u8; 4]) {
     let mut host = host;
-    run_hosted(alloc, &mut host, owner, peer);
+    run_hosted(alloc, &mut host, peer);
     let mut buffer = [0; LAST_PIECE];
     host.leave_client(&mut buffer);
 }
@@ -103,6 +84,25 @@ fn session_number(key: usize) -> u32
     }
 }
 
+/// The peer whose data connections a session accepts; none for any.
+fn wanted_peer(settings: &Settings, peer: [u8; 4]) -> Option<[u8; 4]>
+    ensures any { IsTrue settings.now.permits_foreign_addresses → result ≡ None }
+    ensures peer { settings.now.permits_foreign_addresses ≡ false → result ≡ Some peer }
+{
+    if settings.permits_foreign_addresses {
+        None
+    } else {
+        Some(peer)
+    }
+}
+
+// The parts of a host that need memory.
+fn needs_of<R: Wait + AllocGlobal>(rt: &R, terms: &SharedTerms) -> Option<SessionNeeds> {
+    let held = terms.hold(rt).ok()?;
+    let no_floors = floors_of_nobody(rt.alloc())?;
+    Some(SessionNeeds { held, no_floors })
+}
+
 // Runs a session at its ticket, closes its connection, and leaves the ticket.
 fn run_at<'h, R, S, H, B>(
     rt: &'h R,
@@ -111,6 +111,7 @@ fn run_at<'h, R, S, H, B>(
     peer: [u8; 4],
     key: usize,
     owner: TicketOwner<'h, SessionJob<S>, SessionEnd<S>, LaneEnds>,
+    needs: SessionNeeds,
 )
 where
     R: Wait + Clock + Net<Listener = TcpListener, Stream = TcpStream> + AllocGlobal,
@@ -119,18 +120,11 @@ where
     B: PartsName,
     requires idle { owner_view owner ≡ Idle }
 {
-    let side = SocketSide::new(rt, house, peer, session_number(key), owner);
-    match floors_of_nobody(rt.alloc()) {
-        Some(none) => {
-            let socket = ControlSocket::new(stream);
-            let host = SocketHost::new(rt, house, socket, side, peer, key, none);
-            let users = ServerUsers {
-                users: &house.users,
-            };
-            run_whole(&rt.alloc(), host, &users, peer);
-        }
-        None => side.leave(),
-    }
+    let wanted = wanted_peer(&needs.held.terms().settings, peer);
+    let side = SocketSide::new(rt, house, wanted, session_number(key), owner);
+    let socket = ControlSocket::new(stream);
+    let host = SocketHost::new(rt, house, socket, side, peer, key, needs);
+    run_whole(&rt.alloc(), host, peer);
 }
 
 // Runs a session and closes its connection. Nobody else sits at its ticket, since the session before left it before it
@@ -148,9 +142,12 @@ where
     H: ServerHooks,
     B: PartsName,
 {
+    let Some(needs) = needs_of(rt, &house.terms) else {
+        return;
+    };
     match house.tickets.get(key) {
         Some(ticket) => match TicketOwner::sit(ticket) {
-            Ok(owner) => run_at(rt, house, stream, peer, key, owner),
+            Ok(owner) => run_at(rt, house, stream, peer, key, owner, needs),
             Err(_) => {}
         },
         None => {}

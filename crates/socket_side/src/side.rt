@@ -91,7 +91,8 @@ fn event_of<K: Drop>(end: Option<TransferEnd<K>>) -> Option<DataEvent<K>>
 pub struct SocketSide<'h, R, S: Store<Global>, H: Hooks, B: PartsName> {
     rt: &'h R,
     house: &'h House<S, H, B>,
-    peer: [u8; 4],
+    // the peer whose data connections are accepted; none for any
+    wanted: Option<[u8; 4]>,
     // the number of its ticket, and its right to that
     session: u32,
     run: SessionRun<'h, S>,
@@ -113,11 +114,12 @@ where
     H: Hooks,
     B: PartsName,
 {
-    /// The data side of the session with this number, at its ticket, with nothing prepared and nothing running.
+    /// The data side of the session with this number, at its ticket, with nothing prepared and nothing running. It accepts
+    /// connections of the wanted peer, or of any if none is given.
     pub fn new(
         rt: &'h R,
         house: &'h House<S, H, B>,
-        peer: [u8; 4],
+        wanted: Option<[u8; 4]>,
         session: u32,
         owner: TicketOwner<'h, SessionJob<S>, SessionEnd<S>, LaneEnds>,
     ) -> Self
@@ -129,7 +131,7 @@ where
         SocketSide {
             rt,
             house,
-            peer,
+            wanted,
             session,
             run: SessionRun::new(owner),
             prepared: Prepared::Nothing,
@@ -297,19 +299,6 @@ where
         self.run.running = over(End::NoConnection, job);
     }
 
-    // The peer whose connections are accepted.
-    fn wanted_peer(&self) -> Option<[u8; 4]>
-        ensures any { IsTrue self.now.house.now.settings.permits_foreign_addresses → result ≡ None }
-        ensures peer { self.now.house.now.settings.permits_foreign_addresses ≡ false
-            → result ≡ Some self.now.peer }
-    {
-        if self.house.settings.permits_foreign_addresses {
-            None
-        } else {
-            Some(self.peer)
-        }
-    }
-
     // Checks once whether the client has connected to its port.
     fn await_client(
         &mut self,
@@ -324,7 +313,7 @@ where
         ensures prepared { self.new.prepared ≡ self.old.prepared }
         ensures ready { self.new.ready ≡ self.old.ready }
     {
-        match accept_from(&listener, self.wanted_peer()) {
+        match accept_from(&listener, self.wanted) {
             Some(stream) => {
                 self.close_port(listener, port);
                 self.hand_over(stream, job, user);
@@ -592,7 +581,7 @@ where
         let SocketSide {
             rt: _,
             house: _,
-            peer: _,
+            wanted: _,
             session: _,
             run,
             prepared: _,

@@ -1,13 +1,15 @@
-//! The last status of a server, shared by threads.
+//! The last status of a server, and the facts of a changed configuration, shared by threads.
 
+use crate::facts::StatusFacts;
 use server_status::Status;
 use std::alloc::{AllocError, Global};
 use std::sync::{Arc, Mutex, Wait};
 
-/// The last status that was made, if one was.
+/// The last status that was made, if one was, and the facts of a configuration that is about to be taken.
 #[derive(Drop)]
 pub struct StatusCell {
     status: Mutex<Option<Arc<Status>>>,
+    facts: Mutex<Option<StatusFacts>>,
 }
 
 impl StatusCell {
@@ -15,7 +17,18 @@ impl StatusCell {
     pub fn new() -> StatusCell {
         StatusCell {
             status: Mutex::new(None),
+            facts: Mutex::new(None),
         }
+    }
+
+    /// Puts the facts of a configuration that is about to be taken.
+    pub fn put_facts<R: Wait>(&self, rt: &R, facts: StatusFacts) {
+        *self.facts.lock(rt) = Some(facts);
+    }
+
+    /// Takes these facts, if there are any.
+    pub fn take_facts<R: Wait>(&self, rt: &R) -> Option<StatusFacts> {
+        self.facts.lock(rt).take()
     }
 
     /// Puts a status in place of the last. If memory runs out, the last one stays.

@@ -168,6 +168,15 @@ impl<R: Wait + AllocGlobal + Drop, N: ServerHooks> ServerHooks for StatusKeeper<
         self.within.on_server(event);
     }
 
+    fn on_reload(&mut self, refused: Option<&str>) {
+        if let (None, Some(cell)) = (refused, &self.cell) {
+            if let Some(facts) = cell.take_facts(&self.rt) {
+                self.facts = facts;
+            }
+        }
+        self.within.on_reload(refused);
+    }
+
     fn wants_sizes(&self) -> bool {
         self.cell.is_some()
     }

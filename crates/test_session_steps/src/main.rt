@@ -18,8 +18,10 @@ mod words;
 
 use crate::fault::Fault;
 use crate::hall::Hall;
+use crate::made::make_users;
 use crate::room::Room;
 use crate::stage::Stage;
+use authorizer::Authorizer;
 use std::io::{self, BufRead, BufReader, Write};
 use std::process::ExitCode;
 
@@ -36,18 +38,22 @@ fn play_lines<R: BufRead, W: Write>(stage: &mut Stage<R, W>, room: &mut Room) ->
     Ok(())
 }
 
-/// Runs one session after another in a room, by standard input.
-fn play_in<R: Input + Print + AllocGlobal>(rt: &R, room: &mut Room) -> Result<(), Fault> {
-    let hall = Hall::new(rt.alloc(), room.ann())?;
+/// Runs one session after another in a room, for these users, by standard input.
+fn play_in<R: Input + Print + AllocGlobal>(
+    rt: &R,
+    room: &mut Room,
+    users: Authorizer,
+) -> Result<(), Fault> {
+    let hall = Hall::new(rt.alloc(), users.number("ann").unwrap_or(0))?;
     let reader = BufReader::new(rt.alloc(), rt.reader())?;
-    let mut stage = Stage::new(hall, reader, io::writer(rt));
+    let mut stage = Stage::new(hall, users, reader, io::writer(rt));
     room.greet(&mut stage)?;
     play_lines(&mut stage, room)
 }
 
 fn play<R: Input + Print + AllocGlobal>(rt: &R) -> Result<(), Fault> {
     let mut room = Room::new(rt.alloc())?;
-    play_in(rt, &mut room)
+    play_in(rt, &mut room, make_users(rt.alloc())?)
 }
 
 fn main(rt: HostRuntime) -> ExitCode {

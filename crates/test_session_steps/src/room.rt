@@ -1,23 +1,44 @@
 //! A session step by step.
 
 use crate::fault::Fault;
-use crate::made::{PEER, make_users, settings};
+use crate::made::{PEER, settings};
 use crate::stage::Stage;
 use crate::words::{Word, asked};
-use authorizer::Authorizer;
-use control_session::{ControlFault, run_control};
+use control_session::{ControlFault, Host, run_control};
 use ftp_wire::LineReader;
 use memory_store::MemSink;
 use session_core::Session;
-use session_table::{End, Input};
+use session_table::{End, Input, Settings};
 use std::alloc::Global;
 use std::io::{BufRead, Write};
 
-/// A session, and the users of the server.
+/// A session.
 #[derive(Drop)]
 pub(crate) struct Room {
     session: Session,
-    users: Authorizer,
+}
+
+/// The settings of a session. A call that names their type cannot take a `Stage`.
+trait Given {
+    fn settings(&self) -> Settings;
+}
+
+/// The settings of each session of this program.
+#[derive(Clone, Copy)]
+struct UsualSettings;
+
+impl Given for UsualSettings {
+    fn settings(&self) -> Settings {
+        settings()
+    }
+}
+
+fn run_on<H: Host<Global>, G: Given>(
+    alloc: &Global,
+    host: &mut H,
+    given: &G,
+) -> Result<(), ControlFault> {
+    run_control(alloc, host, given.settings(), PEER, u32::MAX)
 }
 
 fn read_line(alloc: Global, octets: &[u8]) -> Result<Input<Global, MemSink<Global>>, Fault> {
@@ -40,19 +61,9 @@ fn how_ended(ended: Result<(), ControlFault>) -> &'static str {
 
 impl Room {
     pub fn new(alloc: Global) -> Result<Room, Fault> {
-        Room::of(alloc, make_users(alloc)?)
-    }
-
-    fn of(alloc: Global, users: Authorizer) -> Result<Room, Fault> {
         Ok(Room {
             session: Session::new(alloc, settings(), PEER)?,
-            users,
         })
-    }
-
-    /// The number of ann.
-    pub fn ann(&self) -> u32 {
-        self.users.number("ann").unwrap_or(0)
     }
 
     /// Greets a new client.
@@ -84,7 +95,7 @@ impl Room {
         match word {
             Word::Anew => self.begin_anew(stage),
             Word::Talk => self.talk(stage),
-            Word::Remove(name) => Ok(self.users.remove_user(name)?),
+            Word::Remove(name) => Ok(stage.users.remove_user(name)?),
             Word::Held => self.give(stage, Input::Held),
             Word::Port(port) => self.give(stage, Input::DataReady(port)),
             Word::Closed => self.give(stage, Input::Closed),
@@ -103,7 +114,7 @@ impl Room {
     fn talk<R: BufRead, W: Write>(&mut self, stage: &mut Stage<R, W>) -> Result<(), Fault> {
         stage.begin();
         let alloc = stage.hall.alloc;
-        let ended = run_control(&alloc, stage, &self.users, settings(), PEER, u32::MAX);
+        let ended = run_on(&alloc, stage, &UsualSettings);
         stage.hall.note(how_ended(ended))?;
         stage.fault()
     }
@@ -125,7 +136,7 @@ impl Room {
     ) -> Result<(), Fault> {
         let moment = stage.hall.moment;
         let actions = self.session.step(
-            &self.users,
+            &stage.users,
             &mut stage.hall.floors,
             &mut stage.hall.store,
             input,

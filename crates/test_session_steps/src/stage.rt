@@ -29,6 +29,8 @@ use test_fail_store::FailStore;
 #[derive(Drop)]
 pub(crate) struct Stage<R, W> {
     pub hall: Hall,
+    /// The users of the server.
+    pub users: Authorizer,
     reader: R,
     writer: W,
     line: Vec<u8>,
@@ -52,10 +54,11 @@ fn copy_front(octets: &[u8], buffer: &mut [u8]) -> usize
 }
 
 impl<R: BufRead, W: Write> Stage<R, W> {
-    pub fn new(hall: Hall, reader: R, writer: W) -> Stage<R, W> {
+    pub fn new(hall: Hall, users: Authorizer, reader: R, writer: W) -> Stage<R, W> {
         let line = Vec::new(hall.alloc);
         Stage {
             hall,
+            users,
             reader,
             writer,
             line,
@@ -187,20 +190,15 @@ impl<R: BufRead, W: Write> Stage<R, W> {
 
 impl<R: BufRead, W: Write> Stage<R, W> {
     // Takes the event of the data side after the end of the control connection.
-    fn end_with(
-        &mut self,
-        users: &Authorizer,
-        session: &mut Session,
-        event: DataEvent<MemSink<Global>>,
-    )
+    fn end_with(&mut self, session: &mut Session, event: DataEvent<MemSink<Global>>)
         requires closed { is_closed session.old.view.stage ≡ true }
-        ensures row { Stepped (IsRow {A = Global} {R = List ℕ} (FailStep InMemory) users.now.users)
+        ensures row { Stepped (IsRow {A = Global} {R = List ℕ} (FailStep InMemory))
             AnyCall self.old session.old (Came event) session.new [] self.new }
         ensures closed { is_closed session.new.view.stage ≡ true }
     {
         let moment = self.hall.moment;
         let (floors, store) = (&mut self.hall.floors, &mut self.hall.store);
-        end_by(session, users, floors, store, event, moment);
+        end_by(session, &self.users, floors, store, event, moment);
     }
 }
 
@@ -217,7 +215,6 @@ impl<R: BufRead, W: Write> Host<Global> for Stage<R, W> {
 
     fn step(
         &mut self,
-        users: &Authorizer,
         session: &mut Session,
         input: &mut Option<Input<Global, MemSink<Global>>>,
     ) -> Result<
@@ -226,31 +223,25 @@ impl<R: BufRead, W: Write> Host<Global> for Stage<R, W> {
     > {
         let moment = self.hall.moment;
         let (floors, store) = (&mut self.hall.floors, &mut self.hall.store);
-        step_by(session, users, floors, store, input, moment)
+        step_by(session, &self.users, floors, store, input, moment)
     }
 
     fn close(
         &mut self,
-        users: &Authorizer,
         session: &mut Session,
         nobody: &mut Option<Text>,
     ) -> Option<Leaving<Global>> {
         let moment = self.hall.moment;
         let (floors, store) = (&mut self.hall.floors, &mut self.hall.store);
         match nobody.take() {
-            Some(nobody) => close_by(session, users, floors, store, nobody, moment),
+            Some(nobody) => close_by(session, &self.users, floors, store, nobody, moment),
             None => unreachable!(),
         }
     }
 
-    fn end(
-        &mut self,
-        users: &Authorizer,
-        session: &mut Session,
-        event: &mut Option<DataEvent<MemSink<Global>>>,
-    ) {
+    fn end(&mut self, session: &mut Session, event: &mut Option<DataEvent<MemSink<Global>>>) {
         match event.take() {
-            Some(event) => self.end_with(users, session, event),
+            Some(event) => self.end_with(session, event),
             None => {}
         }
     }

@@ -1,4 +1,4 @@
-use Rattle.std.proofs.Common.{ℕ, ◌+◌, ◌∙◌, inl, inr, [], true, Err, refl, ap, arith}
+use Rattle.std.proofs.Common.{ℕ, ◌+◌, ◌∙◌, inl, inr, [], Err, refl, ap, arith}
 use Rattle.control_session.specs.Sessions.{nothing}
 use Rattle.control_session.specs.Turns.{asked_as}
 use Rattle.control_session.specs.declared.fault.ControlFault.{ControlFault}

@@ -14,7 +14,7 @@ invariant-loop-turn g l = record {
   whole : l.talk.lost ≡ None;
   due : due l.talk.session ≡ false;
   room : length l.buffer ≡ length l.fn.buffer;
-  far : (last : List Item) × (heard : Heard) × Went (IsRow {A = g.row.A.Denot} g.H.Host.Step l.fn.users.users) g.H.Host.Does
+  far : (last : List Item) × (heard : Heard) × Went (IsRow {A = g.row.A.Denot} g.H.Host.Step) g.H.Host.Does
       l.fn.host (stand l.fn.talk [] nothing) l.host (stand l.talk last heard)
       × HasRead heard.octets heard.items l.lines
       × (heard.reads ≡ l._turn) × (heard.ended ≡ false)

@@ -9,7 +9,7 @@ abbrev pub invariant-loop-host : goal.invariant-loop-host
 invariant-loop-host g l = record {
   none : l.talk.came ≡ None;
   whole : l.talk.lost ≡ None;
-  went : (taken : List Item) (heard : Heard) → Went (IsRow {A = g.row.A.Denot} g.H.Host.Step l.fn.users.users) g.H.Host.Does
+  went : (taken : List Item) (heard : Heard) → Went (IsRow {A = g.row.A.Denot} g.H.Host.Step) g.H.Host.Does
       l.fn.host (stand l.fn.talk taken heard) l.host (stand l.talk taken (asked_as true heard));
 }
 

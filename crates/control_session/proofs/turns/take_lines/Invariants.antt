@@ -14,7 +14,7 @@ invariant-loop-item g l = record {
   live : l.talk.closed ≡ false;
   due : due l.talk.session ≡ false;
   went : (taken : List Item) (heard : Heard) → heard.items ≡ taken ++ items_of l.fn.items.items
-      → (last : List Item) × (heard.items ≡ last ++ items_of (into_iter_items l.left)) × Went (IsRow {A = g.row.A.Denot} g.H.Host.Step l.fn.users.users) g.H.Host.Does
+      → (last : List Item) × (heard.items ≡ last ++ items_of (into_iter_items l.left)) × Went (IsRow {A = g.row.A.Denot} g.H.Host.Step) g.H.Host.Does
       l.fn.host (stand l.fn.talk taken heard) l.host (stand l.talk last (asked_as true heard));
 }
 

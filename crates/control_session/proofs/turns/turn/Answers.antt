@@ -27,4 +27,4 @@ returns-clause-went g c came taken heard taken' next = (
 )
 
 pub returns-clause-held : goal.returns-clause-held
-returns-clause-held g c = any_ok c.ended.result _ (row_holds _ _ _ _ _ _ _ _ _ _ _ c.in-Ok.ensures.row.6)
+returns-clause-held g c = any_ok c.ended.result _ (row_holds _ _ _ _ _ _ _ _ _ _ _ c.in-Ok.ensures.row.7)

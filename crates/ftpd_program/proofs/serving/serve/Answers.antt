@@ -10,4 +10,4 @@ returns-in-Ok-clause-end g c =
     let ready = option_map (λ w. w.now) c.args.signs.ready_file in
     let old = g.W.TextWriter.contents c.args.output.now in
     let new = g.W.TextWriter.contents c.serve.new.output in
-    rw c.ended.ensures.end (answered gives shown c.args.config.now g.V.Server.Serves path ready c.args.patience old new _ _ _ _ c.in-Ok.ensures.config c.as_str-told.ensures.value c.serve.ensures.served)
+    rw c.ended.ensures.end (answered gives shown c.args.config.now g.V.Server.Serves path ready c.args.patience old new _ _ _ _ c.in-Ok.ensures.config c.as_str.ensures.value c.serve.ensures.served)

@@ -1,10 +1,8 @@
-use Rattle.std.proofs.Common.{◌≡◌, ◌≢◌, ◌<◌, ◌∙◌, ap, ℕ, inl, inr, get_or, length, List, None, Option, sym, subst, arith}
-use Rattle.std.specs.Prelude.{slice_index_or}
+use Rattle.std.proofs.Common.{◌≡◌, ◌≢◌, ◌<◌, ◌∙◌, ℕ, inl, inr, List, None, sym, subst, arith}
 use Rattle.std.proofs.lemmas.Bool.{cases_lt}
 use Rattle.std.proofs.lemmas.List.{get_or-set_other, length-set}
 use Rattle.std.proofs.lemmas.Grind.{get_or-set_at}
 use Rattle.limit_tree.specs.Outline.{limits}
-use Rattle.line_rates.specs.declared.ask.Name.{Name}
 use Rattle.held_names.specs.Held.{IsHeldBy}
 use Rattle.paced_rounds.proofs.held.name_leaves.Goals as goal
 

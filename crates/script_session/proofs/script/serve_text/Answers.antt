@@ -14,8 +14,8 @@ pub returns-clause-whole : goal.returns-clause-whole
 returns-clause-whole g c =
     let host = c.run_alone.new.host in (
       host.side.now,
-      ends_as (λ last. IsServed (IsRow {A = Global} {R = List ℕ} InMemory c.args.users.now.users)
-          (AloneDoes ReadsZero AnswersScript StaysSilent g.R.TextReader.remaining g.R.TextReader.may_fail g.W.TextWriter.contents g.W.TextWriter.may_refuse)
+      ends_as (λ last. IsServed (IsRow {A = Global} {R = List ℕ} InMemory)
+          (AloneDoes c.args.users.now.users ReadsZero AnswersScript StaysSilent g.R.TextReader.remaining g.R.TextReader.may_fail g.W.TextWriter.contents g.W.TextWriter.may_refuse)
           4294967295 c.run_alone.result (new_session c.args.settings home_address)
           (script_parts c.args.store.now c.args.floors.now (unasked c.args.port) c.args.reader.now c.args.writer.now) last)
           host.side.now host.store.now _ host.floors.now _ host.reader.now _ host.writer.now _ (search rules) (search rules) (search rules) (search rules) c.run_alone.ensures.whole,

@@ -1,3 +1,4 @@
+use Rattle.std.proofs.Common.{◌≡◌, refl}
 use Rattle.session_host.proofs.Breaking.{breaks}
 use Rattle.session_host.proofs.Lending.{lent_none, lent_then, sole_floors, sole_lent, sole_seen}
 use Rattle.session_host.proofs.Seeing.{served_keeps, served_seen}
@@ -7,8 +8,9 @@ use Rattle.session_host.proofs.alone.run_alone.Goals as goal
 
 pub returns-clause-whole : goal.returns-clause-whole
 returns-clause-whole g c =
-    served_seen _ _ parts (sole_seen g.C.Moments.Gives g.D.DataSide.Asks g.H.Hooks.Told g.R.TextReader.remaining g.R.TextReader.may_fail g.W.TextWriter.contents g.W.TextWriter.may_refuse)
-    _ _ _ _ _ _ c.run_on.ensures.whole
+    let users = c.args.host.now.users.now.users in
+    served_seen _ _ parts (λ host. host.users.now.users ≡ users) (sole_seen g.C.Moments.Gives g.D.DataSide.Asks g.H.Hooks.Told g.R.TextReader.remaining g.R.TextReader.may_fail g.W.TextWriter.contents g.W.TextWriter.may_refuse users)
+    _ _ _ _ _ _ refl c.run_on.ensures.whole
 
 pub returns-clause-floors : goal.returns-clause-floors
 returns-clause-floors g c =
@@ -23,12 +25,14 @@ returns-clause-same g c =
 
 pub returns-clause-told : goal.returns-clause-told
 returns-clause-told g c =
-    served_told g.C.Moments.Gives g.D.DataSide.Asks g.H.Hooks.Told g.R.TextReader.remaining g.R.TextReader.may_fail g.W.TextWriter.contents g.W.TextWriter.may_refuse _ _ _ _ _ _
-    (served_seen _ _ parts (sole_seen g.C.Moments.Gives g.D.DataSide.Asks g.H.Hooks.Told g.R.TextReader.remaining g.R.TextReader.may_fail g.W.TextWriter.contents g.W.TextWriter.may_refuse)
-    _ _ _ _ _ _ c.run_on.ensures.whole)
+    let users = c.args.host.now.users.now.users in
+    served_told users g.C.Moments.Gives g.D.DataSide.Asks g.H.Hooks.Told g.R.TextReader.remaining g.R.TextReader.may_fail g.W.TextWriter.contents g.W.TextWriter.may_refuse _ _ _ _ _ _
+    (served_seen _ _ parts (λ host. host.users.now.users ≡ users) (sole_seen g.C.Moments.Gives g.D.DataSide.Asks g.H.Hooks.Told g.R.TextReader.remaining g.R.TextReader.may_fail g.W.TextWriter.contents g.W.TextWriter.may_refuse users)
+    _ _ _ _ _ _ refl c.run_on.ensures.whole)
 
 pub returns-clause-breaks : goal.returns-clause-breaks
 returns-clause-breaks g c =
-    breaks g.C.Moments.Gives g.D.DataSide.Asks g.H.Hooks.Told g.R.TextReader.remaining g.R.TextReader.may_fail g.W.TextWriter.contents g.W.TextWriter.may_refuse _ _ _ _ _ _
-    (served_seen _ _ parts (sole_seen g.C.Moments.Gives g.D.DataSide.Asks g.H.Hooks.Told g.R.TextReader.remaining g.R.TextReader.may_fail g.W.TextWriter.contents g.W.TextWriter.may_refuse)
-    _ _ _ _ _ _ c.run_on.ensures.whole)
+    let users = c.args.host.now.users.now.users in
+    breaks users g.C.Moments.Gives g.D.DataSide.Asks g.H.Hooks.Told g.R.TextReader.remaining g.R.TextReader.may_fail g.W.TextWriter.contents g.W.TextWriter.may_refuse _ _ _ _ _ _
+    (served_seen _ _ parts (λ host. host.users.now.users ≡ users) (sole_seen g.C.Moments.Gives g.D.DataSide.Asks g.H.Hooks.Told g.R.TextReader.remaining g.R.TextReader.may_fail g.W.TextWriter.contents g.W.TextWriter.may_refuse users)
+    _ _ _ _ _ _ refl c.run_on.ensures.whole)

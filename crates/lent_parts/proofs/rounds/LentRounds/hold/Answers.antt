@@ -1,6 +1,7 @@
-use Rattle.std.proofs.Common.{◌≡◌, refl, ap, ◌∙◌}
+use Rattle.std.proofs.Common.{refl, ap, ◌∙◌, subst, sym}
 use Rattle.std.specs.Prelude.{max}
 use Rattle.paced_rounds.specs.History.{round_at, history}
+use Rattle.paced_rounds.specs.Seconds.{AreAllowed}
 use Rattle.lent_parts.proofs.MomentLemmas.{later_passes, moments_more}
 use Rattle.lent_parts.proofs.rounds.LentRounds.hold.Goals as goal
 
@@ -14,3 +15,13 @@ pub invariant_of-self-clause-last : goal.invariant_of-self-clause-last
 invariant_of-self-clause-last g c =
     let old = c.args.self.now in
     ap g.B.PartsName.when c.hold.ensures.latest ∙ later_passes g.B.PartsName.when c.args.now old.rounds.latest c.requires.when old.last
+
+pub invariant_of-self-clause-rated : goal.invariant_of-self-clause-rated
+invariant_of-self-clause-rated g c =
+    let old = c.args.self.now in
+    ap g.B.PartsName.rates c.hold.ensures.rates ∙ old.rated
+
+pub invariant_of-self-clause-ended : goal.invariant_of-self-clause-ended
+invariant_of-self-clause-ended g c =
+    let old = c.args.self.now in
+    subst (AreAllowed g.B.PartsName.rates g.B.PartsName.when) (sym c.hold.ensures.ended) old.ended

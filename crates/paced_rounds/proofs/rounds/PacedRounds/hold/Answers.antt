@@ -1,10 +1,10 @@
-use Rattle.std.proofs.Common.{◌≡◌, ◌≤◌, ◌++◌, [], ◌∷◌, ℕ, map, ap, ◌∙◌, sym, refl, arith, Result, Ok, Err, OnErr}
+use Rattle.std.proofs.Common.{◌≡◌, ◌≤◌, ◌++◌, [], ◌∷◌, ℕ, map, sum_by, ap, ◌∙◌, refl, arith, Result, Ok, Err, OnErr}
 use Rattle.grant_ledger.specs.Books.{BookView}
 use Rattle.round_pace.specs.Histories.{rates_of}
-use Rattle.paced_rounds.specs.History.{granted_in, round_at, history}
+use Rattle.paced_rounds.specs.History.{granted_in, round_at, history, octets_of, octets_in, ended_in, stretches}
 use Rattle.lane_desk.specs.Turns.{turns}
 use Rattle.lane_desk.specs.Tried.{is_given}
-use Rattle.paced_rounds.proofs.RunLemmas.{Leads, leads_ok, leads_err, grown, run_more, told_more}
+use Rattle.paced_rounds.proofs.RunLemmas.{Leads, leads_ok, leads_err, grown, run_more, stretches_more, sum_more, told_more}
 use Rattle.paced_rounds.proofs.rounds.PacedRounds.hold.Goals as goal
 use Rattle.paced_rounds.proofs.rounds.PacedRounds.hold.Goals.{in-Ok, in-Err}
 
@@ -32,9 +32,11 @@ invariant_of-self g c =
     let later : old.latest ≤ now = omega (arith, c.max-now.ensures) in
     let more : history c.and-self.result.items ≡ history old.log.items ++ round_at now out ∷ [] =
     grown old.log.items c.and-self.result.items (now, c.match-result.taken) (round_at now out) c.and-self.ensures.more (λ i. record { now = now; leaves = leads.log i }) in
+    let all = stretches_more old.ended.items old.ended.items pace old.log.items c.and-self.result.items (round_at now out) refl more in
     record {
-      run = run_more c.histories_keep_rates.ensures.begin old.pace pace old.latest (history old.log.items) (history c.and-self.result.items) (round_at now out) later leads.kept leads.is more old.run;
-      told = told_more old.rounds.book.issued new.book.issued old.carried (history old.log.items) (history c.and-self.result.items) (round_at now out) old.told more leads.issued;
+      run = run_more c.histories_keep_rates.ensures.begin c.histories_keep_rates.ensures.stay old.pace pace old.latest (ended_in old.ended.items) (stretches old.ended.items pace c.and-self.result.items) (history old.log.items) (round_at now out) later leads.kept leads.is all old.run;
+      told = told_more old.rounds.book.issued new.book.issued old.carried (sum_by octets_in (stretches old.ended.items old.pace old.log.items)) (sum_by octets_in (stretches old.ended.items pace c.and-self.result.items)) (octets_of (round_at now out)) old.told
+          (sum_more (ended_in old.ended.items) (stretches old.ended.items pace c.and-self.result.items) old.pace pace (history old.log.items) (round_at now out) all) leads.issued;
     }
 
 pub returns-clause-rates : goal.returns-clause-rates

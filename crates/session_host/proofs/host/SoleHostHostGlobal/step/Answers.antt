@@ -7,13 +7,14 @@ use Rattle.session_host.proofs.host.SoleHostHostGlobal.step.Goals as goal
 pub returns-clause-row : goal.returns-clause-row
 returns-clause-row g c = lend c.args.input.now c.step_by.result _ _ (λ input actions row. (
   c.moment-moment.result,
+  c.args.self.now.users.now.users,
   c.args.self.now.store.now,
   c.step_by.new.store,
   c.args.self.now.floors.now,
   c.step_by.new.floors,
   (
-    record { store = refl; floors = refl; clock = refl; side = refl; reader = refl; writer = refl; hooks = refl },
-    record { gives = c.moment-moment.ensures; store_lent = refl; promises_lent = refl; rest = refl },
+    record { users = refl; store = refl; floors = refl; clock = refl; side = refl; reader = refl; writer = refl; hooks = refl },
+    record { gives = c.moment-moment.ensures; users_lent = refl; store_lent = refl; promises_lent = refl; rest = refl },
   ),
   row,
 )) c.step_by.ensures.row
@@ -21,13 +22,15 @@ returns-clause-row g c = lend c.args.input.now c.step_by.result _ _ (λ input ac
 pub returns-clause-tried : goal.returns-clause-tried
 returns-clause-tried g c = lend_err c.args.input.now c.step_by.result _ _ _ (λ input same stopped. (
   c.moment-moment.result,
+  c.args.self.now.users.now.users,
   c.args.self.now.store.now,
   c.step_by.new.store,
   c.args.self.now.floors.now,
   (
-    record { store = refl; floors = refl; clock = refl; side = refl; reader = refl; writer = refl; hooks = refl },
+    record { users = refl; store = refl; floors = refl; clock = refl; side = refl; reader = refl; writer = refl; hooks = refl },
     record {
       gives = c.moment-moment.ensures;
+      users_lent = refl;
       store_lent = refl;
       promises_lent = refl;
       rest = ap (λ (p : Promises). record (parts c.args.self.now) { clock = c.moment-moment.new.self; store = c.step_by.new.store; promises = p }) same.1;

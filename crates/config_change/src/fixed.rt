@@ -1,0 +1,149 @@
+//! Keys that cannot change while a server runs.
+
+ghost use Rattle.config_change.specs.Fixed.{IsAddressKey, IsPortKey, IsRootKey, IsCapacityKey, IsPassiveKey, IsLanesKey, IsFixedKey, IsCountFault};
+
+use server_config::ServerNumbers;
+use std::net::Ipv4Addr;
+use thiserror::Error;
+
+/// Values of a configuration that stay the same while a server runs.
+#[derive(Clone, Copy, Debug)]
+pub struct FixedValues<'a> {
+    /// The address, the ports and the maximum counts.
+    pub numbers: ServerNumbers,
+    /// `memory`, or the path of the folder that is served.
+    pub root: &'a str,
+    /// Maximum total of the octets in the files of a store in memory.
+    pub capacity: u64,
+}
+
+/// A key that cannot change while a server runs, with its value at the start and the one that is stated now.
+#[derive(Clone, Copy, Debug, Error)]
+pub enum FixedKey<'a> {
+    #[error("`address` cannot change while the server runs: it is {old}; restart the server to listen on {new}")]
+    Address { old: Ipv4Addr, new: Ipv4Addr },
+    #[error("`port` cannot change while the server runs: it is {old}; restart the server to serve on {new}")]
+    Port { old: u16, new: u16 },
+    #[error("`root` cannot change while the server runs: it is {old}; restart the server to serve {new}")]
+    Root { old: &'a str, new: &'a str },
+    #[error("`capacity` cannot change while the server runs: it is {old}; restart the server to keep {new} octets")]
+    Capacity { old: u64, new: u64 },
+    #[error("`passive_first` cannot change while the server runs: it is {old}; restart the server for ports from {new}")]
+    PassiveFirst { old: u16, new: u16 },
+    #[error("`passive_last` cannot change while the server runs: it is {old}; restart the server for ports up to {new}")]
+    PassiveLast { old: u16, new: u16 },
+    #[error("`lanes` cannot change while the server runs: it is {old}; restart the server for {new} transfers at once")]
+    Lanes { old: u16, new: u16 },
+}
+
+/// The reason for which a maximum number of connections cannot be taken while a server runs.
+#[derive(Clone, Copy, Debug, PartialEq, Eq, Error)]
+pub enum CountFault {
+    /// The maximum is above that of the start, and the server has room for no more.
+    #[error("`max_cons` cannot be above {room} while the server runs: restart the server to take {stated} connections")]
+    NoRoom { room: u16, stated: u16 },
+    /// More connections than the maximum are there.
+    #[error("`max_cons` cannot be {stated} now: {connected} clients are connected; reload again when fewer are, or restart the server")]
+    TooMany { connected: u16, stated: u16 },
+}
+
+fn address_key<'a>(old: [u8; 4], new: [u8; 4]) -> Option<FixedKey<'a>>
+    ensures key { IsAddressKey old new result }
+{
+    if old == new {
+        return None;
+    }
+    Some(FixedKey::Address {
+        old: Ipv4Addr::from_octets(old),
+        new: Ipv4Addr::from_octets(new),
+    })
+}
+
+fn root_key<'a>(old: &'a str, new: &'a str) -> Option<FixedKey<'a>>
+    ensures key { IsRootKey old.now new.now result }
+{
+    if old == new {
+        return None;
+    }
+    Some(FixedKey::Root { old, new })
+}
+
+fn port_key<'a>(before: &ServerNumbers, after: &ServerNumbers) -> Option<FixedKey<'a>>
+    ensures key { IsPortKey before.now after.now result }
+{
+    let (old, new) = (before.port, after.port);
+    if old == new {
+        return None;
+    }
+    Some(FixedKey::Port { old, new })
+}
+
+fn capacity_key<'a>(old: u64, new: u64) -> Option<FixedKey<'a>>
+    ensures key { IsCapacityKey old new result }
+{
+    if old == new {
+        return None;
+    }
+    Some(FixedKey::Capacity { old, new })
+}
+
+fn passive_key<'a>(before: &ServerNumbers, after: &ServerNumbers) -> Option<FixedKey<'a>>
+    ensures key { IsPassiveKey before.now after.now result }
+{
+    let (old, new) = (before.passive_first, after.passive_first);
+    if old != new {
+        return Some(FixedKey::PassiveFirst { old, new });
+    }
+    let (old, new) = (before.passive_last, after.passive_last);
+    if old != new {
+        return Some(FixedKey::PassiveLast { old, new });
+    }
+    None
+}
+
+fn lanes_key<'a>(before: &ServerNumbers, after: &ServerNumbers) -> Option<FixedKey<'a>>
+    ensures key { IsLanesKey before.now after.now result }
+{
+    let (old, new) = (before.lanes, after.lanes);
+    if old == new {
+        return None;
+    }
+    Some(FixedKey::Lanes { old, new })
+}
+
+/// The first key that cannot change while a server runs and has another value: of the address, the port, the root, the
+/// capacity, the passive ports and the number of lanes, in this order. `None` if all of them are the same.
+pub fn fixed_key<'a>(old: &FixedValues<'a>, new: &FixedValues<'a>) -> Option<FixedKey<'a>>
+    ensures key { IsFixedKey old.now new.now result }
+{
+    if let Some(key) = address_key(old.numbers.address, new.numbers.address) {
+        return Some(key);
+    }
+    if let Some(key) = port_key(&old.numbers, &new.numbers) {
+        return Some(key);
+    }
+    if let Some(key) = root_key(old.root, new.root) {
+        return Some(key);
+    }
+    if let Some(key) = capacity_key(old.capacity, new.capacity) {
+        return Some(key);
+    }
+    if let Some(key) = passive_key(&old.numbers, &new.numbers) {
+        return Some(key);
+    }
+    lanes_key(&old.numbers, &new.numbers)
+}
+
+/// The reason for which a server that has room for `room` connections, and has `connected` of them, cannot take another
+/// maximum; none if it can.
+pub fn count_fault(room: u16, connected: u16, stated: u16) -> Option<CountFault>
+    ensures fault { IsCountFault room connected stated result }
+{
+    if stated > room {
+        return Some(CountFault::NoRoom { room, stated });
+    }
+    if stated < connected {
+        return Some(CountFault::TooMany { connected, stated });
+    }
+    None
+}

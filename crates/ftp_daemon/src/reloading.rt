@@ -1,0 +1,149 @@
+//! New users, rates and limits of a running server.
+
+ghost use Rattle.std.specs.Prelude.{◌≡◌, true, Ok, OnErr, OnOk};
+ghost use Rattle.passive_ports.specs.Connections.{with_limits};
+ghost use Rattle.rate_floors.specs.Carried.{carried};
+ghost use Rattle.round_pace.specs.Changed.{IsChangedTo};
+
+use crate::opening::new_cadence;
+use lane_rounds::Turns;
+use lent_parts::PartsName;
+use line_rates::Limits;
+use passive_ports::{LimitFault, Registry};
+use rate_floors::{CarryFault, Floors};
+use server_house::{House, ServerHooks, Terms};
+use std::alloc::{AllocError, Global};
+use std::sync::{Arc, Mutex, Wait};
+use thiserror::Error;
+use virtual_tree::Store;
+
+/// The parts of a configuration that a running server takes. Users and groups have the numbers that they have in the
+/// server.
+#[derive(Drop)]
+pub struct Reload {
+    /// The users, and the settings of sessions.
+    pub terms: Arc<Terms>,
+    pub limits: Limits,
+    /// Maximum number of connections; at most that of the start.
+    pub max_cons: u16,
+    /// Maximum number of connections from an address; 0 for no limit.
+    pub max_cons_per_address: u16,
+}
+
+/// A reload that the owner of a server asks for.
+#[derive(Drop)]
+pub enum ReloadSign {
+    /// None is asked for.
+    Nothing,
+    /// The configuration cannot be taken, for this reason; none if memory ran out.
+    Refused(Option<String>),
+    /// The configuration is to be taken.
+    Asked(Reload),
+}
+
+/// The reason for which a server does not take them, and goes on as before.
+#[derive(Clone, Copy, Debug, PartialEq, Eq, Error)]
+pub enum ReloadFault {
+    /// More clients are connected than there may be.
+    #[error("{0}, which is more than `max_cons` or `max_cons_per_address` permits now; reload again when fewer are")]
+    Connections(LimitFault),
+    /// The guarantees of the sessions inside do not fit.
+    #[error("the guarantees of the sessions inside do not fit the new rates: {0}")]
+    Guarantees(CarryFault),
+    /// Memory ran out.
+    #[error("out of memory")]
+    Memory,
+}
+
+// The greatest numbers of connections, in all and from one address.
+#[derive(Clone, Copy)]
+struct Counts {
+    max: usize,
+    max_of_address: usize,
+}
+
+// Puts limits in force, in all parts or in none.
+fn put_in_force<B: PartsName>(
+    alloc: Global,
+    registry: &mut Registry,
+    floors: &mut Floors,
+    turns: &mut Turns<B, ()>,
+    counts: Counts,
+    limits: Limits,
+) -> Result<(), ReloadFault>
+    requires allowed { B.rates limits ≡ true }
+    ensures registry { OnOk result
+        (registry.new ≡ with_limits registry.old counts.max counts.max_of_address) }
+    ensures floors { OnOk result (carried floors.old limits ≡ Ok floors.new) }
+    ensures pace { OnOk result (IsChangedTo limits turns.old.rounds.rounds.pace
+        turns.new.rounds.rounds.pace) }
+    ensures same_registry { OnErr result (registry.new ≡ registry.old) }
+    ensures same_floors { OnErr result (floors.new ≡ floors.old) }
+    ensures same_pace { OnErr result
+        (turns.new.rounds.rounds.pace ≡ turns.old.rounds.rounds.pace) }
+{
+    let Counts {
+        max,
+        max_of_address,
+    } = counts;
+    if let Some(fault) = registry.exceeded(max, max_of_address) {
+        return Err(ReloadFault::Connections(fault));
+    }
+    let carried = match floors.carried(alloc, &limits) {
+        Ok(carried) => carried,
+        Err(CarryFault::Memory) => return Err(ReloadFault::Memory),
+        Err(fault) => return Err(ReloadFault::Guarantees(fault)),
+    };
+    let Ok(cadence) = new_cadence(alloc, &limits) else {
+        return Err(ReloadFault::Memory);
+    };
+    match turns.change(alloc, limits, cadence) {
+        Ok(()) => {
+            registry.set_limits(max, max_of_address);
+            *floors = carried;
+            Ok(())
+        }
+        Err(AllocError) => Err(ReloadFault::Memory),
+    }
+}
+
+/// Takes new parts: from the next round on rates and guarantees are the new ones, and whoever logs in from now on meets
+/// the new users. After an error everything is as it was.
+pub(crate) fn take<R, S, H, B>(
+    rt: &R,
+    alloc: Global,
+    house: &House<S, H, B>,
+    turns: &Mutex<Turns<B, ()>>,
+    reload: Reload,
+) -> Result<(), ReloadFault>
+where
+    R: Wait,
+    S: Store<Global>,
+    H: ServerHooks,
+    B: PartsName,
+    requires allowed { B.rates reload.limits ≡ true }
+{
+    let Reload {
+        terms,
+        limits,
+        max_cons,
+        max_cons_per_address,
+    } = reload;
+    let counts = Counts {
+        max: usize::from(max_cons),
+        max_of_address: usize::from(max_cons_per_address),
+    };
+    let mut registry = house.registry.lock(rt);
+    let mut floors = house.floors.lock(rt);
+    let mut turns = turns.lock(rt);
+    put_in_force(
+        alloc,
+        &mut *registry,
+        &mut *floors,
+        &mut *turns,
+        counts,
+        limits,
+    )?;
+    house.terms.exchange(rt, terms);
+    Ok(())
+}

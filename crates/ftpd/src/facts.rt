@@ -1,0 +1,64 @@
+//! The facts of a configuration that a status shows.
+
+use event_word::micros;
+use line_rates::{Limits, Name, Way};
+use server_config::Config;
+use status_keeper::StatusFacts;
+use std::alloc::Global;
+use std::time::Clock;
+
+/// The start of a server.
+#[derive(Clone, Copy)]
+pub(crate) struct Start {
+    /// Seconds since 1970.
+    pub seconds: u64,
+    /// Microseconds of the clock of rounds.
+    pub micros: u64,
+}
+
+/// This moment, as the start of a server.
+pub(crate) fn start_of(machine: &HostRuntime) -> Start {
+    let seconds = match machine.since_1970() {
+        Ok(time) => time.as_secs(),
+        Err(_) => 0,
+    };
+    Start {
+        seconds,
+        micros: micros(machine),
+    }
+}
+
+/// A copy of limits. `None` if memory runs out.
+fn copied_limits(alloc: Global, limits: &Limits) -> Option<Limits> {
+    let mut groups = Vec::with_capacity(alloc, limits.groups().len()).ok()?;
+    for group in limits.groups() {
+        groups.push(*group).ok()?;
+    }
+    let mut users = Vec::with_capacity(alloc, limits.users().len()).ok()?;
+    for user in limits.users() {
+        users.push(*user).ok()?;
+    }
+    let both = limits.rate(Name::Server);
+    let down = limits.rate(Name::Direction(Way::Down));
+    let up = limits.rate(Name::Direction(Way::Up));
+    Limits::of(both, down, up, groups, users).ok()
+}
+
+/// The facts for a status of a configuration, and of a start. `None` if memory runs out.
+pub(crate) fn facts_of(alloc: Global, start: Start, config: &Config) -> Option<StatusFacts> {
+    let mut groups = Vec::with_capacity(alloc, config.groups.len()).ok()?;
+    for name in &config.groups {
+        groups
+            .push(String::from_str(alloc, name.as_str()).ok()?)
+            .ok()?;
+    }
+    Some(StatusFacts {
+        limits: copied_limits(alloc, &config.limits)?,
+        groups,
+        users: config.limits.users().len() as u64,
+        lanes: u64::from(config.numbers.lanes),
+        max_sessions: u64::from(config.numbers.max_cons),
+        started: start.seconds,
+        zero: start.micros,
+    })
+}

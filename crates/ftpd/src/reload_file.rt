@@ -1,0 +1,239 @@
+//! The reload file of a server: once it appears, the configuration is read again.
+
+use crate::facts::{Start, facts_of};
+use crate::sign_file::SignFile;
+use authorizer::Authorizer;
+use config_change::{FixedValues, count_fault, fixed_key, renumbered};
+use ftp_daemon::{Config, Reload, ReloadFault, ReloadSign, Terms};
+use line_rates::{Name, Way};
+use rate_floors::CarryFault;
+use server_config::{ServedStore, ServerNumbers};
+use status_keeper::StatusFacts;
+use std::alloc::Global;
+use std::fmt::Display;
+use std::sync::{Arc, Mutex, Wait};
+use std::{fs, io};
+use text_io::{FallibleIo, read_whole};
+
+/// The users and groups that a server knows by numbers.
+#[derive(Drop)]
+pub(crate) struct Known {
+    pub terms: Arc<Terms>,
+    /// The names of groups, by their numbers.
+    pub groups: Vec<String>,
+}
+
+/// A configuration that a server is about to take.
+#[derive(Drop)]
+pub(crate) struct NextConfig {
+    pub known: Known,
+    /// The facts that a status shows; none without memory for them.
+    pub facts: Option<StatusFacts>,
+}
+
+/// A configuration that is read again once a file appears.
+#[derive(Drop)]
+pub(crate) struct ReloadFile {
+    pub machine: HostRuntime,
+    pub sign: SignFile,
+    /// The path of the configuration.
+    pub config: String,
+    /// The numbers of the start.
+    pub numbers: ServerNumbers,
+    /// `memory`, or the path of the folder that is served.
+    pub root: String,
+    pub known: Mutex<Known>,
+    /// The configuration that the server is about to take.
+    pub next: Mutex<Option<NextConfig>>,
+    /// The file could not be removed.
+    pub is_stuck: Mutex<bool>,
+    /// The start of the server.
+    pub start: Start,
+}
+
+/// A reason in words; none if memory runs out.
+fn words<T: Display>(alloc: Global, reason: &T) -> Option<String> {
+    format!(in alloc; "{reason}").ok()
+}
+
+/// The name of the user with a number.
+fn user_named(alloc: Global, users: &Authorizer, number: u32) -> Option<String> {
+    for name in users.names(alloc).ok()? {
+        if users.number(name.as_str()) == Some(number) {
+            return Some(name);
+        }
+    }
+    None
+}
+
+/// The key of a rate of a way.
+fn key_of(way: Way) -> &'static str {
+    match way {
+        Way::Down => "down_rate",
+        Way::Up => "up_rate",
+    }
+}
+
+/// A limit in words: its key, and whose it is.
+fn limit_words(alloc: Global, known: &Known, name: Name) -> Option<String> {
+    let told = match name {
+        Name::Server => String::from_str(alloc, "`rate` of the server"),
+        Name::Direction(way) => format!(in alloc; "`{}` of the server", key_of(way)),
+        Name::Group(way, group) => {
+            let name = known.groups.get(group as usize)?;
+            format!(in alloc; "`{}` of the group {:?}", key_of(way), name.as_str())
+        }
+        Name::User(way, user) => {
+            let name = user_named(alloc, &known.terms.users, user)?;
+            format!(in alloc; "`{}` of the user {:?}", key_of(way), name.as_str())
+        }
+        Name::Session(way, user, _) => {
+            let name = user_named(alloc, &known.terms.users, user)?;
+            format!(in alloc; "`session_{}` of the user {:?}", key_of(way), name.as_str())
+        }
+    };
+    told.ok()
+}
+
+/// The root of a store, as a configuration states it.
+pub(crate) fn root_of(store: &ServedStore) -> &str {
+    match store {
+        ServedStore::Memory(_) => "memory",
+        ServedStore::Folder(folder) => folder.as_str(),
+    }
+}
+
+/// Reads a configuration. `Err` is the reason for which it cannot be had.
+fn read_config(machine: &HostRuntime, path: &str) -> Result<Config, Option<String>> {
+    let alloc = machine.alloc();
+    let file = match fs::open(machine, path) {
+        Ok(file) => file,
+        Err(reason) => return Err(format!(in alloc; "{path}: {reason}").ok()),
+    };
+    let octets = match read_whole(alloc, &mut FallibleIo(file)) {
+        Ok(octets) => octets,
+        Err(fault) => return Err(format!(in alloc; "{path}: {fault}").ok()),
+    };
+    match Config::read(alloc, octets.as_slice()) {
+        Ok(config) => Ok(config),
+        Err(fault) => Err(words(alloc, &fault)),
+    }
+}
+
+impl ReloadFile {
+    // Returns whether the file has appeared, and removes it. One that cannot be removed counts once.
+    fn is_asked<R: Wait>(&self, rt: &R) -> bool {
+        let mut is_stuck = self.is_stuck.lock(rt);
+        if !self.sign.is_there() {
+            *is_stuck = false;
+            return false;
+        }
+        let was_stuck = *is_stuck;
+        *is_stuck = fs::remove_file(&self.machine, self.sign.path.as_str()).is_err();
+        !was_stuck
+    }
+
+    // The reason for which a configuration cannot be taken while the server runs, if there is one.
+    fn hindrance(&self, config: &Config) -> Option<Option<String>> {
+        let alloc = self.machine.alloc();
+        let old = FixedValues {
+            numbers: self.numbers,
+            root: self.root.as_str(),
+            capacity: 0,
+        };
+        let new = FixedValues {
+            numbers: config.numbers,
+            root: root_of(&config.store),
+            capacity: 0,
+        };
+        if let Some(key) = fixed_key(&old, &new) {
+            return Some(words(alloc, &key));
+        }
+        match count_fault(self.numbers.max_cons, 0, config.numbers.max_cons) {
+            Some(fault) => Some(words(alloc, &fault)),
+            None => None,
+        }
+    }
+
+    // Reads the configuration, and keeps what it names until the server has taken it.
+    fn read<R: Wait>(&self, rt: &R) -> Result<Reload, Option<String>> {
+        let alloc = self.machine.alloc();
+        let config = read_config(&self.machine, self.config.as_str())?;
+        if let Some(reason) = self.hindrance(&config) {
+            return Err(reason);
+        }
+        let known = self.known.lock(rt);
+        let config = match renumbered(alloc, config, &known.terms.users, &known.groups) {
+            Ok(config) => config,
+            Err(fault) => return Err(words(alloc, &fault)),
+        };
+        let facts = facts_of(alloc, self.start, &config);
+        let Config {
+            settings,
+            numbers,
+            users,
+            store: _,
+            limits,
+            groups,
+        } = config;
+        let Ok(terms) = Arc::new(alloc, Terms { users, settings }) else {
+            return Err(None);
+        };
+        let Ok(handle) = Arc::try_clone(&terms) else {
+            return Err(None);
+        };
+        let known = Known {
+            terms: handle,
+            groups,
+        };
+        *self.next.lock(rt) = Some(NextConfig { known, facts });
+        Ok(Reload {
+            terms,
+            limits,
+            max_cons: numbers.max_cons,
+            max_cons_per_address: numbers.max_cons_per_address,
+        })
+    }
+
+    /// The configuration that the server is to take now, if it is to be read again.
+    pub fn asked<R: Wait>(&self, rt: &R) -> ReloadSign {
+        if !self.is_asked(rt) {
+            return ReloadSign::Nothing;
+        }
+        match self.read(rt) {
+            Ok(reload) => ReloadSign::Asked(reload),
+            Err(reason) => ReloadSign::Refused(reason),
+        }
+    }
+
+    /// The server has taken the configuration. Returns the facts that its status shows from now on.
+    pub fn taken<R: Wait>(&self, rt: &R) -> Option<StatusFacts> {
+        let NextConfig { known, facts } = self.next.lock(rt).take()?;
+        *self.known.lock(rt) = known;
+        facts
+    }
+
+    /// The reason in words for which the server has refused the configuration.
+    pub fn refused<R: Wait>(&self, rt: &R, fault: ReloadFault) -> Option<String> {
+        let alloc = self.machine.alloc();
+        let next = self.next.lock(rt).take();
+        match (fault, next) {
+            (
+                ReloadFault::Guarantees(
+                    CarryFault::Broken {
+                        name,
+                        promised,
+                        rate,
+                    },
+                ),
+                Some(next),
+            ) => {
+                let limit = limit_words(alloc, &next.known, name)?;
+                format!(in alloc;
+                    "the sessions inside are promised {promised}, and {limit} would be {rate}"
+                ).ok()
+            }
+            _ => words(alloc, &fault),
+        }
+    }
+}

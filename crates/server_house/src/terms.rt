@@ -1,0 +1,73 @@
+//! The terms by which sessions go: a reload of the configuration exchanges them.
+
+use authorizer::Authorizer;
+use session_table::Settings;
+use std::alloc::AllocError;
+use std::sync::atomic::{AtomicU64, Ordering};
+use std::sync::{Arc, Mutex, Wait};
+
+/// The users of a server, and the settings of its sessions.
+#[derive(Drop)]
+pub struct Terms {
+    pub users: Authorizer,
+    pub settings: Settings,
+}
+
+/// The terms that a session holds.
+#[derive(Drop)]
+pub struct HeldTerms {
+    terms: Arc<Terms>,
+    exchanges: u64,
+}
+
+impl HeldTerms {
+    /// The terms.
+    pub fn terms(&self) -> &Terms {
+        &self.terms
+    }
+
+    /// Number of exchanges before they were in force.
+    pub fn exchanges(&self) -> u64 {
+        self.exchanges
+    }
+}
+
+/// The terms in force. They may be exchanged while sessions hold earlier ones.
+#[derive(Drop)]
+pub struct SharedTerms {
+    newest: Mutex<Arc<Terms>>,
+    // number of exchanges; it increases while the lock is held
+    exchanges: AtomicU64,
+}
+
+impl SharedTerms {
+    /// The first terms.
+    pub fn new(terms: Arc<Terms>) -> SharedTerms {
+        SharedTerms {
+            newest: Mutex::new(terms),
+            exchanges: AtomicU64::new(0),
+        }
+    }
+
+    /// Number of exchanges so far.
+    pub fn exchanges(&self) -> u64 {
+        self.exchanges.load(Ordering::SeqCst)
+    }
+
+    /// The terms in force, for a session to hold. Fails if there are too many holders.
+    pub fn hold<R: Wait>(&self, rt: &R) -> Result<HeldTerms, AllocError> {
+        let newest = self.newest.lock(rt);
+        let terms = Arc::try_clone(&*newest)?;
+        Ok(HeldTerms {
+            terms,
+            exchanges: self.exchanges(),
+        })
+    }
+
+    /// Puts other terms in force.
+    pub fn exchange<R: Wait>(&self, rt: &R, terms: Arc<Terms>) {
+        let mut newest = self.newest.lock(rt);
+        *newest = terms;
+        self.exchanges.fetch_add(1, Ordering::SeqCst);
+    }
+}

@@ -1,0 +1,135 @@
+//! The user of a session, and the terms that it holds.
+
+ghost use Rattle.std.specs.Prelude.{◌≡◌, false, not, option_map, true, unwrap_or};
+ghost use Rattle.std.specs.FinMap as map;
+ghost use Rattle.socket_host.specs.Standing.{is_user};
+
+use authorizer::Authorizer;
+use server_house::{HeldTerms, Terms};
+use std::alloc::Global;
+
+/// The user of a session, and the terms by which it goes. Whoever is logged in keeps the terms of the login; a session
+/// without a user has those in force.
+#[derive(Drop)]
+pub(crate) struct Standing {
+    held: HeldTerms,
+    // number of exchanges of terms when they were last compared
+    seen: u64,
+    is_inside: bool,
+    is_removed: bool,
+    // the name of the user who was logged in last, and the number by which rounds identify them
+    name: String,
+    user: u32,
+}
+
+// The number of a user; 0 for no user.
+fn number_of(users: &Authorizer, name: &str) -> u32
+    ensures number { result
+        ≡ unwrap_or (option_map (λ user. user.number) (map.get users.now.users name.now)) 0 }
+{
+    match users.number(name) {
+        Some(number) => number,
+        None => 0,
+    }
+}
+
+// Returns whether a user of this name has this number.
+fn is_user(users: &Authorizer, name: &str, number: u32) -> bool
+    ensures user { result ≡ is_user users.now.users name.now number }
+{
+    users.number(name) == Some(number)
+}
+
+// A copy of a name; empty if memory runs out.
+fn copy_name(alloc: Global, name: &str) -> String {
+    match String::from_str(alloc, name) {
+        Ok(name) => name,
+        Err(_) => String::new(alloc),
+    }
+}
+
+impl Standing {
+    /// Nobody yet, by these terms.
+    pub fn new(alloc: Global, held: HeldTerms) -> Standing
+        ensures held { result.held ≡ held }
+        ensures outside { result.is_inside ≡ false }
+        ensures removed { result.is_removed ≡ false }
+    {
+        let seen = held.exchanges();
+        Standing {
+            held,
+            seen,
+            is_inside: false,
+            is_removed: false,
+            name: String::new(alloc),
+            user: 0,
+        }
+    }
+
+    /// The terms.
+    pub fn terms(&self) -> &Terms {
+        self.held.terms()
+    }
+
+    /// The name of the user who was logged in last.
+    pub fn name(&self) -> &str {
+        self.name.as_str()
+    }
+
+    /// Their number.
+    pub fn user(&self) -> u32
+        ensures user { result ≡ self.now.user }
+    {
+        self.user
+    }
+
+    /// Returns whether the user who is logged in is none by the terms in force.
+    pub fn is_removed(&self) -> bool
+        ensures removed { result ≡ self.now.is_removed }
+    {
+        self.is_removed
+    }
+
+    /// Notes a login.
+    pub fn log_in(&mut self, alloc: Global, name: &str)
+        ensures held { self.new.held ≡ self.old.held }
+        ensures inside { self.new.is_inside ≡ true }
+    {
+        self.user = number_of(&self.held.terms().users, name);
+        self.name = copy_name(alloc, name);
+        self.is_inside = true;
+        self.is_removed = false;
+    }
+
+    /// Notes that the user has left.
+    pub fn log_out(&mut self)
+        ensures held { self.new.held ≡ self.old.held }
+        ensures inside { self.new.is_inside ≡ false }
+        ensures removed { self.new.is_removed ≡ false }
+    {
+        self.is_inside = false;
+        self.is_removed = false;
+    }
+
+    /// Returns whether the terms in force, after this number of exchanges, are still to be compared.
+    pub fn is_behind(&self, exchanges: u64) -> bool {
+        self.seen != exchanges || !self.is_inside && self.held.exchanges() != exchanges
+    }
+
+    /// Compares the terms in force: a session without a user holds them from now on; of a user who is logged in it is
+    /// noted whether they are one.
+    pub fn compare(&mut self, newest: HeldTerms)
+        ensures kept { self.old.is_inside ≡ true → self.new.held ≡ self.old.held }
+        ensures taken { self.old.is_inside ≡ false → self.new.held ≡ newest }
+        ensures inside { self.new.is_inside ≡ self.old.is_inside }
+        ensures stays { self.old.is_inside ≡ false → self.new.is_removed ≡ self.old.is_removed }
+    {
+        self.seen = newest.exchanges();
+        if self.is_inside {
+            let users = &newest.terms().users;
+            self.is_removed = !is_user(users, self.name.as_str(), self.user);
+        } else {
+            self.held = newest;
+        }
+    }
+}

@@ -1,0 +1,170 @@
+"""A configuration that is read again while the server runs: nobody is cut, and whoever comes afterwards meets the new one."""
+import select
+import time
+
+from serving_drain import drained
+from serving_kit import SECONDS, Client, Server, same, until, want
+
+RATE = 2_000_000
+MUCH = 400_000_000
+USERS = {"ann": "", "bob": ""}
+
+
+def text_of(server, rate=RATE, users=None, more="", head=""):
+    """The text of a configuration for a server: its own address, ports and folder, with a rate and users."""
+    table = f'version = 1\n[server]\nroot = "{server.folder}"\nport = {server.port}\nsessions = 0\nlanes = 16\nrate = {rate}\n'
+    ports = f"passive_first = {server.port + 1}\npassive_last = {server.port + server.passive}\n"
+    rows = "".join(
+        f'[[user]]\nname = "{name}"\npassword = "secret"\nhome = "/"\nperms = "elradfmw"\n{lines}\n' for name, lines in (USERS if users is None else users).items()
+    )
+    return head + table + ports + more + rows
+
+
+def served(rate=RATE, users=None, more="", **words):
+    """A server of such a configuration, with a big file, that is to be reloaded."""
+    server = Server(sessions=0, root="folder", files={"big": MUCH, "f": b"a\nb"}, reload=True, passive=16, **words)
+    server.made_text()
+    server.text = text_of(server, rate, users, more)
+    return server
+
+
+def begun(server, count, name="ann"):
+    """So many downloads that run, as pairs of connections."""
+    found = []
+    for _ in range(count):
+        client = Client(server, name)
+        data = client.passive()
+        client.says("RETR big", "150 Opening data connection")
+        found.append((client, data))
+    return found
+
+
+def moved_in(pairs, seconds):
+    """The octets that come on data connections in some seconds."""
+    had, end = 0, time.monotonic() + seconds
+    sockets = [data.socket for _, data in pairs]
+    while (rest := end - time.monotonic()) > 0:
+        for it in select.select(sockets, [], [], rest)[0]:
+            piece = it.recv(65_536)
+            want(piece, "a transfer that ended")
+            had += len(piece)
+    return had
+
+
+def closed(pairs):
+    for client, data in pairs:
+        data.close()
+        client.close()
+
+
+def a_rate_is_halved_and_a_user_added():
+    """Twelve downloads run on under half the rate, and the new user logs in."""
+    with served(stop=True) as server:
+        pairs = begun(server, 12)
+        moved_in(pairs, 1.5)
+        server.reloaded(text_of(server, RATE // 2, {**USERS, "carol": ""}))
+        moved_in(pairs, 1)
+        had = moved_in(pairs, 3)
+        want(abs(had - 3 * RATE // 2) < 0.03 * 3 * RATE / 2 + 65_536, f"{had} octets in three seconds under {RATE // 2}")
+        carol = Client(server, "carol")
+        carol.quit()
+        closed(pairs)
+        server.stop()
+        server.ended()
+
+
+def what_is_refused_changes_nothing():
+    """A faulty file, a key that cannot change, fewer connections than there are, and a guarantee that would break: each is noted with its reason."""
+    with served(users={"ann": "session_down_floor = 500000", "bob": ""}, stop=True) as server:
+        ann, bob = Client(server), Client(server, "bob")
+        good = server.text
+        for text, reason in (
+            ("version = 1\n[server]\nrot = 1\n", "rot: no such key"),
+            (good.replace("lanes = 16", "lanes = 15"), "`lanes` cannot change while the server runs"),
+            (good.replace("sessions = 0", "sessions = 0\nmax_cons = 1"), "2 clients are connected"),
+            (good.replace(f"rate = {RATE}", "rate = 400000"), "the sessions inside are promised 500000, and `rate` of the server would be 400000"),
+        ):
+            note = server.reloaded(text, taken=False)
+            want(reason in note, note)
+        same(ann.retrieve("f"), b"a\nb", "the file")
+        server.reloaded(good)
+        for client in (ann, bob):
+            client.quit()
+        server.stop()
+        server.ended()
+
+
+def a_user_is_taken_out():
+    """Their session ends once its transfer has, and nobody logs in by that name; a renamed user is another."""
+    with served(stop=True) as server:
+        idle, reading = Client(server, "bob"), Client(server, "bob")
+        data = reading.passive()
+        reading.says("RETR f", "150 Opening data connection")
+        server.reloaded(text_of(server, users={"ann": "", "robert": ""}))
+        same(data.whole(), b"a\nb", "the file")
+        reading.says(None, "226 Transfer complete", "421 User is not served any more")
+        idle.says(None, "421 User is not served any more")
+        for client in (reading, idle):
+            client.at_end()
+        stranger = Client(server, name=None)
+        stranger.says(None, "220 Ready")
+        stranger.says("USER bob", "331 Password required")
+        stranger.says("PASS secret", "530 Login incorrect")
+        stranger.close()
+        Client(server, "robert").quit()
+        server.stop()
+        server.ended()
+
+
+def sessions_keep_the_terms_of_their_login():
+    """Letters and messages are those of the login until the next one."""
+    with served(stop=True) as server:
+        client, waiting = Client(server), Client(server, name=None)
+        waiting.says(None, "220 Ready")
+        waiting.says("USER ann", "331 Password required")
+        text = text_of(server).replace("elradfmw", "el").replace('password = "secret"', 'password = "other"')
+        server.reloaded(text)
+        client.store("up", b"x")
+        waiting.says("PASS other", "230 Welcome")
+        waiting.says("DELE up", "550 ...")
+        client.says("USER ann", "331 Password required")
+        client.says("PASS secret", "530 Login incorrect")
+        for it in (client, waiting):
+            it.close()
+        server.stop()
+        server.ended()
+
+
+def ten_reloads_under_load():
+    """Each is taken once the one before it was; no transfer ends, and the rate of the last is kept."""
+    with served(stop=True) as server:
+        pairs = begun(server, 6)
+        for number in range(10):
+            server.reloaded(text_of(server, RATE // (1 + number % 2), {**USERS, f"u{number}": ""}))
+            moved_in(pairs, 0.2)
+        had = moved_in(pairs, 2)
+        want(had < 2 * RATE // 2 * 1.1 + 200_000, f"{had} octets in two seconds under {RATE // 2}")
+        closed(pairs)
+        server.stop()
+        server.ended()
+
+
+def a_reload_and_then_a_drain():
+    """A server that was reloaded drains as any other."""
+    with served(drain=True) as server:
+        client = Client(server)
+        server.reloaded(text_of(server, RATE // 2))
+        drained(server)
+        client.says(None, "421 Server is ending")
+        client.at_end()
+        server.ended()
+
+
+ROWS = [
+    a_rate_is_halved_and_a_user_added,
+    what_is_refused_changes_nothing,
+    a_user_is_taken_out,
+    sessions_keep_the_terms_of_their_login,
+    ten_reloads_under_load,
+    a_reload_and_then_a_drain,
+]

@@ -1,3 +1,4 @@
 pub mod Fixed
 pub mod Named
 pub mod Renumbered
+pub mod Words

@@ -3,8 +3,8 @@
 ghost use Rattle.config_change.specs.Fixed.{IsAddressKey, IsPortKey, IsRootKey, IsCapacityKey, IsPassiveKey, IsLanesKey, IsFixedKey, IsCountFault};
 
 use server_config::ServerNumbers;
+use std::fmt;
 use std::net::Ipv4Addr;
-use thiserror::Error;
 
 /// Values of a configuration that stay the same while a server runs.
 #[derive(Clone, Copy, Debug)]
@@ -18,33 +18,84 @@ pub struct FixedValues<'a> {
 }
 
 /// A key that cannot change while a server runs, with its value at the start and the one that is stated now.
-#[derive(Clone, Copy, Debug, Error)]
+#[derive(Clone, Copy, Debug)]
 pub enum FixedKey<'a> {
-    #[error("`address` cannot change while the server runs: it is {old}; restart the server to listen on {new}")]
     Address { old: Ipv4Addr, new: Ipv4Addr },
-    #[error("`port` cannot change while the server runs: it is {old}; restart the server to serve on {new}")]
     Port { old: u16, new: u16 },
-    #[error("`root` cannot change while the server runs: it is {old}; restart the server to serve {new}")]
     Root { old: &'a str, new: &'a str },
-    #[error("`capacity` cannot change while the server runs: it is {old}; restart the server to keep {new} octets")]
     Capacity { old: u64, new: u64 },
-    #[error("`passive_first` cannot change while the server runs: it is {old}; restart the server for ports from {new}")]
     PassiveFirst { old: u16, new: u16 },
-    #[error("`passive_last` cannot change while the server runs: it is {old}; restart the server for ports up to {new}")]
     PassiveLast { old: u16, new: u16 },
-    #[error("`lanes` cannot change while the server runs: it is {old}; restart the server for {new} transfers at once")]
     Lanes { old: u16, new: u16 },
 }
 
+impl fmt::Display for FixedKey<'_> {
+    ghost use Rattle.std.specs.Prelude.{Some};
+    ghost use Rattle.config_change.specs.Words.{key_text};
+
+    ghost output = { λ key. Some (key_text key) };
+
+    fn fmt<W: fmt::Write>(&self, f: &mut fmt::Formatter<W>) -> fmt::Result {
+        match self {
+            FixedKey::Address { old, new } => write!(
+                f,
+                "`address` cannot change while the server runs: it is {old}; restart the server to listen on {new}"
+            ),
+            FixedKey::Port { old, new } => write!(
+                f,
+                "`port` cannot change while the server runs: it is {old}; restart the server to serve on {new}"
+            ),
+            FixedKey::Root { old, new } => write!(
+                f,
+                "`root` cannot change while the server runs: it is {old}; restart the server to serve {new}"
+            ),
+            FixedKey::Capacity { old, new } => write!(
+                f,
+                "`capacity` cannot change while the server runs: it is {old}; restart the server to keep {new} octets"
+            ),
+            FixedKey::PassiveFirst { old, new } => write!(
+                f,
+                "`passive_first` cannot change while the server runs: it is {old}; restart the server for ports from {new}"
+            ),
+            FixedKey::PassiveLast { old, new } => write!(
+                f,
+                "`passive_last` cannot change while the server runs: it is {old}; restart the server for ports up to {new}"
+            ),
+            FixedKey::Lanes { old, new } => write!(
+                f,
+                "`lanes` cannot change while the server runs: it is {old}; restart the server for {new} transfers at once"
+            ),
+        }
+    }
+}
+
 /// The reason for which a maximum number of connections cannot be taken while a server runs.
-#[derive(Clone, Copy, Debug, PartialEq, Eq, Error)]
+#[derive(Clone, Copy, Debug, PartialEq, Eq)]
 pub enum CountFault {
     /// The maximum is above that of the start, and the server has room for no more.
-    #[error("`max_cons` cannot be above {room} while the server runs: restart the server to take {stated} connections")]
     NoRoom { room: u16, stated: u16 },
     /// More connections than the maximum are there.
-    #[error("`max_cons` cannot be {stated} now: {connected} clients are connected; reload again when fewer are, or restart the server")]
     TooMany { connected: u16, stated: u16 },
+}
+
+impl fmt::Display for CountFault {
+    ghost use Rattle.std.specs.Prelude.{Some};
+    ghost use Rattle.config_change.specs.Words.{count_text};
+
+    ghost output = { λ fault. Some (count_text fault) };
+
+    fn fmt<W: fmt::Write>(&self, f: &mut fmt::Formatter<W>) -> fmt::Result {
+        match self {
+            CountFault::NoRoom { room, stated } => write!(
+                f,
+                "`max_cons` cannot be above {room} while the server runs: restart the server to take {stated} connections"
+            ),
+            CountFault::TooMany { connected, stated } => write!(
+                f,
+                "`max_cons` cannot be {stated} now: {connected} clients are connected; reload again when fewer are, or restart the server"
+            ),
+        }
+    }
 }
 
 fn address_key<'a>(old: [u8; 4], new: [u8; 4]) -> Option<FixedKey<'a>>

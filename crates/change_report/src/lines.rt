@@ -1,0 +1,223 @@
+//! The lines of the report on a change.
+
+ghost use Rattle.std.specs.Prelude.{◌≡◌, ◌++◌, IfOk, OnOk, string_bytes};
+ghost use Rattle.std.specs.List.{flat_map};
+ghost use Rattle.config_report.specs.Lines.{rate_column};
+ghost use Rattle.change_report.specs.Lines.{key_column, limit_line, lines_text, name_line, outcome_line, owner_column, rates_table, refused_line, setting_line, table_head, taken_line};
+
+use crate::changes::Changes;
+use crate::limits::{LimitChange, Owner};
+use crate::names::NameChange;
+use crate::reason::Reason;
+use crate::settings::SettingChange;
+use std::alloc::{AllocError, Global};
+use std::fmt;
+use std::net::Ipv4Addr;
+
+/// An address, printed as `none` if there is none.
+#[derive(Clone, Copy)]
+struct AddressText(Option<Ipv4Addr>);
+
+impl fmt::Display for AddressText {
+    ghost use Rattle.std.specs.Prelude.{Some};
+    ghost use Rattle.change_report.specs.Lines.{address_text};
+
+    ghost output = { λ a. Some (address_text a.0) };
+
+    fn fmt<W: fmt::Write>(&self, f: &mut fmt::Formatter<W>) -> fmt::Result {
+        match self.0 {
+            Some(address) => write!(f, "{address}"),
+            None => write!(f, "none"),
+        }
+    }
+}
+
+impl fmt::Display for SettingChange<'_> {
+    ghost use Rattle.std.specs.Prelude.{Some};
+    ghost use Rattle.change_report.specs.Lines.{change_text};
+
+    ghost output = { λ change. Some (change_text change) };
+
+    fn fmt<W: fmt::Write>(&self, f: &mut fmt::Formatter<W>) -> fmt::Result {
+        match self {
+            SettingChange::Text { key, old, new } => {
+                write!(f, "{}: {old} becomes {new}{}", key.text(), key.start())
+            }
+            SettingChange::Number { key, old, new } => {
+                write!(f, "{}: {old} becomes {new}{}", key.text(), key.start())
+            }
+            SettingChange::Flag { key, old, new } => {
+                write!(f, "{}: {old} becomes {new}{}", key.text(), key.start())
+            }
+            SettingChange::Address { key, old, new } => write!(
+                f,
+                "{}: {} becomes {}{}",
+                key.text(),
+                AddressText(*old),
+                AddressText(*new),
+                key.start()
+            ),
+        }
+    }
+}
+
+impl fmt::Display for NameChange<'_> {
+    ghost use Rattle.std.specs.Prelude.{Some};
+    ghost use Rattle.change_report.specs.Lines.{name_text};
+
+    ghost output = { λ change. Some (name_text change) };
+
+    fn fmt<W: fmt::Write>(&self, f: &mut fmt::Formatter<W>) -> fmt::Result {
+        match self {
+            NameChange::GroupAdded { name } => write!(f, "group {name} is added"),
+            NameChange::GroupTakenOut { name } => write!(f, "group {name} is taken out"),
+            NameChange::UserAdded { name } => write!(f, "user {name} is added"),
+            NameChange::UserTakenOut { name } => write!(
+                f,
+                "user {name} is taken out: no login, and 421 for each session once no transfer of it runs"
+            ),
+            NameChange::UserChanged { name, key } => {
+                write!(f, "user {name}: {} changes {}", key.text(), key.when())
+            }
+        }
+    }
+}
+
+/// Writes what becomes of a reload.
+fn write_outcome(text: &mut String, changes: &Changes<'_>) -> Result<(), AllocError>
+    ensures line { OnOk result
+        (string_bytes text.new ≡ string_bytes text.old ++ outcome_line changes.now) }
+{
+    match &changes.reason {
+        Some(reason) => write_refused(text, reason),
+        None => write_taken(text, changes.is_unchanged()),
+    }
+}
+
+fn write_refused(text: &mut String, reason: &Reason<'_>) -> Result<(), AllocError>
+    ensures line { OnOk result
+        (string_bytes text.new ≡ string_bytes text.old ++ refused_line reason.now) }
+{
+    writeln!(text, "a reload would be refused: {reason}")
+}
+
+fn write_taken(text: &mut String, is_unchanged: bool) -> Result<(), AllocError>
+    ensures line { OnOk result
+        (string_bytes text.new ≡ string_bytes text.old ++ taken_line is_unchanged) }
+{
+    if is_unchanged {
+        writeln!(text, "a reload would change nothing")
+    } else {
+        writeln!(
+            text,
+            "a reload would be taken, unless more clients are connected than max_cons, or their sessions were guaranteed more than a rate"
+        )
+    }
+}
+
+fn write_settings(text: &mut String, changes: &[SettingChange<'_>]) -> Result<(), AllocError>
+    ensures lines { OnOk result
+        (string_bytes text.new ≡ string_bytes text.old ++ flat_map setting_line changes.now) }
+{
+    for change in changes {
+        writeln!(text, "{change}")?;
+    }
+    Ok(())
+}
+
+fn write_names(text: &mut String, changes: &[NameChange<'_>]) -> Result<(), AllocError>
+    ensures lines { OnOk result
+        (string_bytes text.new ≡ string_bytes text.old ++ flat_map name_line changes.now) }
+{
+    for change in changes {
+        writeln!(text, "{change}")?;
+    }
+    Ok(())
+}
+
+/// Writes the table that states a rate, in its column.
+fn write_owner(text: &mut String, owner: Owner<'_>) -> Result<(), AllocError>
+    ensures column { OnOk result
+        (string_bytes text.new ≡ string_bytes text.old ++ owner_column owner) }
+{
+    match owner {
+        Owner::Server => write!(text, "{:<24}", "server"),
+        Owner::Group(name) => write!(text, "group {name:<18}"),
+        Owner::User(name) => write!(text, "user {name:<19}"),
+    }
+}
+
+/// Writes a rate in its column; a dash for none.
+fn write_rate(text: &mut String, rate: u64) -> Result<(), AllocError>
+    ensures column { OnOk result
+        (string_bytes text.new ≡ string_bytes text.old ++ rate_column rate) }
+{
+    if rate == 0 {
+        write!(text, "{:>14}", "-")
+    } else {
+        write!(text, "{rate:>14}")
+    }
+}
+
+fn write_key(text: &mut String, key: &str) -> Result<(), AllocError>
+    ensures column { OnOk result
+        (string_bytes text.new ≡ string_bytes text.old ++ key_column key.now) }
+{
+    write!(text, " {key:<19}")
+}
+
+fn write_limit(text: &mut String, change: &LimitChange<'_>) -> Result<(), AllocError>
+    ensures line { OnOk result
+        (string_bytes text.new ≡ string_bytes text.old ++ limit_line change.now) }
+{
+    write_owner(text, change.owner)?;
+    write_key(text, change.key.text())?;
+    write_rate(text, change.old)?;
+    write_rate(text, change.new)?;
+    text.push('\n')
+}
+
+fn write_limits(text: &mut String, changes: &[LimitChange<'_>]) -> Result<(), AllocError>
+    ensures lines { OnOk result
+        (string_bytes text.new ≡ string_bytes text.old ++ flat_map limit_line changes.now) }
+{
+    for change in changes {
+        write_limit(text, change)?;
+    }
+    Ok(())
+}
+
+fn write_head(text: &mut String) -> Result<(), AllocError>
+    ensures line { OnOk result (string_bytes text.new ≡ string_bytes text.old ++ table_head) }
+{
+    writeln!(
+        text,
+        "\n{:<24} {:<19}{:>14}{:>14}",
+        "octets a second", "key", "is", "becomes"
+    )
+}
+
+/// Writes the table of rates, unless it is empty.
+fn write_table(text: &mut String, changes: &[LimitChange<'_>]) -> Result<(), AllocError>
+    ensures table { OnOk result
+        (string_bytes text.new ≡ string_bytes text.old ++ rates_table changes.now) }
+{
+    if changes.is_empty() {
+        return Ok(());
+    }
+    write_head(text)?;
+    write_limits(text, changes)?;
+    Ok(())
+}
+
+/// Returns all lines: what becomes of a reload, the settings, the groups and users, and the rates.
+pub(crate) fn lines_of(alloc: Global, changes: &Changes<'_>) -> Result<String, AllocError>
+    ensures text { IfOk result (λ text. string_bytes text ≡ lines_text changes.now) }
+{
+    let mut text = String::new(alloc);
+    write_outcome(&mut text, changes)?;
+    write_settings(&mut text, changes.settings.as_slice())?;
+    write_names(&mut text, changes.names.as_slice())?;
+    write_table(&mut text, changes.limits.as_slice())?;
+    Ok(text)
+}

@@ -1,0 +1,69 @@
+//! The reason for which a server would refuse a configuration while it runs.
+
+ghost use Rattle.change_report.specs.Reasons.{AreFixed, IsReason, reason_text};
+
+use config_change::{CountFault, FixedKey, FixedValues, count_fault, fixed_key};
+use config_file::ServerTable;
+use server_config::ServerNumbers;
+use std::fmt;
+
+/// The reason for which a server would refuse a configuration, whoever is connected.
+#[derive(Clone, Copy, Debug)]
+pub(crate) enum Reason<'a> {
+    /// A key that cannot change while a server runs has another value.
+    Key(FixedKey<'a>),
+    /// The maximum number of connections is above that of the start.
+    Count(CountFault),
+}
+
+impl fmt::Display for Reason<'_> {
+    ghost use Rattle.std.specs.Prelude.{Some};
+    ghost use Rattle.change_report.specs.Reasons.{reason_text};
+
+    ghost output = { λ reason. Some (reason_text reason) };
+
+    fn fmt<W: fmt::Write>(&self, f: &mut fmt::Formatter<W>) -> fmt::Result {
+        match self {
+            Reason::Key(key) => write!(f, "{key}"),
+            Reason::Count(fault) => write!(f, "{fault}"),
+        }
+    }
+}
+
+/// The values of a table that stay the same while a server runs.
+fn fixed_values<'a>(server: &ServerTable<'a>) -> FixedValues<'a>
+    ensures values { AreFixed server.now result }
+{
+    FixedValues {
+        numbers: ServerNumbers {
+            address: server.address.octets(),
+            port: server.port,
+            max_cons: server.max_cons,
+            max_cons_per_address: server.max_cons_per_address,
+            passive_first: server.passive_first,
+            passive_last: server.passive_last,
+            lanes: server.lanes,
+            sessions: server.sessions,
+        },
+        root: server.root,
+        capacity: server.capacity,
+    }
+}
+
+/// The reason for which a server that has one table since its start would refuse another, whoever is connected; none if
+/// there is none.
+pub(crate) fn reason_of<'a>(
+    old: &ServerTable<'a>,
+    new: &ServerTable<'a>,
+) -> Option<Reason<'a>>
+    ensures reason { IsReason old.now new.now result }
+{
+    let (before, after) = (fixed_values(old), fixed_values(new));
+    if let Some(key) = fixed_key(&before, &after) {
+        return Some(Reason::Key(key));
+    }
+    match count_fault(old.max_cons, 0, new.max_cons) {
+        Some(fault) => Some(Reason::Count(fault)),
+        None => None,
+    }
+}

@@ -9,11 +9,12 @@ use Rattle.server_config.specs.Settings.{AreNumbers}
 use Rattle.change_report.specs.declared.reason.Reason.{Reason}
 use Rattle.change_report.specs.declared.reason.Reason.TheVariants.{Key, Count}
 
--- the values of a table that stay the same while a server runs
+-- the values of a table that stay the same while a server runs; the capacity of a store in memory
+-- is not compared
 pub record AreFixed (server : ServerTable) (values : FixedValues) : Type 0 where
   pub numbers : AreNumbers server values.numbers
   pub root : values.root.now ≡ server.root.now
-  pub capacity : values.capacity ≡ server.capacity
+  pub capacity : values.capacity ≡ 0
 
 -- a key that cannot change has another value; or none has, and the maximum number of connections
 -- is above that of the start; or neither

@@ -3,7 +3,7 @@
 //! are connected, and what their sessions are guaranteed, is known to the server alone.
 //!
 //! ```text
-//! let report = change_report(rt.alloc(), false, SMALL.as_bytes(), SMALL.as_bytes())?; // a file against itself
+//! let report = reload_report(rt.alloc(), false, SMALL.as_bytes(), SMALL.as_bytes())?; // a file against itself
 //! holds(rt, report.text.as_str() == "a reload would change nothing\n");
 //! holds(rt, !report.is_refused);
 //! ```
@@ -22,4 +22,4 @@ mod users;
 mod values;
 
 pub use fault::ChangeFault;
-pub use reporting::{ChangeReport, change_report};
+pub use reporting::{ChangeReport, reload_report};

@@ -4,8 +4,8 @@ ghost use Rattle.std.specs.Prelude.{◌≡◌, ◌++◌, OnOk, option_map};
 ghost use Rattle.std.specs.List.{flat_map};
 ghost use Rattle.change_report.specs.Changes.{group_limits, group_named, limit_changes, own_limits, rate_change, rate_text, server_limits, session_limits, stated_group_limits, stated_user_limits, user_limits, user_named};
 
-use config_file::{GroupTable, ServerTable, Tables, UserTable};
 use crate::users::{group_named, user_named};
+use config_file::{GroupTable, ServerTable, Tables, UserTable};
 use std::alloc::AllocError;
 
 /// The table that states a rate.

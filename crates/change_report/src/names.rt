@@ -4,9 +4,9 @@ ghost use Rattle.std.specs.Prelude.{◌≡◌, ◌++◌, OnOk, is_none, length};
 ghost use Rattle.std.specs.List.{flat_map};
 ghost use Rattle.change_report.specs.Changes.{added_group, added_user, gone_group, gone_user, key_change, key_text, name_changes, same_name, same_password, stated_terms, term_changes, access_terms, message_terms, when_text};
 
-use config_file::{GroupTable, Tables, UserTable};
 use crate::rules::same_rules;
 use crate::users::{group_named, rules_named, user_named};
+use config_file::{GroupTable, Tables, UserTable};
 use std::alloc::AllocError;
 
 /// A key of a user that is no rate.

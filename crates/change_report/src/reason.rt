@@ -30,7 +30,8 @@ impl fmt::Display for Reason<'_> {
     }
 }
 
-/// The values of a table that stay the same while a server runs.
+/// The values of a table that stay the same while a server runs. The capacity of a store in memory is not compared: such
+/// a store is that of the start.
 fn fixed_values<'a>(server: &ServerTable<'a>) -> FixedValues<'a>
     ensures values { AreFixed server.now result }
 {
@@ -46,16 +47,13 @@ fn fixed_values<'a>(server: &ServerTable<'a>) -> FixedValues<'a>
             sessions: server.sessions,
         },
         root: server.root,
-        capacity: server.capacity,
+        capacity: 0,
     }
 }
 
 /// The reason for which a server that has one table since its start would refuse another, whoever is connected; none if
 /// there is none.
-pub(crate) fn reason_of<'a>(
-    old: &ServerTable<'a>,
-    new: &ServerTable<'a>,
-) -> Option<Reason<'a>>
+pub(crate) fn reason_of<'a>(old: &ServerTable<'a>, new: &ServerTable<'a>) -> Option<Reason<'a>>
     ensures reason { IsReason old.now new.now result }
 {
     let (before, after) = (fixed_values(old), fixed_values(new));

@@ -85,7 +85,7 @@ fn report_of(
 /// Returns the report on what a server that has the configuration of `old` since its start would change if it read that
 /// of `new`, in lines or as JSON. `Err` is the first fault of the new text, or otherwise of the old one, if one of them is
 /// refused; or lack of memory.
-pub fn change_report(
+pub fn reload_report(
     alloc: Global,
     json: bool,
     new: &[u8],

@@ -1,7 +1,7 @@
 //! Keys of `[server]` that are neither rates nor fixed, and have another value.
 
 ghost use Rattle.std.specs.Prelude.{◌≡◌, ◌++◌, OnOk};
-ghost use Rattle.change_report.specs.Changes.{access_changes, address_change, count_changes, flag_change, number_change, same_address, setting_changes, setting_text, start_text, text_change};
+ghost use Rattle.change_report.specs.Changes.{access_changes, address_change, count_changes, flag_change, number_change, same_address, setting_changes, setting_text, start_changes, start_text, text_change};
 
 use config_file::ServerTable;
 use std::alloc::AllocError;
@@ -18,6 +18,7 @@ pub(crate) enum SettingKey {
     PermitPrivilegedPorts,
     MasqueradeAddress,
     Sessions,
+    Capacity,
 }
 
 impl SettingKey {
@@ -34,6 +35,7 @@ impl SettingKey {
             SettingKey::PermitPrivilegedPorts => "permit_privileged_ports",
             SettingKey::MasqueradeAddress => "masquerade_address",
             SettingKey::Sessions => "sessions",
+            SettingKey::Capacity => "capacity",
         }
     }
 
@@ -42,7 +44,7 @@ impl SettingKey {
         ensures start { result.now ≡ start_text self }
     {
         match self {
-            SettingKey::Sessions => ", at the next start alone",
+            SettingKey::Sessions | SettingKey::Capacity => ", at the next start alone",
             _ => "",
         }
     }
@@ -199,7 +201,20 @@ fn push_counts(
         u64::from(old.max_login_attempts),
         u64::from(new.max_login_attempts),
     )?;
+    Ok(())
+}
+
+/// Adds the numbers that a server takes at its start alone, and that differ.
+fn push_starts(
+    found: &mut Vec<SettingChange<'_>>,
+    old: &ServerTable<'_>,
+    new: &ServerTable<'_>,
+) -> Result<(), AllocError>
+    ensures changes { OnOk result
+        (found.new.items ≡ found.old.items ++ start_changes old.now new.now) }
+{
     push_number(found, SettingKey::Sessions, old.sessions, new.sessions)?;
+    push_number(found, SettingKey::Capacity, old.capacity, new.capacity)?;
     Ok(())
 }
 
@@ -214,5 +229,6 @@ pub(crate) fn push_settings<'a>(
 {
     push_access(found, old, new)?;
     push_counts(found, old, new)?;
+    push_starts(found, old, new)?;
     Ok(())
 }

@@ -1,8 +1,7 @@
 //! What a server would change if it read another configuration.
 
 use crate::expect::{holds, same};
-use change_report::{ChangeFault, change_report};
-use server_config::ConfigFault;
+use change_report::reload_report;
 
 const OLD: &str = r#"version = 2
 [server]
@@ -40,6 +39,7 @@ max_cons = 32
 permit_foreign_addresses = true
 masquerade_address = "1.2.3.4"
 sessions = 5
+capacity = 9
 [[group]]
 name = "sales"
 down_rate = 0
@@ -61,12 +61,14 @@ password = "secret"
 home = "/"
 "#;
 
-const LINES: &str = "a reload would be taken, unless more clients are connected than max_cons, or their sessions were guaranteed more than a rate
+const LINES: &str =
+    "a reload would be taken, unless more clients are connected than max_cons, or their sessions were guaranteed more than a rate
 banner: Ready becomes Hello
 permit_foreign_addresses: false becomes true
 masquerade_address: none becomes 1.2.3.4
 max_cons: 64 becomes 32
 sessions: 0 becomes 5, at the next start alone
+capacity: 1048576 becomes 9, at the next start alone
 group night is added
 group build is taken out
 user carol is added
@@ -84,7 +86,7 @@ user ann                 session_down_floor              -             7
 
 #[test]
 fn every_kind_of_change(rt: HostRuntime) {
-    let report = change_report(rt.alloc(), false, NEW.as_bytes(), OLD.as_bytes());
+    let report = reload_report(rt.alloc(), false, NEW.as_bytes(), OLD.as_bytes());
     let Ok(report) = report else {
         return holds(&rt, false);
     };

@@ -9,7 +9,7 @@ ghost use Rattle.ftpd_program.specs.Endings.{IsUnwritten};
 ghost use Rattle.ftpd_program.specs.declared.ending.FtpdExit.TheVariants.{Common as CommonExit};
 
 use crate::ending::FtpdExit;
-use change_report::{ChangeFault, ChangeReport, change_report};
+use change_report::{ChangeFault, ChangeReport, reload_report};
 use server_config::ConfigFault;
 use sheets_program::{Exit as Common, Opener, is_input, text_cause};
 use std::alloc::Global;
@@ -52,11 +52,7 @@ fn text_at<'w, O: Opener>(
 }
 
 /// Writes a report, and returns whether a server would refuse the new configuration, as an ending.
-fn written<'w, W: TextWriter>(
-    report: &ChangeReport,
-    path: &'w str,
-    output: &mut W,
-) -> FtpdExit<'w>
+fn written<'w, W: TextWriter>(report: &ChangeReport, path: &'w str, output: &mut W) -> FtpdExit<'w>
     ensures end { IsChangeWritten report.now (W.may_refuse output.old)
         (W.contents output.old) (W.contents output.new) result }
     ensures unwritten { IsUnwritten result → output.new ≡ output.old }
@@ -105,7 +101,7 @@ fn changed<'w, W: TextWriter>(
         (W.may_refuse output.old) (W.contents output.old) (W.contents output.new) result }
     ensures unwritten { IsUnwritten result → output.new ≡ output.old }
 {
-    match change_report(alloc, json, new, old) {
+    match reload_report(alloc, json, new, old) {
         Ok(report) => written(&report, config, output),
         Err(fault) => refused(fault, config, other),
     }
@@ -146,5 +142,13 @@ pub(crate) fn check_against<'w, O: Opener, W: TextWriter>(
         Ok(text) => text,
         Err(ending) => return FtpdExit::Common(ending),
     };
-    changed(alloc, json, config, other, new.as_slice(), old.as_slice(), output)
+    changed(
+        alloc,
+        json,
+        config,
+        other,
+        new.as_slice(),
+        old.as_slice(),
+        output,
+    )
 }

@@ -86,7 +86,7 @@ outcome_word changes =
     then codes "refused"
     else if is_unchanged changes then codes "nothing" else codes "taken"
 
--- what becomes of a reload, the reason of a refusal, and the rows; besides their unit, and the
+-- the outcome of a reload, the reason of a refusal, and the rows; besides their unit, and the
 -- version of this form
 abbrev pub whole_data : List ℕ → Data → Data → Data → Data → Data
 whole_data outcome reason settings names limits =

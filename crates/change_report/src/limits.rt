@@ -127,7 +127,8 @@ fn push_own<'a>(
     old: &UserTable<'_>,
     new: &UserTable<'a>,
 ) -> Result<(), AllocError>
-    ensures changes { OnOk result (found.new.items ≡ found.old.items ++ own_limits old.now new.now) }
+    ensures changes { OnOk result
+        (found.new.items ≡ found.old.items ++ own_limits old.now new.now) }
 {
     let owner = Owner::User(new.name);
     push_rate(

@@ -1,4 +1,4 @@
-//! What a server would change if it read another configuration.
+//! The changes of a server that would read another configuration.
 
 use crate::expect::{holds, same};
 use change_report::reload_report;

@@ -82,7 +82,8 @@ abbrev pub IsAgainstEnd : Bool → (List ℕ → Octets) → List ℕ → List �
     → Option (List ℕ) → Option (List ℕ) → FtpdExit → Type 0
 IsAgainstEnd json gives config other Refuses before after ending =
     (IsNamedTwice config other × IsCommon IsNoLine ending)
-    ⊎ (IsCommon (λ end. IsUnread (gives config) config end ⊎ IsUnread (gives other) other end) ending
+    ⊎ (IsCommon
+    (λ end. IsUnread (gives config) config end ⊎ IsUnread (gives other) other end) ending
     ⊎ (¬ IsNamedTwice config other × ((new old : List ℕ)
     × IsTextIn (gives config) new × IsTextIn (gives other) old
     × IsChangeEnd json config other new old Refuses before after ending)))

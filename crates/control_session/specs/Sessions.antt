@@ -58,7 +58,8 @@ module _ {H A S R K T : Type 0}
     pub row : Then session.view actions ≡ greeting session.view
     pub greets : Carries actions None said lost
     pub greeted : Chain Does host said mid
-    pub went : Went (WhileOpen Row) Does mid (at session None [] nothing [] false lost) turned stood
+    pub went : Went (WhileOpen Row) Does mid (at session None [] nothing [] false lost)
+        turned stood
     pub closing : Closing Row Does turned stood host' last
     -- the session is closed, the events of the data side were given to it, and each floor was
     -- released

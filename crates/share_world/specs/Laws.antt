@@ -85,8 +85,8 @@ OfEachDecision P =
     → P rates w tick total w'
 
 -- Each lane in Round gets a decided amount, and no other lane does. These amounts, in some order,
--- are best grants for a tree of the tick, each for the leaf of its lane's ask; the leaves are exactly
--- the asks of the lanes in Round, and the amounts add up to this total.
+-- are best grants for a tree of the tick, each for the leaf of its lane's ask; the leaves are
+-- exactly the asks of the lanes in Round, and the amounts add up to this total.
 pub record AreBestInRound (rates : Rates) (w : World) (tick total : ℕ) (w' : World) : Type 0 where
   pub given : AreGiven w.lanes w'.lanes
   pub leaves : List Granted

@@ -46,7 +46,8 @@ module _ {H A S R K T : Type 0}
     (Does : H → HostCall A S R K → H → Type 0)
     (turns : ℕ) (result : Result T ControlFault) (session : Standing) (host host' : H) where
   -- The greeting is written; then there are moves, each with its calls of the host, in this order,
-  -- none of which closes the session, up to the last situation; then the end, in which it is closed.
+  -- none of which closes the session, up to the last situation; then the end, in which it is
+  -- closed.
   pub record IsSession : Type 0 where
     pub actions : List (Action A R K)
     pub said : List (HostCall A S R K)
